@@ -1,0 +1,25 @@
+-- What holds of every state that commands reach.
+use Rattle.std.specs.Prelude.{◌≡◌, ℕ, ◌+◌, ◌≤◌, true, Some, [], List, ◌∷◌}
+use Rattle.std.specs.FinMap.{get, len}
+use Rattle.flat_model.specs.Path.{Path, parent}
+use Rattle.flat_model.specs.State.{State, Attr}
+use Rattle.flat_model.specs.Counts.{is_group}
+use Rattle.flat_model.specs.Command.{Command}
+use Rattle.flat_model.specs.Machine.{Machine}
+
+pub record WellFormed (slots : ℕ) (s : State) : Type 0 where
+  pub root : is_group s [] ≡ true
+  -- the parents of groups are groups, and so are the homes of processes
+  pub parents : (p : Path) → is_group s p ≡ true → is_group s (parent p) ≡ true
+  pub homes : (pid : ℕ) (p : Path) → get s.home pid ≡ Some p → is_group s p ≡ true
+  -- as many groups beside the root as there are slots, at the most
+  pub few : len s.groups ≤ slots + 1
+  pub totals : (p : Path) (attr : Attr) → get s.groups p ≡ Some attr → attr.local ≤ attr.total
+
+abbrev pub PastWellFormed : ℕ → List (Command × State) → Type 0
+PastWellFormed slots [] = Unit {0}
+PastWellFormed slots (e ∷ past) = WellFormed slots e.1 × PastWellFormed slots past
+
+-- the state is well formed, and so is each that an undo can give back
+abbrev pub MachineWellFormed : ℕ → Machine → Type 0
+MachineWellFormed slots m = WellFormed slots m.state × PastWellFormed slots m.past
