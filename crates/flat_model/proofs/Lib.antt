@@ -5,3 +5,7 @@ pub mod Maps
 pub mod TakenBack
 pub mod Refusing
 pub mod Kept
+pub mod Nearest
+pub mod Limits
+pub mod Undoing
+pub mod Reachable
