@@ -152,9 +152,9 @@ module _ (slots : ℕ) (s : State) (w : WellFormed slots s) where
         parents = λ p h. same (parent p) ∙ w.parents p (sym (same p) ∙ h);
         homes = λ pid p h. same p ∙ w.homes pid p h;
         few =
-          let rows = len_rows path_cmp-IsTotalOrder (map (λ e. (e.0, count_up a e.0 e.1)) (entries s.groups)) in
-          let size = length_map {Y = Path × Attr} (λ e. (e.0, count_up a e.0 e.1)) (entries s.groups) ∙ sym (len-entries s.groups) in
-          let few = w.few in omega (arith, rows, size, few);
+            let rows = len_rows path_cmp-IsTotalOrder (map (λ e. (e.0, count_up a e.0 e.1)) (entries s.groups)) in
+            let size = length_map {Y = Path × Attr} (λ e. (e.0, count_up a e.0 e.1)) (entries s.groups) ∙ sym (len-entries s.groups) in
+            let few = w.few in omega (arith, rows, size, few);
         totals = λ q attr h. even_each a q (get s.groups q) not_root (w.totals q) attr (sym (each q) ∙ h);
       }
 

@@ -2,6 +2,9 @@ pub mod PathLaws
 pub mod PathMembers
 pub mod PathTextLaws
 pub mod Maps
+pub mod Sums
+pub mod CountChanges
+pub mod Counting
 pub mod TakenBack
 pub mod Refusing
 pub mod Kept

@@ -12,11 +12,13 @@ use Rattle.flat_model.specs.Counts.{current, descendant_count, is_group, has_pro
 use Rattle.flat_model.specs.File.{LimitFile, File, readable, on_root, is_pids_max}
 use Rattle.flat_model.specs.Command.{Command, MakeGroup, RemoveGroup, Fork, Exit, Move, SetLimit, Kill, Show, Locate, Undo, Refusal, Exists, NoGroup, Descendants, Depth, NoSlot, RootFixed, HasChildren, HasProcesses, NoProcess, PidInUse, OverPidsMax, NoFile, NotReadable}
 use Rattle.flat_model.specs.Refuse.{refuse}
-use Rattle.flat_model.specs.Step.{refusal, after_refusal, home_of, limit_met, first_refusal, blocked_make}
+use Rattle.flat_model.specs.Step.{refusal, after, after_refusal, home_of, limit_met, first_refusal, blocked_make}
 use Rattle.flat_model.specs.WellFormed.{WellFormed}
-use Rattle.flat_model.specs.Limiting.{IsLimiting, HasRoomBelow, MeetsDescendants, MeetsDepth}
+use Rattle.flat_model.specs.Limiting.{IsLimiting, IsWithinPids, HasRoomBelow, MeetsDescendants, MeetsDepth}
 use Rattle.flat_model.proofs.PathMembers.{upward_are}
-use Rattle.flat_model.proofs.Refusing.{passed, beyond, denied}
+use Rattle.std.specs.Cmp.{nat_cmp_total}
+use Rattle.flat_model.proofs.CountChanges.{count_inserted}
+use Rattle.flat_model.proofs.Refusing.{passed, beyond, absent}
 use Rattle.flat_model.proofs.Nearest.{first_path_found, first_path_none, first_is_nearest}
 use Rattle.flat_model.proofs.Kept.{counted}
 
@@ -296,3 +298,16 @@ kept_refused slots s c (NoProcess p) w e = w
 kept_refused slots s c (PidInUse p) w e = w
 kept_refused slots s c NoFile w e = w
 kept_refused slots s c NotReadable w e = w
+
+-- one process more in each group at or above the child's home
+pub current_forked : (s : State) (from child : ℕ) (g : Path) → has_process s child ≡ false → current (after s (Fork from child)) g ≡ cond (at_or_below (home_of s from) g) 1 0 + current s g
+current_forked s from child g free = count_inserted nat_cmp_total (λ p. at_or_below p g) s.home child (home_of s from) (absent _ free)
+
+-- after a fork that was accepted no group at or above the child's home is past its limit by it
+pub fork_within : (slots : ℕ) (s : State) (from child : ℕ) → refusal slots s (Fork from child) ≡ None → IsWithinPids (after s (Fork from child)) (home_of s from)
+fork_within slots s from child e a attr m above not_root there limit =
+    let tests = fork_passed slots s from child e in
+    let fits = fork_fits s (home_of s from) tests.2 a attr m above not_root there limit in
+    let one : ◌≡◌ {A = ℕ} (cond (at_or_below (home_of s from) a) 1 0) 1 = ap (λ b. cond b 1 0) above in
+    let more = current_forked s from child a tests.1 in
+    omega (arith, fits, one, more)

@@ -47,9 +47,9 @@ start_well_formed slots = record {
   parents = λ p h. let a = some_attr (get start.groups p) h in let is = (only_root p a.0 a.1).0 in ap (λ (q : Path). is_group start (parent q)) is ∙ root_is;
   homes = first_home;
   few =
-    let e = len-insert path_cmp-IsTotalOrder (empty {R = path_cmp}) [] fresh in
-    let one = at_most_one (is_some (get (empty {X = Attr} {R = path_cmp}) [])) (len (empty {X = Attr} {R = path_cmp})) (len-empty path_cmp Attr) in
-    omega (arith, e, one);
+      let e = len-insert path_cmp-IsTotalOrder (empty {R = path_cmp}) [] fresh in
+      let one = at_most_one (is_some (get (empty {X = Attr} {R = path_cmp}) [])) (len (empty {X = Attr} {R = path_cmp})) (len-empty path_cmp Attr) in
+      omega (arith, e, one);
   totals = λ p attr h. subst (λ (a : Attr). a.local ≤ a.total) (only_root p attr h).1 (omega arith);
 }
 
