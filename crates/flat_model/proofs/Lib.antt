@@ -5,6 +5,7 @@ pub mod Maps
 pub mod Sums
 pub mod CountChanges
 pub mod Counting
+pub mod Killing
 pub mod TakenBack
 pub mod Refusing
 pub mod Kept
