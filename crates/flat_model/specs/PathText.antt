@@ -1,6 +1,6 @@
 -- The text of a path, which texts are paths, and which fault a text has first.
 -- A path is `/`, or one or more times `/` followed by a name.
-use Rattle.std.specs.Prelude.{◌≡◌, nat_eq, ℕ, ◌+◌, ◌≤◌, Bool, true, false, not, ◌&&◌, ◌||◌, ◌==◌, nat_lt, nat_le, List, [], ◌∷◌, ◌++◌, length, codes, Option, Some, None, option_map, Result}
+use Rattle.std.specs.Prelude.{◌≡◌, nat_eq, ℕ, ◌+◌, ◌≤◌, Bool, true, false, not, ◌&&◌, ◌||◌, ◌==◌, nat_lt, nat_le, List, [], ◌∷◌, ◌++◌, length, codes, Option, None, option_map, Result}
 use Rattle.std.specs.Option.{option_or}
 use Rattle.std.specs.List.{AllByRecursion, starts_with, position_from, slice_split}
 use Rattle.flat_model.specs.Path.{Name, Path, same_name}

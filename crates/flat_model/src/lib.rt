@@ -1,2 +1,4 @@
 //! The definitions.
 #![tactic(auto)]
+
+pub mod paths;

@@ -1,0 +1,3 @@
+pub mod PathLaws
+pub mod PathMembers
+pub mod PathTextLaws
