@@ -1,11 +1,12 @@
 -- The machine over lists. It answers each trace as the machine does, and on a written trace it computes.
 use Rattle.std.proofs.Common.{◌≡◌, ℕ, Bool, true, false, cond, List, [], ◌∷◌, map, refl, ap, ◌∙◌, Option, Some, None}
+use Rattle.std.specs.Prelude.{◌+◌, count_by}
 use Rattle.flat_model.specs.State.{State}
 use Rattle.flat_model.specs.Command.{Command, Refusal, Reply, Undone, Refused, NothingToUndo, is_undo, changes, is_counted}
 use Rattle.flat_model.specs.Step.{refusal, after, after_refusal}
 use Rattle.flat_model.specs.Machine.{Machine, new_machine, recorded, outcome, undone, tick, replies}
 use Rattle.flat_model.specs.Trace.{Line, read_trace}
-use Rattle.flat_model.specs.Replies.{commands_in, out, answers}
+use Rattle.flat_model.specs.Replies.{commands_in, out, answers, line_replies, is_fault, is_refused, refused_count}
 use Rattle.flat_model.proofs.RowsReads.{Lists, lists_of, reads_in, reads_are, refusal_by, refusal_reads, accepted_by, accepted_reads}
 use Rattle.flat_model.proofs.RowsLists.{leaves, after_leaves, refusal_leaves, after_refusal_leaves, start_lists, start_leaves}
 
@@ -90,9 +91,17 @@ list_answers_to slots lines = out 1 lines (list_replies slots (commands_in lines
 abbrev pub list_answers : ℕ → List ℕ → List ℕ
 list_answers slots bytes = list_answers_to slots (read_trace bytes)
 
+abbrev pub list_refused : ℕ → List Line → ℕ
+list_refused slots lines = count_by is_fault lines + count_by is_refused (list_replies slots (commands_in lines) first_lists)
+
 -- the two machines answer alike
-pub answers_by_lists : (slots : ℕ) (bytes : List ℕ) → answers slots bytes ≡ list_answers slots bytes
-answers_by_lists slots bytes =
-    let lines = read_trace bytes in
+pub line_replies_by_lists : (slots : ℕ) (lines : List Line) → line_replies slots lines ≡ list_replies slots (commands_in lines) first_lists
+line_replies_by_lists slots lines =
     let cs = commands_in lines in
-    ap (out 1 lines) (replies_lists slots cs new_machine ∙ ap (list_replies slots cs) new_lists)
+    replies_lists slots cs new_machine ∙ ap (list_replies slots cs) new_lists
+
+pub answers_by_lists : (slots : ℕ) (bytes : List ℕ) → answers slots bytes ≡ list_answers slots bytes
+answers_by_lists slots bytes = ap (out 1 (read_trace bytes)) (line_replies_by_lists slots (read_trace bytes))
+
+pub refused_by_lists : (slots : ℕ) (lines : List Line) → refused_count slots lines ≡ list_refused slots lines
+refused_by_lists slots lines = ap (λ (rs : List Reply). count_by is_fault lines + count_by is_refused rs) (line_replies_by_lists slots lines)
