@@ -1,6 +1,10 @@
 pub mod PathLaws
 pub mod PathMembers
 pub mod PathTextLaws
+pub mod WordLaws
+pub mod ValueLaws
+pub mod CommandTextLawsWords
+pub mod CommandTextLaws
 pub mod RowsReads
 pub mod RowsLists
 pub mod RowsMachine
