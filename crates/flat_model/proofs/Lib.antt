@@ -13,3 +13,10 @@ pub mod Nearest
 pub mod Limits
 pub mod Undoing
 pub mod Reachable
+pub mod WordLaws
+pub mod ValueLaws
+pub mod CommandTextLawsWords
+pub mod CommandTextLaws
+pub mod RowsReads
+pub mod RowsLists
+pub mod RowsMachine

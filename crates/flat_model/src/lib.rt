@@ -23,4 +23,6 @@
 pub mod machine;
 pub mod paths;
 pub mod records;
+pub mod rows;
 pub mod states;
+pub mod texts;

@@ -1,0 +1,5 @@
+use Rattle.flat_model.proofs.CommandTextLaws.{read_line-command_text, command_text_apart}
+use Rattle.flat_model.proofs.texts.command_is_read_back.Goals as goal
+
+pub returns : goal.returns
+returns c = record { read = read_line-command_text; apart = command_text_apart }
