@@ -3,7 +3,7 @@ use Rattle.std.proofs.Common.{◌≡◌, ℕ, Bool, true, false, cond, not, Opti
 use Rattle.std.specs.FinMap.{get, get-retain_keys, nat_cmp-IsAntisymmetric}
 use Rattle.flat_model.specs.Path.{Path, at_or_below}
 use Rattle.flat_model.specs.State.{State}
-use Rattle.flat_model.specs.Counts.{populated, IsInhabited}
+use Rattle.flat_model.specs.Counts.{populated}
 use Rattle.flat_model.specs.Command.{Kill}
 use Rattle.flat_model.specs.Step.{after, lives_in, is_within}
 use Rattle.flat_model.proofs.Counting.{populated_is}
