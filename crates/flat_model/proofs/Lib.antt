@@ -2,6 +2,7 @@ pub mod PathLaws
 pub mod PathMembers
 pub mod PathTextLaws
 pub mod Maps
+pub mod MapValues
 pub mod Sums
 pub mod CountChanges
 pub mod Counting
