@@ -1,5 +1,5 @@
 -- What is counted in a state, and what the limits say of it.
-use Rattle.std.specs.Prelude.{ℕ, ◌+◌, Bool, false, cond, ◌&&◌, not, List, [], ◌∷◌, ltb, leb, Option, Some, None, count_by, filter, map}
+use Rattle.std.specs.Prelude.{◌≡◌, ℕ, ◌+◌, Bool, true, false, cond, ◌&&◌, not, List, [], ◌∷◌, ltb, leb, Option, Some, None, count_by, filter, map}
 use Rattle.std.specs.FinMap.{get, keys, values, entries, contains_key}
 use Rattle.flat_model.specs.Path.{Path, at_or_below, strictly_below, same_path, is_root, parent, upward}
 use Rattle.flat_model.specs.State.{State, Attr, Limit, Unlimited, At}
@@ -17,6 +17,13 @@ current s g = count_by (λ p. at_or_below p g) (values s.home)
 -- `populated`: whether there is one
 abbrev pub populated : State → Path → Bool
 populated s g = ltb 0 (current s g)
+
+-- some process is in g or below it
+pub record IsInhabited (s : State) (g : Path) : Type 0 where
+  pub pid : ℕ
+  pub at : Path
+  pub home : get s.home pid ≡ Some at
+  pub below : at_or_below at g ≡ true
 
 -- `nr_descendants`: the groups below g
 abbrev pub descendant_count : State → Path → ℕ

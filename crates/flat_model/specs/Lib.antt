@@ -12,6 +12,7 @@ pub mod FileText
 pub mod CommandText
 pub mod Machine
 pub mod WellFormed
+pub mod Limiting
 pub mod Log
 pub mod Trace
 pub mod Replies

@@ -1,0 +1,286 @@
+-- Each accepted or counted command keeps a state well formed.
+use Rattle.std.proofs.Common.{◌≡◌, ℕ, ◌+◌, ◌-◌, ◌≤◌, Bool, true, false, cond, not, ◌&&◌, ◌||◌, List, [], ◌∷◌, map, length, Option, Some, None, refl, sym, ap, subst, ◌∙◌, is_some, arith, ltb}
+use Rattle.std.proofs.lemmas.Bool.Decides.{nat_tests}
+use Rattle.std.proofs.lemmas.List.{length-take}
+use Rattle.std.specs.Prelude.{unwrap_or, option_map}
+use Rattle.std.specs.List.{list_any}
+use Rattle.std.specs.Option.{option_or}
+use Rattle.std.specs.declared.cmp.Ordering.{Ordering}
+use Rattle.std.specs.Ordering.{nat_cmp, eq_by_cmp}
+use Rattle.std.specs.Cmp.{nat_cmp_total, IsTotalOrder}
+use Rattle.std.specs.FinMap.{IsAntisymmetric, nat_cmp-IsAntisymmetric, get, insert, remove, retain_keys, entries, keys, values, find, len, from_entries, get-insert, get-remove, get-retain_keys, get-entries, len-insert, len-remove, len-entries, len-empty}
+use Rattle.flat_model.specs.Path.{Path, path_cmp, parent, is_root, strictly_below, same_path}
+use Rattle.flat_model.specs.State.{State, Attr, Limit, fresh}
+use Rattle.flat_model.specs.Counts.{is_group}
+use Rattle.flat_model.specs.File.{LimitFile, PidsMax, MaxDescendants, MaxDepth}
+use Rattle.flat_model.specs.Command.{Command, MakeGroup, RemoveGroup, Fork, Exit, Move, SetLimit, Kill, Show, Locate, Undo, Refusal, Exists, NoSlot, NoGroup, RootFixed, HasChildren, HasProcesses}
+use Rattle.flat_model.specs.Refuse.{refuse}
+use Rattle.flat_model.specs.Step.{refusal, after, home_of, attr_of, lives_in, count_up, counts_for, with_limit, at_each, blocked_make}
+use Rattle.flat_model.specs.WellFormed.{WellFormed}
+use Rattle.flat_model.proofs.PathLaws.{path_cmp-IsTotalOrder, path_cmp-IsAntisymmetric, same_path_is, same_path_itself, at_or_below_itself, strictly_below_is, parent_above}
+use Rattle.flat_model.proofs.Maps.{key_of, get-each}
+use Rattle.flat_model.proofs.Refusing.{passed, beyond, affirmed}
+
+some_of : {X : Type 0} (b : Bool) (x : X) (o : Option X) → is_some o ≡ true → is_some (cond b (Some x) o) ≡ true
+some_of true x o h = refl
+some_of false x o h = h
+
+one_more : (b : Bool) (n m : ℕ) → n ≤ m → cond b n (n + 1) ≤ m + 1
+one_more true n m h = omega arith
+one_more false n m h = omega arith
+
+one_less : (b : Bool) (n m : ℕ) → n ≤ m → cond b (n - 1) n ≤ m
+one_less true n m h = omega arith
+one_less false n m h = h
+
+-- a map made of rows has as many entries at the most
+len_rows : {K X : Type 0} {R : K → K → Ordering} → IsTotalOrder R → (es : List (K × X)) → len (from_entries {R = R} es) ≤ length es
+len_rows {K} {X} {R} o [] = let e = len-empty R X in omega (arith, e)
+len_rows {K} {X} {R} o (e ∷ es) =
+    subst (λ n. n ≤ length (e ∷ es)) (sym (len-insert o (from_entries es) e.0 e.1))
+    (let h = one_more (is_some (get (from_entries {R = R} es) e.0)) _ _ (len_rows o es) in omega (arith, h))
+
+length_map : {X Y : Type 0} (f : X → Y) (xs : List X) → length (map f xs) ≡ length xs
+length_map f [] = refl
+length_map f (x ∷ xs) = let h = length_map f xs in omega arith
+
+abbrev IsEven : Attr → Type 0
+IsEven attr = attr.local ≤ attr.total
+
+even_limit : (file : LimitFile) (value : Limit) (attr : Attr) → IsEven attr → IsEven (with_limit file value attr)
+even_limit PidsMax value attr h = h
+even_limit MaxDescendants value attr h = h
+even_limit MaxDepth value attr h = h
+
+even_own : (o : Option Attr) → ((attr : Attr) → o ≡ Some attr → IsEven attr) → IsEven (unwrap_or o fresh)
+even_own None h = omega arith
+even_own (Some attr) h = h attr refl
+
+module _ (slots : ℕ) (s : State) (w : WellFormed slots s) where
+  -- ---- a group put in, or written
+  more : (p : Path) (a : Attr) (q : Path) → is_group s q ≡ true → is_some (get (insert s.groups p a) q) ≡ true
+  more p a q h = ap is_some (get-insert path_cmp-IsTotalOrder s.groups p a q) ∙ some_of _ _ _ h
+
+  -- a group that is there now was there, or is the one put in
+  was : (p : Path) (a : Attr) (q : Path) → is_some (get (insert s.groups p a) q) ≡ true → (b : Bool) → eq_by_cmp path_cmp q p ≡ b → is_some (cond b (Some a) (get s.groups q)) ≡ true
+  was p a q h b e = ap (λ x. is_some (cond x (Some a) (get s.groups q))) (sym e) ∙ sym (ap is_some (get-insert path_cmp-IsTotalOrder s.groups p a q)) ∙ h
+
+  even_put : (p : Path) (a : Attr) → IsEven a → (q : Path) (attr : Attr) → get (insert s.groups p a) q ≡ Some attr → IsEven attr
+  even_put p a even q attr h =
+      elim (eq_by_cmp path_cmp q p) as (λ b. cond b (Some a) (get s.groups q) ≡ Some attr → IsEven attr) [
+        | true ↦ λ e. subst IsEven (let same : a ≡ attr = cc in same) even
+        | false ↦ λ e. w.totals q attr e
+      ] (sym (get-insert path_cmp-IsTotalOrder s.groups p a q) ∙ h)
+
+  with_group : (p : Path) (a : Attr) → is_group s (parent p) ≡ true → IsEven a → len (insert s.groups p a) ≤ slots + 1 → WellFormed slots (record s { groups = insert s.groups p a })
+  with_group p a above even few = record {
+    root = more p a [] w.root;
+    parents = λ q h. more p a (parent q) (elim (eq_by_cmp path_cmp q p) as (λ b. eq_by_cmp path_cmp q p ≡ b → is_group s (parent q) ≡ true) [
+      | true ↦ λ t. ap (λ x. is_group s (parent x)) (key_of path_cmp-IsAntisymmetric q p t) ∙ above
+      | false ↦ λ t. w.parents q (was p a q h false t)
+    ] refl);
+    homes = λ pid q h. more p a q (w.homes pid q h);
+    few = few;
+    totals = even_put p a even;
+  }
+
+  -- ---- homes
+  with_home : (pid : ℕ) (p : Path) → is_group s p ≡ true → WellFormed slots (record s { home = insert s.home pid p })
+  with_home pid p g = record {
+    root = w.root;
+    parents = w.parents;
+    homes = λ k q h. elim (eq_by_cmp nat_cmp k pid) as (λ b. cond b (Some p) (get s.home k) ≡ Some q → is_group s q ≡ true) [
+      | true ↦ λ e. subst (λ x. is_group s x ≡ true) (let same : p ≡ q = cc in same) g
+      | false ↦ λ e. w.homes k q e
+    ] (sym (get-insert nat_cmp_total s.home pid p k) ∙ h);
+    few = w.few;
+    totals = w.totals;
+  }
+
+  fewer : (keep : ℕ → Bool) → WellFormed slots (record s { home = retain_keys s.home keep })
+  fewer keep = record {
+    root = w.root;
+    parents = w.parents;
+    homes = λ k q h. elim (keep k) as (λ b. cond b (get s.home k) None ≡ Some q → is_group s q ≡ true) [
+      | true ↦ λ e. w.homes k q e
+      | false ↦ λ e. cc
+    ] (sym (get-retain_keys s.home keep k (λ x t. ap keep (sym (nat_cmp-IsAntisymmetric k x t)))) ∙ h);
+    few = w.few;
+    totals = w.totals;
+  }
+
+  without_home : (pid : ℕ) → WellFormed slots (record s { home = remove s.home pid })
+  without_home pid = record {
+    root = w.root;
+    parents = w.parents;
+    homes = λ k q h. elim (eq_by_cmp nat_cmp k pid) as (λ b. cond b None (get s.home k) ≡ Some q → is_group s q ≡ true) [
+      | true ↦ λ e. cc
+      | false ↦ λ e. w.homes k q e
+    ] (sym (get-remove nat_cmp_total s.home pid k) ∙ h);
+    few = w.few;
+    totals = w.totals;
+  }
+
+  -- ---- a counted fork
+  each_group : (f : Path → Attr → Attr) (q : Path) → is_group s q ≡ is_some (option_map (f q) (get s.groups q))
+  each_group f q = by (get s.groups q)
+    where
+      by : (o : Option Attr) → is_some o ≡ is_some (option_map (f q) o)
+      by None = refl
+      by (Some a) = refl
+
+  -- where the local total rises, the total rises too
+  even_up : (a p : Path) (attr : Attr) → is_root a ≡ false → IsEven attr → IsEven (count_up a p attr)
+  even_up a p attr not_root h =
+      elim (same_path p a) as (λ b. same_path p a ≡ b → attr.local + cond b 1 0 ≤ attr.total + cond (counts_for a p) 1 0) [
+        | true ↦ λ t. let same : p ≡ a = (same_path_is p a).0 t in
+            subst (λ c. attr.local + 1 ≤ attr.total + cond c 1 0)
+            (sym (ap (counts_for a) same ∙ (λ i. not (not_root i) && at_or_below_itself a i))) (omega arith)
+        | false ↦ λ t. omega arith
+      ] refl
+
+  even_each : (a q : Path) (o : Option Attr) → is_root a ≡ false → ((x : Attr) → o ≡ Some x → IsEven x) → (attr : Attr) → option_map (count_up a q) o ≡ Some attr → IsEven attr
+  even_each a q None n h attr e = cc
+  even_each a q (Some x) n h attr e = subst IsEven (let same : count_up a q x ≡ attr = cc in same) (even_up a q x n (h x refl))
+
+  pub counted : (a : Path) → is_root a ≡ false → WellFormed slots (at_each (count_up a) s)
+  counted a not_root =
+      let each : (q : Path) → get (at_each (count_up a) s).groups q ≡ option_map (count_up a q) (get s.groups q) = get-each path_cmp-IsTotalOrder path_cmp-IsAntisymmetric (count_up a) s.groups in
+      let same : (q : Path) → is_group (at_each (count_up a) s) q ≡ is_group s q = λ q. ap is_some (each q) ∙ sym (each_group (count_up a) q) in
+      record {
+        root = same [] ∙ w.root;
+        parents = λ p h. same (parent p) ∙ w.parents p (sym (same p) ∙ h);
+        homes = λ pid p h. same p ∙ w.homes pid p h;
+        few =
+            let rows = len_rows path_cmp-IsTotalOrder (map (λ e. (e.0, count_up a e.0 e.1)) (entries s.groups)) in
+            let size = length_map {Y = Path × Attr} (λ e. (e.0, count_up a e.0 e.1)) (entries s.groups) ∙ sym (len-entries s.groups) in
+            let few = w.few in omega (arith, rows, size, few);
+        totals = λ q attr h. even_each a q (get s.groups q) not_root (w.totals q) attr (sym (each q) ∙ h);
+      }
+
+-- ---- a group taken out
+key_passes : {K X : Type 0} {R : K → K → Ordering} → IsAntisymmetric R → (test : K → Bool) (q : K) (es : List (K × X)) → is_some (find R q es) ≡ true → test q ≡ true → list_any test (map (λ e. e.0) es) ≡ true
+key_passes same test q [] h t = cc
+key_passes {R = R} same test q (e ∷ es) h t =
+    elim (eq_by_cmp R q e.0) as (λ b. eq_by_cmp R q e.0 ≡ b → is_some (cond b (Some e.1) (find R q es)) ≡ true → list_any test (map (λ x. x.0) (e ∷ es)) ≡ true) [
+      | true ↦ λ is _. ap (λ b. b || list_any test (map (λ x. x.0) es)) (ap test (sym (key_of same q e.0 is)) ∙ t)
+      | false ↦ λ is g. ap (λ b. test e.0 || b) (key_passes same test q es g t) ∙ or_true (test e.0)
+    ] refl h
+  where
+    or_true : (b : Bool) → (b || true) ≡ true
+    or_true true = refl
+    or_true false = refl
+
+value_passes : {K X : Type 0} (R : K → K → Ordering) (test : X → Bool) (q : K) (v : X) (es : List (K × X)) → find R q es ≡ Some v → test v ≡ true → list_any test (map (λ e. e.1) es) ≡ true
+value_passes R test q v [] h t = cc
+value_passes R test q v (e ∷ es) h t =
+    elim (eq_by_cmp R q e.0) as (λ b. cond b (Some e.1) (find R q es) ≡ Some v → list_any test (map (λ x. x.1) (e ∷ es)) ≡ true) [
+      | true ↦ λ g. ap (λ b. b || list_any test (map (λ x. x.1) es)) (ap test (let is : e.1 ≡ v = cc in is) ∙ t)
+      | false ↦ λ g. ap (λ b. test e.1 || b) (value_passes R test q v es g t) ∙ or_true (test e.1)
+    ] h
+  where
+    or_true : (b : Bool) → (b || true) ≡ true
+    or_true true = refl
+    or_true false = refl
+
+-- a group but the root is strictly below its parent
+pub below_parent : (q : Path) → is_root q ≡ false → strictly_below q (parent q) ≡ true
+below_parent [] h = cc
+below_parent (x ∷ q) h = (strictly_below_is (x ∷ q) (parent (x ∷ q))).1 (parent_above (x ∷ q), apart (same_path (x ∷ q) (parent (x ∷ q))) refl)
+  where
+    apart : (b : Bool) → same_path (x ∷ q) (parent (x ∷ q)) ≡ b → same_path (x ∷ q) (parent (x ∷ q)) ≡ false
+    apart false t = t
+    apart true t =
+        let e = ap length ((same_path_is (x ∷ q) (parent (x ∷ q))).0 t) in
+        let k = length-take (length (x ∷ q) - 1) (x ∷ q) in absurd (omega (arith, e, k))
+
+module _ (slots : ℕ) (s : State) (w : WellFormed slots s) (p : Path) (not_root : is_root p ≡ false) (no_child : list_any (λ q. strictly_below q p) (keys s.groups) ≡ false) (no_member : list_any (λ q. same_path q p) (values s.home) ≡ false) where
+  left : (q : Path) → is_group s q ≡ true → (q ≡ p → ⊥) → is_some (get (remove s.groups p) q) ≡ true
+  left q h n =
+      ap is_some (get-remove path_cmp-IsTotalOrder s.groups p q)
+      ∙ elim (eq_by_cmp path_cmp q p) as (λ b. eq_by_cmp path_cmp q p ≡ b → is_some (cond b None (get s.groups q)) ≡ true) [
+        | true ↦ λ t. absurd (n (key_of path_cmp-IsAntisymmetric q p t))
+        | false ↦ λ t. h
+      ] refl
+
+  there_before : (q : Path) (attr : Attr) → get (remove s.groups p) q ≡ Some attr → get s.groups q ≡ Some attr
+  there_before q attr h =
+      elim (eq_by_cmp path_cmp q p) as (λ b. cond b None (get s.groups q) ≡ Some attr → get s.groups q ≡ Some attr) [
+        | true ↦ λ e. cc
+        | false ↦ λ e. e
+      ] (sym (get-remove path_cmp-IsTotalOrder s.groups p q) ∙ h)
+
+  group_before : (q : Path) → is_some (get (remove s.groups p) q) ≡ true → is_group s q ≡ true
+  group_before q h =
+      elim (eq_by_cmp path_cmp q p) as (λ b. is_some (cond b None (get s.groups q)) ≡ true → is_group s q ≡ true) [
+        | true ↦ λ e. cc
+        | false ↦ λ e. e
+      ] (sym (ap is_some (get-remove path_cmp-IsTotalOrder s.groups p q)) ∙ h)
+
+  root_parent : (q : Path) → is_root q ≡ true → parent q ≡ []
+  root_parent [] t = refl
+  root_parent (x ∷ q) t = cc
+
+  without_group : WellFormed slots (record s { groups = remove s.groups p })
+  without_group = record {
+    root = left [] w.root (λ e. let f : true ≡ false = ap is_root e ∙ not_root in cc);
+    parents = λ q h. left (parent q) (w.parents q (group_before q h)) (λ e.
+        elim (is_root q) as (λ b. is_root q ≡ b → ⊥) [
+          | true ↦ λ t. let f : true ≡ false = sym (ap is_root (root_parent q t)) ∙ ap is_root e ∙ not_root in cc
+          | false ↦ λ t.
+              let under : strictly_below q p ≡ true = ap (λ a. strictly_below q a) (sym e) ∙ below_parent q t in
+              let f : true ≡ false = sym (key_passes path_cmp-IsAntisymmetric (λ a. strictly_below a p) q (entries s.groups) (ap is_some (sym (get-entries s.groups q)) ∙ group_before q h) under) ∙ no_child in cc
+        ] refl);
+    homes = λ pid q h. left q (w.homes pid q h) (λ e.
+        let f : true ≡ false = sym (value_passes nat_cmp (λ a. same_path a p) pid q (entries s.home) (sym (get-entries s.home pid) ∙ h) (ap (λ a. same_path a p) e ∙ same_path_itself p)) ∙ no_member in cc);
+    few = subst (λ n. n ≤ slots + 1) (sym (len-remove path_cmp-IsTotalOrder s.groups p)) (one_less _ _ _ w.few);
+    totals = λ q attr h. w.totals q attr (there_before q attr h);
+  }
+
+four : (a b c d : Bool) (p : Path) → refuse a RootFixed (refuse b (NoGroup p) (refuse c HasChildren (refuse d HasProcesses None))) ≡ None → (a ≡ false) × (b ≡ false) × (c ≡ false) × (d ≡ false)
+four true b c d p e = cc
+four false true c d p e = cc
+four false false true d p e = cc
+four false false false true p e = cc
+four false false false false p e = (refl, refl, refl, refl)
+
+-- the tests that a new group passes
+makes : (a b : Bool) (q : Path) (o : Option Refusal) (d : Bool) → refuse a Exists (refuse b (NoGroup q) (option_or o (refuse d NoSlot None))) ≡ None → (b ≡ false) × (d ≡ false)
+makes true b q o d e = cc
+makes false true q o d e = cc
+makes false false q None true e = cc
+makes false false q None false e = (refl, refl)
+makes false false q (Some r) d e = cc
+
+room : (slots n : ℕ) → ltb slots n ≡ false → n ≤ slots
+room slots n e = grind (arith, nat_tests)
+
+kept_len : (b : Bool) (n : ℕ) → b ≡ true → cond b n (n + 1) ≡ n
+kept_len b n e = ap (λ c. cond c n (n + 1)) e
+
+-- an accepted command keeps a state well formed
+pub kept : (slots : ℕ) (s : State) (c : Command) → WellFormed slots s → refusal slots s c ≡ None → WellFormed slots (after s c)
+kept slots s (MakeGroup p) w e =
+    let tests = makes (is_group s p) (not (is_group s (parent p))) (parent p) (blocked_make s p) (ltb slots (len s.groups)) e in
+    with_group slots s w p fresh (affirmed _ tests.0) (omega arith)
+    (subst (λ n. n ≤ slots + 1) (sym (len-insert path_cmp-IsTotalOrder s.groups p fresh))
+    (one_more (is_group s p) _ _ (room slots (len s.groups) tests.1)))
+kept slots s (RemoveGroup p) w e =
+    let tests = four (is_root p) (not (is_group s p)) (list_any (λ q. strictly_below q p) (keys s.groups)) (list_any (λ q. same_path q p) (values s.home)) p e in
+    without_group slots s w p tests.0 tests.2 tests.3
+kept slots s (Fork from child) w e = with_home slots s w child (home_of s from) (at_home (get s.home from) refl (affirmed _ (passed _ _ _ e)))
+  where
+    at_home : (o : Option Path) → get s.home from ≡ o → is_some o ≡ true → is_group s (unwrap_or o []) ≡ true
+    at_home None is h = cc
+    at_home (Some q) is h = w.homes from q is
+kept slots s (Exit pid) w e = without_home slots s w pid
+kept slots s (Move p pid) w e = with_home slots s w pid p (affirmed _ (passed _ _ _ e))
+kept slots s (SetLimit p file value) w e =
+    let there = affirmed _ (passed _ _ _ (beyond _ _ _ e)) in
+    with_group slots s w p _ (w.parents p there)
+    (even_limit file value _ (even_own (get s.groups p) (w.totals p)))
+    (subst (λ n. n ≤ slots + 1) (sym (len-insert path_cmp-IsTotalOrder s.groups p (with_limit file value (attr_of s p)) ∙ kept_len _ _ there)) w.few)
+kept slots s (Kill g) w e = fewer slots s w (λ pid. not (lives_in s g pid))
+kept slots s (Show p file) w e = w
+kept slots s (Locate pid) w e = w
+kept slots s Undo w e = w
