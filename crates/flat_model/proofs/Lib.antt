@@ -18,6 +18,8 @@ pub mod WordLaws
 pub mod ValueLaws
 pub mod CommandTextLawsWords
 pub mod CommandTextLaws
+pub mod CommandTextLawsOnly
+pub mod CommandTextLawsTrace
 pub mod RowsReads
 pub mod RowsLists
 pub mod RowsMachine

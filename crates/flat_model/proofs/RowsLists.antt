@@ -13,11 +13,13 @@ use Rattle.flat_model.specs.Step.{with_limit, is_within, after, count_up, after_
 use Rattle.flat_model.proofs.PathLaws.{path_cmp-IsTotalOrder, path_cmp-IsAntisymmetric}
 use Rattle.flat_model.proofs.RowsReads.{Lists, lists_of, reads_in, reads_are, home_by, attr_by}
 
+-- a test turned round
 turned : {A : Type 0} (b : Bool) (x y : A) → cond b x y ≡ cond (not b) y x
 turned true x y = refl
 turned false x y = refl
 
 module _ {K X : Type 0} {R : K → K → Ordering} (o : IsTotalOrder R) (same : IsAntisymmetric R) where
+  -- maps with the same look-ups have the same entries
   entries-retain_keys : (m : FinMap R X) (p : K → Bool) → entries (retain_keys m p) ≡ filter (λ e. p e.0) (entries m)
   entries-retain_keys m p =
       same_entries R o same (entries (retain_keys m p)) (filter (λ e. p e.0) (entries m)) (entries_sorted (retain_keys m p)) (is_sorted-where_key R p (entries m) (entries_sorted m))
@@ -76,6 +78,7 @@ in_groups s e = λ i. record { groups = e i; home = entries s.home }
 in_home : (s : State) {gs hs : List (ℕ × Path)} → gs ≡ hs → ◌≡◌ {A = Lists} (record { groups = entries s.groups; home = gs }) (record { groups = entries s.groups; home = hs })
 in_home s e = λ i. record { groups = entries s.groups; home = e i }
 
+-- the entries of what an accepted command leaves
 pub after_leaves : (s : State) (c : Command) → lists_of (after s c) ≡ leaves (lists_of s) c
 after_leaves s (MakeGroup p) = in_groups s (entries-insert path_cmp-IsTotalOrder s.groups p fresh)
 after_leaves s (RemoveGroup p) = in_groups s (entries-remove path_cmp-IsTotalOrder path_cmp-IsAntisymmetric s.groups p)
@@ -105,6 +108,7 @@ refusal_leaves l (PidInUse p) = l
 refusal_leaves l NoFile = l
 refusal_leaves l NotReadable = l
 
+-- the entries of what a refusal leaves
 pub after_refusal_leaves : (s : State) (r : Refusal) → lists_of (after_refusal s r) ≡ refusal_leaves (lists_of s) r
 after_refusal_leaves s (OverPidsMax a) = in_groups s (entries-from_entries (map (λ e. (e.0, count_up a e.0 e.1)) (entries s.groups)))
 after_refusal_leaves s Exists = refl

@@ -10,6 +10,7 @@ use Rattle.flat_model.specs.Replies.{commands_in, out, answers, line_replies, is
 use Rattle.flat_model.proofs.RowsReads.{Lists, lists_of, reads_in, reads_are, refusal_by, refusal_reads, accepted_by, accepted_reads}
 use Rattle.flat_model.proofs.RowsLists.{leaves, after_leaves, refusal_leaves, after_refusal_leaves, start_lists, start_leaves}
 
+-- the machine of `Machine`, with lists for its states
 pub record ListMachine : Type 0 where
   pub state : Lists
   pub past : List (Command × Lists)
@@ -66,6 +67,7 @@ either_lists : (b : Bool) (t u : Machine × Reply) → step_lists (cond b t u) �
 either_lists true t u = refl
 either_lists false t u = refl
 
+-- one step of the machine, its state seen as lists
 tick_lists : (slots : ℕ) (m : Machine) (c : Command) → step_lists (tick slots m c) ≡ list_tick slots (machine_lists m) c
 tick_lists slots m c =
     either_lists (is_undo c) (undone m.state m.past) (outcome m c (refusal slots m.state c))

@@ -24,6 +24,7 @@ pub record Lists : Type 0 where
 abbrev pub lists_of : State → Lists
 lists_of s = record { groups = entries s.groups; home = entries s.home }
 
+-- what a command asks a state: two look-ups, the entries in order, and how many groups there are
 pub record Reads : Type 0 where
   pub group : Path → Option Attr
   pub home : ℕ → Option Path
@@ -47,6 +48,7 @@ reads_are s = λ i. record {
   group_count = len-entries s.groups i;
 }
 
+-- ---- the definitions of `Counts`, `Step`, `FileText` and `Machine`, of these answers in place of the state
 abbrev pub home_by : Reads → ℕ → Path
 home_by r pid = unwrap_or (r.home pid) []
 
@@ -99,6 +101,7 @@ refusal_by slots r (Show p file) =
 refusal_by slots r (Locate pid) = refuse (not (is_some (r.home pid))) (NoProcess pid) None
 refusal_by slots r Undo = None
 
+-- each refusal is by these answers alone
 pub refusal_reads : (slots : ℕ) (s : State) (c : Command) → refusal slots s c ≡ refusal_by slots (reads_of s) c
 refusal_reads slots s (MakeGroup p) = refl
 refusal_reads slots s (RemoveGroup p) = refl
@@ -121,6 +124,7 @@ file_by r g PidsCurrent = line (decimal (current_by r g))
 file_by r g PidsEvents = line (codes "max " ++ decimal (attr_by r g).total)
 file_by r g PidsEventsLocal = line (codes "max " ++ decimal (attr_by r g).local)
 
+-- and so is each text
 file_reads : (s : State) (g : Path) (f : File) → file_text s g f ≡ file_by (reads_of s) g f
 file_reads s g Procs = refl
 file_reads s g Events = refl
