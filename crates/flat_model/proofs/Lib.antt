@@ -1,3 +1,4 @@
 pub mod PathLaws
 pub mod PathMembers
 pub mod PathTextLaws
+pub mod PathTextLawsChild
