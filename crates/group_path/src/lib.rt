@@ -1,0 +1,10 @@
+//! Paths of groups.
+#![tactic(auto)]
+
+mod fault;
+mod grammar;
+mod names;
+
+pub use fault::PathFault;
+pub use grammar::{DEPTH_MAX, NAME_MAX, TEXT_MAX};
+pub use names::Names;
