@@ -25,11 +25,11 @@ length-spelled-take zero p = omega arith
 length-spelled-take (suc n) [] = omega arith
 length-spelled-take (suc n) (m ∷ p) = let h = length-spelled-take n p in omega (arith, length-append (47 ∷ m) (spelled (take n p)), length-append (47 ∷ m) (spelled p))
 
-short_take : (n : ℕ) (p : Path) → length (path_text (take n p)) ≤ length (path_text p)
-short_take zero [] = omega arith
-short_take zero (m ∷ p) = omega (arith, length-append (47 ∷ m) (spelled p))
-short_take (suc n) [] = omega arith
-short_take (suc n) (m ∷ p) = length-spelled-take (suc n) (m ∷ p)
+pub length-path_text-take : (n : ℕ) (p : Path) → length (path_text (take n p)) ≤ length (path_text p)
+length-path_text-take zero [] = omega arith
+length-path_text-take zero (m ∷ p) = omega (arith, length-append (47 ∷ m) (spelled p))
+length-path_text-take (suc n) [] = omega arith
+length-path_text-take (suc n) (m ∷ p) = length-spelled-take (suc n) (m ∷ p)
 
 names_take : (n : ℕ) (p : Path) → AllByRecursion IsName p → AllByRecursion IsName (take n p)
 names_take zero p h = tt
@@ -41,7 +41,7 @@ pub IsPath-take : (n : ℕ) (p : Path) → IsPath p → IsPath (take n p)
 IsPath-take n p h = record {
   all_names = names_take n p h.all_names;
   shallow = let k = length-take n p in let s = h.shallow in omega arith;
-  short = let k = short_take n p in let s = h.short in omega arith;
+  short = let k = length-path_text-take n p in let s = h.short in omega arith;
 }
 
 names_append : (p q : Path) → AllByRecursion IsName p → AllByRecursion IsName q → AllByRecursion IsName (p ++ q)
