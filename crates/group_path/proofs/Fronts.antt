@@ -12,7 +12,7 @@ front_text zero (m ∷ p) = refl
 front_text (suc n) [] = refl
 front_text (suc n) (m ∷ p) =
     let whole : spelled (m ∷ p) ≡ spelled (m ∷ take n p) ++ spelled (drop n p) =
-        ap (λ (x : Path). spelled (m ∷ x)) (sym (take-append-drop n p)) ∙ spelled-append (m ∷ take n p) (drop n p) in
+    ap (λ (x : Path). spelled (m ∷ x)) (sym (take-append-drop n p)) ∙ spelled-append (m ∷ take n p) (drop n p) in
     ap (take (length (spelled (m ∷ take n p)))) whole ∙ take-append_seam (spelled (m ∷ take n p)) (spelled (drop n p))
 
 front_is : (text front : List ℕ) (p : Path) (n len : ℕ) → text ≡ path_text p → len ≡ length (path_text (take n p)) → front ≡ take len text → front ≡ path_text (take n p)
