@@ -1,5 +1,5 @@
 -- One step of the walk over the names of two paths.
-use Rattle.std.proofs.Common.{◌≡◌, ◌∙◌, ◌&&◌, ap, sym, Bool, List, ◌∷◌, ℕ, nat_eq}
+use Rattle.std.proofs.Common.{◌≡◌, ◌∙◌, ◌&&◌, ap, sym, Bool, ◌∷◌, nat_eq}
 use Rattle.std.specs.Cmp.Lexicographic.{pointwise, texts_ties}
 use Rattle.flat_model.specs.Path.{Name, Path, at_or_below}
 

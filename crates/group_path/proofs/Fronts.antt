@@ -1,7 +1,7 @@
 -- The text of a path's first names begins the text of the path.
-use Rattle.std.proofs.Common.{◌≡◌, ℕ, ◌-◌, cond, List, [], ◌∷◌, ◌++◌, length, take, drop, zero, suc, refl, ap, sym, ◌∙◌, None, Some, Option, take-append-drop}
+use Rattle.std.proofs.Common.{◌≡◌, ℕ, ◌-◌, cond, List, [], ◌∷◌, ◌++◌, length, take, drop, zero, suc, refl, ap, sym, ◌∙◌, None, Some, take-append-drop}
 use Rattle.std.proofs.Math.Seq.{take-append_seam}
-use Rattle.flat_model.specs.Path.{Name, Path, is_root, parent}
+use Rattle.flat_model.specs.Path.{Path, is_root, parent}
 use Rattle.flat_model.specs.PathText.{IsPath, names_in, spelled, path_text, path_fault}
 use Rattle.flat_model.proofs.PathTextLaws.{names_in-path_text, path_fault-path_text}
 use Rattle.flat_model.proofs.PathTextLawsChild.{spelled-append, IsPath-take}

@@ -1,5 +1,5 @@
 -- Two paths of the grammar are one where their texts are.
-use Rattle.std.proofs.Common.{◌≡◌, ◌∙◌, ap, sym, refl, nat_eq, Bool, true, false, List, ℕ, ◌↔◌}
+use Rattle.std.proofs.Common.{◌≡◌, ◌∙◌, ap, sym, refl, nat_eq, Bool, true, false, List, ℕ}
 use Rattle.std.specs.Cmp.Lexicographic.{pointwise, texts_ties}
 use Rattle.flat_model.specs.Path.{Path, same_name, same_path}
 use Rattle.flat_model.specs.PathText.{IsPath, path_text}

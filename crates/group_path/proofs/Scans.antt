@@ -1,5 +1,5 @@
 -- The scan of the names of a text, of which it looks at one more than a path may have.
-use Rattle.std.proofs.Common.{◌≡◌, ℕ, ◌+◌, ◌≤◌, Bool, true, cond, ◌==◌, ◌||◌, List, [], ◌∷◌, length, take, zero, suc, codes, nat_eq, refl, ap, sym, ◌∙◌, arith, subst, Option, Some, None}
+use Rattle.std.proofs.Common.{◌≡◌, ℕ, ◌+◌, ◌≤◌, Bool, true, ◌==◌, ◌||◌, List, [], ◌∷◌, length, take, zero, suc, codes, nat_eq, refl, ap, sym, ◌∙◌, arith, subst, Option, None}
 use Rattle.std.specs.Cmp.Lexicographic.{pointwise, texts_ties}
 use Rattle.std.specs.List.{slice_split}
 use Rattle.std.specs.Option.{option_or}

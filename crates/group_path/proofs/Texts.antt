@@ -1,10 +1,10 @@
 -- A path's text, and that of its first names.
-use Rattle.std.proofs.Common.{◌≡◌, ℕ, ◌+◌, ◌<◌, ◌≤◌, max, List, [], ◌∷◌, ◌++◌, length, take, drop, refl, ap, sym, ◌∙◌, arith, subst, None, length-append}
+use Rattle.std.proofs.Common.{◌≡◌, ℕ, ◌<◌, ◌≤◌, max, List, [], ◌∷◌, length, take, refl, ap, ◌∙◌, arith, subst, None, length-append}
 use Rattle.std.proofs.lemmas.List.{take_all}
-use Rattle.flat_model.specs.Path.{Name, Path}
+use Rattle.flat_model.specs.Path.{Path}
 use Rattle.flat_model.specs.PathText.{IsPath, names_in, spelled, path_text, path_fault}
 use Rattle.flat_model.proofs.PathTextLaws.{sound}
-use Rattle.flat_model.proofs.PathTextLawsChild.{length-spelled-take, length-path_text-take}
+use Rattle.flat_model.proofs.PathTextLawsChild.{length-spelled-take}
 
 pub text_is : (items : List ℕ) (p : Path) → names_in items ≡ p → path_fault items ≡ None → items ≡ path_text p
 text_is items p e h = (sound items h).text_is ∙ ap path_text e
