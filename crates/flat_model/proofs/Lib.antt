@@ -23,3 +23,4 @@ pub mod CommandTextLawsTrace
 pub mod RowsReads
 pub mod RowsLists
 pub mod RowsMachine
+pub mod PathTextLawsChild

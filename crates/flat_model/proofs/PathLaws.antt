@@ -84,6 +84,12 @@ take_above n p = (at_or_below_is p (take n p)).1 (drop n p, sym (take-append-dro
 pub parent_above : (p : Path) → at_or_below p (parent p) ≡ true
 parent_above p = take_above (length p - 1) p
 
+-- the parent of a group with one more name
+pub parent-child : (p : Path) (name : Name) → parent (p ++ name ∷ []) ≡ p
+parent-child p name =
+    let e : length (p ++ name ∷ []) - 1 ≡ length p = omega (arith, length-append p (name ∷ [])) in
+    ap (λ n. take n (p ++ name ∷ [])) e ∙ take-append_seam p (name ∷ [])
+
 -- two paths that are at or below each other are one
 pub at_or_below_both : (p q : Path) → at_or_below p q ≡ true → at_or_below q p ≡ true → p ≡ q
 at_or_below_both p q h k =
