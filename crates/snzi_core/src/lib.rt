@@ -1,13 +1,11 @@
-// A library with one function.
+//! The indicator tree as a machine over events, with no atomic word.
 #![tactic(auto)]
 
-ghost use Rattle.std.specs.Prelude.{◌≡◌};
-ghost use Rattle.snzi_core.specs.Echo.{echo_of};
+mod event;
+mod hand;
+mod holding;
+mod unlawful;
 
-// The `ensures` clause is the contract: what `echo` returns is `echo_of` of its argument, a definition
-// in `specs/Echo.antt`, which a caller's clause can cite too.
-pub fn echo(x: usize) -> usize
-    ensures { result ≡ echo_of x }
-{
-    x
-}
+pub use event::{At, Event, Token};
+pub use holding::{Holding, Role};
+pub use unlawful::Unlawful;

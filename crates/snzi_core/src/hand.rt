@@ -1,0 +1,76 @@
+//! What one hand of a core holds.
+ghost use Rattle.std.specs.Prelude.{◌≡◌, ℕ, ◌+◌, ◌-◌, ◌*◌, ◌%◌, ◌^◌, ◌<◌, ◌≤◌, [], length, replicate, IfOk, slice_index};
+ghost use Rattle.snzi_core.specs.Holding.{tokens_at, amount_at, gain, lose, raise, empty, one_out, one_back, main_weight};
+ghost use Rattle.snzi_core.specs.State.{fresh};
+
+use crate::holding::Role;
+use std::alloc::{AllocError, Allocator};
+use std::marker::Model;
+
+// Tokens and amounts have an entry for each word, so that one number finds all of them. A spent hand has none.
+#[derive(Drop)]
+pub(crate) struct Hand<A: Allocator> {
+    role: Role,
+    tokens: Vec<u64, A>,
+    amounts: Vec<u64, A>,
+}
+
+impl<A: Allocator> Model for Hand<A> {
+    ghost use Rattle.snzi_core.specs.declared.holding.Holding.{Holding};
+
+    ghost Value = { Holding };
+
+    ghost view = { λ h. record { role = h.role; tokens = h.tokens.items; amounts = h.amounts.items } };
+}
+
+impl<A: Allocator + Clone> Hand<A> {
+    pub(crate) fn fresh(alloc: A, role: Role, words: usize) -> Result<Hand<A>, AllocError>
+        ensures { IfOk result (λ h. h ≡ fresh words role) }
+    {
+        let tokens = Vec::from_elem(alloc.clone()?, 0, words)?;
+        let amounts = Vec::from_elem(alloc, 0, words)?;
+        Ok(Hand {
+            role,
+            tokens,
+            amounts,
+        })
+    }
+}
+
+impl<A: Allocator> Hand<A> {
+    pub(crate) fn role(&self) -> Role
+        ensures { result ≡ self.now.role }
+    {
+        self.role
+    }
+
+    // The tokens at a word.
+    pub(crate) fn tokens_at(&self, word: usize) -> u64
+        ensures { result ≡ tokens_at word self.now }
+    {
+        self.tokens.get(word).copied().unwrap_or(0)
+    }
+
+    pub(crate) fn gain(&mut self, word: usize)
+        requires place { word < length self.old.tokens }
+        requires room { tokens_at word self.old < 2 ^ 64 - 1 }
+        ensures { self.new ≡ gain self.old word }
+    {
+        self.tokens[word] += 1;
+    }
+
+    pub(crate) fn lose(&mut self, word: usize)
+        requires place { word < length self.old.tokens }
+        requires token { 0 < tokens_at word self.old }
+        ensures { self.new ≡ lose self.old word }
+    {
+        self.tokens[word] -= 1;
+    }
+
+    pub(crate) fn raise(&mut self, word: usize, n: u64)
+        requires { word < length self.old.amounts }
+        ensures { self.new ≡ raise self.old word n }
+    {
+        self.amounts[word] = self.amounts[word].wrapping_add(n);
+    }
+}
