@@ -1,5 +1,5 @@
 -- Lists of numbers read with 0 past their end, and sums over hands.
-use Rattle.std.proofs.Common.{◌≡◌, ◌≢◌, ℕ, zero, suc, ◌+◌, ◌-◌, ◌*◌, ◌<◌, ◌≤◌, List, [], ◌∷◌, ◌++◌, length, set, get_or, sym, refl, ap, ◌∙◌, subst, arith}
+use Rattle.std.proofs.Common.{length-set, ◌≡◌, ◌≢◌, ℕ, zero, suc, ◌+◌, ◌-◌, ◌*◌, ◌<◌, ◌≤◌, List, [], ◌∷◌, ◌++◌, length, set, get_or, sym, refl, ap, ◌∙◌, subst, arith}
 use Rattle.std.specs.Prelude.{slice_index}
 use mathlib.Core.Option.{some, some-injective, some-ne-none}
 use lib.ListN.{get_elem?}
@@ -87,3 +87,6 @@ pub read_inside : {X : Type 0} (l : List X) (i : ℕ) (d e : X) → i < length l
 read_inside [] i d e h = absurd (omega arith)
 read_inside (y ∷ ys) zero d e h = refl
 read_inside (y ∷ ys) (suc i) d e h = read_inside ys i d e (omega arith)
+
+pub put_length : (l : List ℕ) (i x : ℕ) → i < length l → length (put l i x) ≡ length l
+put_length l i x h = ap length (put_inside l i x h) ∙ length-set l i x

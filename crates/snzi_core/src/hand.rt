@@ -1,5 +1,5 @@
 //! What one hand of a core holds.
-ghost use Rattle.std.specs.Prelude.{◌≡◌, ℕ, ◌+◌, ◌-◌, ◌*◌, ◌%◌, ◌^◌, ◌<◌, ◌≤◌, [], length, replicate, IfOk, slice_index};
+ghost use Rattle.std.specs.Prelude.{◌≡◌, ◌≢◌, ℕ, ◌+◌, ◌-◌, ◌*◌, ◌%◌, ◌^◌, ◌<◌, ◌≤◌, [], length, replicate, IfOk, slice_index};
 ghost use Rattle.snzi_core.specs.Holding.{tokens_at, amount_at, gain, lose, raise, empty, one_out, one_back, main_weight};
 ghost use Rattle.snzi_core.specs.State.{fresh};
 
@@ -72,5 +72,27 @@ impl<A: Allocator> Hand<A> {
         ensures { self.new ≡ raise self.old word n }
     {
         self.amounts[word] = self.amounts[word].wrapping_add(n);
+    }
+
+    // A token at a word for that at its parent.
+    pub(crate) fn descend(&mut self, parent: usize, word: usize)
+        requires place { (parent < length self.old.tokens) × (word < length self.old.tokens) × (parent ≢ word) }
+        requires room { tokens_at word self.old < 2 ^ 40 }
+        requires token { 0 < tokens_at parent self.old }
+        ensures { self.new ≡ lose (gain self.old word) parent }
+    {
+        self.gain(word);
+        self.lose(parent);
+    }
+
+    // A token at the parent of a word for that at the word.
+    pub(crate) fn ascend(&mut self, parent: usize, word: usize)
+        requires place { (parent < length self.old.tokens) × (word < length self.old.tokens) × (parent ≢ word) }
+        requires room { tokens_at parent self.old < 2 ^ 40 }
+        requires token { 0 < tokens_at word self.old }
+        ensures { self.new ≡ gain (lose self.old word) parent }
+    {
+        self.lose(word);
+        self.gain(parent);
     }
 }

@@ -1,11 +1,16 @@
 //! The indicator tree as a machine over events, with no atomic word.
 #![tactic(auto)]
 
+mod changes;
 mod event;
 mod hand;
 mod holding;
+mod machine;
+mod reading;
+mod refusals;
 mod unlawful;
 
 pub use event::{At, Event, Token};
 pub use holding::{Holding, Role};
+pub use machine::Core;
 pub use unlawful::Unlawful;
