@@ -59,9 +59,13 @@ passes_up k at = nat_eq (slice_index k.words (node_of k at)) 1 && not (nat_eq at
 abbrev pub count_at : State → List Token → ℕ → ℕ
 count_at k share i = count_by (λ t. nat_eq (token_of k t) i) share
 
+-- main has as many tokens at the leaf as the share
+abbrev pub main_covers : State → List Token → Token → Bool
+main_covers k share t = nat_le (count_at k share (token_of k t)) (tokens_at (token_of k t) (hand_of k 0))
+
 -- main has these tokens
 abbrev pub main_has : State → List Token → Bool
-main_has k share = list_all (λ t. nat_le (count_at k share (token_of k t)) (tokens_at (token_of k t) (hand_of k 0))) share
+main_has k share = list_all (main_covers k share) share
 
 -- no helper more may be out, or no hand more be made
 abbrev pub is_crowded : State → Bool
@@ -88,6 +92,10 @@ stays k hand i = is_inner (kind_of k i) && nat_lt 0 (tokens_at i (hand_of k hand
 abbrev pub refuse : Bool → Unlawful → Option Unlawful → Option Unlawful
 refuse test refusal rest = cond test (Some refusal) rest
 
+-- the refusal of a split with this share
+abbrev pub refuses_split : State → List Token → Option Unlawful
+refuses_split k share = refuse (not (list_all (has_token k) share)) NoNode (refuse (not (main_has k share)) NoToken (refuse (is_crowded k) Cap None))
+
 -- the refusal of an event, none where it is lawful within the caps
 abbrev pub refusal : State → Event → Option Unlawful
 refusal k (Load hand slot word) = refuse (not (has_word k slot word)) NoNode (refuse (not (is_live k hand)) NoHand None)
@@ -99,5 +107,5 @@ refusal k (ChildAdd hand at) =
 refusal k (Leave hand at) =
     refuse (not (has_node k at)) NoNode (refuse (not (is_live k hand)) NoHand (refuse (lacks k hand (node_of k at)) NoToken (refuse (passes_up k at && is_full k hand (parent_of k at)) Cap None)))
 refusal k (StripeAdd hand slot s n) = refuse (not (has_stripe k slot s)) NoNode (refuse (not (is_live k hand)) NoHand None)
-refusal k (Split share) = refuse (not (list_all (has_token k) share.now)) NoNode (refuse (not (main_has k share.now)) NoToken (refuse (is_crowded k) Cap None))
+refusal k (Split share) = refuses_split k share.now
 refusal k (Join helper) = refuse (not (helps (hand_of k helper).role)) NoHand (refuse (some_word k (overflows k helper)) Cap (refuse (some_word k (stays k helper)) StillHolding None))

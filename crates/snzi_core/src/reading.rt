@@ -2,7 +2,7 @@
 ghost use Rattle.std.specs.Prelude.{◌≡◌, ℕ, ◌+◌, ◌-◌, ◌*◌, ◌/◌, ◌%◌, ◌^◌, ◌<◌, ◌≤◌, ◌↔◌, IsTrue, length, slice_index};
 ghost use Rattle.snzi_core.specs.Shape.{leaves};
 ghost use Rattle.snzi_core.specs.Balance.{Present};
-ghost use Rattle.snzi_core.specs.State.{span, node_of, stripe_of, token_of, above};
+ghost use Rattle.snzi_core.specs.State.{span, node_of, parent_of, stripe_of, token_of, above};
 ghost use Rattle.snzi_core.specs.Effect.{slot_amounts};
 
 use crate::event::{At, Token};
@@ -48,7 +48,8 @@ impl<A: Allocator + Clone> Core<A> {
 
     // The words of a slot.
     pub(crate) fn span(&self) -> u16
-        ensures { (result ≡ span self.now) × (result ≤ 383) }
+        ensures value { result ≡ span self.now }
+        ensures bounds { (0 < result) × (result ≤ 383) }
     {
         u16::from(self.nodes) + u16::from(self.leaves())
     }
@@ -84,5 +85,12 @@ impl<A: Allocator + Clone> Core<A> {
             token.slot,
             (u16::from(self.nodes) - 1) / 2 + u16::from(token.leaf),
         )
+    }
+
+    // The parent's word; a root is its own parent.
+    pub(crate) fn parent_word(&self, at: At) -> usize
+        ensures value { result ≡ parent_of self.now at }
+    {
+        self.word_number(at.slot, (u16::from(at.node).saturating_sub(1)) / 2)
     }
 }
