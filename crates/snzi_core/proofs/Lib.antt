@@ -10,3 +10,4 @@ pub mod Tests
 pub mod Stepped
 pub mod Start
 pub mod Words
+pub mod Rewriting

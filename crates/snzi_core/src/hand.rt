@@ -1,9 +1,10 @@
 //! What one hand of a core holds.
 ghost use Rattle.std.specs.Prelude.{◌≡◌, ◌≢◌, ℕ, ◌+◌, ◌-◌, ◌*◌, ◌%◌, ◌^◌, ◌<◌, ◌≤◌, [], length, replicate, IfOk, slice_index};
-ghost use Rattle.snzi_core.specs.Holding.{tokens_at, amount_at, gain, lose, raise, empty, one_out, one_back, main_weight};
+ghost use Rattle.snzi_core.specs.Holding.{tokens_at, amount_at, gain, lose, raise, empty, keeper, rejoined, out};
 ghost use Rattle.snzi_core.specs.State.{fresh};
 
 use crate::holding::Role;
+use crate::table::{add_each, subtract_each, wrapping_add_each};
 use std::alloc::{AllocError, Allocator};
 use std::marker::Model;
 
@@ -94,5 +95,43 @@ impl<A: Allocator> Hand<A> {
     {
         self.lose(word);
         self.gain(parent);
+    }
+
+    // Gives the tokens of a new helper away, which is out then.
+    pub(crate) fn give(&mut self, helper: &Hand<A>)
+        requires len { length helper.now.tokens ≡ length self.old.tokens }
+        requires enough { (i : ℕ) → tokens_at i helper.now ≤ tokens_at i self.old }
+        requires room { out self.old.role < 65535 }
+        ensures { self.new ≡ keeper self.old helper.now.tokens }
+    {
+        subtract_each(&mut self.tokens, &helper.tokens);
+        if let Role::Main(n) = self.role {
+            self.role = Role::Main(n + 1);
+        }
+    }
+
+    // Takes what a helper has, which is back then.
+    pub(crate) fn absorb(&mut self, helper: &Hand<A>)
+        requires tokens { length helper.now.tokens ≡ length self.old.tokens }
+        requires amounts { length helper.now.amounts ≡ length self.old.amounts }
+        requires room { (i : ℕ) → tokens_at i self.old + tokens_at i helper.now < 2 ^ 64 }
+        ensures { self.new ≡ rejoined self.old helper.now }
+    {
+        add_each(&mut self.tokens, &helper.tokens);
+        wrapping_add_each(&mut self.amounts, &helper.amounts);
+        if let Role::Main(n) = self.role {
+            self.role = Role::Main(n.saturating_sub(1));
+        }
+    }
+
+    // Has nothing more, and gives its memory back.
+    pub(crate) fn spend(&mut self)
+        ensures { self.new ≡ empty Role.Spent }
+    {
+        self.role = Role::Spent;
+        self.tokens.clear();
+        self.tokens.shrink_to_fit();
+        self.amounts.clear();
+        self.amounts.shrink_to_fit();
     }
 }

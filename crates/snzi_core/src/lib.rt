@@ -8,6 +8,7 @@ mod holding;
 mod machine;
 mod reading;
 mod refusals;
+mod table;
 mod unlawful;
 
 pub use event::{At, Event, Token};
