@@ -11,3 +11,5 @@ pub mod Stepped
 pub mod Start
 pub mod Words
 pub mod Rewriting
+pub mod Splitting
+pub mod Joining

@@ -19,7 +19,7 @@ pos_up : (n : ℕ) → 0 < up n → 0 < n
 pos_up zero h = absurd (omega arith)
 pos_up (suc n) h = omega arith
 
-past_end : (l : List ℕ) (i : ℕ) → length l ≤ i → slice_index l i ≡ 0
+pub past_end : (l : List ℕ) (i : ℕ) → length l ≤ i → slice_index l i ≡ 0
 past_end [] i h = refl
 past_end (x ∷ xs) zero h = absurd (omega arith)
 past_end (x ∷ xs) (suc i) h = past_end xs i (omega arith)

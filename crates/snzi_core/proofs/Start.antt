@@ -9,7 +9,7 @@ use Rattle.snzi_core.specs.Balance.{Stands, up}
 use Rattle.snzi_core.specs.State.{State, start, fresh, size, kind_of}
 use Rattle.snzi_core.specs.Kept.{IsCore}
 
-zeros : (n i : ℕ) → slice_index (replicate n 0) i ≡ 0
+pub zeros : (n i : ℕ) → slice_index (replicate n 0) i ≡ 0
 zeros zero i = refl
 zeros (suc n) zero = refl
 zeros (suc n) (suc i) = zeros n i

@@ -8,6 +8,7 @@ mod holding;
 mod machine;
 mod reading;
 mod refusals;
+mod regrouping;
 mod table;
 mod unlawful;
 
