@@ -13,3 +13,4 @@ pub mod Words
 pub mod Rewriting
 pub mod Splitting
 pub mod Joining
+pub mod Ready

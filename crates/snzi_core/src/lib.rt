@@ -9,6 +9,7 @@ mod machine;
 mod reading;
 mod refusals;
 mod regrouping;
+mod stepping;
 mod table;
 mod unlawful;
 

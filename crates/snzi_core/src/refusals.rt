@@ -99,7 +99,7 @@ impl<A: Allocator + Clone> Core<A> {
         }
     }
 
-    fn is_zero(&self, word: usize) -> bool
+    pub(crate) fn is_zero(&self, word: usize) -> bool
         requires { word < length self.now.words }
         ensures { result ≡ is_zero self.now word }
     {
@@ -107,7 +107,7 @@ impl<A: Allocator + Clone> Core<A> {
     }
 
     // Whether a leave gives a token to the parent.
-    fn passes_up(&self, at: At) -> bool
+    pub(crate) fn passes_up(&self, at: At) -> bool
         requires { (at.slot < self.now.slots) × (at.node < self.now.nodes) }
         ensures { result ≡ passes_up self.now at }
     {
