@@ -14,3 +14,4 @@ pub mod Rewriting
 pub mod Splitting
 pub mod Joining
 pub mod Ready
+pub mod Keeps

@@ -89,6 +89,10 @@ abbrev pub Runs : State → List Event → State → Type 0
 Runs k [] k' = k' ≡ k
 Runs k (e ∷ es) k' = (refusal k e ≡ None) × Runs (after k e) es k'
 
+-- the events before place i were done, and that at i is refused
+abbrev pub Stops : State → List Event → ℕ → Unlawful → State → Type 0
+Stops k es i u k' = Runs k (take i es) k' × (e : Event) × (slice_get es i ≡ Some e) × Refuses u k' e
+
 -- what the hands have in the first n stripes of a slot
 abbrev pub slot_amounts : State → ℕ → ℕ → ℕ
 slot_amounts k slot zero = 0

@@ -1,8 +1,8 @@
 //! One event, and a list of events.
-ghost use Rattle.std.specs.Prelude.{◌≡◌, ◌≢◌, ℕ, ◌+◌, ◌-◌, ◌*◌, ◌/◌, ◌%◌, ◌^◌, ◌<◌, ◌≤◌, length, None, OnOk, IfErr};
+ghost use Rattle.std.specs.Prelude.{◌≡◌, ◌≢◌, ℕ, ◌+◌, ◌-◌, ◌*◌, ◌/◌, ◌%◌, ◌^◌, ◌<◌, ◌≤◌, length, None, OnOk, IfErr, MatchResult};
 ghost use Rattle.snzi_core.specs.State.{IsRuled};
 ghost use Rattle.snzi_core.specs.Lawful.{refusal};
-ghost use Rattle.snzi_core.specs.Effect.{after, Refuses};
+ghost use Rattle.snzi_core.specs.Effect.{after, Refuses, Runs, Stops};
 
 use crate::event::{At, Event};
 use crate::machine::Core;
@@ -63,5 +63,63 @@ impl<A: Allocator + Clone> Core<A> {
         let _ = &self.words;
         let word = self.stripe_word(slot, stripe);
         self.add(hand, word, n);
+    }
+
+    // Does a lawful event. Only a split may lack memory, and then nothing has changed.
+    fn apply(&mut self, event: &Event<'_>) -> Result<(), Unlawful>
+        requires { refusal self.old event.now ≡ None }
+        ensures ok { OnOk result (self.new ≡ after self.old event.now) }
+        ensures err { IfErr result (λ u. Refuses u self.old event.now × (self.new ≡ self.old)) }
+    {
+        match *event {
+            Event::Load { .. } => {}
+            Event::FastAdd { hand, at } => self.fast_add(hand, at),
+            Event::RootAdd { hand, slot } => self.root_add(hand, slot),
+            Event::ChildAdd { hand, at } => self.child_add(hand, at),
+            Event::Leave { hand, at } => self.leave(hand, at),
+            Event::StripeAdd {
+                hand,
+                slot,
+                stripe,
+                n,
+            } => self.stripe_add(hand, slot, stripe, n),
+            Event::Split { share } => {
+                if self.split(share).is_err() {
+                    return Err(Unlawful::OutOfMemory);
+                }
+            }
+            Event::Join { helper } => self.join(helper),
+        }
+        Ok(())
+    }
+
+    /// Does one event, where it is lawful within the caps; else it gives the first refusal and
+    /// changes nothing.
+    ///
+    /// Only a split takes memory, two numbers a word, and compares each two tokens of its share; a
+    /// join reads each word's number of both hands. Every other event costs the same however many
+    /// words and hands there are.
+    pub fn step(&mut self, event: &Event<'_>) -> Result<(), Unlawful>
+        ensures ok { OnOk result ((refusal self.old event.now ≡ None) × (self.new ≡ after self.old event.now)) }
+        ensures err { IfErr result (λ u. Refuses u self.old event.now × (self.new ≡ self.old)) }
+        ensures rule { IsRuled self.old × IsRuled self.new }
+    {
+        match self.refusal(event) {
+            Some(unlawful) => Err(unlawful),
+            None => self.apply(event),
+        }
+    }
+
+    /// Does events in their order, up to the first that is refused, whose place it gives. The
+    /// earlier ones stand.
+    pub fn replay(&mut self, events: &[Event<'_>]) -> Result<(), (usize, Unlawful)>
+        ensures { MatchResult result (λ _. Runs self.old events.now self.new) (λ stop. Stops self.old events.now stop.0 stop.1 self.new) }
+    {
+        for (place, event) in events.iter().enumerate() {
+            if let Err(unlawful) = self.step(event) {
+                return Err((place, unlawful));
+            }
+        }
+        Ok(())
     }
 }
