@@ -36,3 +36,8 @@ runs_more k k' k'' (x ∷ es) e r lawful is = (r.0, runs_more (after k x) k' k''
 pub step_core : {T : Type 0} (k k' : State) (e : Event) (r : Result T Unlawful) → IsCore k → refusal k e ≡ None → OnOk r (k' ≡ after k e) → IfErr r (λ u. Refuses u k e × (k' ≡ k)) → IsCore k'
 step_core k k' e (Ok x) c lawful ok err = subst IsCore (sym ok) (keeps k e c lawful)
 step_core k k' e (Err u) c lawful ok err = subst IsCore (sym err.1) c
+
+-- a list of lawful events leaves a core
+pub runs_core : (k k' : State) (es : List Event) → IsCore k → Runs k es k' → IsCore k'
+runs_core k k' [] c r = subst IsCore (sym r) c
+runs_core k k' (e ∷ es) c r = runs_core (after k e) k' es (keeps k e c r.0) r.1

@@ -1,5 +1,5 @@
 pub mod Lists
-pub mod Laws
+pub mod OneWord
 pub mod Muster
 pub mod Presence
 pub mod Shapes

@@ -90,3 +90,8 @@ read_inside (y ∷ ys) (suc i) d e h = read_inside ys i d e (omega arith)
 
 pub put_length : (l : List ℕ) (i x : ℕ) → i < length l → length (put l i x) ≡ length l
 put_length l i x h = ap length (put_inside l i x h) ∙ length-set l i x
+
+pub set_again : (l : List Holding) (id : ℕ) (v : Holding) → get_elem? l id ≡ some v → set l id v ≡ l
+set_again [] id v e = refl
+set_again (x ∷ xs) zero v e = ap (λ (h : Holding). h ∷ xs) (sym (some-injective x v e))
+set_again (x ∷ xs) (suc id) v e = ap (λ (l : List Holding). x ∷ l) (set_again xs id v e)

@@ -12,7 +12,7 @@ use Rattle.snzi_core.specs.Changes.{Parts, Unites}
 use Rattle.snzi_core.specs.Shape.{Line, Family}
 use Rattle.snzi_core.specs.Balance.{total, Balanced, mains, helpers, outs, Each, Within, Mustered, Ruled}
 use Rattle.snzi_core.proofs.Lists.{total_set, total_snoc, total_at}
-use Rattle.snzi_core.proofs.Laws.{resum_law}
+use Rattle.snzi_core.proofs.OneWord.{resum_law}
 use Rattle.snzi_core.proofs.Muster.{each_set, each_at, each_snoc, sole, no_main_no_out}
 
 -- roles by their weights

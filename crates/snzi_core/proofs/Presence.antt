@@ -1,15 +1,17 @@
 -- Under the balance a node's word is positive exactly where a token is present.
-use Rattle.std.proofs.Common.{◌≡◌, ◌≢◌, ◌⊎◌, ℕ, zero, suc, ◌+◌, ◌*◌, ◌%◌, ◌^◌, ◌<◌, ◌≤◌, List, [], ◌∷◌, length, set, sym, refl, ap, ◌∙◌, subst, inl, inr, ⊎_elim, arith}
+use Rattle.std.proofs.Common.{◌↔◌, ◌≡◌, ◌≢◌, ◌⊎◌, ℕ, zero, suc, ◌+◌, ◌*◌, ◌%◌, ◌^◌, ◌<◌, ◌≤◌, List, [], ◌∷◌, length, set, sym, refl, ap, ◌∙◌, subst, inl, inr, ⊎_elim, arith}
 use Rattle.std.specs.Prelude.{slice_index}
 use mathlib.Core.Option.{some, some-injective, some-ne-none}
 use mathlib.Core.Logic.{dite}
 use native.Mathlib.Decide.{ℕ_discrete}
 use lib.ListN.{get_elem?}
 use Rattle.snzi_core.specs.declared.holding.Holding.{Holding}
-use Rattle.snzi_core.specs.Holding.{tokens_at}
+use Rattle.snzi_core.specs.declared.holding.Role.TheVariants.{Main}
+use Rattle.snzi_core.specs.Holding.{tokens_at, amount_at}
 use Rattle.snzi_core.specs.Shape.{Line, inner, leaf, stripe, Family}
-use Rattle.snzi_core.specs.Balance.{total, up, Stands, Balanced, AtOrBelow, here, below, Present}
+use Rattle.snzi_core.specs.Balance.{total, up, Stands, Balanced, AtOrBelow, here, below, Covers, Present, Ruled}
 use Rattle.snzi_core.proofs.Lists.{total_at}
+use Rattle.snzi_core.proofs.Muster.{alone_tokens, alone_amounts}
 
 up_pos : (n : ℕ) → 0 < n → up n ≡ 1
 up_pos zero h = absurd (omega arith)
@@ -102,3 +104,18 @@ module _ (kind : ℕ → Line) (parent : ℕ → ℕ) (tree : Family kind parent
 
   pub positive_present : (i : ℕ) → kind i ≢ stripe → 0 < slice_index words i → Present parent hands i
   positive_present i node p = sink (length words) i (omega arith) node p
+
+-- main, with no helper out, knows each stripe
+pub main_sum : (kind : ℕ → Line) (words : List ℕ) (hands : List Holding) (id j : ℕ) (h : Holding) → Ruled kind words hands → get_elem? hands id ≡ some h → h.role ≡ Main 0 → kind j ≡ stripe → slice_index words j ≡ amount_at j h % 2 ^ 64
+main_sum kind words hands id j h r at alone striped = subst (λ k. Stands words hands j k) striped (r.0 j) ∙ ap (λ (y : ℕ). y % 2 ^ 64) (alone_amounts hands id h r.1 at alone j)
+
+-- and where a token is present
+pub main_covers : (kind : ℕ → Line) (parent : ℕ → ℕ) (tree : Family kind parent) (words : List ℕ) (hands : List Holding) (id j : ℕ) (h : Holding) → Ruled kind words hands → get_elem? hands id ≡ some h → h.role ≡ Main 0 → kind j ≢ stripe → 0 < slice_index words j ↔ Covers parent h j
+main_covers kind parent tree words hands id j h r at alone node = (
+  (λ p.
+      let t = positive_present kind parent tree words hands r.0 j node p in
+      let most = total_at (tokens_at t.3.0) hands t.0 t.1 t.2 in
+      let own = alone_tokens hands id h r.1 at alone t.3.0 in
+      let have = t.3.2 in (t.3.0, t.3.1, omega arith)),
+  (λ c. present_positive kind parent tree words hands r.0 j node (id, h, at, c)),
+)

@@ -35,10 +35,11 @@ start_core slots nodes odd = record {
     stands i leaf = let z = zeros n i in omega arith
     stands i stripe = let z = zeros n i in omega arith
 
+-- each of the four shapes has an odd number of nodes
+pub odd_nodes : (nodes : ℕ) → (nodes ≡ 1) ⊎ (nodes ≡ 3) ⊎ (nodes ≡ 7) ⊎ (nodes ≡ 15) → nodes % 2 ≡ 1
+odd_nodes nodes shape = omega (arith, shape)
+
 pub start_kept : (slots nodes : ℕ) (words : List ℕ) (hands : List Holding) → words ≡ replicate (size slots nodes) 0 → hands ≡ fresh (size slots nodes) (Main 0) ∷ [] → (nodes ≡ 1) ⊎ (nodes ≡ 3) ⊎ (nodes ≡ 7) ⊎ (nodes ≡ 15) → IsCore (record { slots = slots; nodes = nodes; words = words; hands = hands })
 start_kept slots nodes words hands ws hs shape =
     subst (λ (x : List ℕ × List Holding). IsCore (record { slots = slots; nodes = nodes; words = x.0; hands = x.1 })) (λ i. (sym ws i, sym hs i))
-    (start_core slots nodes (odd shape))
-  where
-    odd : (nodes ≡ 1) ⊎ (nodes ≡ 3) ⊎ (nodes ≡ 7) ⊎ (nodes ≡ 15) → nodes % 2 ≡ 1
-    odd one = omega (arith, one)
+    (start_core slots nodes (odd_nodes nodes shape))

@@ -16,7 +16,7 @@ use Rattle.snzi_core.specs.Effect.{stepped, arrived, descended, departed, ascend
 use Rattle.snzi_core.specs.Kept.{HasTables, IsCore}
 use Rattle.snzi_core.proofs.Lists.{put_length, read_inside}
 use Rattle.snzi_core.proofs.Shapes.{is_family}
-use Rattle.snzi_core.proofs.Laws.{stripe_law}
+use Rattle.snzi_core.proofs.OneWord.{stripe_law}
 use Rattle.snzi_core.proofs.Muster.{each_set, each_at}
 use Rattle.snzi_core.proofs.Steps.{add_balance, first_balance, leave_balance, last_balance, gain_muster, loss_muster, move_muster, raise_muster}
 use Rattle.snzi_core.proofs.Hands.{gains, loses, moves_down, moves_up, raises}

@@ -12,7 +12,7 @@ use Rattle.snzi_core.specs.Changes.{Gains, Loses, Moves, Raises}
 use Rattle.snzi_core.specs.Shape.{Line, inner, leaf, stripe, Family}
 use Rattle.snzi_core.specs.Balance.{total, up, Stands, Balanced, Within, Mustered}
 use Rattle.snzi_core.proofs.Lists.{total_at}
-use Rattle.snzi_core.proofs.Laws.{node_law}
+use Rattle.snzi_core.proofs.OneWord.{node_law}
 use Rattle.snzi_core.proofs.Muster.{muster_kept, each_at}
 
 pub up_same : (m k : ℕ) → 0 < m → 0 < k → up m ≡ up k

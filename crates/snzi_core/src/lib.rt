@@ -5,6 +5,7 @@ mod changes;
 mod event;
 mod hand;
 mod holding;
+pub mod laws;
 mod machine;
 mod reading;
 mod refusals;
