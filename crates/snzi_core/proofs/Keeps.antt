@@ -4,7 +4,7 @@ use Rattle.std.specs.Prelude.{OnOk, IfErr}
 use Rattle.snzi_core.specs.declared.unlawful.Unlawful.{Unlawful}
 use Rattle.snzi_core.specs.declared.event.Event.{Event}
 use Rattle.snzi_core.specs.declared.event.Event.TheVariants.{Load, FastAdd, RootAdd, ChildAdd, Leave, StripeAdd, Split, Join}
-use Rattle.snzi_core.specs.State.{State, node_of}
+use Rattle.snzi_core.specs.State.{State, node_of, SameShape}
 use Rattle.snzi_core.specs.Lawful.{refusal, is_zero, passes_up}
 use Rattle.snzi_core.specs.Effect.{after, arrived, descended, departed, ascended, Runs, Refuses}
 use Rattle.snzi_core.specs.Kept.{IsCore}
@@ -41,3 +41,25 @@ step_core k k' e (Err u) c lawful ok err = subst IsCore (sym err.1) c
 pub runs_core : (k k' : State) (es : List Event) → IsCore k → Runs k es k' → IsCore k'
 runs_core k k' [] c r = subst IsCore (sym r) c
 runs_core k k' (e ∷ es) c r = runs_core (after k e) k' es (keeps k e c r.0) r.1
+
+-- no event changes the shape
+cond_shape : (b : Bool) (k x y : State) → SameShape k x → SameShape k y → SameShape k (cond b x y)
+cond_shape true k x y p q = p
+cond_shape false k x y p q = q
+
+after_shape : (k : State) (e : Event) → SameShape k (after k e)
+after_shape k (Load hand slot word) = (refl, refl)
+after_shape k (FastAdd hand at) = (refl, refl)
+after_shape k (RootAdd hand slot) = (refl, refl)
+after_shape k (ChildAdd hand at) = cond_shape (is_zero k (node_of k at)) k _ _ (refl, refl) (refl, refl)
+after_shape k (Leave hand at) = cond_shape (passes_up k at) k _ _ (refl, refl) (refl, refl)
+after_shape k (StripeAdd hand slot s n) = (refl, refl)
+after_shape k (Split share) = (refl, refl)
+after_shape k (Join helper) = (refl, refl)
+
+pub step_shape : {T : Type 0} (k k' : State) (e : Event) (r : Result T Unlawful) → OnOk r (k' ≡ after k e) → IfErr r (λ u. Refuses u k e × (k' ≡ k)) → SameShape k k'
+step_shape k k' e (Ok x) ok err = let s = after_shape k e in (ap (λ (x : State). x.slots) ok ∙ s.0, ap (λ (x : State). x.nodes) ok ∙ s.1)
+step_shape k k' e (Err u) ok err = (ap (λ (x : State). x.slots) err.1, ap (λ (x : State). x.nodes) err.1)
+
+pub shape_trans : (a b c : State) → SameShape a b → SameShape b c → SameShape a c
+shape_trans a b c p q = (q.0 ∙ p.0, q.1 ∙ p.1)

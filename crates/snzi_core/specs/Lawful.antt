@@ -92,6 +92,10 @@ stays k hand i = is_inner (kind_of k i) && nat_lt 0 (tokens_at i (hand_of k hand
 abbrev pub refuse : Bool → Unlawful → Option Unlawful → Option Unlawful
 refuse test refusal rest = cond test (Some refusal) rest
 
+-- the refusal of an add in a stripe, whatever is added
+abbrev pub refuses_stripe_add : State → ℕ → ℕ → ℕ → Option Unlawful
+refuses_stripe_add k hand slot s = refuse (not (has_stripe k slot s)) NoNode (refuse (not (is_live k hand)) NoHand None)
+
 -- the refusal of a split with this share
 abbrev pub refuses_split : State → List Token → Option Unlawful
 refuses_split k share = refuse (not (list_all (has_token k) share)) NoNode (refuse (not (main_has k share)) NoToken (refuse (is_crowded k) Cap None))
@@ -106,6 +110,6 @@ refusal k (ChildAdd hand at) =
     refuse (not (has_node k at) || nat_eq at.node 0) NoNode (refuse (not (is_live k hand)) NoHand (refuse (lacks k hand (parent_of k at)) NoToken (refuse (is_full k hand (node_of k at)) Cap None)))
 refusal k (Leave hand at) =
     refuse (not (has_node k at)) NoNode (refuse (not (is_live k hand)) NoHand (refuse (lacks k hand (node_of k at)) NoToken (refuse (passes_up k at && is_full k hand (parent_of k at)) Cap None)))
-refusal k (StripeAdd hand slot s n) = refuse (not (has_stripe k slot s)) NoNode (refuse (not (is_live k hand)) NoHand None)
+refusal k (StripeAdd hand slot s n) = refuses_stripe_add k hand slot s
 refusal k (Split share) = refuses_split k share.now
 refusal k (Join helper) = refuse (not (helps (hand_of k helper).role)) NoHand (refuse (some_word k (overflows k helper)) Cap (refuse (some_word k (stays k helper)) StillHolding None))

@@ -61,3 +61,7 @@ start slots nodes = record { slots = slots; nodes = nodes; words = replicate (si
 -- the rule that a core keeps: the balance and the caps
 abbrev pub IsRuled : State → Type 0
 IsRuled k = Ruled (kind_of k) k.words k.hands
+
+-- the slots and nodes stay
+abbrev pub SameShape : State → State → Type 0
+SameShape k k' = (k'.slots ≡ k.slots) × (k'.nodes ≡ k.nodes)

@@ -12,6 +12,8 @@ mod refusals;
 mod regrouping;
 mod stepping;
 mod table;
+#[cfg(test)]
+mod tests;
 mod unlawful;
 
 pub use event::{At, Event, Token};

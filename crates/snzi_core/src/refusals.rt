@@ -3,7 +3,7 @@ ghost use Rattle.std.specs.Prelude.{◌≡◌, ℕ, ◌+◌, ◌-◌, ◌*◌, �
 ghost use Rattle.std.specs.List.{list_all};
 ghost use Rattle.snzi_core.specs.Holding.{tokens_at, out};
 ghost use Rattle.snzi_core.specs.State.{span, node_of, parent_of, root_of, stripe_of, token_of, hand_of, kind_of};
-ghost use Rattle.snzi_core.specs.Lawful.{has_node, has_word, has_stripe, has_token, is_live, helps, is_zero, is_full, lacks, passes_up, count_at, main_covers, main_has, is_crowded, is_inner, overflows, stays, some_word, refuses_split, refusal};
+ghost use Rattle.snzi_core.specs.Lawful.{has_node, has_word, has_stripe, has_token, is_live, helps, is_zero, is_full, lacks, passes_up, count_at, main_covers, main_has, is_crowded, is_inner, overflows, stays, some_word, refuses_split, refuses_stripe_add, refusal};
 ghost use Rattle.snzi_core.specs.Kept.{IsCore};
 
 use crate::event::{At, Event, Token};
@@ -268,10 +268,9 @@ impl<A: Allocator + Clone> Core<A> {
         None
     }
 
-    fn refuses_stripe_add(&self, hand: u32, slot: u16, stripe: u8, n: u64) -> Option<Unlawful>
-        ensures { result ≡ refusal self.now (Event.StripeAdd hand slot stripe n) }
+    fn refuses_stripe_add(&self, hand: u32, slot: u16, stripe: u8) -> Option<Unlawful>
+        ensures { result ≡ refuses_stripe_add self.now hand slot stripe }
     {
-        let _ = n;
         if !self.has_stripe(slot, stripe) {
             return Some(Unlawful::NoNode);
         }
@@ -327,8 +326,8 @@ impl<A: Allocator + Clone> Core<A> {
                 hand,
                 slot,
                 stripe,
-                n,
-            } => self.refuses_stripe_add(hand, slot, stripe, n),
+                ..
+            } => self.refuses_stripe_add(hand, slot, stripe),
             Event::Split { share } => self.refuses_split(share),
             Event::Join { helper } => self.refuses_join(helper),
         }

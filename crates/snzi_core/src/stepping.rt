@@ -1,6 +1,6 @@
 //! One event, and a list of events.
 ghost use Rattle.std.specs.Prelude.{◌≡◌, ◌≢◌, ℕ, ◌+◌, ◌-◌, ◌*◌, ◌/◌, ◌%◌, ◌^◌, ◌<◌, ◌≤◌, length, None, OnOk, IfErr, MatchResult};
-ghost use Rattle.snzi_core.specs.State.{IsRuled};
+ghost use Rattle.snzi_core.specs.State.{IsRuled, SameShape};
 ghost use Rattle.snzi_core.specs.Lawful.{refusal};
 ghost use Rattle.snzi_core.specs.Effect.{after, Refuses, Runs, Stops};
 
@@ -103,6 +103,7 @@ impl<A: Allocator + Clone> Core<A> {
         ensures ok { OnOk result ((refusal self.old event.now ≡ None) × (self.new ≡ after self.old event.now)) }
         ensures err { IfErr result (λ u. Refuses u self.old event.now × (self.new ≡ self.old)) }
         ensures rule { IsRuled self.old × IsRuled self.new }
+        ensures shape { SameShape self.old self.new }
     {
         match self.refusal(event) {
             Some(unlawful) => Err(unlawful),
@@ -113,7 +114,8 @@ impl<A: Allocator + Clone> Core<A> {
     /// Does events in their order, up to the first that is refused, whose place it gives. The
     /// earlier ones stand.
     pub fn replay(&mut self, events: &[Event<'_>]) -> Result<(), (usize, Unlawful)>
-        ensures { MatchResult result (λ _. Runs self.old events.now self.new) (λ stop. Stops self.old events.now stop.0 stop.1 self.new) }
+        ensures runs { MatchResult result (λ _. Runs self.old events.now self.new) (λ stop. Stops self.old events.now stop.0 stop.1 self.new) }
+        ensures shape { SameShape self.old self.new }
     {
         for (place, event) in events.iter().enumerate() {
             if let Err(unlawful) = self.step(event) {
