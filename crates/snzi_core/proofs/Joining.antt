@@ -25,7 +25,7 @@ use Rattle.snzi_core.proofs.Muster.{each_set, each_at}
 use Rattle.snzi_core.proofs.Passing.{join_law, one_back_main}
 use Rattle.snzi_core.proofs.Stepped.{live_at, shape_of}
 use Rattle.snzi_core.proofs.Splitting.{main_live}
-use Rattle.snzi_core.proofs.Tests.{neither}
+use Rattle.snzi_core.proofs.Lawfulness.{neither}
 
 pub is_helper : (r : Role) → helps r ≡ true → r ≡ Helper
 is_helper (Main n) e = absurd (true≢false (sym e))

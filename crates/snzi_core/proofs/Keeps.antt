@@ -11,7 +11,7 @@ use Rattle.snzi_core.specs.Kept.{IsCore}
 use Rattle.snzi_core.proofs.Ready.{ready_fast, ready_root, ready_first, ready_child, ready_last, ready_leave, ready_stripe}
 use Rattle.snzi_core.proofs.Splitting.{split_lawful, split_core}
 use Rattle.snzi_core.proofs.Joining.{join_core}
-use Rattle.snzi_core.proofs.Tests.{join}
+use Rattle.snzi_core.proofs.Lawfulness.{join}
 
 by_test : (b : Bool) (x y : State) → (b ≡ true → IsCore x) → (b ≡ false → IsCore y) → IsCore (cond b x y)
 by_test true x y p q = p refl

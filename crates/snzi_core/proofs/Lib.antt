@@ -6,7 +6,7 @@ pub mod Shapes
 pub mod Passing
 pub mod Steps
 pub mod Hands
-pub mod Tests
+pub mod Lawfulness
 pub mod Stepped
 pub mod Start
 pub mod Words

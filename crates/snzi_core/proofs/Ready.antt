@@ -14,7 +14,7 @@ use Rattle.snzi_core.proofs.Muster.{word_small}
 use Rattle.snzi_core.proofs.Steps.{at_least}
 use Rattle.snzi_core.proofs.Stepped.{shape_of, live_at, arrived_core, departed_core, descended_core, ascended_core, summed_core}
 use Rattle.snzi_core.proofs.Words.{word_inside, node_kind, stripe_kind}
-use Rattle.snzi_core.proofs.Tests.{both_true, fast_add, root_add, child_add, leave, stripe_add}
+use Rattle.snzi_core.proofs.Lawfulness.{both_true, fast_add, root_add, child_add, leave, stripe_add}
 
 -- what the steps of a core ask
 abbrev pub Arrives : State → ℕ → ℕ → Type 0

@@ -31,7 +31,7 @@ use Rattle.snzi_core.proofs.Muster.{each_set, each_at, each_snoc}
 use Rattle.snzi_core.proofs.Passing.{split_law, one_out_main}
 use Rattle.snzi_core.proofs.Start.{zeros}
 use Rattle.snzi_core.proofs.Stepped.{live_at, shape_of}
-use Rattle.snzi_core.proofs.Tests.{refuse_none, not_false, both_true, neither}
+use Rattle.snzi_core.proofs.Lawfulness.{refuse_none, not_false, both_true, neither}
 
 -- what a split without a refusal tells
 pub split_lawful : (k : State) (share : List Token) → refuses_split k share ≡ None → (list_all (has_token k) share ≡ true) × (main_has k share ≡ true) × (is_crowded k ≡ false)

@@ -52,6 +52,14 @@ impl<A: Allocator> Hand<A> {
         self.tokens.get(word).copied().unwrap_or(0)
     }
 
+    // The amount in a stripe.
+    #[cfg(test)]
+    pub(crate) fn amount_at(&self, word: usize) -> u64
+        ensures { result ≡ amount_at word self.now }
+    {
+        self.amounts.get(word).copied().unwrap_or(0)
+    }
+
     pub(crate) fn gain(&mut self, word: usize)
         requires place { word < length self.old.tokens }
         requires room { tokens_at word self.old < 2 ^ 64 - 1 }

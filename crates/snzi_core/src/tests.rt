@@ -33,22 +33,118 @@ fn tokens_pass_between_nodes_and_hands(rt: HostRuntime) -> Result<(), Fail> {
     let leaf = At { slot: 0, node: 3 };
     let out = At { slot: 0, node: 7 };
     let share = [Token { slot: 0, leaf: 0 }];
-    assert!(rt; gives(&mut core, &Event::RootAdd { hand: 0, slot: 0 }, None, [1, 0, 0]));
-    assert!(rt; gives(&mut core, &Event::ChildAdd { hand: 0, at: inner }, None, [1, 1, 0]));
-    assert!(rt; gives(&mut core, &Event::ChildAdd { hand: 0, at: leaf }, None, [1, 1, 1]));
-    assert!(rt; gives(&mut core, &Event::FastAdd { hand: 0, at: leaf }, None, [1, 1, 2]));
-    assert!(rt; gives(&mut core, &Event::Split { share: &share }, None, [1, 1, 2]));
-    assert!(rt; gives(&mut core, &Event::Leave { hand: 1, at: leaf }, None, [1, 1, 1]));
-    assert!(rt; gives(&mut core, &Event::Leave { hand: 1, at: leaf }, Some(Unlawful::NoToken), [1, 1, 1]));
+    let split = Event::Split { share: &share };
+    assert!(rt;
+        gives(
+            &mut core,
+            &Event::RootAdd { hand: 0, slot: 0 },
+            None,
+            [1, 0, 0]
+        )
+    );
+    assert!(rt;
+        gives(
+            &mut core,
+            &Event::ChildAdd { hand: 0, at: inner },
+            None,
+            [1, 1, 0]
+        )
+    );
+    assert!(rt;
+        gives(
+            &mut core,
+            &Event::ChildAdd { hand: 0, at: leaf },
+            None,
+            [1, 1, 1]
+        )
+    );
+    assert!(rt;
+        gives(
+            &mut core,
+            &Event::FastAdd { hand: 0, at: leaf },
+            None,
+            [1, 1, 2]
+        )
+    );
+    assert!(rt; gives(&mut core, &split, None, [1, 1, 2]));
+    assert!(rt;
+        gives(
+            &mut core,
+            &Event::Leave { hand: 1, at: leaf },
+            None,
+            [1, 1, 1]
+        )
+    );
+    assert!(rt;
+        gives(
+            &mut core,
+            &Event::Leave { hand: 1, at: leaf },
+            Some(Unlawful::NoToken),
+            [1, 1, 1]
+        )
+    );
     assert!(rt; gives(&mut core, &Event::Join { helper: 1 }, None, [1, 1, 1]));
-    assert!(rt; gives(&mut core, &Event::Load { hand: 1, slot: 0, word: 0 }, Some(Unlawful::NoHand), [1, 1, 1]));
+    assert!(rt;
+        gives(
+            &mut core,
+            &Event::Load {
+                hand: 1,
+                slot: 0,
+                word: 0
+            },
+            Some(Unlawful::NoHand),
+            [1, 1, 1]
+        )
+    );
     assert!(rt; core.query(inner));
-    assert!(rt; gives(&mut core, &Event::Leave { hand: 0, at: leaf }, None, [1, 1, 0]));
-    assert!(rt; gives(&mut core, &Event::Leave { hand: 0, at: inner }, None, [1, 0, 0]));
-    assert!(rt; gives(&mut core, &Event::Leave { hand: 0, at: root }, None, [0, 0, 0]));
-    assert!(rt; gives(&mut core, &Event::FastAdd { hand: 0, at: leaf }, Some(Unlawful::ZeroNode), [0, 0, 0]));
-    assert!(rt; gives(&mut core, &Event::ChildAdd { hand: 0, at: root }, Some(Unlawful::NoNode), [0, 0, 0]));
-    assert!(rt; gives(&mut core, &Event::Leave { hand: 0, at: out }, Some(Unlawful::NoNode), [0, 0, 0]));
+    assert!(rt;
+        gives(
+            &mut core,
+            &Event::Leave { hand: 0, at: leaf },
+            None,
+            [1, 1, 0]
+        )
+    );
+    assert!(rt;
+        gives(
+            &mut core,
+            &Event::Leave { hand: 0, at: inner },
+            None,
+            [1, 0, 0]
+        )
+    );
+    assert!(rt;
+        gives(
+            &mut core,
+            &Event::Leave { hand: 0, at: root },
+            None,
+            [0, 0, 0]
+        )
+    );
+    assert!(rt;
+        gives(
+            &mut core,
+            &Event::FastAdd { hand: 0, at: leaf },
+            Some(Unlawful::ZeroNode),
+            [0, 0, 0]
+        )
+    );
+    assert!(rt;
+        gives(
+            &mut core,
+            &Event::ChildAdd { hand: 0, at: root },
+            Some(Unlawful::NoNode),
+            [0, 0, 0]
+        )
+    );
+    assert!(rt;
+        gives(
+            &mut core,
+            &Event::Leave { hand: 0, at: out },
+            Some(Unlawful::NoNode),
+            [0, 0, 0]
+        )
+    );
     assert!(rt; !core.query(root));
     Ok(())
 }
@@ -63,7 +159,12 @@ fn a_list_stops_at_its_first_refusal(rt: HostRuntime) -> Result<(), Fail> {
     ];
     assert!(rt; core.replay(&events) == Err((1, Unlawful::NoToken)));
     assert!(rt; core.word(At { slot: 0, node: 0 }) == 1);
-    assert!(rt; core.replay(&[Event::Split { share: &[] }, Event::RootAdd { hand: 1, slot: 0 }]) == Ok(()));
+    assert!(rt;
+        core.replay(&[
+            Event::Split { share: &[] },
+            Event::RootAdd { hand: 1, slot: 0 }
+        ]) == Ok(())
+    );
     assert!(rt; core.step(&Event::Join { helper: 1 }) == Err(Unlawful::StillHolding));
     Ok(())
 }
@@ -71,12 +172,24 @@ fn a_list_stops_at_its_first_refusal(rt: HostRuntime) -> Result<(), Fail> {
 #[test]
 fn amounts_come_back_with_a_helper(rt: HostRuntime) -> Result<(), Fail> {
     let mut core = Core::new(rt.alloc(), 2, 3)?;
-    assert!(rt; core.replay(&[
-        Event::StripeAdd { hand: 0, slot: 1, stripe: 0, n: 5 },
-        Event::Split { share: &[] },
-        Event::StripeAdd { hand: 1, slot: 1, stripe: 1, n: 18446744073709551615 },
-        Event::Join { helper: 1 },
-    ]) == Ok(()));
+    assert!(rt;
+        core.replay(&[
+            Event::StripeAdd {
+                hand: 0,
+                slot: 1,
+                stripe: 0,
+                n: 5
+            },
+            Event::Split { share: &[] },
+            Event::StripeAdd {
+                hand: 1,
+                slot: 1,
+                stripe: 1,
+                n: 18446744073709551615
+            },
+            Event::Join { helper: 1 },
+        ]) == Ok(())
+    );
     assert!(rt; core.sum(1) == 4);
     assert!(rt; core.sum(0) == 0);
     Ok(())
@@ -98,7 +211,9 @@ fn digest(core: &Core<&LocalHeap>) -> (u64, u64)
 {
     let mut all: u64 = 0;
     for node in 0..7 {
-        all = all.wrapping_mul(31).wrapping_add(core.word(At { slot: 0, node }));
+        all = all
+            .wrapping_mul(31)
+            .wrapping_add(core.word(At { slot: 0, node }));
     }
     (all, core.sum(0))
 }
@@ -116,21 +231,42 @@ fn refused_growths_change_nothing(rt: HostRuntime) -> Result<(), Fail> {
         };
         let events = [
             Event::RootAdd { hand: 0, slot: 0 },
-            Event::ChildAdd { hand: 0, at: At { slot: 0, node: 1 } },
-            Event::ChildAdd { hand: 0, at: At { slot: 0, node: 3 } },
-            Event::StripeAdd { hand: 0, slot: 0, stripe: 3, n: 9 },
+            Event::ChildAdd {
+                hand: 0,
+                at: At { slot: 0, node: 1 },
+            },
+            Event::ChildAdd {
+                hand: 0,
+                at: At { slot: 0, node: 3 },
+            },
+            Event::StripeAdd {
+                hand: 0,
+                slot: 0,
+                stripe: 3,
+                n: 9,
+            },
         ];
         assert!(rt; core.replay(&events) == Ok(()));
         let before = digest(&core);
         match core.step(&Event::Split { share: &share }) {
             Ok(()) => {
-                assert!(rt; core.step(&Event::Leave { hand: 1, at: At { slot: 0, node: 3 } }) == Ok(()));
+                assert!(rt;
+                    core.step(&Event::Leave {
+                        hand: 1,
+                        at: At { slot: 0, node: 3 }
+                    }) == Ok(())
+                );
                 done = 1;
             }
             Err(unlawful) => {
                 assert!(rt; unlawful == Unlawful::OutOfMemory && digest(&core) == before);
                 assert!(rt; core.step(&Event::Join { helper: 1 }) == Err(Unlawful::NoHand));
-                assert!(rt; core.step(&Event::Leave { hand: 0, at: At { slot: 0, node: 3 } }) == Ok(()));
+                assert!(rt;
+                    core.step(&Event::Leave {
+                        hand: 0,
+                        at: At { slot: 0, node: 3 }
+                    }) == Ok(())
+                );
                 refused = 1;
             }
         }
