@@ -1,0 +1,17 @@
+pub mod Lists
+pub mod OneWord
+pub mod Muster
+pub mod Presence
+pub mod Shapes
+pub mod Passing
+pub mod Steps
+pub mod Hands
+pub mod Lawfulness
+pub mod Stepped
+pub mod Start
+pub mod Words
+pub mod Rewriting
+pub mod Splitting
+pub mod Joining
+pub mod Ready
+pub mod Keeps

@@ -1,0 +1,11 @@
+use Rattle.std.proofs.Common.{◌+◌, ◌-◌, ◌<◌, length, arith}
+use Rattle.std.specs.Prelude.{slice_index}
+use Rattle.snzi_core.proofs.Lists.{put_length}
+use Rattle.snzi_core.proofs.Hands.{gain_else}
+use Rattle.snzi_core.proofs.hand.Hand.descend.Goals as goal
+
+pub lose-requires : goal.lose-requires
+lose-requires g c = record {
+  place = rw c.gain.ensures (let e = put_length c.args.self.now.tokens c.args.word (slice_index c.args.self.now.tokens c.args.word + 1) c.requires.place.1 in omega arith);
+  token = rw c.gain.ensures (let e = gain_else c.args.self.now c.args.word c.args.parent c.requires.place.2 in let h = c.requires.token in omega arith);
+}

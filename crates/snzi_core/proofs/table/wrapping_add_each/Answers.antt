@@ -1,0 +1,6 @@
+use Rattle.std.proofs.Common.{◌≤◌, length, arith}
+use Rattle.snzi_core.proofs.Rewriting.{is_wrapped}
+use Rattle.snzi_core.proofs.table.wrapping_add_each.Goals as goal
+
+pub returns : goal.returns
+returns c = is_wrapped c.args.table.now c.args.part.now c.loop-i.table c.loop-i.i (omega arith) c.requires c.loop-i.invariant

@@ -1,0 +1,6 @@
+use Rattle.std.proofs.Common.{ℕ, ◌+◌, ◌-◌, ◌%◌, ◌^◌}
+use Rattle.snzi_core.proofs.Rewriting.{IsRewritten}
+use Rattle.snzi_core.proofs.table.wrapping_add_each.Given as goal
+
+abbrev pub invariant-loop-i : goal.invariant-loop-i
+invariant-loop-i l = IsRewritten (λ (x : ℕ) (y : ℕ). (x + y) % 2 ^ 64) l.initial.table l.part l.i l.table

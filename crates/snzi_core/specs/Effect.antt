@@ -1,0 +1,99 @@
+-- What a lawful event makes of a core, and what a list of events does.
+use Rattle.std.specs.Prelude.{◌≡◌, ℕ, zero, suc, ◌+◌, ◌-◌, ◌*◌, ◌/◌, ◌%◌, ◌^◌, ◌<◌, List, [], ◌∷◌, ◌++◌, map, take, length, replicate, slice_index, slice_set as set, Bool, true, false, cond, Option, Some, None, Result, Ok, Err}
+use Rattle.std.specs.List.{range_with_len, slice_get}
+use Rattle.snzi_core.specs.declared.event.Event.{Event}
+use Rattle.snzi_core.specs.declared.event.Event.TheVariants.{Load, FastAdd, RootAdd, ChildAdd, Leave, StripeAdd, Split, Join}
+use Rattle.snzi_core.specs.declared.event.Token.{Token}
+use Rattle.snzi_core.specs.declared.holding.Holding.{Holding}
+use Rattle.snzi_core.specs.declared.holding.Role.TheVariants.{Spent}
+use Rattle.snzi_core.specs.declared.unlawful.Unlawful.{Unlawful}
+use Rattle.snzi_core.specs.declared.unlawful.Unlawful.TheVariants.{NoHand, NoToken, Cap, StillHolding, OutOfMemory, NoNode, ZeroNode}
+use Rattle.snzi_core.specs.Holding.{gain, lose, raise, empty, keeper, helper_with, rejoined, amount_at}
+use Rattle.snzi_core.specs.Balance.{total}
+use Rattle.snzi_core.specs.State.{State, hand_of, node_of, parent_of, root_of, stripe_of}
+use Rattle.snzi_core.specs.Lawful.{count_at, is_zero, passes_up, refusal}
+
+-- the core with x at the word i, and the hand as h
+abbrev pub stepped : State → ℕ → ℕ → ℕ → Holding → State
+stepped k i x hand h = record { slots = k.slots; nodes = k.nodes; words = set k.words i x; hands = set k.hands hand h }
+
+-- the core with these hands
+abbrev pub regrouped : State → List Holding → State
+regrouped k hands = record { slots = k.slots; nodes = k.nodes; words = k.words; hands = hands }
+
+-- one more at the word i, and a token there
+abbrev pub arrived : State → ℕ → ℕ → State
+arrived k hand i = stepped k i (slice_index k.words i + 1) hand (gain (hand_of k hand) i)
+
+-- one more at the word i, and a token there for that at p
+abbrev pub descended : State → ℕ → ℕ → ℕ → State
+descended k hand p i = stepped k i (slice_index k.words i + 1) hand (lose (gain (hand_of k hand) i) p)
+
+-- one less at the word i, and no token there
+abbrev pub departed : State → ℕ → ℕ → State
+departed k hand i = stepped k i (slice_index k.words i - 1) hand (lose (hand_of k hand) i)
+
+-- one less at the word i, and a token at p for that at i
+abbrev pub ascended : State → ℕ → ℕ → ℕ → State
+ascended k hand p i = stepped k i (slice_index k.words i - 1) hand (gain (lose (hand_of k hand) i) p)
+
+-- n more in the stripe at the word i, counted to the hand
+abbrev pub summed : State → ℕ → ℕ → ℕ → State
+summed k hand i n = stepped k i ((slice_index k.words i + n) % 2 ^ 64) hand (raise (hand_of k hand) i n)
+
+-- the tokens of a share, by word
+abbrev pub counts : State → List Token → List ℕ
+counts k share = map (count_at k share) (range_with_len 0 (length k.words))
+
+-- main without the share, and a new hand that has it
+abbrev pub split_off : State → List Token → State
+split_off k share = regrouped k (set k.hands 0 (keeper (hand_of k 0) (counts k share)) ++ helper_with (counts k share) (replicate (length k.words) 0) ∷ [])
+
+-- main with what the helper has, and the helper's number spent
+abbrev pub joined : State → ℕ → State
+joined k helper = regrouped k (set (set k.hands 0 (rejoined (hand_of k 0) (hand_of k helper))) helper (empty Spent))
+
+-- the core after a lawful event
+abbrev pub after : State → Event → State
+after k (Load hand slot word) = k
+after k (FastAdd hand at) = arrived k hand (node_of k at)
+after k (RootAdd hand slot) = arrived k hand (root_of k slot)
+after k (ChildAdd hand at) = cond (is_zero k (node_of k at)) (descended k hand (parent_of k at) (node_of k at)) (arrived k hand (node_of k at))
+after k (Leave hand at) = cond (passes_up k at) (ascended k hand (parent_of k at) (node_of k at)) (departed k hand (node_of k at))
+after k (StripeAdd hand slot stripe n) = summed k hand (stripe_of k slot stripe) n
+after k (Split share) = split_off k share.now
+after k (Join helper) = joined k helper
+
+abbrev pub is_split : Event → Bool
+is_split (Load hand slot word) = false
+is_split (FastAdd hand at) = false
+is_split (RootAdd hand slot) = false
+is_split (ChildAdd hand at) = false
+is_split (Leave hand at) = false
+is_split (StripeAdd hand slot stripe n) = false
+is_split (Split share) = true
+is_split (Join helper) = false
+
+-- the event is refused so: want of memory is met by a lawful split alone
+abbrev pub Refuses : Unlawful → State → Event → Type 0
+Refuses NoHand k e = refusal k e ≡ Some NoHand
+Refuses NoToken k e = refusal k e ≡ Some NoToken
+Refuses Cap k e = refusal k e ≡ Some Cap
+Refuses StillHolding k e = refusal k e ≡ Some StillHolding
+Refuses OutOfMemory k e = (refusal k e ≡ None) × (is_split e ≡ true)
+Refuses NoNode k e = refusal k e ≡ Some NoNode
+Refuses ZeroNode k e = refusal k e ≡ Some ZeroNode
+
+-- the core after a list of events, each lawful where it comes
+abbrev pub Runs : State → List Event → State → Type 0
+Runs k [] k' = k' ≡ k
+Runs k (e ∷ es) k' = (refusal k e ≡ None) × Runs (after k e) es k'
+
+-- the events before place i were done, and that at i is refused
+abbrev pub Stops : State → List Event → ℕ → Unlawful → State → Type 0
+Stops k es i u k' = Runs k (take i es) k' × (e : Event) × (slice_get es i ≡ Some e) × Refuses u k' e
+
+-- what the hands have in the first n stripes of a slot
+abbrev pub slot_amounts : State → ℕ → ℕ → ℕ
+slot_amounts k slot zero = 0
+slot_amounts k slot (suc n) = slot_amounts k slot n + total (amount_at (stripe_of k slot n)) k.hands

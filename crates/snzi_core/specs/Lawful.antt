@@ -1,0 +1,115 @@
+-- Which events are lawful, and which refusal the others meet first.
+use Rattle.std.specs.Prelude.{◌≡◌, ℕ, ◌+◌, ◌-◌, ◌*◌, ◌/◌, ◌^◌, List, [], ◌∷◌, length, slice_index, Bool, true, false, not, ◌&&◌, ◌||◌, cond, nat_eq, nat_lt, nat_le, Option, Some, None, count_by}
+use Rattle.std.specs.List.{list_all, list_any, range_with_len}
+use Rattle.snzi_core.specs.declared.event.At.{At}
+use Rattle.snzi_core.specs.declared.event.Token.{Token}
+use Rattle.snzi_core.specs.declared.event.Event.{Event}
+use Rattle.snzi_core.specs.declared.event.Event.TheVariants.{Load, FastAdd, RootAdd, ChildAdd, Leave, StripeAdd, Split, Join}
+use Rattle.snzi_core.specs.declared.holding.Role.{Role}
+use Rattle.snzi_core.specs.declared.holding.Role.TheVariants.{Main, Helper, Spent}
+use Rattle.snzi_core.specs.declared.unlawful.Unlawful.{Unlawful}
+use Rattle.snzi_core.specs.declared.unlawful.Unlawful.TheVariants.{NoHand, NoToken, Cap, StillHolding, OutOfMemory, NoNode, ZeroNode}
+use Rattle.snzi_core.specs.Shape.{Line, inner, leaf, stripe, leaves}
+use Rattle.snzi_core.specs.Holding.{tokens_at, out}
+use Rattle.snzi_core.specs.State.{State, hand_of, node_of, parent_of, root_of, token_of, span, kind_of}
+
+-- the names of an event are in the shape
+abbrev pub has_node : State → At → Bool
+has_node k at = nat_lt at.slot k.slots && nat_lt at.node k.nodes
+
+abbrev pub has_word : State → ℕ → ℕ → Bool
+has_word k slot word = nat_lt slot k.slots && nat_lt word (span k)
+
+abbrev pub has_stripe : State → ℕ → ℕ → Bool
+has_stripe k slot s = nat_lt slot k.slots && nat_lt s (leaves k.nodes)
+
+abbrev pub has_token : State → Token → Bool
+has_token k t = nat_lt t.slot k.slots && nat_lt t.leaf (leaves k.nodes)
+
+-- the hand is made and not spent
+abbrev pub lives : Role → Bool
+lives (Main n) = true
+lives Helper = true
+lives Spent = false
+
+abbrev pub helps : Role → Bool
+helps (Main n) = false
+helps Helper = true
+helps Spent = false
+
+abbrev pub is_live : State → ℕ → Bool
+is_live k hand = lives (hand_of k hand).role
+
+-- the hand has no token at the word, or as many as it may have
+abbrev pub lacks : State → ℕ → ℕ → Bool
+lacks k hand i = nat_eq (tokens_at i (hand_of k hand)) 0
+
+abbrev pub is_full : State → ℕ → ℕ → Bool
+is_full k hand i = nat_le (2 ^ 40) (tokens_at i (hand_of k hand))
+
+-- the word is zero
+abbrev pub is_zero : State → ℕ → Bool
+is_zero k i = nat_eq (slice_index k.words i) 0
+
+-- a leave gives a token to the parent
+abbrev pub passes_up : State → At → Bool
+passes_up k at = nat_eq (slice_index k.words (node_of k at)) 1 && not (nat_eq at.node 0)
+
+-- how many of these tokens are at the word i
+abbrev pub count_at : State → List Token → ℕ → ℕ
+count_at k share i = count_by (λ t. nat_eq (token_of k t) i) share
+
+-- main has as many tokens at the leaf as the share
+abbrev pub main_covers : State → List Token → Token → Bool
+main_covers k share t = nat_le (count_at k share (token_of k t)) (tokens_at (token_of k t) (hand_of k 0))
+
+-- main has these tokens
+abbrev pub main_has : State → List Token → Bool
+main_has k share = list_all (main_covers k share) share
+
+-- no helper more may be out, or no hand more be made
+abbrev pub is_crowded : State → Bool
+is_crowded k = nat_le 65535 (out (hand_of k 0).role) || nat_le (2 ^ 32 - 1) (length k.hands)
+
+-- some word of the core passes the test
+abbrev pub some_word : State → (ℕ → Bool) → Bool
+some_word k test = list_any test (range_with_len 0 (length k.words))
+
+-- main and the helper have more tokens at the word than one hand may have
+abbrev pub overflows : State → ℕ → ℕ → Bool
+overflows k helper i = nat_lt (2 ^ 40) (tokens_at i (hand_of k 0) + tokens_at i (hand_of k helper))
+
+abbrev pub is_inner : Line → Bool
+is_inner (inner a b) = true
+is_inner leaf = false
+is_inner stripe = false
+
+-- the hand has a token at a node that is no leaf
+abbrev pub stays : State → ℕ → ℕ → Bool
+stays k hand i = is_inner (kind_of k i) && nat_lt 0 (tokens_at i (hand_of k hand))
+
+-- the first test that is met gives the refusal
+abbrev pub refuse : Bool → Unlawful → Option Unlawful → Option Unlawful
+refuse test refusal rest = cond test (Some refusal) rest
+
+-- the refusal of an add in a stripe, whatever is added
+abbrev pub refuses_stripe_add : State → ℕ → ℕ → ℕ → Option Unlawful
+refuses_stripe_add k hand slot s = refuse (not (has_stripe k slot s)) NoNode (refuse (not (is_live k hand)) NoHand None)
+
+-- the refusal of a split with this share
+abbrev pub refuses_split : State → List Token → Option Unlawful
+refuses_split k share = refuse (not (list_all (has_token k) share)) NoNode (refuse (not (main_has k share)) NoToken (refuse (is_crowded k) Cap None))
+
+-- the refusal of an event, none where it is lawful within the caps
+abbrev pub refusal : State → Event → Option Unlawful
+refusal k (Load hand slot word) = refuse (not (has_word k slot word)) NoNode (refuse (not (is_live k hand)) NoHand None)
+refusal k (FastAdd hand at) =
+    refuse (not (has_node k at)) NoNode (refuse (not (is_live k hand)) NoHand (refuse (is_zero k (node_of k at)) ZeroNode (refuse (is_full k hand (node_of k at)) Cap None)))
+refusal k (RootAdd hand slot) = refuse (not (nat_lt slot k.slots)) NoNode (refuse (not (is_live k hand)) NoHand (refuse (is_full k hand (root_of k slot)) Cap None))
+refusal k (ChildAdd hand at) =
+    refuse (not (has_node k at) || nat_eq at.node 0) NoNode (refuse (not (is_live k hand)) NoHand (refuse (lacks k hand (parent_of k at)) NoToken (refuse (is_full k hand (node_of k at)) Cap None)))
+refusal k (Leave hand at) =
+    refuse (not (has_node k at)) NoNode (refuse (not (is_live k hand)) NoHand (refuse (lacks k hand (node_of k at)) NoToken (refuse (passes_up k at && is_full k hand (parent_of k at)) Cap None)))
+refusal k (StripeAdd hand slot s n) = refuses_stripe_add k hand slot s
+refusal k (Split share) = refuses_split k share.now
+refusal k (Join helper) = refuse (not (helps (hand_of k helper).role)) NoHand (refuse (some_word k (overflows k helper)) Cap (refuse (some_word k (stays k helper)) StillHolding None))

@@ -1,0 +1,67 @@
+-- A core as contracts see it: its words, and its hands by their numbers.
+use Rattle.std.specs.Prelude.{◌≡◌, ℕ, ◌+◌, ◌-◌, ◌*◌, ◌/◌, ◌<◌, ◌≤◌, ◌^◌, List, [], ◌∷◌, length, replicate, slice_index, slice_index_or, Bool, true, false}
+use Rattle.snzi_core.specs.declared.event.At.{At}
+use Rattle.snzi_core.specs.declared.event.Token.{Token}
+use Rattle.snzi_core.specs.declared.holding.Holding.{Holding}
+use Rattle.snzi_core.specs.declared.holding.Role.{Role}
+use Rattle.snzi_core.specs.declared.holding.Role.TheVariants.{Main, Helper, Spent}
+use Rattle.snzi_core.specs.Shape.{Line, line, parent, leaves, node_word, stripe_word, leaf_word}
+use Rattle.snzi_core.specs.Holding.{empty}
+use Rattle.snzi_core.specs.Balance.{Ruled}
+
+-- slots of nodes in heap shape and their stripes; words and hands by number
+pub record State : Type 0 where
+  pub slots : ℕ
+  pub nodes : ℕ
+  pub words : List ℕ
+  pub hands : List Holding
+
+-- the words of a slot, and of all slots
+abbrev pub span : State → ℕ
+span k = k.nodes + leaves k.nodes
+
+abbrev pub size : ℕ → ℕ → ℕ
+size slots nodes = slots * (nodes + leaves nodes)
+
+-- the numbers of the words that an event names
+abbrev pub node_of : State → At → ℕ
+node_of k at = node_word k.nodes (leaves k.nodes) at.slot at.node
+
+abbrev pub parent_of : State → At → ℕ
+parent_of k at = node_word k.nodes (leaves k.nodes) at.slot ((at.node - 1) / 2)
+
+abbrev pub root_of : State → ℕ → ℕ
+root_of k slot = node_word k.nodes (leaves k.nodes) slot 0
+
+abbrev pub stripe_of : State → ℕ → ℕ → ℕ
+stripe_of k slot n = stripe_word k.nodes (leaves k.nodes) slot n
+
+abbrev pub token_of : State → Token → ℕ
+token_of k t = leaf_word k.nodes (leaves k.nodes) t.slot t.leaf
+
+-- the hand of a number; one that was never made is spent
+abbrev pub hand_of : State → ℕ → Holding
+hand_of k id = slice_index_or k.hands id (empty Spent)
+
+-- what each word of the core is, and the parent's word
+abbrev pub kind_of : State → ℕ → Line
+kind_of k = line k.nodes (span k)
+
+abbrev pub above : State → ℕ → ℕ
+above k = parent k.nodes (span k)
+
+-- a hand with no token and no amount among n words
+abbrev pub fresh : ℕ → Role → Holding
+fresh n r = record { role = r; tokens = replicate n 0; amounts = replicate n 0 }
+
+-- all words zero, and the main hand, which has nothing
+abbrev pub start : ℕ → ℕ → State
+start slots nodes = record { slots = slots; nodes = nodes; words = replicate (size slots nodes) 0; hands = fresh (size slots nodes) (Main 0) ∷ [] }
+
+-- the rule that a core keeps: the balance and the caps
+abbrev pub IsRuled : State → Type 0
+IsRuled k = Ruled (kind_of k) k.words k.hands
+
+-- the slots and nodes stay
+abbrev pub SameShape : State → State → Type 0
+SameShape k k' = (k'.slots ≡ k.slots) × (k'.nodes ≡ k.nodes)
