@@ -12,6 +12,7 @@ one_by true b f h = sym (f refl)
 one_by false true f h = h refl
 one_by false false f h = refl
 
+-- so a test of the texts is the model's test of the paths
 pub same_text : (p q : Path) (s t : List ℕ) (r : Bool) → IsPath p → IsPath q → s ≡ path_text p → t ≡ path_text q → r ≡ pointwise nat_eq s t → r ≡ same_path p q
 same_text p q s t r hp hq es et e =
     e ∙ texts_ties s t ∙ (λ i. same_name (es i) (et i))

@@ -309,3 +309,12 @@ fn growth_refused(rt: HostRuntime) -> Result<(), Fail> {
     assert!(rt; GroupPath::read(&heap, &text)?.is_same(&copy));
     Ok(())
 }
+
+#[test]
+fn messages(rt: HostRuntime) -> Result<(), Fail> {
+    let message = format!(in rt.alloc(); "{}", PathFault::BadByte(2))?;
+    assert_eq!(rt; message.as_str(), "the byte at 2 may not stand in a name");
+    let message = format!(in rt.alloc(); "{}", PathFault::OutOfMemory)?;
+    assert_eq!(rt; message.as_str(), "out of memory");
+    Ok(())
+}
