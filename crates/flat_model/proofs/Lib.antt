@@ -12,3 +12,4 @@ pub mod Nearest
 pub mod Limits
 pub mod Undoing
 pub mod Reachable
+pub mod PathTextLawsChild

@@ -1,0 +1,6 @@
+mod Cuts
+mod Scans
+mod Texts
+mod Fronts
+mod Answered
+mod Below
