@@ -1,6 +1,7 @@
 //! Traces and their replies.
 #![tactic(auto)]
 
+mod cutting;
 mod device;
 mod fault;
 mod input;
