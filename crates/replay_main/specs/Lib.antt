@@ -1,2 +1,4 @@
 pub mod Device
 pub mod Cut
+pub mod SoFar
+pub mod Meaning
