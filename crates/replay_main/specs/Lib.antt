@@ -2,3 +2,4 @@ pub mod Device
 pub mod Cut
 pub mod SoFar
 pub mod Meaning
+pub mod Replayed

@@ -1,6 +1,7 @@
 //! Traces and their replies.
 #![tactic(auto)]
 
+mod answering;
 mod cutting;
 mod device;
 mod fault;
@@ -9,10 +10,12 @@ mod line;
 mod memory;
 mod output;
 mod pids;
+mod replaying;
 mod streams;
 
 pub use device::{DeviceFault, Sink, Source};
 pub use fault::ReplayFault;
 pub use line::{LINE_MAX, Line, TextFault, parse_line};
 pub use memory::{MemorySink, MemorySource};
+pub use replaying::{Summary, replay};
 pub use streams::{StreamSink, StreamSource};
