@@ -4,7 +4,13 @@ use Rattle.flat_model.specs.Path.{Path}
 use Rattle.flat_model.specs.Counts.{current, populated, members, children, IsInhabited}
 use Rattle.flat_model.specs.Command.{Command, Undo, Undone}
 use Rattle.flat_model.specs.Machine.{Machine, new_machine, tick, end_of, undos, TakesBackItsOwn}
+use Rattle.flat_model.specs.WellFormed.{MachineWellFormed}
 use Rattle.undo_journal.specs.Answer.{slots}
+
+-- the state is well formed, and so is each that an undo can give back, down to the start
+pub record IsReached (m : Machine) : Type 0 where
+  pub well_formed : MachineWellFormed slots m
+  pub all_undone : end_of slots m (undos (length m.past)) ≡ new_machine
 
 -- From the machine `old`, the command c has led to `new`.
 pub record KeepsHistory (old : Machine) (c : Command) (new : Machine) : Type 0 where

@@ -6,7 +6,7 @@ ghost use Rattle.flat_model.specs.Inverse.{back};
 ghost use Rattle.flat_model.specs.Machine.{new_machine};
 ghost use Rattle.undo_journal.specs.Meaning.{command_of, inverse_of, reply_of};
 ghost use Rattle.undo_journal.specs.Answer.{Answers, IsNewest, newest_command, undoes_without_memory};
-ghost use Rattle.undo_journal.specs.Headline.{KeepsHistory};
+ghost use Rattle.undo_journal.specs.Headline.{KeepsHistory, IsReached};
 ghost use Rattle.undo_journal.specs.Rows.{IsDistinct, IsReady, group_rows, process_rows, state_of};
 
 use crate::command::Command;
@@ -131,13 +131,9 @@ impl<A: Allocator + Clone> Engine<A> {
         // Where memory was wanting, nothing has changed.
         ensures refused { reply_of result ≡ None → self.new ≡ self.old }
     {
-        match cmd {
-            Command::MakeGroup(path) => or_out_of_memory(self.make_group(path)),
-            Command::Fork { parent, child } => or_out_of_memory(self.fork(*parent, *child)),
-            Command::Move { path, pid } => or_out_of_memory(self.move_process(path, *pid)),
-            Command::Show { path, file } => or_out_of_memory(self.show(path, *file)),
-            Command::Undo => self.undo(rt, who),
-        }
+        let reply = self.answer(rt, who, cmd);
+        self.known();
+        reply
     }
 
     /// Takes the newest recorded command back, whoever issued it. It checks no limit and is not recorded. It takes time
@@ -150,13 +146,9 @@ impl<A: Allocator + Clone> Engine<A> {
         // To take back a group or a process that was made, no memory is asked for.
         ensures certain { undoes_without_memory self.old.past ≡ true → reply_of result ≢ None }
     {
-        match self.journal.pop() {
-            None => Reply::NothingToUndo,
-            Some(entry) => {
-                take_back(&mut self.groups, &mut self.processes, entry.inverse);
-                Reply::Undone(entry.command)
-            }
-        }
+        let reply = self.take_newest_back();
+        self.known();
+        reply
     }
 
     /// The record of the newest recorded command.
@@ -184,5 +176,42 @@ impl<A: Allocator + Clone> Engine<A> {
         ensures { result ≡ length self.now.past }
     {
         self.journal.len()
+    }
+
+    fn answer<R: Threads + Wait + Sync, B: Allocator + Clone>(
+        &mut self,
+        rt: &R,
+        who: u8,
+        cmd: &Command<B>,
+    ) -> Reply<A>
+        ensures answered { reply_of result ≢ None → Answers self.old (command_of cmd.now) result self.new }
+        ensures refused { reply_of result ≡ None → self.new ≡ self.old }
+    {
+        match cmd {
+            Command::MakeGroup(path) => or_out_of_memory(self.make_group(path)),
+            Command::Fork { parent, child } => or_out_of_memory(self.fork(*parent, *child)),
+            Command::Move { path, pid } => or_out_of_memory(self.move_process(path, *pid)),
+            Command::Show { path, file } => or_out_of_memory(self.show(path, *file)),
+            Command::Undo => self.undo(rt, who),
+        }
+    }
+
+    fn take_newest_back(&mut self) -> Reply<A>
+        ensures { Answers self.old model.Undo result self.new }
+    {
+        match self.journal.pop() {
+            None => Reply::NothingToUndo,
+            Some(entry) => {
+                take_back(&mut self.groups, &mut self.processes, entry.inverse);
+                Reply::Undone(entry.command)
+            }
+        }
+    }
+
+    /// Tells `apply` and `undo` what every engine keeps. It does nothing.
+    fn known(&self)
+        ensures { IsReached self.now }
+    {
+        let _ = &self.journal;
     }
 }
