@@ -130,3 +130,11 @@ step_ready s c (model_inverse.Exited pid p) h = tt
 step_ready s c (model_inverse.Limited p file value) h = tt
 step_ready s c (model_inverse.Counted a) h = tt
 step_ready s c (model_inverse.Killed lost) h = tt
+
+-- ---- the last entry of the journal
+
+pub last_step : {A : Type 0} (s : State) (journal rest : List (Entry A)) (e : Entry A) → journal ≡ rest ++ e ∷ [] → IsHistory s (records journal) → IsStep s (journal_entry e).0 (journal_entry e).1
+last_step {A} s journal rest e is h = (subst (IsHistory s) (ap (λ (js : List (Entry A)). records js) is ∙ records_push rest e) h).0
+
+pub last_ready : {A : Type 0} (s : State) (journal rest : List (Entry A)) (e : Entry A) → journal ≡ rest ++ e ∷ [] → IsHistory s (records journal) → IsReady s (journal_entry e).1
+last_ready s journal rest e is h = step_ready s (journal_entry e).0 (journal_entry e).1 (last_step s journal rest e is h)
