@@ -4,3 +4,4 @@ mod Texts
 mod Fronts
 mod Answered
 mod Below
+mod SameTexts

@@ -4,6 +4,7 @@
 mod fault;
 mod grammar;
 mod names;
+mod order;
 mod path;
 
 pub use fault::PathFault;

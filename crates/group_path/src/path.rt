@@ -1,5 +1,5 @@
 ghost use Rattle.std.specs.Prelude.{◌≡◌, ℕ, ◌+◌, ◌≤◌, [], ◌∷◌, ◌++◌, true, if◌then◌else◌, length, take, IfOk, MatchResult};
-ghost use Rattle.flat_model.specs.Path.{Path, at_or_below, is_root, parent};
+ghost use Rattle.flat_model.specs.Path.{Path, at_or_below, is_root, parent, same_path};
 ghost use Rattle.flat_model.specs.PathText.{IsPath, path_text, spelled, read_path, child_fault, child_path};
 ghost use Rattle.group_path.specs.Answers.{Answers, checked};
 
@@ -116,6 +116,15 @@ impl<A: Allocator + Clone> GroupPath<A> {
             }
         }
         true
+    }
+
+    /// Whether the other path is this one, whatever memory it lies in.
+    pub fn is_same<B: Allocator + Clone>(&self, other: &GroupPath<B>) -> bool
+        ensures { result ≡ same_path self.now other.now }
+    {
+        self.known();
+        other.known();
+        self.text() == other.text()
     }
 
     /// The path without its last name; None for the root, which takes no memory.
