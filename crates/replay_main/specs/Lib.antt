@@ -3,3 +3,4 @@ pub mod Cut
 pub mod SoFar
 pub mod Meaning
 pub mod Replayed
+pub mod Asks

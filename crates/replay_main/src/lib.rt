@@ -2,6 +2,7 @@
 #![tactic(auto)]
 
 mod answering;
+mod asking;
 mod cutting;
 mod device;
 mod fault;
@@ -13,6 +14,7 @@ mod pids;
 mod replaying;
 mod streams;
 
+pub use asking::{Ask, LineFault, command_line};
 pub use device::{DeviceFault, Sink, Source};
 pub use fault::ReplayFault;
 pub use line::{LINE_MAX, Line, TextFault, parse_line};
