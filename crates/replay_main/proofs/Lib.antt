@@ -1,0 +1,4 @@
+pub mod Cuts
+pub mod Readings
+pub mod PidTexts
+pub mod Standing

@@ -1,0 +1,79 @@
+//! Devices in memory.
+
+ghost use Rattle.std.specs.Prelude.{◌≡◌, Some, false};
+
+use crate::{DeviceFault, Sink, Source};
+use std::alloc::Global;
+
+/// A source that gives bytes of memory, and never fails.
+#[derive(Drop)]
+pub struct MemorySource<'a> {
+    rest: &'a [u8],
+}
+
+impl<'a> MemorySource<'a> {
+    /// A source that has these bytes left.
+    pub fn new(bytes: &'a [u8]) -> MemorySource<'a>
+        ensures { result.rest.now ≡ bytes.now }
+    {
+        MemorySource { rest: bytes }
+    }
+}
+
+impl<'a> Source for MemorySource<'a> {
+    ghost left = { λ s. Some s.rest.now };
+
+    ghost is_failed = { λ s. false };
+
+    fn read(&mut self, buf: &mut [u8]) -> Result<usize, DeviceFault> {
+        let count = buf.len().min(self.rest.len());
+        let (given, rest) = self.rest.split_at(count);
+        buf[..count].copy_from_slice(given);
+        self.rest = rest;
+        Ok(count)
+    }
+}
+
+/// A sink that keeps the bytes that it takes, and fails where there is no memory for them.
+#[derive(Drop)]
+pub struct MemorySink {
+    bytes: Vec<u8>,
+    is_failed: bool,
+}
+
+impl MemorySink {
+    /// A sink that has taken nothing.
+    pub fn new(alloc: Global) -> MemorySink
+        ensures { result.is_failed ≡ false }
+    {
+        MemorySink {
+            bytes: Vec::new(alloc),
+            is_failed: false,
+        }
+    }
+
+    /// The bytes that were taken.
+    pub fn bytes(&self) -> &[u8]
+        ensures { result.now ≡ self.now.bytes.items }
+    {
+        self.bytes.as_slice()
+    }
+}
+
+impl Sink for MemorySink {
+    ghost taken = { λ s. Some s.bytes.items };
+
+    ghost is_failed = { λ s. s.is_failed };
+
+    fn write(&mut self, bytes: &[u8]) -> Result<usize, DeviceFault> {
+        if bytes.is_empty() || self.bytes.extend_from_slice(bytes).is_err() {
+            self.is_failed = true;
+            return Err(DeviceFault);
+        }
+        Ok(bytes.len())
+    }
+
+    fn flush(&mut self) -> Result<(), DeviceFault> {
+        Ok(())
+    }
+}

@@ -1,0 +1,90 @@
+//! Devices over the readers and writers of std, as standard input and output.
+
+ghost use Rattle.std.specs.Prelude.{None, false, ◌≡◌};
+
+use crate::{DeviceFault, Sink, Source};
+use std::io::{Read, Write};
+
+/// A source over a reader, as standard input. It doesn't tell the bytes that are left.
+#[derive(Drop)]
+pub struct StreamSource<R: Read> {
+    reader: R,
+    is_failed: bool,
+}
+
+impl<R: Read> StreamSource<R> {
+    /// A source that has not failed.
+    pub fn new(reader: R) -> StreamSource<R>
+        ensures { result.is_failed ≡ false }
+    {
+        StreamSource {
+            reader,
+            is_failed: false,
+        }
+    }
+}
+
+impl<R: Read> Source for StreamSource<R> {
+    ghost left = { λ s. None };
+
+    ghost is_failed = { λ s. s.is_failed };
+
+    fn read(&mut self, buf: &mut [u8]) -> Result<usize, DeviceFault> {
+        match self.reader.read(buf) {
+            Ok(count) => Ok(count),
+            Err(_) => {
+                self.is_failed = true;
+                Err(DeviceFault)
+            }
+        }
+    }
+}
+
+/// A sink over a writer, as standard output. It doesn't tell the bytes that were taken.
+#[derive(Drop)]
+pub struct StreamSink<W: Write> {
+    writer: W,
+    is_failed: bool,
+}
+
+impl<W: Write> StreamSink<W> {
+    /// A sink that has not failed.
+    pub fn new(writer: W) -> StreamSink<W>
+        ensures { result.is_failed ≡ false }
+    {
+        StreamSink {
+            writer,
+            is_failed: false,
+        }
+    }
+}
+
+impl<W: Write> Sink for StreamSink<W> {
+    ghost taken = { λ s. None };
+
+    ghost is_failed = { λ s. s.is_failed };
+
+    fn write(&mut self, bytes: &[u8]) -> Result<usize, DeviceFault> {
+        match self.writer.write(bytes) {
+            Ok(0) => {
+                self.is_failed = true;
+                Ok(0)
+            }
+            Ok(count) => Ok(count),
+            Err(_) => {
+                self.is_failed = true;
+                Err(DeviceFault)
+            }
+        }
+    }
+
+    fn flush(&mut self) -> Result<(), DeviceFault> {
+        match self.writer.flush() {
+            Ok(()) => Ok(()),
+            Err(_) => {
+                self.is_failed = true;
+                Err(DeviceFault)
+            }
+        }
+    }
+}

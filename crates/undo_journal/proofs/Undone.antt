@@ -1,0 +1,49 @@
+-- What a reached machine keeps after one command, and what an undo leaves.
+use Rattle.std.proofs.Common.{◌≡◌, ℕ, suc, ◌+◌, ◌<◌, Bool, true, false, cond, List, [], ◌∷◌, ◌++◌, map, length, Option, Some, None, refl, sym, ap, subst, ◌∙◌, arith}
+use Rattle.flat_model.specs.Path.{Path}
+use Rattle.flat_model.specs.State.{State}
+use Rattle.flat_model.specs.Command as model
+use Rattle.flat_model.specs.Inverse.{Inverse, back, past_of}
+use Rattle.flat_model.specs.Step.{refusal, after, after_refusal}
+use Rattle.flat_model.specs.Machine.{Machine, recorded, outcome, undone, tick}
+use Rattle.flat_model.proofs.Undoing.{run_undone}
+use Rattle.flat_model.proofs.Counting.{current_is, populated_is}
+use Rattle.undo_journal.specs.Answer.{slots}
+use Rattle.undo_journal.specs.Headline.{IsReached, KeepsHistory}
+
+-- ---- one command and its undo
+
+outcome_undone : (m : Machine) (c : model.Command) (o : Option model.Refusal) → length m.past < length (outcome m c o).0.past → tick slots (outcome m c o).0 model.Undo ≡ (m, model.Undone c)
+outcome_undone m c None l =
+    elim (model.changes c) as (λ b. length m.past < length (cond b (recorded m c (after m.state c)) m).past → tick slots (cond b (recorded m c (after m.state c)) m) model.Undo ≡ (m, model.Undone c)) [
+      | true ↦ λ h. refl
+      | false ↦ λ h. absurd (omega arith)
+    ] l
+outcome_undone m c (Some r) l =
+    elim (model.is_counted r) as (λ b. length m.past < length (cond b (recorded m c (after_refusal m.state r)) m).past → tick slots (cond b (recorded m c (after_refusal m.state r)) m) model.Undo ≡ (m, model.Undone c)) [
+      | true ↦ λ h. refl
+      | false ↦ λ h. absurd (omega arith)
+    ] l
+
+-- an undo leaves no record
+undo_shorter : (s : State) (past : List (model.Command × State)) → length past < length (undone s past).0.past → ⊥
+undo_shorter s [] h = omega arith
+undo_shorter s (e ∷ past) h = omega arith
+
+tick_undone : (m : Machine) (c : model.Command) → length m.past < length (tick slots m c).0.past → tick slots (tick slots m c).0 model.Undo ≡ (m, model.Undone c)
+tick_undone m c l =
+    elim (model.is_undo c) as (λ b. length m.past < length (cond b (undone m.state m.past) (outcome m c (refusal slots m.state c))).0.past → tick slots (cond b (undone m.state m.past) (outcome m c (refusal slots m.state c))).0 model.Undo ≡ (m, model.Undone c)) [
+      | true ↦ λ h. absurd (undo_shorter m.state m.past h)
+      | false ↦ λ h. outcome_undone m c (refusal slots m.state c) h
+    ] l
+
+-- ---- the headline
+
+pub keeps_history : (old : Machine) (c : model.Command) (new : Machine) → new ≡ (tick slots old c).0 → IsReached new → KeepsHistory old c new
+keeps_history old c new is h = record {
+  command_undone = subst (λ (m : Machine). length old.past < length m.past → tick slots m model.Undo ≡ (old, model.Undone c)) (sym is) (tick_undone old c);
+  run_undone = run_undone slots new;
+  all_undone = h.all_undone;
+  counts = current_is slots new.state h.well_formed.0;
+  populations = populated_is new.state;
+}

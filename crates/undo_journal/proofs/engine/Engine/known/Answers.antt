@@ -1,0 +1,5 @@
+use Rattle.undo_journal.proofs.Histories.{reached}
+use Rattle.undo_journal.proofs.engine.Engine.known.Goals as goal
+
+pub returns : goal.returns
+returns g c = rw (← c.self.view_is) (reached c.self.inside.groups.items c.self.inside.processes.items c.self.inside.journal.items c.self.invariant.history)

@@ -1,0 +1,64 @@
+-- The engine's answers are the machine's, and its newest record is the one that the machine's past calls for.
+use Rattle.std.specs.Prelude.{◌≡◌, ℕ, Bool, true, false, List, [], ◌∷◌, Option, Some, None}
+use Rattle.flat_model.specs.State.{State}
+use Rattle.flat_model.specs.Command as model
+use Rattle.flat_model.specs.Step.{refusal, after, after_refusal}
+use Rattle.flat_model.specs.Inverse as model_inverse
+use Rattle.flat_model.specs.Inverse.{back, inverse, inverse_of_refusal}
+use Rattle.flat_model.specs.Machine.{Machine, tick}
+use Rattle.undo_journal.specs.declared.reply.Reply.{Reply}
+use Rattle.undo_journal.specs.Meaning.{reply_of}
+
+-- how many groups there may be beside the root
+abbrev pub slots : ℕ
+slots = 256
+
+-- on this command the machine goes from old to new, and this is its reply
+pub record Answers {A : Type 0} (old : Machine) (c : model.Command) (reply : Reply A) (new : Machine) : Type 0 where
+  pub state : new ≡ (tick slots old c).0
+  pub reply_is : reply_of reply ≡ Some (tick slots old c).1
+
+-- ---- records
+
+-- the record and the state that a command leaves, whether it is accepted or refused
+abbrev pub record_by : State → model.Command → Option model.Refusal → Option model_inverse.Inverse
+record_by s c None = inverse s c
+record_by s c (Some r) = inverse_of_refusal r
+
+abbrev pub record_of : State → model.Command → Option model_inverse.Inverse
+record_of s c = record_by s c (refusal slots s c)
+
+abbrev pub state_by : State → model.Command → Option model.Refusal → State
+state_by s c None = after s c
+state_by s c (Some r) = after_refusal s r
+
+abbrev pub state_after : State → model.Command → State
+state_after s c = state_by s c (refusal slots s c)
+
+-- ---- the newest recorded command
+
+abbrev pub newest_command : List (model.Command × State) → Option model.Command
+newest_command [] = None
+newest_command (e ∷ past) = Some e.0
+
+-- i is the record that the newest recorded command left, and gives back the state before it
+abbrev pub IsNewest : State → List (model.Command × State) → model_inverse.Inverse → Type 0
+IsNewest now [] i = ⊥
+IsNewest now (e ∷ past) i = (record_of e.1 e.0 ≡ Some i) × (back i now ≡ e.1)
+
+-- what was made goes when it is taken back, and is put nowhere
+abbrev pub is_made : Option model_inverse.Inverse → Bool
+is_made None = false
+is_made (Some (model_inverse.Made p)) = true
+is_made (Some (model_inverse.Forked pid)) = true
+is_made (Some (model_inverse.Removed p attr)) = false
+is_made (Some (model_inverse.Exited pid p)) = false
+is_made (Some (model_inverse.Moved pid p)) = false
+is_made (Some (model_inverse.Limited p file value)) = false
+is_made (Some (model_inverse.Counted a)) = false
+is_made (Some (model_inverse.Killed lost)) = false
+
+-- whether an undo asks for no memory: there is nothing to take back, or its record is `Made` or `Forked`
+abbrev pub undoes_without_memory : List (model.Command × State) → Bool
+undoes_without_memory [] = true
+undoes_without_memory (e ∷ past) = is_made (record_of e.1 e.0)

@@ -1,0 +1,47 @@
+-- What the program's commands, replies and records mean in the model. A value over one allocator means the same as over another.
+use Rattle.std.specs.Prelude.{Option, Some, None}
+use Rattle.undo_journal.specs.declared.command.File.{File}
+use Rattle.undo_journal.specs.declared.command.File.TheVariants.{PidsCurrent}
+use Rattle.undo_journal.specs.declared.command.Command.{Command}
+use Rattle.undo_journal.specs.declared.command.Command.TheVariants.{MakeGroup, Fork, Move, Show, Undo}
+use Rattle.undo_journal.specs.declared.reply.Refusal.{Refusal}
+use Rattle.undo_journal.specs.declared.reply.Refusal.TheVariants.{Exists, NoGroup, NoSlot, NoProcess, PidInUse, NoFile}
+use Rattle.undo_journal.specs.declared.reply.Reply.{Reply}
+use Rattle.undo_journal.specs.declared.reply.Reply.TheVariants.{Done, Text, Undone, Refused, NothingToUndo, OutOfMemory}
+use Rattle.undo_journal.specs.declared.inverse.Inverse.{Inverse}
+use Rattle.undo_journal.specs.declared.inverse.Inverse.TheVariants.{Made, Forked, Moved}
+use Rattle.flat_model.specs.File as model_file
+use Rattle.flat_model.specs.Command as model
+use Rattle.flat_model.specs.Inverse as model_inverse
+
+abbrev pub file_of : File → model_file.File
+file_of PidsCurrent = model_file.PidsCurrent
+
+abbrev pub command_of : {A : Type 0} → Command A → model.Command
+command_of (MakeGroup path) = model.MakeGroup path
+command_of (Fork parent child) = model.Fork parent child
+command_of (Move path pid) = model.Move path pid
+command_of (Show path file) = model.Show path (file_of file)
+command_of Undo = model.Undo
+
+abbrev pub refusal_of : {A : Type 0} → Refusal A → model.Refusal
+refusal_of Exists = model.Exists
+refusal_of (NoGroup path) = model.NoGroup path
+refusal_of NoSlot = model.NoSlot
+refusal_of (NoProcess pid) = model.NoProcess pid
+refusal_of (PidInUse pid) = model.PidInUse pid
+refusal_of NoFile = model.NoFile
+
+-- the machine's reply, and none where memory was wanting
+abbrev pub reply_of : {A : Type 0} → Reply A → Option model.Reply
+reply_of Done = Some model.Done
+reply_of (Text bytes) = Some (model.Text bytes)
+reply_of (Undone command) = Some (model.Undone (command_of command))
+reply_of (Refused refusal) = Some (model.Refused (refusal_of refusal))
+reply_of NothingToUndo = Some model.NothingToUndo
+reply_of OutOfMemory = None
+
+abbrev pub inverse_of : {A : Type 0} → Inverse A → model_inverse.Inverse
+inverse_of (Made path) = model_inverse.Made path
+inverse_of (Forked pid) = model_inverse.Forked pid
+inverse_of (Moved pid path) = model_inverse.Moved pid path

@@ -1,0 +1,119 @@
+ghost use Rattle.std.specs.Prelude.{◌≡◌, IfOk};
+ghost use Rattle.flat_model.specs.CommandText.{command_text};
+ghost use Rattle.flat_model.specs.File.{file_name};
+ghost use Rattle.undo_journal.specs.Meaning.{command_of, file_of};
+
+use crate::pid::Pid;
+use group_path::GroupPath;
+use itoa::Buffer;
+use std::alloc::{AllocError, Allocator};
+
+/// An interface file of a group.
+#[derive(Clone, Copy, Debug, PartialEq, Eq)]
+pub enum File {
+    /// `pids.current`: how many processes are in the group and below it. The root has none.
+    PidsCurrent,
+}
+
+impl File {
+    /// The name of the file in its group.
+    fn name(self) -> &'static [u8]
+        ensures { result.now ≡ file_name (file_of self) }
+    {
+        match self {
+            File::PidsCurrent => b"pids.current",
+        }
+    }
+}
+
+/// What the engine is asked.
+#[derive(Drop)]
+pub enum Command<A: Allocator + Clone> {
+    /// Makes a group under one that is there: `mkdir`.
+    MakeGroup(GroupPath<A>),
+    /// Makes a process in the group of its parent.
+    Fork {
+        /// The process that forks.
+        parent: Pid,
+        /// The process that is made.
+        child: Pid,
+    },
+    /// Puts a process into a group: a write to `cgroup.procs`.
+    Move {
+        /// The group that it goes to.
+        path: GroupPath<A>,
+        /// The process.
+        pid: Pid,
+    },
+    /// Reads a file of a group.
+    Show {
+        /// The group.
+        path: GroupPath<A>,
+        /// The file.
+        file: File,
+    },
+    /// Takes the newest recorded command back.
+    Undo,
+}
+
+impl<A: Allocator + Clone> Command<A> {
+    /// The same command in other memory.
+    pub fn copy<B: Allocator + Clone>(&self, alloc: B) -> Result<Command<B>, AllocError>
+        ensures { IfOk result (λ c. command_of c ≡ command_of self.now) }
+    {
+        match self {
+            Command::MakeGroup(path) => Ok(Command::MakeGroup(path.copy(alloc)?)),
+            Command::Fork { parent, child } => Ok(Command::Fork {
+                parent: *parent,
+                child: *child,
+            }),
+            Command::Move { path, pid } => Ok(Command::Move {
+                path: path.copy(alloc)?,
+                pid: *pid,
+            }),
+            Command::Show { path, file } => Ok(Command::Show {
+                path: path.copy(alloc)?,
+                file: *file,
+            }),
+            Command::Undo => Ok(Command::Undo),
+        }
+    }
+
+    /// The command as a line of a trace says it, without the line feed: `mkdir /a`, `fork 1 2`,
+    /// `write /a cgroup.procs 2`, `cat /a pids.current`, `undo`.
+    pub fn text<B: Allocator + Clone>(&self, alloc: B) -> Result<Vec<u8, B>, AllocError>
+        ensures { IfOk result (λ text. text.items ≡ command_text (command_of self.now)) }
+    {
+        match self {
+            Command::MakeGroup(path) => {
+                let mut text = Vec::from_slice(alloc, b"mkdir ")?;
+                text.extend_from_slice(path.text())?;
+                Ok(text)
+            }
+            Command::Fork { parent, child } => {
+                let mut digits = Buffer::new();
+                let mut text = Vec::from_slice(alloc, b"fork ")?;
+                text.extend_from_slice(digits.format(parent.get()).as_bytes())?;
+                text.extend_from_slice(b" ")?;
+                text.extend_from_slice(digits.format(child.get()).as_bytes())?;
+                Ok(text)
+            }
+            Command::Move { path, pid } => {
+                let mut digits = Buffer::new();
+                let mut text = Vec::from_slice(alloc, b"write ")?;
+                text.extend_from_slice(path.text())?;
+                text.extend_from_slice(b" cgroup.procs ")?;
+                text.extend_from_slice(digits.format(pid.get()).as_bytes())?;
+                Ok(text)
+            }
+            Command::Show { path, file } => {
+                let mut text = Vec::from_slice(alloc, b"cat ")?;
+                text.extend_from_slice(path.text())?;
+                text.extend_from_slice(b" ")?;
+                text.extend_from_slice(file.name())?;
+                Ok(text)
+            }
+            Command::Undo => Vec::from_slice(alloc, b"undo"),
+        }
+    }
+}

@@ -1,0 +1,37 @@
+//! The engine: commands, their replies, and a journal that takes commands back.
+//!
+//! An `Engine` is the machine of `flat_model`: the state now, and for each recorded command, newest first, the command
+//! and the state before it. `apply` answers a command as the machine does and goes where the machine goes; a recorded
+//! command and then an `undo` give the engine back as it was, and undoing everything gives the root alone with process 1
+//! in it. So it is after any commands, undos among them.
+//!
+//! - An accepted command that changes the state is recorded. A refused command, one that only shows, and an undo are not.
+//! - `undo` takes back the newest recorded command, whoever issued it, and checks nothing.
+//! - A refusal names its cause and leaves everything. So does want of memory, which comes last: memory is asked for
+//!   before anything is changed.
+//! - The journal keeps a command and a small record each, and no state. It has no bound of its own, and is not kept on
+//!   a disk.
+//! - No call waits yet. The runtime and the session's number are asked for because taking a kill back will use threads.
+//! - Each look-up goes over all groups or all processes, and `pids.current` counts all processes anew.
+//!
+//! What a command, a reply and a record mean stands in `specs/Meaning.antt`; that a reply is the machine's in
+//! `specs/Answer.antt`; what each answered command promises of undoing and counting in `specs/Headline.antt`.
+#![tactic(auto)]
+
+mod bytes;
+mod command;
+mod engine;
+mod inverse;
+mod making;
+mod moving;
+mod pid;
+mod reply;
+mod rows;
+mod showing;
+
+pub use bytes::Bytes;
+pub use command::{Command, File};
+pub use engine::{Engine, SLOTS};
+pub use inverse::Inverse;
+pub use pid::Pid;
+pub use reply::{Refusal, Reply};

@@ -1,0 +1,73 @@
+ghost use Rattle.std.specs.Prelude.{◌≡◌, IfOk};
+ghost use Rattle.undo_journal.specs.Meaning.{refusal_of, reply_of};
+
+use crate::bytes::Bytes;
+use crate::command::Command;
+use crate::pid::Pid;
+use group_path::GroupPath;
+use std::alloc::{AllocError, Allocator};
+
+/// Why a command was refused. It has changed nothing.
+#[derive(Drop)]
+pub enum Refusal<A: Allocator + Clone> {
+    /// The group is there already.
+    Exists,
+    /// There is no such group: the parent of a group to be made, or else the group that the command names.
+    NoGroup(GroupPath<A>),
+    /// There are 256 groups beside the root.
+    NoSlot,
+    /// There is no such process.
+    NoProcess(Pid),
+    /// There is such a process already.
+    PidInUse(Pid),
+    /// The root has no such file.
+    NoFile,
+}
+
+impl<A: Allocator + Clone> Refusal<A> {
+    fn copy<B: Allocator + Clone>(&self, alloc: B) -> Result<Refusal<B>, AllocError>
+        ensures { IfOk result (λ r. refusal_of r ≡ refusal_of self.now) }
+    {
+        match self {
+            Refusal::Exists => Ok(Refusal::Exists),
+            Refusal::NoGroup(path) => Ok(Refusal::NoGroup(path.copy(alloc)?)),
+            Refusal::NoSlot => Ok(Refusal::NoSlot),
+            Refusal::NoProcess(pid) => Ok(Refusal::NoProcess(*pid)),
+            Refusal::PidInUse(pid) => Ok(Refusal::PidInUse(*pid)),
+            Refusal::NoFile => Ok(Refusal::NoFile),
+        }
+    }
+}
+
+/// What a command is answered.
+#[derive(Drop)]
+pub enum Reply<A: Allocator + Clone> {
+    /// It was done.
+    Done,
+    /// It shows this text.
+    Text(Bytes<A>),
+    /// It took this command back.
+    Undone(Command<A>),
+    /// It was refused, and has changed nothing.
+    Refused(Refusal<A>),
+    /// There is no command to take back.
+    NothingToUndo,
+    /// There was no memory for it, and it has changed nothing.
+    OutOfMemory,
+}
+
+impl<A: Allocator + Clone> Reply<A> {
+    /// The same reply in other memory.
+    pub fn copy<B: Allocator + Clone>(&self, alloc: B) -> Result<Reply<B>, AllocError>
+        ensures { IfOk result (λ r. reply_of r ≡ reply_of self.now) }
+    {
+        match self {
+            Reply::Done => Ok(Reply::Done),
+            Reply::Text(text) => Ok(Reply::Text(text.copy(alloc)?)),
+            Reply::Undone(command) => Ok(Reply::Undone(command.copy(alloc)?)),
+            Reply::Refused(refusal) => Ok(Reply::Refused(refusal.copy(alloc)?)),
+            Reply::NothingToUndo => Ok(Reply::NothingToUndo),
+            Reply::OutOfMemory => Ok(Reply::OutOfMemory),
+        }
+    }
+}

@@ -1,0 +1,106 @@
+//! Plain lists of rows, one row for each group and one for each process.
+
+ghost use Rattle.std.specs.Prelude.{◌≡◌, ◌==◌, true, Some, None, MatchOption, position, is_some};
+ghost use Rattle.std.specs.Ordering.{nat_cmp};
+ghost use Rattle.std.specs.FinMap.{find, insert, remove, from_entries};
+ghost use Rattle.flat_model.specs.Path.{path_cmp, same_path};
+ghost use Rattle.undo_journal.specs.Rows.{IsDistinct, IsGroupAt, IsProcessAt, group_rows, process_rows};
+
+use crate::command::Command;
+use crate::inverse::Inverse;
+use crate::pid::Pid;
+use group_path::GroupPath;
+use std::alloc::Allocator;
+use std::mem;
+
+/// A process and the group that it belongs to.
+#[derive(Drop)]
+pub(crate) struct Process<A: Allocator + Clone> {
+    pub(crate) pid: Pid,
+    pub(crate) home: GroupPath<A>,
+}
+
+/// A recorded command with its record.
+#[derive(Drop)]
+pub(crate) struct Entry<A: Allocator + Clone> {
+    pub(crate) command: Command<A>,
+    pub(crate) inverse: Inverse<A>,
+}
+
+/// Where the group's row is.
+pub(crate) fn find_group<A: Allocator + Clone, B: Allocator + Clone>(
+    groups: &[GroupPath<A>],
+    path: &GroupPath<B>,
+) -> Option<usize>
+    ensures { MatchOption result (find path_cmp path.now (group_rows groups.now) ≡ None) (λ i. IsGroupAt groups.now path.now i) }
+{
+    position_of_group(groups, path)
+}
+
+fn position_of_group<A: Allocator + Clone, B: Allocator + Clone>(
+    groups: &[GroupPath<A>],
+    path: &GroupPath<B>,
+) -> Option<usize>
+    ensures { result ≡ position (λ group. same_path path.now group) groups.now }
+{
+    groups.iter().position(|group| path.is_same(group))
+}
+
+/// Where the process's row is.
+pub(crate) fn find_process<A: Allocator + Clone>(
+    processes: &[Process<A>],
+    pid: Pid,
+) -> Option<usize>
+    ensures { MatchOption result (find nat_cmp pid (process_rows processes.now) ≡ None) (λ i. IsProcessAt processes.now pid i) }
+{
+    position_of_process(processes, pid)
+}
+
+fn position_of_process<A: Allocator + Clone>(processes: &[Process<A>], pid: Pid) -> Option<usize>
+    ensures { result ≡ position (λ process. pid == process.pid) processes.now }
+{
+    processes.iter().position(|process| pid == process.pid)
+}
+
+/// Takes a group's row out, if there is one.
+pub(crate) fn remove_group<A: Allocator + Clone>(
+    groups: &mut Vec<GroupPath<A>, A>,
+    path: &GroupPath<A>,
+)
+    requires { IsDistinct path_cmp (group_rows groups.old.items) }
+    ensures apart { IsDistinct path_cmp (group_rows groups.new.items) }
+    ensures rows { from_entries (group_rows groups.new.items) ≡ remove (from_entries {R = path_cmp} (group_rows groups.old.items)) path.now }
+{
+    if let Some(i) = find_group(groups.as_slice(), path) {
+        let _row = groups.remove(i);
+    }
+}
+
+/// Takes a process's row out, if there is one.
+pub(crate) fn remove_process<A: Allocator + Clone>(processes: &mut Vec<Process<A>, A>, pid: Pid)
+    requires { IsDistinct nat_cmp (process_rows processes.old.items) }
+    ensures apart { IsDistinct nat_cmp (process_rows processes.new.items) }
+    ensures rows { from_entries (process_rows processes.new.items) ≡ remove (from_entries {R = nat_cmp} (process_rows processes.old.items)) pid }
+{
+    if let Some(i) = find_process(processes.as_slice(), pid) {
+        let _row = processes.remove(i);
+    }
+}
+
+/// Writes the home of a process that is there, and gives the one that it had.
+pub(crate) fn rehome<A: Allocator + Clone>(
+    processes: &mut Vec<Process<A>, A>,
+    pid: Pid,
+    home: GroupPath<A>,
+) -> GroupPath<A>
+    requires apart { IsDistinct nat_cmp (process_rows processes.old.items) }
+    requires there { is_some (find nat_cmp pid (process_rows processes.old.items)) ≡ true }
+    ensures apart { IsDistinct nat_cmp (process_rows processes.new.items) }
+    ensures rows { from_entries (process_rows processes.new.items) ≡ insert (from_entries {R = nat_cmp} (process_rows processes.old.items)) pid home }
+    ensures old { Some result ≡ find nat_cmp pid (process_rows processes.old.items) }
+{
+    match find_process(processes.as_slice(), pid) {
+        Some(i) => mem::replace(&mut processes[i].home, home),
+        None => home,
+    }
+}

@@ -1,0 +1,55 @@
+//! The reading of files.
+
+ghost use Rattle.std.specs.Prelude.{◌≡◌, IfOk, count_by};
+ghost use Rattle.flat_model.specs.Path.{at_or_below, is_root};
+ghost use Rattle.flat_model.specs.Counts.{current};
+ghost use Rattle.flat_model.specs.Command as model;
+ghost use Rattle.undo_journal.specs.Meaning.{file_of};
+ghost use Rattle.undo_journal.specs.Answer.{Answers};
+
+use crate::bytes::Bytes;
+use crate::command::File;
+use crate::engine::Engine;
+use crate::reply::{Refusal, Reply};
+use crate::rows::Process;
+use group_path::GroupPath;
+use std::alloc::{AllocError, Allocator};
+
+fn count_at_or_below<A: Allocator + Clone, B: Allocator + Clone>(
+    processes: &[Process<A>],
+    path: &GroupPath<B>,
+) -> usize
+    ensures { result ≡ count_by (λ process. at_or_below process.home path.now) processes.now }
+{
+    processes
+        .iter()
+        .filter(|process| process.home.is_at_or_below(path))
+        .count()
+}
+
+impl<A: Allocator + Clone> Engine<A> {
+    /// How many processes are in the group and below it.
+    fn current<B: Allocator + Clone>(&self, path: &GroupPath<B>) -> usize
+        ensures { result ≡ current self.now.state path.now }
+    {
+        count_at_or_below(self.processes.as_slice(), path)
+    }
+
+    pub(crate) fn show<B: Allocator + Clone>(
+        &self,
+        path: &GroupPath<B>,
+        file: File,
+    ) -> Result<Reply<A>, AllocError>
+        ensures { IfOk result (λ reply. Answers self.now (model.Show path.now (file_of file)) reply self.now) }
+    {
+        if !self.has_group(path) {
+            return Ok(Reply::Refused(Refusal::NoGroup(path.copy(self.alloc.clone()?)?)));
+        }
+        if path.depth() == 0 {
+            return Ok(Reply::Refused(Refusal::NoFile));
+        }
+        let current = self.current(path);
+        let text = format!(in self.alloc.clone()?; "{current}\n")?;
+        Ok(Reply::Text(Bytes::of(text.into_bytes())))
+    }
+}
