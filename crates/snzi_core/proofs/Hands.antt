@@ -4,7 +4,7 @@ use Rattle.std.specs.Prelude.{slice_index}
 use Rattle.snzi_core.specs.declared.holding.Holding.{Holding}
 use Rattle.snzi_core.specs.declared.holding.Role.{Role}
 use Rattle.snzi_core.specs.declared.holding.Role.TheVariants.{Helper}
-use Rattle.snzi_core.specs.Holding.{tokens_at, amount_at, held, gain, lose, raise, put, added, keeper, helper_with, rejoined, merged, main_weight}
+use Rattle.snzi_core.specs.Holding.{tokens_at, amount_at, held, gain, lose, raise, put, keeper, helper_with, rejoined, merged, main_weight}
 use Rattle.snzi_core.specs.Changes.{Gains, Loses, Moves, Raises, Parts, Unites}
 use Rattle.snzi_core.proofs.Lists.{at_put_same, at_put_else, added_put, at_within, put_inside, read_inside, at_without, at_merged}
 use Rattle.snzi_core.proofs.Rewriting.{at_wrapped}

@@ -1,7 +1,7 @@
 -- A core after a join.
-use Rattle.std.proofs.Common.{◌≡◌, ◌≢◌, ℕ, zero, suc, ◌+◌, ◌-◌, ◌*◌, ◌/◌, ◌%◌, ◌^◌, ◌<◌, ◌≤◌, Bool, true, false, List, [], ◌∷◌, ◌++◌, map, take, drop, length, set, get_or, refl, sym, ap, ◌∙◌, subst, arith, true≢false, length-set, ltb-true}
+use Rattle.std.proofs.Common.{◌≡◌, ◌≢◌, ℕ, zero, suc, ◌+◌, ◌^◌, ◌<◌, ◌≤◌, Bool, true, false, List, [], ◌∷◌, ◌++◌, take, drop, length, set, get_or, refl, sym, ap, ◌∙◌, subst, arith, true≢false, length-set}
 use Rattle.std.proofs.lemmas.List.{take-append-le, take_all}
-use Rattle.std.specs.Prelude.{slice_index, nat_lt}
+use Rattle.std.specs.Prelude.{nat_lt}
 use Rattle.std.specs.List.{list_any, range_with_len}
 use mathlib.Core.Logic.{dite}
 use native.Mathlib.Decide.{ℕ_discrete, dec_le}
@@ -10,15 +10,14 @@ use lib.ListN.{get_elem?}
 use Rattle.snzi_core.specs.declared.holding.Holding.{Holding}
 use Rattle.snzi_core.specs.declared.holding.Role.{Role}
 use Rattle.snzi_core.specs.declared.holding.Role.TheVariants.{Main, Helper, Spent}
-use Rattle.snzi_core.specs.Holding.{empty, main_weight, out, tokens_at, amount_at, rejoined, merged, wrapped}
+use Rattle.snzi_core.specs.Holding.{empty, main_weight, tokens_at, rejoined, merged}
 use Rattle.snzi_core.specs.Changes.{Unites}
-use Rattle.snzi_core.specs.Balance.{Each}
 use Rattle.snzi_core.specs.State.{State, hand_of, kind_of, above, span}
 use Rattle.snzi_core.specs.Lawful.{lives, helps, some_word, overflows}
 use Rattle.snzi_core.specs.Effect.{joined}
 use Rattle.snzi_core.specs.Kept.{HasTables, IsCore}
 use Rattle.snzi_core.proofs.Lists.{at_merged}
-use Rattle.snzi_core.proofs.Rewriting.{length_merged, length_wrapped, at_wrapped}
+use Rattle.snzi_core.proofs.Rewriting.{length_merged, length_wrapped}
 use Rattle.snzi_core.proofs.Presence.{past_end}
 use Rattle.snzi_core.proofs.Shapes.{is_family}
 use Rattle.snzi_core.proofs.Muster.{each_set, each_at}

@@ -1,29 +1,25 @@
 -- A core after a split.
-use Rattle.std.proofs.Common.{◌≡◌, ◌≢◌, ℕ, zero, suc, ◌+◌, ◌-◌, ◌*◌, ◌/◌, ◌%◌, ◌^◌, ◌<◌, ◌≤◌, Bool, true, false, not, ◌&&◌, ◌||◌, cond, List, [], ◌∷◌, ◌++◌, map, length, set, get_or, replicate, refl, sym, ap, ◌∙◌, subst, arith, true≢false, length-set, length-append, length-take-le, take, Option, None, leb-true, ltb-true, eq-eqb, ne_eqb}
+use Rattle.std.proofs.Common.{◌≡◌, ℕ, zero, suc, ◌+◌, ◌<◌, ◌≤◌, Bool, true, false, cond, List, [], ◌∷◌, ◌++◌, length, set, get_or, replicate, refl, sym, ap, ◌∙◌, subst, arith, true≢false, length-set, length-append, length-take-le, take, None, leb-true, ltb-true, eq-eqb, ne_eqb}
 use Rattle.std.proofs.lemmas.List.{length-replicate}
 use Rattle.std.proofs.lemmas.List.FromFn.{get_or-map-range_with_len, length-map-range_with_len}
 use Rattle.std.proofs.lemmas.List.Sums.{sum_by-cons, sum_by_more, count_by-le-length}
 use Rattle.std.proofs.lemmas.Grind.{same_number_lists}
 use Rattle.std.specs.Prelude.{slice_index, nat_eq, nat_lt, nat_le}
-use Rattle.std.specs.List.{list_all, range_with_len}
+use Rattle.std.specs.List.{list_all}
 use mathlib.Core.Logic.{dite}
 use native.Mathlib.Decide.{ℕ_discrete, dec_le}
-use mathlib.Core.Option.{some}
-use lib.ListN.{get_elem?}
 use Rattle.snzi_core.specs.declared.event.Token.{Token}
 use Rattle.snzi_core.specs.declared.holding.Holding.{Holding}
 use Rattle.snzi_core.specs.declared.holding.Role.{Role}
 use Rattle.snzi_core.specs.declared.holding.Role.TheVariants.{Main, Helper, Spent}
-use Rattle.snzi_core.specs.declared.unlawful.Unlawful.{Unlawful}
-use Rattle.snzi_core.specs.Holding.{empty, main_weight, out, tokens_at, amount_at, keeper, helper_with, without, put, gain}
+use Rattle.snzi_core.specs.Holding.{empty, main_weight, out, tokens_at, keeper, helper_with, put, gain}
 use Rattle.snzi_core.specs.Shape.{leaves}
 use Rattle.snzi_core.specs.Changes.{Parts}
-use Rattle.snzi_core.specs.Balance.{Each}
 use Rattle.snzi_core.specs.State.{State, hand_of, kind_of, above, span, token_of, fresh}
 use Rattle.snzi_core.specs.Lawful.{lives, has_token, count_at, main_covers, main_has, is_crowded, refuses_split}
 use Rattle.snzi_core.specs.Effect.{counts, regrouped, split_off}
 use Rattle.snzi_core.specs.Kept.{HasTables, IsCore}
-use Rattle.snzi_core.proofs.Lists.{at_without, at_put_same, at_put_else, put_length}
+use Rattle.snzi_core.proofs.Lists.{at_put_same, at_put_else, put_length}
 use Rattle.snzi_core.proofs.Rewriting.{length_without}
 use Rattle.snzi_core.proofs.Presence.{past_end}
 use Rattle.snzi_core.proofs.Shapes.{is_family}
