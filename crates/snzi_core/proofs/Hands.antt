@@ -3,9 +3,11 @@ use Rattle.std.proofs.Common.{◌≡◌, ◌≢◌, ℕ, ◌+◌, ◌-◌, ◌%�
 use Rattle.std.specs.Prelude.{slice_index}
 use Rattle.snzi_core.specs.declared.holding.Holding.{Holding}
 use Rattle.snzi_core.specs.declared.holding.Role.{Role}
-use Rattle.snzi_core.specs.Holding.{tokens_at, amount_at, held, gain, lose, raise, put, added}
-use Rattle.snzi_core.specs.Changes.{Gains, Loses, Moves, Raises}
-use Rattle.snzi_core.proofs.Lists.{at_put_same, at_put_else, added_put, at_within, put_inside, read_inside}
+use Rattle.snzi_core.specs.declared.holding.Role.TheVariants.{Helper}
+use Rattle.snzi_core.specs.Holding.{tokens_at, amount_at, held, gain, lose, raise, put, keeper, helper_with, rejoined, merged, main_weight}
+use Rattle.snzi_core.specs.Changes.{Gains, Loses, Moves, Raises, Parts, Unites}
+use Rattle.snzi_core.proofs.Lists.{at_put_same, at_put_else, added_put, at_within, put_inside, read_inside, at_without, at_merged}
+use Rattle.snzi_core.proofs.Rewriting.{at_wrapped}
 
 pub gain_at : (h : Holding) (j : ℕ) → tokens_at j (gain h j) ≡ tokens_at j h + 1
 gain_at h j = at_put_same h.tokens j (slice_index h.tokens j + 1)
@@ -85,3 +87,20 @@ lost r ts ns i x h e = ap (λ (l : List ℕ). holding r l ns) (ap (λ (y : ℕ).
 
 pub raised : (r : Role) (ts ns : List ℕ) (i n x : ℕ) → i < length ns → x ≡ get_or ns i x → holding r ts (set ns i ((x + n) % 2 ^ 64)) ≡ raise (holding r ts ns) i n
 raised r ts ns i n x h e = ap (λ (l : List ℕ). holding r ts l) (ap (λ (y : ℕ). set ns i ((y + n) % 2 ^ 64)) (e ∙ read_inside ns i x 0 h) ∙ sym (put_inside ns i ((slice_index ns i + n) % 2 ^ 64) h))
+
+-- main and a new helper after a split with this share
+pub parts : (h : Holding) (share amounts : List ℕ) → main_weight h.role ≡ 1 → ((i : ℕ) → slice_index share i ≤ tokens_at i h) → ((i : ℕ) → slice_index amounts i ≡ 0) → Parts h (keeper h share) (helper_with share amounts)
+parts h share amounts main fits none = ((λ i. let a = at_without h.tokens share i in let b = fits i in omega arith), refl, none, main, refl, refl)
+
+-- main after a join with this helper
+pub unites : (h k : Holding) → main_weight h.role ≡ 1 → k.role ≡ Helper → Unites h k (rejoined h k)
+unites h k main helper = (
+  (λ i. at_merged h.tokens k.tokens i),
+  (λ i. twice (amount_at i (rejoined h k)) (slice_index (merged h.amounts k.amounts) i) (amount_at i h + amount_at i k) (at_wrapped (merged h.amounts k.amounts) i) (at_merged h.amounts k.amounts i)),
+  main,
+  refl,
+  helper,
+)
+  where
+    twice : (x y z : ℕ) → x ≡ y % 18446744073709551616 → y ≡ z → x % 18446744073709551616 ≡ z % 18446744073709551616
+    twice x y z e f = omega arith

@@ -1,7 +1,7 @@
 -- A core after a join.
-use Rattle.std.proofs.Common.{◌≡◌, ◌≢◌, ℕ, zero, suc, ◌+◌, ◌-◌, ◌*◌, ◌/◌, ◌%◌, ◌^◌, ◌<◌, ◌≤◌, Bool, true, false, List, [], ◌∷◌, ◌++◌, map, take, drop, length, set, get_or, refl, sym, ap, ◌∙◌, subst, arith, true≢false, length-set, ltb-true}
+use Rattle.std.proofs.Common.{◌≡◌, ◌≢◌, ℕ, zero, suc, ◌+◌, ◌^◌, ◌<◌, ◌≤◌, Bool, true, false, List, [], ◌∷◌, ◌++◌, take, drop, length, set, get_or, refl, sym, ap, ◌∙◌, subst, arith, true≢false, length-set}
 use Rattle.std.proofs.lemmas.List.{take-append-le, take_all}
-use Rattle.std.specs.Prelude.{slice_index, nat_lt}
+use Rattle.std.specs.Prelude.{nat_lt}
 use Rattle.std.specs.List.{list_any, range_with_len}
 use mathlib.Core.Logic.{dite}
 use native.Mathlib.Decide.{ℕ_discrete, dec_le}
@@ -10,19 +10,19 @@ use lib.ListN.{get_elem?}
 use Rattle.snzi_core.specs.declared.holding.Holding.{Holding}
 use Rattle.snzi_core.specs.declared.holding.Role.{Role}
 use Rattle.snzi_core.specs.declared.holding.Role.TheVariants.{Main, Helper, Spent}
-use Rattle.snzi_core.specs.Holding.{empty, main_weight, out, tokens_at, amount_at, rejoined, merged, wrapped}
+use Rattle.snzi_core.specs.Holding.{empty, main_weight, tokens_at, rejoined, merged}
 use Rattle.snzi_core.specs.Changes.{Unites}
-use Rattle.snzi_core.specs.Balance.{Each}
 use Rattle.snzi_core.specs.State.{State, hand_of, kind_of, above, span}
 use Rattle.snzi_core.specs.Lawful.{lives, helps, some_word, overflows}
 use Rattle.snzi_core.specs.Effect.{joined}
 use Rattle.snzi_core.specs.Kept.{HasTables, IsCore}
 use Rattle.snzi_core.proofs.Lists.{at_merged}
-use Rattle.snzi_core.proofs.Rewriting.{length_merged, length_wrapped, at_wrapped}
+use Rattle.snzi_core.proofs.Rewriting.{length_merged, length_wrapped}
 use Rattle.snzi_core.proofs.Presence.{past_end}
 use Rattle.snzi_core.proofs.Shapes.{is_family}
 use Rattle.snzi_core.proofs.Muster.{each_set, each_at}
 use Rattle.snzi_core.proofs.Passing.{join_law, one_back_main}
+use Rattle.snzi_core.proofs.Hands.{unites}
 use Rattle.snzi_core.proofs.Stepped.{live_at, shape_of}
 use Rattle.snzi_core.proofs.Splitting.{main_live}
 use Rattle.snzi_core.proofs.Lawfulness.{neither}
@@ -78,18 +78,8 @@ module _ (k : State) (c : IsCore k) (helper : ℕ) (is : helps (hand_of k helper
   pub helper_tables : (length (hand_of k helper).tokens ≡ length k.words) × (length (hand_of k helper).amounts ≡ length k.words)
   helper_tables = each_at (HasTables (length k.words)) k.hands helper (hand_of k helper) c.tables at_helper (helper_lives (hand_of k helper).role is)
 
-  unites : Unites (hand_of k 0) (hand_of k helper) (rejoined (hand_of k 0) (hand_of k helper))
-  unites = (
-    (λ i. at_merged (hand_of k 0).tokens (hand_of k helper).tokens i),
-    (λ i. let a = at_wrapped (merged (hand_of k 0).amounts (hand_of k helper).amounts) i in let b = at_merged (hand_of k 0).amounts (hand_of k helper).amounts i in
-        twice (amount_at i (rejoined (hand_of k 0) (hand_of k helper))) (slice_index (merged (hand_of k 0).amounts (hand_of k helper).amounts) i) (amount_at i (hand_of k 0) + amount_at i (hand_of k helper)) a b),
-    c.main,
-    refl,
-    is_helper (hand_of k helper).role is,
-  )
-    where
-      twice : (x y z : ℕ) → x ≡ y % 18446744073709551616 → y ≡ z → x % 18446744073709551616 ≡ z % 18446744073709551616
-      twice x y z e f = omega arith
+  united : Unites (hand_of k 0) (hand_of k helper) (rejoined (hand_of k 0) (hand_of k helper))
+  united = unites (hand_of k 0) (hand_of k helper) c.main (is_helper (hand_of k helper).role is)
 
   pub together : some_word k (overflows k helper) ≡ false → (i : ℕ) → tokens_at i (hand_of k 0) + tokens_at i (hand_of k helper) ≤ 2 ^ 40
   together none i = dite (dec_le (length k.words) i)
@@ -118,7 +108,7 @@ module _ (k : State) (c : IsCore k) (helper : ℕ) (is : helps (hand_of k helper
     made = let a = length-set (set k.hands 0 (rejoined (hand_of k 0) (hand_of k helper))) helper (empty Spent) in let b = length-set k.hands 0 (rejoined (hand_of k 0) (hand_of k helper)) in let m = c.made in omega arith;
     tables = each_set (HasTables (length k.words)) (set k.hands 0 (rejoined (hand_of k 0) (hand_of k helper))) helper (empty Spent) (each_set (HasTables (length k.words)) k.hands 0 (rejoined (hand_of k 0) (hand_of k helper)) c.tables rejoined_tables) (λ alive. absurd (true≢false (sym alive)));
     rule = join_law (kind_of k) (above k) (is_family k.nodes (span k) (shape_of k c)) k.words k.hands 0 (hand_of k 0) at_main helper (hand_of k helper) (rejoined (hand_of k 0) (hand_of k helper))
-        (at_other k.hands 0 helper (rejoined (hand_of k 0) (hand_of k helper)) (hand_of k helper) no_main at_helper) unites
+        (at_other k.hands 0 helper (rejoined (hand_of k 0) (hand_of k helper)) (hand_of k helper) no_main at_helper) united
         (λ i. let a = at_merged (hand_of k 0).tokens (hand_of k helper).tokens i in let b = together none i in omega arith) c.rule;
   }
 

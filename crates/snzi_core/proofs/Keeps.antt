@@ -1,12 +1,12 @@
 -- Each lawful event leaves a core.
-use Rattle.std.proofs.Common.{◌≡◌, ℕ, ◌+◌, ◌-◌, Bool, true, false, cond, List, [], ◌∷◌, ◌++◌, take, length, refl, sym, ap, ◌∙◌, subst, arith, Option, Some, None, Result, Ok, Err}
+use Rattle.std.proofs.Common.{◌≡◌, Bool, true, false, cond, List, [], ◌∷◌, ◌++◌, refl, sym, ap, ◌∙◌, subst, None, Result, Ok, Err}
 use Rattle.std.specs.Prelude.{OnOk, IfErr}
 use Rattle.snzi_core.specs.declared.unlawful.Unlawful.{Unlawful}
 use Rattle.snzi_core.specs.declared.event.Event.{Event}
 use Rattle.snzi_core.specs.declared.event.Event.TheVariants.{Load, FastAdd, RootAdd, ChildAdd, Leave, StripeAdd, Split, Join}
 use Rattle.snzi_core.specs.State.{State, node_of, SameShape}
 use Rattle.snzi_core.specs.Lawful.{refusal, is_zero, passes_up}
-use Rattle.snzi_core.specs.Effect.{after, arrived, descended, departed, ascended, Runs, Refuses}
+use Rattle.snzi_core.specs.Effect.{after, Runs, Refuses}
 use Rattle.snzi_core.specs.Kept.{IsCore}
 use Rattle.snzi_core.proofs.Ready.{ready_fast, ready_root, ready_first, ready_child, ready_last, ready_leave, ready_stripe}
 use Rattle.snzi_core.proofs.Splitting.{split_lawful, split_core}

@@ -1,13 +1,11 @@
 -- What an event without a refusal tells: each test of its line fails.
-use Rattle.std.proofs.Common.{◌≡◌, ◌≢◌, ℕ, ◌+◌, ◌-◌, ◌*◌, ◌/◌, ◌^◌, ◌<◌, ◌≤◌, Bool, true, false, not, ◌&&◌, ◌||◌, cond, List, refl, sym, ap, ◌∙◌, arith, true≢false, Option, Some, None, ltb-true, leb-true}
-use Rattle.std.specs.Prelude.{slice_index, nat_eq, nat_lt, nat_le}
-use Rattle.std.specs.List.{list_all}
+use Rattle.std.proofs.Common.{◌≡◌, ℕ, Bool, true, false, not, ◌&&◌, ◌||◌, refl, sym, true≢false, Option, None}
+use Rattle.std.specs.Prelude.{nat_eq, nat_lt}
 use Rattle.snzi_core.specs.declared.event.At.{At}
-use Rattle.snzi_core.specs.declared.event.Token.{Token}
-use Rattle.snzi_core.specs.declared.event.Event.TheVariants.{Load, FastAdd, RootAdd, ChildAdd, Leave, StripeAdd, Split, Join}
+use Rattle.snzi_core.specs.declared.event.Event.TheVariants.{FastAdd, RootAdd, ChildAdd, Leave, StripeAdd, Join}
 use Rattle.snzi_core.specs.declared.unlawful.Unlawful.{Unlawful}
 use Rattle.snzi_core.specs.State.{State, hand_of, node_of, parent_of, root_of}
-use Rattle.snzi_core.specs.Lawful.{refuse, refusal, has_node, has_stripe, has_token, is_live, is_zero, is_full, lacks, passes_up, main_has, is_crowded, helps, some_word, overflows, stays}
+use Rattle.snzi_core.specs.Lawful.{refuse, refusal, has_node, has_stripe, is_live, is_zero, is_full, lacks, passes_up, helps, some_word, overflows, stays}
 
 pub refuse_none : (t : Bool) (u : Unlawful) (rest : Option Unlawful) → refuse t u rest ≡ None → (t ≡ false) × (rest ≡ None)
 refuse_none true u rest e = absurd (cc)

@@ -1,15 +1,15 @@
 -- One main hand and the helpers that it counts, through each kind of step.
-use Rattle.std.proofs.Common.{◌≡◌, ◌≢◌, ◌⊎◌, ℕ, zero, suc, ◌+◌, ◌-◌, ◌*◌, ◌%◌, ◌^◌, ◌<◌, ◌≤◌, List, [], ◌∷◌, ◌++◌, length, set, sym, refl, ap, ◌∙◌, subst, inl, inr, ⊎_elim, arith}
+use Rattle.std.proofs.Common.{◌≡◌, ◌≢◌, ℕ, zero, suc, ◌+◌, ◌*◌, ◌<◌, ◌≤◌, List, [], ◌∷◌, ◌++◌, set, sym, refl, ap, ◌∙◌, subst, arith}
 use Rattle.std.specs.Prelude.{slice_index}
 use mathlib.Core.Option.{some, some-injective, some-ne-none}
 use lib.ListN.{get_elem?}
 use Rattle.snzi_core.specs.declared.holding.Holding.{Holding}
 use Rattle.snzi_core.specs.declared.holding.Role.{Role}
 use Rattle.snzi_core.specs.declared.holding.Role.TheVariants.{Main, Helper, Spent}
-use Rattle.snzi_core.specs.Holding.{tokens_at, amount_at, held, merged, added, empty, main_weight, helper_weight, out}
+use Rattle.snzi_core.specs.Holding.{tokens_at, amount_at, main_weight, helper_weight, out}
 use Rattle.snzi_core.specs.Shape.{Line, inner, leaf, stripe}
-use Rattle.snzi_core.specs.Balance.{total, up, Stands, Balanced, mains, helpers, outs, Each, Within, Mustered, Ruled}
-use Rattle.snzi_core.proofs.Lists.{total_set, total_snoc, total_at, at_within}
+use Rattle.snzi_core.specs.Balance.{total, up, Stands, mains, helpers, outs, Each, Within, Mustered, Ruled}
+use Rattle.snzi_core.proofs.Lists.{total_set, total_at}
 
 module _ (P : Holding → Type 0) where
   pub each_set : (l : List Holding) (id : ℕ) (w : Holding) → Each P l → P w → Each P (set l id w)

@@ -1,6 +1,5 @@
 -- A split and a join keep the rule.
-use Rattle.std.proofs.Common.{◌≡◌, ◌≢◌, ◌⊎◌, ℕ, zero, suc, ◌+◌, ◌-◌, ◌*◌, ◌%◌, ◌^◌, ◌<◌, ◌≤◌, List, [], ◌∷◌, ◌++◌, length, set, sym, refl, ap, ◌∙◌, subst, arith}
-use Rattle.std.proofs.Math.Nat.{add-mod-mod}
+use Rattle.std.proofs.Common.{◌≡◌, ℕ, ◌+◌, ◌-◌, ◌%◌, ◌^◌, ◌<◌, ◌≤◌, List, [], ◌∷◌, ◌++◌, set, sym, refl, ap, ◌∙◌, arith}
 use Rattle.std.specs.Prelude.{slice_index}
 use mathlib.Core.Option.{some}
 use lib.ListN.{get_elem?}
@@ -10,8 +9,8 @@ use Rattle.snzi_core.specs.declared.holding.Role.TheVariants.{Main, Helper, Spen
 use Rattle.snzi_core.specs.Holding.{tokens_at, amount_at, empty, main_weight, helper_weight, out, one_out, one_back}
 use Rattle.snzi_core.specs.Changes.{Parts, Unites}
 use Rattle.snzi_core.specs.Shape.{Line, Family}
-use Rattle.snzi_core.specs.Balance.{total, Balanced, mains, helpers, outs, Each, Within, Mustered, Ruled}
-use Rattle.snzi_core.proofs.Lists.{total_set, total_snoc, total_at}
+use Rattle.snzi_core.specs.Balance.{total, Balanced, mains, helpers, outs, Within, Mustered, Ruled}
+use Rattle.snzi_core.proofs.Lists.{total_set, total_snoc}
 use Rattle.snzi_core.proofs.OneWord.{resum_law}
 use Rattle.snzi_core.proofs.Muster.{each_set, each_at, each_snoc, sole, no_main_no_out}
 

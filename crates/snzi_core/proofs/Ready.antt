@@ -1,12 +1,12 @@
 -- A lawful event finds what its step asks, and leaves a core.
-use Rattle.std.proofs.Common.{◌≡◌, ◌≢◌, ℕ, zero, suc, ◌+◌, ◌-◌, ◌*◌, ◌/◌, ◌%◌, ◌^◌, ◌<◌, ◌≤◌, Bool, true, false, not, ◌&&◌, List, length, refl, sym, ap, ◌∙◌, subst, arith, true≢false, ltb-true, Option, None, eqb-true, eq-eqb}
+use Rattle.std.proofs.Common.{◌≡◌, ◌≢◌, ℕ, zero, suc, ◌+◌, ◌-◌, ◌/◌, ◌<◌, Bool, true, false, not, ◌&&◌, length, refl, sym, ◌∙◌, subst, arith, true≢false, ltb-true, None, eqb-true, eq-eqb}
 use Rattle.std.specs.Prelude.{slice_index, nat_eq, nat_lt, nat_le}
 use Rattle.snzi_core.specs.declared.event.At.{At}
 use Rattle.snzi_core.specs.declared.event.Event.TheVariants.{FastAdd, RootAdd, ChildAdd, Leave, StripeAdd}
 use Rattle.snzi_core.specs.Holding.{tokens_at}
-use Rattle.snzi_core.specs.Shape.{stripe, leaves, node_word}
+use Rattle.snzi_core.specs.Shape.{leaves, node_word}
 use Rattle.snzi_core.specs.State.{State, span, hand_of, node_of, parent_of, root_of, stripe_of, kind_of, above}
-use Rattle.snzi_core.specs.Lawful.{refusal, has_node, is_live, is_zero, is_full, lacks, passes_up}
+use Rattle.snzi_core.specs.Lawful.{refusal, is_live, is_zero, is_full, lacks, passes_up}
 use Rattle.snzi_core.specs.Effect.{arrived, descended, departed, ascended, summed}
 use Rattle.snzi_core.specs.Kept.{IsCore}
 use Rattle.snzi_core.proofs.Shapes.{is_root, parent_is, has_parent}

@@ -1,35 +1,32 @@
 -- A core after a split.
-use Rattle.std.proofs.Common.{◌≡◌, ◌≢◌, ℕ, zero, suc, ◌+◌, ◌-◌, ◌*◌, ◌/◌, ◌%◌, ◌^◌, ◌<◌, ◌≤◌, Bool, true, false, not, ◌&&◌, ◌||◌, cond, List, [], ◌∷◌, ◌++◌, map, length, set, get_or, replicate, refl, sym, ap, ◌∙◌, subst, arith, true≢false, length-set, length-append, length-take-le, take, Option, None, leb-true, ltb-true, eq-eqb, ne_eqb}
+use Rattle.std.proofs.Common.{◌≡◌, ℕ, zero, suc, ◌+◌, ◌<◌, ◌≤◌, Bool, true, false, cond, List, [], ◌∷◌, ◌++◌, length, set, get_or, replicate, refl, sym, ap, ◌∙◌, subst, arith, true≢false, length-set, length-append, length-take-le, take, None, leb-true, ltb-true, eq-eqb, ne_eqb}
 use Rattle.std.proofs.lemmas.List.{length-replicate}
 use Rattle.std.proofs.lemmas.List.FromFn.{get_or-map-range_with_len, length-map-range_with_len}
 use Rattle.std.proofs.lemmas.List.Sums.{sum_by-cons, sum_by_more, count_by-le-length}
 use Rattle.std.proofs.lemmas.Grind.{same_number_lists}
 use Rattle.std.specs.Prelude.{slice_index, nat_eq, nat_lt, nat_le}
-use Rattle.std.specs.List.{list_all, range_with_len}
+use Rattle.std.specs.List.{list_all}
 use mathlib.Core.Logic.{dite}
 use native.Mathlib.Decide.{ℕ_discrete, dec_le}
-use mathlib.Core.Option.{some}
-use lib.ListN.{get_elem?}
 use Rattle.snzi_core.specs.declared.event.Token.{Token}
 use Rattle.snzi_core.specs.declared.holding.Holding.{Holding}
 use Rattle.snzi_core.specs.declared.holding.Role.{Role}
 use Rattle.snzi_core.specs.declared.holding.Role.TheVariants.{Main, Helper, Spent}
-use Rattle.snzi_core.specs.declared.unlawful.Unlawful.{Unlawful}
-use Rattle.snzi_core.specs.Holding.{empty, main_weight, out, tokens_at, amount_at, keeper, helper_with, without, put, gain}
+use Rattle.snzi_core.specs.Holding.{empty, main_weight, out, tokens_at, keeper, helper_with, put, gain}
 use Rattle.snzi_core.specs.Shape.{leaves}
 use Rattle.snzi_core.specs.Changes.{Parts}
-use Rattle.snzi_core.specs.Balance.{Each}
 use Rattle.snzi_core.specs.State.{State, hand_of, kind_of, above, span, token_of, fresh}
 use Rattle.snzi_core.specs.Lawful.{lives, has_token, count_at, main_covers, main_has, is_crowded, refuses_split}
 use Rattle.snzi_core.specs.Effect.{counts, regrouped, split_off}
 use Rattle.snzi_core.specs.Kept.{HasTables, IsCore}
-use Rattle.snzi_core.proofs.Lists.{at_without, at_put_same, at_put_else, put_length}
+use Rattle.snzi_core.proofs.Lists.{at_put_same, at_put_else, put_length}
 use Rattle.snzi_core.proofs.Rewriting.{length_without}
 use Rattle.snzi_core.proofs.Presence.{past_end}
 use Rattle.snzi_core.proofs.Shapes.{is_family}
 use Rattle.snzi_core.proofs.Muster.{each_set, each_at, each_snoc}
 use Rattle.snzi_core.proofs.Passing.{split_law, one_out_main}
 use Rattle.snzi_core.proofs.Start.{zeros}
+use Rattle.snzi_core.proofs.Hands.{parts}
 use Rattle.snzi_core.proofs.Stepped.{live_at, shape_of}
 use Rattle.snzi_core.proofs.Lawfulness.{refuse_none, not_false, both_true, neither}
 
@@ -85,8 +82,8 @@ module _ (k : State) (share : List Token) where
     main : Holding
     main = hand_of k 0
 
-    parts : Parts (hand_of k 0) (keeper (hand_of k 0) (counts k share)) (helper_with (counts k share) (replicate (length k.words) 0))
-    parts = ((λ i. let a = at_without (hand_of k 0).tokens (counts k share) i in let b = fits has i in omega arith), refl, (λ i. zeros (length k.words) i), c.main, refl, refl)
+    shared : Parts (hand_of k 0) (keeper (hand_of k 0) (counts k share)) (helper_with (counts k share) (replicate (length k.words) 0))
+    shared = parts (hand_of k 0) (counts k share) (replicate (length k.words) 0) c.main (fits has) (zeros (length k.words))
 
     keeper_tables : HasTables (length k.words) (keeper (hand_of k 0) (counts k share))
     keeper_tables _ = let t = each_at (HasTables (length k.words)) k.hands 0 (hand_of k 0) c.tables (live_at k.hands 0 (main_live k c)) (main_live k c) in (length_without (hand_of k 0).tokens (counts k share) ∙ t.0, t.1)
@@ -102,7 +99,7 @@ module _ (k : State) (share : List Token) where
       main = ap (λ (h : Holding). main_weight h.role) (first_is k.hands (keeper (hand_of k 0) (counts k share)) (helper_with (counts k share) (replicate (length k.words) 0)) (main_live k c)) ∙ one_out_main (hand_of k 0).role ∙ c.main;
       made = let a = length-append (set k.hands 0 (keeper (hand_of k 0) (counts k share))) (helper_with (counts k share) (replicate (length k.words) 0) ∷ []) in let b = length-set k.hands 0 (keeper (hand_of k 0) (counts k share)) in let r = (split_room k crowded).1 in omega arith;
       tables = each_snoc (HasTables (length k.words)) (set k.hands 0 (keeper (hand_of k 0) (counts k share))) (helper_with (counts k share) (replicate (length k.words) 0)) (each_set (HasTables (length k.words)) k.hands 0 (keeper (hand_of k 0) (counts k share)) c.tables keeper_tables) (λ _. (length_counts, length-replicate (length k.words) 0));
-      rule = split_law (kind_of k) (above k) (is_family k.nodes (span k) (shape_of k c)) k.words k.hands 0 (hand_of k 0) (live_at k.hands 0 (main_live k c)) (keeper (hand_of k 0) (counts k share)) (helper_with (counts k share) (replicate (length k.words) 0)) parts (split_room k crowded).0 c.rule;
+      rule = split_law (kind_of k) (above k) (is_family k.nodes (span k) (shape_of k c)) k.words k.hands 0 (hand_of k 0) (live_at k.hands 0 (main_live k c)) (keeper (hand_of k 0) (counts k share)) (helper_with (counts k share) (replicate (length k.words) 0)) shared (split_room k crowded).0 c.rule;
     }
 
 -- the tokens of the share so far, and one more

@@ -1,12 +1,12 @@
 -- A new core.
-use Rattle.std.proofs.Common.{◌≡◌, ◌≢◌, ◌⊎◌, ℕ, zero, suc, ◌+◌, ◌*◌, ◌%◌, ◌^◌, ◌<◌, ◌≤◌, List, [], ◌∷◌, length, replicate, refl, sym, ap, ◌∙◌, subst, arith}
+use Rattle.std.proofs.Common.{◌≡◌, ◌≢◌, ◌⊎◌, ℕ, zero, suc, ◌%◌, List, [], ◌∷◌, replicate, refl, sym, ap, subst, arith}
 use Rattle.std.proofs.lemmas.List.{length-replicate}
 use Rattle.std.specs.Prelude.{slice_index}
 use Rattle.snzi_core.specs.declared.holding.Role.TheVariants.{Main, Spent}
 use Rattle.snzi_core.specs.declared.holding.Holding.{Holding}
-use Rattle.snzi_core.specs.Shape.{Line, inner, leaf, stripe, line, leaves}
+use Rattle.snzi_core.specs.Shape.{Line, inner, leaf, stripe}
 use Rattle.snzi_core.specs.Balance.{Stands, up}
-use Rattle.snzi_core.specs.State.{State, start, fresh, size, kind_of}
+use Rattle.snzi_core.specs.State.{start, fresh, size, kind_of}
 use Rattle.snzi_core.specs.Kept.{IsCore}
 
 pub zeros : (n i : ℕ) → slice_index (replicate n 0) i ≡ 0

@@ -1,5 +1,5 @@
 -- A core after a step of one hand at one word.
-use Rattle.std.proofs.Common.{◌≡◌, ◌≢◌, ℕ, zero, suc, ◌+◌, ◌-◌, ◌*◌, ◌/◌, ◌%◌, ◌^◌, ◌<◌, ◌≤◌, Bool, true, false, List, [], ◌∷◌, length, set, get_or, refl, sym, ap, ◌∙◌, subst, arith, true≢false, length-set}
+use Rattle.std.proofs.Common.{◌≡◌, ◌≢◌, ℕ, zero, suc, ◌+◌, ◌-◌, ◌%◌, ◌^◌, ◌<◌, true, List, [], ◌∷◌, length, set, get_or, refl, sym, ap, ◌∙◌, subst, arith, true≢false, length-set}
 use Rattle.std.specs.Prelude.{slice_index}
 use mathlib.Core.Option.{some}
 use lib.ListN.{get_elem?}
@@ -8,9 +8,9 @@ use Rattle.snzi_core.specs.declared.holding.Role.{Role}
 use Rattle.snzi_core.specs.declared.holding.Role.TheVariants.{Spent}
 use Rattle.snzi_core.specs.Holding.{empty, main_weight, tokens_at, amount_at, put, gain, lose, raise}
 use Rattle.snzi_core.specs.Changes.{Moves}
-use Rattle.snzi_core.specs.Shape.{Line, stripe, IsShape, Family, leaves}
-use Rattle.snzi_core.specs.Balance.{Balanced, Mustered, Ruled, Each}
-use Rattle.snzi_core.specs.State.{State, hand_of, kind_of, above, span, IsRuled}
+use Rattle.snzi_core.specs.Shape.{stripe, IsShape, Family}
+use Rattle.snzi_core.specs.Balance.{Ruled, Each}
+use Rattle.snzi_core.specs.State.{State, hand_of, kind_of, above, span}
 use Rattle.snzi_core.specs.Lawful.{lives, is_live}
 use Rattle.snzi_core.specs.Effect.{stepped, arrived, descended, departed, ascended, summed}
 use Rattle.snzi_core.specs.Kept.{HasTables, IsCore}

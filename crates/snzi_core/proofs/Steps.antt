@@ -1,5 +1,5 @@
 -- An event at a node keeps the balance, by what it changes in the hand.
-use Rattle.std.proofs.Common.{◌≡◌, ◌≢◌, ℕ, zero, suc, ◌+◌, ◌-◌, ◌*◌, ◌%◌, ◌^◌, ◌<◌, ◌≤◌, List, length, set, refl, sym, ap, ◌∙◌, subst, arith}
+use Rattle.std.proofs.Common.{◌≡◌, ◌≢◌, ℕ, zero, suc, ◌+◌, ◌-◌, ◌^◌, ◌<◌, ◌≤◌, List, length, set, refl, sym, ap, ◌∙◌, subst, arith}
 use Rattle.std.specs.Prelude.{slice_index}
 use mathlib.Core.Logic.{dite}
 use native.Mathlib.Decide.{ℕ_discrete}
@@ -7,10 +7,10 @@ use mathlib.Core.Option.{some}
 use lib.ListN.{get_elem?}
 use Rattle.snzi_core.specs.declared.holding.Holding.{Holding}
 use Rattle.snzi_core.specs.declared.holding.Role.TheVariants.{Spent}
-use Rattle.snzi_core.specs.Holding.{tokens_at, amount_at}
+use Rattle.snzi_core.specs.Holding.{tokens_at}
 use Rattle.snzi_core.specs.Changes.{Gains, Loses, Moves, Raises}
 use Rattle.snzi_core.specs.Shape.{Line, inner, leaf, stripe, Family}
-use Rattle.snzi_core.specs.Balance.{total, up, Stands, Balanced, Within, Mustered}
+use Rattle.snzi_core.specs.Balance.{up, Stands, Balanced, Within, Mustered}
 use Rattle.snzi_core.proofs.Lists.{total_at}
 use Rattle.snzi_core.proofs.OneWord.{node_law}
 use Rattle.snzi_core.proofs.Muster.{muster_kept, each_at}

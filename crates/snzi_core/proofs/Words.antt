@@ -1,11 +1,10 @@
 -- What a core's words tell of its hands.
-use Rattle.std.proofs.Common.{◌≡◌, ◌≢◌, ◌↔◌, IsTrue, ℕ, zero, suc, ◌+◌, ◌-◌, ◌*◌, ◌/◌, ◌%◌, ◌^◌, ◌<◌, ◌≤◌, Bool, true, false, List, length, refl, sym, ap, ◌∙◌, subst, arith, lt-ltb, ltb-true, mul-le-mul_right, add-one}
-use Rattle.std.proofs.Math.Nat.{add-mod-mod, mod-add-mod}
+use Rattle.std.proofs.Common.{◌≡◌, ◌≢◌, ◌↔◌, IsTrue, ℕ, ◌+◌, ◌*◌, ◌%◌, ◌^◌, ◌<◌, ◌≤◌, length, refl, ◌∙◌, subst, arith, lt-ltb, ltb-true, mul-le-mul_right, add-one}
 use Rattle.std.specs.Prelude.{slice_index, nat_lt}
 use Rattle.snzi_core.specs.Holding.{amount_at}
 use Rattle.snzi_core.specs.Shape.{Line, stripe, leaves, node_word}
 use Rattle.snzi_core.specs.Balance.{total, Present, Stands}
-use Rattle.snzi_core.specs.State.{State, span, kind_of, above, stripe_of, size}
+use Rattle.snzi_core.specs.State.{State, span, kind_of, above, stripe_of}
 use Rattle.snzi_core.specs.Effect.{slot_amounts}
 use Rattle.snzi_core.specs.Kept.{IsCore}
 use Rattle.snzi_core.proofs.Shapes.{is_node, is_stripe, is_family}

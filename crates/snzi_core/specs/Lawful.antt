@@ -1,5 +1,5 @@
 -- Which events are lawful, and which refusal the others meet first.
-use Rattle.std.specs.Prelude.{◌≡◌, ℕ, ◌+◌, ◌-◌, ◌*◌, ◌/◌, ◌^◌, List, [], ◌∷◌, length, slice_index, Bool, true, false, not, ◌&&◌, ◌||◌, cond, nat_eq, nat_lt, nat_le, Option, Some, None, count_by}
+use Rattle.std.specs.Prelude.{ℕ, ◌+◌, ◌-◌, ◌^◌, List, length, slice_index, Bool, true, false, not, ◌&&◌, ◌||◌, cond, nat_eq, nat_lt, nat_le, Option, Some, None, count_by}
 use Rattle.std.specs.List.{list_all, list_any, range_with_len}
 use Rattle.snzi_core.specs.declared.event.At.{At}
 use Rattle.snzi_core.specs.declared.event.Token.{Token}
@@ -8,7 +8,7 @@ use Rattle.snzi_core.specs.declared.event.Event.TheVariants.{Load, FastAdd, Root
 use Rattle.snzi_core.specs.declared.holding.Role.{Role}
 use Rattle.snzi_core.specs.declared.holding.Role.TheVariants.{Main, Helper, Spent}
 use Rattle.snzi_core.specs.declared.unlawful.Unlawful.{Unlawful}
-use Rattle.snzi_core.specs.declared.unlawful.Unlawful.TheVariants.{NoHand, NoToken, Cap, StillHolding, OutOfMemory, NoNode, ZeroNode}
+use Rattle.snzi_core.specs.declared.unlawful.Unlawful.TheVariants.{NoHand, NoToken, Cap, StillHolding, NoNode, ZeroNode}
 use Rattle.snzi_core.specs.Shape.{Line, inner, leaf, stripe, leaves}
 use Rattle.snzi_core.specs.Holding.{tokens_at, out}
 use Rattle.snzi_core.specs.State.{State, hand_of, node_of, parent_of, root_of, token_of, span, kind_of}

@@ -12,7 +12,6 @@ use Rattle.snzi_core.specs.Shape.{Line, stripe, line, parent, IsShape}
 use Rattle.snzi_core.specs.Balance.{Balanced, Mustered, Ruled, Present, Covers}
 use Rattle.snzi_core.specs.State.{State, start, IsRuled}
 use Rattle.snzi_core.specs.Effect.{Runs}
-use Rattle.snzi_core.specs.Kept.{IsCore}
 
 -- a law of one step, for each shape of w nodes among s words, and each hand id with h that acts on the word j
 abbrev pub OfAHand : ((w s : ℕ) (words : List ℕ) (hands : List Holding) (id j : ℕ) (h : Holding) → Type 0) → Type 0

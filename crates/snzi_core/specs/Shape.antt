@@ -1,5 +1,5 @@
 -- A slot's words: nodes in heap shape, then stripes.
-use Rattle.std.specs.Prelude.{◌≡◌, ◌≢◌, ℕ, ◌+◌, ◌-◌, ◌*◌, ◌/◌, ◌%◌, ◌<◌, ◌⊎◌, Bool, cond, nat_lt}
+use Rattle.std.specs.Prelude.{◌≡◌, ◌≢◌, ℕ, ◌+◌, ◌-◌, ◌*◌, ◌/◌, ◌%◌, ◌<◌, ◌⊎◌, cond, nat_lt}
 
 -- what a word is: a node with its two children, a node with none, or a stripe
 pub data Line : Type 0 where

@@ -1,10 +1,10 @@
 -- A core as contracts see it: its words, and its hands by their numbers.
-use Rattle.std.specs.Prelude.{◌≡◌, ℕ, ◌+◌, ◌-◌, ◌*◌, ◌/◌, ◌<◌, ◌≤◌, ◌^◌, List, [], ◌∷◌, length, replicate, slice_index, slice_index_or, Bool, true, false}
+use Rattle.std.specs.Prelude.{◌≡◌, ℕ, ◌+◌, ◌-◌, ◌*◌, ◌/◌, List, [], ◌∷◌, replicate, slice_index_or}
 use Rattle.snzi_core.specs.declared.event.At.{At}
 use Rattle.snzi_core.specs.declared.event.Token.{Token}
 use Rattle.snzi_core.specs.declared.holding.Holding.{Holding}
 use Rattle.snzi_core.specs.declared.holding.Role.{Role}
-use Rattle.snzi_core.specs.declared.holding.Role.TheVariants.{Main, Helper, Spent}
+use Rattle.snzi_core.specs.declared.holding.Role.TheVariants.{Main, Spent}
 use Rattle.snzi_core.specs.Shape.{Line, line, parent, leaves, node_word, stripe_word, leaf_word}
 use Rattle.snzi_core.specs.Holding.{empty}
 use Rattle.snzi_core.specs.Balance.{Ruled}

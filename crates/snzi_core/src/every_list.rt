@@ -1,4 +1,4 @@
-//! Every list of three events that two hands can try on one slot of three nodes.
+//! Every list of four events that two hands can try on one slot of three nodes.
 ghost use Rattle.std.specs.Prelude.{◌≡◌};
 
 use crate::{At, Core, Event, Token};
@@ -156,10 +156,10 @@ fn keeps_the_balance(core: &mut Core<Global>, event: &Event<'_>) -> bool
 }
 
 #[test]
-fn every_list_of_three_events_keeps_the_balance(rt: HostRuntime) -> Result<(), Fail> {
+fn every_list_of_four_events_keeps_the_balance(rt: HostRuntime) -> Result<(), Fail> {
     let left = [Token { slot: 0, leaf: 0 }];
     let right = [Token { slot: 0, leaf: 1 }];
-    for number in 0..IN_ALL * IN_ALL * IN_ALL {
+    for number in 0..IN_ALL * IN_ALL * IN_ALL * IN_ALL {
         let mut core = Core::new(rt.alloc(), 1, 3)?;
         let split = Event::Split { share: &[] };
         assert!(rt; keeps_the_balance(&mut core, &split));
@@ -173,10 +173,15 @@ fn every_list_of_three_events_keeps_the_balance(rt: HostRuntime) -> Result<(), F
             keeps_the_balance(&mut core, &second),
             "list {number}, event 2"
         );
-        let third = event(number / IN_ALL / IN_ALL, &[], &left, &right);
+        let third = event(number / (IN_ALL * IN_ALL) % IN_ALL, &[], &left, &right);
         assert!(rt;
             keeps_the_balance(&mut core, &third),
             "list {number}, event 3"
+        );
+        let fourth = event(number / (IN_ALL * IN_ALL * IN_ALL), &[], &left, &right);
+        assert!(rt;
+            keeps_the_balance(&mut core, &fourth),
+            "list {number}, event 4"
         );
     }
     Ok(())

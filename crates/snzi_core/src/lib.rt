@@ -27,6 +27,7 @@
 #![tactic(auto)]
 
 mod changes;
+mod checks;
 mod event;
 #[cfg(test)]
 mod every_list;

@@ -1,7 +1,6 @@
-use Rattle.std.proofs.Common.{◌≡◌, ◌≢◌, ◌⊎◌, ℕ, ◌+◌, ◌-◌, ◌%◌, ◌^◌, ◌<◌, ◌≤◌, List, length, set, sym, refl, ap, ◌∙◌, subst, inl, inr, ⊎_elim, arith}
+use Rattle.std.proofs.Common.{◌≡◌, ◌≢◌, ⊎_elim, arith}
 use Rattle.snzi_core.specs.Shape.{line, parent}
 use Rattle.snzi_core.proofs.Shapes.{is_family}
-use Rattle.snzi_core.specs.declared.holding.Holding.{Holding}
 use Rattle.std.specs.Prelude.{slice_index}
 use Rattle.snzi_core.specs.Changes.{Gains, Moves}
 use Rattle.snzi_core.proofs.Steps.{add_balance, first_balance, gain_muster, move_muster}

@@ -1,6 +1,4 @@
-use Rattle.std.proofs.Common.{◌≡◌, ◌≢◌, ◌⊎◌, ℕ, ◌+◌, ◌-◌, ◌%◌, ◌^◌, ◌<◌, ◌≤◌, List, length, set, sym, refl, ap, ◌∙◌, subst, inl, inr, ⊎_elim, arith}
 use Rattle.snzi_core.specs.State.{start}
-use Rattle.snzi_core.proofs.Shapes.{is_family}
 use Rattle.snzi_core.proofs.Keeps.{runs_core}
 use Rattle.snzi_core.proofs.Start.{start_core, odd_nodes}
 use Rattle.snzi_core.proofs.laws.lists_keep.Goals as goal

@@ -1,6 +1,5 @@
-use Rattle.std.proofs.Common.{◌≡◌, ◌≢◌, ◌⊎◌, ℕ, ◌+◌, ◌-◌, ◌%◌, ◌^◌, ◌<◌, ◌≤◌, List, length, set, sym, refl, ap, ◌∙◌, subst, inl, inr, ⊎_elim, arith}
-use Rattle.snzi_core.specs.Shape.{line, parent}
-use Rattle.snzi_core.proofs.Shapes.{is_family}
+use Rattle.std.proofs.Common.{ℕ, List, sym, subst}
+use Rattle.snzi_core.specs.Shape.{line}
 use Rattle.snzi_core.proofs.Lists.{set_again}
 use Rattle.std.proofs.lemmas.List.{set-get_or}
 use Rattle.snzi_core.specs.declared.holding.Holding.{Holding}

@@ -1,4 +1,4 @@
-use Rattle.std.proofs.Common.{◌≤◌, length, arith}
+use Rattle.std.proofs.Common.{arith}
 use Rattle.snzi_core.proofs.Rewriting.{is_without}
 use Rattle.snzi_core.proofs.table.subtract_each.Goals as goal
 

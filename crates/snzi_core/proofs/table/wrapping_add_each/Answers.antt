@@ -1,4 +1,4 @@
-use Rattle.std.proofs.Common.{◌≤◌, length, arith}
+use Rattle.std.proofs.Common.{arith}
 use Rattle.snzi_core.proofs.Rewriting.{is_wrapped}
 use Rattle.snzi_core.proofs.table.wrapping_add_each.Goals as goal
 

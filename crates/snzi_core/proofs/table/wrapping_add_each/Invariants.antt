@@ -1,4 +1,4 @@
-use Rattle.std.proofs.Common.{ℕ, ◌+◌, ◌-◌, ◌%◌, ◌^◌}
+use Rattle.std.proofs.Common.{ℕ, ◌+◌, ◌%◌, ◌^◌}
 use Rattle.snzi_core.proofs.Rewriting.{IsRewritten}
 use Rattle.snzi_core.proofs.table.wrapping_add_each.Given as goal
 

@@ -1,4 +1,4 @@
-use Rattle.std.proofs.Common.{◌+◌, ◌-◌, ◌<◌, length, arith}
+use Rattle.std.proofs.Common.{◌+◌, arith}
 use Rattle.std.specs.Prelude.{slice_index}
 use Rattle.snzi_core.proofs.Lists.{put_length}
 use Rattle.snzi_core.proofs.Hands.{gain_else}

@@ -1,5 +1,4 @@
-use Rattle.std.proofs.Common.{◌≡◌, ℕ, Bool, true, false, sym, ap, ◌∙◌, subst}
-use Rattle.snzi_core.specs.State.{State, parent_of}
+use Rattle.std.proofs.Common.{ℕ, sym, subst}
 use Rattle.snzi_core.specs.Kept.{IsCore}
 use Rattle.snzi_core.proofs.Ready.{Arrives, ready_fast}
 use Rattle.snzi_core.proofs.machine.Core.fast_add.Goals as goal

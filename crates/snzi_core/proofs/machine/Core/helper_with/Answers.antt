@@ -1,8 +1,4 @@
-use Rattle.std.proofs.Common.{rules, ◌≡◌, ℕ, ◌<◌, ◌≤◌, List, length, arith, sym, ap, ◌∙◌, subst}
-use Rattle.snzi_core.specs.declared.holding.Holding.{Holding}
-use Rattle.snzi_core.specs.Holding.{helper_with}
-use Rattle.snzi_core.specs.State.{fresh}
-use Rattle.snzi_core.specs.declared.holding.Role.TheVariants.{Helper}
+use Rattle.std.proofs.Common.{rules, arith, ◌∙◌}
 use Rattle.snzi_core.proofs.Splitting.{share_none, share_more, share_room, token_inside}
 use Rattle.snzi_core.proofs.machine.Core.helper_with.Goals as goal
 

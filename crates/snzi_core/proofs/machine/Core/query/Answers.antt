@@ -1,5 +1,4 @@
 use Rattle.std.proofs.Common.{subst}
-use Rattle.snzi_core.specs.State.{State}
 use Rattle.snzi_core.specs.Kept.{IsCore}
 use Rattle.snzi_core.proofs.Words.{query_is}
 use Rattle.snzi_core.proofs.machine.Core.query.Goals as goal

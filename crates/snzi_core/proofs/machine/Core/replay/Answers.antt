@@ -1,4 +1,4 @@
-use Rattle.std.proofs.Common.{◌≡◌, ℕ, ◌+◌, List, take, get_or, sym, subst}
+use Rattle.std.proofs.Common.{List, take, sym, subst}
 use Rattle.std.proofs.lemmas.List.{take_more}
 use Rattle.snzi_core.specs.declared.event.Event.{Event}
 use Rattle.snzi_core.specs.Effect.{Runs}

@@ -1,6 +1,5 @@
-use Rattle.std.proofs.Common.{◌≡◌, ℕ, ◌<◌, ◌≤◌, arith, sym, subst}
+use Rattle.std.proofs.Common.{ℕ, ◌<◌, subst}
 use Rattle.snzi_core.specs.Shape.{leaves}
-use Rattle.snzi_core.specs.State.{State}
 use Rattle.snzi_core.specs.Kept.{IsCore}
 use Rattle.snzi_core.proofs.Words.{sum_more}
 use Rattle.snzi_core.proofs.Stepped.{word_read}
