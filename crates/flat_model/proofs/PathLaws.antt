@@ -10,18 +10,21 @@ use Rattle.std.proofs.lemmas.Cmp.{eq_by_cmp_equiv}
 use Rattle.std.proofs.Math.Seq.{take-append_seam}
 use Rattle.flat_model.specs.Path.{Name, Path, name_cmp, path_cmp, same_name, same_path, at_or_below, strictly_below, HasPrefix, parent}
 
+-- lists in the order of their elements stand in a total order where the elements do
 pub name_cmp-IsTotalOrder : IsTotalOrder name_cmp
 name_cmp-IsTotalOrder = nat_list_cmp_total
 
 pub path_cmp-IsTotalOrder : IsTotalOrder path_cmp
 path_cmp-IsTotalOrder = lists_total nat_list_cmp_total
 
+-- only equal names and paths tie
 pub name_cmp-IsAntisymmetric : IsAntisymmetric name_cmp
 name_cmp-IsAntisymmetric = slice_cmp-IsAntisymmetric nat_cmp-IsAntisymmetric
 
 pub path_cmp-IsAntisymmetric : IsAntisymmetric path_cmp
 path_cmp-IsAntisymmetric = slice_cmp-IsAntisymmetric name_cmp-IsAntisymmetric
 
+-- what the test of a tie says
 equal_by : (o : Ordering) → is_eq o ≡ true → o ≡ Equal
 equal_by Less e = cc
 equal_by Equal e = refl
@@ -31,12 +34,14 @@ equal_by Greater e = cc
 same_is : {K : Type 0} (R : K → K → Ordering) → IsTotalOrder R → IsAntisymmetric R → (x y : K) → (eq_by_cmp R x y ≡ true) ↔ (x ≡ y)
 same_is R o exact x y = (λ h. exact x y (equal_by (R x y) h), λ h. subst (λ z. eq_by_cmp R x z ≡ true) h ((eq_by_cmp_equiv o).refl x))
 
+-- the model's tests of names and of paths are equality
 pub same_name_is : (n m : Name) → (same_name n m ≡ true) ↔ (n ≡ m)
 same_name_is = same_is name_cmp name_cmp-IsTotalOrder name_cmp-IsAntisymmetric
 
 pub same_path_is : (p q : Path) → (same_path p q ≡ true) ↔ (p ≡ q)
 same_path_is = same_is path_cmp path_cmp-IsTotalOrder path_cmp-IsAntisymmetric
 
+-- each name and each path is itself
 pub same_name_itself : (n : Name) → same_name n n ≡ true
 same_name_itself n = (same_name_is n n).1 refl
 
@@ -57,13 +62,16 @@ pub at_or_below-append : (q rest : Path) → at_or_below (q ++ rest) q ≡ true
 at_or_below-append [] rest = refl
 at_or_below-append (m ∷ q) rest = ap (λ b. b && at_or_below (q ++ rest) q) (same_name_itself m) ∙ at_or_below-append q rest
 
+-- the test, and the relation of lists
 pub at_or_below_is : (p q : Path) → (at_or_below p q ≡ true) ↔ HasPrefix p q
 at_or_below_is p q = (splits p q, λ h. subst (λ (x : Path). at_or_below x q ≡ true) (sym h.1) (at_or_below-append q h.0))
 
+-- a group is at or below itself
 pub at_or_below_itself : (p : Path) → at_or_below p p ≡ true
 at_or_below_itself [] = refl
 at_or_below_itself (n ∷ p) = ap (λ b. b && at_or_below p p) (same_name_itself n) ∙ at_or_below_itself p
 
+-- what stands below a group that stands below another stands below that
 pub at_or_below_through : (p q r : Path) → at_or_below p q ≡ true → at_or_below q r ≡ true → at_or_below p r ≡ true
 at_or_below_through p q r h k =
     let a = splits p q h in
@@ -74,6 +82,7 @@ at_or_below_through p q r h k =
 pub at_or_below_take : (p q : Path) → at_or_below p q ≡ true → q ≡ take (length q) p
 at_or_below_take p q h = let a = splits p q h in sym (ap (take (length q)) a.1 ∙ take-append_seam q a.0)
 
+-- a group below another has no fewer names
 pub at_or_below_length : (p q : Path) → at_or_below p q ≡ true → length q ≤ length p
 at_or_below_length p q h = let a = splits p q h in let e = ap length a.1 ∙ length-append q a.0 in omega arith
 
@@ -81,8 +90,15 @@ at_or_below_length p q h = let a = splits p q h in let e = ap length a.1 ∙ len
 pub take_above : (n : ℕ) (p : Path) → at_or_below p (take n p) ≡ true
 take_above n p = (at_or_below_is p (take n p)).1 (drop n p, sym (take-append-drop n p))
 
+-- the parent is a front
 pub parent_above : (p : Path) → at_or_below p (parent p) ≡ true
 parent_above p = take_above (length p - 1) p
+
+-- the parent of a group with one more name
+pub parent-child : (p : Path) (name : Name) → parent (p ++ name ∷ []) ≡ p
+parent-child p name =
+    let e : length (p ++ name ∷ []) - 1 ≡ length p = omega (arith, length-append p (name ∷ [])) in
+    ap (λ n. take n (p ++ name ∷ [])) e ∙ take-append_seam p (name ∷ [])
 
 -- two paths that are at or below each other are one
 pub at_or_below_both : (p q : Path) → at_or_below p q ≡ true → at_or_below q p ≡ true → p ≡ q
@@ -104,6 +120,7 @@ at_or_below_either (n ∷ p) (m ∷ q) (x ∷ r) h k =
       | inr g ↦ inr (ap (λ b. b && at_or_below r q) ((same_name_is x m).1 (sym e)) ∙ g)
     ]
 
+-- both tests of `&&` hold
 strict_by : (b c : Bool) → (b && not c) ≡ true → (b ≡ true) × (c ≡ false)
 strict_by true false e = (refl, refl)
 strict_by true true e = cc

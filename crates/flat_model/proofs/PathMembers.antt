@@ -6,12 +6,14 @@ use Rattle.std.proofs.lemmas.List.Elements.{All-nil, All-cons, All-map, All-weak
 use Rattle.flat_model.specs.Path.{Path, at_or_below, prefixes, upward}
 use Rattle.flat_model.proofs.PathLaws.{at_or_below_is, same_name_itself}
 
+-- the first of a list is among it, and so is what its rest has
 contains_first : {X : Type 0} (x : X) (xs : List X) → Contains (x ∷ xs) x
 contains_first x xs = (0, omega arith, refl)
 
 contains_later : {X : Type 0} (x y : X) (xs : List X) → Contains xs y → Contains (x ∷ xs) y
 contains_later x y xs h = (suc h.0, omega (arith, h.1), h.2)
 
+-- what a list has, its image under f has the image of
 contains_map : {X Y : Type 0} (f : X → Y) (xs : List X) (x : X) → Contains xs x → Contains (map f xs) (f x)
 contains_map f xs x h = (h.0, subst (λ n. h.0 < n) (sym (length-map xs f)) h.1, get_or-map f xs h.0 x (f x) h.1 ∙ ap f h.2)
 
@@ -23,14 +25,17 @@ prefixes_above (n ∷ p) =
     (All-map (λ q. at_or_below (n ∷ p) q ≡ true) (λ q. n ∷ q) (prefixes p)
     (All-weaker (λ q. at_or_below p q ≡ true) (λ q. at_or_below (n ∷ p) (n ∷ q) ≡ true) (λ q h. ap (λ b. b && at_or_below p q) (same_name_itself n) ∙ h) (prefixes p) (prefixes_above p)))
 
+-- the root is the first of them
 root_first : (p : Path) → Contains (prefixes p) []
 root_first [] = contains_first [] []
 root_first (n ∷ p) = contains_first [] (map (λ q. n ∷ q) (prefixes p))
 
+-- q is among the groups on the way to what stands behind q: by its names, one after another
 front_among : (q rest : Path) → Contains (prefixes (q ++ rest)) q
 front_among [] rest = root_first rest
 front_among (m ∷ q) rest = contains_later [] (m ∷ q) (map (λ q. m ∷ q) (prefixes (q ++ rest))) (contains_map (λ q. m ∷ q) (prefixes (q ++ rest)) q (front_among q rest))
 
+-- the groups on the way down
 pub prefixes_are : (p q : Path) → Contains (prefixes p) q ↔ (at_or_below p q ≡ true)
 prefixes_are p q = (
   All-contains (λ q. at_or_below p q ≡ true) (prefixes p) q (prefixes_above p),
@@ -50,6 +55,7 @@ contains_reverse xs x = (
       (length xs - 1 - h.0, omega arith, sym (get_or-reverse xs h.0 x k) ∙ h.2),
 )
 
+-- the same groups on the way up
 pub upward_are : (p q : Path) → Contains (upward p) q ↔ (at_or_below p q ≡ true)
 upward_are p q =
     let r = contains_reverse (prefixes p) q in

@@ -15,9 +15,11 @@ pub refuse_none : {R : Type 0} (t : Bool) (r : R) (rest : Option R) → refuse t
 refuse_none true r rest e = cc
 refuse_none false r rest e = (refl, e)
 
+-- a test that fails refuses nothing
 pub refuse_passed : {R : Type 0} (t : Bool) (r : R) (rest : Option R) → t ≡ false → refuse t r rest ≡ rest
 refuse_passed t r rest e = ap (λ b. refuse b r rest) e
 
+-- of two faults in turn there is none where there is neither
 pub option_or_none : {R : Type 0} (o rest : Option R) → option_or o rest ≡ None → (o ≡ None) × (rest ≡ None)
 option_or_none None rest e = (refl, e)
 option_or_none (Some r) rest e = cc
@@ -25,14 +27,17 @@ option_or_none (Some r) rest e = cc
 pub option_or_passed : {R : Type 0} (o rest : Option R) → o ≡ None → option_or o rest ≡ rest
 option_or_passed o rest e = ap (λ x. option_or x rest) e
 
+-- a place is a fault
 bad_none : (o : Option ℕ) → option_map BadByte o ≡ None → o ≡ None
 bad_none None e = refl
 bad_none (Some at) e = cc
 
+-- an answer without fault is the value
 pub unless_ok : {R X : Type 0} (o : Option R) (x y : X) → unless o x ≡ Ok y → (o ≡ None) × (x ≡ y)
 unless_ok None x y e = (refl, cc)
 unless_ok (Some r) x y e = cc
 
+-- what the tests of numbers say
 not_lt : (a b : ℕ) → nat_lt a b ≡ false → b ≤ a
 not_lt a b e = grind (arith, nat_tests)
 
@@ -47,26 +52,31 @@ eq_no a b h = grind (arith, nat_tests)
 
 -- ---- a name
 
+-- a test that does not fail
 not_not : (b : Bool) → not b ≡ false → b ≡ true
 not_not true e = refl
 not_not false e = cc
 
+-- no bad byte is found: each is a name's
 good_bytes : (here : ℕ) (name : Name) → position_from is_bad_byte here name ≡ None → AllByRecursion (λ b. is_name_byte b ≡ true) name
 good_bytes here [] e = tt
 good_bytes here (b ∷ name) e =
     let p = refuse_none (is_bad_byte b) here (position_from is_bad_byte (here + 1) name) e in
     (not_not (is_name_byte b) p.0, good_bytes (here + 1) name p.1)
 
+-- where each byte is a name's none is found bad
 no_bad : (here : ℕ) (name : Name) → AllByRecursion (λ b. is_name_byte b ≡ true) name → position_from is_bad_byte here name ≡ None
 no_bad here [] h = refl
 no_bad here (b ∷ name) h = ap (λ t. cond (not t) (Some here) (position_from is_bad_byte (here + 1) name)) h.0 ∙ no_bad (here + 1) name h.1
 
+-- the tests of a name behind that of its bytes
 abbrev last_tests : Name → Option PathFault
 last_tests name = refuse (is_dots name) DotName (refuse (is_reserved name) Reserved None)
 
 abbrev late_tests : Name → Option PathFault
 late_tests name = refuse (nat_lt name_max (length name)) NameTooLong (last_tests name)
 
+-- a name without fault is one of the grammar
 pub sound_name : (here : ℕ) (name : Name) → name_fault here name ≡ None → IsName name
 unfolding name_fault
 sound_name here name e =
@@ -77,6 +87,7 @@ sound_name here name e =
     let f = refuse_none (is_reserved name) Reserved None d.1 in
     record { not_empty = a.0; bytes = good_bytes here name (bad_none (position_from is_bad_byte here name) b.0); short = not_lt name_max (length name) c.0; no_dots = d.0; free = f.0 }
 
+-- a name of the grammar has no fault
 pub full_name : (here : ℕ) (name : Name) → IsName name → name_fault here name ≡ None
 unfolding name_fault
 full_name here name h =
@@ -88,6 +99,7 @@ full_name here name h =
 
 -- ---- the names of a text
 
+-- the same for the names of a text, each behind those before it
 pub sound_names : (count here : ℕ) (names : List Name) → count ≤ depth_max → names_fault count here names ≡ None → AllByRecursion IsName names × (count + length names ≤ depth_max)
 sound_names count here [] b e = (tt, omega arith)
 sound_names count here (name ∷ names) b e =
@@ -106,13 +118,16 @@ full_names count here (name ∷ names) h b =
 
 -- ---- a text as its names
 
+-- a slash is one byte
 slash_is : (b : ℕ) → is_slash b ≡ true → b ≡ 47
 slash_is b e = grind (arith, nat_tests)
 
+-- a byte put before the first part stands behind the first slash
 spelled_onto : (b : ℕ) (parts : List Name) (xs : List ℕ) → spelled parts ≡ 47 ∷ xs → spelled (onto_first b parts) ≡ 47 ∷ b ∷ xs
 spelled_onto b [] xs e = cc
 spelled_onto b (part ∷ parts) xs e = cc
 
+-- one byte more: a slash begins a part, another byte goes onto the first
 glued_by : (b : ℕ) (xs : List ℕ) (t : Bool) → is_slash b ≡ t → spelled (slice_split is_slash xs) ≡ 47 ∷ xs → spelled (cond t ([] ∷ slice_split is_slash xs) (onto_first b (slice_split is_slash xs))) ≡ 47 ∷ b ∷ xs
 glued_by b xs true e h = ap (λ (x : List ℕ). 47 ∷ x) h ∙ ap (λ (x : ℕ). 47 ∷ x ∷ xs) (sym (slash_is b e))
 glued_by b xs false e h = spelled_onto b (slice_split is_slash xs) xs h
@@ -122,13 +137,16 @@ pub glued : (xs : List ℕ) → spelled (slice_split is_slash xs) ≡ 47 ∷ xs
 glued [] = refl
 glued (b ∷ xs) = glued_by b xs (is_slash b) refl (glued xs)
 
+-- no byte is a slash
 abbrev pub NoSlash : Name → Type 0
 NoSlash name = AllByRecursion (λ b. is_slash b ≡ false) name
 
+-- what `not` of a test says
 no_slash_byte : (b : Bool) → not b ≡ true → b ≡ false
 no_slash_byte true e = cc
 no_slash_byte false e = refl
 
+-- names of the grammar have no slash
 clean : (name : Name) → AllByRecursion (λ b. is_name_byte b ≡ true) name → NoSlash name
 clean [] h = tt
 clean (b ∷ name) h = (no_slash_byte (is_slash b) (second_so _ (not (is_slash b)) h.0), clean name h.1)
@@ -137,6 +155,7 @@ pub cleans : (names : List Name) → AllByRecursion IsName names → AllByRecurs
 cleans [] h = tt
 cleans (n ∷ names) h = (clean n h.0.bytes, cleans names h.1)
 
+-- a name without slashes is cut off whole at the slash behind it
 split_name : (n : Name) (rest : List ℕ) (parts : List Name) → NoSlash n → slice_split is_slash rest ≡ [] ∷ parts → slice_split is_slash (n ++ rest) ≡ n ∷ parts
 split_name [] rest parts h k = k
 split_name (b ∷ n) rest parts h k =
@@ -148,6 +167,7 @@ pub split_spelled : (names : List Name) → AllByRecursion NoSlash names → sli
 split_spelled [] h = refl
 split_spelled (n ∷ names) h = ap (λ (x : List Name). [] ∷ x) (split_name n (spelled names) names h.0 (split_spelled names h.1))
 
+-- a name with bytes follows the first slash, so the text is cut behind that slash
 names_in_text : (n : Name) (names : List Name) → (length n == 0) ≡ false → NoSlash n → AllByRecursion NoSlash names → names_in (path_text (n ∷ names)) ≡ n ∷ names
 names_in_text [] names e h k = cc
 names_in_text (b ∷ n) names e h k = split_name (b ∷ n) (spelled names) names h (split_spelled names k)
@@ -159,6 +179,7 @@ names_in-path_text (n ∷ names) h =
     let c = cleans (n ∷ names) h.all_names in
     names_in_text n names h.all_names.0.not_empty c.0 c.1
 
+-- a path with names has the text that spells them
 path_text_spelled : (names : List Name) (b : ℕ) (xs : List ℕ) → spelled names ≡ b ∷ xs → path_text names ≡ spelled names
 path_text_spelled [] b xs e = cc
 path_text_spelled (n ∷ names) b xs e = refl
@@ -169,6 +190,7 @@ pub record Sound (text : List ℕ) : Type 0 where
   pub text_is : text ≡ path_text (names_in text)
   pub path : IsPath (names_in text)
 
+-- the three tests of a text in turn
 sound_text : (text : List ℕ) → is_rooted text ≡ true → nat_lt text_max (length text) ≡ false → names_fault 0 1 (names_in text) ≡ None → Sound text
 sound_text [] r s e = cc
 sound_text (b ∷ []) r s e = record {
@@ -185,6 +207,7 @@ sound_text (b ∷ c ∷ bs) r s e =
       path = record { all_names = names.0; shallow = let k = names.1 in omega arith; short = subst (λ (x : List ℕ). length x ≤ text_max) is (not_lt text_max (length (b ∷ c ∷ bs)) s) };
     }
 
+-- a text without fault is the text of a path of the grammar
 pub sound : (text : List ℕ) → path_fault text ≡ None → Sound text
 unfolding path_fault
 sound text e =
@@ -192,6 +215,7 @@ sound text e =
     let b = refuse_none (nat_lt text_max (length text)) TooLong (names_fault 0 1 (names_in text)) a.1 in
     sound_text text (not_not (is_rooted text) a.0) b.0 b.1
 
+-- the text of a path begins with a slash
 rooted_text : (p : Path) → is_rooted (path_text p) ≡ true
 rooted_text [] = refl
 rooted_text (n ∷ names) = refl
@@ -205,9 +229,11 @@ path_fault-path_text p h =
     ∙ ap (names_fault 0 1) (names_in-path_text p h)
     ∙ full_names 0 1 p h.all_names (let k = h.shallow in omega arith)
 
+-- what is read from the text of a path is that path
 pub read_path-path_text : (p : Path) → IsPath p → read_path (path_text p) ≡ Ok p
 read_path-path_text p h = ap (λ o. unless o (names_in (path_text p))) (path_fault-path_text p h) ∙ ap (λ (q : Path). Ok q) (names_in-path_text p h)
 
+-- what is read is a path, and the text is its own
 pub read_path_is : (t : List ℕ) (p : Path) → read_path t ≡ Ok p → IsPath p × (t ≡ path_text p)
 read_path_is t p e =
     let u = unless_ok (path_fault t) (names_in t) p e in

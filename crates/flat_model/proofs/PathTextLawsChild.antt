@@ -7,6 +7,7 @@ use Rattle.flat_model.specs.PathText.{spelled, path_text, depth_max, text_max, I
 use Rattle.flat_model.specs.Refuse.{refuse, unless}
 use Rattle.flat_model.proofs.PathTextLaws.{refuse_none, refuse_passed, option_or_none, option_or_passed, unless_ok, sound_name, full_name}
 
+-- names in a row are spelled in a row
 pub spelled-append : (p q : Path) → spelled (p ++ q) ≡ spelled p ++ spelled q
 spelled-append [] q = refl
 spelled-append (n ∷ p) q = ap (λ (x : List ℕ). 47 ∷ n ++ x) (spelled-append p q) ∙ sym (append_assoc (47 ∷ n) (spelled p) (spelled q))
@@ -20,17 +21,20 @@ path_text-append (n ∷ p) name = refl
 pub path_text-child : (p : Path) (name : Name) → path_text (p ++ name ∷ []) ≡ spelled p ++ 47 ∷ name
 path_text-child p name = path_text-append p name ∙ spelled-append p (name ∷ []) ∙ ap (λ (x : List ℕ). spelled p ++ 47 ∷ x) (append-nil name)
 
+-- fewer names are spelled in fewer bytes
 pub length-spelled-take : (n : ℕ) (p : Path) → length (spelled (take n p)) ≤ length (spelled p)
 length-spelled-take zero p = omega arith
 length-spelled-take (suc n) [] = omega arith
 length-spelled-take (suc n) (m ∷ p) = let h = length-spelled-take n p in omega (arith, length-append (47 ∷ m) (spelled (take n p)), length-append (47 ∷ m) (spelled p))
 
+-- the same of the texts
 pub length-path_text-take : (n : ℕ) (p : Path) → length (path_text (take n p)) ≤ length (path_text p)
 length-path_text-take zero [] = omega arith
 length-path_text-take zero (m ∷ p) = omega (arith, length-append (47 ∷ m) (spelled p))
 length-path_text-take (suc n) [] = omega arith
 length-path_text-take (suc n) (m ∷ p) = length-spelled-take (suc n) (m ∷ p)
 
+-- the names of some are those of all
 names_take : (n : ℕ) (p : Path) → AllByRecursion IsName p → AllByRecursion IsName (take n p)
 names_take zero p h = tt
 names_take (suc n) [] h = tt
@@ -44,14 +48,17 @@ IsPath-take n p h = record {
   short = let k = length-path_text-take n p in let s = h.short in omega arith;
 }
 
+-- names of the grammar behind others
 names_append : (p q : Path) → AllByRecursion IsName p → AllByRecursion IsName q → AllByRecursion IsName (p ++ q)
 names_append [] q h k = k
 names_append (n ∷ p) q h k = (h.0, names_append p q h.1 k)
 
+-- the last name of a path of the grammar
 name_last : (p : Path) (name : Name) → AllByRecursion IsName (p ++ name ∷ []) → IsName name
 name_last [] name h = h.0
 name_last (n ∷ p) name h = name_last p name h.1
 
+-- what the tests of numbers say
 le_no : (a b : ℕ) → nat_le a b ≡ false → b + 1 ≤ a
 le_no a b e = grind (arith, nat_tests)
 
@@ -78,6 +85,7 @@ sound_child p name h e =
       short = lt_no text_max (length (path_text (p ++ name ∷ []))) c.0;
     }
 
+-- a child in the grammar has no fault
 pub full_child : (p : Path) (name : Name) → IsPath (p ++ name ∷ []) → child_fault p name ≡ None
 unfolding child_fault
 full_child p name h =
@@ -94,5 +102,6 @@ child_path_is p name h = (
   λ k. ap (λ o. unless o (p ++ name ∷ [])) (full_child p name k),
 )
 
+-- no other path is given
 pub child_path_only : (p q : Path) (name : Name) → child_path p name ≡ Ok q → q ≡ p ++ name ∷ []
 child_path_only p q name e = sym (unless_ok (child_fault p name) (p ++ name ∷ []) q e).1

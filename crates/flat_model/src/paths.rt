@@ -26,6 +26,7 @@ pub fn below_is_prefix()
     ensures both { (p q : Path) → at_or_below p q ≡ true → at_or_below q p ≡ true → p ≡ q }
     ensures front { (n : ℕ) (p : Path) → at_or_below p (take n p) ≡ true }
     ensures parent { (p : Path) → at_or_below p (parent p) ≡ true }
+    ensures child { (p : Path) (name : Name) → parent (p ++ name ∷ []) ≡ p }
 
     // The groups above one group stand in a line.
     ensures line { (p q r : Path) → at_or_below p q ≡ true → at_or_below p r ≡ true → (at_or_below q r ≡ true) ⊎ (at_or_below r q ≡ true) }

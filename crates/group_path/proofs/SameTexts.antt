@@ -1,5 +1,5 @@
 -- Two paths of the grammar are one where their texts are.
-use Rattle.std.proofs.Common.{◌≡◌, ◌∙◌, ap, sym, refl, nat_eq, Bool, true, false, List, ℕ, ◌↔◌}
+use Rattle.std.proofs.Common.{◌≡◌, ◌∙◌, ap, sym, refl, nat_eq, Bool, true, false, List, ℕ}
 use Rattle.std.specs.Cmp.Lexicographic.{pointwise, texts_ties}
 use Rattle.flat_model.specs.Path.{Path, same_name, same_path}
 use Rattle.flat_model.specs.PathText.{IsPath, path_text}
@@ -12,6 +12,7 @@ one_by true b f h = sym (f refl)
 one_by false true f h = h refl
 one_by false false f h = refl
 
+-- so a test of the texts is the model's test of the paths
 pub same_text : (p q : Path) (s t : List ℕ) (r : Bool) → IsPath p → IsPath q → s ≡ path_text p → t ≡ path_text q → r ≡ pointwise nat_eq s t → r ≡ same_path p q
 same_text p q s t r hp hq es et e =
     e ∙ texts_ties s t ∙ (λ i. same_name (es i) (et i))

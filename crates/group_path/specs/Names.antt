@@ -1,5 +1,5 @@
 -- The names that an iterator over a path has left.
-use Rattle.std.specs.Prelude.{ℕ, List, [], take, Option, Some, None}
+use Rattle.std.specs.Prelude.{ℕ, List, [], Option, Some, None}
 use Rattle.std.specs.List.{slice_split}
 use Rattle.flat_model.specs.Path.{Name}
 use Rattle.flat_model.specs.PathText.{is_slash}

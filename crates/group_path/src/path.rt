@@ -27,7 +27,11 @@ impl<A: Allocator + Clone> Model for GroupPath<A> {
 }
 
 /// A text, a slash and a name.
-fn joined<A: Allocator + Clone>(alloc: A, front: &[u8], name: &[u8]) -> Result<Vec<u8, A>, AllocError>
+fn joined<A: Allocator + Clone>(
+    alloc: A,
+    front: &[u8],
+    name: &[u8],
+) -> Result<Vec<u8, A>, AllocError>
     requires { length front.now + length name.now ≤ 4350 }
     ensures { IfOk result (λ text. text.items ≡ front.now ++ 47 ∷ name.now) }
 {
@@ -73,7 +77,7 @@ impl<A: Allocator + Clone> GroupPath<A> {
     pub fn text(&self) -> &[u8]
         ensures { result.now ≡ path_text self.now }
     {
-        self.text.as_slice()
+        &self.text[..]
     }
 
     /// The names from the root down.
@@ -147,7 +151,11 @@ impl<A: Allocator + Clone> GroupPath<A> {
     ///
     /// The first that holds, in this order: `EmptyName`, `BadByte` with the byte's place in the name, `NameTooLong`,
     /// `DotName`, `Reserved`, `TooDeep`, `TooLong`, `OutOfMemory`.
-    pub fn child<B: Allocator + Clone>(&self, alloc: B, name: &[u8]) -> Result<GroupPath<B>, PathFault>
+    pub fn child<B: Allocator + Clone>(
+        &self,
+        alloc: B,
+        name: &[u8],
+    ) -> Result<GroupPath<B>, PathFault>
         ensures found { IfOk result (λ p. p ≡ self.now ++ name.now ∷ []) }
         ensures first { Answers result (child_path self.now name.now) }
     {

@@ -1,4 +1,4 @@
-use Rattle.std.proofs.Common.{◌≡◌, ◌∙◌, ◌+◌, ◌≤◌, arith, length}
+use Rattle.std.proofs.Common.{◌∙◌, arith}
 use Rattle.group_path.proofs.Scans.{names_fault-front, spelled_front}
 use Rattle.group_path.proofs.grammar.check_names.Goals as goal
 

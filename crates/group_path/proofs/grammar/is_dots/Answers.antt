@@ -1,4 +1,4 @@
-use Rattle.std.proofs.Common.{◌≡◌, ◌∙◌, ap, ◌||◌, sym, Bool}
+use Rattle.std.proofs.Common.{◌∙◌, ap, ◌||◌, sym, Bool}
 use Rattle.group_path.proofs.Scans.{dots_by}
 use Rattle.group_path.proofs.grammar.is_dots.Goals as goal
 

@@ -1,4 +1,4 @@
-use Rattle.std.proofs.Common.{rules, ◌≡◌, ◌∙◌, ap, sym, arith, length, ℕ, List, option_map, Bor}
+use Rattle.std.proofs.Common.{◌∙◌, ap, sym, arith, length, ℕ, List, option_map, Bor}
 use Rattle.std.proofs.lemmas.Grind.{common_steps}
 use Rattle.group_path.proofs.Cuts.{cut_slice, last_name}
 use Rattle.group_path.proofs.names.NamesIterator.next.Goals as goal

@@ -1,5 +1,4 @@
-use Rattle.std.proofs.Common.{◌≡◌, ◌∙◌, ◌+◌, ◌<◌, ◌≤◌, sym, ap, arith, length, List, ℕ}
-use Rattle.flat_model.specs.PathText.{spelled}
+use Rattle.std.proofs.Common.{◌∙◌, sym, ap, arith, length, List, ℕ}
 use Rattle.group_path.proofs.Answered.{child_long, child_passes}
 use Rattle.group_path.proofs.path.GroupPath.check_child.Goals as goal
 

@@ -1,4 +1,4 @@
-use Rattle.std.proofs.Common.{◌≡◌, ◌∙◌, ◌+◌, ◌≤◌, ◌∷◌, ◌++◌, List, ℕ, ap, sym, arith, length}
+use Rattle.std.proofs.Common.{◌∙◌, ◌∷◌, ◌++◌, List, ℕ, ap, sym, arith, length}
 use Rattle.flat_model.specs.PathText.{child_fault}
 use Rattle.group_path.proofs.Answered.{child_short, child_faultless, child_names, answers_path}
 use Rattle.group_path.proofs.Texts.{path_is}

@@ -1,4 +1,4 @@
-use Rattle.std.proofs.Common.{◌≡◌, true, false, sym, ◌∙◌}
+use Rattle.std.proofs.Common.{true, false, sym, ◌∙◌}
 use Rattle.group_path.proofs.Below.{at_or_below_step}
 use Rattle.group_path.proofs.path.GroupPath.is_at_or_below.Goals as goal
 
