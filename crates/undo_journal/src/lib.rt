@@ -35,3 +35,6 @@ pub use engine::{Engine, SLOTS};
 pub use inverse::Inverse;
 pub use pid::Pid;
 pub use reply::{Refusal, Reply};
+
+#[cfg(test)]
+mod tests;
