@@ -20,3 +20,4 @@ pub mod CommandTextLaws
 pub mod RowsReads
 pub mod RowsLists
 pub mod RowsMachine
+pub mod PathTextLawsChild

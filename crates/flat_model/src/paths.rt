@@ -1,11 +1,11 @@
 //! The laws of paths and of their texts. Each function says its law and does nothing.
 
-ghost use Rattle.std.specs.Prelude.{◌≡◌, ℕ, ◌≤◌, true, false, ◌⊎◌, ◌↔◌, List, length, take, Ok};
+ghost use Rattle.std.specs.Prelude.{◌≡◌, ℕ, ◌≤◌, true, false, ◌⊎◌, ◌↔◌, List, [], ◌∷◌, ◌++◌, length, take, Ok};
 ghost use Rattle.std.specs.Cmp.{IsTotalOrder};
 ghost use Rattle.std.specs.FinMap.{IsAntisymmetric};
 ghost use Rattle.std.specs.List.{Contains};
 ghost use Rattle.flat_model.specs.Path.{Name, Path, name_cmp, path_cmp, same_name, same_path, at_or_below, strictly_below, HasPrefix, parent, prefixes, upward};
-ghost use Rattle.flat_model.specs.PathText.{IsPath, path_text, read_path};
+ghost use Rattle.flat_model.specs.PathText.{IsPath, path_text, read_path, child_path};
 
 /// Names and paths each stand in one order, and only equal ones tie in it.
 pub fn paths_are_ordered()
@@ -43,4 +43,11 @@ pub fn path_is_read_back()
     ensures read { (p : Path) → IsPath p → read_path (path_text p) ≡ Ok p }
     ensures only { (t : List ℕ) (p : Path) → read_path t ≡ Ok p → IsPath p × (t ≡ path_text p) }
     ensures apart { (p q : Path) → IsPath p → IsPath q → path_text p ≡ path_text q → p ≡ q }
+{}
+
+/// The first names of a path are a path, and a name below it is one exactly where it is in the grammar.
+pub fn neighbours_are_paths()
+    ensures front { (n : ℕ) (p : Path) → IsPath p → IsPath (take n p) }
+    ensures child { (p : Path) (name : Name) → IsPath p → (child_path p name ≡ Ok (p ++ name ∷ [])) ↔ IsPath (p ++ name ∷ []) }
+    ensures only { (p q : Path) (name : Name) → child_path p name ≡ Ok q → q ≡ p ++ name ∷ [] }
 {}

@@ -1,0 +1,11 @@
+use Rattle.group_path.proofs.Fronts.{front_faultless, front_names}
+use Rattle.group_path.proofs.Texts.{text_is, path_is}
+use Rattle.group_path.proofs.path.GroupPath.cut.Goals as goal
+
+pub invariant_of-self : goal.invariant_of-self
+invariant_of-self g c =
+    front_faultless c.self.inside.text.items c.truncate.new.self.items c.args.self.now c.args.n c.prefix_len-len.result (text_is c.self.inside.text.items c.args.self.now c.self.view_is c.self.invariant) (path_is c.self.inside.text.items c.args.self.now c.self.view_is c.self.invariant) c.prefix_len-len.ensures.value c.truncate.ensures.items
+
+pub returns : goal.returns
+returns g c =
+    front_names c.self.inside.text.items c.truncate.new.self.items c.args.self.now c.args.n c.prefix_len-len.result (text_is c.self.inside.text.items c.args.self.now c.self.view_is c.self.invariant) (path_is c.self.inside.text.items c.args.self.now c.self.view_is c.self.invariant) c.prefix_len-len.ensures.value c.truncate.ensures.items

@@ -1,0 +1,69 @@
+ghost use Rattle.std.specs.Prelude.{◌≡◌};
+ghost use Rattle.std.specs.Iterator.{YieldsFirstBy, item_count};
+ghost use Rattle.std.specs.List.{position};
+ghost use Rattle.flat_model.specs.PathText.{is_slash};
+
+use std::marker::Model;
+
+/// The names of a path from the root down, or the first of them, as slices of its text.
+#[derive(Drop)]
+pub struct Names<'a> {
+    /// What stands behind the next slash, where there is one.
+    rest: Option<&'a [u8]>,
+    /// How many names are given at most.
+    left: usize,
+}
+
+impl<'a> Model for Names<'a> {
+    ghost use Rattle.std.specs.Prelude.{ℕ, List, take, option_map};
+    ghost use Rattle.group_path.specs.Names.{names_behind};
+
+    ghost Value = { List (List ℕ) };
+
+    ghost view = { λ s. take s.left (names_behind (option_map (λ bytes. bytes.now) s.rest)) };
+}
+
+impl<'a> Names<'a> {
+    ghost use Rattle.std.specs.Prelude.{take, option_map};
+    ghost use Rattle.group_path.specs.Names.{names_behind};
+
+    /// The first `left` names in what stands behind a slash, where there is one.
+    pub(crate) fn of(rest: Option<&'a [u8]>, left: usize) -> Names<'a>
+        ensures { result ≡ take left (names_behind (option_map (λ bytes. bytes.now) rest.entry)) }
+    {
+        Names { rest, left }
+    }
+}
+
+/// Where the first slash stands.
+fn next_slash(bytes: &[u8]) -> Option<usize>
+    ensures { result ≡ position is_slash bytes.now }
+{
+    bytes.iter().position(|b| *b == b'/')
+}
+
+impl<'a> Iterator for Names<'a> {
+    type Item = &'a [u8];
+
+    ghost next_gives = { YieldsFirstBy (λ name. name.now) (λ names. names) };
+
+    ghost remaining = { item_count (λ names. names) };
+
+    fn next(&mut self) -> Option<&'a [u8]> {
+        if self.left == 0 {
+            return None;
+        }
+        let bytes = self.rest?;
+        self.left -= 1;
+        match next_slash(bytes) {
+            Some(end) => {
+                self.rest = Some(&bytes[end + 1..]);
+                Some(&bytes[..end])
+            }
+            None => {
+                self.rest = None;
+                Some(bytes)
+            }
+        }
+    }
+}

@@ -1,0 +1,212 @@
+ghost use Rattle.std.specs.Prelude.{◌≡◌, ℕ, ◌+◌, ◌≤◌, [], ◌∷◌, ◌++◌, true, if◌then◌else◌, length, take, IfOk, MatchResult};
+ghost use Rattle.flat_model.specs.Path.{Path, at_or_below, is_root, parent, same_path};
+ghost use Rattle.flat_model.specs.PathText.{IsPath, path_text, spelled, read_path, child_fault, child_path};
+ghost use Rattle.group_path.specs.Answers.{Answers, checked};
+
+use crate::fault::PathFault;
+use crate::grammar::{DEPTH_MAX, TEXT_MAX, check_name, check_text};
+use crate::names::Names;
+use std::alloc::{AllocError, Allocator};
+use std::marker::Model;
+
+/// A path of a group, from the root down: the root itself is `/`.
+#[derive(Drop)]
+pub struct GroupPath<A: Allocator + Clone> {
+    text: Vec<u8, A>,
+}
+
+impl<A: Allocator + Clone> Model for GroupPath<A> {
+    ghost use Rattle.std.specs.Prelude.{◌≡◌, ℕ, List, None};
+    ghost use Rattle.flat_model.specs.PathText.{names_in, path_fault};
+
+    ghost Value = { List (List ℕ) };
+
+    ghost view = { λ p. names_in p.text.items };
+
+    ghost invariant = { λ p. path_fault p.text.items ≡ None };
+}
+
+/// A text, a slash and a name.
+fn joined<A: Allocator + Clone>(alloc: A, front: &[u8], name: &[u8]) -> Result<Vec<u8, A>, AllocError>
+    requires { length front.now + length name.now ≤ 4350 }
+    ensures { IfOk result (λ text. text.items ≡ front.now ++ 47 ∷ name.now) }
+{
+    let mut text = Vec::with_capacity(alloc, front.len() + 1 + name.len())?;
+    text.extend_from_slice(front)?;
+    text.extend_from_slice(b"/")?;
+    text.extend_from_slice(name)?;
+    Ok(text)
+}
+
+impl<A: Allocator + Clone> GroupPath<A> {
+    /// Reads a path, in time linear in the text.
+    ///
+    /// # Errors
+    ///
+    /// The first that holds, in this order: `NotRooted`; `TooLong`; then for each name from the left `TooDeep` if it
+    /// is the 33rd, `EmptyName`, `BadByte` with the byte's place in the whole text, `NameTooLong`, `DotName`,
+    /// `Reserved`. `OutOfMemory` comes last.
+    pub fn read(alloc: A, text: &[u8]) -> Result<GroupPath<A>, PathFault>
+        // What is read is a path of the grammar, and the text is its text.
+        ensures found { IfOk result (λ p. IsPath p × (text.now ≡ path_text p)) }
+
+        // The text of each path of the grammar is read as that path, unless memory runs out.
+        ensures only { (p : Path) → IsPath p → text.now ≡ path_text p → MatchResult result (λ q. q ≡ p) (λ fault. fault ≡ PathFault.OutOfMemory) }
+
+        // Which fault it is.
+        ensures first { Answers result (read_path text.now) }
+    {
+        check_text(text)?;
+        let text = Vec::from_slice(alloc, text)?;
+        Ok(GroupPath { text })
+    }
+
+    /// Tells callers that every path is one of the grammar: at most 32 names of at most 255 bytes, and at most 4,095
+    /// bytes in all. It does nothing.
+    pub fn known(&self)
+        ensures { IsPath self.now }
+    {
+        let _ = &self.text;
+    }
+
+    /// The text with slashes.
+    pub fn text(&self) -> &[u8]
+        ensures { result.now ≡ path_text self.now }
+    {
+        self.text.as_slice()
+    }
+
+    /// The names from the root down.
+    pub fn names(&self) -> Names<'_>
+        ensures { result ≡ self.now }
+    {
+        let _ = &self.text;
+        self.first_names(DEPTH_MAX)
+    }
+
+    /// The first `n` names from the root down, or all where there are no more.
+    pub fn first_names(&self, n: usize) -> Names<'_>
+        ensures { result ≡ take n self.now }
+    {
+        let text = self.text.as_slice();
+        if text.len() > 1 {
+            Names::of(Some(&text[1..]), n)
+        } else {
+            Names::of(None, n)
+        }
+    }
+
+    /// How many names there are: 0 for the root. Linear in the text.
+    pub fn depth(&self) -> usize
+        ensures { result ≡ length self.now }
+    {
+        let _ = &self.text;
+        self.names().count()
+    }
+
+    /// Whether this group is the other one or stands somewhere below it.
+    pub fn is_at_or_below<B: Allocator + Clone>(&self, other: &GroupPath<B>) -> bool
+        ensures { result ≡ at_or_below self.now other.now }
+    {
+        let mut mine = self.names();
+        for theirs in other.names() {
+            match mine.next() {
+                Some(name) if name == theirs => {}
+                _ => return false,
+            }
+        }
+        true
+    }
+
+    /// Whether the other path is this one, whatever memory it lies in.
+    pub fn is_same<B: Allocator + Clone>(&self, other: &GroupPath<B>) -> bool
+        ensures { result ≡ same_path self.now other.now }
+    {
+        self.known();
+        other.known();
+        self.text() == other.text()
+    }
+
+    /// The path without its last name; None for the root, which takes no memory.
+    pub fn parent<B: Allocator + Clone>(&self, alloc: B) -> Result<Option<GroupPath<B>>, AllocError>
+        ensures root { is_root self.now ≡ true → result ≡ Ok None }
+        ensures group { IfOk result (λ p. p ≡ (if is_root self.now then None else Some (parent self.now))) }
+    {
+        let _ = &self.text;
+        let depth = self.depth();
+        if depth == 0 {
+            return Ok(None);
+        }
+        let text = Vec::from_slice(alloc, &self.text()[..self.prefix_len(depth - 1)])?;
+        Ok(Some(GroupPath { text }))
+    }
+
+    /// The group of this name below this one.
+    ///
+    /// # Errors
+    ///
+    /// The first that holds, in this order: `EmptyName`, `BadByte` with the byte's place in the name, `NameTooLong`,
+    /// `DotName`, `Reserved`, `TooDeep`, `TooLong`, `OutOfMemory`.
+    pub fn child<B: Allocator + Clone>(&self, alloc: B, name: &[u8]) -> Result<GroupPath<B>, PathFault>
+        ensures found { IfOk result (λ p. p ≡ self.now ++ name.now ∷ []) }
+        ensures first { Answers result (child_path self.now name.now) }
+    {
+        let _ = &self.text;
+        self.check_child(name)?;
+        let text = joined(alloc, self.spelled(), name)?;
+        Ok(GroupPath { text })
+    }
+
+    /// The same path in other memory.
+    pub fn copy<B: Allocator + Clone>(&self, alloc: B) -> Result<GroupPath<B>, AllocError>
+        ensures { IfOk result (λ p. p ≡ self.now) }
+    {
+        let text = Vec::from_slice(alloc, self.text.as_slice())?;
+        Ok(GroupPath { text })
+    }
+
+    /// Keeps the first `n` names.
+    pub fn cut(&mut self, n: usize)
+        requires { n ≤ length self.old }
+        ensures { self.new ≡ take n self.old }
+    {
+        let len = self.prefix_len(n);
+        self.text.truncate(len);
+    }
+
+    /// Tests one more name.
+    #[tactic(auto, unfolding(flat_model::specs::PathText::child_fault))]
+    fn check_child(&self, name: &[u8]) -> Result<(), PathFault>
+        ensures { result ≡ checked (child_fault self.now name.now) }
+    {
+        check_name(0, name)?;
+        if self.depth() >= DEPTH_MAX {
+            return Err(PathFault::TooDeep);
+        }
+        if self.spelled().len() + 1 + name.len() > TEXT_MAX {
+            return Err(PathFault::TooLong);
+        }
+        Ok(())
+    }
+
+    /// A slash before each name: the text, but nothing for the root.
+    fn spelled(&self) -> &[u8]
+        ensures { result.now ≡ spelled self.now }
+    {
+        let text = self.text.as_slice();
+        if text.len() > 1 { text } else { &text[..0] }
+    }
+
+    /// How many bytes the path of the first `n` names has.
+    fn prefix_len(&self, n: usize) -> usize
+        ensures bound { result ≤ length (path_text self.now) }
+        ensures value { result ≡ length (path_text (take n self.now)) }
+    {
+        let _ = &self.text;
+        let mut len = 0;
+        for name in self.first_names(n) {
+            len += 1 + name.len();
+        }
+        len.max(1)
+    }
+}
