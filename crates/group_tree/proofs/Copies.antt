@@ -11,15 +11,15 @@ use Rattle.group_tree.proofs.Counted.{len-node}
 -- the entries of one child are among those of all
 child_le : (kids : List Branch) (i : ℕ) (d : Branch) → i < length kids → fin.len (get_or kids i d).groups ≤ length (below kids)
 child_le [] i d h = absurd (omega arith)
-child_le (k ∷ kids) i d h =
+child_le (k ∷ kids) zero d h =
     let whole = length-append (under k.name (fin.entries k.groups)) (below kids) in
     let first = length-under k.name (fin.entries k.groups) in
     let own = fin.len-entries k.groups in
-    by i h (omega (arith, whole, first, own)) (omega (arith, whole))
-  where
-    by : (i : ℕ) → i < length (k ∷ kids) → fin.len k.groups ≤ length (below (k ∷ kids)) → length (below kids) ≤ length (below (k ∷ kids)) → fin.len (get_or (k ∷ kids) i d).groups ≤ length (below (k ∷ kids))
-    by zero h a b = a
-    by (suc i) h a b = let r = child_le kids i d (omega arith) in omega (arith, r, b)
+    omega (arith, whole, first, own)
+child_le (k ∷ kids) (suc i) d h =
+    let whole = length-append (under k.name (fin.entries k.groups)) (below kids) in
+    let rest = child_le kids i d (omega arith) in
+    omega (arith, whole, rest)
 
 pub child_smaller : (attr : Attr) (kids slice : List Branch) (b kid : Branch) (nm : Name) (i : ℕ) → ◌≡◌ {A = Branch} (record { name = nm; groups = groups_of attr kids }) b → HasRisingNames kids → slice ≡ kids → kid ≡ get_or slice i kid → i < length slice → fin.len kid.groups < fin.len b.groups
 child_smaller attr kids slice b kid nm i is h s item bound =
@@ -28,6 +28,9 @@ child_smaller attr kids slice b kid nm i is h s item bound =
     let few = child_le kids i kid (omega (arith, long)) in
     let size : length (below kids) + 1 ≡ fin.len b.groups = sym (len-node attr kids h) ∙ ap (λ (c : Branch). fin.len c.groups) is in
     omega (arith, one, few, size)
+
+pub child_at_smaller : (attr : Attr) (kids slice : List Branch) (b kid : Branch) (nm : Name) (i : ℕ) → ◌≡◌ {A = Branch} (record { name = nm; groups = groups_of attr kids }) b → HasRisingNames kids → slice ≡ kids → kid ≡ get_or kids i kid → i < length slice → fin.len kid.groups < fin.len b.groups
+child_at_smaller attr kids slice b kid nm i is h s item bound = child_smaller attr kids slice b kid nm i is h s (item ∙ ap (λ (x : List Branch). get_or x i kid) (sym s)) bound
 
 pub copied : (attr : Attr) (kids slice new : List Branch) (b : Branch) (nm name bytes : Name) (n : ℕ) → ◌≡◌ {A = Branch} (record { name = nm; groups = groups_of attr kids }) b → slice ≡ kids → length slice ≤ n → new ≡ take n slice → name ≡ bytes → bytes ≡ nm → ◌≡◌ {A = Branch} (record { name = name; groups = groups_of attr new }) b
 copied attr kids slice new b nm name bytes n is s all e named same =

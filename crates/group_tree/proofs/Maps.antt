@@ -67,7 +67,7 @@ pub child_below : (p : Path) (n : Name) → strictly_below (p ++ n ∷ []) p ≡
 child_below p n = (strictly_below_is (p ++ n ∷ []) p).1 (at_or_below-append p (n ∷ []), to_false (same_path (p ++ n ∷ []) p) (longer p n))
 
 none_below : (old : Groups) (p : Path) → ((n : Name) (q : Path) → fin.get old (p ++ n ∷ q) ≡ None) → HasNoneBelow old p
-none_below old p h q b = let s = strictly_splits q p b in ap (fin.get old) s.1.1 ∙ h s.0 s.1.0
+none_below old p h q b = let s = strictly_splits q p b in ap (fin.get old) s.2 ∙ h s.0 s.1
 
 removes_of : (old new : Groups) (p : Path) (r : Result Attr TreeFault) → p ≢ [] → NodeRemoves old new p r → Removes old new p r
 removes_of old new p (Ok a) root h = (root, h.0, none_below old p h.1, removed_map old new p h.2)
