@@ -1,6 +1,7 @@
 -- How many groups are strictly below a path.
 use Rattle.std.proofs.Common.{◌≡◌, ℕ, ◌+◌, ◌^◌, ◌%◌, ◌<◌, ◌≤◌, Bool, true, false, cond, ◌&&◌, not, List, [], ◌∷◌, ◌++◌, map, length, get_or, refl, ap, sym, ◌∙◌, subst, arith, suc, Result, Ok, Err, Option, Some, None, IsSome}
-use Rattle.std.specs.Prelude.{count_by}
+use Rattle.std.specs.Prelude.{count_by, MatchOption, IfSome}
+use Rattle.std.proofs.lemmas.List.{length-map}
 use Rattle.std.specs.declared.cmp.Ordering.{Ordering}
 use Rattle.std.specs.declared.cmp.Ordering.TheVariants.{Less, Equal, Greater}
 use Rattle.std.specs.Ordering.{is_eq, eq_by_cmp, ordering_then, ordering_reverse}
@@ -116,3 +117,34 @@ counts_down attr kids slice b kid nm names n p i r is h e at s item c =
     ap (descendant_count b.groups) e ∙ ap (λ (x : Branch). descendant_count x.groups (n ∷ p)) (sym is)
     ∙ count_down attr kids n p i kid h place ∙ ap (λ (x : Branch). descendant_count x.groups p) (sym item) in
     counts_by b.groups kid.groups names p r (find_down attr kids slice b kid nm names n p i is h e at s item) number c
+
+-- ---- as the tree answers it
+
+module _ {X : Type 0} (test : X → Bool) where
+  count_le : (xs : List X) → count_by test xs ≤ length xs
+  count_le [] = omega arith
+  count_le (x ∷ xs) =
+      let c = count_by-cons test x xs in
+      let r = count_le xs in
+      by (test x) c r
+    where
+      by : (b : Bool) → count_by test (x ∷ xs) ≡ cond b 1 0 + count_by test xs → count_by test xs ≤ length xs → count_by test (x ∷ xs) ≤ suc (length xs)
+      by true c r = omega arith
+      by false c r = omega arith
+
+-- the answer, at the tree's map and the path that was named
+pub counted_at : (m tree : Groups) (names p : Path) (r : Option ℕ) → m ≡ tree → names ≡ p → Counts m names r → MatchOption r (fin.get tree p ≡ None) (λ n. IsSome (fin.get tree p) × (n ≡ descendant_count tree p % 2 ^ 64))
+counted_at m tree names p None is e h = sym (λ i. fin.get (is i) (e i)) ∙ h
+counted_at m tree names p (Some k) is e h = (subst (λ (x : Groups). IsSome (fin.get x p)) is (subst (λ (x : Path). IsSome (fin.get m x)) e h.0), h.1 ∙ (λ i. descendant_count (is i) (e i) % 2 ^ 64))
+
+small_mod : (n : ℕ) → n < 2 ^ 64 → n % 2 ^ 64 ≡ n
+small_mod n h = omega arith
+
+-- a tree of fewer than 2^64 groups is counted exactly
+pub exact_at : (m tree : Groups) (names p : Path) (r : Option ℕ) → m ≡ tree → names ≡ p → Counts m names r → fin.len tree < 2 ^ 64 → IfSome r (λ n. n ≡ descendant_count tree p)
+exact_at m tree names p None is e h few = tt
+exact_at m tree names p (Some k) is e h few =
+    let all = count_le (λ q. strictly_below q p) (fin.keys tree) in
+    let long = length-map (fin.entries tree) (λ e. e.0) in
+    let size = fin.len-entries tree in
+    (counted_at m tree names p (Some k) is e h).1 ∙ small_mod (descendant_count tree p) (omega (arith, all, long, size, few))

@@ -1,5 +1,5 @@
 -- A new group, below a child or as a child, as the node sees it.
-use Rattle.std.proofs.Common.{◌≡◌, ℕ, ◌-◌, cond, List, [], ◌∷◌, length, take, get_or, refl, ap, sym, ◌∙◌, subst, arith, suc, Result, Ok, Err, Option, Some, None, is_some, IsSome}
+use Rattle.std.proofs.Common.{◌≡◌, ℕ, ◌-◌, cond, List, [], ◌∷◌, length, take, get_or, true, refl, ap, sym, ◌∙◌, subst, arith, suc, Result, Ok, Err, Option, Some, None, is_some, IsSome}
 use Rattle.std.proofs.Math.ListN.{set}
 use Rattle.std.specs.List.{insert}
 use Rattle.std.specs.FinMap as fin
@@ -70,15 +70,13 @@ no_parent attr kids slice b nm names n m p q i a is h e f at s =
     let two : names ≡ n ∷ m ∷ q = e ∙ ap (λ (x : Path). n ∷ x) f in
     (sym (find_none attr kids slice b nm names n p i is h e at s), sym (find_none attr kids slice b nm (parent names) n (parent (m ∷ q)) i is h (ap parent two ∙ parent-cons n m q) at s), refl)
 
-pub leaf_ok : (attr : Attr) (kids slice new : List Branch) (b : Branch) (nm : Name) (names : Path) (n : Name) (p : Path) (i : ℕ) (a : Attr) (r : Result (Unit {0}) TreeFault) → ◌≡◌ {A = Branch} (record { name = nm; groups = groups_of attr kids }) b → HasRisingNames kids → names ≡ n ∷ p → p ≡ [] → Err i ≡ place_of n slice → slice ≡ kids → new ≡ insert kids i (leaf_of n a) → r ≡ Ok tt → NodeInserts b.groups (groups_of attr new) names a r
-leaf_ok attr kids slice new b nm names n p i a r is h e none at s ins ok =
+pub leaf_ok : (attr : Attr) (kids slice new : List Branch) (b : Branch) (nm : Name) (names : Path) (n : Name) (p : Path) (i : ℕ) (a : Attr) → ◌≡◌ {A = Branch} (record { name = nm; groups = groups_of attr kids }) b → HasRisingNames kids → names ≡ n ∷ p → p ≡ [] → Err i ≡ place_of n slice → slice ≡ kids → new ≡ insert kids i (leaf_of n a) → NodeInserts b.groups (groups_of attr new) names a (Ok tt)
+leaf_ok attr kids slice new b nm names n p i a is h e none at s ins =
     let l = adds_leaf attr kids slice new names n p i a h e none at s ins in
-    subst (λ (c : Branch). NodeInserts c.groups (groups_of attr new) names a r) is
-    (subst (λ (x : Result (Unit {0}) TreeFault). NodeInserts (groups_of attr kids) (groups_of attr new) names a x) (sym ok) (l.free, l.above, l.updated))
+    subst (λ (c : Branch). NodeInserts c.groups (groups_of attr new) names a (Ok tt)) is (l.free, l.above, l.updated)
 
-pub leaf_err : (attr : Attr) (kids slice new : List Branch) (b : Branch) (nm : Name) (names : Path) (n : Name) (p : Path) (i : ℕ) (a : Attr) (r : Result (Unit {0}) TreeFault) → ◌≡◌ {A = Branch} (record { name = nm; groups = groups_of attr kids }) b → HasRisingNames kids → names ≡ n ∷ p → p ≡ [] → Err i ≡ place_of n slice → slice ≡ kids → new ≡ kids → r ≡ Err OutOfMemory → NodeInserts b.groups (groups_of attr new) names a r
-leaf_err attr kids slice new b nm names n p i a r is h e none at s same err =
+pub leaf_err : (attr : Attr) (kids slice new : List Branch) (b : Branch) (nm : Name) (names : Path) (n : Name) (p : Path) (i : ℕ) (a : Attr) → ◌≡◌ {A = Branch} (record { name = nm; groups = groups_of attr kids }) b → HasRisingNames kids → names ≡ n ∷ p → p ≡ [] → Err i ≡ place_of n slice → slice ≡ kids → new ≡ kids → NodeInserts b.groups (groups_of attr new) names a (Err OutOfMemory)
+leaf_err attr kids slice new b nm names n p i a is h e none at s same =
     let l = adds_leaf attr kids slice (insert kids i (leaf_of n a)) names n p i a h e none at s refl in
-    subst (λ (c : Branch). NodeInserts c.groups (groups_of attr new) names a r) is
-    (subst (λ (x : Result (Unit {0}) TreeFault). NodeInserts (groups_of attr kids) (groups_of attr new) names a x) (sym err) (l.free, l.above, ap (groups_of attr) same))
+    subst (λ (c : Branch). NodeInserts c.groups (groups_of attr new) names a (Err OutOfMemory)) is (l.free, l.above, ap (groups_of attr) same)
 
