@@ -79,4 +79,3 @@ pub leaf_err : (attr : Attr) (kids slice new : List Branch) (b : Branch) (nm : N
 leaf_err attr kids slice new b nm names n p i a is h e none at s same =
     let l = adds_leaf attr kids slice (insert kids i (leaf_of n a)) names n p i a h e none at s refl in
     subst (λ (c : Branch). NodeInserts c.groups (groups_of attr new) names a (Err OutOfMemory)) is (l.free, l.above, ap (groups_of attr) same)
-

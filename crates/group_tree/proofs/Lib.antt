@@ -14,3 +14,4 @@ mod Counted
 mod Descendants
 mod Chains
 mod Copies
+mod Flat

@@ -51,4 +51,3 @@ step_at attr kids slice n i kid after h at s item named =
 -- what the node itself has
 pub own_attr : (attr : Attr) (kids : List Branch) (b : Branch) (nm : Name) → ◌≡◌ {A = Branch} (record { name = nm; groups = groups_of attr kids }) b → HasRisingNames kids → Some attr ≡ fin.get b.groups []
 own_attr attr kids b nm is h = sym (get_root attr kids h) ∙ ap (λ (c : Branch). fin.get c.groups []) is
-

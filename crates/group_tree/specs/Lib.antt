@@ -1,5 +1,5 @@
 pub mod Groups
-pub mod Attr
+pub mod Flat
 pub mod Node
 pub mod Sorted
 pub mod Codes

@@ -55,11 +55,11 @@ pub(crate) fn place<A: Allocator>(children: &[Node<A>], name: &[u8]) -> Result<u
     ensures value { result ≡ place_of name.now children.now }
     ensures bound { MatchResult result (λ at. at < length children.now) (λ at. at ≤ length children.now) }
 {
-    children.binary_search_by(move |child| -> Ordering
-        ensures { result ≡ name_cmp child.now.name name.entry.now }
-    {
-        child.name().cmp(name)
-    })
+    children.binary_search_by(
+        move |child| -> Ordering
+            ensures { result ≡ name_cmp child.now.name name.entry.now }
+        { child.name().cmp(name) },
+    )
 }
 
 impl<A: Allocator> Node<A> {

@@ -1,7 +1,7 @@
 ghost use Rattle.std.specs.Prelude.{◌≡◌, ◌<◌, ◌≤◌, ◌%◌, ◌^◌, ℕ, length, take, None, MatchOption, IfOk, IfSome, IsSome};
 ghost use Rattle.std.specs.Option.{option_copied};
 ghost use Rattle.std.specs.FinMap as fin;
-ghost use Rattle.flat_model.specs.Path.{Path};
+ghost use Rattle.group_tree.specs.Flat.{ReadsAsFlat};
 ghost use Rattle.group_tree.specs.Groups.{IsClosed, Inserts, Sets, Removes, only_root, descendant_count, chain_of};
 
 use crate::attr::Attr;
@@ -56,7 +56,12 @@ impl<A: Allocator> GroupTree<A> {
     }
 
     /// Changes what the group at the first `n` names of the path has; false where there is no such group.
-    pub fn set_at<B: Allocator + Clone>(&mut self, path: &GroupPath<B>, n: usize, attr: Attr) -> bool
+    pub fn set_at<B: Allocator + Clone>(
+        &mut self,
+        path: &GroupPath<B>,
+        n: usize,
+        attr: Attr,
+    ) -> bool
         requires { n ≤ length path.now }
         ensures { Sets self.old self.new (take n path.now) attr result }
     {
@@ -117,9 +122,11 @@ impl<A: Allocator> GroupTree<A> {
         }
     }
 
-    /// Tells callers that the tree has the root and the parent of each group. It does nothing.
+    /// Tells callers that the tree has the root and the parent of each group, and how its groups are those of the flat
+    /// state. It does nothing.
     pub fn known(&self)
-        ensures { IsClosed self.now }
+        ensures closed { IsClosed self.now }
+        ensures flat { ReadsAsFlat self.now }
     {
         let _ = &self.root;
     }
@@ -147,7 +154,11 @@ impl<A: Allocator + Clone> GroupTree<A> {
     /// # Errors
     ///
     /// The first that holds, in this order: `Exists`, `NoParent`, `OutOfMemory`. Each leaves the tree as it was.
-    pub fn insert<B: Allocator + Clone>(&mut self, path: &GroupPath<B>, attr: Attr) -> Result<(), TreeFault>
+    pub fn insert<B: Allocator + Clone>(
+        &mut self,
+        path: &GroupPath<B>,
+        attr: Attr,
+    ) -> Result<(), TreeFault>
         ensures { Inserts self.old self.new path.now attr result }
     {
         self.root.insert(path.names(), attr)
