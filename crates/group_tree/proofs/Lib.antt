@@ -15,3 +15,5 @@ mod Descendants
 mod Chains
 mod Copies
 mod Flat
+mod Prefixes
+mod InPlace

@@ -1,9 +1,10 @@
 -- A node of the tree: its name, and the groups from it down by their paths from it.
-use Rattle.std.specs.Prelude.{◌≡◌, ℕ, ◌+◌, ◌^◌, ◌%◌, suc, Bool, true, false, cond, List, [], ◌∷◌, ◌++◌, length, Option, Some, None, IsSome, remove, Result, Ok, Err}
+use Rattle.std.specs.Prelude.{◌≡◌, ℕ, ◌+◌, ◌≤◌, IsOk, ◌^◌, ◌%◌, suc, Bool, true, false, cond, List, [], ◌∷◌, ◌++◌, length, Option, Some, None, IsSome, remove, Result, Ok, Err}
 use Rattle.std.specs.declared.cmp.Ordering.{Ordering}
 use Rattle.std.specs.declared.cmp.Ordering.TheVariants.{Less, Equal, Greater}
 use Rattle.std.specs.FinMap as fin
 use lib.ListN.{get_or}
+use Rattle.smallvec.specs.SmallVec.{SmallVec, small_vec_len, HasRoomFor}
 use Rattle.flat_model.specs.Path.{Name, Path, name_cmp, same_path, parent}
 use Rattle.group_tree.specs.declared.attr.Attr.{Attr}
 use Rattle.group_tree.specs.declared.fault.TreeFault.{TreeFault}
@@ -113,3 +114,8 @@ TakesOut old new at (Err OutOfMemory) = ⊥
 abbrev pub Counts : Groups → Path → Option ℕ → Type 0
 Counts m p None = fin.get m p ≡ None
 Counts m p (Some k) = IsSome (fin.get m p) × (k ≡ descendant_count m p % 2 ^ 64)
+
+-- a vector after at most n pushes: where it had room for n more, none was refused and it did not grow
+pub record PushesInPlace {E : Type 0} (old new : SmallVec ℕ) (n : ℕ) (r : Result Bool E) : Type 0 where
+  pub len : small_vec_len new ≤ small_vec_len old + n
+  pub room : HasRoomFor old n → IsOk r × (new.capacity ≡ old.capacity)

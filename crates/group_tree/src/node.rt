@@ -5,7 +5,7 @@ ghost use Rattle.std.specs.Option.{option_copied};
 ghost use Rattle.std.specs.FinMap as fin;
 ghost use Rattle.flat_model.specs.Path.{name_cmp};
 ghost use Rattle.group_tree.specs.Groups.{chain_of};
-ghost use Rattle.group_tree.specs.Node.{HasRisingNames, place_of, Counts, IsLeafOrNot};
+ghost use Rattle.group_tree.specs.Node.{HasRisingNames, place_of, Counts, IsLeafOrNot, PushesInPlace};
 
 use crate::attr::Attr;
 use group_path::Names;
@@ -131,7 +131,8 @@ impl<A: Allocator> Node<A> {
         names: Names<'_>,
         slots: &mut SmallVec<u16, 8, B>,
     ) -> Result<bool, AllocError>
-        ensures { IfOk result (λ b. MatchBool b (IsSome (fin.get self.now.groups names.entry) × (slots.new.items ≡ slots.old.items ++ chain_of self.now.groups names.entry)) (fin.get self.now.groups names.entry ≡ None)) }
+        ensures chain { IfOk result (λ b. MatchBool b (IsSome (fin.get self.now.groups names.entry) × (slots.new.items ≡ slots.old.items ++ chain_of self.now.groups names.entry)) (fin.get self.now.groups names.entry ≡ None)) }
+        ensures in_place { PushesInPlace slots.old slots.new (length names.entry) result }
     {
         let mut names = names;
         match names.next() {

@@ -1,6 +1,7 @@
-ghost use Rattle.std.specs.Prelude.{◌≡◌, ◌<◌, ◌≤◌, ◌%◌, ◌^◌, ℕ, length, take, None, MatchOption, IfOk, IfSome, IsSome};
+ghost use Rattle.std.specs.Prelude.{◌≡◌, ◌<◌, ◌≤◌, ◌%◌, ◌^◌, ℕ, true, length, take, None, MatchOption, IsOk, IfOk, IfSome, IsSome};
 ghost use Rattle.std.specs.Option.{option_copied};
 ghost use Rattle.std.specs.FinMap as fin;
+ghost use Rattle.flat_model.specs.Path.{Path, at_or_below};
 ghost use Rattle.group_tree.specs.Flat.{ReadsAsFlat};
 ghost use Rattle.group_tree.specs.Groups.{IsClosed, Inserts, Sets, Removes, only_root, descendant_count, chain_of};
 
@@ -96,7 +97,8 @@ impl<A: Allocator> GroupTree<A> {
         &self,
         path: &GroupPath<B>,
     ) -> Result<Option<SmallVec<u16, 8, &A>>, AllocError>
-        ensures { IfOk result (λ o. MatchOption o (fin.get self.now path.now ≡ None) (λ slots. IsSome (fin.get self.now path.now) × (slots.items ≡ chain_of self.now path.now))) }
+        ensures chain { IfOk result (λ o. MatchOption o (fin.get self.now path.now ≡ None) (λ slots. IsSome (fin.get self.now path.now) × (slots.items ≡ chain_of self.now path.now))) }
+        ensures inline { length path.now ≤ 8 → IsOk result }
     {
         let alloc = self.root.allocator();
         let mut slots = SmallVec::new(alloc);
@@ -126,6 +128,7 @@ impl<A: Allocator> GroupTree<A> {
     /// state. It does nothing.
     pub fn known(&self)
         ensures closed { IsClosed self.now }
+        ensures prefixes { (p q : Path) → IsSome (fin.get self.now p) → at_or_below p q ≡ true → IsSome (fin.get self.now q) }
         ensures flat { ReadsAsFlat self.now }
     {
         let _ = &self.root;
