@@ -1,0 +1,33 @@
+//! The groups as a recursive tree that any allocator can carry.
+//!
+//! - A tree is a finite map from paths to attributes. It has the root at all times, and with a group every group on the
+//!   way to it.
+//! - `insert`, `set` and `remove` change one path and nothing else. A refusal changes nothing, also where memory runs out
+//!   in the middle of an insert: there is no half-made group.
+//! - Refusals come in a fixed order, and each names its cause. Only `insert`, `copy`, `new`, and a `chain` of more than
+//!   eight groups take memory; a group takes one block for its name, and its parent's list of children grows.
+//! - A look-up goes down once, in O(depth · log children) comparisons of names. How many groups are below each group is
+//!   kept, so that a limit on descendants is tested without a walk.
+//! - The calls that end in `_at` do the same at the first n names of a path, and copy nothing.
+//! - A path may lie in other memory than the tree. What a group has is given and taken by value; its slot is the
+//!   caller's, and the tree asks nothing of it: two groups may have the same.
+//!
+//! Not promised: that a count of descendants is exact in a tree of 2^64 groups or more (it is taken modulo 2^64), and how
+//! much memory a tree takes.
+//!
+//! `specs/Groups.antt` says what each call reads and leaves, `specs/Flat.antt` how this is the flat state of `flat_model`.
+#![tactic(auto)]
+
+mod attr;
+mod copy;
+mod edits;
+mod fault;
+mod node;
+mod tree;
+
+pub use attr::{Attr, Limit, LimitFile, Limits};
+pub use fault::TreeFault;
+pub use tree::GroupTree;
+
+#[cfg(test)]
+mod tests;
