@@ -1,9 +1,31 @@
--- What a command line asks for.
-use Rattle.std.specs.Prelude.{◌≡◌, false}
+-- What a command line asks for, by the kinds of fault that `clap` finds in its words: none, a call for help, or another.
+use Rattle.std.specs.Prelude.{◌≡◌, ◌≢◌, true, false, [], codes, Result, Ok, Err}
+use Rattle.clap.specs.Words.{App, IsAmong, Kinds, new_app}
+use Rattle.clap.specs.declared.error.kind.ErrorKind.{ErrorKind}
+use Rattle.clap.specs.declared.error.kind.ErrorKind.TheVariants as kind
 use Rattle.replay_main.specs.declared.asking.Ask.{Ask}
 use Rattle.replay_main.specs.declared.asking.Ask.TheVariants.{Run, Help}
+use Rattle.replay_main.specs.declared.asking.LineFault.{LineFault}
+use Rattle.replay_main.specs.declared.asking.LineFault.TheVariants.{Bad, OutOfMemory}
 
--- a run has one worker, and no rehearsal
-abbrev pub IsPlain : Ask → Type 0
-IsPlain (Run workers rehearse) = (workers ≡ 1) × (rehearse ≡ false)
-IsPlain (Help text) = Unit {0}
+-- the program takes no arguments but the calls for help, and its own name is not among the words
+abbrev pub program : App
+program = record { top = record (new_app (codes "cgreplay")).top { no_binary_name = true }; subs = (new_app (codes "cgreplay")).subs }
+
+-- some kind among them is not a call for help
+abbrev pub HasFault : Kinds → Type 0
+HasFault kinds = (k : ErrorKind) × IsAmong k kinds × (k ≢ kind.DisplayHelp)
+
+-- a run by one worker where there is no fault, help where it is called for, and a bad line at another fault
+abbrev pub Asks : Kinds → Result Ask LineFault → Type 0
+Asks kinds (Ok (Run workers rehearse)) = (kinds ≡ []) × (workers ≡ 1) × (rehearse ≡ false)
+Asks kinds (Ok (Help text)) = IsAmong kind.DisplayHelp kinds
+Asks kinds (Err Bad) = HasFault kinds
+Asks kinds (Err OutOfMemory) = Unit {0}
+
+-- what an error of this kind comes to
+abbrev pub IsAskedBy : ErrorKind → Result Ask LineFault → Type 0
+IsAskedBy k (Ok (Run workers rehearse)) = ⊥
+IsAskedBy k (Ok (Help text)) = k ≡ kind.DisplayHelp
+IsAskedBy k (Err Bad) = (k ≢ kind.DisplayHelp) × (k ≢ kind.OutOfMemory)
+IsAskedBy k (Err OutOfMemory) = Unit {0}

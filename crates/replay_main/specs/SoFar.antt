@@ -66,7 +66,7 @@ answers_so_far bytes = answers_to slots (read_trace_so_far bytes)
 
 -- a first word of another command
 abbrev pub is_missing_word : Word → Bool
-is_missing_word w = same_name w (codes "rmdir") || same_name w (codes "exit") || same_name w (codes "where")
+is_missing_word w = same_name w (codes "rmdir") || (same_name w (codes "exit") || same_name w (codes "where"))
 
 -- the name of a file that is not one of these
 abbrev pub is_missing_file : List File → Word → Bool
@@ -87,5 +87,5 @@ abbrev pub is_missing : List Word → Bool
 is_missing [] = false
 is_missing (first ∷ rest) =
     is_missing_word first
-    || same_name first (codes "write") && is_missing_write rest
-    || same_name first (codes "cat") && is_missing_cat rest
+    || ((same_name first (codes "write") && is_missing_write rest)
+    || (same_name first (codes "cat") && is_missing_cat rest))

@@ -1,7 +1,8 @@
 //! The command line.
 
-ghost use Rattle.std.specs.Prelude.{IfOk};
-ghost use Rattle.replay_main.specs.Asks.{IsPlain};
+ghost use Rattle.std.specs.Prelude.{map};
+ghost use Rattle.clap.specs.Words.{fault_of, kind_of};
+ghost use Rattle.replay_main.specs.Asks.{Asks, IsAskedBy, program};
 
 use clap::error::ErrorKind;
 use clap::{Command, Error};
@@ -32,7 +33,7 @@ pub enum LineFault {
 
 /// Reads the words after the program's name: none, or `--help`.
 pub fn command_line(alloc: Global, words: &[&str]) -> Result<Ask, LineFault>
-    ensures { IfOk result IsPlain }
+    ensures { Asks (fault_of program (map (λ word. word.now) words.now)) result }
 {
     let command = Command::new(alloc, "cgreplay").no_binary_name(true);
     match command.try_get_matches_from(words) {
@@ -45,7 +46,7 @@ pub fn command_line(alloc: Global, words: &[&str]) -> Result<Ask, LineFault>
 }
 
 fn asked_by(alloc: Global, error: &Error) -> Result<Ask, LineFault>
-    ensures { IfOk result IsPlain }
+    ensures { IsAskedBy (kind_of error.now) result }
 {
     match error.kind() {
         ErrorKind::DisplayHelp => match format!(in alloc; "{error}") {

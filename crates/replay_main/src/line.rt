@@ -134,14 +134,14 @@ fn read_write(
     let Some((path, file, value)) = three_words(rest) else {
         return Err(TextFault::Syntax);
     };
-    let path = read_path(alloc, path)?;
+    let target = read_path(alloc, path)?;
     if !is_word(b"cgroup.procs", file) {
         return Err(TextFault::File);
     }
     let Some(pid) = read_pid(value) else {
         return Err(TextFault::Value);
     };
-    match path {
+    match target {
         Ok(path) => Ok(Ok(Command::Move { path, pid })),
         Err(_) => Ok(Err(AllocError)),
     }
