@@ -1,5 +1,5 @@
 -- The slots on the way up.
-use Rattle.std.proofs.Common.{◌≡◌, ℕ, Bool, true, false, not, cond, List, [], ◌∷◌, ◌++◌, map, reverse, get_or, refl, ap, sym, ◌∙◌, subst, Result, Ok, Err, Option, Some, None, IsSome, MatchBool, append_assoc, append-nil}
+use Rattle.std.proofs.Common.{◌≡◌, ℕ, Bool, true, false, not, List, [], ◌∷◌, ◌++◌, map, reverse, get_or, refl, ap, sym, ◌∙◌, subst, Ok, Option, Some, IsSome, MatchBool, append_assoc, append-nil}
 use Rattle.std.specs.Prelude.{filter}
 use Rattle.std.proofs.lemmas.List.{map-append, reverse-append}
 use Rattle.std.proofs.lemmas.List.Elements.{filter-append}

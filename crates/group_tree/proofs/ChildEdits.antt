@@ -1,18 +1,17 @@
 -- Children changed, added and taken out.
-use Rattle.std.proofs.Common.{◌≡◌, ℕ, ◌+◌, ◌<◌, ◌≤◌, Bool, true, false, cond, List, [], ◌∷◌, ◌++◌, length, take, drop, get_or, refl, ap, sym, ◌∙◌, subst, arith, suc, zero, Result, Ok, Err, Option, Some, None}
+use Rattle.std.proofs.Common.{◌≡◌, ℕ, Bool, true, false, cond, List, [], ◌∷◌, get_or, refl, ap, sym, ◌∙◌, subst, suc, zero, Ok, Err, Option, Some, None}
 use Rattle.std.proofs.Math.ListN.{set}
 use Rattle.std.specs.List.{insert, remove}
 use Rattle.std.specs.declared.cmp.Ordering.{Ordering}
 use Rattle.std.specs.declared.cmp.Ordering.TheVariants.{Less, Equal, Greater}
 use Rattle.std.specs.Ordering.{eq_by_cmp, is_eq, ordering_then, ordering_reverse}
-use Rattle.std.specs.Cmp.{IsTotalOrder, tied_itself, alike_right}
+use Rattle.std.specs.Cmp.{alike_right}
 use Rattle.std.specs.Cmp.Lexicographic.{nat_list_cmp_total}
 use Rattle.std.specs.FinMap as fin
 use Rattle.flat_model.specs.Path.{Name, Path, name_cmp, path_cmp}
 use Rattle.group_tree.specs.declared.attr.Attr.{Attr}
-use Rattle.group_tree.specs.Groups.{Groups}
-use Rattle.group_tree.specs.Node.{Branch, Entry, groups_of, AllAbove, HasRisingNames, place_of, place_by, one_on, IsUpdated}
-use Rattle.group_tree.proofs.Children.{below_get, found, Found, above_tied, above_less, get_root, get_child, later_ok, later_err, below_get_above}
+use Rattle.group_tree.specs.Node.{Branch, groups_of, AllAbove, HasRisingNames, place_of, place_by, IsUpdated}
+use Rattle.group_tree.proofs.Children.{below_get, above_tied, above_less, get_root, get_child, later_ok, later_err, below_get_above}
 
 shadowed : {A : Type 0} (b : Bool) (x y z : A) → cond b x z ≡ cond b x (cond b y z)
 shadowed true x y z = refl

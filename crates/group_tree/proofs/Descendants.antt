@@ -1,12 +1,12 @@
 -- How many groups are strictly below a path.
-use Rattle.std.proofs.Common.{◌≡◌, ℕ, ◌+◌, ◌^◌, ◌%◌, ◌<◌, ◌≤◌, Bool, true, false, cond, ◌&&◌, not, List, [], ◌∷◌, ◌++◌, map, length, get_or, refl, ap, sym, ◌∙◌, subst, arith, suc, Result, Ok, Err, Option, Some, None, IsSome}
+use Rattle.std.proofs.Common.{◌≡◌, ℕ, ◌+◌, ◌^◌, ◌%◌, ◌<◌, ◌≤◌, Bool, true, false, cond, ◌&&◌, not, List, [], ◌∷◌, ◌++◌, map, length, get_or, refl, ap, sym, ◌∙◌, subst, arith, suc, Ok, Option, Some, None, IsSome}
 use Rattle.std.specs.Prelude.{count_by, MatchOption, IfSome}
 use Rattle.std.proofs.lemmas.List.{length-map}
 use Rattle.std.specs.declared.cmp.Ordering.{Ordering}
 use Rattle.std.specs.declared.cmp.Ordering.TheVariants.{Less, Equal, Greater}
-use Rattle.std.specs.Ordering.{is_eq, eq_by_cmp, ordering_then, ordering_reverse}
+use Rattle.std.specs.Ordering.{is_eq, ordering_then, ordering_reverse}
 use Rattle.std.specs.FinMap as fin
-use Rattle.flat_model.specs.Path.{Name, Path, name_cmp, path_cmp, same_name, at_or_below, strictly_below}
+use Rattle.flat_model.specs.Path.{Name, Path, name_cmp, path_cmp, at_or_below, strictly_below}
 use Rattle.flat_model.proofs.PathLaws.{name_cmp-IsTotalOrder}
 use Rattle.flat_model.proofs.Sums.{count_by-cons}
 use Rattle.group_tree.specs.declared.attr.Attr.{Attr}

@@ -1,10 +1,10 @@
 -- The tree's groups without their slots.
-use Rattle.std.proofs.Common.{◌≡◌, ◌↔◌, Bool, true, false, cond, ◌&&◌, ◌||◌, T, List, [], ◌∷◌, map, length, Option, Some, None, IsSome, is_some, refl, ap, sym, ◌∙◌, subst}
+use Rattle.std.proofs.Common.{◌≡◌, ◌↔◌, Bool, true, false, cond, ◌&&◌, ◌||◌, T, List, [], ◌∷◌, map, length, Option, Some, None, refl, ap, sym, ◌∙◌, subst}
 use Rattle.std.specs.Prelude.{option_map, count_by}
 use Rattle.std.specs.List.{list_any}
-use Rattle.std.specs.Ordering.{eq_by_cmp, is_lt}
+use Rattle.std.specs.Ordering.{is_lt}
 use Rattle.std.proofs.lemmas.List.{length-map}
-use Rattle.std.specs.FinMap.{FinMap, find, is_sorted, entries, entries_sorted, keys, len, get, insert, remove, from_entries, from_sorted, same_map, get-entries, get-insert, get-remove, get-from_entries, get-from_sorted, entries-from_sorted, len-entries, contains_key-keys}
+use Rattle.std.specs.FinMap.{FinMap, find, is_sorted, entries, entries_sorted, keys, len, get, insert, remove, from_sorted, same_map, get-entries, get-insert, get-remove, get-from_entries, get-from_sorted, entries-from_sorted, len-entries, contains_key-keys}
 use Rattle.std.specs.FinMap.Entries.{below_all}
 use Rattle.flat_model.specs.Path.{Path, path_cmp, same_path, strictly_below}
 use Rattle.flat_model.specs.State as flat

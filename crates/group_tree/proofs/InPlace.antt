@@ -1,5 +1,5 @@
 -- A chain that has room is pushed with no growth.
-use Rattle.std.proofs.Common.{◌≡◌, ℕ, ◌+◌, ◌≤◌, Bool, true, false, List, [], ◌∷◌, length, Result, Ok, Err, ap, refl, ◌∙◌, arith}
+use Rattle.std.proofs.Common.{◌≡◌, ℕ, ◌+◌, Bool, true, false, ◌∷◌, length, Result, Ok, Err, ap, refl, ◌∙◌, arith}
 use Rattle.smallvec.specs.SmallVec.{SmallVec, small_vec_len, HasRoomFor}
 use Rattle.flat_model.specs.Path.{Name, Path}
 use Rattle.group_tree.specs.Node.{PushesInPlace}

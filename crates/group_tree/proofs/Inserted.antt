@@ -1,5 +1,5 @@
 -- A new group, below a child or as a child, as the node sees it.
-use Rattle.std.proofs.Common.{◌≡◌, ℕ, ◌-◌, cond, List, [], ◌∷◌, length, take, get_or, true, refl, ap, sym, ◌∙◌, subst, arith, suc, Result, Ok, Err, Option, Some, None, is_some, IsSome}
+use Rattle.std.proofs.Common.{◌≡◌, ℕ, List, [], ◌∷◌, get_or, true, refl, ap, sym, ◌∙◌, subst, Result, Ok, Err, Option, Some, None, is_some, IsSome}
 use Rattle.std.proofs.Math.ListN.{set}
 use Rattle.std.specs.List.{insert}
 use Rattle.std.specs.FinMap as fin
@@ -12,7 +12,7 @@ use Rattle.group_tree.specs.Node.{Branch, groups_of, leaf_of, HasRisingNames, pl
 use Rattle.group_tree.proofs.Parents.{parent-one, parent-cons, parent_gets}
 use Rattle.group_tree.proofs.Children.{missing, get_child}
 use Rattle.group_tree.proofs.Walk.{find_none}
-use Rattle.group_tree.proofs.ChildEdits.{Edited, added, lifted, get_leaf}
+use Rattle.group_tree.proofs.ChildEdits.{added, lifted, get_leaf}
 use Rattle.group_tree.proofs.Steps.{Step, step_at, some_root}
 
 not_both : {A : Type 0} (o : Option A) → o ≡ None → IsSome o → ⊥

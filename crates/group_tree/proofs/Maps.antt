@@ -1,12 +1,12 @@
 -- What holds at each path holds of the map.
-use Rattle.std.proofs.Common.{◌≡◌, ◌≢◌, ℕ, ◌+◌, ◌-◌, ◌<◌, Bool, true, false, cond, not, ◌&&◌, List, [], ◌∷◌, ◌++◌, length, refl, ap, sym, ◌∙◌, subst, arith, Result, Ok, Err, Option, Some, None, IsSome, is_some, length-append}
+use Rattle.std.proofs.Common.{◌≡◌, ◌≢◌, Bool, true, false, cond, [], ◌∷◌, ◌++◌, length, refl, ap, sym, ◌∙◌, subst, arith, Result, Ok, Err, Some, None, length-append}
 use Rattle.std.specs.FinMap as fin
-use Rattle.flat_model.specs.Path.{Name, Path, path_cmp, same_path, at_or_below, strictly_below}
+use Rattle.flat_model.specs.Path.{Name, Path, path_cmp, same_path, strictly_below}
 use Rattle.flat_model.proofs.PathLaws.{path_cmp-IsTotalOrder, path_cmp-IsAntisymmetric, same_path_is, at_or_below_is, at_or_below-append, strictly_below_is}
 use Rattle.group_tree.specs.declared.attr.Attr.{Attr}
 use Rattle.group_tree.specs.declared.fault.TreeFault.{TreeFault}
 use Rattle.group_tree.specs.declared.fault.TreeFault.TheVariants.{Exists, NoParent, NoGroup, HasChildren, RootFixed, OutOfMemory}
-use Rattle.group_tree.specs.Groups.{Groups, only_root, Inserts, Sets, Removes, HasBelow, HasNoneBelow}
+use Rattle.group_tree.specs.Groups.{Groups, only_root, Inserts, Sets, Removes, HasNoneBelow}
 use Rattle.group_tree.specs.Node.{groups_of, IsUpdated, NodeInserts, NodeSets, NodeRemoves}
 use Rattle.group_tree.proofs.ChildEdits.{get_leaf}
 

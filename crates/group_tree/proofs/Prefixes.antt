@@ -1,9 +1,9 @@
 -- Each prefix of a group's path is a group.
-use Rattle.std.proofs.Common.{◌≡◌, ℕ, zero, suc, ◌+◌, ◌-◌, ◌≤◌, true, List, [], ◌∷◌, length, take, IsSome, refl, sym, ap, subst, ◌∙◌, arith}
+use Rattle.std.proofs.Common.{◌≡◌, ℕ, zero, suc, ◌+◌, ◌-◌, ◌≤◌, true, [], ◌∷◌, length, take, IsSome, refl, sym, ap, subst, ◌∙◌, arith}
 use Rattle.std.proofs.lemmas.List.{length-take-le}
 use Rattle.std.proofs.Math.Seq.{take-length}
 use Rattle.std.specs.FinMap.{get}
-use Rattle.flat_model.specs.Path.{Name, Path, parent, at_or_below}
+use Rattle.flat_model.specs.Path.{Path, parent, at_or_below}
 use Rattle.flat_model.proofs.PathLaws.{at_or_below_take, at_or_below_length}
 use Rattle.group_tree.specs.Groups.{Groups, IsClosed}
 

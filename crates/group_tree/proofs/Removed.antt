@@ -1,5 +1,5 @@
 -- What a removal below a child, or of a child, is for the node.
-use Rattle.std.proofs.Common.{◌≡◌, ℕ, ◌+◌, ◌<◌, ◌≤◌, Bool, true, false, cond, List, [], ◌∷◌, ◌++◌, length, get_or, refl, ap, sym, ◌∙◌, subst, arith, suc, zero, Result, Ok, Err, Option, Some, None, is_some, IsSome, ◌==◌}
+use Rattle.std.proofs.Common.{◌≡◌, ℕ, ◌<◌, true, false, cond, List, [], ◌∷◌, ◌++◌, length, get_or, refl, ap, sym, ◌∙◌, subst, arith, Result, Ok, Err, Some, None, is_some, IsSome, ◌==◌}
 use Rattle.std.proofs.Math.ListN.{set}
 use Rattle.std.specs.List.{remove}
 use Rattle.std.specs.FinMap as fin
@@ -12,8 +12,8 @@ use Rattle.group_tree.specs.declared.fault.TreeFault.{TreeFault}
 use Rattle.group_tree.specs.declared.fault.TreeFault.TheVariants.{Exists, NoParent, NoGroup, HasChildren, RootFixed, OutOfMemory}
 use Rattle.group_tree.specs.Groups.{Groups}
 use Rattle.group_tree.specs.Node.{Branch, groups_of, HasRisingNames, place_of, IsUpdated, NodeRemoves, TakesOut, IsLeafOrNot}
-use Rattle.group_tree.proofs.Children.{found, Found, get_root, get_child, below_get}
-use Rattle.group_tree.proofs.ChildEdits.{Edited, taken_out, lifted, get_leaf}
+use Rattle.group_tree.proofs.Children.{found, get_child, below_get}
+use Rattle.group_tree.proofs.ChildEdits.{taken_out, lifted, get_leaf}
 use Rattle.group_tree.proofs.Steps.{Step, step_at, kid_there}
 
 removes_step : (old new : Groups) (n : Name) (kid after : Groups) (p : Path) (r : Result Attr TreeFault) → Step old new n kid after → NodeRemoves kid after p r → NodeRemoves old new (n ∷ p) r

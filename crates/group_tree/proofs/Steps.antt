@@ -1,13 +1,13 @@
 -- One step down the tree: what a change below a child is for the node.
-use Rattle.std.proofs.Common.{◌≡◌, ℕ, ◌+◌, ◌<◌, cond, List, [], ◌∷◌, length, get_or, refl, ap, sym, ◌∙◌, subst, Result, Ok, Option, Some, None, is_some, IsSome}
+use Rattle.std.proofs.Common.{◌≡◌, ℕ, ◌<◌, List, [], ◌∷◌, length, get_or, ap, sym, ◌∙◌, subst, Ok, Option, Some, is_some, IsSome}
 use Rattle.std.proofs.Math.ListN.{set}
 use Rattle.std.proofs.lemmas.List.{set-get_or, get_or_default}
 use Rattle.std.specs.FinMap as fin
-use Rattle.flat_model.specs.Path.{Name, Path, path_cmp}
+use Rattle.flat_model.specs.Path.{Name, Path}
 use Rattle.group_tree.specs.declared.attr.Attr.{Attr}
 use Rattle.group_tree.specs.Groups.{Groups}
 use Rattle.group_tree.specs.Node.{Branch, groups_of, HasRisingNames, place_of, IsUpdated}
-use Rattle.group_tree.proofs.Children.{found, Found, get_root, get_child, below_get}
+use Rattle.group_tree.proofs.Children.{found, get_root, get_child, below_get}
 use Rattle.group_tree.proofs.ChildEdits.{Edited, replaced, lifted}
 
 -- a node before and after a change below its child n

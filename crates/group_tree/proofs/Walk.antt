@@ -1,11 +1,10 @@
 -- One step down the tree, as an answer at a return needs it.
-use Rattle.std.proofs.Common.{◌≡◌, ℕ, ◌+◌, ◌<◌, ◌≤◌, Bool, true, false, cond, List, [], ◌∷◌, ◌++◌, length, get_or, refl, ap, sym, ◌∙◌, subst, arith, suc, Result, Ok, Err, Option, Some, None}
+use Rattle.std.proofs.Common.{◌≡◌, ℕ, List, [], ◌∷◌, get_or, ap, sym, ◌∙◌, Ok, Err, Some, None}
 use Rattle.std.specs.FinMap as fin
 use Rattle.flat_model.specs.Path.{Name, Path}
 use Rattle.group_tree.specs.declared.attr.Attr.{Attr}
-use Rattle.group_tree.specs.Groups.{Groups}
 use Rattle.group_tree.specs.Node.{Branch, groups_of, HasRisingNames, place_of}
-use Rattle.group_tree.proofs.Children.{found, missing, get_root, get_child, below_get}
+use Rattle.group_tree.proofs.Children.{found, missing, get_root, get_child}
 
 pub find_here : (attr : Attr) (kids : List Branch) (b : Branch) (nm : Name) (names : Path) → ◌≡◌ {A = Branch} (record { name = nm; groups = groups_of attr kids }) b → HasRisingNames kids → names ≡ [] → Some attr ≡ fin.get b.groups names
 find_here attr kids b nm names is rising e = sym (get_root attr kids rising) ∙ ap (λ (c : Branch). fin.get c.groups []) is ∙ ap (fin.get b.groups) (sym e)

@@ -1,5 +1,5 @@
 -- The tree's groups as `flat_model` has them: the same paths, limits and event totals, and no slot.
-use Rattle.std.specs.Prelude.{◌≡◌, ◌↔◌, true, Option, map, option_map}
+use Rattle.std.specs.Prelude.{◌≡◌, ◌↔◌, true, map, option_map}
 use Rattle.std.specs.List.{list_any}
 use Rattle.std.specs.Ordering.{nat_cmp}
 use Rattle.std.specs.FinMap.{FinMap, entries, from_entries, get, insert, remove, keys, len}

@@ -9,7 +9,7 @@ use Rattle.flat_model.specs.Path.{Name, Path, name_cmp, same_path, parent}
 use Rattle.group_tree.specs.declared.attr.Attr.{Attr}
 use Rattle.group_tree.specs.declared.fault.TreeFault.{TreeFault}
 use Rattle.group_tree.specs.declared.fault.TreeFault.TheVariants.{Exists, NoParent, NoGroup, HasChildren, RootFixed, OutOfMemory}
-use Rattle.group_tree.specs.Groups.{Groups, descendant_count, HasBelow, HasNoneBelow}
+use Rattle.group_tree.specs.Groups.{Groups, descendant_count}
 
 pub record Branch : Type 0 where
   pub name : Name

@@ -1,4 +1,3 @@
-use Rattle.std.proofs.Common.{sym}
 use Rattle.group_tree.proofs.Removed.{there_is, leaf_is}
 use Rattle.group_tree.proofs.edits.take_out.Goals as goal
 

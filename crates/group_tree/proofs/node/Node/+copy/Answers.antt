@@ -1,6 +1,6 @@
-use Rattle.std.proofs.Common.{ℕ, rules, arith, ◌≡◌, ◌<◌, ◌∙◌, subst, sym, ap, length}
+use Rattle.std.proofs.Common.{ℕ, rules, arith, ◌≡◌, ◌<◌}
 use Rattle.std.proofs.lemmas.Grind.{common_steps}
-use Rattle.group_tree.proofs.Copies.{child_smaller, copied, copied_node}
+use Rattle.group_tree.proofs.Copies.{child_smaller, copied_node}
 use Rattle.group_tree.proofs.node.Node.+copy.Goals as goal
 
 falls_child : (n m t : ℕ) → m ≡ t → n < m → n < t
