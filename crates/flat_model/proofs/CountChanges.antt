@@ -1,12 +1,11 @@
 -- How a count over a map's values changes.
-use Rattle.std.proofs.Common.{◌≡◌, ℕ, ◌+◌, Bool, cond, List, [], ◌∷◌, map, length, Some, None, refl, sym, ap, ◌∙◌, arith}
+use Rattle.std.proofs.Common.{◌≡◌, ◌+◌, Bool, cond, List, [], ◌∷◌, map, Some, None, sym, ap, ◌∙◌, arith}
 use Rattle.std.specs.Prelude.{count_by}
 use Rattle.std.specs.declared.cmp.Ordering.{Ordering}
 use Rattle.std.specs.declared.cmp.Ordering.TheVariants.{Less, Equal, Greater}
 use Rattle.std.specs.Ordering.{is_eq}
 use Rattle.std.specs.Cmp.{IsTotalOrder, eq_by_cmp_equiv}
-use Rattle.std.specs.FinMap.{FinMap, IsAntisymmetric, get, insert, remove, values, entries, find, from_entries, entries-insert, get-entries, get-remove, get-from_entries, empty, len-entries, len-empty}
-use Rattle.std.specs.List.{fold}
+use Rattle.std.specs.FinMap.{FinMap, IsAntisymmetric, get, insert, remove, values, entries, find, entries-insert, get-entries, get-remove}
 use Rattle.std.specs.FinMap.Entries.{put, by_order}
 use Rattle.flat_model.proofs.Maps.{insert_remove}
 use Rattle.flat_model.proofs.Sums.{count_by-cons}

@@ -2,24 +2,24 @@
 use Rattle.std.proofs.Common.{◌≡◌, ℕ, ◌+◌, ◌-◌, ◌≤◌, Bool, true, false, cond, not, ◌&&◌, ◌||◌, List, [], ◌∷◌, map, length, Option, Some, None, refl, sym, ap, subst, ◌∙◌, is_some, arith, ltb}
 use Rattle.std.proofs.lemmas.Bool.Decides.{nat_tests}
 use Rattle.std.proofs.lemmas.List.{length-take}
-use Rattle.std.specs.Prelude.{unwrap_or, option_map, take}
+use Rattle.std.specs.Prelude.{unwrap_or, option_map}
 use Rattle.std.specs.List.{list_any}
 use Rattle.std.specs.Option.{option_or}
 use Rattle.std.specs.declared.cmp.Ordering.{Ordering}
 use Rattle.std.specs.Ordering.{nat_cmp, eq_by_cmp}
 use Rattle.std.specs.Cmp.{nat_cmp_total, IsTotalOrder}
-use Rattle.std.specs.FinMap.{FinMap, IsAntisymmetric, nat_cmp-IsAntisymmetric, get, insert, remove, retain_keys, entries, keys, values, find, len, from_entries, get-insert, get-remove, get-retain_keys, get-entries, len-insert, len-remove, len-entries, len-empty}
-use Rattle.flat_model.specs.Path.{Path, path_cmp, parent, is_root, strictly_below, at_or_below, same_path}
+use Rattle.std.specs.FinMap.{IsAntisymmetric, nat_cmp-IsAntisymmetric, get, insert, remove, retain_keys, entries, keys, values, find, len, from_entries, get-insert, get-remove, get-retain_keys, get-entries, len-insert, len-remove, len-entries, len-empty}
+use Rattle.flat_model.specs.Path.{Path, path_cmp, parent, is_root, strictly_below, same_path}
 use Rattle.flat_model.specs.State.{State, Attr, Limit, fresh}
 use Rattle.flat_model.specs.Counts.{is_group}
 use Rattle.flat_model.specs.File.{LimitFile, PidsMax, MaxDescendants, MaxDepth}
 use Rattle.flat_model.specs.Command.{Command, MakeGroup, RemoveGroup, Fork, Exit, Move, SetLimit, Kill, Show, Locate, Undo, Refusal, Exists, NoSlot, NoGroup, RootFixed, HasChildren, HasProcesses}
 use Rattle.flat_model.specs.Refuse.{refuse}
-use Rattle.flat_model.specs.Step.{refusal, after, after_refusal, home_of, attr_of, lives_in, count_up, counts_for, with_limit, at_each, blocked_make}
+use Rattle.flat_model.specs.Step.{refusal, after, home_of, attr_of, lives_in, count_up, counts_for, with_limit, at_each, blocked_make}
 use Rattle.flat_model.specs.WellFormed.{WellFormed}
 use Rattle.flat_model.proofs.PathLaws.{path_cmp-IsTotalOrder, path_cmp-IsAntisymmetric, same_path_is, same_path_itself, at_or_below_itself, strictly_below_is, parent_above}
 use Rattle.flat_model.proofs.Maps.{key_of, get-each}
-use Rattle.flat_model.proofs.Refusing.{passed, beyond, neither, affirmed}
+use Rattle.flat_model.proofs.Refusing.{passed, beyond, affirmed}
 
 some_of : {X : Type 0} (b : Bool) (x : X) (o : Option X) → is_some o ≡ true → is_some (cond b (Some x) o) ≡ true
 some_of true x o h = refl

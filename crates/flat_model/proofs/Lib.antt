@@ -2,9 +2,11 @@ pub mod PathLaws
 pub mod PathMembers
 pub mod PathTextLaws
 pub mod Maps
+pub mod MapValues
 pub mod Sums
 pub mod CountChanges
 pub mod Counting
+pub mod Killing
 pub mod TakenBack
 pub mod Refusing
 pub mod Kept
@@ -13,3 +15,12 @@ pub mod Limits
 pub mod Undoing
 pub mod Reachable
 pub mod PathTextLawsChild
+pub mod WordLaws
+pub mod ValueLaws
+pub mod CommandTextLawsWords
+pub mod CommandTextLaws
+pub mod CommandTextLawsOnly
+pub mod CommandTextLawsTrace
+pub mod RowsReads
+pub mod RowsLists
+pub mod RowsMachine

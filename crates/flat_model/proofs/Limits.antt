@@ -1,15 +1,15 @@
 -- What a limit lets through, what it refuses, and that a counted fork keeps a state well formed.
-use Rattle.std.proofs.Common.{◌≡◌, ℕ, zero, suc, get_or, ◌+◌, ◌-◌, ◌<◌, ◌≤◌, Bool, true, false, cond, not, ◌&&◌, List, [], ◌∷◌, length, Option, Some, None, refl, sym, ap, subst, ◌∙◌, is_some, arith, ltb, leb}
+use Rattle.std.proofs.Common.{◌≡◌, ℕ, zero, suc, get_or, ◌+◌, ◌-◌, ◌<◌, ◌≤◌, Bool, true, false, cond, not, ◌&&◌, List, [], ◌∷◌, length, Option, Some, None, refl, sym, ap, subst, ◌∙◌, arith, ltb}
 use Rattle.std.proofs.lemmas.Bool.Decides.{nat_tests}
-use Rattle.std.specs.Prelude.{unwrap_or, option_map}
+use Rattle.std.specs.Prelude.{option_map}
 use Rattle.std.specs.List.{Contains}
 use Rattle.std.specs.Option.{option_or}
 use Rattle.std.specs.FinMap.{get, len, keys, values}
 use Rattle.std.specs.List.{list_any}
 use Rattle.flat_model.specs.Path.{Path, is_root, parent, at_or_below, strictly_below, same_path, upward}
 use Rattle.flat_model.specs.State.{State, Attr, Limit, Unlimited, At}
-use Rattle.flat_model.specs.Counts.{current, descendant_count, is_group, has_process, exceeds, reaches, asks, is_full, first_path, blocked_fork}
-use Rattle.flat_model.specs.File.{LimitFile, File, readable, on_root, is_pids_max}
+use Rattle.flat_model.specs.Counts.{current, descendant_count, is_group, has_process, exceeds, reaches, asks, is_full, blocked_fork}
+use Rattle.flat_model.specs.File.{readable, on_root, is_pids_max}
 use Rattle.flat_model.specs.Command.{Command, MakeGroup, RemoveGroup, Fork, Exit, Move, SetLimit, Kill, Show, Locate, Undo, Refusal, Exists, NoGroup, Descendants, Depth, NoSlot, RootFixed, HasChildren, HasProcesses, NoProcess, PidInUse, OverPidsMax, NoFile, NotReadable}
 use Rattle.flat_model.specs.Refuse.{refuse}
 use Rattle.flat_model.specs.Step.{refusal, after, after_refusal, home_of, limit_met, first_refusal, blocked_make}

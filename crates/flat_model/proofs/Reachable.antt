@@ -2,7 +2,7 @@
 use Rattle.std.proofs.Common.{◌≡◌, ℕ, ◌+◌, ◌≤◌, Bool, true, false, cond, List, [], ◌∷◌, Option, Some, None, refl, sym, ap, subst, ◌∙◌, is_some, arith}
 use Rattle.std.specs.Cmp.{nat_cmp_total}
 use Rattle.std.specs.Ordering.{nat_cmp, eq_by_cmp}
-use Rattle.std.specs.FinMap.{get, insert, empty, len, get-insert, get-empty, len-insert, len-empty}
+use Rattle.std.specs.FinMap.{get, empty, len, get-insert, get-empty, len-insert, len-empty}
 use Rattle.flat_model.specs.Path.{Path, path_cmp, parent}
 use Rattle.flat_model.specs.State.{State, Attr, start, fresh}
 use Rattle.flat_model.specs.Counts.{is_group}

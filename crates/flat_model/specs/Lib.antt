@@ -17,3 +17,4 @@ pub mod Log
 pub mod Trace
 pub mod Replies
 pub mod Codes
+pub mod Mapped

@@ -1,7 +1,7 @@
 -- What the limits promise, in terms of counts.
-use Rattle.std.specs.Prelude.{◌≡◌, ℕ, ◌+◌, ◌-◌, ◌<◌, ◌≤◌, Bool, true, false, Some, length}
+use Rattle.std.specs.Prelude.{◌≡◌, ℕ, ◌+◌, ◌-◌, ◌<◌, ◌≤◌, true, false, Some, length}
 use Rattle.std.specs.FinMap.{get}
-use Rattle.flat_model.specs.Path.{Path, at_or_below, strictly_below, is_root, parent}
+use Rattle.flat_model.specs.Path.{Path, at_or_below, strictly_below, is_root}
 use Rattle.flat_model.specs.State.{State, Attr, At}
 use Rattle.flat_model.specs.Counts.{current, descendant_count, is_full}
 

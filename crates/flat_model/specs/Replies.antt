@@ -1,6 +1,5 @@
 -- The bytes that answer a trace.
-use Rattle.std.specs.Prelude.{ℕ, ◌+◌, Bool, true, false, cond, List, [], ◌∷◌, ◌++◌, length, codes, decimal, flat_map, count_by}
-use Rattle.flat_model.specs.Path.{Path}
+use Rattle.std.specs.Prelude.{ℕ, ◌+◌, Bool, true, false, List, [], ◌∷◌, ◌++◌, codes, decimal, flat_map, count_by}
 use Rattle.flat_model.specs.PathText.{path_text}
 use Rattle.flat_model.specs.Command.{Command, Refusal, Exists, NoGroup, Descendants, Depth, NoSlot, RootFixed, HasChildren, HasProcesses, NoProcess, PidInUse, OverPidsMax, NoFile, NotReadable, Reply, Done, Text, Undone, Refused, NothingToUndo}
 use Rattle.flat_model.specs.CommandText.{command_text}

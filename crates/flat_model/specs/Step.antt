@@ -1,5 +1,5 @@
 -- One command on the state: the first refusal that holds, in the order of the rules, or else what the command leaves.
-use Rattle.std.specs.Prelude.{ℕ, ◌+◌, ◌-◌, Bool, true, false, cond, ◌&&◌, not, List, [], ◌∷◌, length, ltb, Option, Some, None, map, option_map, unwrap_or}
+use Rattle.std.specs.Prelude.{ℕ, ◌+◌, ◌-◌, Bool, false, cond, ◌&&◌, not, List, [], ◌∷◌, length, ltb, Option, Some, None, map, option_map, unwrap_or}
 use Rattle.std.specs.Option.{option_or}
 use Rattle.std.specs.List.{list_any}
 use Rattle.std.specs.FinMap.{get, insert, remove, retain_keys, from_entries, len, entries, keys, values}
@@ -7,7 +7,7 @@ use Rattle.flat_model.specs.Refuse.{refuse}
 use Rattle.flat_model.specs.Path.{Path, at_or_below, strictly_below, same_path, is_root, parent, upward}
 use Rattle.flat_model.specs.State.{State, Attr, Limit, fresh}
 use Rattle.flat_model.specs.Counts.{descendant_count, is_group, has_process, reaches, asks, blocked_fork}
-use Rattle.flat_model.specs.File.{LimitFile, PidsMax, MaxDescendants, MaxDepth, File, is_pids_max, readable, on_root}
+use Rattle.flat_model.specs.File.{LimitFile, PidsMax, MaxDescendants, MaxDepth, is_pids_max, readable, on_root}
 use Rattle.flat_model.specs.Command.{Command, MakeGroup, RemoveGroup, Fork, Exit, Move, SetLimit, Kill, Show, Locate, Undo, Refusal, Exists, NoGroup, Descendants, Depth, NoSlot, RootFixed, HasChildren, HasProcesses, NoProcess, PidInUse, OverPidsMax, NoFile, NotReadable}
 
 -- the home of a process, and the root where there is no such process

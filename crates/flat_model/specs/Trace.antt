@@ -1,5 +1,5 @@
 -- Traces: lines, words, and the command or the text fault that a line says.
-use Rattle.std.specs.Prelude.{ℕ, Bool, true, false, cond, not, ◌&&◌, ◌||◌, ◌==◌, nat_lt, List, [], ◌∷◌, ◌++◌, length, codes, filter, map, Result, Ok, Err}
+use Rattle.std.specs.Prelude.{ℕ, Bool, false, cond, not, ◌||◌, ◌==◌, nat_lt, List, [], ◌∷◌, length, codes, filter, map, Result, Ok, Err}
 use Rattle.std.specs.List.{slice_split}
 use Rattle.flat_model.specs.Refuse.{map_ok, or_fault, some_or, and_then}
 use Rattle.flat_model.specs.Path.{Path, same_name}

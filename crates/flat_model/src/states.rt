@@ -1,10 +1,11 @@
 //! The laws of states: what commands keep, what the counts are, and what the limits let through.
 
 ghost use Rattle.std.specs.Prelude.{◌≡◌, ℕ, ◌+◌, ◌↔◌, true, false, Some, None, length, sum_by};
-ghost use Rattle.flat_model.specs.Path.{Path, parent};
+ghost use Rattle.std.specs.FinMap.{get};
+ghost use Rattle.flat_model.specs.Path.{Path, at_or_below, parent};
 ghost use Rattle.flat_model.specs.State.{State, start};
 ghost use Rattle.flat_model.specs.Counts.{current, populated, members, children, IsInhabited};
-ghost use Rattle.flat_model.specs.Command.{Command, MakeGroup, Fork, Refusal, Descendants, Depth, OverPidsMax};
+ghost use Rattle.flat_model.specs.Command.{Command, MakeGroup, Fork, Kill, Refusal, Descendants, Depth, OverPidsMax};
 ghost use Rattle.flat_model.specs.Step.{refusal, after, after_refusal, home_of};
 ghost use Rattle.flat_model.specs.WellFormed.{WellFormed};
 ghost use Rattle.flat_model.specs.Limiting.{IsWithinPids, IsLimiting, HasRoomBelow, MeetsDescendants, MeetsDepth};
@@ -22,6 +23,12 @@ pub fn well_formed_kept()
 pub fn counts_are_exact()
     ensures whole { (slots : ℕ) (s : State) → WellFormed slots s → (g : Path) → current s g ≡ length (members s g) + sum_by (current s) (children s g) }
     ensures populated { (s : State) (g : Path) → (populated s g ≡ true) ↔ IsInhabited s g }
+{}
+
+/// A kill leaves nobody in the group and below it, and everybody else where they are.
+pub fn kill_is_whole()
+    ensures nobody { (s : State) (g : Path) → populated (after s (Kill g)) g ≡ false }
+    ensures others { (s : State) (g : Path) (pid : ℕ) (p : Path) → get s.home pid ≡ Some p → at_or_below p g ≡ false → get (after s (Kill g)).home pid ≡ Some p }
 {}
 
 /// A limit refuses exactly what would break it, and names the group that it stands at.

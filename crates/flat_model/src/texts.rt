@@ -1,0 +1,46 @@
+//! The laws of the texts of values, files and commands. Each function says its law and does nothing.
+
+ghost use Rattle.std.specs.Prelude.{◌≡◌, ℕ, List, Some, Ok, codes, decimal, flat_map, map};
+ghost use Rattle.std.specs.List.{AllByRecursion};
+ghost use Rattle.flat_model.specs.State.{Limit};
+ghost use Rattle.flat_model.specs.File.{LimitFile, File, file_name, file_named};
+ghost use Rattle.flat_model.specs.FileText.{line, limit_text};
+ghost use Rattle.flat_model.specs.Values.{trimmed, read_pid, read_limit, read_kill};
+ghost use Rattle.flat_model.specs.Command.{Command};
+ghost use Rattle.flat_model.specs.CommandText.{IsPid, IsLimit, IsSayable, command_text};
+ghost use Rattle.flat_model.specs.Trace.{read_line, read_trace, Run};
+
+/// A pid is read from its decimal, and from no other text but for spaces at both ends.
+pub fn pid_is_read_back()
+    ensures read { (n : ℕ) → IsPid n → read_pid (decimal n) ≡ Ok n }
+    ensures only { (t : List ℕ) (n : ℕ) → read_pid t ≡ Ok n → IsPid n × (trimmed t ≡ decimal n) }
+{}
+
+/// The text of `cgroup.kill` is `1`, and no other text but for spaces at both ends.
+pub fn kill_is_one()
+    ensures { (t : List ℕ) (n : ℕ) → read_kill t ≡ Ok n → trimmed t ≡ codes "1" }
+{}
+
+/// A limit is read from the text that its file shows, and each limit that is read is one of the file.
+pub fn limit_is_read_back()
+    ensures read { (file : LimitFile) (l : Limit) → IsLimit file l → read_limit file (limit_text l) ≡ Ok l }
+    ensures only { (file : LimitFile) (t : List ℕ) (l : Limit) → read_limit file t ≡ Ok l → IsLimit file l }
+{}
+
+/// A file is found by its name alone.
+pub fn file_is_read_back()
+    ensures read { (f : File) → file_named (file_name f) ≡ Some f }
+    ensures only { (name : List ℕ) (f : File) → file_named name ≡ Some f → name ≡ file_name f }
+{}
+
+/// The text of a command is read as that command, no two commands have one text, and each command that is read has a text.
+pub fn command_is_read_back()
+    ensures read { (c : Command) → IsSayable c → read_line (command_text c) ≡ Run c }
+    ensures apart { (c d : Command) → IsSayable c → IsSayable d → command_text c ≡ command_text d → c ≡ d }
+    ensures only { (t : List ℕ) (c : Command) → read_line t ≡ Run c → IsSayable c }
+{}
+
+/// The texts of commands, each with a line feed, are a trace of these commands.
+pub fn trace_is_read_back()
+    ensures { (cs : List Command) → AllByRecursion IsSayable cs → read_trace (flat_map (λ c. line (command_text c)) cs) ≡ map Run cs }
+{}
