@@ -1,6 +1,6 @@
 -- What a journal says of the states before: each step kept, each state well formed, all of it undone.
 use Rattle.std.proofs.Common.{◌≡◌, ℕ, suc, Bool, true, false, cond, List, [], ◌∷◌, ◌++◌, map, reverse, length, Option, Some, None, refl, sym, ap, subst, ◌∙◌, is_some}
-use Rattle.std.proofs.lemmas.List.{map-append, reverse-append}
+use Rattle.std.proofs.lemmas.List.{map-append, reverse-append, length-reverse, length-map}
 use Rattle.std.specs.Cmp.{nat_cmp_total}
 use Rattle.std.specs.FinMap.{nat_cmp-IsAntisymmetric}
 use Rattle.flat_model.specs.Path.{Path}
@@ -138,3 +138,12 @@ last_step {A} s journal rest e is h = (subst (IsHistory s) (ap (λ (js : List (E
 
 pub last_ready : {A : Type 0} (s : State) (journal rest : List (Entry A)) (e : Entry A) → journal ≡ rest ++ e ∷ [] → IsHistory s (records journal) → IsReady s (journal_entry e).1
 last_ready s journal rest e is h = step_ready s (journal_entry e).0 (journal_entry e).1 (last_step s journal rest e is h)
+
+-- ---- how long the past is
+
+past_length : (s : State) (es : List (model.Command × Inverse)) → length (past_of s es) ≡ length es
+past_length s [] = refl
+past_length s (e ∷ es) = ap suc (past_length (back e.1 s) es)
+
+pub depth_is : {A : Type 0} (s : State) (journal : List (Entry A)) → length journal ≡ length (past_of s (records journal))
+depth_is s journal = sym (past_length s (records journal) ∙ length-reverse (map journal_entry journal) ∙ length-map journal journal_entry)
