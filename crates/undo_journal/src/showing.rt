@@ -1,9 +1,10 @@
 //! The reading of files.
 
-ghost use Rattle.std.specs.Prelude.{◌≡◌, IfOk, count_by};
+ghost use Rattle.std.specs.Prelude.{◌≡◌, IfOk, count_by, true};
 ghost use Rattle.flat_model.specs.Path.{at_or_below, is_root};
-ghost use Rattle.flat_model.specs.Counts.{current};
+ghost use Rattle.flat_model.specs.Counts.{current, descendant_count, is_group};
 ghost use Rattle.flat_model.specs.Command as model;
+ghost use Rattle.flat_model.specs.File as model_file;
 ghost use Rattle.undo_journal.specs.Meaning.{file_of};
 ghost use Rattle.undo_journal.specs.Answer.{Answers};
 
@@ -35,6 +36,13 @@ impl<A: Allocator + Clone> Engine<A> {
         count_at_or_below(self.processes.as_slice(), path)
     }
 
+    /// How many groups are below it, and 0 where there is no such group.
+    fn descendants<B: Allocator + Clone>(&self, path: &GroupPath<B>) -> u64
+        ensures { is_group self.now.state path.now ≡ true → result ≡ descendant_count self.now.state path.now }
+    {
+        self.groups.descendants(path).unwrap_or(0)
+    }
+
     pub(crate) fn show<B: Allocator + Clone>(
         &self,
         path: &GroupPath<B>,
@@ -45,11 +53,33 @@ impl<A: Allocator + Clone> Engine<A> {
         if !self.has_group(path) {
             return Ok(Reply::Refused(Refusal::NoGroup(path.copy(self.alloc.clone()?)?)));
         }
+        match file {
+            File::PidsCurrent => self.show_current(path),
+            File::Stat => self.show_stat(path),
+        }
+    }
+
+    fn show_current<B: Allocator + Clone>(
+        &self,
+        path: &GroupPath<B>,
+    ) -> Result<Reply<A>, AllocError>
+        requires { is_group self.now.state path.now ≡ true }
+        ensures { IfOk result (λ reply. Answers self.now (model.Show path.now model_file.PidsCurrent) reply self.now) }
+    {
         if path.depth() == 0 {
             return Ok(Reply::Refused(Refusal::NoFile));
         }
         let current = self.current(path);
         let text = format!(in self.alloc.clone()?; "{current}\n")?;
+        Ok(Reply::Text(Bytes::of(text.into_bytes())))
+    }
+
+    fn show_stat<B: Allocator + Clone>(&self, path: &GroupPath<B>) -> Result<Reply<A>, AllocError>
+        requires { is_group self.now.state path.now ≡ true }
+        ensures { IfOk result (λ reply. Answers self.now (model.Show path.now model_file.Stat) reply self.now) }
+    {
+        let below = self.descendants(path);
+        let text = format!(in self.alloc.clone()?; "nr_descendants {below}\nnr_dying_descendants 0\n")?;
         Ok(Reply::Text(Bytes::of(text.into_bytes())))
     }
 }
