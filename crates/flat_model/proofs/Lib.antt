@@ -24,3 +24,4 @@ pub mod CommandTextLawsTrace
 pub mod RowsReads
 pub mod RowsLists
 pub mod RowsMachine
+pub mod PathTextLawsChild

@@ -1,0 +1,17 @@
+mod Calls
+mod Parents
+mod Places
+mod Children
+mod Walk
+mod ChildEdits
+mod Steps
+mod Inserted
+mod SetTo
+mod Removed
+mod Maps
+mod Closed
+mod Counted
+mod Descendants
+mod Chains
+mod Copies
+mod Flat

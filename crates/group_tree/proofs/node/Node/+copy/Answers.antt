@@ -1,0 +1,28 @@
+use Rattle.std.proofs.Common.{ℕ, rules, arith, ◌≡◌, ◌<◌, ◌∙◌, subst, sym, ap, length}
+use Rattle.std.proofs.lemmas.Grind.{common_steps}
+use Rattle.group_tree.proofs.Copies.{child_smaller, copied, copied_node}
+use Rattle.group_tree.proofs.node.Node.+copy.Goals as goal
+
+falls_child : (n m t : ℕ) → m ≡ t → n < m → n < t
+falls_child n m t e h = omega arith
+
+pub loop-child-init : goal.loop-child-init
+loop-child-init g t c = c.new-children.ensures.items
+
+pub offset_bounds-child-items-child-index : goal.offset_bounds-child-items-child-index
+offset_bounds-child-items-child-index g t c = let h = c.loop-child-test.true in omega arith
+
+pub bounds-child-items-child-index : goal.bounds-child-items-child-index
+bounds-child-items-child-index g t c = c.loop-child-test.true
+
+pub copy-requires : goal.copy-requires
+copy-requires g t c κs within = (falls_child _ _ _ c.decreases (child_smaller _ _ _ _ _ _ _ c.self.view_is c.self.invariant.rising c.deref-child-items.ensures.value c.child-item.is c.loop-child-test.true), search (rules, within))
+
+pub loop-child-smaller : goal.loop-child-smaller
+loop-child-smaller g t c = let h = c.loop-child-test.true in omega arith
+
+pub loop-child-preserved : goal.loop-child-preserved
+loop-child-preserved g t c = let h = c.loop-child-test.true in grind (arith, common_steps)
+
+pub invariant_of-result : goal.invariant_of-result
+invariant_of-result g t c = copied_node _ _ _ _ _ c.self.invariant c.deref-child-items.ensures.value c.loop-child-test.false c.loop-child.invariant

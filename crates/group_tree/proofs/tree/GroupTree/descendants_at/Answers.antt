@@ -1,0 +1,9 @@
+use Rattle.std.proofs.Common.{take}
+use Rattle.group_tree.proofs.Descendants.{counted_at, exact_at}
+use Rattle.group_tree.proofs.tree.GroupTree.descendants_at.Goals as goal
+
+pub returns-clause-counted : goal.returns-clause-counted
+returns-clause-counted g c = counted_at _ c.args.self.now _ (take c.args.n c.args.path.now) c.descendants.result c.self.view_is c.first_names.ensures c.descendants.ensures
+
+pub returns-clause-exact : goal.returns-clause-exact
+returns-clause-exact g c = exact_at _ c.args.self.now _ (take c.args.n c.args.path.now) c.descendants.result c.self.view_is c.first_names.ensures c.descendants.ensures

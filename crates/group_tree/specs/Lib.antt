@@ -1,0 +1,5 @@
+pub mod Groups
+pub mod Flat
+pub mod Node
+pub mod Sorted
+pub mod Codes

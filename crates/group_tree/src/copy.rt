@@ -1,0 +1,25 @@
+//! A node in other memory.
+
+ghost use Rattle.std.specs.Prelude.{◌≡◌, IfOk};
+
+use crate::node::Node;
+use std::alloc::{AllocError, Allocator};
+
+impl<A: Allocator> Node<A> {
+    /// The same group, with the groups below it, in the memory of another allocator.
+    pub(crate) fn copy<B: Allocator + Clone + Drop>(&self, alloc: B) -> Result<Node<B>, AllocError>
+        ensures { IfOk result (λ n. n ≡ self.now) }
+    {
+        let name = Vec::from_slice(alloc.clone()?, self.name.as_slice())?;
+        let mut children = Vec::new(alloc.clone()?);
+        for child in &self.children {
+            children.push(child.copy(alloc.clone()?)?)?;
+        }
+        Ok(Node {
+            name,
+            attr: self.attr,
+            descendants: self.descendants,
+            children,
+        })
+    }
+}

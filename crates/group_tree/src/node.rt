@@ -1,0 +1,153 @@
+//! A group with the groups below it, and what is read on the way down.
+
+ghost use Rattle.std.specs.Prelude.{◌≡◌, ◌<◌, ◌≤◌, ◌++◌, [], length, Some, None, MatchResult, MatchBool, IfOk, IsSome};
+ghost use Rattle.std.specs.Option.{option_copied};
+ghost use Rattle.std.specs.FinMap as fin;
+ghost use Rattle.flat_model.specs.Path.{name_cmp};
+ghost use Rattle.group_tree.specs.Groups.{chain_of};
+ghost use Rattle.group_tree.specs.Node.{HasRisingNames, place_of, Counts, IsLeafOrNot};
+
+use crate::attr::Attr;
+use group_path::Names;
+use smallvec::SmallVec;
+use std::alloc::{AllocError, Allocator};
+use std::cmp::Ordering;
+use std::marker::Model;
+
+/// A group with the groups below it.
+#[derive(Drop)]
+pub struct Node<A: Allocator> {
+    /// The last name of its path; empty for the root.
+    pub(crate) name: Vec<u8, A>,
+    pub(crate) attr: Attr,
+    /// How many groups are below it, modulo 2^64.
+    pub(crate) descendants: u64,
+    /// The groups one name below it, their names rising.
+    pub(crate) children: Vec<Node<A>, A>,
+}
+
+impl<A: Allocator> Model for Node<A> {
+    ghost use Rattle.std.specs.Prelude.{◌≡◌, ℕ, List};
+    ghost use Rattle.group_tree.specs.Node.{Branch, groups_of, IsNode};
+    ghost use Rattle.group_tree.specs.Codes.{branch_code};
+
+    ghost Value = { Branch };
+
+    ghost coded = { branch_code };
+
+    ghost use Rattle.std.specs.FinMap as fin;
+    ghost use Rattle.group_tree.specs.Sorted.{most_le-groups};
+
+    ghost view = { λ n. record { name = n.name.items; groups = groups_of n.attr n.children.items } };
+
+    ghost invariant = { λ n. IsNode n.children.items n.descendants };
+
+    ghost size = { λ b. fin.len b.groups };
+
+    ghost use Rattle.std.proofs.Common.{arith};
+
+    ghost size_decreases = { λ n h. omega (arith, most_le-groups n.attr n.children.items h.rising) };
+}
+
+/// Where the child of this name stands, or else where it would: in O(log children) comparisons of names.
+pub(crate) fn place<A: Allocator>(children: &[Node<A>], name: &[u8]) -> Result<usize, usize>
+    requires { HasRisingNames children.now }
+    ensures value { result ≡ place_of name.now children.now }
+    ensures bound { MatchResult result (λ at. at < length children.now) (λ at. at ≤ length children.now) }
+{
+    children.binary_search_by(
+        move |child| -> Ordering
+            ensures { result ≡ name_cmp child.now.name name.entry.now }
+        { child.name().cmp(name) },
+    )
+}
+
+impl<A: Allocator> Node<A> {
+    /// The last name of its path.
+    pub(crate) fn name(&self) -> &[u8]
+        ensures { result.now ≡ self.now.name }
+    {
+        self.name.as_slice()
+    }
+
+    /// The allocator of its memory.
+    pub(crate) fn allocator(&self) -> &A {
+        self.children.allocator()
+    }
+
+    /// What the group itself has.
+    pub(crate) fn attr(&self) -> Attr
+        ensures { Some result ≡ fin.get self.now.groups [] }
+    {
+        self.attr
+    }
+
+    /// Whether no group is below it.
+    pub(crate) fn is_leaf(&self) -> bool
+        ensures { IsLeafOrNot self.now.groups result }
+    {
+        let children = self.children.as_slice();
+        if children.is_empty() {
+            true
+        } else {
+            let child = &children[0];
+            let _attr = child.attr();
+            false
+        }
+    }
+
+    /// What the group at these names from here has.
+    pub(crate) fn find(&self, names: Names<'_>) -> Option<&Attr>
+        ensures { option_copied result ≡ fin.get self.now.groups names.entry }
+    {
+        let mut names = names;
+        match names.next() {
+            None => Some(&self.attr),
+            Some(name) => match place(&self.children, name) {
+                Ok(at) => self.children[at].find(names),
+                Err(_) => None,
+            },
+        }
+    }
+
+    /// How many groups are below the one at these names from here, modulo 2^64.
+    pub(crate) fn descendants(&self, names: Names<'_>) -> Option<u64>
+        ensures { Counts self.now.groups names.entry result }
+    {
+        let mut names = names;
+        match names.next() {
+            None => Some(self.descendants),
+            Some(name) => match place(&self.children, name) {
+                Ok(at) => self.children[at].descendants(names),
+                Err(_) => None,
+            },
+        }
+    }
+
+    /// Appends the slots of the groups from the one at these names up to here, this one left out; false where there
+    /// is no such group.
+    pub(crate) fn push_chain<B: Allocator + Copy>(
+        &self,
+        names: Names<'_>,
+        slots: &mut SmallVec<u16, 8, B>,
+    ) -> Result<bool, AllocError>
+        ensures { IfOk result (λ b. MatchBool b (IsSome (fin.get self.now.groups names.entry) × (slots.new.items ≡ slots.old.items ++ chain_of self.now.groups names.entry)) (fin.get self.now.groups names.entry ≡ None)) }
+    {
+        let mut names = names;
+        match names.next() {
+            None => Ok(true),
+            Some(name) => match place(&self.children, name) {
+                Err(_) => Ok(false),
+                Ok(at) => {
+                    let child = &self.children[at];
+                    if !child.push_chain(names, slots)? {
+                        return Ok(false);
+                    }
+                    let attr = child.attr();
+                    slots.push(attr.slot)?;
+                    Ok(true)
+                }
+            },
+        }
+    }
+}

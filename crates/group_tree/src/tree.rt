@@ -1,0 +1,166 @@
+ghost use Rattle.std.specs.Prelude.{◌≡◌, ◌<◌, ◌≤◌, ◌%◌, ◌^◌, ℕ, length, take, None, MatchOption, IfOk, IfSome, IsSome};
+ghost use Rattle.std.specs.Option.{option_copied};
+ghost use Rattle.std.specs.FinMap as fin;
+ghost use Rattle.group_tree.specs.Flat.{ReadsAsFlat};
+ghost use Rattle.group_tree.specs.Groups.{IsClosed, Inserts, Sets, Removes, only_root, descendant_count, chain_of};
+
+use crate::attr::Attr;
+use crate::fault::TreeFault;
+use crate::node::Node;
+use group_path::GroupPath;
+use smallvec::SmallVec;
+use std::alloc::{AllocError, Allocator};
+use std::marker::Model;
+
+/// A tree of groups, seen as a finite map from paths to attributes that has the root and the parent of each group.
+#[derive(Drop)]
+pub struct GroupTree<A: Allocator> {
+    root: Node<A>,
+}
+
+impl<A: Allocator> Model for GroupTree<A> {
+    ghost use Rattle.group_tree.specs.Groups.{Groups, IsClosed};
+    ghost use Rattle.group_tree.specs.Codes.{groups_code};
+
+    ghost Value = { Groups };
+
+    ghost coded = { groups_code };
+
+    ghost view = { λ t. t.root.groups };
+
+    ghost invariant = { λ t. IsClosed t.root.groups };
+}
+
+impl<A: Allocator> GroupTree<A> {
+    /// What the group at the path has; None where there is no such group. In O(depth · log children) comparisons of
+    /// names.
+    pub fn find<B: Allocator + Clone>(&self, path: &GroupPath<B>) -> Option<&Attr>
+        ensures { option_copied result ≡ fin.get self.now path.now }
+    {
+        self.root.find(path.names())
+    }
+
+    /// What the group at the first `n` names of the path has.
+    pub fn find_at<B: Allocator + Clone>(&self, path: &GroupPath<B>, n: usize) -> Option<&Attr>
+        requires { n ≤ length path.now }
+        ensures { option_copied result ≡ fin.get self.now (take n path.now) }
+    {
+        self.root.find(path.first_names(n))
+    }
+
+    /// Changes what the group at the path has; false where there is no such group.
+    pub fn set<B: Allocator + Clone>(&mut self, path: &GroupPath<B>, attr: Attr) -> bool
+        ensures { Sets self.old self.new path.now attr result }
+    {
+        self.root.set(path.names(), attr)
+    }
+
+    /// Changes what the group at the first `n` names of the path has; false where there is no such group.
+    pub fn set_at<B: Allocator + Clone>(
+        &mut self,
+        path: &GroupPath<B>,
+        n: usize,
+        attr: Attr,
+    ) -> bool
+        requires { n ≤ length path.now }
+        ensures { Sets self.old self.new (take n path.now) attr result }
+    {
+        self.root.set(path.first_names(n), attr)
+    }
+
+    /// How many groups are strictly below the one at the path; None where there is no such group. The count is kept,
+    /// so this costs no more than `find`. It is exact as long as the tree has fewer than 2^64 groups.
+    pub fn descendants<B: Allocator + Clone>(&self, path: &GroupPath<B>) -> Option<u64>
+        ensures counted { MatchOption result (fin.get self.now path.now ≡ None) (λ n. IsSome (fin.get self.now path.now) × (n ≡ descendant_count self.now path.now % 2 ^ 64)) }
+        ensures exact { fin.len self.now < 2 ^ 64 → IfSome result (λ n. n ≡ descendant_count self.now path.now) }
+    {
+        self.root.descendants(path.names())
+    }
+
+    /// How many groups are strictly below the one at the first `n` names of the path, as `descendants` says it.
+    pub fn descendants_at<B: Allocator + Clone>(&self, path: &GroupPath<B>, n: usize) -> Option<u64>
+        requires { n ≤ length path.now }
+        ensures counted { MatchOption result (fin.get self.now (take n path.now) ≡ None) (λ k. IsSome (fin.get self.now (take n path.now)) × (k ≡ descendant_count self.now (take n path.now) % 2 ^ 64)) }
+        ensures exact { fin.len self.now < 2 ^ 64 → IfSome result (λ k. k ≡ descendant_count self.now (take n path.now)) }
+    {
+        self.root.descendants(path.first_names(n))
+    }
+
+    /// The slots from the group at the path upward, the root left out; None where there is no such group. Up to eight
+    /// take no memory.
+    ///
+    /// # Errors
+    ///
+    /// `AllocError` where there was no memory for more than eight.
+    pub fn chain<B: Allocator + Clone>(
+        &self,
+        path: &GroupPath<B>,
+    ) -> Result<Option<SmallVec<u16, 8, &A>>, AllocError>
+        ensures { IfOk result (λ o. MatchOption o (fin.get self.now path.now ≡ None) (λ slots. IsSome (fin.get self.now path.now) × (slots.items ≡ chain_of self.now path.now))) }
+    {
+        let alloc = self.root.allocator();
+        let mut slots = SmallVec::new(alloc);
+        if self.root.push_chain(path.names(), &mut slots)? {
+            Ok(Some(slots))
+        } else {
+            Ok(None)
+        }
+    }
+
+    /// Takes out a group that has none below it, and gives back what it had. It takes no memory.
+    ///
+    /// # Errors
+    ///
+    /// The first that holds, in this order: `RootFixed`, `NoGroup`, `HasChildren`. Each leaves the tree as it was.
+    pub fn remove<B: Allocator + Clone>(&mut self, path: &GroupPath<B>) -> Result<Attr, TreeFault>
+        ensures { Removes self.old self.new path.now result }
+    {
+        let mut names = path.names();
+        match names.next() {
+            None => Err(TreeFault::RootFixed),
+            Some(name) => self.root.remove(name, names),
+        }
+    }
+
+    /// Tells callers that the tree has the root and the parent of each group, and how its groups are those of the flat
+    /// state. It does nothing.
+    pub fn known(&self)
+        ensures closed { IsClosed self.now }
+        ensures flat { ReadsAsFlat self.now }
+    {
+        let _ = &self.root;
+    }
+
+    /// The same tree in the memory of another allocator.
+    pub fn copy<B: Allocator + Clone + Drop>(&self, alloc: B) -> Result<GroupTree<B>, AllocError>
+        ensures { IfOk result (λ t. t ≡ self.now) }
+    {
+        let root = self.root.copy(alloc)?;
+        Ok(GroupTree { root })
+    }
+}
+
+impl<A: Allocator + Clone> GroupTree<A> {
+    /// The tree of the root alone.
+    pub fn new(alloc: A, root: Attr) -> Result<GroupTree<A>, AllocError>
+        ensures { IfOk result (λ t. t ≡ only_root root) }
+    {
+        let root = Node::leaf(alloc, b"", root)?;
+        Ok(GroupTree { root })
+    }
+
+    /// Makes a group.
+    ///
+    /// # Errors
+    ///
+    /// The first that holds, in this order: `Exists`, `NoParent`, `OutOfMemory`. Each leaves the tree as it was.
+    pub fn insert<B: Allocator + Clone>(
+        &mut self,
+        path: &GroupPath<B>,
+        attr: Attr,
+    ) -> Result<(), TreeFault>
+        ensures { Inserts self.old self.new path.now attr result }
+    {
+        self.root.insert(path.names(), attr)
+    }
+}
