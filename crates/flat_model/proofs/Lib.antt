@@ -24,4 +24,3 @@ pub mod CommandTextLawsTrace
 pub mod RowsReads
 pub mod RowsLists
 pub mod RowsMachine
-pub mod PathTextLawsChild

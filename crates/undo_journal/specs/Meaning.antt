@@ -12,7 +12,7 @@ use Rattle.undo_journal.specs.declared.reply.Reply.{Reply}
 use Rattle.undo_journal.specs.declared.reply.Reply.TheVariants.{Done, Text, Undone, Refused, NothingToUndo, OutOfMemory}
 use Rattle.undo_journal.specs.declared.inverse.Inverse.{Inverse}
 use Rattle.undo_journal.specs.declared.inverse.Inverse.TheVariants.{Made, Removed, Forked, Exited, Moved, Limited}
-use Rattle.group_tree.specs.Attr.{limit_of, group_of}
+use Rattle.group_tree.specs.Flat.{limit_of, group_of}
 use Rattle.flat_model.specs.File as model_file
 use Rattle.flat_model.specs.Command as model
 use Rattle.flat_model.specs.Inverse as model_inverse

@@ -13,7 +13,7 @@ use Rattle.flat_model.specs.Inverse as model_inverse
 use Rattle.flat_model.specs.Inverse.{back, past_of}
 use Rattle.flat_model.specs.Machine.{Machine}
 use Rattle.group_tree.specs.Groups.{Groups}
-use Rattle.group_tree.specs.Attr.{group_of}
+use Rattle.group_tree.specs.Flat.{group_of}
 use Rattle.undo_journal.specs.declared.rows.Process.{Process}
 use Rattle.undo_journal.specs.declared.rows.Entry.{Entry}
 use Rattle.undo_journal.specs.Meaning.{command_of, inverse_of}

@@ -4,7 +4,7 @@ ghost use Rattle.std.specs.Prelude.{◌≡◌};
 ghost use Rattle.flat_model.specs.State.{fresh};
 ghost use Rattle.flat_model.specs.Counts.{reaches};
 ghost use Rattle.flat_model.specs.Step.{limit_at, with_limit};
-ghost use Rattle.group_tree.specs.Attr.{limit_of, group_of};
+ghost use Rattle.group_tree.specs.Flat.{limit_of, group_of};
 ghost use Rattle.undo_journal.specs.Meaning.{limit_file_of};
 
 use crate::command::HierarchyLimit;

@@ -3,7 +3,7 @@ ghost use Rattle.flat_model.specs.CommandText.{command_text};
 ghost use Rattle.flat_model.specs.File.{file_name};
 ghost use Rattle.flat_model.specs.FileText.{limit_text};
 ghost use Rattle.flat_model.specs.File as model_file;
-ghost use Rattle.group_tree.specs.Attr.{limit_of};
+ghost use Rattle.group_tree.specs.Flat.{limit_of};
 ghost use Rattle.undo_journal.specs.Meaning.{command_of, file_of, limit_file_of};
 
 use crate::pid::Pid;

@@ -4,7 +4,7 @@ ghost use Rattle.std.specs.Prelude.{◌≡◌, None, IfOk, OnOk, OnErr};
 ghost use Rattle.flat_model.specs.Step.{refusal, after};
 ghost use Rattle.flat_model.specs.Machine.{recorded};
 ghost use Rattle.flat_model.specs.Command as model;
-ghost use Rattle.group_tree.specs.Attr.{limit_of};
+ghost use Rattle.group_tree.specs.Flat.{limit_of};
 ghost use Rattle.undo_journal.specs.Meaning.{limit_file_of};
 ghost use Rattle.undo_journal.specs.Answer.{slots, Answers};
 

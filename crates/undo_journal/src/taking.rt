@@ -8,7 +8,7 @@ ghost use Rattle.flat_model.specs.Mapped.{map_values};
 ghost use Rattle.flat_model.specs.State.{fresh};
 ghost use Rattle.flat_model.specs.Step.{limit_at, with_limit};
 ghost use Rattle.flat_model.specs.Inverse.{back};
-ghost use Rattle.group_tree.specs.Attr.{limit_of, group_of};
+ghost use Rattle.group_tree.specs.Flat.{limit_of, group_of};
 ghost use Rattle.group_tree.specs.Groups.{HasNoneBelow};
 ghost use Rattle.undo_journal.specs.Meaning.{inverse_of, limit_file_of};
 ghost use Rattle.undo_journal.specs.Answer.{needs_no_memory};
