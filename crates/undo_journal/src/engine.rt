@@ -190,10 +190,10 @@ impl<A: Allocator + Clone> Engine<A> {
             &mut self.processes,
             &entry.inverse,
         )?;
-        match self.journal.pop() {
-            Some(entry) => Ok(Reply::Undone(entry.command)),
-            None => Ok(Reply::NothingToUndo),
-        }
+        let Some(newest) = self.journal.pop() else {
+            unreachable!()
+        };
+        Ok(Reply::Undone(newest.command))
     }
 
     /// Tells `apply` and `undo` what every engine keeps. It does nothing.

@@ -70,9 +70,10 @@ impl<A: Allocator + Clone> Engine<A> {
         requires inside { above ≤ length path.now }
         ensures { IfOk result (λ r. option_map refusal_of r ≡ limit_met self.now.state (take above path.now) (take n path.now)) }
     {
-        let (Some(attr), Some(descendants)) =
-            (self.groups.find_at(path, n), self.groups.descendants_at(path, n))
-        else {
+        let Some(attr) = self.groups.find_at(path, n) else {
+            return Ok(None);
+        };
+        let Some(descendants) = self.groups.descendants_at(path, n) else {
             return Ok(None);
         };
         if is_reached(attr.limits.descendants, descendants) {

@@ -1,9 +1,10 @@
 //! The removal of groups.
 
-ghost use Rattle.std.specs.Prelude.{◌≡◌, None, IfOk, OnOk, OnErr, option_map};
+ghost use Rattle.std.specs.Prelude.{◌≡◌, true, None, IfOk, OnOk, OnErr, option_map};
 ghost use Rattle.std.specs.List.{list_any};
 ghost use Rattle.std.specs.FinMap.{keys, values};
 ghost use Rattle.flat_model.specs.Path.{same_path, strictly_below};
+ghost use Rattle.flat_model.specs.Counts.{is_group};
 ghost use Rattle.flat_model.specs.Step.{refusal, after};
 ghost use Rattle.flat_model.specs.Machine.{recorded};
 ghost use Rattle.flat_model.specs.Command as model;
@@ -28,8 +29,9 @@ fn is_home<A: Allocator + Clone, B: Allocator + Clone>(
 }
 
 impl<A: Allocator + Clone> Engine<A> {
-    /// Whether there are groups below it.
+    /// Whether there are groups below a group that is there.
     fn has_below<B: Allocator + Clone>(&self, path: &GroupPath<B>) -> bool
+        requires { is_group self.now.state path.now ≡ true }
         ensures { result ≡ list_any (λ q. strictly_below q path.now) (keys self.now.state.groups) }
     {
         match self.groups.descendants(path) {

@@ -1,8 +1,9 @@
 //! The reading of files.
 
-ghost use Rattle.std.specs.Prelude.{◌≡◌, IfOk, count_by, true};
+ghost use Rattle.std.specs.Prelude.{◌≡◌, IfOk, count_by, true, ◌++◌, codes, decimal};
 ghost use Rattle.flat_model.specs.Path.{at_or_below, is_root};
 ghost use Rattle.flat_model.specs.Counts.{current, descendant_count, is_group};
+ghost use Rattle.flat_model.specs.FileText.{line};
 ghost use Rattle.flat_model.specs.Command as model;
 ghost use Rattle.flat_model.specs.File as model_file;
 ghost use Rattle.undo_journal.specs.Meaning.{file_of};
@@ -14,6 +15,7 @@ use crate::engine::Engine;
 use crate::reply::{Refusal, Reply};
 use crate::rows::Process;
 use group_path::GroupPath;
+use itoa::Buffer;
 use std::alloc::{AllocError, Allocator};
 
 fn count_at_or_below<A: Allocator + Clone, B: Allocator + Clone>(
@@ -26,6 +28,18 @@ fn count_at_or_below<A: Allocator + Clone, B: Allocator + Clone>(
         .iter()
         .filter(|process| process.home.is_at_or_below(path))
         .count()
+}
+
+/// What `cgroup.stat` says of a group with so many groups below it.
+fn stat_text<B: Allocator + Clone>(alloc: B, below: u64) -> Result<Vec<u8, B>, AllocError>
+    ensures { IfOk result (λ text. text.items ≡ line (codes "nr_descendants " ++ decimal below) ++ line (codes "nr_dying_descendants 0")) }
+{
+    let mut digits = Buffer::new();
+    let mut text = Vec::from_slice(alloc, b"nr_descendants ")?;
+    text.extend_from_slice(digits.format(below).as_bytes())?;
+    text.extend_from_slice(b"\n")?;
+    text.extend_from_slice(b"nr_dying_descendants 0\n")?;
+    Ok(text)
 }
 
 impl<A: Allocator + Clone> Engine<A> {
@@ -78,8 +92,7 @@ impl<A: Allocator + Clone> Engine<A> {
         requires { is_group self.now.state path.now ≡ true }
         ensures { IfOk result (λ reply. Answers self.now (model.Show path.now model_file.Stat) reply self.now) }
     {
-        let below = self.descendants(path);
-        let text = format!(in self.alloc.clone()?; "nr_descendants {below}\nnr_dying_descendants 0\n")?;
-        Ok(Reply::Text(Bytes::of(text.into_bytes())))
+        let text = stat_text(self.alloc.clone()?, self.descendants(path))?;
+        Ok(Reply::Text(Bytes::of(text)))
     }
 }

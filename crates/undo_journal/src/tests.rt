@@ -1,5 +1,6 @@
-use crate::{Bytes, Command, Engine, File, Inverse, Pid, Refusal, Reply, SLOTS};
+use crate::{Bytes, Command, Engine, File, HierarchyLimit, Inverse, Pid, Refusal, Reply, SLOTS};
 use group_path::GroupPath;
+use group_tree::Limit;
 use linked_list_allocator::LocalHeap;
 use std::alloc::{AllocError, Allocator, Global};
 use std::process::Abort;
@@ -41,6 +42,30 @@ fn cat(alloc: Global, path: &[u8]) -> Result<Command<Global>, Fail> {
     })
 }
 
+fn stat(alloc: Global, path: &[u8]) -> Result<Command<Global>, Fail> {
+    Ok(Command::Show {
+        path: GroupPath::read(alloc, path)?,
+        file: File::Stat,
+    })
+}
+
+fn rmdir(alloc: Global, path: &[u8]) -> Result<Command<Global>, Fail> {
+    Ok(Command::RemoveGroup(GroupPath::read(alloc, path)?))
+}
+
+fn limit(
+    alloc: Global,
+    path: &[u8],
+    file: HierarchyLimit,
+    value: Limit,
+) -> Result<Command<Global>, Fail> {
+    Ok(Command::SetLimit {
+        path: GroupPath::read(alloc, path)?,
+        file,
+        value,
+    })
+}
+
 /// A reply in the words of a replay.
 fn said<A: Allocator + Clone>(
     alloc: Global,
@@ -56,6 +81,17 @@ fn said<A: Allocator + Clone>(
             text.extend_from_slice(b"nogroup ")?;
             text.extend_from_slice(path.text())?;
         }
+        Reply::Refused(Refusal::Descendants(path)) => {
+            text.extend_from_slice(b"descendants ")?;
+            text.extend_from_slice(path.text())?;
+        }
+        Reply::Refused(Refusal::Depth(path)) => {
+            text.extend_from_slice(b"depth ")?;
+            text.extend_from_slice(path.text())?;
+        }
+        Reply::Refused(Refusal::RootFixed) => text.extend_from_slice(b"rootfixed")?,
+        Reply::Refused(Refusal::HasChildren) => text.extend_from_slice(b"haschildren")?,
+        Reply::Refused(Refusal::HasProcesses) => text.extend_from_slice(b"hasprocesses")?,
         Reply::Refused(Refusal::NoSlot) => text.extend_from_slice(b"noslot")?,
         Reply::Refused(Refusal::NoProcess(pid)) => {
             text = format!(in alloc; "noprocess {}", pid.get())?.into_bytes();
@@ -232,7 +268,7 @@ fn newest<A: Allocator + Clone>(
 }
 
 /// Each growth that a command asks for is refused in turn, and leaves everything; the first call that gets them all
-/// answers as ever. An undo asks for none.
+/// answers as ever. An undo of a fork, a mkdir or a limit asks for none.
 #[test]
 fn growths_refused_in_turn(rt: HostRuntime) -> Result<(), Fail> {
     let heap = LocalHeap::new(rt.alloc(), 4096)?;
@@ -245,7 +281,29 @@ fn growths_refused_in_turn(rt: HostRuntime) -> Result<(), Fail> {
         (write(&rt, rt.alloc(), b"/a", 2)?, b"ok", true),
         (cat(rt.alloc(), b"/a")?, b"1\n", true),
         (cat(rt.alloc(), b"/b")?, b"nogroup /b", true),
-        (Command::Undo, b"write /a cgroup.procs 2", false),
+        (
+            limit(
+                rt.alloc(),
+                b"/a",
+                HierarchyLimit::MaxDescendants,
+                Limit::At(0),
+            )?,
+            b"ok",
+            true,
+        ),
+        (mkdir(rt.alloc(), b"/a/b")?, b"descendants /a", true),
+        (
+            stat(rt.alloc(), b"/a")?,
+            b"nr_descendants 0\nnr_dying_descendants 0\n",
+            true,
+        ),
+        (Command::Exit(pid(&rt, 2)), b"ok", false),
+        (rmdir(rt.alloc(), b"/b")?, b"nogroup /b", true),
+        (rmdir(rt.alloc(), b"/a")?, b"ok", true),
+        (Command::Undo, b"rmdir /a", true),
+        (Command::Undo, b"exit 2", true),
+        (Command::Undo, b"write /a cgroup.max.descendants 0", false),
+        (Command::Undo, b"write /a cgroup.procs 2", true),
         (Command::Undo, b"fork 1 2", false),
         (Command::Undo, b"mkdir /a", false),
     ];
@@ -295,4 +353,136 @@ fn engine_in_a_small_heap(rt: HostRuntime) -> Result<(), Fail> {
     }
     assert!(rt; sizes_refused > 0 && sizes_refused < 99);
     Ok(())
+}
+
+/// The answers of a fresh engine to some commands.
+fn replies(
+    rt: &HostRuntime,
+    alloc: Global,
+    trace: &[(Command<Global>, &[u8])],
+) -> Result<(), Fail> {
+    let mut engine = Engine::new(alloc)?;
+    for (command, want) in trace {
+        assert_eq!(rt; answer(rt, alloc, &mut engine, command)?.as_slice(), *want);
+    }
+    Ok(())
+}
+
+#[test]
+fn depth_limit(rt: HostRuntime) -> Result<(), Fail> {
+    let alloc = rt.alloc();
+    let none = limit(alloc, b"/a", HierarchyLimit::MaxDepth, Limit::At(0))?;
+    assert_eq!(rt;
+        none.text(alloc)?.as_slice(),
+        b"write /a cgroup.max.depth 0".as_slice()
+    );
+    let trace = [
+        (mkdir(alloc, b"/a")?, b"ok".as_slice()),
+        (none, b"ok"),
+        (mkdir(alloc, b"/a/b")?, b"depth /a"),
+        (mkdir(alloc, b"/b")?, b"ok"),
+    ];
+    replies(&rt, alloc, &trace)
+}
+
+/// The nearest group is asked first, and of one group its limit on descendants.
+#[test]
+fn limits_in_order(rt: HostRuntime) -> Result<(), Fail> {
+    let alloc = rt.alloc();
+    let depth = HierarchyLimit::MaxDepth;
+    let descendants = HierarchyLimit::MaxDescendants;
+    let trace = [
+        (mkdir(alloc, b"/a")?, b"ok".as_slice()),
+        (mkdir(alloc, b"/a/b")?, b"ok"),
+        (limit(alloc, b"/", depth, Limit::At(2))?, b"ok"),
+        (mkdir(alloc, b"/a/b/c")?, b"depth /"),
+        (limit(alloc, b"/a", depth, Limit::At(1))?, b"ok"),
+        (mkdir(alloc, b"/a/b/c")?, b"depth /a"),
+        (limit(alloc, b"/a", descendants, Limit::At(1))?, b"ok"),
+        (mkdir(alloc, b"/a/b/c")?, b"descendants /a"),
+        (limit(alloc, b"/a/b", depth, Limit::At(0))?, b"ok"),
+        (mkdir(alloc, b"/a/b/c")?, b"depth /a/b"),
+        (limit(alloc, b"/a/b", depth, Limit::Unlimited)?, b"ok"),
+        (limit(alloc, b"/a", descendants, Limit::Unlimited)?, b"ok"),
+        (limit(alloc, b"/a", depth, Limit::At(2))?, b"ok"),
+        (limit(alloc, b"/", depth, Limit::At(3))?, b"ok"),
+        (mkdir(alloc, b"/a/b/c")?, b"ok"),
+        (limit(alloc, b"/x", depth, Limit::At(3))?, b"nogroup /x"),
+    ];
+    replies(&rt, alloc, &trace)
+}
+
+#[test]
+fn descendants_limit(rt: HostRuntime) -> Result<(), Fail> {
+    let alloc = rt.alloc();
+    let one = limit(alloc, b"/", HierarchyLimit::MaxDescendants, Limit::At(1))?;
+    assert_eq!(rt;
+        one.text(alloc)?.as_slice(),
+        b"write / cgroup.max.descendants 1".as_slice()
+    );
+    let trace = [
+        (one, b"ok".as_slice()),
+        (mkdir(alloc, b"/a")?, b"ok"),
+        (mkdir(alloc, b"/b")?, b"descendants /"),
+        (mkdir(alloc, b"/a/b")?, b"descendants /"),
+        (
+            stat(alloc, b"/")?,
+            b"nr_descendants 1\nnr_dying_descendants 0\n",
+        ),
+        (
+            stat(alloc, b"/a")?,
+            b"nr_descendants 0\nnr_dying_descendants 0\n",
+        ),
+        (stat(alloc, b"/b")?, b"nogroup /b"),
+    ];
+    replies(&rt, alloc, &trace)
+}
+
+#[test]
+fn removals_refused_in_order(rt: HostRuntime) -> Result<(), Fail> {
+    let alloc = rt.alloc();
+    let last = rmdir(alloc, b"/")?;
+    assert_eq!(rt; last.text(alloc)?.as_slice(), b"rmdir /".as_slice());
+    let trace = [
+        (mkdir(alloc, b"/a")?, b"ok".as_slice()),
+        (mkdir(alloc, b"/a/b")?, b"ok"),
+        (write(&rt, alloc, b"/a", 1)?, b"ok"),
+        (rmdir(alloc, b"/a")?, b"haschildren"),
+        (rmdir(alloc, b"/a/b")?, b"ok"),
+        (rmdir(alloc, b"/a")?, b"hasprocesses"),
+        (write(&rt, alloc, b"/", 1)?, b"ok"),
+        (rmdir(alloc, b"/a")?, b"ok"),
+        (rmdir(alloc, b"/a")?, b"nogroup /a"),
+        (last, b"rootfixed"),
+    ];
+    replies(&rt, alloc, &trace)
+}
+
+/// What was removed comes back with its limits, and what has ended with its group.
+#[test]
+fn removals_and_ends_undone(rt: HostRuntime) -> Result<(), Fail> {
+    let alloc = rt.alloc();
+    let none = limit(alloc, b"/a", HierarchyLimit::MaxDepth, Limit::At(0))?;
+    let end = Command::Exit(pid(&rt, 2));
+    assert_eq!(rt; end.text(alloc)?.as_slice(), b"exit 2".as_slice());
+    let trace = [
+        (mkdir(alloc, b"/a")?, b"ok".as_slice()),
+        (none, b"ok"),
+        (fork(&rt, 1, 2), b"ok"),
+        (write(&rt, alloc, b"/a", 2)?, b"ok"),
+        (end.copy(alloc)?, b"ok"),
+        (end.copy(alloc)?, b"noprocess 2"),
+        (cat(alloc, b"/a")?, b"0\n"),
+        (rmdir(alloc, b"/a")?, b"ok"),
+        (cat(alloc, b"/a")?, b"nogroup /a"),
+        (Command::Undo, b"rmdir /a"),
+        (mkdir(alloc, b"/a/b")?, b"depth /a"),
+        (Command::Undo, b"exit 2"),
+        (cat(alloc, b"/a")?, b"1\n"),
+        (Command::Undo, b"write /a cgroup.procs 2"),
+        (Command::Undo, b"fork 1 2"),
+        (Command::Undo, b"write /a cgroup.max.depth 0"),
+        (mkdir(alloc, b"/a/b")?, b"ok"),
+    ];
+    replies(&rt, alloc, &trace)
 }
