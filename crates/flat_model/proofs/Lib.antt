@@ -14,6 +14,7 @@ pub mod Nearest
 pub mod Limits
 pub mod Undoing
 pub mod Reachable
+pub mod PathTextLawsChild
 pub mod WordLaws
 pub mod ValueLaws
 pub mod CommandTextLawsWords
@@ -23,4 +24,3 @@ pub mod CommandTextLawsTrace
 pub mod RowsReads
 pub mod RowsLists
 pub mod RowsMachine
-pub mod PathTextLawsChild

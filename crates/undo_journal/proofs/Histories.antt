@@ -1,16 +1,16 @@
 -- What a journal says of the states before: each step kept, each state well formed, all of it undone.
-use Rattle.std.proofs.Common.{◌≡◌, ℕ, suc, true, List, [], ◌∷◌, ◌++◌, map, reverse, length, Option, Some, None, refl, sym, ap, subst, ◌∙◌, is_some}
+use Rattle.std.proofs.Common.{◌≡◌, ℕ, suc, Bool, true, false, cond, List, [], ◌∷◌, ◌++◌, map, reverse, length, Option, Some, None, refl, sym, ap, subst, ◌∙◌, is_some}
 use Rattle.std.proofs.lemmas.List.{map-append, reverse-append, length-reverse, length-map}
 use Rattle.std.specs.Cmp.{nat_cmp_total}
 use Rattle.std.specs.FinMap.{nat_cmp-IsAntisymmetric}
 use Rattle.flat_model.specs.Path.{Path}
-use Rattle.flat_model.specs.State.{State}
+use Rattle.flat_model.specs.State.{State, start}
 use Rattle.flat_model.specs.Counts.{has_process}
 use Rattle.flat_model.specs.Command as model
 use Rattle.flat_model.specs.Inverse as model_inverse
 use Rattle.flat_model.specs.Inverse.{Inverse, back, inverse, inverse_of_refusal, past_of}
 use Rattle.flat_model.specs.Step.{refusal, after, after_refusal}
-use Rattle.flat_model.specs.Machine.{new_machine, recorded, end_of, undos}
+use Rattle.flat_model.specs.Machine.{Machine, new_machine, recorded, tick, end_of, undos}
 use Rattle.flat_model.specs.WellFormed.{WellFormed, PastWellFormed}
 use Rattle.flat_model.proofs.Maps.{get-own}
 use Rattle.flat_model.proofs.TakenBack.{back_accepted}
@@ -21,15 +21,17 @@ use Rattle.undo_journal.specs.declared.rows.Process.{Process}
 use Rattle.undo_journal.specs.declared.rows.Entry.{Entry}
 use Rattle.undo_journal.specs.Answer.{slots, record_of, record_by, state_after, state_by}
 use Rattle.undo_journal.specs.Headline.{IsReached}
-use Rattle.undo_journal.specs.Rows.{journal_entry, records, state_of, machine_of, IsStep, IsHistory, IsReady}
+use Rattle.group_tree.specs.Groups.{Groups}
+use Rattle.undo_journal.specs.Rows.{journal_entry, records, state_of, machine_of, sets_pids_max, IsStep, IsHistory}
 
 -- an accepted command is a step, by the record that the model makes of it
-pub accepted_step : (s : State) (c : model.Command) (i : Inverse) → refusal slots s c ≡ None → inverse s c ≡ Some i → IsStep (after s c) c i
-accepted_step s c i none is =
+pub accepted_step : (s : State) (c : model.Command) (i : Inverse) → refusal slots s c ≡ None → inverse s c ≡ Some i → sets_pids_max c ≡ false → IsStep (after s c) c i
+accepted_step s c i none is brought =
     let b = back_accepted slots s c i none is in
     record {
       record_is = ap (λ (t : State). record_of t c) b ∙ ap (record_by s c) none ∙ is;
       state_is = ap (λ (t : State). state_after t c) b ∙ ap (state_by s c) none;
+      brought = brought;
     }
 
 -- ---- every state is well formed
@@ -52,7 +54,7 @@ all_undone : (s : State) (es : List (model.Command × Inverse)) → IsHistory s 
 all_undone s [] h = λ k. record { state = h k; past = [] }
 all_undone s (e ∷ es) h = all_undone (back e.1 s) es h.1
 
-pub reached : {A : Type 0} (gs : List Path) (ps : List (Process A)) (journal : List (Entry A)) → IsHistory (state_of gs ps) (records journal) → IsReached (machine_of gs ps journal)
+pub reached : {A : Type 0} (gs : Groups) (ps : List (Process A)) (journal : List (Entry A)) → IsHistory (state_of gs ps) (records journal) → IsReached (machine_of gs ps journal)
 reached gs ps journal h = record {
   well_formed = (history_well (state_of gs ps) (records journal) h, past_well (state_of gs ps) (records journal) h);
   all_undone = all_undone (state_of gs ps) (records journal) h;
@@ -64,9 +66,9 @@ pub records_push : {A : Type 0} (journal : List (Entry A)) (e : Entry A) → rec
 records_push journal e = ap reverse (map-append journal_entry journal (e ∷ [])) ∙ reverse-append (map journal_entry journal) (journal_entry e ∷ [])
 
 -- a command that is accepted, and recorded as the model says
-module _ {A : Type 0} (gs gs' : List Path) (ps ps' : List (Process A)) (journal : List (Entry A)) (e : Entry A) (c : model.Command) (i : Inverse)
+module _ {A : Type 0} (gs gs' : Groups) (ps ps' : List (Process A)) (journal : List (Entry A)) (e : Entry A) (c : model.Command) (i : Inverse)
     (e_is : ◌≡◌ {A = model.Command × Inverse} (journal_entry e) (c, i)) (i_is : inverse (state_of gs ps) c ≡ Some i)
-    (none : refusal slots (state_of gs ps) c ≡ None) (new : state_of gs' ps' ≡ after (state_of gs ps) c) where
+    (none : refusal slots (state_of gs ps) c ≡ None) (brought : sets_pids_max c ≡ false) (new : state_of gs' ps' ≡ after (state_of gs ps) c) where
   records_are : records (journal ++ e ∷ []) ≡ (c, i) ∷ records journal
   records_are = records_push journal e ∙ ap (λ (x : model.Command × Inverse). x ∷ records journal) e_is
 
@@ -82,62 +84,12 @@ module _ {A : Type 0} (gs gs' : List Path) (ps ps' : List (Process A)) (journal 
   accepted_history h =
       subst (IsHistory (state_of gs' ps')) (sym records_are)
       (subst (λ (s : State). IsHistory s ((c, i) ∷ records journal)) (sym new)
-      (accepted_step (state_of gs ps) c i none i_is, subst (λ (s : State). IsHistory s (records journal)) (sym taken) h))
-
--- ---- a process that was moved is there
-
-moved_by : (t : State) (c : model.Command) (pid : ℕ) (p : Path) → inverse t c ≡ Some (model_inverse.Moved pid p) → has_process (after t c) pid ≡ true
-moved_by t (model.Move q pid') pid p e =
-    let same : pid' ≡ pid = cc in
-    ap (λ (n : ℕ). has_process (after t (model.Move q pid')) n) (sym same) ∙ ap is_some (get-own nat_cmp_total nat_cmp-IsAntisymmetric t.home pid' q)
-moved_by t (model.MakeGroup q) pid p e = cc
-moved_by t (model.RemoveGroup q) pid p e = cc
-moved_by t (model.Fork from child) pid p e = cc
-moved_by t (model.Exit n) pid p e = cc
-moved_by t (model.SetLimit q file value) pid p e = cc
-moved_by t (model.Kill g) pid p e = cc
-moved_by t (model.Show q file) pid p e = cc
-moved_by t (model.Locate n) pid p e = cc
-moved_by t model.Undo pid p e = cc
-
-never_moved : (t : State) (r : model.Refusal) (pid : ℕ) (p : Path) → inverse_of_refusal r ≡ Some (model_inverse.Moved pid p) → has_process (after_refusal t r) pid ≡ true
-never_moved t (model.OverPidsMax a) pid p e = cc
-never_moved t model.Exists pid p e = cc
-never_moved t (model.NoGroup q) pid p e = cc
-never_moved t (model.Descendants q) pid p e = cc
-never_moved t (model.Depth q) pid p e = cc
-never_moved t model.NoSlot pid p e = cc
-never_moved t model.RootFixed pid p e = cc
-never_moved t model.HasChildren pid p e = cc
-never_moved t model.HasProcesses pid p e = cc
-never_moved t (model.NoProcess n) pid p e = cc
-never_moved t (model.PidInUse n) pid p e = cc
-never_moved t model.NoFile pid p e = cc
-never_moved t model.NotReadable pid p e = cc
-
-mover_by : (t : State) (c : model.Command) (o : Option model.Refusal) (pid : ℕ) (p : Path) → record_by t c o ≡ Some (model_inverse.Moved pid p) → has_process (state_by t c o) pid ≡ true
-mover_by t c None pid p e = moved_by t c pid p e
-mover_by t c (Some r) pid p e = never_moved t r pid p e
-
-pub step_ready : (s : State) (c : model.Command) (i : Inverse) → IsStep s c i → IsReady s i
-step_ready s c (model_inverse.Moved pid p) h =
-    ap (λ (t : State). has_process t pid) (sym h.state_is)
-    ∙ mover_by (back (model_inverse.Moved pid p) s) c (refusal slots (back (model_inverse.Moved pid p) s) c) pid p h.record_is
-step_ready s c (model_inverse.Made p) h = tt
-step_ready s c (model_inverse.Removed p attr) h = tt
-step_ready s c (model_inverse.Forked pid) h = tt
-step_ready s c (model_inverse.Exited pid p) h = tt
-step_ready s c (model_inverse.Limited p file value) h = tt
-step_ready s c (model_inverse.Counted a) h = tt
-step_ready s c (model_inverse.Killed lost) h = tt
+      (accepted_step (state_of gs ps) c i none i_is brought, subst (λ (s : State). IsHistory s (records journal)) (sym taken) h))
 
 -- ---- the last entry of the journal
 
 pub last_step : {A : Type 0} (s : State) (journal rest : List (Entry A)) (e : Entry A) → journal ≡ rest ++ e ∷ [] → IsHistory s (records journal) → IsStep s (journal_entry e).0 (journal_entry e).1
 last_step {A} s journal rest e is h = (subst (IsHistory s) (ap (λ (js : List (Entry A)). records js) is ∙ records_push rest e) h).0
-
-pub last_ready : {A : Type 0} (s : State) (journal rest : List (Entry A)) (e : Entry A) → journal ≡ rest ++ e ∷ [] → IsHistory s (records journal) → IsReady s (journal_entry e).1
-last_ready s journal rest e is h = step_ready s (journal_entry e).0 (journal_entry e).1 (last_step s journal rest e is h)
 
 -- ---- how long the past is
 

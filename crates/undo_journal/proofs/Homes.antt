@@ -1,11 +1,15 @@
 -- What the rows of processes say of the state, and a home written in one.
-use Rattle.std.proofs.Common.{set, ◌≡◌, ℕ, true, List, [], get_or, Some, None, sym, ap, subst, ◌∙◌, is_some}
+use Rattle.std.proofs.Common.{set, ◌≡◌, ℕ, Bool, true, false, not, List, [], ◌∷◌, map, get_or, Option, Some, None, refl, sym, ap, subst, ◌∙◌, is_some}
 use Rattle.std.specs.Prelude.{count_by, unwrap_or}
 use Rattle.std.specs.Ordering.{nat_cmp}
 use Rattle.std.specs.Cmp.{nat_cmp_total}
 use Rattle.std.specs.FinMap.{find, get, from_entries, get-from_entries, insert, nat_cmp-IsAntisymmetric}
 use Rattle.std.proofs.lemmas.List.{map-set}
-use Rattle.flat_model.specs.Path.{Path, path_cmp, at_or_below}
+use Rattle.flat_model.specs.Path.{Path, at_or_below}
+use Rattle.flat_model.specs.Mapped.{map_values}
+use Rattle.group_tree.specs.Groups.{Groups}
+use Rattle.group_tree.specs.Flat.{group_of}
+use Rattle.flat_model.specs.State.{State}
 use Rattle.flat_model.specs.Counts.{current, has_process}
 use Rattle.flat_model.specs.Command as model
 use Rattle.flat_model.specs.Step.{refusal, after, home_of}
@@ -13,7 +17,7 @@ use Rattle.flat_model.proofs.Refusing.{passed, beyond, affirmed}
 use Rattle.flat_model.proofs.Sums.{count_by-map}
 use Rattle.undo_journal.specs.declared.rows.Process.{Process}
 use Rattle.undo_journal.specs.Answer.{slots}
-use Rattle.undo_journal.specs.Rows.{IsDistinct, IsProcessAt, process_entry, process_rows, group_rows, state_of}
+use Rattle.undo_journal.specs.Rows.{IsDistinct, IsProcessAt, process_entry, process_rows, state_of}
 use Rattle.undo_journal.proofs.RowLaws.{at_value, at_key, at_written, distinct_written}
 use Rattle.undo_journal.proofs.CountRows.{count_rows}
 
@@ -38,10 +42,10 @@ pub old_home : {A : Type 0} (ps : List (Process A)) (pid i : ℕ) (r : Process A
 old_home ps pid i r h is = ap (λ x. Some x.home) is ∙ sym (at_value nat_cmp_total process_entry ps pid i h.1 r)
 
 -- a process of the state has a row
-pub row_of : {A : Type 0} (gs : List Path) (ps : List (Process A)) (pid : ℕ) → has_process (state_of gs ps) pid ≡ true → is_some (find nat_cmp pid (process_rows ps)) ≡ true
+pub row_of : {A : Type 0} (gs : Groups) (ps : List (Process A)) (pid : ℕ) → has_process (state_of gs ps) pid ≡ true → is_some (find nat_cmp pid (process_rows ps)) ≡ true
 row_of gs ps pid h = ap is_some (sym (get-from_entries nat_cmp_total (process_rows ps) pid)) ∙ h
 
-module _ {A : Type 0} (gs : List Path) (ps : List (Process A)) where
+module _ {A : Type 0} (gs : Groups) (ps : List (Process A)) where
   -- a process that may be moved has one
   pub mover_row : (p : Path) (pid : ℕ) → refusal slots (state_of gs ps) (model.Move p pid) ≡ None → is_some (find nat_cmp pid (process_rows ps)) ≡ true
   mover_row p pid e = row_of gs ps pid (affirmed _ (passed _ _ _ (beyond _ _ _ e)))
@@ -51,7 +55,7 @@ module _ {A : Type 0} (gs : List Path) (ps : List (Process A)) where
 
   pub moved_state : (ps' : List (Process A)) (p : Path) (pid : ℕ) → from_entries {R = nat_cmp} (process_rows ps') ≡ insert (from_entries {R = nat_cmp} (process_rows ps)) pid p →
       state_of gs ps' ≡ after (state_of gs ps) (model.Move p pid)
-  moved_state ps' p pid e = λ k. record { groups = from_entries {R = path_cmp} (group_rows gs); home = e k }
+  moved_state ps' p pid e = λ k. record { groups = map_values group_of gs; home = e k }
 
   pub current_rows : (g : Path) → IsDistinct nat_cmp (process_rows ps) → count_by (λ r. at_or_below r.home g) ps ≡ current (state_of gs ps) g
   current_rows g d =

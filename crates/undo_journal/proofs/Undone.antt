@@ -1,12 +1,18 @@
 -- What a reached machine keeps after one command, and what an undo leaves.
-use Rattle.std.proofs.Common.{◌≡◌, ◌<◌, true, false, cond, List, [], ◌∷◌, length, Option, Some, None, refl, sym, subst, arith}
+use Rattle.std.proofs.Common.{◌≡◌, ℕ, suc, ◌+◌, ◌<◌, Bool, true, false, cond, List, [], ◌∷◌, ◌++◌, map, length, Option, Some, None, refl, sym, ap, subst, ◌∙◌, arith}
+use Rattle.flat_model.specs.Path.{Path}
 use Rattle.flat_model.specs.State.{State}
 use Rattle.flat_model.specs.Command as model
+use Rattle.flat_model.specs.Inverse.{Inverse, back, past_of}
 use Rattle.flat_model.specs.Step.{refusal, after, after_refusal}
 use Rattle.flat_model.specs.Machine.{Machine, recorded, outcome, undone, tick}
 use Rattle.flat_model.proofs.Undoing.{run_undone}
 use Rattle.flat_model.proofs.Counting.{current_is, populated_is}
-use Rattle.undo_journal.specs.Answer.{slots}
+use Rattle.std.proofs.Common.{◌≢◌, Result, Ok, Err}
+use Rattle.std.specs.Prelude.{IfOk, OnErr, IsOk}
+use Rattle.undo_journal.specs.declared.reply.Reply.{Reply}
+use Rattle.undo_journal.specs.Meaning.{reply_of}
+use Rattle.undo_journal.specs.Answer.{slots, Answers}
 use Rattle.undo_journal.specs.Headline.{IsReached, KeepsHistory}
 
 -- ---- one command and its undo
@@ -45,3 +51,13 @@ keeps_history old c new is h = record {
   counts = current_is slots new.state h.well_formed.0;
   populations = populated_is new.state;
 }
+
+-- ---- an answer, or want of memory
+
+pub answered_by : {A E : Type 0} (old new : Machine) (c : model.Command) (r : Result (Reply A) E) (reply : Reply A) → IfOk r (λ x. reply ≡ x) → OnErr r (reply_of reply ≡ None) → IfOk r (λ x. Answers old c x new) → reply_of reply ≢ None → Answers old c reply new
+answered_by old new c (Ok x) reply is err h n = subst (λ y. Answers old c y new) (sym is) h
+answered_by old new c (Err e) reply is err h n = absurd (n err)
+
+pub certain_by : {A E : Type 0} (old new : Machine) (c : model.Command) (r : Result (Reply A) E) (reply : Reply A) → IfOk r (λ x. reply ≡ x) → IfOk r (λ x. Answers old c x new) → IsOk r → reply_of reply ≢ None
+certain_by old new c (Ok x) reply is h k n = let f : Some (tick slots old c).1 ≡ None = sym h.reply_is ∙ sym (ap reply_of is) ∙ n in cc
+certain_by old new c (Err e) reply is h k n = cc

@@ -46,19 +46,19 @@ abbrev pub IsNewest : State → List (model.Command × State) → model_inverse.
 IsNewest now [] i = ⊥
 IsNewest now (e ∷ past) i = (record_of e.1 e.0 ≡ Some i) × (back i now ≡ e.1)
 
--- what was made goes when it is taken back, and is put nowhere
-abbrev pub is_made : Option model_inverse.Inverse → Bool
-is_made None = false
-is_made (Some (model_inverse.Made p)) = true
-is_made (Some (model_inverse.Forked pid)) = true
-is_made (Some (model_inverse.Removed p attr)) = false
-is_made (Some (model_inverse.Exited pid p)) = false
-is_made (Some (model_inverse.Moved pid p)) = false
-is_made (Some (model_inverse.Limited p file value)) = false
-is_made (Some (model_inverse.Counted a)) = false
-is_made (Some (model_inverse.Killed lost)) = false
+-- what was made goes when it is taken back, and a limit or a total is written where one stands
+abbrev pub needs_no_memory : Option model_inverse.Inverse → Bool
+needs_no_memory None = false
+needs_no_memory (Some (model_inverse.Made p)) = true
+needs_no_memory (Some (model_inverse.Removed p attr)) = false
+needs_no_memory (Some (model_inverse.Forked pid)) = true
+needs_no_memory (Some (model_inverse.Exited pid p)) = false
+needs_no_memory (Some (model_inverse.Moved pid p)) = false
+needs_no_memory (Some (model_inverse.Limited p file value)) = true
+needs_no_memory (Some (model_inverse.Counted a)) = true
+needs_no_memory (Some (model_inverse.Killed lost)) = false
 
--- whether an undo asks for no memory: there is nothing to take back, or its record is `Made` or `Forked`
+-- whether an undo asks for no memory: there is nothing to take back, or its record asks for none
 abbrev pub undoes_without_memory : List (model.Command × State) → Bool
 undoes_without_memory [] = true
-undoes_without_memory (e ∷ past) = is_made (record_of e.1 e.0)
+undoes_without_memory (e ∷ past) = needs_no_memory (record_of e.1 e.0)

@@ -1,33 +1,49 @@
 -- What the program's commands, replies and records mean in the model. A value over one allocator means the same as over another.
 use Rattle.std.specs.Prelude.{Option, Some, None}
 use Rattle.undo_journal.specs.declared.command.File.{File}
-use Rattle.undo_journal.specs.declared.command.File.TheVariants.{PidsCurrent}
+use Rattle.undo_journal.specs.declared.command.File.TheVariants.{PidsCurrent, Stat}
+use Rattle.undo_journal.specs.declared.command.HierarchyLimit.{HierarchyLimit}
+use Rattle.undo_journal.specs.declared.command.HierarchyLimit.TheVariants.{MaxDescendants, MaxDepth}
 use Rattle.undo_journal.specs.declared.command.Command.{Command}
-use Rattle.undo_journal.specs.declared.command.Command.TheVariants.{MakeGroup, Fork, Move, Show, Undo}
+use Rattle.undo_journal.specs.declared.command.Command.TheVariants.{MakeGroup, RemoveGroup, Fork, Exit, Move, SetLimit, Show, Undo}
 use Rattle.undo_journal.specs.declared.reply.Refusal.{Refusal}
-use Rattle.undo_journal.specs.declared.reply.Refusal.TheVariants.{Exists, NoGroup, NoSlot, NoProcess, PidInUse, NoFile}
+use Rattle.undo_journal.specs.declared.reply.Refusal.TheVariants.{Exists, NoGroup, Descendants, Depth, NoSlot, RootFixed, HasChildren, HasProcesses, NoProcess, PidInUse, NoFile}
 use Rattle.undo_journal.specs.declared.reply.Reply.{Reply}
 use Rattle.undo_journal.specs.declared.reply.Reply.TheVariants.{Done, Text, Undone, Refused, NothingToUndo, OutOfMemory}
 use Rattle.undo_journal.specs.declared.inverse.Inverse.{Inverse}
-use Rattle.undo_journal.specs.declared.inverse.Inverse.TheVariants.{Made, Forked, Moved}
+use Rattle.undo_journal.specs.declared.inverse.Inverse.TheVariants.{Made, Removed, Forked, Exited, Moved, Limited}
+use Rattle.group_tree.specs.Flat.{limit_of, group_of}
 use Rattle.flat_model.specs.File as model_file
 use Rattle.flat_model.specs.Command as model
 use Rattle.flat_model.specs.Inverse as model_inverse
 
 abbrev pub file_of : File → model_file.File
 file_of PidsCurrent = model_file.PidsCurrent
+file_of Stat = model_file.Stat
+
+abbrev pub limit_file_of : HierarchyLimit → model_file.LimitFile
+limit_file_of MaxDescendants = model_file.MaxDescendants
+limit_file_of MaxDepth = model_file.MaxDepth
 
 abbrev pub command_of : {A : Type 0} → Command A → model.Command
 command_of (MakeGroup path) = model.MakeGroup path
+command_of (RemoveGroup path) = model.RemoveGroup path
 command_of (Fork parent child) = model.Fork parent child
+command_of (Exit pid) = model.Exit pid
 command_of (Move path pid) = model.Move path pid
+command_of (SetLimit path file value) = model.SetLimit path (limit_file_of file) (limit_of value)
 command_of (Show path file) = model.Show path (file_of file)
 command_of Undo = model.Undo
 
 abbrev pub refusal_of : {A : Type 0} → Refusal A → model.Refusal
 refusal_of Exists = model.Exists
 refusal_of (NoGroup path) = model.NoGroup path
+refusal_of (Descendants path) = model.Descendants path
+refusal_of (Depth path) = model.Depth path
 refusal_of NoSlot = model.NoSlot
+refusal_of RootFixed = model.RootFixed
+refusal_of HasChildren = model.HasChildren
+refusal_of HasProcesses = model.HasProcesses
 refusal_of (NoProcess pid) = model.NoProcess pid
 refusal_of (PidInUse pid) = model.PidInUse pid
 refusal_of NoFile = model.NoFile
@@ -43,5 +59,8 @@ reply_of OutOfMemory = None
 
 abbrev pub inverse_of : {A : Type 0} → Inverse A → model_inverse.Inverse
 inverse_of (Made path) = model_inverse.Made path
+inverse_of (Removed path attr) = model_inverse.Removed path (group_of attr)
 inverse_of (Forked pid) = model_inverse.Forked pid
+inverse_of (Exited pid path) = model_inverse.Exited pid path
 inverse_of (Moved pid path) = model_inverse.Moved pid path
+inverse_of (Limited path file value) = model_inverse.Limited path (limit_file_of file) (limit_of value)

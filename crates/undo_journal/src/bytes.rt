@@ -36,7 +36,7 @@ impl<A: Allocator + Clone> Bytes<A> {
     pub(crate) fn copy<B: Allocator + Clone>(&self, alloc: B) -> Result<Bytes<B>, AllocError>
         ensures { IfOk result (λ b. b ≡ self.now) }
     {
-        let text = Vec::from_slice(alloc, self.as_slice())?;
+        let text = Vec::from_slice(alloc, self.text.as_slice())?;
         Ok(Bytes { text })
     }
 }

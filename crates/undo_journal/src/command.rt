@@ -1,10 +1,14 @@
 ghost use Rattle.std.specs.Prelude.{◌≡◌, IfOk};
 ghost use Rattle.flat_model.specs.CommandText.{command_text};
 ghost use Rattle.flat_model.specs.File.{file_name};
-ghost use Rattle.undo_journal.specs.Meaning.{command_of, file_of};
+ghost use Rattle.flat_model.specs.FileText.{limit_text};
+ghost use Rattle.flat_model.specs.File as model_file;
+ghost use Rattle.group_tree.specs.Flat.{limit_of};
+ghost use Rattle.undo_journal.specs.Meaning.{command_of, file_of, limit_file_of};
 
 use crate::pid::Pid;
 use group_path::GroupPath;
+use group_tree::Limit;
 use itoa::Buffer;
 use std::alloc::{AllocError, Allocator};
 
@@ -13,6 +17,8 @@ use std::alloc::{AllocError, Allocator};
 pub enum File {
     /// `pids.current`: how many processes are in the group and below it. The root has none.
     PidsCurrent,
+    /// `cgroup.stat`: how many groups are below it.
+    Stat,
 }
 
 impl File {
@@ -22,6 +28,41 @@ impl File {
     {
         match self {
             File::PidsCurrent => b"pids.current",
+            File::Stat => b"cgroup.stat",
+        }
+    }
+}
+
+/// A limit on the groups below a group.
+#[derive(Clone, Copy, Debug, PartialEq, Eq)]
+pub enum HierarchyLimit {
+    /// `cgroup.max.descendants`: how many groups there may be.
+    MaxDescendants,
+    /// `cgroup.max.depth`: on how many levels.
+    MaxDepth,
+}
+
+impl HierarchyLimit {
+    /// The name of its file.
+    fn name(self) -> &'static [u8]
+        ensures { result.now ≡ file_name (model_file.LimitOf (limit_file_of self)) }
+    {
+        match self {
+            HierarchyLimit::MaxDescendants => b"cgroup.max.descendants",
+            HierarchyLimit::MaxDepth => b"cgroup.max.depth",
+        }
+    }
+}
+
+/// What the file of a limit says: `max`, or the number.
+fn value_text<B: Allocator + Clone>(alloc: B, value: Limit) -> Result<Vec<u8, B>, AllocError>
+    ensures { IfOk result (λ text. text.items ≡ limit_text (limit_of value)) }
+{
+    match value {
+        Limit::Unlimited => Vec::from_slice(alloc, b"max"),
+        Limit::At(most) => {
+            let mut digits = Buffer::new();
+            Vec::from_slice(alloc, digits.format(most).as_bytes())
         }
     }
 }
@@ -31,6 +72,8 @@ impl File {
 pub enum Command<A: Allocator + Clone> {
     /// Makes a group under one that is there: `mkdir`.
     MakeGroup(GroupPath<A>),
+    /// Removes a group that has no groups below it and no processes: `rmdir`.
+    RemoveGroup(GroupPath<A>),
     /// Makes a process in the group of its parent.
     Fork {
         /// The process that forks.
@@ -38,12 +81,23 @@ pub enum Command<A: Allocator + Clone> {
         /// The process that is made.
         child: Pid,
     },
+    /// Ends a process.
+    Exit(Pid),
     /// Puts a process into a group: a write to `cgroup.procs`.
     Move {
         /// The group that it goes to.
         path: GroupPath<A>,
         /// The process.
         pid: Pid,
+    },
+    /// Sets a limit of a group: a write to its file.
+    SetLimit {
+        /// The group.
+        path: GroupPath<A>,
+        /// Which limit.
+        file: HierarchyLimit,
+        /// The limit.
+        value: Limit,
     },
     /// Reads a file of a group.
     Show {
@@ -67,9 +121,16 @@ impl<A: Allocator + Clone> Command<A> {
                 parent: *parent,
                 child: *child,
             }),
+            Command::RemoveGroup(path) => Ok(Command::RemoveGroup(path.copy(alloc)?)),
+            Command::Exit(pid) => Ok(Command::Exit(*pid)),
             Command::Move { path, pid } => Ok(Command::Move {
                 path: path.copy(alloc)?,
                 pid: *pid,
+            }),
+            Command::SetLimit { path, file, value } => Ok(Command::SetLimit {
+                path: path.copy(alloc)?,
+                file: *file,
+                value: *value,
             }),
             Command::Show { path, file } => Ok(Command::Show {
                 path: path.copy(alloc)?,
@@ -80,7 +141,7 @@ impl<A: Allocator + Clone> Command<A> {
     }
 
     /// The command as a line of a trace says it, without the line feed: `mkdir /a`, `fork 1 2`,
-    /// `write /a cgroup.procs 2`, `cat /a pids.current`, `undo`.
+    /// `write /a cgroup.procs 2`, `write /a cgroup.max.depth 3`, `cat /a pids.current`, `undo`.
     pub fn text<B: Allocator + Clone>(&self, alloc: B) -> Result<Vec<u8, B>, AllocError>
         ensures { IfOk result (λ text. text.items ≡ command_text (command_of self.now)) }
     {
@@ -104,6 +165,27 @@ impl<A: Allocator + Clone> Command<A> {
                 text.extend_from_slice(path.text())?;
                 text.extend_from_slice(b" cgroup.procs ")?;
                 text.extend_from_slice(digits.format(pid.get()).as_bytes())?;
+                Ok(text)
+            }
+            Command::RemoveGroup(path) => {
+                let mut text = Vec::from_slice(alloc, b"rmdir ")?;
+                text.extend_from_slice(path.text())?;
+                Ok(text)
+            }
+            Command::Exit(pid) => {
+                let mut digits = Buffer::new();
+                let mut text = Vec::from_slice(alloc, b"exit ")?;
+                text.extend_from_slice(digits.format(pid.get()).as_bytes())?;
+                Ok(text)
+            }
+            Command::SetLimit { path, file, value } => {
+                let value = value_text(alloc.clone()?, *value)?;
+                let mut text = Vec::from_slice(alloc, b"write ")?;
+                text.extend_from_slice(path.text())?;
+                text.extend_from_slice(b" ")?;
+                text.extend_from_slice(file.name())?;
+                text.extend_from_slice(b" ")?;
+                text.extend_from_slice(value.as_slice())?;
                 Ok(text)
             }
             Command::Show { path, file } => {

@@ -1,20 +1,19 @@
-ghost use Rattle.std.specs.Prelude.{◌≡◌, ◌≢◌, [], true, None, IfOk, OnErr, MatchOption, length, option_map};
-ghost use Rattle.std.specs.Ordering.{nat_cmp};
-ghost use Rattle.flat_model.specs.Path.{path_cmp};
+ghost use Rattle.std.specs.Prelude.{◌≡◌, ◌≢◌, [], true, None, IfOk, IsOk, OnErr, MatchOption, length, option_map};
 ghost use Rattle.flat_model.specs.Command as model;
-ghost use Rattle.flat_model.specs.Inverse.{back};
 ghost use Rattle.flat_model.specs.Machine.{new_machine};
 ghost use Rattle.undo_journal.specs.Meaning.{command_of, inverse_of, reply_of};
 ghost use Rattle.undo_journal.specs.Answer.{Answers, IsNewest, newest_command, undoes_without_memory};
 ghost use Rattle.undo_journal.specs.Headline.{KeepsHistory, IsReached};
-ghost use Rattle.undo_journal.specs.Rows.{IsDistinct, IsReady, group_rows, process_rows, state_of};
 
+use crate::attrs::fresh_attr;
 use crate::command::Command;
 use crate::inverse::Inverse;
 use crate::pid::Pid;
 use crate::reply::Reply;
-use crate::rows::{Entry, Process, rehome, remove_group, remove_process};
+use crate::rows::{Entry, Process};
+use crate::taking::take_back;
 use group_path::GroupPath;
+use group_tree::GroupTree;
 use std::alloc::{AllocError, Allocator};
 use std::marker::Model;
 use std::sync::Wait;
@@ -27,7 +26,7 @@ pub const SLOTS: usize = 256;
 #[derive(Drop)]
 pub struct Engine<A: Allocator + Clone> {
     pub(crate) alloc: A,
-    pub(crate) groups: Vec<GroupPath<A>, A>,
+    pub(crate) groups: GroupTree<A>,
     pub(crate) processes: Vec<Process<A>, A>,
     pub(crate) journal: Vec<Entry<A>, A>,
 }
@@ -43,9 +42,9 @@ impl<A: Allocator + Clone> Model for Engine<A> {
 
     ghost use Rattle.undo_journal.specs.Rows.{machine_of, IsSound};
 
-    ghost view = { λ e. machine_of e.groups.items e.processes.items e.journal.items };
+    ghost view = { λ e. machine_of e.groups e.processes.items e.journal.items };
 
-    ghost invariant = { λ e. IsSound e.groups.items e.processes.items e.journal.items };
+    ghost invariant = { λ e. IsSound e.groups e.processes.items e.journal.items };
 }
 
 /// The path of the root.
@@ -55,28 +54,6 @@ pub(crate) fn root<A: Allocator + Clone>(alloc: A) -> Result<GroupPath<A>, Alloc
     match GroupPath::read(alloc, b"/") {
         Ok(path) => Ok(path),
         Err(_) => Err(AllocError),
-    }
-}
-
-/// Takes one command back by its record.
-fn take_back<A: Allocator + Clone>(
-    groups: &mut Vec<GroupPath<A>, A>,
-    processes: &mut Vec<Process<A>, A>,
-    inverse: Inverse<A>,
-)
-    requires groups_apart { IsDistinct path_cmp (group_rows groups.old.items) }
-    requires pids_apart { IsDistinct nat_cmp (process_rows processes.old.items) }
-    requires ready { IsReady (state_of groups.old.items processes.old.items) (inverse_of inverse) }
-    ensures groups_apart { IsDistinct path_cmp (group_rows groups.new.items) }
-    ensures pids_apart { IsDistinct nat_cmp (process_rows processes.new.items) }
-    ensures state { state_of groups.new.items processes.new.items ≡ back (inverse_of inverse) (state_of groups.old.items processes.old.items) }
-{
-    match inverse {
-        Inverse::Made { path } => remove_group(groups, &path),
-        Inverse::Forked { pid } => remove_process(processes, pid),
-        Inverse::Moved { pid, path } => {
-            let _left = rehome(processes, pid, path);
-        }
     }
 }
 
@@ -96,10 +73,8 @@ impl<A: Allocator + Clone> Engine<A> {
     pub fn new(alloc: A) -> Result<Self, AllocError>
         ensures { IfOk result (λ e. e ≡ new_machine) }
     {
-        let root = root(alloc.clone()?)?;
-        let home = root.copy(alloc.clone()?)?;
-        let mut groups = Vec::new(alloc.clone()?);
-        groups.push(root)?;
+        let home = root(alloc.clone()?)?;
+        let groups = GroupTree::new(alloc.clone()?, fresh_attr())?;
         let mut processes = Vec::new(alloc.clone()?);
         processes.push(Process {
             pid: Pid::first(),
@@ -143,10 +118,10 @@ impl<A: Allocator + Clone> Engine<A> {
         ensures headline { reply_of result ≢ None → KeepsHistory self.old model.Undo self.new }
         ensures refused { reply_of result ≡ None → self.new ≡ self.old }
 
-        // To take back a group or a process that was made, no memory is asked for.
+        // To take back a group or a process that was made, or a limit that was set, no memory is asked for.
         ensures certain { undoes_without_memory self.old.past ≡ true → reply_of result ≢ None }
     {
-        let reply = self.take_newest_back();
+        let reply = or_out_of_memory(self.take_newest_back());
         self.known();
         reply
     }
@@ -189,23 +164,36 @@ impl<A: Allocator + Clone> Engine<A> {
     {
         match cmd {
             Command::MakeGroup(path) => or_out_of_memory(self.make_group(path)),
+            Command::RemoveGroup(path) => or_out_of_memory(self.remove_group(path)),
             Command::Fork { parent, child } => or_out_of_memory(self.fork(*parent, *child)),
+            Command::Exit(pid) => or_out_of_memory(self.exit(*pid)),
             Command::Move { path, pid } => or_out_of_memory(self.move_process(path, *pid)),
+            Command::SetLimit { path, file, value } => {
+                or_out_of_memory(self.set_limit(path, *file, *value))
+            }
             Command::Show { path, file } => or_out_of_memory(self.show(path, *file)),
             Command::Undo => self.undo(rt, who),
         }
     }
 
-    fn take_newest_back(&mut self) -> Reply<A>
-        ensures { Answers self.old model.Undo result self.new }
+    fn take_newest_back(&mut self) -> Result<Reply<A>, AllocError>
+        ensures ok { IfOk result (λ reply. Answers self.old model.Undo reply self.new) }
+        ensures err { OnErr result (self.new ≡ self.old) }
+        ensures certain { undoes_without_memory self.old.past ≡ true → IsOk result }
     {
-        match self.journal.pop() {
-            None => Reply::NothingToUndo,
-            Some(entry) => {
-                take_back(&mut self.groups, &mut self.processes, entry.inverse);
-                Reply::Undone(entry.command)
-            }
-        }
+        let Some(entry) = self.journal.last() else {
+            return Ok(Reply::NothingToUndo);
+        };
+        take_back(
+            &self.alloc,
+            &mut self.groups,
+            &mut self.processes,
+            &entry.inverse,
+        )?;
+        let Some(newest) = self.journal.pop() else {
+            unreachable!()
+        };
+        Ok(Reply::Undone(newest.command))
     }
 
     /// Tells `apply` and `undo` what every engine keeps. It does nothing.

@@ -1,5 +1,7 @@
+use crate::command::HierarchyLimit;
 use crate::pid::Pid;
 use group_path::GroupPath;
+use group_tree::{Attr, Limit};
 use std::alloc::Allocator;
 
 /// What takes one recorded command back.
@@ -10,10 +12,24 @@ pub enum Inverse<A: Allocator + Clone> {
         /// The group.
         path: GroupPath<A>,
     },
+    /// A group was removed: it is put back.
+    Removed {
+        /// The group.
+        path: GroupPath<A>,
+        /// What it had. The slot binds nothing.
+        attr: Attr,
+    },
     /// A process was made: it goes.
     Forked {
         /// The process.
         pid: Pid,
+    },
+    /// A process has ended: it is put back.
+    Exited {
+        /// The process.
+        pid: Pid,
+        /// The group that it was in.
+        path: GroupPath<A>,
     },
     /// A process was moved: it goes back.
     Moved {
@@ -21,5 +37,14 @@ pub enum Inverse<A: Allocator + Clone> {
         pid: Pid,
         /// The group that it was in.
         path: GroupPath<A>,
+    },
+    /// A limit was set: it goes back.
+    Limited {
+        /// The group.
+        path: GroupPath<A>,
+        /// Which limit.
+        file: HierarchyLimit,
+        /// What it was.
+        value: Limit,
     },
 }

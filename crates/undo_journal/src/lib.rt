@@ -18,19 +18,24 @@
 //! `specs/Answer.antt`; what each answered command promises of undoing and counting in `specs/Headline.antt`.
 #![tactic(auto)]
 
+mod attrs;
 mod bytes;
 mod command;
 mod engine;
+mod exiting;
 mod inverse;
+mod limiting;
 mod making;
 mod moving;
 mod pid;
+mod removing;
 mod reply;
 mod rows;
 mod showing;
+mod taking;
 
 pub use bytes::Bytes;
-pub use command::{Command, File};
+pub use command::{Command, File, HierarchyLimit};
 pub use engine::{Engine, SLOTS};
 pub use inverse::Inverse;
 pub use pid::Pid;

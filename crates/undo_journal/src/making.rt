@@ -1,34 +1,36 @@
 //! The making of groups.
 
-ghost use Rattle.std.specs.Prelude.{◌≡◌, None, IfOk, OnOk, OnErr, option_map};
+ghost use Rattle.std.specs.Prelude.{◌≡◌, ◌≤◌, None, IfOk, OnOk, OnErr, option_map, length, take, ltb};
 ghost use Rattle.std.specs.FinMap.{len};
 ghost use Rattle.flat_model.specs.Counts.{is_group};
-ghost use Rattle.flat_model.specs.Path.{parent};
-ghost use Rattle.flat_model.specs.Step.{refusal, after};
+ghost use Rattle.flat_model.specs.Path.{upward};
+ghost use Rattle.flat_model.specs.Step.{refusal, after, limit_met, first_refusal};
 ghost use Rattle.flat_model.specs.Machine.{recorded};
 ghost use Rattle.flat_model.specs.Command as model;
 ghost use Rattle.undo_journal.specs.Meaning.{refusal_of};
 ghost use Rattle.undo_journal.specs.Answer.{slots, Answers};
 
+use crate::attrs::{fresh_attr, is_reached};
 use crate::command::Command;
 use crate::engine::{Engine, SLOTS};
 use crate::inverse::Inverse;
 use crate::reply::{Refusal, Reply};
-use crate::rows::{Entry, find_group};
+use crate::rows::Entry;
 use group_path::GroupPath;
 use std::alloc::{AllocError, Allocator};
 
-/// The path without its last name, and the root for the root.
-fn parent_of<A: Allocator + Clone, B: Allocator + Clone>(
+/// The group of the first `n` names of the path.
+fn front<A: Allocator + Clone, B: Allocator + Clone>(
     alloc: B,
     path: &GroupPath<A>,
+    n: usize,
 ) -> Result<GroupPath<B>, AllocError>
-    ensures { IfOk result (λ p. p ≡ parent path.now) }
+    requires { n ≤ length path.now }
+    ensures { IfOk result (λ p. p ≡ take n path.now) }
 {
-    match path.parent(alloc.clone()?)? {
-        Some(above) => Ok(above),
-        None => path.copy(alloc),
-    }
+    let mut front = path.copy(alloc)?;
+    front.cut(n);
+    Ok(front)
 }
 
 impl<A: Allocator + Clone> Engine<A> {
@@ -36,14 +38,71 @@ impl<A: Allocator + Clone> Engine<A> {
     pub(crate) fn has_group<B: Allocator + Clone>(&self, path: &GroupPath<B>) -> bool
         ensures { result ≡ is_group self.now.state path.now }
     {
-        find_group(self.groups.as_slice(), path).is_some()
+        self.groups.find(path).is_some()
     }
 
-    /// How many groups there are, the root among them.
-    fn group_count(&self) -> usize
-        ensures { result ≡ len self.now.state.groups }
+    /// Whether there is a group of the first `n` names of the path.
+    fn has_group_at<B: Allocator + Clone>(&self, path: &GroupPath<B>, n: usize) -> bool
+        requires { n ≤ length path.now }
+        ensures { result ≡ is_group self.now.state (take n path.now) }
     {
-        self.groups.len()
+        self.groups.find_at(path, n).is_some()
+    }
+
+    /// Whether there are as many groups as there may be.
+    fn is_full<B: Allocator + Clone>(&self, path: &GroupPath<B>) -> bool
+        ensures { result ≡ ltb slots (len self.now.state.groups) }
+    {
+        match self.groups.descendants_at(path, 0) {
+            Some(beside_the_root) => beside_the_root >= SLOTS as u64,
+            None => false,
+        }
+    }
+
+    /// Which limit of the group of the first `n` names of the path refuses a group under its first `above` names.
+    fn limit_met<B: Allocator + Clone>(
+        &self,
+        path: &GroupPath<B>,
+        above: usize,
+        n: usize,
+    ) -> Result<Option<Refusal<A>>, AllocError>
+        requires order { n ≤ above }
+        requires inside { above ≤ length path.now }
+        ensures { IfOk result (λ r. option_map refusal_of r ≡ limit_met self.now.state (take above path.now) (take n path.now)) }
+    {
+        let Some(attr) = self.groups.find_at(path, n) else {
+            return Ok(None);
+        };
+        let Some(descendants) = self.groups.descendants_at(path, n) else {
+            return Ok(None);
+        };
+        if is_reached(attr.limits.descendants, descendants) {
+            return Ok(Some(Refusal::Descendants(front(self.alloc.clone()?, path, n)?)));
+        }
+        if is_reached(attr.limits.depth, (above - n) as u64) {
+            return Ok(Some(Refusal::Depth(front(self.alloc.clone()?, path, n)?)));
+        }
+        Ok(None)
+    }
+
+    /// The first limit that refuses it, from the group of the first `n` names upward.
+    fn first_limit_met<B: Allocator + Clone>(
+        &self,
+        path: &GroupPath<B>,
+        above: usize,
+        n: usize,
+    ) -> Result<Option<Refusal<A>>, AllocError>
+        requires order { n ≤ above }
+        requires inside { above ≤ length path.now }
+        ensures { IfOk result (λ r. option_map refusal_of r ≡ first_refusal (limit_met self.now.state (take above path.now)) (upward (take n path.now))) }
+    {
+        if let Some(refusal) = self.limit_met(path, above, n)? {
+            return Ok(Some(refusal));
+        }
+        if n == 0 {
+            return Ok(None);
+        }
+        self.first_limit_met(path, above, n - 1)
     }
 
     /// Why the group may not be made, if it may not.
@@ -56,11 +115,14 @@ impl<A: Allocator + Clone> Engine<A> {
         if self.has_group(path) {
             return Ok(Some(Refusal::Exists));
         }
-        let above = parent_of(self.alloc.clone()?, path)?;
-        if !self.has_group(&above) {
-            return Ok(Some(Refusal::NoGroup(above)));
+        let above = path.depth().saturating_sub(1);
+        if !self.has_group_at(path, above) {
+            return Ok(Some(Refusal::NoGroup(front(self.alloc.clone()?, path, above)?)));
         }
-        if self.group_count() > SLOTS {
+        if let Some(refusal) = self.first_limit_met(path, above, above)? {
+            return Ok(Some(refusal));
+        }
+        if self.is_full(path) {
             return Ok(Some(Refusal::NoSlot));
         }
         Ok(None)
@@ -72,15 +134,18 @@ impl<A: Allocator + Clone> Engine<A> {
         ensures ok { OnOk result (self.new ≡ recorded self.old (model.MakeGroup path.now) (after self.old.state (model.MakeGroup path.now))) }
         ensures err { OnErr result (self.new ≡ self.old) }
     {
-        let group = path.copy(self.alloc.clone()?)?;
         let command = Command::MakeGroup(path.copy(self.alloc.clone()?)?);
         let inverse = Inverse::Made {
             path: path.copy(self.alloc.clone()?)?,
         };
         self.journal.reserve(1)?;
-        self.groups.push(group)?;
-        self.journal.push(Entry { command, inverse })?;
-        Ok(())
+        match self.groups.insert(path, fresh_attr()) {
+            Ok(()) => {
+                self.journal.push(Entry { command, inverse })?;
+                Ok(())
+            }
+            Err(_) => Err(AllocError),
+        }
     }
 
     pub(crate) fn make_group<B: Allocator + Clone>(

@@ -44,7 +44,7 @@ impl<A: Allocator + Clone> Engine<A> {
     }
 
     /// Whether there is such a process.
-    fn has_process(&self, pid: Pid) -> bool
+    pub(crate) fn has_process(&self, pid: Pid) -> bool
         ensures { result ≡ has_process self.now.state pid }
     {
         self.home(pid).is_some()

@@ -14,8 +14,18 @@ pub enum Refusal<A: Allocator + Clone> {
     Exists,
     /// There is no such group: the parent of a group to be made, or else the group that the command names.
     NoGroup(GroupPath<A>),
+    /// This group's limit on the groups below it is met.
+    Descendants(GroupPath<A>),
+    /// This group's limit on the levels below it is met.
+    Depth(GroupPath<A>),
     /// There are 256 groups beside the root.
     NoSlot,
+    /// The root stays.
+    RootFixed,
+    /// There are groups below it.
+    HasChildren,
+    /// There are processes in it.
+    HasProcesses,
     /// There is no such process.
     NoProcess(Pid),
     /// There is such a process already.
@@ -31,7 +41,12 @@ impl<A: Allocator + Clone> Refusal<A> {
         match self {
             Refusal::Exists => Ok(Refusal::Exists),
             Refusal::NoGroup(path) => Ok(Refusal::NoGroup(path.copy(alloc)?)),
+            Refusal::Descendants(path) => Ok(Refusal::Descendants(path.copy(alloc)?)),
+            Refusal::Depth(path) => Ok(Refusal::Depth(path.copy(alloc)?)),
             Refusal::NoSlot => Ok(Refusal::NoSlot),
+            Refusal::RootFixed => Ok(Refusal::RootFixed),
+            Refusal::HasChildren => Ok(Refusal::HasChildren),
+            Refusal::HasProcesses => Ok(Refusal::HasProcesses),
             Refusal::NoProcess(pid) => Ok(Refusal::NoProcess(*pid)),
             Refusal::PidInUse(pid) => Ok(Refusal::PidInUse(*pid)),
             Refusal::NoFile => Ok(Refusal::NoFile),

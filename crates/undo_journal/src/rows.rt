@@ -1,10 +1,9 @@
-//! Plain lists of rows, one row for each group and one for each process.
+//! Plain lists of rows, one row for each process and one for each recorded command.
 
 ghost use Rattle.std.specs.Prelude.{◌≡◌, ◌==◌, true, Some, None, MatchOption, position, is_some};
 ghost use Rattle.std.specs.Ordering.{nat_cmp};
 ghost use Rattle.std.specs.FinMap.{find, insert, remove, from_entries};
-ghost use Rattle.flat_model.specs.Path.{path_cmp, same_path};
-ghost use Rattle.undo_journal.specs.Rows.{IsDistinct, IsGroupAt, IsProcessAt, group_rows, process_rows};
+ghost use Rattle.undo_journal.specs.Rows.{IsDistinct, IsProcessAt, process_rows};
 
 use crate::command::Command;
 use crate::inverse::Inverse;
@@ -27,25 +26,6 @@ pub(crate) struct Entry<A: Allocator + Clone> {
     pub(crate) inverse: Inverse<A>,
 }
 
-/// Where the group's row is.
-pub(crate) fn find_group<A: Allocator + Clone, B: Allocator + Clone>(
-    groups: &[GroupPath<A>],
-    path: &GroupPath<B>,
-) -> Option<usize>
-    ensures { MatchOption result (find path_cmp path.now (group_rows groups.now) ≡ None) (λ i. IsGroupAt groups.now path.now i) }
-{
-    position_of_group(groups, path)
-}
-
-fn position_of_group<A: Allocator + Clone, B: Allocator + Clone>(
-    groups: &[GroupPath<A>],
-    path: &GroupPath<B>,
-) -> Option<usize>
-    ensures { result ≡ position (λ group. same_path path.now group) groups.now }
-{
-    groups.iter().position(|group| path.is_same(group))
-}
-
 /// Where the process's row is.
 pub(crate) fn find_process<A: Allocator + Clone>(
     processes: &[Process<A>],
@@ -62,28 +42,22 @@ fn position_of_process<A: Allocator + Clone>(processes: &[Process<A>], pid: Pid)
     processes.iter().position(|process| pid == process.pid)
 }
 
-/// Takes a group's row out, if there is one.
-pub(crate) fn remove_group<A: Allocator + Clone>(
-    groups: &mut Vec<GroupPath<A>, A>,
-    path: &GroupPath<A>,
-)
-    requires { IsDistinct path_cmp (group_rows groups.old.items) }
-    ensures apart { IsDistinct path_cmp (group_rows groups.new.items) }
-    ensures rows { from_entries (group_rows groups.new.items) ≡ remove (from_entries {R = path_cmp} (group_rows groups.old.items)) path.now }
-{
-    if let Some(i) = find_group(groups.as_slice(), path) {
-        let _row = groups.remove(i);
-    }
-}
-
-/// Takes a process's row out, if there is one.
-pub(crate) fn remove_process<A: Allocator + Clone>(processes: &mut Vec<Process<A>, A>, pid: Pid)
+/// Takes a process's row out, and gives the home that it had; None where there is no such process.
+pub(crate) fn remove_process<A: Allocator + Clone>(
+    processes: &mut Vec<Process<A>, A>,
+    pid: Pid,
+) -> Option<GroupPath<A>>
     requires { IsDistinct nat_cmp (process_rows processes.old.items) }
     ensures apart { IsDistinct nat_cmp (process_rows processes.new.items) }
     ensures rows { from_entries (process_rows processes.new.items) ≡ remove (from_entries {R = nat_cmp} (process_rows processes.old.items)) pid }
+    ensures home { result ≡ find nat_cmp pid (process_rows processes.old.items) }
 {
-    if let Some(i) = find_process(processes.as_slice(), pid) {
-        let _row = processes.remove(i);
+    match find_process(processes.as_slice(), pid) {
+        Some(i) => {
+            let process = processes.remove(i);
+            Some(process.home)
+        }
+        None => None,
     }
 }
 

@@ -23,29 +23,28 @@ row g c = record { pid = c.args.child; home = c.in_ok-home.home }
 journal_is : (g : _) (c : goal.In_ok-push-2 g) → c.push-2.new.self.items ≡ c.self.inside.journal.items ++ entry g c ∷ []
 journal_is g c = c.in_ok-push-2.ensures.items ∙ ap (λ js. js ++ entry g c ∷ []) c.reserve.ensures.items
 
-row_is : (g : _) (c : goal.In_ok-push-2 g) → ◌≡◌ {A = ℕ × Path} (process_entry (row g c)) (c.args.child, home_of (state_of c.self.inside.groups.items c.self.inside.processes.items) c.args.parent)
+row_is : (g : _) (c : goal.In_ok-push-2 g) → ◌≡◌ {A = ℕ × Path} (process_entry (row g c)) (c.args.child, home_of (state_of c.self.inside.groups c.self.inside.processes.items) c.args.parent)
 row_is g c = λ i. (c.args.child, (c.in_ok-home.ensures ∙ ap (λ (m : Machine). home_of m.state c.args.parent) (sym c.self.view_is)) i)
 
-none : (g : _) (c : goal.In_ok-push-2 g) → refusal slots (state_of c.self.inside.groups.items c.self.inside.processes.items) (model.Fork c.args.parent c.args.child) ≡ None
+none : (g : _) (c : goal.In_ok-push-2 g) → refusal slots (state_of c.self.inside.groups c.self.inside.processes.items) (model.Fork c.args.parent c.args.child) ≡ None
 none g c = subst (λ (m : Machine). refusal slots m.state (model.Fork c.args.parent c.args.child) ≡ None) (sym c.self.view_is) c.requires
 
 pub invariant_of-self-2 : goal.invariant_of-self-2
 invariant_of-self-2 g c =
-    let gs = c.self.inside.groups.items in
+    let gs = c.self.inside.groups in
     let ps = c.self.inside.processes.items in
     rw (c.in_ok-push.ensures.items, journal_is g c)
     (record {
-      groups_apart = c.self.invariant.groups_apart;
       pids_apart = pids_still_apart gs ps c.args.parent c.args.child (row g c) (row_is g c) (none g c) c.self.invariant.pids_apart;
-      history = accepted_history gs gs ps (ps ++ row g c ∷ []) c.self.inside.journal.items (entry g c) (model.Fork c.args.parent c.args.child) (model_inverse.Forked c.args.child) refl refl (none g c)
+      history = accepted_history gs gs ps (ps ++ row g c ∷ []) c.self.inside.journal.items (entry g c) (model.Fork c.args.parent c.args.child) (model_inverse.Forked c.args.child) refl refl (none g c) refl
           (process_pushed gs ps c.args.parent c.args.child (row g c) (row_is g c) (none g c)) c.self.invariant.history;
     })
 
 pub returns-clause-ok : goal.returns-clause-ok
 returns-clause-ok g c =
-    let gs = c.self.inside.groups.items in
+    let gs = c.self.inside.groups in
     let ps = c.self.inside.processes.items in
     (λ i. machine_of gs (c.in_ok-push.ensures.items i) (journal_is g c i))
-    ∙ accepted_is gs gs ps (ps ++ row g c ∷ []) c.self.inside.journal.items (entry g c) (model.Fork c.args.parent c.args.child) (model_inverse.Forked c.args.child) refl refl (none g c)
+    ∙ accepted_is gs gs ps (ps ++ row g c ∷ []) c.self.inside.journal.items (entry g c) (model.Fork c.args.parent c.args.child) (model_inverse.Forked c.args.child) refl refl (none g c) refl
     (process_pushed gs ps c.args.parent c.args.child (row g c) (row_is g c) (none g c))
     ∙ ap (λ (m : Machine). recorded m (model.Fork c.args.parent c.args.child) (after m.state (model.Fork c.args.parent c.args.child))) c.self.view_is

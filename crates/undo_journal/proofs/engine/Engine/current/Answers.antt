@@ -10,4 +10,4 @@ returns g c =
     rw (← c.self.view_is)
     (c.count_at_or_below.ensures
     ∙ ap (λ (ps : List (Process g.row.A.Denot)). count_by (λ process. at_or_below process.home c.args.path.now) ps) c.as_slice.ensures.value
-    ∙ current_rows c.self.inside.groups.items c.self.inside.processes.items c.args.path.now c.self.invariant.pids_apart)
+    ∙ current_rows c.self.inside.groups c.self.inside.processes.items c.args.path.now c.self.invariant.pids_apart)

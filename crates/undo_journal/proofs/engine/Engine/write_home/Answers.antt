@@ -17,7 +17,7 @@ use Rattle.undo_journal.proofs.engine.Engine.write_home.Goals as goal
 
 pub rehome-left-requires-clause-there : goal.rehome-left-requires-clause-there
 rehome-left-requires-clause-there g c =
-    mover_row c.self.inside.groups.items c.self.inside.processes.items c.args.path.now c.args.pid
+    mover_row c.self.inside.groups c.self.inside.processes.items c.args.path.now c.args.pid
     (subst (λ (m : Machine). refusal slots m.state (model.Move c.args.path.now c.args.pid) ≡ None) (sym c.self.view_is) c.requires)
 
 abbrev entry : (g : _) (c : goal.In_ok-push g) → Entry g.row.A.Denot
@@ -26,34 +26,33 @@ entry g c = record { command = Move c.in_ok-copy.field-0 c.args.pid; inverse = M
 journal_is : (g : _) (c : goal.In_ok-push g) → c.push.new.self.items ≡ c.self.inside.journal.items ++ entry g c ∷ []
 journal_is g c = c.in_ok-push.ensures.items ∙ ap (λ js. js ++ entry g c ∷ []) c.reserve.ensures.items
 
-entry_is : (g : _) (c : goal.In_ok-push g) → ◌≡◌ {A = model.Command × model_inverse.Inverse} (journal_entry (entry g c)) (model.Move c.args.path.now c.args.pid, model_inverse.Moved c.args.pid (home_of (state_of c.self.inside.groups.items c.self.inside.processes.items) c.args.pid))
-entry_is g c = λ i. (model.Move (c.in_ok-copy.ensures i) c.args.pid, model_inverse.Moved c.args.pid (home_is c.self.inside.groups.items c.self.inside.processes.items c.args.pid c.rehome-left.result c.rehome-left.ensures.old i))
+entry_is : (g : _) (c : goal.In_ok-push g) → ◌≡◌ {A = model.Command × model_inverse.Inverse} (journal_entry (entry g c)) (model.Move c.args.path.now c.args.pid, model_inverse.Moved c.args.pid (home_of (state_of c.self.inside.groups c.self.inside.processes.items) c.args.pid))
+entry_is g c = λ i. (model.Move (c.in_ok-copy.ensures i) c.args.pid, model_inverse.Moved c.args.pid (home_is c.self.inside.groups c.self.inside.processes.items c.args.pid c.rehome-left.result c.rehome-left.ensures.old i))
 
-none : (g : _) (c : goal.In_ok-push g) → refusal slots (state_of c.self.inside.groups.items c.self.inside.processes.items) (model.Move c.args.path.now c.args.pid) ≡ None
+none : (g : _) (c : goal.In_ok-push g) → refusal slots (state_of c.self.inside.groups c.self.inside.processes.items) (model.Move c.args.path.now c.args.pid) ≡ None
 none g c = subst (λ (m : Machine). refusal slots m.state (model.Move c.args.path.now c.args.pid) ≡ None) (sym c.self.view_is) c.requires
 
-state_is : (g : _) (c : goal.In_ok-push g) → state_of c.self.inside.groups.items c.rehome-left.new.processes.items ≡ after (state_of c.self.inside.groups.items c.self.inside.processes.items) (model.Move c.args.path.now c.args.pid)
+state_is : (g : _) (c : goal.In_ok-push g) → state_of c.self.inside.groups c.rehome-left.new.processes.items ≡ after (state_of c.self.inside.groups c.self.inside.processes.items) (model.Move c.args.path.now c.args.pid)
 state_is g c =
-    moved_state c.self.inside.groups.items c.self.inside.processes.items c.rehome-left.new.processes.items c.args.path.now c.args.pid
+    moved_state c.self.inside.groups c.self.inside.processes.items c.rehome-left.new.processes.items c.args.path.now c.args.pid
     (c.rehome-left.ensures.rows ∙ ap (λ (p : Path). insert (from_entries {R = nat_cmp} (process_rows c.self.inside.processes.items)) c.args.pid p) c.in_ok-home.ensures)
 
 pub invariant_of-self-2 : goal.invariant_of-self-2
 invariant_of-self-2 g c =
-    let gs = c.self.inside.groups.items in
+    let gs = c.self.inside.groups in
     let ps = c.self.inside.processes.items in
     rw (journal_is g c)
     (record {
-      groups_apart = c.self.invariant.groups_apart;
       pids_apart = c.rehome-left.ensures.apart;
       history = accepted_history gs gs ps c.rehome-left.new.processes.items c.self.inside.journal.items (entry g c)
-          (model.Move c.args.path.now c.args.pid) (model_inverse.Moved c.args.pid (home_of (state_of gs ps) c.args.pid)) (entry_is g c) refl (none g c) (state_is g c) c.self.invariant.history;
+          (model.Move c.args.path.now c.args.pid) (model_inverse.Moved c.args.pid (home_of (state_of gs ps) c.args.pid)) (entry_is g c) refl (none g c) refl (state_is g c) c.self.invariant.history;
     })
 
 pub returns-clause-ok : goal.returns-clause-ok
 returns-clause-ok g c =
-    let gs = c.self.inside.groups.items in
+    let gs = c.self.inside.groups in
     let ps = c.self.inside.processes.items in
     (λ i. machine_of gs c.rehome-left.new.processes.items (journal_is g c i))
     ∙ accepted_is gs gs ps c.rehome-left.new.processes.items c.self.inside.journal.items (entry g c)
-    (model.Move c.args.path.now c.args.pid) (model_inverse.Moved c.args.pid (home_of (state_of gs ps) c.args.pid)) (entry_is g c) refl (none g c) (state_is g c)
+    (model.Move c.args.path.now c.args.pid) (model_inverse.Moved c.args.pid (home_of (state_of gs ps) c.args.pid)) (entry_is g c) refl (none g c) refl (state_is g c)
     ∙ ap (λ (m : Machine). recorded m (model.Move c.args.path.now c.args.pid) (after m.state (model.Move c.args.path.now c.args.pid))) c.self.view_is
