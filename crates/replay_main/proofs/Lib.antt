@@ -1,6 +1,8 @@
 pub mod Cuts
 pub mod Readings
-pub mod PidTexts
+pub mod NumberTexts
+pub mod WrittenFiles
+pub mod ShownFiles
 pub mod Standing
 pub mod Finished
 pub mod CommandLines

@@ -1,10 +1,10 @@
--- What a line says until every command is brought. Here are `mkdir`, `fork`, `write` to `cgroup.procs`, `cat` of `pids.current`, and `undo`; another first word is bad syntax, and another file is no file.
+-- What a line says until every command is brought. Here are `mkdir`, `rmdir`, `fork`, `exit`, `write` to `cgroup.procs` and to the two limits on groups, `cat` of `cgroup.stat` and `pids.current`, and `undo`; another first word is bad syntax, and another file is no file.
 use Rattle.std.specs.Prelude.{ℕ, Bool, true, false, cond, not, ◌&&◌, ◌||◌, nat_lt, List, [], ◌∷◌, length, codes, map, find, Result, Ok, Err, is_some}
 use Rattle.flat_model.specs.Refuse.{some_or, and_then}
 use Rattle.flat_model.specs.Path.{same_name}
-use Rattle.flat_model.specs.File.{File, Procs, PidsCurrent, file_name, file_named}
+use Rattle.flat_model.specs.File.{File, Procs, Stat, LimitOf, PidsCurrent, MaxDescendants, MaxDepth, file_name, file_named}
 use Rattle.flat_model.specs.Command.{Command}
-use Rattle.flat_model.specs.Trace.{Word, TextFault, BadSyntax, BadFile, Line, Skip, Fault, line_max, lines_in, words_in, is_comment, line_of, path_word, mkdir_of, fork_of, undo_of, write_of, show_of}
+use Rattle.flat_model.specs.Trace.{Word, TextFault, BadSyntax, BadFile, Line, Skip, Fault, line_max, lines_in, words_in, is_comment, line_of, path_word, mkdir_of, rmdir_of, fork_of, exit_of, undo_of, write_of, show_of}
 use Rattle.flat_model.specs.Replies.{answers_to}
 use Rattle.undo_journal.specs.Answer.{slots}
 
@@ -14,10 +14,10 @@ file_among files w = some_or BadFile (find (λ f. same_name (file_name f) w) fil
 
 -- the files that are written, and those that are shown
 abbrev pub written_so_far : List File
-written_so_far = Procs ∷ []
+written_so_far = Procs ∷ LimitOf MaxDescendants ∷ LimitOf MaxDepth ∷ []
 
 abbrev pub shown_so_far : List File
-shown_so_far = PidsCurrent ∷ []
+shown_so_far = Stat ∷ PidsCurrent ∷ []
 
 abbrev pub write_so_far : List Word → Result Command TextFault
 write_so_far [] = Err BadSyntax
@@ -36,11 +36,13 @@ cat_so_far (p ∷ file ∷ more ∷ rest) = Err BadSyntax
 unfoldable pub command_so_far : Word → List Word → Result Command TextFault
 command_so_far first rest =
     cond (same_name first (codes "mkdir")) (mkdir_of rest)
+    (cond (same_name first (codes "rmdir")) (rmdir_of rest)
     (cond (same_name first (codes "fork")) (fork_of rest)
+    (cond (same_name first (codes "exit")) (exit_of rest)
     (cond (same_name first (codes "write")) (write_so_far rest)
     (cond (same_name first (codes "cat")) (cat_so_far rest)
     (cond (same_name first (codes "undo")) (undo_of rest)
-    (Err BadSyntax)))))
+    (Err BadSyntax)))))))
 
 -- a line of so many bytes with these words
 abbrev pub line_so_far : ℕ → List Word → Line
@@ -64,9 +66,9 @@ answers_so_far bytes = answers_to slots (read_trace_so_far bytes)
 
 -- ---- what is not brought yet
 
--- a first word of another command
+-- the first word of another command
 abbrev pub is_missing_word : Word → Bool
-is_missing_word w = same_name w (codes "rmdir") || (same_name w (codes "exit") || same_name w (codes "where"))
+is_missing_word w = same_name w (codes "where")
 
 -- the name of a file that is not one of these
 abbrev pub is_missing_file : List File → Word → Bool

@@ -59,7 +59,18 @@ fn put_refusal(bytes: &mut Vec<u8>, refusal: &Refusal<Global>) -> Result<(), All
             bytes.extend_from_slice(b"nogroup ")?;
             bytes.extend_from_slice(path.text())
         }
+        Refusal::Descendants(path) => {
+            bytes.extend_from_slice(b"descendants ")?;
+            bytes.extend_from_slice(path.text())
+        }
+        Refusal::Depth(path) => {
+            bytes.extend_from_slice(b"depth ")?;
+            bytes.extend_from_slice(path.text())
+        }
         Refusal::NoSlot => bytes.extend_from_slice(b"noslot"),
+        Refusal::RootFixed => bytes.extend_from_slice(b"rootfixed"),
+        Refusal::HasChildren => bytes.extend_from_slice(b"haschildren"),
+        Refusal::HasProcesses => bytes.extend_from_slice(b"hasprocesses"),
         Refusal::NoProcess(pid) => {
             bytes.extend_from_slice(b"noprocess ")?;
             put_number(bytes, u64::from(pid.get()))

@@ -6,7 +6,8 @@
 //! - A trace is cut at line feeds, and a line into words at blanks, tabs and carriage returns. A line without words, and
 //!   one whose first word begins with `#`, is skipped. Every other line has a number, from 1, and an answer.
 //! - A line is a command, or is refused as `syntax`, `path`, `file`, `direction` or `value`, the first that holds. The
-//!   commands here are `mkdir P`, `fork PARENT CHILD`, `write P cgroup.procs PID`, `cat P pids.current` and `undo`;
+//!   commands here are `mkdir P`, `rmdir P`, `fork PARENT CHILD`, `exit PID`, `write P FILE VALUE` to `cgroup.procs`,
+//!   `cgroup.max.descendants` and `cgroup.max.depth`, `cat P FILE` of `cgroup.stat` and `pids.current`, and `undo`;
 //!   another first word is `syntax`, another file is `file`.
 //! - The answers are those of the machine of `flat_model` from its start, and so are the two numbers of the `Summary`.
 //! - A fault of a replay says what failed. After each but `Write` nothing was written; after `Write` a prefix of the
@@ -26,8 +27,10 @@ mod device;
 mod fault;
 mod input;
 mod laws;
+mod limits;
 mod line;
 mod memory;
+mod numbers;
 mod output;
 mod pids;
 mod replaying;

@@ -1,18 +1,20 @@
 //! What a line of a trace says.
 
-ghost use Rattle.std.specs.Prelude.{◌≡◌, option_map};
-ghost use Rattle.flat_model.specs.Path.{same_name};
-ghost use Rattle.flat_model.specs.Trace.{path_word, pid_word, mkdir_of, fork_of, undo_of, is_comment};
-ghost use Rattle.undo_journal.specs.Meaning.{command_of};
+ghost use Rattle.std.specs.Prelude.{◌≡◌, option_map, find, IfOk};
+ghost use Rattle.flat_model.specs.Path.{Path, same_name};
+ghost use Rattle.flat_model.specs.File.{Procs, LimitOf, file_name};
+ghost use Rattle.flat_model.specs.Trace.{path_word, pid_word, mkdir_of, rmdir_of, fork_of, exit_of, write_of, undo_of, is_comment};
+ghost use Rattle.undo_journal.specs.Meaning.{command_of, file_of, limit_file_of};
 ghost use Rattle.replay_main.specs.Cut.{the_one, the_two, the_three};
 ghost use Rattle.replay_main.specs.Meaning.{Reads, Says};
-ghost use Rattle.replay_main.specs.SoFar.{write_so_far, cat_so_far, command_so_far, read_line_so_far};
+ghost use Rattle.replay_main.specs.SoFar.{shown_so_far, write_so_far, cat_so_far, command_so_far, read_line_so_far};
 
 use crate::cutting::Words;
+use crate::limits::read_limit;
 use crate::pids::read_pid;
 use group_path::{GroupPath, PathFault};
 use std::alloc::{AllocError, Global};
-use undo_journal::{Command, File, Pid};
+use undo_journal::{Command, File, HierarchyLimit, Pid};
 
 /// The most bytes of a line that is a command.
 pub const LINE_MAX: usize = 8192;
@@ -43,7 +45,7 @@ pub enum TextFault {
     Value,
 }
 
-fn is_word(word: &[u8], text: &[u8]) -> bool
+pub(crate) fn is_word(word: &[u8], text: &[u8]) -> bool
     ensures { result ≡ same_name word.now text.now }
 {
     word == text
@@ -110,6 +112,21 @@ fn read_mkdir(
     }
 }
 
+fn read_rmdir(
+    alloc: Global,
+    rest: Words<'_>,
+) -> Result<Result<Command<Global>, AllocError>, TextFault>
+    ensures { Reads command_of result (rmdir_of rest.entry) }
+{
+    let Some(path) = one_word(rest) else {
+        return Err(TextFault::Syntax);
+    };
+    match read_path(alloc, path)? {
+        Ok(path) => Ok(Ok(Command::RemoveGroup(path))),
+        Err(_) => Ok(Err(AllocError)),
+    }
+}
+
 fn read_fork(rest: Words<'_>) -> Result<Result<Command<Global>, AllocError>, TextFault>
     ensures { Reads command_of result (fork_of rest.entry) }
 {
@@ -125,6 +142,49 @@ fn read_fork(rest: Words<'_>) -> Result<Result<Command<Global>, AllocError>, Tex
     Ok(Ok(Command::Fork { parent, child }))
 }
 
+fn read_exit(rest: Words<'_>) -> Result<Result<Command<Global>, AllocError>, TextFault>
+    ensures { Reads command_of result (exit_of rest.entry) }
+{
+    let Some(pid) = one_word(rest) else {
+        return Err(TextFault::Syntax);
+    };
+    let Some(pid) = read_pid(pid) else {
+        return Err(TextFault::Value);
+    };
+    Ok(Ok(Command::Exit(pid)))
+}
+
+fn read_move(
+    target: Result<GroupPath<Global>, AllocError>,
+    value: &[u8],
+) -> Result<Result<Command<Global>, AllocError>, TextFault>
+    ensures { (path : Path) → IfOk target (λ p. p ≡ path) → Reads command_of result (write_of path Procs value.now) }
+{
+    let Some(pid) = read_pid(value) else {
+        return Err(TextFault::Value);
+    };
+    match target {
+        Ok(path) => Ok(Ok(Command::Move { path, pid })),
+        Err(_) => Ok(Err(AllocError)),
+    }
+}
+
+fn read_set_limit(
+    target: Result<GroupPath<Global>, AllocError>,
+    file: HierarchyLimit,
+    value: &[u8],
+) -> Result<Result<Command<Global>, AllocError>, TextFault>
+    ensures { (path : Path) → IfOk target (λ p. p ≡ path) → Reads command_of result (write_of path (LimitOf (limit_file_of file)) value.now) }
+{
+    let Some(value) = read_limit(value) else {
+        return Err(TextFault::Value);
+    };
+    match target {
+        Ok(path) => Ok(Ok(Command::SetLimit { path, file, value })),
+        Err(_) => Ok(Err(AllocError)),
+    }
+}
+
 fn read_write(
     alloc: Global,
     rest: Words<'_>,
@@ -135,16 +195,29 @@ fn read_write(
         return Err(TextFault::Syntax);
     };
     let target = read_path(alloc, path)?;
-    if !is_word(b"cgroup.procs", file) {
-        return Err(TextFault::File);
+    if is_word(b"cgroup.procs", file) {
+        return read_move(target, value);
     }
-    let Some(pid) = read_pid(value) else {
-        return Err(TextFault::Value);
-    };
-    match target {
-        Ok(path) => Ok(Ok(Command::Move { path, pid })),
-        Err(_) => Ok(Err(AllocError)),
+    if is_word(b"cgroup.max.descendants", file) {
+        return read_set_limit(target, HierarchyLimit::MaxDescendants, value);
     }
+    if is_word(b"cgroup.max.depth", file) {
+        return read_set_limit(target, HierarchyLimit::MaxDepth, value);
+    }
+    Err(TextFault::File)
+}
+
+/// The file of that name, if it can be shown.
+fn shown_file(word: &[u8]) -> Option<File>
+    ensures { option_map file_of result ≡ find (λ f. same_name (file_name f) word.now) shown_so_far }
+{
+    if is_word(b"cgroup.stat", word) {
+        return Some(File::Stat);
+    }
+    if is_word(b"pids.current", word) {
+        return Some(File::PidsCurrent);
+    }
+    None
 }
 
 fn read_cat(
@@ -157,14 +230,11 @@ fn read_cat(
         return Err(TextFault::Syntax);
     };
     let path = read_path(alloc, path)?;
-    if !is_word(b"pids.current", file) {
+    let Some(file) = shown_file(file) else {
         return Err(TextFault::File);
-    }
+    };
     match path {
-        Ok(path) => Ok(Ok(Command::Show {
-            path,
-            file: File::PidsCurrent,
-        })),
+        Ok(path) => Ok(Ok(Command::Show { path, file })),
         Err(_) => Ok(Err(AllocError)),
     }
 }
@@ -190,8 +260,14 @@ fn read_command(
     if is_word(first, b"mkdir") {
         return read_mkdir(alloc, rest);
     }
+    if is_word(first, b"rmdir") {
+        return read_rmdir(alloc, rest);
+    }
     if is_word(first, b"fork") {
         return read_fork(rest);
+    }
+    if is_word(first, b"exit") {
+        return read_exit(rest);
     }
     if is_word(first, b"write") {
         return read_write(alloc, rest);

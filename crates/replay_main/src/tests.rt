@@ -154,7 +154,7 @@ const ANSWERS: &[u8] = b"1 ok\n2 ok\n3 ok\n4 ok\n| 1\n5 ok\n| write /a cgroup.pr
 
 #[test]
 fn traces(rt: HostRuntime) -> Result<(), Fail> {
-    let rows: [(&[u8], &[u8], u64, u64); 9] = [
+    let rows: [(&[u8], &[u8], u64, u64); 15] = [
         (b"", b"", 0, 0),
         (TRACE, ANSWERS, 6, 0),
         (b"undo\nmkdir /a\n", b"1 refused nothing\n2 ok\n", 2, 1),
@@ -188,6 +188,42 @@ fn traces(rt: HostRuntime) -> Result<(), Fail> {
             b"1 ok\n2 ok\n| mkdir /a\n3 ok\n4 ok\n| mkdir /a\n5 refused nothing\n",
             5,
             1,
+        ),
+        (
+            b"mkdir /a\nwrite /a cgroup.max.depth 0\nmkdir /a/b\nmkdir /b\n",
+            b"1 ok\n2 ok\n3 refused depth /a\n4 ok\n",
+            4,
+            1,
+        ),
+        (
+            b"write / cgroup.max.descendants 1\nmkdir /a\nmkdir /b\nmkdir /a/b\ncat / cgroup.stat\n",
+            b"1 ok\n2 ok\n3 refused descendants /\n4 refused descendants /\n5 ok\n| nr_descendants 1\n| nr_dying_descendants 0\n",
+            5,
+            2,
+        ),
+        (
+            b"mkdir /a\nmkdir /a/b\nwrite /a cgroup.procs 1\nrmdir /a\nrmdir /a/b\nrmdir /a\nwrite / cgroup.procs 1\nrmdir /a\nrmdir /a\nrmdir /\n",
+            b"1 ok\n2 ok\n3 ok\n4 refused haschildren\n5 ok\n6 refused hasprocesses\n7 ok\n8 ok\n9 refused nogroup /a\n10 refused rootfixed\n",
+            10,
+            4,
+        ),
+        (
+            b"fork 1 2\nexit 2\nexit 2\nfork 1 2\nexit 1\nexit 01\nexit\n",
+            b"1 ok\n2 ok\n3 refused noprocess 2\n4 ok\n5 ok\n6 refused value\n7 refused syntax\n",
+            7,
+            3,
+        ),
+        (
+            b"write / cgroup.max.depth 05\nwrite / cgroup.max.depth 2147483648\nwrite / cgroup.max.depth -1\nwrite / cgroup.max.depth 2147483647\nwrite / cgroup.max.depth 0\nmkdir /a\nwrite / cgroup.max.depth max\nmkdir /a\n",
+            b"1 refused value\n2 refused value\n3 refused value\n4 ok\n5 ok\n6 refused depth /\n7 ok\n8 ok\n",
+            8,
+            4,
+        ),
+        (
+            b"mkdir /a\nwrite /a cgroup.max.depth 3\nwrite /a cgroup.max.descendants 7\nrmdir /a\nundo\nundo\nundo\nfork 1 2\nexit 2\nundo\n",
+            b"1 ok\n2 ok\n3 ok\n4 ok\n5 ok\n| rmdir /a\n6 ok\n| write /a cgroup.max.descendants 7\n7 ok\n| write /a cgroup.max.depth 3\n8 ok\n9 ok\n10 ok\n| exit 2\n",
+            10,
+            0,
         ),
     ];
     for (trace, answers, commands, refused) in rows {
@@ -258,7 +294,15 @@ fn what_lines_say(rt: HostRuntime) -> Result<(), Fail> {
     assert!(rt; matches!(parse_line(rt.alloc(), b"\t# mkdir /a")?, Line::Skip));
     assert!(rt; matches!(parse_line(rt.alloc(), b"mkdir /a")?, Line::Run(_)));
     assert!(rt; matches!(parse_line(rt.alloc(), b"cat / pids.current")?, Line::Run(_)));
-    let rows: [(&[u8], TextFault); 4] = [
+    assert!(rt;
+        matches!(
+            parse_line(rt.alloc(), b"write / cgroup.max.depth max")?,
+            Line::Run(_)
+        )
+    );
+    let rows: [(&[u8], TextFault); 6] = [
+        (b"rmdir a", TextFault::Path),
+        (b"write /a cgroup.max.descendants 05", TextFault::Value),
         (b"undo it", TextFault::Syntax),
         (b"mkdir a", TextFault::Path),
         (b"cat /a pids.x", TextFault::File),

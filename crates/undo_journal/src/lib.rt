@@ -12,7 +12,12 @@
 //! - The journal keeps a command and a small record each, and no state. It has no bound of its own, and is not kept on
 //!   a disk.
 //! - No call waits yet. The runtime and the session's number are asked for because taking a kill back will use threads.
-//! - Each look-up goes over all groups or all processes, and `pids.current` counts all processes anew.
+//! - The groups stand in a tree, where a look-up takes O(depth · log children) comparisons of names. Each look-up of a
+//!   process goes over all processes, and `pids.current` counts them anew.
+//! - Of limits there are the two on the hierarchy, `cgroup.max.descendants` and `cgroup.max.depth`. No command sets a
+//!   `pids.max` yet, and so no fork is blocked.
+//! - Undo gives a removed group back with its limits and event totals. Only for a removal, an end or a move taken back
+//!   is memory asked for; where it is wanting, state and journal stay.
 //!
 //! What a command, a reply and a record mean stands in `specs/Meaning.antt`; that a reply is the machine's in
 //! `specs/Answer.antt`; what each answered command promises of undoing and counting in `specs/Headline.antt`.

@@ -1,4 +1,4 @@
--- Digits of a process number, one more at a time, and the faults that a text may have.
+-- Digits of a number, one more at a time, and the faults that a text may have.
 use Rattle.std.proofs.Common.{◌≡◌, ◌≢◌, ℕ, ◌+◌, ◌*◌, ◌-◌, ◌<◌, ◌≤◌, Bool, true, false, cond, not, ◌&&◌, ◌||◌, ◌==◌, nat_lt, nat_le, List, [], ◌∷◌, ◌++◌, length, take, get_or, zero, suc, refl, ap, sym, subst, ◌∙◌, arith, Option, Some, None, MatchOption}
 use Rattle.std.specs.Char.{is_ascii_digit}
 use Rattle.std.specs.Int.{IsInRange}
@@ -13,7 +13,7 @@ use Rattle.std.proofs.lemmas.Str.{digit_value_digit}
 use Rattle.std.proofs.lemmas.Str.Parse.{digits_value-take-le}
 use Rattle.flat_model.specs.Refuse.{refuse, unless}
 use Rattle.flat_model.specs.CommandText.{IsPid}
-use Rattle.flat_model.specs.Values.{Empty, NotANumber, LeadingZero, OutOfRange, pid_max, begins_with_zero, number_fault, read_number}
+use Rattle.flat_model.specs.Values.{Empty, NotANumber, LeadingZero, OutOfRange, begins_with_zero, number_fault, read_number}
 
 in_range : (b : ℕ) → is_ascii_digit b ≡ true → IsInRange 48 57 b
 in_range b e = (grind (arith, nat_tests), grind (arith, nat_tests))
@@ -49,8 +49,8 @@ value_more ds i v d lt is digit e =
 pub digit_is_none : (ds : List ℕ) (i : ℕ) {P : Type 0} → i < length ds → false ≡ is_ascii_digit (get_or ds i 0) → (all_ascii_digits ds ≡ true) × P → ⊥
 digit_is_none ds i lt e h = false≢true (e ∙ digit_at ds i 0 lt h.0)
 
-pub great_is_none : (ds : List ℕ) (i n : ℕ) {P : Type 0} → n ≡ digits_value 10 (take i ds) → 4194303 < n → P × IsPid (digits_value 10 ds) → ⊥
-great_is_none ds i n is great h = omega (arith, digits_value-take-le 10 ds i (omega arith), is, great, h.1.1)
+pub great_is_none : (ds : List ℕ) (i n high most : ℕ) {P : Type 0} → n ≡ digits_value 10 (take i ds) → most ≡ high → most < n → P × (digits_value 10 ds ≤ high) → ⊥
+great_is_none ds i n high most is e great h = omega (arith, digits_value-take-le 10 ds i (omega arith), is, e, great, h.1)
 
 below_by : (n m : ℕ) → nat_le n m ≡ true → n ≤ m
 below_by n m e = grind (arith, nat_tests)
@@ -74,8 +74,9 @@ pub read_number_is : (low high : ℕ) (ds : List ℕ) → result_ok (read_number
 unfolding number_fault
 read_number_is low high ds = fault_by (length ds == 0) (all_ascii_digits ds) (nat_lt 1 (length ds) && begins_with_zero ds) (nat_le low (digits_value 10 ds)) (nat_le (digits_value 10 ds) high) (digits_value 10 ds)
 
-abbrev pub pid_of : List ℕ → Option ℕ
-pid_of ds = result_ok (read_number 1 pid_max ds)
+-- the number from `low` to `high` that a text writes
+abbrev pub number_of : ℕ → ℕ → List ℕ → Option ℕ
+number_of low high ds = result_ok (read_number low high ds)
 
 padded_by : (e d r : Bool) (v : ℕ) → cond (not e && (d && (not true && r))) (Some v) None ≡ None
 padded_by true d r v = refl
@@ -98,24 +99,41 @@ good_by false true false false h v a b c x y = cc
 good_by false true false true false v a b c x y = cc
 good_by false true false true true v a b c x y = refl
 
-pub empty_is_none : (ds : List ℕ) → (length ds == 0) ≡ true → None ≡ pid_of ds
-empty_is_none ds e = sym (read_number_is 1 pid_max ds ∙ ap (λ t. cond (not t && (all_ascii_digits ds && (not (nat_lt 1 (length ds) && begins_with_zero ds) && (nat_le 1 (digits_value 10 ds) && nat_le (digits_value 10 ds) pid_max)))) (Some (digits_value 10 ds)) None) e)
+pub empty_is_none : (low high : ℕ) (ds : List ℕ) → (length ds == 0) ≡ true → None ≡ number_of low high ds
+empty_is_none low high ds e = sym (read_number_is low high ds ∙ ap (λ t. cond (not t && (all_ascii_digits ds && (not (nat_lt 1 (length ds) && begins_with_zero ds) && (nat_le low (digits_value 10 ds) && nat_le (digits_value 10 ds) high)))) (Some (digits_value 10 ds)) None) e)
 
-pub padded_is_none : (ds : List ℕ) → (nat_lt 1 (length ds) && begins_with_zero ds) ≡ true → None ≡ pid_of ds
-padded_is_none ds e =
-    sym (read_number_is 1 pid_max ds
-    ∙ ap (λ t. cond (not (length ds == 0) && (all_ascii_digits ds && (not t && (nat_le 1 (digits_value 10 ds) && nat_le (digits_value 10 ds) pid_max)))) (Some (digits_value 10 ds)) None) e
-    ∙ padded_by (length ds == 0) (all_ascii_digits ds) (nat_le 1 (digits_value 10 ds) && nat_le (digits_value 10 ds) pid_max) (digits_value 10 ds))
+pub padded_is_none : (low high : ℕ) (ds : List ℕ) → (nat_lt 1 (length ds) && begins_with_zero ds) ≡ true → None ≡ number_of low high ds
+padded_is_none low high ds e =
+    sym (read_number_is low high ds
+    ∙ ap (λ t. cond (not (length ds == 0) && (all_ascii_digits ds && (not t && (nat_le low (digits_value 10 ds) && nat_le (digits_value 10 ds) high)))) (Some (digits_value 10 ds)) None) e
+    ∙ padded_by (length ds == 0) (all_ascii_digits ds) (nat_le low (digits_value 10 ds) && nat_le (digits_value 10 ds) high) (digits_value 10 ds))
 
-pub value_is_none : (ds : List ℕ) → ((all_ascii_digits ds ≡ true) × IsPid (digits_value 10 ds) → ⊥) → None ≡ pid_of ds
-value_is_none ds h =
-    sym (read_number_is 1 pid_max ds
-    ∙ digits_by (length ds == 0) (all_ascii_digits ds) (nat_lt 1 (length ds) && begins_with_zero ds) (nat_le 1 (digits_value 10 ds)) (nat_le (digits_value 10 ds) pid_max) (digits_value 10 ds)
-    (λ d l u. h (d, (below_by 1 (digits_value 10 ds) l, below_by (digits_value 10 ds) pid_max u))))
+-- no digits, or a number that is out of the range
+pub value_is_none : (low high : ℕ) (ds : List ℕ) → (all_ascii_digits ds ≡ true → low ≤ digits_value 10 ds → digits_value 10 ds ≤ high → ⊥) → None ≡ number_of low high ds
+value_is_none low high ds h =
+    sym (read_number_is low high ds
+    ∙ digits_by (length ds == 0) (all_ascii_digits ds) (nat_lt 1 (length ds) && begins_with_zero ds) (nat_le low (digits_value 10 ds)) (nat_le (digits_value 10 ds) high) (digits_value 10 ds)
+    (λ d l u. h d (below_by low (digits_value 10 ds) l) (below_by (digits_value 10 ds) high u)))
 
-pub pid_is : (ds : List ℕ) (n : ℕ) (r : Option ℕ) → (length ds == 0) ≡ false → (nat_lt 1 (length ds) && begins_with_zero ds) ≡ false → (all_ascii_digits ds ≡ true) × IsPid (digits_value 10 ds) → n ≡ digits_value 10 ds
-    → MatchOption r (IsPid n → ⊥) (λ pid. pid ≡ n) → r ≡ pid_of ds
-pid_is ds n None some plain good is h = absurd (h (subst IsPid (sym is) good.1))
-pid_is ds n (Some k) some plain good is h =
-    ap Some (h ∙ is) ∙ sym (read_number_is 1 pid_max ds
-    ∙ good_by (length ds == 0) (all_ascii_digits ds) (nat_lt 1 (length ds) && begins_with_zero ds) (nat_le 1 (digits_value 10 ds)) (nat_le (digits_value 10 ds) pid_max) (digits_value 10 ds) some good.0 plain (at_most 1 (digits_value 10 ds) good.1.0) (at_most (digits_value 10 ds) pid_max good.1.1))
+pub number_is : (low high : ℕ) (ds : List ℕ) (n : ℕ) → (length ds == 0) ≡ false → (nat_lt 1 (length ds) && begins_with_zero ds) ≡ false → all_ascii_digits ds ≡ true → low ≤ digits_value 10 ds → digits_value 10 ds ≤ high → n ≡ digits_value 10 ds → Some n ≡ number_of low high ds
+number_is low high ds n some plain digits least most is =
+    ap Some is ∙ sym (read_number_is low high ds
+    ∙ good_by (length ds == 0) (all_ascii_digits ds) (nat_lt 1 (length ds) && begins_with_zero ds) (nat_le low (digits_value 10 ds)) (nat_le (digits_value 10 ds) high) (digits_value 10 ds) some digits plain (at_most low (digits_value 10 ds) least) (at_most (digits_value 10 ds) high most))
+
+range_by : (e d p l h : Bool) (v n : ℕ) → Some n ≡ cond (not e && (d && (not p && (l && h)))) (Some v) None → (l ≡ true) × (h ≡ true) × (n ≡ v)
+range_by true d p l h v n x = cc
+range_by false false p l h v n x = cc
+range_by false true true l h v n x = cc
+range_by false true false false h v n x = cc
+range_by false true false true false v n x = cc
+range_by false true false true true v n x = (refl, refl, cc)
+
+-- what is read is in the range
+pub number_range : (low high : ℕ) (ds : List ℕ) (n : ℕ) → Some n ≡ number_of low high ds → (low ≤ n) × (n ≤ high)
+number_range low high ds n h =
+    let r = range_by (length ds == 0) (all_ascii_digits ds) (nat_lt 1 (length ds) && begins_with_zero ds) (nat_le low (digits_value 10 ds)) (nat_le (digits_value 10 ds) high) (digits_value 10 ds) n (h ∙ read_number_is low high ds) in
+    (subst (λ v. low ≤ v) (sym r.2) (below_by low (digits_value 10 ds) r.0), subst (λ v. v ≤ high) (sym r.2) (below_by (digits_value 10 ds) high r.1))
+
+pub same_pid : (n : ℕ) (r : Option ℕ) → MatchOption r (IsPid n → ⊥) (λ pid. pid ≡ n) → IsPid n → r ≡ Some n
+same_pid n None h good = absurd (h good)
+same_pid n (Some pid) h good = ap Some h
