@@ -29,5 +29,3 @@ pub use attr::{Attr, Limit, LimitFile, Limits};
 pub use fault::TreeFault;
 pub use tree::GroupTree;
 
-#[cfg(test)]
-mod tests;

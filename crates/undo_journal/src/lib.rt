@@ -46,5 +46,3 @@ pub use inverse::Inverse;
 pub use pid::Pid;
 pub use reply::{Refusal, Reply};
 
-#[cfg(test)]
-mod tests;
