@@ -28,4 +28,3 @@ mod tree;
 pub use attr::{Attr, Limit, LimitFile, Limits};
 pub use fault::TreeFault;
 pub use tree::GroupTree;
-

@@ -45,4 +45,3 @@ pub use engine::{Engine, SLOTS};
 pub use inverse::Inverse;
 pub use pid::Pid;
 pub use reply::{Refusal, Reply};
-
