@@ -1,0 +1,305 @@
+//! Commands by their lines, what the engine answers, and what it keeps of them.
+
+use group_path::GroupPath;
+use replay_main::{Line, parse_line};
+use std::alloc::{AllocError, Allocator, Global};
+use std::process::Abort;
+use std::sync::Wait;
+use std::test::Fail;
+use std::thread::Threads;
+use undo_journal::{Bytes, Command, Engine, Inverse, Pid, Refusal, Reply, SLOTS};
+
+/// The command that a line says.
+pub(crate) fn command(alloc: Global, line: &str) -> Result<Command<Global>, Fail> {
+    match parse_line(alloc, line.as_bytes())? {
+        Line::Run(command) => Ok(command),
+        _ => Err(Fail::new("the line is no command")),
+    }
+}
+
+fn word_and_path<A: Allocator + Clone>(
+    alloc: Global,
+    word: &[u8],
+    path: &GroupPath<A>,
+) -> Result<Vec<u8>, AllocError> {
+    let mut text = Vec::from_slice(alloc, word)?;
+    text.extend_from_slice(path.text())?;
+    Ok(text)
+}
+
+fn word_and_pid(alloc: Global, word: &str, pid: Pid) -> Result<Vec<u8>, AllocError> {
+    let text = format!(in alloc; "{word}{}", pid.get())?;
+    Ok(text.into_bytes())
+}
+
+/// A refusal in the words of a replay.
+fn refused<A: Allocator + Clone>(
+    alloc: Global,
+    refusal: &Refusal<A>,
+) -> Result<Vec<u8>, AllocError> {
+    match refusal {
+        Refusal::Exists => Vec::from_slice(alloc, b"exists"),
+        Refusal::NoGroup(path) => word_and_path(alloc, b"nogroup ", path),
+        Refusal::Descendants(path) => word_and_path(alloc, b"descendants ", path),
+        Refusal::Depth(path) => word_and_path(alloc, b"depth ", path),
+        Refusal::NoSlot => Vec::from_slice(alloc, b"noslot"),
+        Refusal::RootFixed => Vec::from_slice(alloc, b"rootfixed"),
+        Refusal::HasChildren => Vec::from_slice(alloc, b"haschildren"),
+        Refusal::HasProcesses => Vec::from_slice(alloc, b"hasprocesses"),
+        Refusal::NoProcess(pid) => word_and_pid(alloc, "noprocess ", *pid),
+        Refusal::PidInUse(pid) => word_and_pid(alloc, "pidinuse ", *pid),
+        Refusal::NoFile => Vec::from_slice(alloc, b"nofile"),
+    }
+}
+
+/// A reply in the words of a replay.
+pub(crate) fn said<A: Allocator + Clone>(
+    alloc: Global,
+    reply: &Reply<A>,
+) -> Result<Vec<u8>, AllocError> {
+    match reply {
+        Reply::Done => Vec::from_slice(alloc, b"ok"),
+        Reply::Text(bytes) => Vec::from_slice(alloc, bytes.as_slice()),
+        Reply::Undone(command) => command.text(alloc),
+        Reply::Refused(refusal) => refused(alloc, refusal),
+        Reply::NothingToUndo => Vec::from_slice(alloc, b"nothing"),
+        Reply::OutOfMemory => Vec::from_slice(alloc, b"out of memory"),
+    }
+}
+
+/// What the engine answers to a line, said from a copy of the reply to a copy of the command.
+pub(crate) fn answer<R: Threads + Wait + Sync, A: Allocator + Clone>(
+    rt: &R,
+    alloc: Global,
+    engine: &mut Engine<A>,
+    line: &str,
+) -> Result<Vec<u8>, Fail> {
+    let command = command(alloc, line)?;
+    let command = command.copy(alloc)?;
+    let reply = engine.apply(rt, 0, &command);
+    let reply = reply.copy(alloc)?;
+    Ok(said(alloc, &reply)?)
+}
+
+/// A fresh engine's answers to the lines are those beside them.
+fn answers<R: Abort + Threads + Wait + Sync>(
+    rt: &R,
+    alloc: Global,
+    rows: &[(&str, &str)],
+) -> Result<(), Fail> {
+    let mut engine = Engine::new(alloc)?;
+    for (line, wanted) in rows {
+        let said = answer(rt, alloc, &mut engine, line)?;
+        assert!(rt; said.as_slice() == wanted.as_bytes(), "{line}");
+    }
+    Ok(())
+}
+
+#[test]
+fn numbers_of_processes(rt: HostRuntime) {
+    for (number, is_pid) in [(0, false), (1, true), (4_194_303, true), (4_194_304, false)] {
+        let found = Pid::new(number).map(|pid| pid.get());
+        assert_eq!(rt; found, if is_pid { Some(number) } else { None }, "{number}");
+    }
+}
+
+#[test]
+fn bytes_of_a_vec(rt: HostRuntime) -> Result<(), AllocError> {
+    let bytes = Bytes::of(Vec::from_slice(rt.alloc(), b"1\n")?);
+    assert!(rt; bytes.as_slice() == b"1\n".as_slice());
+    Ok(())
+}
+
+/// The text of a command is its line, in each form.
+#[test]
+fn texts_of_commands(rt: HostRuntime) -> Result<(), Fail> {
+    let lines = [
+        "mkdir /a/b",
+        "rmdir /",
+        "fork 1 4194303",
+        "exit 12",
+        "write / cgroup.procs 7",
+        "write /a cgroup.max.depth 0",
+        "write /a cgroup.max.descendants 2147483646",
+        "write / cgroup.max.descendants max",
+        "cat /a pids.current",
+        "cat / cgroup.stat",
+        "undo",
+    ];
+    for line in lines {
+        let command = command(rt.alloc(), line)?;
+        let text = command.text(rt.alloc())?;
+        assert!(rt; text.as_slice() == line.as_bytes(), "{line}");
+    }
+    Ok(())
+}
+
+/// A process is made, moved and moved back.
+#[test]
+fn one_trace(rt: HostRuntime) -> Result<(), Fail> {
+    let mut engine = Engine::new(rt.alloc())?;
+    let rows = [
+        ("undo", "nothing", 0),
+        ("mkdir /a", "ok", 1),
+        ("fork 1 2", "ok", 2),
+        ("write /a cgroup.procs 2", "ok", 3),
+        ("cat /a pids.current", "1\n", 3),
+        ("undo", "write /a cgroup.procs 2", 2),
+        ("cat /a pids.current", "0\n", 2),
+    ];
+    for (line, wanted, depth) in rows {
+        let said = answer(&rt, rt.alloc(), &mut engine, line)?;
+        assert!(rt; said.as_slice() == wanted.as_bytes(), "{line}");
+        assert_eq!(rt; engine.depth(), depth, "{line}");
+    }
+    Ok(())
+}
+
+/// The newest record and its command, and the undo that takes it back.
+#[test]
+fn newest_record(rt: HostRuntime) -> Result<(), Fail> {
+    let mut engine = Engine::new(rt.alloc())?;
+    assert!(rt; engine.newest().is_none());
+    assert!(rt; engine.newest_command().is_none());
+    let made = answer(&rt, rt.alloc(), &mut engine, "fork 1 2")?;
+    assert!(rt; made.as_slice() == b"ok".as_slice());
+    assert!(rt; matches!(engine.newest(), Some(Inverse::Forked { pid }) if pid.get() == 2));
+    assert!(rt; matches!(engine.newest_command(), Some(Command::Fork { .. })));
+    let undone = engine.undo(&rt, 0);
+    let undone = said(rt.alloc(), &undone)?;
+    assert!(rt; undone.as_slice() == b"fork 1 2".as_slice());
+    assert!(rt; engine.newest().is_none());
+    Ok(())
+}
+
+#[test]
+fn refusals(rt: HostRuntime) -> Result<(), Fail> {
+    let rows = [
+        ("fork 1 1", "pidinuse 1"),
+        ("fork 2 1", "noprocess 2"),
+        ("fork 2 3", "noprocess 2"),
+        ("fork 1 2", "ok"),
+        ("fork 1 2", "pidinuse 2"),
+        ("mkdir /a/b", "nogroup /a"),
+        ("mkdir /", "exists"),
+        ("mkdir /a", "ok"),
+        ("mkdir /a", "exists"),
+        ("write /b cgroup.procs 9", "nogroup /b"),
+        ("write /a cgroup.procs 9", "noprocess 9"),
+        ("exit 9", "noprocess 9"),
+        ("write /b cgroup.max.depth 9", "nogroup /b"),
+        ("cat /b pids.current", "nogroup /b"),
+        ("cat /b cgroup.stat", "nogroup /b"),
+        ("cat / pids.current", "nofile"),
+    ];
+    answers(&rt, rt.alloc(), &rows)
+}
+
+/// There is room for 256 groups beside the root.
+#[test]
+fn slots(rt: HostRuntime) -> Result<(), Fail> {
+    let mut engine = Engine::new(rt.alloc())?;
+    for number in 0..=SLOTS {
+        let line = format!(in rt.alloc(); "mkdir /g{number}")?;
+        let said = answer(&rt, rt.alloc(), &mut engine, line.as_str())?;
+        let wanted = if number < SLOTS { "ok" } else { "noslot" };
+        assert!(rt; said.as_slice() == wanted.as_bytes(), "{number}");
+    }
+    assert_eq!(rt; engine.depth(), SLOTS);
+    Ok(())
+}
+
+#[test]
+fn depth_limit(rt: HostRuntime) -> Result<(), Fail> {
+    let rows = [
+        ("mkdir /a", "ok"),
+        ("write /a cgroup.max.depth 0", "ok"),
+        ("mkdir /a/b", "depth /a"),
+        ("mkdir /b", "ok"),
+    ];
+    answers(&rt, rt.alloc(), &rows)
+}
+
+#[test]
+fn descendants_limit(rt: HostRuntime) -> Result<(), Fail> {
+    let rows = [
+        ("write / cgroup.max.descendants 1", "ok"),
+        ("mkdir /a", "ok"),
+        ("mkdir /b", "descendants /"),
+        ("mkdir /a/b", "descendants /"),
+        (
+            "cat / cgroup.stat",
+            "nr_descendants 1\nnr_dying_descendants 0\n",
+        ),
+        (
+            "cat /a cgroup.stat",
+            "nr_descendants 0\nnr_dying_descendants 0\n",
+        ),
+    ];
+    answers(&rt, rt.alloc(), &rows)
+}
+
+/// The nearest group is asked first, and of one group its limit on descendants.
+#[test]
+fn limits_in_order(rt: HostRuntime) -> Result<(), Fail> {
+    let rows = [
+        ("mkdir /a", "ok"),
+        ("mkdir /a/b", "ok"),
+        ("write / cgroup.max.depth 2", "ok"),
+        ("mkdir /a/b/c", "depth /"),
+        ("write /a cgroup.max.depth 1", "ok"),
+        ("mkdir /a/b/c", "depth /a"),
+        ("write /a cgroup.max.descendants 1", "ok"),
+        ("mkdir /a/b/c", "descendants /a"),
+        ("write /a/b cgroup.max.depth 0", "ok"),
+        ("mkdir /a/b/c", "depth /a/b"),
+        ("write /a/b cgroup.max.depth max", "ok"),
+        ("write /a cgroup.max.descendants max", "ok"),
+        ("write /a cgroup.max.depth 2", "ok"),
+        ("write / cgroup.max.depth 3", "ok"),
+        ("mkdir /a/b/c", "ok"),
+    ];
+    answers(&rt, rt.alloc(), &rows)
+}
+
+#[test]
+fn removals_refused_in_order(rt: HostRuntime) -> Result<(), Fail> {
+    let rows = [
+        ("mkdir /a", "ok"),
+        ("mkdir /a/b", "ok"),
+        ("write /a cgroup.procs 1", "ok"),
+        ("rmdir /a", "haschildren"),
+        ("rmdir /a/b", "ok"),
+        ("rmdir /a", "hasprocesses"),
+        ("write / cgroup.procs 1", "ok"),
+        ("rmdir /a", "ok"),
+        ("rmdir /a", "nogroup /a"),
+        ("rmdir /", "rootfixed"),
+    ];
+    answers(&rt, rt.alloc(), &rows)
+}
+
+/// What was removed comes back with its limits, and what has ended with its group.
+#[test]
+fn removals_and_ends_undone(rt: HostRuntime) -> Result<(), Fail> {
+    let rows = [
+        ("mkdir /a", "ok"),
+        ("write /a cgroup.max.depth 0", "ok"),
+        ("fork 1 2", "ok"),
+        ("write /a cgroup.procs 2", "ok"),
+        ("exit 2", "ok"),
+        ("exit 2", "noprocess 2"),
+        ("cat /a pids.current", "0\n"),
+        ("rmdir /a", "ok"),
+        ("cat /a pids.current", "nogroup /a"),
+        ("undo", "rmdir /a"),
+        ("mkdir /a/b", "depth /a"),
+        ("undo", "exit 2"),
+        ("cat /a pids.current", "1\n"),
+        ("undo", "write /a cgroup.procs 2"),
+        ("undo", "fork 1 2"),
+        ("undo", "write /a cgroup.max.depth 0"),
+        ("mkdir /a/b", "ok"),
+    ];
+    answers(&rt, rt.alloc(), &rows)
+}

@@ -1,0 +1,146 @@
+//! Each growth that a command asks for, refused in turn.
+
+use crate::engine::{answer, command, said};
+use crate::tree_memory::filling;
+use linked_list_allocator::LocalHeap;
+use std::alloc::{AllocError, Allocator, Global};
+use std::sync::Wait;
+use std::test::Fail;
+use std::thread::Threads;
+use undo_journal::{Engine, Reply};
+
+/// The newest recorded command; no text where there is none.
+fn newest<A: Allocator + Clone>(alloc: Global, engine: &Engine<A>) -> Result<Vec<u8>, AllocError> {
+    match engine.newest_command() {
+        Some(command) => command.text(alloc),
+        None => Ok(Vec::new(alloc)),
+    }
+}
+
+/// What can be seen of an engine in which no groups but `/a` and `/b` were made: how many commands are recorded, the
+/// newest, and the files of the groups.
+fn seen<R: Threads + Wait + Sync, A: Allocator + Clone>(
+    rt: &R,
+    alloc: Global,
+    engine: &mut Engine<A>,
+) -> Result<Vec<u8>, Fail> {
+    let depth = engine.depth();
+    let mut text = format!(in alloc; "{depth} ")?.into_bytes();
+    let newest = newest(alloc, engine)?;
+    text.extend_from_slice(newest.as_slice())?;
+    let lines = [
+        "cat / cgroup.stat",
+        "cat /a cgroup.stat",
+        "cat /a pids.current",
+        "cat /b cgroup.stat",
+    ];
+    for line in lines {
+        let shown = answer(rt, alloc, engine, line)?;
+        text.extend_from_slice(shown.as_slice())?;
+    }
+    Ok(text)
+}
+
+/// The answer with that many blocks of sixteen bytes left in the heap.
+fn answer_in<'a, R: Threads + Wait + Sync>(
+    rt: &R,
+    alloc: Global,
+    heap: &'a LocalHeap,
+    engine: &mut Engine<&'a LocalHeap>,
+    line: &str,
+    room: usize,
+) -> Result<Option<Vec<u8>>, Fail> {
+    let command = command(alloc, line)?;
+    let mut blocks = filling(alloc, heap)?;
+    let left = blocks.len().saturating_sub(room);
+    blocks.truncate(left);
+    let reply = engine.apply(rt, 0, &command);
+    drop(blocks);
+    match reply {
+        Reply::OutOfMemory => Ok(None),
+        reply => Ok(Some(said(alloc, &reply)?)),
+    }
+}
+
+/// The first answer that is not want of memory, as the room grows by a block at a time; and whether memory was wanting
+/// before it. Each time that it was, what can be seen of the engine stayed.
+fn first_answer<'a, R: Threads + Wait + Sync>(
+    rt: &R,
+    alloc: Global,
+    heap: &'a LocalHeap,
+    engine: &mut Engine<&'a LocalHeap>,
+    line: &str,
+) -> Result<(Vec<u8>, bool), Fail> {
+    let before = seen(rt, alloc, engine)?;
+    for room in 0..100usize {
+        if let Some(answer) = answer_in(rt, alloc, heap, engine, line, room)? {
+            return Ok((answer, room > 0));
+        }
+        let after = seen(rt, alloc, engine)?;
+        if after != before {
+            return Err(Fail::new("a refused growth left something changed"));
+        }
+    }
+    Err(Fail::new("there is no answer in 1,600 bytes"))
+}
+
+/// The lines, their answers, and whether memory is asked for. Taking back a fork, a mkdir or a limit asks for none.
+const ROWS: [(&str, &str, bool); 18] = [
+    ("mkdir /a", "ok", true),
+    ("mkdir /b/c", "nogroup /b", true),
+    ("fork 1 2", "ok", true),
+    ("write /a cgroup.procs 2", "ok", true),
+    ("cat /a pids.current", "1\n", true),
+    ("cat /b pids.current", "nogroup /b", true),
+    ("write /a cgroup.max.descendants 0", "ok", true),
+    ("mkdir /a/b", "descendants /a", true),
+    (
+        "cat /a cgroup.stat",
+        "nr_descendants 0\nnr_dying_descendants 0\n",
+        true,
+    ),
+    ("exit 2", "ok", true),
+    ("rmdir /b", "nogroup /b", true),
+    ("rmdir /a", "ok", true),
+    ("undo", "rmdir /a", true),
+    ("undo", "exit 2", true),
+    ("undo", "write /a cgroup.max.descendants 0", false),
+    ("undo", "write /a cgroup.procs 2", true),
+    ("undo", "fork 1 2", false),
+    ("undo", "mkdir /a", false),
+];
+
+#[test]
+fn each_growth_of_a_command_refused(rt: HostRuntime) -> Result<(), Fail> {
+    let heap = LocalHeap::new(rt.alloc(), 4096)?;
+    let mut engine = Engine::new(&heap)?;
+    for (line, wanted, grows) in ROWS {
+        let (answer, is_refused) = first_answer(&rt, rt.alloc(), &heap, &mut engine, line)?;
+        assert!(rt; answer.as_slice() == wanted.as_bytes(), "{line}");
+        assert_eq!(rt; is_refused, grows, "{line}");
+    }
+    Ok(())
+}
+
+/// Whether an engine is made in a heap of that size.
+fn is_made_in(alloc: Global, size: usize) -> Result<bool, AllocError> {
+    let heap = LocalHeap::new(alloc, size)?;
+    match Engine::new(&heap) {
+        Err(AllocError) => Ok(false),
+        Ok(engine) => Ok(engine.depth() == 0),
+    }
+}
+
+/// An engine is made where its memory is there.
+#[test]
+fn engine_in_a_small_heap(rt: HostRuntime) -> Result<(), Fail> {
+    let mut sizes_refused = 0;
+    for step in 2..100usize {
+        if is_made_in(rt.alloc(), step * 16)? {
+            break;
+        }
+        sizes_refused = step;
+    }
+    assert!(rt; 1 < sizes_refused && sizes_refused < 99);
+    Ok(())
+}
