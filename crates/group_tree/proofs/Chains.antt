@@ -20,7 +20,7 @@ reverse_map f (x ∷ xs) =
     reverse-append (f x ∷ []) (map f xs) ∙ ap (λ ys. ys ++ f x ∷ []) (reverse_map f xs) ∙ sym (map-append f (reverse xs) (x ∷ [])) ∙ ap (map f) (sym (reverse-append (x ∷ []) xs))
 
 -- the way up from below n: the way up there behind n, and then the root
-upward-cons : (n : Name) (p : Path) → upward (n ∷ p) ≡ map (λ (q : Path). n ∷ q) (upward p) ++ [] ∷ []
+pub upward-cons : (n : Name) (p : Path) → upward (n ∷ p) ≡ map (λ (q : Path). n ∷ q) (upward p) ++ [] ∷ []
 upward-cons n p = reverse_first [] (map (λ (q : Path). n ∷ q) (prefixes p)) ∙ ap (λ (ps : List Path). ps ++ [] ∷ []) (reverse_map (λ (q : Path). n ∷ q) (prefixes p))
 
 no_roots : (n : Name) (ps : List Path) → filter (λ q. not (is_root q)) (map (λ (q : Path). n ∷ q) ps) ≡ map (λ (q : Path). n ∷ q) ps

@@ -121,7 +121,7 @@ counts_down attr kids slice b kid nm names n p i r is h e at s item c =
 -- ---- as the tree answers it
 
 module _ {X : Type 0} (test : X → Bool) where
-  count_le : (xs : List X) → count_by test xs ≤ length xs
+  pub count_le : (xs : List X) → count_by test xs ≤ length xs
   count_le [] = omega arith
   count_le (x ∷ xs) =
       let c = count_by-cons test x xs in
@@ -137,7 +137,7 @@ pub counted_at : (m tree : Groups) (names p : Path) (r : Option ℕ) → m ≡ t
 counted_at m tree names p None is e h = sym (λ i. fin.get (is i) (e i)) ∙ h
 counted_at m tree names p (Some k) is e h = (subst (λ (x : Groups). IsSome (fin.get x p)) is (subst (λ (x : Path). IsSome (fin.get m x)) e h.0), h.1 ∙ (λ i. descendant_count (is i) (e i) % 2 ^ 64))
 
-small_mod : (n : ℕ) → n < 2 ^ 64 → n % 2 ^ 64 ≡ n
+pub small_mod : (n : ℕ) → n < 2 ^ 64 → n % 2 ^ 64 ≡ n
 small_mod n h = omega arith
 
 -- a tree of fewer than 2^64 groups is counted exactly

@@ -16,4 +16,6 @@ mod Chains
 mod Copies
 mod Flat
 mod Prefixes
+mod LimitsMet
+mod LimitsUpward
 mod InPlace

@@ -1,5 +1,6 @@
 pub mod Groups
 pub mod Flat
+pub mod Limits
 pub mod Node
 pub mod Sorted
 pub mod Codes

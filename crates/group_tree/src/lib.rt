@@ -7,7 +7,8 @@
 //! - Refusals come in a fixed order, and each names its cause. Only `insert`, `copy`, `new`, and a `chain` of more than
 //!   eight groups take memory; a group takes one block for its name, and its parent's list of children grows.
 //! - A look-up goes down once, in O(depth · log children) comparisons of names. How many groups are below each group is
-//!   kept, so that a limit on descendants is tested without a walk.
+//!   kept, so that a limit on descendants is tested without a walk. The limits of the hierarchy that a new group meets are
+//!   all asked in one such descent.
 //! - The calls that end in `_at` do the same at the first n names of a path, and copy nothing.
 //! - A path may lie in other memory than the tree. What a group has is given and taken by value; its slot is the
 //!   caller's, and the tree asks nothing of it: two groups may have the same.
@@ -22,9 +23,11 @@ mod attr;
 mod copy;
 mod edits;
 mod fault;
+mod limits;
 mod node;
 mod tree;
 
 pub use attr::{Attr, Limit, LimitFile, Limits};
 pub use fault::TreeFault;
+pub use limits::MetLimit;
 pub use tree::GroupTree;

@@ -1,12 +1,15 @@
-ghost use Rattle.std.specs.Prelude.{◌≡◌, ◌<◌, ◌≤◌, ◌%◌, ◌^◌, ℕ, true, length, take, None, MatchOption, IsOk, IfOk, IfSome, IsSome};
+ghost use Rattle.std.specs.Prelude.{◌≡◌, ◌<◌, ◌≤◌, ◌%◌, ◌^◌, ℕ, true, length, take, None, MatchOption, IsOk, IfOk, IfSome, IsSome, option_map};
 ghost use Rattle.std.specs.Option.{option_copied};
 ghost use Rattle.std.specs.FinMap as fin;
-ghost use Rattle.flat_model.specs.Path.{Path, at_or_below};
+ghost use Rattle.flat_model.specs.Path.{Path, at_or_below, upward};
+ghost use Rattle.flat_model.specs.Step.{limit_met, first_refusal};
 ghost use Rattle.group_tree.specs.Flat.{ReadsAsFlat};
+ghost use Rattle.group_tree.specs.Limits.{without_processes, refusal_along, names_of};
 ghost use Rattle.group_tree.specs.Groups.{IsClosed, Inserts, Sets, Removes, only_root, descendant_count, chain_of};
 
 use crate::attr::Attr;
 use crate::fault::TreeFault;
+use crate::limits::MetLimit;
 use crate::node::Node;
 use group_path::GroupPath;
 use smallvec::SmallVec;
@@ -85,6 +88,17 @@ impl<A: Allocator> GroupTree<A> {
         ensures exact { fin.len self.now < 2 ^ 64 → IfSome result (λ k. k ≡ descendant_count self.now (take n path.now)) }
     {
         self.root.descendants(path.first_names(n))
+    }
+
+    /// The first limit of the hierarchy that a new group under the one at the first `n` names of the path meets, from
+    /// there up to the root, and of one group the limit on descendants first; None where none is met. It goes down once,
+    /// as `find` does. The counts are exact as long as the tree has fewer than 2^64 groups.
+    pub fn met_limit<B: Allocator + Clone>(&self, path: &GroupPath<B>, n: usize) -> Option<MetLimit>
+        requires { n ≤ length path.now }
+        ensures first { fin.len self.now < 2 ^ 64 → option_map (refusal_along path.now) result ≡ first_refusal (limit_met (without_processes self.now) (take n path.now)) (upward (take n path.now)) }
+        ensures inside { IfSome result (λ met. names_of met ≤ n) }
+    {
+        self.root.met_limit(path.first_names(n), n, 0)
     }
 
     /// The slots from the group at the path upward, the root left out; None where there is no such group. Up to eight

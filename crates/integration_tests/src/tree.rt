@@ -1,7 +1,7 @@
 //! A tree of five groups, and each public call on it.
 
 use group_path::GroupPath;
-use group_tree::{Attr, GroupTree, Limit, LimitFile, Limits, TreeFault};
+use group_tree::{Attr, GroupTree, Limit, LimitFile, Limits, MetLimit, TreeFault};
 use std::alloc::{AllocError, Allocator, Global};
 use std::test::Fail;
 
@@ -172,6 +172,66 @@ fn sets_at_first_names(rt: HostRuntime) -> Result<(), Fail> {
         assert_eq!(rt; found(rt.alloc(), &tree, text)?, wanted, "{text}");
     }
     assert_eq!(rt; below(rt.alloc(), &tree, "/")?, Some(5));
+    Ok(())
+}
+
+/// Attributes with these two limits of the hierarchy.
+fn limited(descendants: Limit, depth: Limit) -> Attr {
+    Attr {
+        limits: Limits {
+            pids: Limit::Unlimited,
+            descendants,
+            depth,
+        },
+        local: 0,
+        total: 0,
+        slot: 0,
+    }
+}
+
+/// The nearest group is asked first, and of one group its limit on descendants.
+#[test]
+fn meets_limits(rt: HostRuntime) -> Result<(), Fail> {
+    let mut tree = sample(rt.alloc())?;
+    let limits = [
+        ("/", limited(Limit::Unlimited, Limit::At(2))),
+        ("/a", limited(Limit::At(3), Limit::Unlimited)),
+        ("/a/b", limited(Limit::At(2), Limit::At(0))),
+        ("/e", limited(Limit::At(0), Limit::At(0))),
+    ];
+    for (text, attr) in limits {
+        let path = path(rt.alloc(), text)?;
+        assert!(rt; tree.set(&path, attr), "{text}");
+    }
+    let rows = [
+        ("/", 0, None),
+        ("/a/d", 1, Some(MetLimit::Descendants(1))),
+        ("/a/d", 2, Some(MetLimit::Descendants(1))),
+        ("/a/b/c", 2, Some(MetLimit::Depth(2))),
+        ("/a/b/c", 3, Some(MetLimit::Depth(2))),
+        ("/e", 1, Some(MetLimit::Descendants(1))),
+    ];
+    for (text, n, wanted) in rows {
+        let path = path(rt.alloc(), text)?;
+        if n <= path.depth() {
+            assert_eq!(rt; tree.met_limit(&path, n), wanted, "{text}");
+        }
+    }
+    Ok(())
+}
+
+/// Of the groups above, the root is asked last.
+#[test]
+fn meets_the_limit_of_the_root(rt: HostRuntime) -> Result<(), Fail> {
+    let mut tree = sample(rt.alloc())?;
+    let root = path(rt.alloc(), "/")?;
+    assert!(rt; tree.set(&root, limited(Limit::At(9), Limit::At(2))));
+    let deep = path(rt.alloc(), "/a/b")?;
+    for (n, wanted) in [(1, None), (2, Some(MetLimit::Depth(0)))] {
+        if n <= deep.depth() {
+            assert_eq!(rt; tree.met_limit(&deep, n), wanted, "{n}");
+        }
+    }
     Ok(())
 }
 

@@ -2,7 +2,6 @@
 
 ghost use Rattle.std.specs.Prelude.{◌≡◌};
 ghost use Rattle.flat_model.specs.State.{fresh};
-ghost use Rattle.flat_model.specs.Counts.{reaches};
 ghost use Rattle.flat_model.specs.Step.{limit_at, with_limit};
 ghost use Rattle.group_tree.specs.Flat.{limit_of, group_of};
 ghost use Rattle.undo_journal.specs.Meaning.{limit_file_of};
@@ -23,16 +22,6 @@ pub(crate) fn fresh_attr() -> Attr
         local: 0,
         total: 0,
         slot: 0,
-    }
-}
-
-/// Whether so many are at the limit or past it.
-pub(crate) fn is_reached(limit: Limit, n: u64) -> bool
-    ensures { result ≡ reaches n (limit_of limit) }
-{
-    match limit {
-        Limit::Unlimited => false,
-        Limit::At(most) => u64::from(most) <= n,
     }
 }
 

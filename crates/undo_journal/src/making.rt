@@ -10,13 +10,14 @@ ghost use Rattle.flat_model.specs.Command as model;
 ghost use Rattle.undo_journal.specs.Meaning.{refusal_of};
 ghost use Rattle.undo_journal.specs.Answer.{slots, Answers};
 
-use crate::attrs::{fresh_attr, is_reached};
+use crate::attrs::fresh_attr;
 use crate::command::Command;
 use crate::engine::{Engine, SLOTS};
 use crate::inverse::Inverse;
 use crate::reply::{Refusal, Reply};
 use crate::rows::Entry;
 use group_path::GroupPath;
+use group_tree::MetLimit;
 use std::alloc::{AllocError, Allocator};
 
 /// The group of the first `n` names of the path.
@@ -59,50 +60,26 @@ impl<A: Allocator + Clone> Engine<A> {
         }
     }
 
-    /// Which limit of the group of the first `n` names of the path refuses a group under its first `above` names.
-    fn limit_met<B: Allocator + Clone>(
-        &self,
-        path: &GroupPath<B>,
-        above: usize,
-        n: usize,
-    ) -> Result<Option<Refusal<A>>, AllocError>
-        requires order { n ≤ above }
-        requires inside { above ≤ length path.now }
-        ensures { IfOk result (λ r. option_map refusal_of r ≡ limit_met self.now.state (take above path.now) (take n path.now)) }
-    {
-        let Some(attr) = self.groups.find_at(path, n) else {
-            return Ok(None);
-        };
-        let Some(descendants) = self.groups.descendants_at(path, n) else {
-            return Ok(None);
-        };
-        if is_reached(attr.limits.descendants, descendants) {
-            return Ok(Some(Refusal::Descendants(front(self.alloc.clone()?, path, n)?)));
-        }
-        if is_reached(attr.limits.depth, (above - n) as u64) {
-            return Ok(Some(Refusal::Depth(front(self.alloc.clone()?, path, n)?)));
-        }
-        Ok(None)
-    }
-
-    /// The first limit that refuses it, from the group of the first `n` names upward.
+    /// The first limit that refuses a group under the first `above` names of the path, from there upward.
     fn first_limit_met<B: Allocator + Clone>(
         &self,
         path: &GroupPath<B>,
         above: usize,
-        n: usize,
     ) -> Result<Option<Refusal<A>>, AllocError>
-        requires order { n ≤ above }
-        requires inside { above ≤ length path.now }
-        ensures { IfOk result (λ r. option_map refusal_of r ≡ first_refusal (limit_met self.now.state (take above path.now)) (upward (take n path.now))) }
+        requires { above ≤ length path.now }
+        ensures { IfOk result (λ r. option_map refusal_of r ≡ first_refusal (limit_met self.now.state (take above path.now)) (upward (take above path.now))) }
     {
-        if let Some(refusal) = self.limit_met(path, above, n)? {
-            return Ok(Some(refusal));
+        match self.groups.met_limit(path, above) {
+            Some(MetLimit::Descendants(n)) => {
+                let group = front(self.alloc.clone()?, path, n)?;
+                Ok(Some(Refusal::Descendants(group)))
+            }
+            Some(MetLimit::Depth(n)) => {
+                let group = front(self.alloc.clone()?, path, n)?;
+                Ok(Some(Refusal::Depth(group)))
+            }
+            None => Ok(None),
         }
-        if n == 0 {
-            return Ok(None);
-        }
-        self.first_limit_met(path, above, n - 1)
     }
 
     /// Why the group may not be made, if it may not.
@@ -119,7 +96,7 @@ impl<A: Allocator + Clone> Engine<A> {
         if !self.has_group_at(path, above) {
             return Ok(Some(Refusal::NoGroup(front(self.alloc.clone()?, path, above)?)));
         }
-        if let Some(refusal) = self.first_limit_met(path, above, above)? {
+        if let Some(refusal) = self.first_limit_met(path, above)? {
             return Ok(Some(refusal));
         }
         if self.is_full(path) {

@@ -1,0 +1,43 @@
+-- Which limit of the hierarchy a new group meets first, and at which group.
+use Rattle.std.specs.Prelude.{ℕ, ◌+◌, cond, List, [], ◌∷◌, length, take, Option, Some, None}
+use Rattle.std.specs.Option.{option_or}
+use Rattle.std.specs.FinMap.{empty}
+use Rattle.flat_model.specs.Path.{Path}
+use Rattle.flat_model.specs.State.{State}
+use Rattle.flat_model.specs.Counts.{reaches}
+use Rattle.flat_model.specs.Mapped.{map_values}
+use Rattle.flat_model.specs.Command as model
+use Rattle.group_tree.specs.declared.attr.Attr.{Attr}
+use Rattle.group_tree.specs.declared.limits.MetLimit.{MetLimit}
+use Rattle.group_tree.specs.declared.limits.MetLimit.TheVariants.{Descendants, Depth}
+use Rattle.group_tree.specs.Groups.{Groups}
+use Rattle.group_tree.specs.Flat.{group_of, limit_of}
+
+-- a flat state of these groups, with no processes
+abbrev pub without_processes : Groups → State
+without_processes m = record { groups = map_values group_of m; home = empty }
+
+-- the refusal of a new group on the way along p
+abbrev pub refusal_along : Path → MetLimit → model.Refusal
+refusal_along p (Descendants n) = model.Descendants (take n p)
+refusal_along p (Depth n) = model.Depth (take n p)
+
+abbrev pub names_of : MetLimit → ℕ
+names_of (Descendants n) = n
+names_of (Depth n) = n
+
+-- ---- as a node is asked
+
+-- the limits of a group of n names that a new group so many levels below it meets, where so many groups are below it now
+abbrev pub met_here : Option Attr → ℕ → ℕ → ℕ → Option MetLimit
+met_here None count levels n = None
+met_here (Some attr) count levels n =
+    cond (reaches count (limit_of attr.limits.descendants)) (Some (Descendants n))
+    (cond (reaches levels (limit_of attr.limits.depth)) (Some (Depth n)) None)
+
+-- the first that is met from the end of p up to here, where the group here has n names
+abbrev pub first_met : (Path → Option Attr) → (Path → ℕ) → Path → ℕ → Option MetLimit
+first_met has count [] n = met_here (has []) (count []) 0 n
+first_met has count (name ∷ p) n =
+    option_or (first_met (λ q. has (name ∷ q)) (λ q. count (name ∷ q)) p (n + 1))
+    (met_here (has []) (count []) (length (name ∷ p)) n)
