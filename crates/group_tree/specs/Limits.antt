@@ -1,5 +1,5 @@
 -- Which limit of the hierarchy a new group meets first, and at which group.
-use Rattle.std.specs.Prelude.{ℕ, ◌+◌, cond, List, [], ◌∷◌, length, take, Option, Some, None}
+use Rattle.std.specs.Prelude.{ℕ, ◌+◌, cond, [], ◌∷◌, length, take, Option, Some, None}
 use Rattle.std.specs.Option.{option_or}
 use Rattle.std.specs.FinMap.{empty}
 use Rattle.flat_model.specs.Path.{Path}

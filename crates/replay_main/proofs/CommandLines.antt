@@ -1,5 +1,5 @@
 -- The program's command line, as `clap` sees it.
-use Rattle.std.proofs.Common.{◌≡◌, true, [], refl, ap, sym, subst, ◌∙◌, ◌⊎◌, inl, inr, codes, List, ℕ, Result, Ok, Err}
+use Rattle.std.proofs.Common.{◌≡◌, true, ap, sym, subst, ◌∙◌, ◌⊎◌, inl, inr, codes, Result, Ok, Err}
 use Rattle.clap.specs.Words.{App, IsAmong, Kinds, new_app}
 use Rattle.clap.specs.declared.error.kind.ErrorKind.{ErrorKind}
 use Rattle.clap.specs.declared.error.kind.ErrorKind.TheVariants as kind

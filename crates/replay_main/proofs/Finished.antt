@@ -1,5 +1,5 @@
 -- On lines of the commands and files that are brought, what is read so far is what the finished reader reads.
-use Rattle.std.proofs.Common.{◌≡◌, ℕ, Bool, true, false, cond, not, ◌&&◌, ◌||◌, nat_lt, List, [], ◌∷◌, length, codes, find, map, refl, ap, sym, subst, ◌∙◌, Option, Some, None, Result, Ok, Err, is_some}
+use Rattle.std.proofs.Common.{◌≡◌, ℕ, Bool, true, false, cond, not, ◌&&◌, ◌||◌, nat_lt, List, [], ◌∷◌, length, codes, find, map, refl, ap, subst, Option, Some, None, Result, Err, is_some}
 use Rattle.std.specs.List.{AllByRecursion}
 use Rattle.flat_model.specs.Refuse.{some_or, and_then}
 use Rattle.flat_model.specs.Path.{same_name}

@@ -1,17 +1,17 @@
 -- How far a trace is answered: what is there, and what the lines that are left will give, make up the whole.
-use Rattle.std.proofs.Common.{◌≡◌, ◌≢◌, ℕ, ◌+◌, ◌≤◌, ◌==◌, Bool, true, false, cond, List, [], ◌∷◌, ◌++◌, length, map, refl, ap, sym, subst, ◌∙◌, arith, Option, Some, None, IfSome}
+use Rattle.std.proofs.Common.{◌≡◌, ℕ, ◌+◌, ◌≤◌, ◌==◌, Bool, true, false, cond, List, [], ◌∷◌, ◌++◌, length, map, refl, ap, sym, subst, ◌∙◌, arith}
 use Rattle.std.specs.List.{count_by, slice_split}
 use Rattle.std.proofs.lemmas.List.{append_assoc, append-nil, length-map}
 use Rattle.std.proofs.lemmas.List.Sums.{count_by-le-length}
 use Rattle.std.proofs.lemmas.List.Splits.{length-slice_split}
 use Rattle.flat_model.proofs.Sums.{count_by-cons}
-use Rattle.flat_model.specs.Command.{Command, Reply}
+use Rattle.flat_model.specs.Command.{Command}
 use Rattle.flat_model.specs.Machine.{Machine, new_machine, tick, replies}
 use Rattle.flat_model.specs.Replies.{out, fault_bytes, reply_bytes, commands_in, answers_to, is_numbered, is_fault, is_refused, command_count, refused_count}
 use Rattle.flat_model.specs.Trace.{TextFault, Line, Skip, Run, Fault, is_line_feed, without_empty_end, lines_in, trace_max}
 use Rattle.undo_journal.specs.Answer.{slots}
 use Rattle.replay_main.specs.declared.replaying.Summary.{Summary}
-use Rattle.replay_main.specs.Replayed.{Adds, Runs, IsAnswered}
+use Rattle.replay_main.specs.Replayed.{Runs, IsAnswered}
 use Rattle.replay_main.specs.SoFar.{read_line_so_far, read_trace_so_far}
 
 -- `all` are the lines of the trace, `left` those that are left, and m is the machine that they find

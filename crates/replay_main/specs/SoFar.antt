@@ -1,5 +1,5 @@
 -- What a line says until every command is brought. Here are `mkdir`, `rmdir`, `fork`, `exit`, `write` to `cgroup.procs` and to the two limits on groups, `cat` of `cgroup.stat` and `pids.current`, and `undo`; another first word is bad syntax, and another file is no file.
-use Rattle.std.specs.Prelude.{ℕ, Bool, true, false, cond, not, ◌&&◌, ◌||◌, nat_lt, List, [], ◌∷◌, length, codes, map, find, Result, Ok, Err, is_some}
+use Rattle.std.specs.Prelude.{ℕ, Bool, false, cond, not, ◌&&◌, ◌||◌, nat_lt, List, [], ◌∷◌, length, codes, map, find, Result, Err, is_some}
 use Rattle.flat_model.specs.Refuse.{some_or, and_then}
 use Rattle.flat_model.specs.Path.{same_name}
 use Rattle.flat_model.specs.File.{File, Procs, Stat, LimitOf, PidsCurrent, MaxDescendants, MaxDepth, file_name, file_named}

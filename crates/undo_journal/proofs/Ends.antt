@@ -1,15 +1,15 @@
 -- The end of a process, the removal of a group and the setting of a limit, on the state.
-use Rattle.std.proofs.Common.{◌≡◌, ℕ, Bool, true, false, cond, not, List, [], Option, Some, None, IsSome, refl, sym, ap, subst, ◌∙◌, is_some}
-use Rattle.std.specs.Prelude.{option_map, unwrap_or, count_by, ltb}
+use Rattle.std.proofs.Common.{◌≡◌, ℕ, Bool, true, false, not, List, None, IsSome, sym, ap, ◌∙◌, is_some}
+use Rattle.std.specs.Prelude.{unwrap_or, ltb}
 use Rattle.std.specs.List.{list_any}
 use Rattle.std.specs.Ordering.{nat_cmp}
 use Rattle.std.specs.Cmp.{nat_cmp_total}
 use Rattle.std.specs.FinMap.{get, insert, remove, find, from_entries, get-from_entries, keys, values}
 use Rattle.flat_model.specs.Path.{Path, path_cmp, is_root, same_path, strictly_below}
 use Rattle.flat_model.specs.State.{State, Limit, fresh}
-use Rattle.flat_model.specs.File.{LimitFile, is_pids_max}
+use Rattle.flat_model.specs.File.{LimitFile}
 use Rattle.flat_model.specs.Mapped.{map_values}
-use Rattle.flat_model.specs.Counts.{is_group, has_process, descendant_count}
+use Rattle.flat_model.specs.Counts.{is_group, has_process}
 use Rattle.flat_model.specs.Command as model
 use Rattle.flat_model.specs.Refuse.{refuse}
 use Rattle.flat_model.specs.Step.{refusal, after, with_limit}

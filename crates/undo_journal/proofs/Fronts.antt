@@ -1,5 +1,5 @@
 -- The groups from a group up to the root.
-use Rattle.std.proofs.Common.{◌≡◌, ℕ, zero, suc, ◌+◌, ◌-◌, ◌<◌, ◌≤◌, true, List, [], ◌∷◌, ◌++◌, map, reverse, length, take, refl, sym, ap, subst, ◌∙◌, arith, append_assoc, length-append}
+use Rattle.std.proofs.Common.{◌≡◌, ℕ, zero, suc, ◌-◌, ◌≤◌, true, List, [], ◌∷◌, ◌++◌, map, reverse, length, take, refl, sym, ap, ◌∙◌, arith, append_assoc, length-append}
 use Rattle.std.proofs.lemmas.List.{map-append, reverse-append}
 use Rattle.std.proofs.Math.Seq.{take-append_seam}
 use Rattle.flat_model.specs.Path.{Name, Path, at_or_below, parent, prefixes, upward}
@@ -29,18 +29,3 @@ pub front_is_group : (s : State) → WellFormed slots s → (q p : Path) → is_
 front_is_group s w q p g h =
     let split = (at_or_below_is q p).0 h in
     walk_up s w split.0 p (ap (is_group s) (sym split.1) ∙ g)
-
--- ---- the walk from the front of n names up
-prefixes-take : (n : ℕ) (p : Path) → suc n ≤ length p → prefixes (take (suc n) p) ≡ prefixes (take n p) ++ take (suc n) p ∷ []
-prefixes-take n [] h = absurd (omega arith)
-prefixes-take zero (x ∷ p) h = refl
-prefixes-take (suc n) (x ∷ p) h =
-    let low : suc n ≤ length p = omega arith in
-    ap (λ (qs : List Path). [] ∷ map (λ q. x ∷ q) qs) (prefixes-take n p low)
-    ∙ ap (λ (qs : List Path). [] ∷ qs) (map-append (λ (q : Path). x ∷ q) (prefixes (take n p)) (take (suc n) p ∷ []))
-
-pub upward-take : (n : ℕ) (p : Path) → suc n ≤ length p → upward (take (suc n) p) ≡ take (suc n) p ∷ upward (take n p)
-upward-take n p h = ap reverse (prefixes-take n p h) ∙ reverse-append (prefixes (take n p)) (take (suc n) p ∷ [])
-
-pub upward-root : (p : Path) → upward (take 0 p) ≡ take 0 p ∷ []
-upward-root p = refl

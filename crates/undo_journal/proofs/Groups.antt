@@ -1,24 +1,22 @@
 -- What the tree says of the state's groups.
-use Rattle.std.proofs.Common.{◌≡◌, ℕ, ◌+◌, Bool, true, false, not, cond, List, Option, Some, None, refl, sym, ap, subst, ◌∙◌, is_some}
+use Rattle.std.proofs.Common.{◌≡◌, Bool, true, false, not, List, Option, Some, None, refl, sym, ◌∙◌, is_some}
 use Rattle.std.specs.Prelude.{option_map, ltb}
 use Rattle.std.specs.Option.{option_or}
 use Rattle.std.specs.FinMap.{get, insert, remove, len}
-use Rattle.flat_model.specs.Path.{Path, path_cmp, parent}
-use Rattle.flat_model.specs.State as flat
+use Rattle.flat_model.specs.Path.{Path, parent}
 use Rattle.flat_model.specs.State.{State, fresh}
 use Rattle.flat_model.specs.Counts.{is_group}
 use Rattle.flat_model.specs.Command as model
-use Rattle.flat_model.specs.Mapped.{map_values}
 use Rattle.flat_model.specs.Refuse.{refuse}
 use Rattle.flat_model.specs.Step.{refusal, after, blocked_make}
 use Rattle.flat_model.proofs.PathLaws.{path_cmp-IsTotalOrder, path_cmp-IsAntisymmetric}
-use Rattle.flat_model.proofs.MapValues.{get-map_values, contains-map_values, len-map_values, keys-map_values, map_values-insert, map_values-remove}
+use Rattle.flat_model.proofs.MapValues.{contains-map_values, map_values-insert, map_values-remove}
 use Rattle.group_tree.specs.declared.attr.Attr.{Attr}
 use Rattle.group_tree.specs.Groups.{Groups}
 use Rattle.group_tree.specs.Flat.{group_of}
 use Rattle.undo_journal.specs.declared.rows.Process.{Process}
 use Rattle.undo_journal.specs.Answer.{slots}
-use Rattle.undo_journal.specs.Rows.{process_rows, state_of}
+use Rattle.undo_journal.specs.Rows.{state_of}
 
 pub group_found : {A : Type 0} (gs : Groups) (ps : List (Process A)) (p : Path) → is_some (get gs p) ≡ is_group (state_of gs ps) p
 group_found gs ps p = sym (contains-map_values group_of gs p)

@@ -1,18 +1,12 @@
 -- What a journal says of the states before: each step kept, each state well formed, all of it undone.
-use Rattle.std.proofs.Common.{◌≡◌, ℕ, suc, Bool, true, false, cond, List, [], ◌∷◌, ◌++◌, map, reverse, length, Option, Some, None, refl, sym, ap, subst, ◌∙◌, is_some}
+use Rattle.std.proofs.Common.{◌≡◌, suc, false, List, [], ◌∷◌, ◌++◌, map, reverse, length, Option, Some, None, refl, sym, ap, subst, ◌∙◌}
 use Rattle.std.proofs.lemmas.List.{map-append, reverse-append, length-reverse, length-map}
-use Rattle.std.specs.Cmp.{nat_cmp_total}
-use Rattle.std.specs.FinMap.{nat_cmp-IsAntisymmetric}
-use Rattle.flat_model.specs.Path.{Path}
-use Rattle.flat_model.specs.State.{State, start}
-use Rattle.flat_model.specs.Counts.{has_process}
+use Rattle.flat_model.specs.State.{State}
 use Rattle.flat_model.specs.Command as model
-use Rattle.flat_model.specs.Inverse as model_inverse
-use Rattle.flat_model.specs.Inverse.{Inverse, back, inverse, inverse_of_refusal, past_of}
-use Rattle.flat_model.specs.Step.{refusal, after, after_refusal}
-use Rattle.flat_model.specs.Machine.{Machine, new_machine, recorded, tick, end_of, undos}
+use Rattle.flat_model.specs.Inverse.{Inverse, back, inverse, past_of}
+use Rattle.flat_model.specs.Step.{refusal, after}
+use Rattle.flat_model.specs.Machine.{new_machine, recorded, end_of, undos}
 use Rattle.flat_model.specs.WellFormed.{WellFormed, PastWellFormed}
-use Rattle.flat_model.proofs.Maps.{get-own}
 use Rattle.flat_model.proofs.TakenBack.{back_accepted}
 use Rattle.flat_model.proofs.Kept.{kept}
 use Rattle.flat_model.proofs.Limits.{kept_refused}

@@ -1,5 +1,5 @@
 -- What the rows of processes say of the state, and a home written in one.
-use Rattle.std.proofs.Common.{set, ◌≡◌, ℕ, Bool, true, false, not, List, [], ◌∷◌, map, get_or, Option, Some, None, refl, sym, ap, subst, ◌∙◌, is_some}
+use Rattle.std.proofs.Common.{set, ◌≡◌, ℕ, true, List, [], get_or, Some, None, sym, ap, subst, ◌∙◌, is_some}
 use Rattle.std.specs.Prelude.{count_by, unwrap_or}
 use Rattle.std.specs.Ordering.{nat_cmp}
 use Rattle.std.specs.Cmp.{nat_cmp_total}
@@ -9,7 +9,6 @@ use Rattle.flat_model.specs.Path.{Path, at_or_below}
 use Rattle.flat_model.specs.Mapped.{map_values}
 use Rattle.group_tree.specs.Groups.{Groups}
 use Rattle.group_tree.specs.Flat.{group_of}
-use Rattle.flat_model.specs.State.{State}
 use Rattle.flat_model.specs.Counts.{current, has_process}
 use Rattle.flat_model.specs.Command as model
 use Rattle.flat_model.specs.Step.{refusal, after, home_of}

@@ -1,12 +1,12 @@
 -- The newest record is the one that the past calls for.
-use Rattle.std.proofs.Common.{◌≡◌, List, [], ◌∷◌, ◌++◌, Some, refl, sym, ap, subst, ◌∙◌}
+use Rattle.std.proofs.Common.{◌≡◌, List, Some, refl, sym, ap, subst, ◌∙◌}
 use Rattle.std.specs.List.{slice_get}
 use Rattle.std.proofs.Common.{length, ◌-◌}
 use Rattle.flat_model.specs.State.{State}
 use Rattle.flat_model.specs.Command as model
-use Rattle.flat_model.specs.Inverse.{Inverse, back, past_of}
+use Rattle.flat_model.specs.Inverse.{Inverse, past_of}
 use Rattle.undo_journal.specs.declared.rows.Entry.{Entry}
-use Rattle.undo_journal.specs.Answer.{record_of, IsNewest, newest_command}
+use Rattle.undo_journal.specs.Answer.{IsNewest, newest_command}
 use Rattle.undo_journal.specs.Rows.{journal_entry, records, IsHistory}
 use Rattle.undo_journal.proofs.Histories.{records_push}
 use Rattle.undo_journal.proofs.Undos.{snoc_of}

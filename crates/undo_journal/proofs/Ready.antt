@@ -1,25 +1,20 @@
 -- A record that a step left can be taken back.
-use Rattle.std.proofs.Common.{◌≡◌, ◌≢◌, ℕ, Bool, true, false, cond, not, List, [], ◌∷◌, ◌++◌, Option, Some, None, refl, sym, ap, subst, ◌∙◌, is_some}
-use Rattle.std.specs.Ordering.{eq_by_cmp}
+use Rattle.std.proofs.Common.{◌≡◌, ◌≢◌, ℕ, Bool, true, false, cond, List, [], ◌∷◌, ◌++◌, Option, Some, None, refl, sym, ap, subst, ◌∙◌, is_some}
 use Rattle.std.specs.Cmp.{nat_cmp_total, eq_by_cmp_equiv}
-use Rattle.std.specs.FinMap.{get, insert, remove, nat_cmp-IsAntisymmetric, get-insert, get-remove}
-use Rattle.std.specs.List.{list_any}
-use Rattle.std.specs.FinMap.{keys, values}
-use Rattle.flat_model.specs.Path.{Path, path_cmp, at_or_below, strictly_below, same_path, is_root, parent}
-use Rattle.flat_model.specs.State.{State, Attr, fresh}
+use Rattle.std.specs.FinMap.{get, nat_cmp-IsAntisymmetric, get-insert, get-remove}
+use Rattle.flat_model.specs.Path.{Path, strictly_below, same_path, is_root, parent}
+use Rattle.flat_model.specs.State.{State, fresh}
 use Rattle.flat_model.specs.Counts.{is_group, has_process}
 use Rattle.flat_model.specs.Command as model
-use Rattle.flat_model.specs.Refuse.{refuse}
-use Rattle.flat_model.specs.Inverse as model_inverse
 use Rattle.flat_model.specs.Inverse.{Inverse, back, inverse, inverse_of_refusal}
 use Rattle.flat_model.specs.Step.{refusal, after, after_refusal, with_limit, attr_of}
 use Rattle.flat_model.specs.WellFormed.{WellFormed}
-use Rattle.flat_model.proofs.PathLaws.{path_cmp-IsTotalOrder, path_cmp-IsAntisymmetric, at_or_below_is, strictly_below_is}
+use Rattle.flat_model.proofs.PathLaws.{path_cmp-IsTotalOrder, path_cmp-IsAntisymmetric, strictly_below_is}
 use Rattle.flat_model.proofs.Maps.{get-own}
 use Rattle.flat_model.proofs.Kept.{below_parent}
 use Rattle.flat_model.proofs.Refusing.{passed, beyond, affirmed}
 use Rattle.undo_journal.specs.declared.rows.Entry.{Entry}
-use Rattle.undo_journal.specs.Answer.{slots, record_of, record_by, state_after, state_by}
+use Rattle.undo_journal.specs.Answer.{slots, record_of, record_by, state_by}
 use Rattle.undo_journal.specs.Rows.{journal_entry, records, IsStep, IsHistory, IsReady}
 use Rattle.undo_journal.proofs.Histories.{records_push, history_well}
 use Rattle.undo_journal.proofs.Fronts.{front_is_group}

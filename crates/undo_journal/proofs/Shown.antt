@@ -1,5 +1,5 @@
 -- A file that is shown.
-use Rattle.std.proofs.Common.{◌≡◌, ℕ, Bool, true, false, not, ◌&&◌, List, Option, Some, None, refl, sym, ap, ◌∙◌}
+use Rattle.std.proofs.Common.{◌≡◌, ℕ, Bool, true, false, not, ◌&&◌, List, Some, None, refl, sym, ap, ◌∙◌}
 use Rattle.flat_model.specs.Path.{Path, is_root}
 use Rattle.flat_model.specs.Counts.{is_group}
 use Rattle.flat_model.specs.File as file

@@ -1,8 +1,8 @@
 -- The start, as the tree of the root alone and one row stand for it.
-use Rattle.std.proofs.Common.{◌≡◌, ℕ, List, [], ◌∷◌, Option, Some, None, refl, sym, ap, ◌∙◌}
+use Rattle.std.proofs.Common.{◌≡◌, ℕ, List, [], ◌∷◌, sym, ap, ◌∙◌}
 use Rattle.std.specs.Prelude.{option_map}
 use Rattle.std.specs.Ordering.{nat_cmp}
-use Rattle.std.specs.FinMap.{empty, insert, get, get-empty, same_map, from_entries}
+use Rattle.std.specs.FinMap.{empty, insert, get-empty, same_map, from_entries}
 use Rattle.flat_model.specs.Path.{Path, path_cmp}
 use Rattle.flat_model.specs.State as flat
 use Rattle.flat_model.specs.State.{fresh, start}
@@ -13,7 +13,7 @@ use Rattle.group_tree.specs.declared.attr.Attr.{Attr}
 use Rattle.group_tree.specs.Groups.{Groups, only_root}
 use Rattle.group_tree.specs.Flat.{group_of}
 use Rattle.undo_journal.specs.declared.rows.Process.{Process}
-use Rattle.undo_journal.specs.Rows.{process_entry, process_rows, state_of}
+use Rattle.undo_journal.specs.Rows.{process_entry, state_of}
 
 no_groups : map_values group_of (empty {X = Attr} {R = path_cmp}) ≡ empty
 no_groups = same_map path_cmp-IsTotalOrder path_cmp-IsAntisymmetric _ _ (λ q.

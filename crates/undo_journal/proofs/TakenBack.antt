@@ -1,17 +1,16 @@
 -- What takes a record back, on the tree and on the rows.
-use Rattle.std.proofs.Common.{◌≡◌, ◌≢◌, ℕ, Bool, true, false, List, [], ◌∷◌, ◌++◌, Option, Some, None, IsSome, Result, Ok, Err, refl, sym, ap, subst, ◌∙◌, is_some}
+use Rattle.std.proofs.Common.{◌≡◌, ◌≢◌, ℕ, Bool, true, false, List, [], ◌∷◌, ◌++◌, Option, Some, None, IsSome, Result, Ok, Err, sym, ap, subst, ◌∙◌, is_some}
 use Rattle.std.specs.Prelude.{option_map, unwrap_or, OnOk}
 use Rattle.std.specs.Ordering.{nat_cmp}
 use Rattle.std.specs.Cmp.{nat_cmp_total}
 use Rattle.std.proofs.lemmas.List.{map-append}
-use Rattle.std.specs.FinMap.{FinMap, get, insert, remove, find, from_entries, get-from_entries, nat_cmp-IsAntisymmetric}
-use Rattle.flat_model.specs.Path.{Path, path_cmp, strictly_below, parent}
-use Rattle.flat_model.specs.State as flat
-use Rattle.flat_model.specs.State.{State, Limit, fresh}
+use Rattle.std.specs.FinMap.{get, insert, remove, find, from_entries, get-from_entries, nat_cmp-IsAntisymmetric}
+use Rattle.flat_model.specs.Path.{Path, path_cmp, strictly_below}
+use Rattle.flat_model.specs.State.{Limit, fresh}
 use Rattle.flat_model.specs.File.{LimitFile}
 use Rattle.flat_model.specs.Mapped.{map_values}
 use Rattle.flat_model.specs.Counts.{is_group, has_process}
-use Rattle.flat_model.specs.Step.{with_limit, limit_at}
+use Rattle.flat_model.specs.Step.{with_limit}
 use Rattle.flat_model.specs.Inverse as model_inverse
 use Rattle.flat_model.specs.Inverse.{back}
 use Rattle.flat_model.proofs.PathLaws.{path_cmp-IsTotalOrder, path_cmp-IsAntisymmetric}
@@ -24,7 +23,7 @@ use Rattle.group_tree.specs.declared.fault.TreeFault.TheVariants.{Exists, NoPare
 use Rattle.group_tree.specs.Groups.{Groups, HasNoneBelow, Inserts, Sets, Removes}
 use Rattle.group_tree.specs.Flat.{group_of}
 use Rattle.undo_journal.specs.declared.rows.Process.{Process}
-use Rattle.undo_journal.specs.Rows.{IsDistinct, IsReady, process_entry, process_rows, state_of}
+use Rattle.undo_journal.specs.Rows.{IsDistinct, process_entry, process_rows, state_of}
 use Rattle.undo_journal.proofs.Groups.{group_found}
 use Rattle.undo_journal.proofs.RowLaws.{pushed, distinct_push}
 

@@ -1,9 +1,7 @@
 -- What a reached machine keeps after one command, and what an undo leaves.
-use Rattle.std.proofs.Common.{◌≡◌, ℕ, suc, ◌+◌, ◌<◌, Bool, true, false, cond, List, [], ◌∷◌, ◌++◌, map, length, Option, Some, None, refl, sym, ap, subst, ◌∙◌, arith}
-use Rattle.flat_model.specs.Path.{Path}
+use Rattle.std.proofs.Common.{◌≡◌, ◌<◌, true, false, cond, List, [], ◌∷◌, length, Option, Some, None, refl, sym, ap, subst, ◌∙◌, arith}
 use Rattle.flat_model.specs.State.{State}
 use Rattle.flat_model.specs.Command as model
-use Rattle.flat_model.specs.Inverse.{Inverse, back, past_of}
 use Rattle.flat_model.specs.Step.{refusal, after, after_refusal}
 use Rattle.flat_model.specs.Machine.{Machine, recorded, outcome, undone, tick}
 use Rattle.flat_model.proofs.Undoing.{run_undone}

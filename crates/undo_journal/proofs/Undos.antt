@@ -1,16 +1,16 @@
 -- The newest record taken back.
-use Rattle.std.proofs.Common.{◌≡◌, ℕ, suc, ◌+◌, ◌-◌, ◌<◌, true, List, [], ◌∷◌, ◌++◌, length, get_or, Option, Some, None, refl, sym, ap, subst, ◌∙◌, arith}
+use Rattle.std.proofs.Common.{◌≡◌, suc, ◌-◌, ◌<◌, true, List, [], ◌∷◌, ◌++◌, length, get_or, Some, refl, sym, ap, subst, ◌∙◌, arith}
 use Rattle.std.specs.List.{slice_get}
 use Rattle.std.proofs.lemmas.Option.{slice_get_within, slice_get-get_or}
 use Rattle.std.specs.Prelude.{unwrap_or}
 use Rattle.flat_model.specs.State.{State}
 use Rattle.flat_model.specs.Command as model
 use Rattle.flat_model.specs.Inverse.{Inverse, back, past_of}
-use Rattle.flat_model.specs.Machine.{Machine, undone, tick}
+use Rattle.flat_model.specs.Machine.{undone, tick}
 use Rattle.group_tree.specs.Groups.{Groups}
 use Rattle.undo_journal.specs.declared.rows.Process.{Process}
 use Rattle.undo_journal.specs.declared.rows.Entry.{Entry}
-use Rattle.undo_journal.specs.Answer.{slots, record_of, needs_no_memory, undoes_without_memory}
+use Rattle.undo_journal.specs.Answer.{slots, needs_no_memory, undoes_without_memory}
 use Rattle.undo_journal.specs.Rows.{journal_entry, records, state_of, machine_of, IsHistory}
 use Rattle.undo_journal.proofs.Histories.{records_push}
 

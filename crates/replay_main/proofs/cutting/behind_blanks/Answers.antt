@@ -1,4 +1,4 @@
-use Rattle.std.proofs.Common.{◌≡◌, ◌∙◌, sym}
+use Rattle.std.proofs.Common.{◌∙◌, sym}
 use Rattle.replay_main.proofs.Cuts.{behind_some_slice, behind_none}
 use Rattle.replay_main.proofs.cutting.behind_blanks.Goals as goal
 

@@ -1,4 +1,3 @@
-use Rattle.std.proofs.Common.{◌≡◌}
 use Rattle.flat_model.specs.PathText.{read_path}
 use Rattle.replay_main.proofs.Readings.{good_path}
 use Rattle.replay_main.proofs.line.read_path.Goals as goal

@@ -1,4 +1,4 @@
-use Rattle.std.proofs.Common.{◌≡◌, ◌∙◌, sym, subst}
+use Rattle.std.proofs.Common.{◌∙◌, sym, subst}
 use Rattle.flat_model.specs.Refuse.{and_then}
 use Rattle.flat_model.specs.Trace.{write_of}
 use Rattle.undo_journal.specs.Meaning.{command_of}

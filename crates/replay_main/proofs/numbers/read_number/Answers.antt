@@ -1,4 +1,4 @@
-use Rattle.std.proofs.Common.{◌≡◌, ◌∙◌, ◌≤◌, sym, arith}
+use Rattle.std.proofs.Common.{◌∙◌, sym, arith}
 use Rattle.replay_main.proofs.NumberTexts.{empty_is_none, padded_is_none, value_is_none, number_is}
 use Rattle.replay_main.proofs.numbers.read_number.Goals as goal
 

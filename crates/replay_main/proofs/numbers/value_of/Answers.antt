@@ -1,4 +1,4 @@
-use Rattle.std.proofs.Common.{◌≡◌, ◌∙◌, ◌+◌, ◌*◌, sym, arith}
+use Rattle.std.proofs.Common.{◌∙◌, ◌+◌, ◌*◌, sym}
 use Rattle.replay_main.proofs.NumberTexts.{value_more, all_digits-more, digit_is_none, great_is_none}
 use Rattle.replay_main.proofs.numbers.value_of.Goals as goal
 

@@ -1,4 +1,4 @@
-use Rattle.std.proofs.Common.{◌≡◌, ◌∙◌, ap}
+use Rattle.std.proofs.Common.{◌∙◌, ap}
 use Rattle.flat_model.specs.Values.{pid_max}
 use Rattle.replay_main.proofs.NumberTexts.{number_of, number_range, same_pid}
 use Rattle.replay_main.proofs.pids.read_pid.Goals as goal

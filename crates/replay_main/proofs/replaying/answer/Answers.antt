@@ -1,4 +1,4 @@
-use Rattle.std.proofs.Common.{◌≡◌, ◌∙◌}
+use Rattle.std.proofs.Common.{◌∙◌}
 use Rattle.replay_main.proofs.Standing.{stands_first}
 use Rattle.replay_main.proofs.replaying.answer.Goals as goal
 

@@ -1,8 +1,6 @@
-use Rattle.std.proofs.Common.{◌≡◌, ℕ, [], ◌∷◌, ◌++◌, subst, sym, ◌∙◌, ap}
+use Rattle.std.proofs.Common.{◌≡◌, ℕ}
 use Rattle.flat_model.specs.Path.{Path, parent}
-use Rattle.group_tree.specs.Flat.{limit_of}
-use Rattle.undo_journal.specs.Meaning.{limit_file_of}
-use Rattle.undo_journal.specs.Rows.{process_entry, process_rows, IsDistinct, state_of}
+use Rattle.undo_journal.specs.Rows.{process_entry}
 use Rattle.undo_journal.specs.declared.rows.Process.{Process}
 use Rattle.undo_journal.proofs.Homes.{row_of}
 use Rattle.undo_journal.proofs.TakenBack.{leaf, none_there, there, on_ok, back_made, back_removed, back_exited, exited_apart}

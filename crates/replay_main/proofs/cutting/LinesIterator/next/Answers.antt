@@ -1,4 +1,4 @@
-use Rattle.std.proofs.Common.{◌≡◌, ◌∙◌, ap, sym, arith, length}
+use Rattle.std.proofs.Common.{◌∙◌, ap, sym, arith, length}
 use Rattle.std.proofs.lemmas.Grind.{common_steps}
 use Rattle.replay_main.proofs.Cuts.{lines_at_slice, last_line}
 use Rattle.replay_main.proofs.cutting.LinesIterator.next.Goals as goal

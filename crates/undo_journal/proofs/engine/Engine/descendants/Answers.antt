@@ -1,4 +1,3 @@
-use Rattle.std.proofs.Common.{◌≡◌}
 use Rattle.undo_journal.specs.Rows.{state_of, records}
 use Rattle.undo_journal.proofs.Histories.{history_well}
 use Rattle.undo_journal.proofs.Sizes.{counted_there, few_groups}

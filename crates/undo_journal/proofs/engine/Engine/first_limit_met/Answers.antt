@@ -1,4 +1,4 @@
-use Rattle.std.proofs.Common.{◌≡◌, Some, None, refl, sym, ap, ◌∙◌}
+use Rattle.std.proofs.Common.{Some, None, refl, sym, ap, ◌∙◌}
 use Rattle.flat_model.specs.Command as model
 use Rattle.group_tree.specs.Limits.{refusal_along}
 use Rattle.undo_journal.specs.Rows.{state_of, records}

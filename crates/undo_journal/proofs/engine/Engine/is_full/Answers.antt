@@ -1,7 +1,6 @@
-use Rattle.std.proofs.Common.{◌≡◌, ◌+◌, subst, arith}
+use Rattle.std.proofs.Common.{arith}
 use Rattle.std.proofs.lemmas.Bool.Decides.{nat_tests}
 use Rattle.flat_model.specs.WellFormed.{WellFormed}
-use Rattle.std.specs.FinMap.{len}
 use Rattle.undo_journal.specs.Answer.{slots}
 use Rattle.undo_journal.specs.Rows.{state_of, records}
 use Rattle.undo_journal.proofs.Histories.{history_well}

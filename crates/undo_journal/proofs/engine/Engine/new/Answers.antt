@@ -1,8 +1,7 @@
-use Rattle.std.proofs.Common.{◌≡◌, ℕ, [], ◌∷◌, ◌++◌, refl, sym, ap, ◌∙◌, subst, List}
+use Rattle.std.proofs.Common.{◌≡◌, [], ◌∷◌, ◌++◌, refl, sym, ap, ◌∙◌, subst, List}
 use Rattle.std.specs.Ordering.{nat_cmp}
-use Rattle.flat_model.specs.Path.{Path}
-use Rattle.flat_model.specs.State.{State, start}
-use Rattle.undo_journal.specs.Rows.{IsDistinct, IsSound, IsHistory, process_entry, process_rows, state_of, machine_of, records}
+use Rattle.flat_model.specs.State.{start}
+use Rattle.undo_journal.specs.Rows.{IsDistinct, IsHistory, process_rows, state_of, machine_of, records}
 use Rattle.undo_journal.specs.declared.rows.Process.{Process}
 use Rattle.undo_journal.specs.declared.rows.Entry.{Entry}
 use Rattle.undo_journal.proofs.Starts.{start_is}

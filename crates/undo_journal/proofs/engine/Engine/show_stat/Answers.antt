@@ -1,4 +1,4 @@
-use Rattle.std.proofs.Common.{◌≡◌, ◌∙◌, ◌++◌, ℕ, ap}
+use Rattle.std.proofs.Common.{◌∙◌, ◌++◌, ℕ, ap}
 use Rattle.std.specs.Prelude.{codes, decimal}
 use Rattle.flat_model.specs.FileText.{line}
 use Rattle.undo_journal.proofs.Shown.{stat_answers}

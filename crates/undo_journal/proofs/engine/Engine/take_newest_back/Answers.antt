@@ -1,5 +1,4 @@
-use Rattle.std.proofs.Common.{arith, ◌≡◌, ◌-◌, ◌∷◌, ◌++◌, [], true, false, Some, length, List, sym, ap, ◌∙◌, subst}
-use Rattle.std.specs.List.{slice_get}
+use Rattle.std.proofs.Common.{arith, ◌≡◌, true, false, Some, sym, ap, ◌∙◌, subst}
 use Rattle.flat_model.specs.Command as model
 use Rattle.flat_model.specs.Machine.{Machine, tick}
 use Rattle.flat_model.specs.Inverse.{back}

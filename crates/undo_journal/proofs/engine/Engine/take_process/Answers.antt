@@ -2,11 +2,9 @@ use Rattle.std.proofs.Common.{◌≡◌, [], ◌∷◌, ◌++◌, subst, sym, �
 use Rattle.flat_model.specs.Command as model
 use Rattle.flat_model.specs.Inverse as model_inverse
 use Rattle.flat_model.specs.Machine.{Machine, recorded}
-use Rattle.flat_model.specs.Step.{after, refusal, attr_of, home_of, limit_at}
+use Rattle.flat_model.specs.Step.{after, refusal, home_of}
 use Rattle.undo_journal.specs.Answer.{slots}
 use Rattle.undo_journal.specs.Rows.{machine_of, journal_entry, state_of}
-use Rattle.undo_journal.specs.Meaning.{limit_file_of}
-use Rattle.group_tree.specs.Flat.{group_of, limit_of}
 use Rattle.undo_journal.specs.declared.rows.Entry.{Entry}
 use Rattle.undo_journal.specs.declared.command.Command.TheVariants.{Exit}
 use Rattle.undo_journal.specs.declared.inverse.Inverse.TheVariants.{Exited}
