@@ -6,3 +6,4 @@ pub mod ShownFiles
 pub mod Standing
 pub mod Finished
 pub mod CommandLines
+pub mod KnownBytes

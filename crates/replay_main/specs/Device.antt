@@ -22,6 +22,11 @@ Took None r bytes after = Unit {0}
 Took (Some before) (Ok n) bytes after = after ≡ Some (before ++ take n bytes)
 Took (Some before) (Err e) bytes after = after ≡ Some before
 
+-- the bytes that were taken stay
+abbrev pub Kept : Option (List ℕ) → Option (List ℕ) → Type 0
+Kept None after = Unit {0}
+Kept (Some before) after = after ≡ Some before
+
 -- ---- the whole input
 
 -- these bytes came, and these are left

@@ -1,7 +1,7 @@
 //! Where a trace comes from and where its answers go.
 
 ghost use Rattle.std.specs.Prelude.{◌≡◌, ◌≤◌, ℕ, List, Bool, true, length, if◌then◌else◌, is_err, Option, IfOk, OnErr};
-ghost use Rattle.replay_main.specs.Device.{Gave, Took};
+ghost use Rattle.replay_main.specs.Device.{Gave, Took, Kept};
 
 /// A read, a write or a flush failed.
 #[derive(Clone, Copy, Debug, PartialEq, Eq)]
@@ -41,6 +41,6 @@ pub trait Sink {
 
     /// Sees that all that was taken is out.
     fn flush(&mut self) -> Result<(), DeviceFault>
-        ensures bytes { taken self.new ≡ taken self.old }
+        ensures bytes { Kept (taken self.old) (taken self.new) }
         ensures mark { is_failed self.new ≡ (if is_err result then true else is_failed self.old) };
 }

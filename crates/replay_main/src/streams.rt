@@ -1,11 +1,12 @@
 //! Devices over the readers and writers of std, as standard input and output.
 
-ghost use Rattle.std.specs.Prelude.{None, false, ◌≡◌};
+ghost use Rattle.std.specs.Prelude.{false, ◌≡◌};
 
 use crate::{DeviceFault, Sink, Source};
 use std::io::{Read, Write};
 
-/// A source over a reader, as standard input. It doesn't tell the bytes that are left.
+/// A source over a reader. It tells the bytes that are left where the reader does: one over memory does, standard input
+/// does not.
 #[derive(Drop)]
 pub struct StreamSource<R: Read> {
     reader: R,
@@ -25,7 +26,7 @@ impl<R: Read> StreamSource<R> {
 }
 
 impl<R: Read> Source for StreamSource<R> {
-    ghost left = { λ s. None };
+    ghost left = { λ s. R.remaining s.reader };
 
     ghost is_failed = { λ s. s.is_failed };
 
@@ -40,7 +41,8 @@ impl<R: Read> Source for StreamSource<R> {
     }
 }
 
-/// A sink over a writer, as standard output. It doesn't tell the bytes that were taken.
+/// A sink over a writer. It tells the bytes that were taken where the writer does: one over memory does, standard output
+/// does not.
 #[derive(Drop)]
 pub struct StreamSink<W: Write> {
     writer: W,
@@ -60,7 +62,7 @@ impl<W: Write> StreamSink<W> {
 }
 
 impl<W: Write> Sink for StreamSink<W> {
-    ghost taken = { λ s. None };
+    ghost taken = { λ s. W.contents s.writer };
 
     ghost is_failed = { λ s. s.is_failed };
 
