@@ -108,7 +108,7 @@ impl<A: Allocator + Clone> GroupPath<A> {
         self.names().count()
     }
 
-    /// Whether this group is the other one or stands somewhere below it.
+    /// Whether this group is the other one or stands somewhere below it. Linear in the other's text.
     pub fn is_at_or_below<B: Allocator + Clone>(&self, other: &GroupPath<B>) -> bool
         ensures { result ≡ at_or_below self.now other.now }
     {
@@ -122,7 +122,7 @@ impl<A: Allocator + Clone> GroupPath<A> {
         true
     }
 
-    /// Whether the other path is this one, whatever memory it lies in.
+    /// Whether the other path is this one, whatever memory it lies in. Linear in the text.
     pub fn is_same<B: Allocator + Clone>(&self, other: &GroupPath<B>) -> bool
         ensures { result ≡ same_path self.now other.now }
     {
@@ -131,7 +131,7 @@ impl<A: Allocator + Clone> GroupPath<A> {
         self.text() == other.text()
     }
 
-    /// The path without its last name; None for the root, which takes no memory.
+    /// The path without its last name; None for the root, which takes no memory. Linear in the text.
     pub fn parent<B: Allocator + Clone>(&self, alloc: B) -> Result<Option<GroupPath<B>>, AllocError>
         ensures root { is_root self.now ≡ true → result ≡ Ok None }
         ensures group { IfOk result (λ p. p ≡ (if is_root self.now then None else Some (parent self.now))) }
@@ -145,7 +145,7 @@ impl<A: Allocator + Clone> GroupPath<A> {
         Ok(Some(GroupPath { text }))
     }
 
-    /// The group of this name below this one.
+    /// The group of this name below this one, in time linear in both texts.
     ///
     /// # Errors
     ///
@@ -165,7 +165,7 @@ impl<A: Allocator + Clone> GroupPath<A> {
         Ok(GroupPath { text })
     }
 
-    /// The same path in other memory.
+    /// The same path in other memory. Linear in the text.
     pub fn copy<B: Allocator + Clone>(&self, alloc: B) -> Result<GroupPath<B>, AllocError>
         ensures { IfOk result (λ p. p ≡ self.now) }
     {
@@ -173,7 +173,7 @@ impl<A: Allocator + Clone> GroupPath<A> {
         Ok(GroupPath { text })
     }
 
-    /// Keeps the first `n` names.
+    /// Keeps the first `n` names. Linear in their text.
     pub fn cut(&mut self, n: usize)
         requires { n ≤ length self.old }
         ensures { self.new ≡ take n self.old }

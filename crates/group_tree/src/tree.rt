@@ -44,7 +44,7 @@ impl<A: Allocator> GroupTree<A> {
         self.root.find(path.names())
     }
 
-    /// What the group at the first `n` names of the path has.
+    /// What the group at the first `n` names of the path has. Costs no more than `find`.
     pub fn find_at<B: Allocator + Clone>(&self, path: &GroupPath<B>, n: usize) -> Option<&Attr>
         requires { n ≤ length path.now }
         ensures { option_copied result ≡ fin.get self.now (take n path.now) }
@@ -52,14 +52,15 @@ impl<A: Allocator> GroupTree<A> {
         self.root.find(path.first_names(n))
     }
 
-    /// Changes what the group at the path has; false where there is no such group.
+    /// Changes what the group at the path has; false where there is no such group. Costs as much as `find`.
     pub fn set<B: Allocator + Clone>(&mut self, path: &GroupPath<B>, attr: Attr) -> bool
         ensures { Sets self.old self.new path.now attr result }
     {
         self.root.set(path.names(), attr)
     }
 
-    /// Changes what the group at the first `n` names of the path has; false where there is no such group.
+    /// Changes what the group at the first `n` names of the path has; false where there is no such group. Costs no more
+    /// than `find`.
     pub fn set_at<B: Allocator + Clone>(
         &mut self,
         path: &GroupPath<B>,
@@ -102,7 +103,7 @@ impl<A: Allocator> GroupTree<A> {
     }
 
     /// The slots from the group at the path upward, the root left out; None where there is no such group. Up to eight
-    /// take no memory.
+    /// take no memory. It goes down once, as `find` does.
     ///
     /// # Errors
     ///
@@ -123,7 +124,8 @@ impl<A: Allocator> GroupTree<A> {
         }
     }
 
-    /// Takes out a group that has none below it, and gives back what it had. It takes no memory.
+    /// Takes out a group that has none below it, and gives back what it had. It takes no memory. Costs as much as `find`,
+    /// and a move of each sibling behind it.
     ///
     /// # Errors
     ///
@@ -148,7 +150,7 @@ impl<A: Allocator> GroupTree<A> {
         let _ = &self.root;
     }
 
-    /// The same tree in the memory of another allocator.
+    /// The same tree in the memory of another allocator, in time linear in its groups and their names.
     pub fn copy<B: Allocator + Clone + Drop>(&self, alloc: B) -> Result<GroupTree<B>, AllocError>
         ensures { IfOk result (λ t. t ≡ self.now) }
     {
@@ -166,7 +168,7 @@ impl<A: Allocator + Clone> GroupTree<A> {
         Ok(GroupTree { root })
     }
 
-    /// Makes a group.
+    /// Makes a group. Costs as much as `find`, and a move of each sibling behind it.
     ///
     /// # Errors
     ///

@@ -83,7 +83,8 @@ fn answer<R: Threads + Wait + Sync>(
 /// Reads a trace to its end, answers every line, and writes the answers.
 ///
 /// The whole trace is read before anything is answered, and all of it is answered before anything is written. A
-/// trace has at most 16,777,216 bytes. The call may wait for its devices.
+/// trace has at most 16,777,216 bytes. The call may wait for its devices. Beside what the engine takes for each command,
+/// it takes time and memory linear in the trace and its answers.
 ///
 /// # Errors
 ///

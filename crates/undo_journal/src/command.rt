@@ -111,7 +111,7 @@ pub enum Command<A: Allocator + Clone> {
 }
 
 impl<A: Allocator + Clone> Command<A> {
-    /// The same command in other memory.
+    /// The same command in other memory, in time linear in its path.
     pub fn copy<B: Allocator + Clone>(&self, alloc: B) -> Result<Command<B>, AllocError>
         ensures { IfOk result (λ c. command_of c ≡ command_of self.now) }
     {
@@ -141,7 +141,7 @@ impl<A: Allocator + Clone> Command<A> {
     }
 
     /// The command as a line of a trace says it, without the line feed: `mkdir /a`, `fork 1 2`,
-    /// `write /a cgroup.procs 2`, `write /a cgroup.max.depth 3`, `cat /a pids.current`, `undo`.
+    /// `write /a cgroup.procs 2`, `write /a cgroup.max.depth 3`, `cat /a pids.current`, `undo`. Linear in its path.
     pub fn text<B: Allocator + Clone>(&self, alloc: B) -> Result<Vec<u8, B>, AllocError>
         ensures { IfOk result (λ text. text.items ≡ command_text (command_of self.now)) }
     {

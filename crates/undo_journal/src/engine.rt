@@ -89,8 +89,11 @@ impl<A: Allocator + Clone> Engine<A> {
         })
     }
 
-    /// Answers one command, which a session `who` has issued. It takes time linear in the groups and processes, and
-    /// waits for nobody yet.
+    /// Answers one command, which a session `who` has issued. It waits for nobody yet.
+    ///
+    /// Each command goes down the groups' tree a fixed number of times, in O(depth · log children) comparisons of names,
+    /// `mkdir` for all limits above it together; `mkdir` and `rmdir` move the siblings behind the group. Besides, `rmdir`,
+    /// a fork, an exit, a move and `pids.current` go over all processes.
     pub fn apply<R: Threads + Wait + Sync, B: Allocator + Clone>(
         &mut self,
         rt: &R,
@@ -111,8 +114,8 @@ impl<A: Allocator + Clone> Engine<A> {
         reply
     }
 
-    /// Takes the newest recorded command back, whoever issued it. It checks no limit and is not recorded. It takes time
-    /// linear in the groups and processes, and waits for nobody yet.
+    /// Takes the newest recorded command back, whoever issued it. It checks no limit and is not recorded, and waits for
+    /// nobody yet. Costs no more than the command did.
     pub fn undo<R: Threads + Wait + Sync>(&mut self, rt: &R, who: u8) -> Reply<A>
         ensures answered { reply_of result ≢ None → Answers self.old model.Undo result self.new }
         ensures headline { reply_of result ≢ None → KeepsHistory self.old model.Undo self.new }
