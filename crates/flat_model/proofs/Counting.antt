@@ -150,7 +150,7 @@ front_leads g h below long =
     let up : parent (take (suc (length g)) h) ≡ g = parent_take h (length g) (omega arith) ∙ sym (at_or_below_take h g below) in
     λ i. is_child_front g (take (suc (length g)) h) (omega (arith, len)) up i && take_above (suc (length g)) h i
 
-to_false : (b : Bool) → (b ≡ true → ⊥) → b ≡ false
+pub to_false : (b : Bool) → (b ≡ true → ⊥) → b ≡ false
 to_false true h = absurd (h refl)
 to_false false h = refl
 
@@ -204,7 +204,7 @@ AllGroups : State → List Path → Type 0
 AllGroups s hs = AllByRecursion (λ h. is_group s h ≡ true) hs
 
 -- the counts of the children, process by process
-swap_sums : (cs hs : List Path) → sum_by (λ c. count_by (λ p. at_or_below p c) hs) cs ≡ sum_by (λ h. count_by (λ c. at_or_below h c) cs) hs
+pub swap_sums : (cs hs : List Path) → sum_by (λ c. count_by (λ p. at_or_below p c) hs) cs ≡ sum_by (λ h. count_by (λ c. at_or_below h c) cs) hs
 swap_sums cs [] = sum_by-zero cs
 swap_sums cs (h ∷ hs) =
     sum_by-same (λ c. count_by (λ p. at_or_below p c) (h ∷ hs)) (λ c. cond (at_or_below h c) 1 0 + count_by (λ p. at_or_below p c) hs) cs (λ c. count_by-cons (λ p. at_or_below p c) h hs)
@@ -213,7 +213,7 @@ swap_sums cs (h ∷ hs) =
     ∙ sym (sum_by-cons (λ h. count_by (λ c. at_or_below h c) cs) h hs)
 
 module _ (slots : ℕ) (s : State) (w : WellFormed slots s) (g : Path) where
-  all_homes : (hs : List Path) → AllByRecursion (λ h. is_group s h ≡ true) hs →
+  pub all_homes : (hs : List Path) → AllByRecursion (λ h. is_group s h ≡ true) hs →
       count_by (λ p. at_or_below p g) hs ≡ count_by (λ p. same_path p g) hs + sum_by (λ h. count_by (λ c. at_or_below h c) (children s g)) hs
   all_homes [] h = omega arith
   all_homes (x ∷ hs) h =

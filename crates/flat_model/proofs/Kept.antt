@@ -33,12 +33,12 @@ one_less : (b : Bool) (n m : ℕ) → n ≤ m → cond b (n - 1) n ≤ m
 one_less true n m h = omega arith
 one_less false n m h = h
 
--- a map made of rows has as many entries at the most
-len_rows : {K X : Type 0} {R : K → K → Ordering} → IsTotalOrder R → (es : List (K × X)) → len (from_entries {R = R} es) ≤ length es
-len_rows {K} {X} {R} o [] = let e = len-empty R X in omega (arith, e)
-len_rows {K} {X} {R} o (e ∷ es) =
+-- a map made of entries has as many entries at the most
+len-from_entries : {K X : Type 0} {R : K → K → Ordering} → IsTotalOrder R → (es : List (K × X)) → len (from_entries {R = R} es) ≤ length es
+len-from_entries {K} {X} {R} o [] = let e = len-empty R X in omega (arith, e)
+len-from_entries {K} {X} {R} o (e ∷ es) =
     subst (λ n. n ≤ length (e ∷ es)) (sym (len-insert o (from_entries es) e.0 e.1))
-    (let h = one_more (is_some (get (from_entries {R = R} es) e.0)) _ _ (len_rows o es) in omega (arith, h))
+    (let h = one_more (is_some (get (from_entries {R = R} es) e.0)) _ _ (len-from_entries o es) in omega (arith, h))
 
 length_map : {X Y : Type 0} (f : X → Y) (xs : List X) → length (map f xs) ≡ length xs
 length_map f [] = refl
@@ -152,9 +152,9 @@ module _ (slots : ℕ) (s : State) (w : WellFormed slots s) where
         parents = λ p h. same (parent p) ∙ w.parents p (sym (same p) ∙ h);
         homes = λ pid p h. same p ∙ w.homes pid p h;
         few =
-            let rows = len_rows path_cmp-IsTotalOrder (map (λ e. (e.0, count_up a e.0 e.1)) (entries s.groups)) in
+            let made = len-from_entries path_cmp-IsTotalOrder (map (λ e. (e.0, count_up a e.0 e.1)) (entries s.groups)) in
             let size = length_map {Y = Path × Attr} (λ e. (e.0, count_up a e.0 e.1)) (entries s.groups) ∙ sym (len-entries s.groups) in
-            let few = w.few in omega (arith, rows, size, few);
+            let few = w.few in omega (arith, made, size, few);
         totals = λ q attr h. even_each a q (get s.groups q) not_root (w.totals q) attr (sym (each q) ∙ h);
       }
 

@@ -1,8 +1,7 @@
 -- What a limit lets through, what it refuses, and that a counted fork keeps a state well formed.
-use Rattle.std.proofs.Common.{◌≡◌, ℕ, zero, suc, get_or, ◌+◌, ◌-◌, ◌<◌, ◌≤◌, Bool, true, false, cond, not, ◌&&◌, List, [], ◌∷◌, length, Option, Some, None, refl, sym, ap, subst, ◌∙◌, arith, ltb}
+use Rattle.std.proofs.Common.{◌≡◌, ℕ, ◌+◌, ◌-◌, ◌<◌, ◌≤◌, Bool, true, false, cond, not, ◌&&◌, List, [], ◌∷◌, length, Option, Some, None, refl, sym, ap, subst, ◌∙◌, arith, ltb}
 use Rattle.std.proofs.lemmas.Bool.Decides.{nat_tests}
 use Rattle.std.specs.Prelude.{option_map}
-use Rattle.std.specs.List.{Contains}
 use Rattle.std.specs.Option.{option_or}
 use Rattle.std.specs.FinMap.{get, len, keys, values}
 use Rattle.std.specs.List.{list_any}
@@ -14,11 +13,11 @@ use Rattle.flat_model.specs.Command.{Command, MakeGroup, RemoveGroup, Fork, Exit
 use Rattle.flat_model.specs.Refuse.{refuse}
 use Rattle.flat_model.specs.Step.{refusal, after, after_refusal, home_of, limit_met, first_refusal, blocked_make}
 use Rattle.flat_model.specs.WellFormed.{WellFormed}
-use Rattle.flat_model.specs.Limiting.{IsLimiting, IsWithinPids, HasRoomBelow, MeetsDescendants, MeetsDepth}
+use Rattle.flat_model.specs.Limiting.{IsLimiting, IsWithinPids}
 use Rattle.flat_model.proofs.PathMembers.{upward_are}
 use Rattle.std.specs.Cmp.{nat_cmp_total}
 use Rattle.flat_model.proofs.CountChanges.{count_inserted}
-use Rattle.flat_model.proofs.Refusing.{passed, beyond, absent}
+use Rattle.flat_model.proofs.Refusing.{absent}
 use Rattle.flat_model.proofs.Nearest.{first_path_found, first_path_none, first_is_nearest}
 use Rattle.flat_model.proofs.Kept.{counted}
 
@@ -37,7 +36,7 @@ pub record IsMet (n : ℕ) (l : Limit) : Type 0 where
   pub limit : l ≡ At most
   pub met : most ≤ n
 
-met_by : (n : ℕ) (l : Limit) → reaches n l ≡ true → IsMet n l
+pub met_by : (n : ℕ) (l : Limit) → reaches n l ≡ true → IsMet n l
 met_by n Unlimited e = cc
 met_by n (At m) e = record { most = m; limit = refl; met = grind (arith, nat_tests) }
 
@@ -45,7 +44,7 @@ within_by : (n : ℕ) (l : Limit) (m : ℕ) → exceeds n l ≡ false → l ≡ 
 within_by n Unlimited m e is = cc
 within_by n (At k) m e is = let same : k ≡ m = cc in let h : n ≤ k = grind (arith, nat_tests) in omega arith
 
-room_by : (n : ℕ) (l : Limit) (m : ℕ) → reaches n l ≡ false → l ≡ At m → n < m
+pub room_by : (n : ℕ) (l : Limit) (m : ℕ) → reaches n l ≡ false → l ≡ At m → n < m
 room_by n Unlimited m e is = cc
 room_by n (At k) m e is = let same : k ≡ m = cc in let h : n < k = grind (arith, nat_tests) in omega arith
 
@@ -55,11 +54,11 @@ pub record Asked (test : Attr → Bool) (o : Option Attr) : Type 0 where
   pub there : o ≡ Some attr
   pub yes : test attr ≡ true
 
-asked_by : (test : Attr → Bool) (o : Option Attr) → asks test o ≡ true → Asked test o
+pub asked_by : (test : Attr → Bool) (o : Option Attr) → asks test o ≡ true → Asked test o
 asked_by test None e = cc
 asked_by test (Some attr) e = record { attr = attr; there = refl; yes = e }
 
-asked_no : (test : Attr → Bool) (o : Option Attr) (attr : Attr) → asks test o ≡ false → o ≡ Some attr → test attr ≡ false
+pub asked_no : (test : Attr → Bool) (o : Option Attr) (attr : Attr) → asks test o ≡ false → o ≡ Some attr → test attr ≡ false
 asked_no test o attr e is = sym (ap (asks test) is) ∙ e
 
 both_by : (a b : Bool) → (not a && b) ≡ true → (a ≡ false) × (b ≡ true)
@@ -95,108 +94,6 @@ fork_fits s g e a attr m above not_root there limit =
     let no = first_path_none (is_full s) (upward g) a e ((upward_are g a).1 above) in
     let left = neither_by (is_root a) (asks (λ attr. exceeds (current s a + 1) attr.limits.pids) (get s.groups a)) no not_root in
     within_by (current s a + 1) attr.limits.pids m (asked_no (λ attr. exceeds (current s a + 1) attr.limits.pids) (get s.groups a) attr left there) limit
-
--- ---- the limits of the hierarchy
-
--- the first refusal that a walk finds
-pub record RefusedAt (test : Path → Option Refusal) (ps : List Path) (r : Refusal) : Type 0 where
-  pub at : Path
-  pub member : Contains ps at
-  pub refuses : test at ≡ Some r
-
-later : (test : Path → Option Refusal) (p : Path) (ps : List Path) (r : Refusal) → RefusedAt test ps r → RefusedAt test (p ∷ ps) r
-later test p ps r f = record { at = f.at; member = (suc f.member.0, omega (arith, f.member.1), f.member.2); refuses = f.refuses }
-
-refused_at : (test : Path → Option Refusal) (ps : List Path) (r : Refusal) → first_refusal test ps ≡ Some r → RefusedAt test ps r
-refused_at test [] r e = cc
-refused_at test (p ∷ ps) r e =
-    elim (test p) as (λ o. test p ≡ o → option_or o (first_refusal test ps) ≡ Some r → RefusedAt test (p ∷ ps) r) [
-      | None ↦ λ t is. later test p ps r (refused_at test ps r is)
-      | Some x ↦ λ t is. record { at = p; member = (0, omega arith, refl); refuses = t ∙ is }
-    ] refl e
-
-none_refuses : (test : Path → Option Refusal) (p : Path) (ps : List Path) → first_refusal test (p ∷ ps) ≡ None → (test p ≡ None) × (first_refusal test ps ≡ None)
-none_refuses test p ps e =
-    elim (test p) as (λ o. test p ≡ o → option_or o (first_refusal test ps) ≡ None → (test p ≡ None) × (first_refusal test ps ≡ None)) [
-      | None ↦ λ t is. (t, is)
-      | Some x ↦ λ t is. cc
-    ] refl e
-
-all_pass : (test : Path → Option Refusal) (ps : List Path) (a : Path) (k : ℕ) → first_refusal test ps ≡ None → k < length ps → test (get_or ps k a) ≡ None
-all_pass test [] a k e l = absurd (omega arith)
-all_pass test (p ∷ ps) a zero e l = (none_refuses test p ps e).0
-all_pass test (p ∷ ps) a (suc k) e l = all_pass test ps a k (none_refuses test p ps e).1 (omega arith)
-
-pub walk_passes : (test : Path → Option Refusal) (ps : List Path) (a : Path) → first_refusal test ps ≡ None → Contains ps a → test a ≡ None
-walk_passes test ps a e h = ap test (sym h.2) ∙ all_pass test ps a h.0 e h.1
-
-pub room_below : (s : State) (p : Path) → blocked_make s p ≡ None → HasRoomBelow s (parent p)
-room_below s p e =
-    let free : (a : Path) → at_or_below (parent p) a ≡ true → limit_met s (parent p) a ≡ None = λ a h. walk_passes (limit_met s (parent p)) (upward (parent p)) a e ((upward_are (parent p) a).1 h) in
-    let counts = λ (a : Path). asks (λ attr. reaches (descendant_count s a) attr.limits.descendants) (get s.groups a) in
-    let depths = λ (a : Path). asks (λ attr. reaches (length (parent p) - length a) attr.limits.depth) (get s.groups a) in
-    record {
-      count = λ a attr m h there limit.
-          room_by _ attr.limits.descendants m (asked_no (λ attr. reaches (descendant_count s a) attr.limits.descendants) (get s.groups a) attr (passed (counts a) (Descendants a) (refuse (depths a) (Depth a) None) (free a h)) there) limit;
-      deep = λ a attr m h there limit.
-          room_by _ attr.limits.depth m (asked_no (λ attr. reaches (length (parent p) - length a) attr.limits.depth) (get s.groups a) attr (passed (depths a) (Depth a) None (beyond (counts a) (Descendants a) (refuse (depths a) (Depth a) None) (free a h))) there) limit;
-    }
-
--- what a limit that refuses a new group under q says
-abbrev MeetsLimit : State → Path → Refusal → Type 0
-MeetsLimit s q (Descendants a) = MeetsDescendants s q a
-MeetsLimit s q (Depth a) = MeetsDepth s q a
-MeetsLimit s q _ = Unit {0}
-
-met_descendants : (s : State) (q a : Path) → at_or_below q a ≡ true → asks (λ attr. reaches (descendant_count s a) attr.limits.descendants) (get s.groups a) ≡ true → MeetsDescendants s q a
-met_descendants s q a h e =
-    let k = asked_by (λ attr. reaches (descendant_count s a) attr.limits.descendants) (get s.groups a) e in
-    let m = met_by (descendant_count s a) k.attr.limits.descendants k.yes in
-    record { above = h; attr = k.attr; there = k.there; most = m.most; limit = m.limit; met = m.met }
-
-met_depth : (s : State) (q a : Path) → at_or_below q a ≡ true → asks (λ attr. reaches (length q - length a) attr.limits.depth) (get s.groups a) ≡ true → MeetsDepth s q a
-met_depth s q a h e =
-    let k = asked_by (λ attr. reaches (length q - length a) attr.limits.depth) (get s.groups a) e in
-    let m = met_by (length q - length a) k.attr.limits.depth k.yes in
-    record { above = h; attr = k.attr; there = k.there; most = m.most; limit = m.limit; met = m.met }
-
-met_of : (s : State) (q a : Path) (b c : Bool) (r : Refusal) → (b ≡ true → MeetsDescendants s q a) → (c ≡ true → MeetsDepth s q a) → refuse b (Descendants a) (refuse c (Depth a) None) ≡ Some r → MeetsLimit s q r
-met_of s q a true c r h k e = subst (MeetsLimit s q) (let same : Descendants a ≡ r = cc in same) (h refl)
-met_of s q a false true r h k e = subst (MeetsLimit s q) (let same : Depth a ≡ r = cc in same) (k refl)
-met_of s q a false false r h k e = cc
-
--- a refusal of the walk names a limit that is met
-pub met_limit : (s : State) (p : Path) (r : Refusal) → blocked_make s p ≡ Some r → MeetsLimit s (parent p) r
-met_limit s p r e =
-    let f = refused_at (limit_met s (parent p)) (upward (parent p)) r e in
-    let h = (upward_are (parent p) f.at).0 f.member in
-    met_of s (parent p) f.at _ _ r (met_descendants s (parent p) f.at h) (met_depth s (parent p) f.at h) f.refuses
-
--- which refusals of a new group come from a limit
-abbrev by_limit : Refusal → Bool
-by_limit (Descendants a) = true
-by_limit (Depth a) = true
-by_limit _ = false
-
-from_limit : (a b : Bool) (q : Path) (o : Option Refusal) (d : Bool) (r : Refusal) → by_limit r ≡ true → refuse a Exists (refuse b (NoGroup q) (option_or o (refuse d NoSlot None))) ≡ Some r → o ≡ Some r
-from_limit true b q o d r l e = let same : Exists ≡ r = cc in let f : false ≡ true = ap by_limit same ∙ l in cc
-from_limit false true q o d r l e = let same : NoGroup q ≡ r = cc in let f : false ≡ true = ap by_limit same ∙ l in cc
-from_limit false false q None true r l e = let same : NoSlot ≡ r = cc in let f : false ≡ true = ap by_limit same ∙ l in cc
-from_limit false false q None false r l e = cc
-from_limit false false q (Some x) d r l e = e
-
-pub make_refused : (slots : ℕ) (s : State) (p : Path) (r : Refusal) → by_limit r ≡ true → refusal slots s (MakeGroup p) ≡ Some r → MeetsLimit s (parent p) r
-make_refused slots s p r l e = met_limit s p r (from_limit (is_group s p) (not (is_group s (parent p))) (parent p) (blocked_make s p) (ltb slots (len s.groups)) r l e)
-
-make_open : (a b : Bool) (q : Path) (o : Option Refusal) (d : Bool) → refuse a Exists (refuse b (NoGroup q) (option_or o (refuse d NoSlot None))) ≡ None → o ≡ None
-make_open true b q o d e = cc
-make_open false true q o d e = cc
-make_open false false q None d e = refl
-make_open false false q (Some r) d e = cc
-
--- a new group that is accepted has room under every group above it
-pub make_fits : (slots : ℕ) (s : State) (p : Path) → refusal slots s (MakeGroup p) ≡ None → HasRoomBelow s (parent p)
-make_fits slots s p e = room_below s p (make_open (is_group s p) (not (is_group s (parent p))) (parent p) (blocked_make s p) (ltb slots (len s.groups)) e)
 
 -- ---- only a fork is refused by pids.max
 abbrev OfRefusal : (Path → Type 0) → Refusal → Type 0

@@ -16,14 +16,14 @@ use Rattle.flat_model.proofs.Kept.{kept}
 use Rattle.flat_model.proofs.Limits.{kept_refused}
 
 -- the root is the only group at the start
-only_root : (q : Path) (attr : Attr) → get start.groups q ≡ Some attr → (q ≡ []) × (fresh ≡ attr)
+pub only_root : (q : Path) (attr : Attr) → get start.groups q ≡ Some attr → (q ≡ []) × (fresh ≡ attr)
 only_root q attr h =
     elim (eq_by_cmp path_cmp q []) as (λ b. eq_by_cmp path_cmp q [] ≡ b → cond b (Some fresh) (get (empty {R = path_cmp}) q) ≡ Some attr → (q ≡ []) × (fresh ≡ attr)) [
       | true ↦ λ t e. (key_of path_cmp-IsAntisymmetric q [] t, (cc))
       | false ↦ λ t e. let n = get-empty {X = Attr} path_cmp q in cc
     ] refl (sym (get-insert path_cmp-IsTotalOrder (empty {R = path_cmp}) [] fresh q) ∙ h)
 
-some_attr : (o : Option Attr) → is_some o ≡ true → (attr : Attr) × (o ≡ Some attr)
+pub some_attr : (o : Option Attr) → is_some o ≡ true → (attr : Attr) × (o ≡ Some attr)
 some_attr None e = cc
 some_attr (Some attr) e = (attr, refl)
 

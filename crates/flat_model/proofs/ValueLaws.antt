@@ -5,7 +5,7 @@ use Rattle.std.specs.Char.{is_ascii_digit}
 use Rattle.std.specs.Fmt.{digits}
 use Rattle.std.specs.Str.{all_ascii_digits}
 use Rattle.std.specs.Str.Parse.{digits_value}
-use Rattle.std.proofs.lemmas.Bool.{and_parts, and_from, and_right, and_cases, not-false, ne_eqb, eqb-false, ltb-false, leb-true, cond_both}
+use Rattle.std.proofs.lemmas.Bool.{and_parts, and_from, and_right, and_cases, not-false, ne_eqb, eqb-true, eqb-false, ltb-false, leb-true, cond_both}
 use Rattle.std.proofs.lemmas.Bool.Decides.{nat_tests}
 use Rattle.std.proofs.lemmas.Fmt.{decimal_nonempty, digits_decimal, digits_value-decimal, decimal-digits_value, first_decimal}
 use Rattle.std.proofs.lemmas.Str.Parse.{IsNumeralModel, numerals_by_value, tells_all_ascii_digits}
@@ -14,8 +14,8 @@ use Rattle.flat_model.specs.Path.{same_name}
 use Rattle.flat_model.specs.State.{Limit, Unlimited, At}
 use Rattle.flat_model.specs.File.{LimitFile, PidsMax, MaxDescendants, MaxDepth}
 use Rattle.flat_model.specs.FileText.{limit_text}
-use Rattle.flat_model.specs.Values.{pid_max, limit_max, is_space, trimmed, begins_with_zero, number_fault, read_number, read_pid, read_kill, limit_from, read_limit_in, read_limit, ValueFault, Empty, NotANumber, LeadingZero, OutOfRange}
-use Rattle.flat_model.specs.CommandText.{IsPid, IsLimit}
+use Rattle.flat_model.specs.Values.{pid_max, limit_max, hierarchy_limit_max, is_space, trimmed, begins_with_zero, number_fault, read_number, read_pid, read_kill, limit_from, read_limit_in, read_limit, ValueFault, Empty, NotANumber, LeadingZero, OutOfRange}
+use Rattle.flat_model.specs.CommandText.{IsPid, IsLimit, IsLimitText}
 use Rattle.flat_model.proofs.PathLaws.{same_name_is}
 use Rattle.flat_model.proofs.PathTextLaws.{refuse_none, refuse_passed, unless_ok}
 use Rattle.flat_model.proofs.WordLaws.{is_plain, is_word, trimmed-plain}
@@ -105,8 +105,8 @@ read_limit-at file n most h is =
     ∙ ap (map_ok (limit_from file)) (read_number-decimal 0 (limit_max file) n (omega arith) most h)
     ∙ ap (λ (l : Limit). Ok l) is
 
-at_less : (n : ℕ) → n ≢ 2147483647 → cond (n == 2147483647) Unlimited (At n) ≡ At n
-at_less n h = ap (λ b. cond b Unlimited (At n)) (ne_eqb n 2147483647 h)
+at_less : (n : ℕ) → n ≢ hierarchy_limit_max → cond (n == hierarchy_limit_max) Unlimited (At n) ≡ At n
+at_less n h = ap (λ b. cond b Unlimited (At n)) (ne_eqb n hierarchy_limit_max h)
 
 pub read_limit-limit_text : (file : LimitFile) (l : Limit) → IsLimit file l → read_limit file (limit_text l) ≡ Ok l
 read_limit-limit_text file Unlimited h = refl
@@ -168,8 +168,8 @@ same_limit k l e = cc
 
 limit_from_only : (file : LimitFile) (n : ℕ) → n ≤ limit_max file → IsLimit file (limit_from file n)
 limit_from_only PidsMax n h = h
-limit_from_only MaxDescendants n h = cond_both (n == 2147483647) Unlimited (At n) (IsLimit MaxDescendants) (λ e. tt) (λ e. (h, eqb-false n 2147483647 e))
-limit_from_only MaxDepth n h = cond_both (n == 2147483647) Unlimited (At n) (IsLimit MaxDepth) (λ e. tt) (λ e. (h, eqb-false n 2147483647 e))
+limit_from_only MaxDescendants n h = cond_both (n == hierarchy_limit_max) Unlimited (At n) (IsLimit MaxDescendants) (λ e. tt) (λ e. (h, eqb-false n hierarchy_limit_max e))
+limit_from_only MaxDepth n h = cond_both (n == hierarchy_limit_max) Unlimited (At n) (IsLimit MaxDepth) (λ e. tt) (λ e. (h, eqb-false n hierarchy_limit_max e))
 
 limit_small : (file : LimitFile) → limit_max file < wide
 limit_small PidsMax = omega arith
@@ -188,3 +188,22 @@ read_limit_only file text l e =
       | true ↦ λ k. subst (IsLimit file) (same_limit Unlimited l k) tt
       | false ↦ λ k. number_limit_only file r l (λ n g. (read_number_only 0 (limit_max file) digits n (limit_small file) g).high_enough) k
     ] e
+
+limit_from_text : (file : LimitFile) (n : ℕ) (text : List ℕ) → text ≡ decimal n → IsLimitText file (limit_from file n) text
+limit_from_text PidsMax n text h = h
+limit_from_text MaxDescendants n text h = cond_both (n == hierarchy_limit_max) Unlimited (At n) (λ l. IsLimitText MaxDescendants l text) (λ e. inr (refl, h ∙ ap decimal (eqb-true n hierarchy_limit_max e))) (λ e. h)
+limit_from_text MaxDepth n text h = cond_both (n == hierarchy_limit_max) Unlimited (At n) (λ l. IsLimitText MaxDepth l text) (λ e. inr (refl, h ∙ ap decimal (eqb-true n hierarchy_limit_max e))) (λ e. h)
+
+number_limit_text : (file : LimitFile) (text : List ℕ) (r : Result ℕ ValueFault) (l : Limit) → ((n : ℕ) → r ≡ Ok n → text ≡ decimal n) → map_ok (limit_from file) r ≡ Ok l → IsLimitText file l text
+number_limit_text file text (Ok n) l h e = subst (λ (k : Limit). IsLimitText file k text) (same_limit (limit_from file n) l e) (limit_from_text file n text (h n refl))
+number_limit_text file text (Err f) l h e = cc
+
+-- what is read as a limit says it
+pub read_limit_text : (file : LimitFile) (text : List ℕ) (l : Limit) → read_limit file text ≡ Ok l → IsLimitText file l (trimmed text)
+read_limit_text file text l e =
+    let digits = trimmed text in
+    let r = read_number 0 (limit_max file) digits in
+    elim (same_name digits (codes "max")) as (λ b. same_name digits (codes "max") ≡ b → cond b (Ok Unlimited) (map_ok (limit_from file) r) ≡ Ok l → IsLimitText file l digits) [
+      | true ↦ λ t k. subst (λ (m : Limit). IsLimitText file m digits) (same_limit Unlimited l k) (inl ((same_name_is digits (codes "max")).0 t))
+      | false ↦ λ t k. number_limit_text file digits r l (λ n g. (read_number_only 0 (limit_max file) digits n (limit_small file) g).text) k
+    ] refl e

@@ -20,6 +20,7 @@ pub data Command : Type 0 where
   -- `/proc/PID/cgroup`
   Locate : ℕ → Command
   Undo : Command
+  deriving Discrete as Command-discrete
 
 pub data Refusal : Type 0 where
   Exists : Refusal
@@ -37,6 +38,7 @@ pub data Refusal : Type 0 where
   OverPidsMax : Path → Refusal
   NoFile : Refusal
   NotReadable : Refusal
+  deriving Discrete as Refusal-discrete
 
 pub data Reply : Type 0 where
   Done : Reply
@@ -44,6 +46,7 @@ pub data Reply : Type 0 where
   Undone : Command → Reply
   Refused : Refusal → Reply
   NothingToUndo : Reply
+  deriving Discrete as Reply-discrete
 
 abbrev pub is_undo : Command → Bool
 is_undo Undo = true

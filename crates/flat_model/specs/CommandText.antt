@@ -1,11 +1,11 @@
 -- The text of a command: its line in a trace, with one blank between words.
-use Rattle.std.specs.Prelude.{◌≡◌, ◌≢◌, ℕ, ◌≤◌, true, List, [], ◌∷◌, codes, decimal}
+use Rattle.std.specs.Prelude.{◌≡◌, ◌≢◌, ℕ, ◌≤◌, true, false, ◌⊎◌, List, [], ◌∷◌, codes, decimal}
 use Rattle.std.specs.List.{join_with_byte}
 use Rattle.flat_model.specs.PathText.{path_text, IsPath}
 use Rattle.flat_model.specs.State.{Limit, Unlimited, At}
-use Rattle.flat_model.specs.File.{LimitFile, PidsMax, MaxDescendants, MaxDepth, Procs, LimitOf, KillFile, file_name, readable}
+use Rattle.flat_model.specs.File.{LimitFile, PidsMax, MaxDescendants, MaxDepth, Procs, LimitOf, KillFile, file_name, is_pids_max, readable}
 use Rattle.flat_model.specs.Command.{Command, MakeGroup, RemoveGroup, Fork, Exit, Move, SetLimit, Kill, Show, Locate, Undo}
-use Rattle.flat_model.specs.Values.{pid_max, limit_max}
+use Rattle.flat_model.specs.Values.{pid_max, limit_max, hierarchy_limit_max}
 use Rattle.flat_model.specs.FileText.{limit_text}
 
 abbrev pub command_words : Command → List (List ℕ)
@@ -32,8 +32,13 @@ IsPid n = (1 ≤ n) × (n ≤ pid_max)
 abbrev pub IsLimit : LimitFile → Limit → Type 0
 IsLimit file Unlimited = Unit {0}
 IsLimit PidsMax (At n) = n ≤ limit_max PidsMax
-IsLimit MaxDescendants (At n) = (n ≤ limit_max MaxDescendants) × (n ≢ 2147483647)
-IsLimit MaxDepth (At n) = (n ≤ limit_max MaxDepth) × (n ≢ 2147483647)
+IsLimit MaxDescendants (At n) = (n ≤ limit_max MaxDescendants) × (n ≢ hierarchy_limit_max)
+IsLimit MaxDepth (At n) = (n ≤ limit_max MaxDepth) × (n ≢ hierarchy_limit_max)
+
+-- the texts that say this limit: the one that its file shows, and for the hierarchy's limits their greatest number, which is no limit
+abbrev pub IsLimitText : LimitFile → Limit → List ℕ → Type 0
+IsLimitText file Unlimited text = (text ≡ codes "max") ⊎ ((is_pids_max file ≡ false) × (text ≡ decimal hierarchy_limit_max))
+IsLimitText file (At n) text = text ≡ decimal n
 
 -- the paths are in the grammar, pids and limits in their ranges, and a file that is shown can be read
 abbrev pub IsSayable : Command → Type 0

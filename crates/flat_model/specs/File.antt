@@ -1,5 +1,5 @@
--- The interface files: their names, and which of them a group has, which can be read, and which can be written.
-use Rattle.std.specs.Prelude.{ℕ, Bool, true, false, not, List, [], ◌∷◌, codes, find, Option}
+-- The interface files: their names, and which of them a group has, which can be read, and what is written to them.
+use Rattle.std.specs.Prelude.{ℕ, Bool, true, false, not, List, [], ◌∷◌, codes, find, Option, Some, None, is_some}
 use Rattle.flat_model.specs.Path.{same_name}
 
 -- the files that hold a limit
@@ -7,6 +7,7 @@ pub data LimitFile : Type 0 where
   PidsMax : LimitFile
   MaxDescendants : LimitFile
   MaxDepth : LimitFile
+  deriving Discrete as LimitFile-discrete
 
 pub data File : Type 0 where
   Procs : File
@@ -17,6 +18,7 @@ pub data File : Type 0 where
   PidsCurrent : File
   PidsEvents : File
   PidsEventsLocal : File
+  deriving Discrete as File-discrete
 
 abbrev pub file_name : File → List ℕ
 file_name Procs = codes "cgroup.procs"
@@ -63,12 +65,22 @@ readable PidsCurrent = true
 readable PidsEvents = true
 readable PidsEventsLocal = true
 
+-- the kinds of value that are written: a pid, a limit, and the 1 of `cgroup.kill`
+pub data ValueKind : Type 0 where
+  PidValue : ValueKind
+  LimitValue : LimitFile → ValueKind
+  KillValue : ValueKind
+
+-- what is written to a file, if anything is
+abbrev pub value_kind : File → Option ValueKind
+value_kind Procs = Some PidValue
+value_kind Events = None
+value_kind Stat = None
+value_kind (LimitOf file) = Some (LimitValue file)
+value_kind KillFile = Some KillValue
+value_kind PidsCurrent = None
+value_kind PidsEvents = None
+value_kind PidsEventsLocal = None
+
 abbrev pub writable : File → Bool
-writable Procs = true
-writable Events = false
-writable Stat = false
-writable (LimitOf file) = true
-writable KillFile = true
-writable PidsCurrent = false
-writable PidsEvents = false
-writable PidsEventsLocal = false
+writable file = is_some (value_kind file)

@@ -13,7 +13,10 @@ pub mod CommandText
 pub mod Machine
 pub mod WellFormed
 pub mod Limiting
+pub mod Events
 pub mod Log
+pub mod Audit
+pub mod AuditExamples
 pub mod Trace
 pub mod Replies
 pub mod Codes

@@ -20,12 +20,16 @@ pub record IsLimiting (s : State) (g a : Path) : Type 0 where
   pub past : most < current s a + 1
   pub nearest : (b : Path) → at_or_below g b ≡ true → strictly_below b a ≡ true → is_full s b ≡ false
 
--- each group at or above q has room below it for one group more, and may have one as deep as a child of q
-pub record HasRoomBelow (s : State) (q : Path) : Type 0 where
-  pub count : (a : Path) (attr : Attr) (m : ℕ) → at_or_below q a ≡ true → get s.groups a ≡ Some attr → attr.limits.descendants ≡ At m → descendant_count s a < m
-  pub deep : (a : Path) (attr : Attr) (m : ℕ) → at_or_below q a ≡ true → get s.groups a ≡ Some attr → attr.limits.depth ≡ At m → length q - length a < m
+-- a lets a child of q be made: it has room below it for one group more, and may have one so deep
+pub record HasRoomFor (s : State) (q a : Path) : Type 0 where
+  pub count : (attr : Attr) (m : ℕ) → get s.groups a ≡ Some attr → attr.limits.descendants ≡ At m → descendant_count s a < m
+  pub deep : (attr : Attr) (m : ℕ) → get s.groups a ≡ Some attr → attr.limits.depth ≡ At m → length q - length a < m
 
--- a stands at or above q, and its limit on descendants is met
+-- so does each group at or above q
+abbrev pub HasRoomBelow : State → Path → Type 0
+HasRoomBelow s q = (a : Path) → at_or_below q a ≡ true → HasRoomFor s q a
+
+-- a is the nearest group at or above q that lets no child of q be made, and its limit on descendants is met
 pub record MeetsDescendants (s : State) (q a : Path) : Type 0 where
   pub above : at_or_below q a ≡ true
   pub attr : Attr
@@ -33,8 +37,9 @@ pub record MeetsDescendants (s : State) (q a : Path) : Type 0 where
   pub most : ℕ
   pub limit : attr.limits.descendants ≡ At most
   pub met : most ≤ descendant_count s a
+  pub nearest : (b : Path) → at_or_below q b ≡ true → strictly_below b a ≡ true → HasRoomFor s q b
 
--- a stands at or above q, and its limit on depth is met
+-- a is the nearest group at or above q that lets no child of q be made; its limit on depth is met, and that on descendants is not
 pub record MeetsDepth (s : State) (q a : Path) : Type 0 where
   pub above : at_or_below q a ≡ true
   pub attr : Attr
@@ -42,3 +47,5 @@ pub record MeetsDepth (s : State) (q a : Path) : Type 0 where
   pub most : ℕ
   pub limit : attr.limits.depth ≡ At most
   pub met : most ≤ length q - length a
+  pub nearest : (b : Path) → at_or_below q b ≡ true → strictly_below b a ≡ true → HasRoomFor s q b
+  pub room : (m : ℕ) → attr.limits.descendants ≡ At m → descendant_count s a < m

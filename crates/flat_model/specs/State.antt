@@ -8,6 +8,7 @@ pub data Limit : Type 0 where
   -- `max`
   Unlimited : Limit
   At : ℕ → Limit
+  deriving Discrete as Limit-discrete
 
 -- what `pids.max`, `cgroup.max.descendants` and `cgroup.max.depth` hold
 pub record Limits : Type 0 where

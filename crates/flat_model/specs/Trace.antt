@@ -4,7 +4,7 @@ use Rattle.std.specs.List.{slice_split}
 use Rattle.flat_model.specs.Refuse.{map_ok, or_fault, some_or, and_then}
 use Rattle.flat_model.specs.Path.{Path, same_name}
 use Rattle.flat_model.specs.PathText.{read_path}
-use Rattle.flat_model.specs.File.{File, Procs, Events, Stat, LimitOf, KillFile, PidsCurrent, PidsEvents, PidsEventsLocal, file_named, readable}
+use Rattle.flat_model.specs.File.{File, ValueKind, PidValue, LimitValue, KillValue, value_kind, file_named, readable}
 use Rattle.flat_model.specs.Command.{Command, MakeGroup, RemoveGroup, Fork, Exit, Move, SetLimit, Kill, Show, Locate, Undo}
 use Rattle.flat_model.specs.Values.{read_pid, read_limit, read_kill}
 
@@ -65,16 +65,15 @@ file_word w = some_or BadFile (file_named w)
 abbrev pub pid_word : Word → Result ℕ TextFault
 pid_word w = or_fault BadValue (read_pid w)
 
--- a write of a value to a file of the group
+-- the command that writes a value of this kind to its file of the group
+abbrev pub write_as : Path → ValueKind → Word → Result Command TextFault
+write_as p PidValue w = map_ok (Move p) (pid_word w)
+write_as p (LimitValue file) w = map_ok (SetLimit p file) (or_fault BadValue (read_limit file w))
+write_as p KillValue w = map_ok (λ one. Kill p) (or_fault BadValue (read_kill w))
+
+-- a write of a value to a file of the group: direction first, and then the value
 abbrev pub write_of : Path → File → Word → Result Command TextFault
-write_of p Procs w = map_ok (Move p) (pid_word w)
-write_of p (LimitOf file) w = map_ok (SetLimit p file) (or_fault BadValue (read_limit file w))
-write_of p KillFile w = map_ok (λ one. Kill p) (or_fault BadValue (read_kill w))
-write_of p Events w = Err BadDirection
-write_of p Stat w = Err BadDirection
-write_of p PidsCurrent w = Err BadDirection
-write_of p PidsEvents w = Err BadDirection
-write_of p PidsEventsLocal w = Err BadDirection
+write_of p file w = and_then (some_or BadDirection (value_kind file)) (λ kind. write_as p kind w)
 
 abbrev pub show_of : Path → File → Result Command TextFault
 show_of p file = cond (readable file) (Ok (Show p file)) (Err BadDirection)

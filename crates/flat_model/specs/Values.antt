@@ -12,11 +12,15 @@ use Rattle.flat_model.specs.File.{LimitFile, PidsMax, MaxDescendants, MaxDepth}
 abbrev pub pid_max : ℕ
 pid_max = 4194303
 
+-- the greatest number that `cgroup.max.descendants` and `cgroup.max.depth` take, and which they hold as no limit
+abbrev pub hierarchy_limit_max : ℕ
+hierarchy_limit_max = 2147483647
+
 -- the greatest number that the file of a limit takes
 abbrev pub limit_max : LimitFile → ℕ
 limit_max PidsMax = 4194304
-limit_max MaxDescendants = 2147483647
-limit_max MaxDepth = 2147483647
+limit_max MaxDescendants = hierarchy_limit_max
+limit_max MaxDepth = hierarchy_limit_max
 
 pub data ValueFault : Type 0 where
   Empty : ValueFault
@@ -60,11 +64,11 @@ read_pid text = read_number 1 pid_max (trimmed text)
 abbrev pub read_kill : List ℕ → Result ℕ ValueFault
 read_kill text = read_number 1 1 (trimmed text)
 
--- the hierarchy's limits hold the greatest number of their range as no limit
+-- the limit that a number in the file's range is
 abbrev pub limit_from : LimitFile → ℕ → Limit
 limit_from PidsMax n = At n
-limit_from MaxDescendants n = cond (n == 2147483647) Unlimited (At n)
-limit_from MaxDepth n = cond (n == 2147483647) Unlimited (At n)
+limit_from MaxDescendants n = cond (n == hierarchy_limit_max) Unlimited (At n)
+limit_from MaxDepth n = cond (n == hierarchy_limit_max) Unlimited (At n)
 
 abbrev pub read_limit_in : LimitFile → List ℕ → Result Limit ValueFault
 read_limit_in file text = cond (same_name text (codes "max")) (Ok Unlimited) (map_ok (limit_from file) (read_number 0 (limit_max file) text))

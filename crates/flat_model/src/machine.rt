@@ -1,33 +1,91 @@
-//! The laws of the machine: a command and its undo, a run and its undos, and what holds of every machine that commands reach.
+//! The laws of the machine: a command and its undo, a run and its undos, and what holds of every
+//! machine that commands reach.
 
-ghost use Rattle.std.specs.Prelude.{◌≡◌, ℕ, ◌-◌, ◌+◌, ◌↔◌, true, Some, None, List, length, map, sum_by};
+ghost use Rattle.std.specs.Prelude.{
+  ◌≡◌,
+  ℕ,
+  ◌-◌,
+  ◌+◌,
+  ◌↔◌,
+  true,
+  Some,
+  None,
+  List,
+  length,
+  map,
+  sum_by,
+};
 ghost use Rattle.flat_model.specs.Path.{Path};
-ghost use Rattle.flat_model.specs.Counts.{current, populated, members, children, IsInhabited};
+ghost use Rattle.flat_model.specs.Counts.{
+  current,
+  populated,
+  members,
+  descendant_count,
+  children,
+  IsInhabited,
+};
 ghost use Rattle.flat_model.specs.Command.{Command, Undo, OverPidsMax, Undone, changes};
 ghost use Rattle.flat_model.specs.Step.{refusal};
-ghost use Rattle.flat_model.specs.Machine.{Machine, new_machine, tick, replies, end_of, after_all, undos, TakesBackItsOwn};
+ghost use Rattle.flat_model.specs.Machine.{
+  Machine,
+  new_machine,
+  tick,
+  replies,
+  end_of,
+  after_all,
+  undos,
+  TakesBackItsOwn,
+};
 ghost use Rattle.flat_model.specs.WellFormed.{MachineWellFormed};
+ghost use Rattle.flat_model.specs.Events.{EventsBounded};
 
-/// A recorded command and then its undo give the machine back as it was, from any machine: an accepted one, and a fork
-/// that `pids.max` refused.
+/// A recorded command and then its undo give the machine back as it was, from any machine: an
+/// accepted one, and a fork that `pids.max` refused.
 pub fn one_undone()
-    ensures accepted { (slots : ℕ) (m : Machine) (c : Command) → refusal slots m.state c ≡ None → changes c ≡ true → tick slots (tick slots m c).0 Undo ≡ (m, Undone c) }
-    ensures counted { (slots : ℕ) (m : Machine) (c : Command) (a : Path) → refusal slots m.state c ≡ Some (OverPidsMax a) → tick slots (tick slots m c).0 Undo ≡ (m, Undone c) }
+    ensures accepted { (slots : ℕ) (m : Machine) (c : Command) → refusal slots m.state c ≡ None
+        → changes c ≡ true → tick slots (tick slots m c).0 Undo ≡ (m, Undone c) }
+    ensures counted { (slots : ℕ) (m : Machine) (c : Command) (a : Path)
+        → refusal slots m.state c ≡ Some (OverPidsMax a)
+        → tick slots (tick slots m c).0 Undo ≡ (m, Undone c) }
 {}
 
-/// A run, and then as many undos as it left records, give back the state and the past before it, whatever undos it had
-/// inside that took back only its own records. Undoing everything gives the start.
+/// A run, and then as many undos as it left records, give back the state and the past before it,
+/// whatever undos it had inside that took back only its own records. Undoing everything gives the
+/// start.
 pub fn run_undone()
-    ensures run { (slots : ℕ) (m : Machine) (cs : List Command) → TakesBackItsOwn slots (length m.past) m cs → end_of slots (end_of slots m cs) (undos (length (end_of slots m cs).past - length m.past)) ≡ m }
-    ensures all { (slots : ℕ) (cs : List Command) → end_of slots (after_all slots cs) (undos (length (after_all slots cs).past)) ≡ new_machine }
-    ensures answers { (slots : ℕ) (m : Machine) → replies slots m (undos (length m.past)) ≡ map (λ e. Undone e.0) m.past }
+    ensures run { (slots : ℕ) (m : Machine) (cs : List Command)
+        → TakesBackItsOwn slots (length m.past) m cs
+        → end_of slots (end_of slots m cs) (undos (length (end_of slots m cs).past - length m.past))
+        ≡ m }
+    ensures all { (slots : ℕ) (cs : List Command)
+        → end_of slots (after_all slots cs) (undos (length (after_all slots cs).past))
+        ≡ new_machine }
+    ensures answers { (slots : ℕ) (m : Machine)
+        → replies slots m (undos (length m.past)) ≡ map (λ e. Undone e.0) m.past }
 {}
 
-/// In every state that commands reach, undo among them, the state is well formed, and so is each that an undo can give
-/// back; each group's count is its own members and what its children count, and `populated` says whether there is one.
+/// In every state that commands reach, undo among them, the state is well formed, and so is each
+/// that an undo can give back; each group's count is its own members and what its children count,
+/// `populated` says whether there is one, and its descendants are its children and theirs.
 pub fn reachable_is_exact()
-    ensures kept { (slots : ℕ) (m : Machine) (c : Command) → MachineWellFormed slots m → MachineWellFormed slots (tick slots m c).0 }
-    ensures well_formed { (slots : ℕ) (cs : List Command) → MachineWellFormed slots (after_all slots cs) }
-    ensures current { (slots : ℕ) (cs : List Command) (g : Path) → let s = (after_all slots cs).state in current s g ≡ length (members s g) + sum_by (current s) (children s g) }
-    ensures populated { (slots : ℕ) (cs : List Command) (g : Path) → let s = (after_all slots cs).state in (populated s g ≡ true) ↔ IsInhabited s g }
+    ensures kept { (slots : ℕ) (m : Machine) (c : Command) → MachineWellFormed slots m
+        → MachineWellFormed slots (tick slots m c).0 }
+    ensures well_formed { (slots : ℕ) (cs : List Command)
+        → MachineWellFormed slots (after_all slots cs) }
+    ensures current { (slots : ℕ) (cs : List Command) (g : Path)
+        → let s = (after_all slots cs).state in current s g
+        ≡ length (members s g) + sum_by (current s) (children s g) }
+    ensures populated { (slots : ℕ) (cs : List Command) (g : Path)
+        → let s = (after_all slots cs).state in (populated s g ≡ true) ↔ IsInhabited s g }
+    ensures descendants { (slots : ℕ) (cs : List Command) (g : Path)
+        → let s = (after_all slots cs).state in descendant_count s g
+        ≡ length (children s g) + sum_by (descendant_count s) (children s g) }
+{}
+
+/// Each event total is at most the number of commands recorded until then: in the state now, and in
+/// each that an undo can give back.
+pub fn events_are_bounded()
+    ensures kept { (slots : ℕ) (m : Machine) (c : Command) → EventsBounded m
+        → EventsBounded (tick slots m c).0 }
+    ensures bounded { (slots : ℕ) (cs : List Command) → EventsBounded (after_all slots cs) }
 {}

@@ -1,10 +1,38 @@
 //! The laws of paths and of their texts. Each function says its law and does nothing.
 
-ghost use Rattle.std.specs.Prelude.{◌≡◌, ℕ, ◌≤◌, true, false, ◌⊎◌, ◌↔◌, List, [], ◌∷◌, ◌++◌, length, take, Ok};
+ghost use Rattle.std.specs.Prelude.{
+  ◌≡◌,
+  ℕ,
+  ◌≤◌,
+  true,
+  false,
+  ◌⊎◌,
+  ◌↔◌,
+  List,
+  [],
+  ◌∷◌,
+  ◌++◌,
+  length,
+  take,
+  Ok,
+};
 ghost use Rattle.std.specs.Cmp.{IsTotalOrder};
 ghost use Rattle.std.specs.FinMap.{IsAntisymmetric};
 ghost use Rattle.std.specs.List.{Contains};
-ghost use Rattle.flat_model.specs.Path.{Name, Path, name_cmp, path_cmp, same_name, same_path, at_or_below, strictly_below, HasPrefix, parent, prefixes, upward};
+ghost use Rattle.flat_model.specs.Path.{
+  Name,
+  Path,
+  name_cmp,
+  path_cmp,
+  same_name,
+  same_path,
+  at_or_below,
+  strictly_below,
+  HasPrefix,
+  parent,
+  prefixes,
+  upward,
+};
 ghost use Rattle.flat_model.specs.PathText.{IsPath, path_text, read_path, child_path};
 
 /// Names and paths each stand in one order, and only equal ones tie in it.
@@ -20,16 +48,19 @@ pub fn paths_are_ordered()
 /// A group is at or below another where the other's names begin its own.
 pub fn below_is_prefix()
     ensures test { (p q : Path) → (at_or_below p q ≡ true) ↔ HasPrefix p q }
-    ensures strictly { (p q : Path) → (strictly_below p q ≡ true) ↔ ((at_or_below p q ≡ true) × (same_path p q ≡ false)) }
+    ensures strictly { (p q : Path)
+        → (strictly_below p q ≡ true) ↔ ((at_or_below p q ≡ true) × (same_path p q ≡ false)) }
     ensures itself { (p : Path) → at_or_below p p ≡ true }
-    ensures through { (p q r : Path) → at_or_below p q ≡ true → at_or_below q r ≡ true → at_or_below p r ≡ true }
+    ensures through { (p q r : Path) → at_or_below p q ≡ true → at_or_below q r ≡ true
+        → at_or_below p r ≡ true }
     ensures both { (p q : Path) → at_or_below p q ≡ true → at_or_below q p ≡ true → p ≡ q }
     ensures front { (n : ℕ) (p : Path) → at_or_below p (take n p) ≡ true }
     ensures parent { (p : Path) → at_or_below p (parent p) ≡ true }
     ensures child { (p : Path) (name : Name) → parent (p ++ name ∷ []) ≡ p }
 
     // The groups above one group stand in a line.
-    ensures line { (p q r : Path) → at_or_below p q ≡ true → at_or_below p r ≡ true → (at_or_below q r ≡ true) ⊎ (at_or_below r q ≡ true) }
+    ensures line { (p q r : Path) → at_or_below p q ≡ true → at_or_below p r ≡ true
+        → (at_or_below q r ≡ true) ⊎ (at_or_below r q ≡ true) }
     ensures shorter { (p q : Path) → at_or_below p q ≡ true → length q ≤ length p }
 {}
 
@@ -46,9 +77,11 @@ pub fn path_is_read_back()
     ensures apart { (p q : Path) → IsPath p → IsPath q → path_text p ≡ path_text q → p ≡ q }
 {}
 
-/// The first names of a path are a path, and a name below it is one exactly where it is in the grammar.
+/// The first names of a path are a path, and a name below it is one exactly where it is in the
+/// grammar.
 pub fn neighbours_are_paths()
     ensures front { (n : ℕ) (p : Path) → IsPath p → IsPath (take n p) }
-    ensures child { (p : Path) (name : Name) → IsPath p → (child_path p name ≡ Ok (p ++ name ∷ [])) ↔ IsPath (p ++ name ∷ []) }
+    ensures child { (p : Path) (name : Name) → IsPath p
+        → (child_path p name ≡ Ok (p ++ name ∷ [])) ↔ IsPath (p ++ name ∷ []) }
     ensures only { (p q : Path) (name : Name) → child_path p name ≡ Ok q → q ≡ p ++ name ∷ [] }
 {}

@@ -1,43 +1,132 @@
 //! The laws of states: what commands keep, what the counts are, and what the limits let through.
 
-ghost use Rattle.std.specs.Prelude.{◌≡◌, ℕ, ◌+◌, ◌↔◌, true, false, Some, None, length, sum_by};
+ghost use Rattle.std.specs.Prelude.{
+  ◌≡◌,
+  ◌≢◌,
+  ℕ,
+  ◌+◌,
+  ◌↔◌,
+  true,
+  false,
+  [],
+  Some,
+  None,
+  length,
+  sum_by,
+};
 ghost use Rattle.std.specs.FinMap.{get};
 ghost use Rattle.flat_model.specs.Path.{Path, at_or_below, parent};
-ghost use Rattle.flat_model.specs.State.{State, start};
-ghost use Rattle.flat_model.specs.Counts.{current, populated, members, children, IsInhabited};
-ghost use Rattle.flat_model.specs.Command.{Command, MakeGroup, Fork, Kill, Refusal, Descendants, Depth, OverPidsMax};
+ghost use Rattle.flat_model.specs.State.{State, Attr, Unlimited, start};
+ghost use Rattle.flat_model.specs.Counts.{
+  is_group,
+  current,
+  populated,
+  members,
+  descendant_count,
+  children,
+  IsInhabited,
+};
+ghost use Rattle.flat_model.specs.Command.{
+  Command,
+  MakeGroup,
+  Fork,
+  Kill,
+  Refusal,
+  Descendants,
+  Depth,
+  OverPidsMax,
+  is_counted,
+};
 ghost use Rattle.flat_model.specs.Step.{refusal, after, after_refusal, home_of};
 ghost use Rattle.flat_model.specs.WellFormed.{WellFormed};
-ghost use Rattle.flat_model.specs.Limiting.{IsWithinPids, IsLimiting, HasRoomBelow, MeetsDescendants, MeetsDepth};
+ghost use Rattle.flat_model.specs.Events.{IsCounted};
+ghost use Rattle.flat_model.specs.Limiting.{
+  IsWithinPids,
+  IsLimiting,
+  HasRoomBelow,
+  MeetsDescendants,
+  MeetsDepth,
+};
 
-/// Every command keeps a state well formed: the root is a group, the parents of groups and the homes of processes are
-/// groups, there are at most as many groups beside the root as there are slots, and no total is below its local one.
+/// Every command keeps a state well formed: the root is a group, the parents of groups and the
+/// homes of processes are groups, there are at most as many groups beside the root as there are
+/// slots, and no total is below its local one.
 pub fn well_formed_kept()
     ensures start { (slots : ℕ) → WellFormed slots start }
-    ensures accepted { (slots : ℕ) (s : State) (c : Command) → WellFormed slots s → refusal slots s c ≡ None → WellFormed slots (after s c) }
-    ensures refused { (slots : ℕ) (s : State) (c : Command) (r : Refusal) → WellFormed slots s → refusal slots s c ≡ Some r → WellFormed slots (after_refusal s r) }
+    ensures accepted { (slots : ℕ) (s : State) (c : Command) → WellFormed slots s
+        → refusal slots s c ≡ None → WellFormed slots (after s c) }
+    ensures refused { (slots : ℕ) (s : State) (c : Command) (r : Refusal) → WellFormed slots s
+        → refusal slots s c ≡ Some r → WellFormed slots (after_refusal s r) }
 {}
 
-/// `pids.current` counts each process once: a group's own members, and what its children count. `populated` says
-/// whether there is one.
+/// `pids.current` counts each process once: a group's own members, and what its children count.
+/// `populated` says whether there is one. The descendants of a group are its children and theirs.
 pub fn counts_are_exact()
-    ensures whole { (slots : ℕ) (s : State) → WellFormed slots s → (g : Path) → current s g ≡ length (members s g) + sum_by (current s) (children s g) }
+    ensures whole { (slots : ℕ) (s : State) → WellFormed slots s → (g : Path)
+        → current s g ≡ length (members s g) + sum_by (current s) (children s g) }
     ensures populated { (s : State) (g : Path) → (populated s g ≡ true) ↔ IsInhabited s g }
+    ensures descendants { (slots : ℕ) (s : State) → WellFormed slots s → (g : Path)
+        → descendant_count s g
+        ≡ length (children s g) + sum_by (descendant_count s) (children s g) }
+{}
+
+/// At the start there is the root alone, without limits, and process 1 in it. A new group has no
+/// limits and no events, and leaves all else as it was.
+pub fn new_groups_are_bare()
+    ensures root { get start.groups []
+        ≡ Some (record {
+          limits = record { pids = Unlimited; descendants = Unlimited; depth = Unlimited };
+          local = 0;
+          total = 0;
+        }) }
+    ensures root_alone { (p : Path) → is_group start p ≡ true → p ≡ [] }
+    ensures process { (pid : ℕ) (p : Path) → get start.home pid ≡ Some p ↔ (pid ≡ 1) × (p ≡ []) }
+    ensures made { (s : State) (p : Path) → get (after s (MakeGroup p)).groups p
+        ≡ Some (record {
+          limits = record { pids = Unlimited; descendants = Unlimited; depth = Unlimited };
+          local = 0;
+          total = 0;
+        }) }
+    ensures others { (s : State) (p q : Path) → q ≢ p
+        → get (after s (MakeGroup p)).groups q ≡ get s.groups q }
+    ensures home { (s : State) (p : Path) → (after s (MakeGroup p)).home ≡ s.home }
+{}
+
+/// A fork that `pids.max` refuses raises the local total of the group that it names, and the total
+/// of that group and of each above it but the root; nothing else changes. No other refusal changes
+/// anything.
+pub fn events_are_exact()
+    ensures counted { (s : State) (a p : Path) (x : Attr) → get s.groups p ≡ Some x → (y : Attr)
+        × (get (after_refusal s (OverPidsMax a)).groups p ≡ Some y) × IsCounted a p x y }
+    ensures absent { (s : State) (a p : Path) → get s.groups p ≡ None
+        → get (after_refusal s (OverPidsMax a)).groups p ≡ None }
+    ensures home { (s : State) (a : Path) → (after_refusal s (OverPidsMax a)).home ≡ s.home }
+    ensures others { (s : State) (r : Refusal) → is_counted r ≡ false → after_refusal s r ≡ s }
 {}
 
 /// A kill leaves nobody in the group and below it, and everybody else where they are.
 pub fn kill_is_whole()
     ensures nobody { (s : State) (g : Path) → populated (after s (Kill g)) g ≡ false }
-    ensures others { (s : State) (g : Path) (pid : ℕ) (p : Path) → get s.home pid ≡ Some p → at_or_below p g ≡ false → get (after s (Kill g)).home pid ≡ Some p }
+    ensures others { (s : State) (g : Path) (pid : ℕ) (p : Path) → get s.home pid ≡ Some p
+        → at_or_below p g ≡ false → get (after s (Kill g)).home pid ≡ Some p }
 {}
 
-/// A limit refuses exactly what would break it, and names the group that it stands at.
+/// A limit refuses exactly what would break it, and names the group that it stands at: the nearest
+/// at or above the fork or the new group. At one group descendants come before depth.
 pub fn limits_are_exact()
-    ensures fork { (slots : ℕ) (s : State) (from child : ℕ) → refusal slots s (Fork from child) ≡ None → IsWithinPids (after s (Fork from child)) (home_of s from) }
+    ensures fork { (slots : ℕ) (s : State) (from child : ℕ)
+        → refusal slots s (Fork from child) ≡ None
+        → IsWithinPids (after s (Fork from child)) (home_of s from) }
 
-    // Only a fork is refused by `pids.max`, and the group that is named is the nearest that the fork would bring past it.
-    ensures fork_refused { (slots : ℕ) (s : State) (c : Command) (a : Path) → refusal slots s c ≡ Some (OverPidsMax a) → (from : ℕ) × (child : ℕ) × (c ≡ Fork from child) × IsLimiting s (home_of s from) a }
-    ensures make { (slots : ℕ) (s : State) (p : Path) → refusal slots s (MakeGroup p) ≡ None → HasRoomBelow s (parent p) }
-    ensures descendants { (slots : ℕ) (s : State) (p a : Path) → refusal slots s (MakeGroup p) ≡ Some (Descendants a) → MeetsDescendants s (parent p) a }
-    ensures depth { (slots : ℕ) (s : State) (p a : Path) → refusal slots s (MakeGroup p) ≡ Some (Depth a) → MeetsDepth s (parent p) a }
+    // Only a fork is refused by `pids.max`, and the group that is named is the nearest that the
+    // fork would bring past it.
+    ensures fork_refused { (slots : ℕ) (s : State) (c : Command) (a : Path)
+        → refusal slots s c ≡ Some (OverPidsMax a)
+        → (from : ℕ) × (child : ℕ) × (c ≡ Fork from child) × IsLimiting s (home_of s from) a }
+    ensures make { (slots : ℕ) (s : State) (p : Path) → refusal slots s (MakeGroup p) ≡ None
+        → HasRoomBelow s (parent p) }
+    ensures descendants { (slots : ℕ) (s : State) (p a : Path)
+        → refusal slots s (MakeGroup p) ≡ Some (Descendants a) → MeetsDescendants s (parent p) a }
+    ensures depth { (slots : ℕ) (s : State) (p a : Path)
+        → refusal slots s (MakeGroup p) ≡ Some (Depth a) → MeetsDepth s (parent p) a }
 {}

@@ -1,14 +1,42 @@
-//! The laws of the texts of values, files and commands. Each function says its law and does nothing.
+//! The laws of the texts of values, files and commands. Each function says its law and does
+//! nothing.
 
-ghost use Rattle.std.specs.Prelude.{◌≡◌, ℕ, List, Some, Ok, codes, decimal, flat_map, map};
+ghost use Rattle.std.specs.Prelude.{
+  ◌≡◌,
+  ◌↔◌,
+  ℕ,
+  false,
+  List,
+  Some,
+  Ok,
+  Err,
+  codes,
+  decimal,
+  flat_map,
+  map,
+};
 ghost use Rattle.std.specs.List.{AllByRecursion};
+ghost use Rattle.flat_model.specs.Path.{Path};
 ghost use Rattle.flat_model.specs.State.{Limit};
-ghost use Rattle.flat_model.specs.File.{LimitFile, File, file_name, file_named};
+ghost use Rattle.flat_model.specs.File.{LimitFile, File, file_name, file_named, readable, writable};
 ghost use Rattle.flat_model.specs.FileText.{line, limit_text};
 ghost use Rattle.flat_model.specs.Values.{trimmed, read_pid, read_limit, read_kill};
 ghost use Rattle.flat_model.specs.Command.{Command};
-ghost use Rattle.flat_model.specs.CommandText.{IsPid, IsLimit, IsSayable, command_text};
-ghost use Rattle.flat_model.specs.Trace.{read_line, read_trace, Run};
+ghost use Rattle.flat_model.specs.CommandText.{
+  IsPid,
+  IsLimit,
+  IsLimitText,
+  IsSayable,
+  command_text,
+};
+ghost use Rattle.flat_model.specs.Trace.{
+  BadDirection,
+  Run,
+  write_of,
+  show_of,
+  read_line,
+  read_trace,
+};
 
 /// A pid is read from its decimal, and from no other text but for spaces at both ends.
 pub fn pid_is_read_back()
@@ -21,10 +49,16 @@ pub fn kill_is_one()
     ensures { (t : List ℕ) (n : ℕ) → read_kill t ≡ Ok n → trimmed t ≡ codes "1" }
 {}
 
-/// A limit is read from the text that its file shows, and each limit that is read is one of the file.
+/// A limit is read from the text that its file shows, and from no other but for spaces at both ends
+/// and the greatest number of a hierarchy limit, which is no limit. Each limit that is read is one
+/// of the file.
 pub fn limit_is_read_back()
-    ensures read { (file : LimitFile) (l : Limit) → IsLimit file l → read_limit file (limit_text l) ≡ Ok l }
-    ensures only { (file : LimitFile) (t : List ℕ) (l : Limit) → read_limit file t ≡ Ok l → IsLimit file l }
+    ensures read { (file : LimitFile) (l : Limit) → IsLimit file l
+        → read_limit file (limit_text l) ≡ Ok l }
+    ensures only { (file : LimitFile) (t : List ℕ) (l : Limit) → read_limit file t ≡ Ok l
+        → IsLimit file l }
+    ensures text { (file : LimitFile) (t : List ℕ) (l : Limit) → read_limit file t ≡ Ok l
+        → IsLimitText file l (trimmed t) }
 {}
 
 /// A file is found by its name alone.
@@ -33,14 +67,26 @@ pub fn file_is_read_back()
     ensures only { (name : List ℕ) (f : File) → file_named name ≡ Some f → name ≡ file_name f }
 {}
 
-/// The text of a command is read as that command, no two commands have one text, and each command that is read has a text.
+/// A write is refused for its direction exactly where the file is not written, whatever the value,
+/// and `cat` where it is not read.
+pub fn direction_is_of_the_file()
+    ensures written { (p : Path) (file : File) (value : List ℕ)
+        → (write_of p file value ≡ Err BadDirection) ↔ (writable file ≡ false) }
+    ensures shown { (p : Path) (file : File)
+        → (show_of p file ≡ Err BadDirection) ↔ (readable file ≡ false) }
+{}
+
+/// The text of a command is read as that command, no two commands have one text, and each command
+/// that is read has a text.
 pub fn command_is_read_back()
     ensures read { (c : Command) → IsSayable c → read_line (command_text c) ≡ Run c }
-    ensures apart { (c d : Command) → IsSayable c → IsSayable d → command_text c ≡ command_text d → c ≡ d }
+    ensures apart { (c d : Command) → IsSayable c → IsSayable d → command_text c ≡ command_text d
+        → c ≡ d }
     ensures only { (t : List ℕ) (c : Command) → read_line t ≡ Run c → IsSayable c }
 {}
 
 /// The texts of commands, each with a line feed, are a trace of these commands.
 pub fn trace_is_read_back()
-    ensures { (cs : List Command) → AllByRecursion IsSayable cs → read_trace (flat_map (λ c. line (command_text c)) cs) ≡ map Run cs }
+    ensures { (cs : List Command) → AllByRecursion IsSayable cs
+        → read_trace (flat_map (λ c. line (command_text c)) cs) ≡ map Run cs }
 {}

@@ -1,5 +1,6 @@
 use Rattle.flat_model.specs.Machine.{after_all}
 use Rattle.flat_model.proofs.Counting.{current_is, populated_is}
+use Rattle.flat_model.proofs.Descendants.{descendants_are}
 use Rattle.flat_model.proofs.Reachable.{tick_well, reached_well}
 use Rattle.flat_model.proofs.machine.reachable_is_exact.Goals as goal
 
@@ -9,4 +10,5 @@ returns c = record {
   well_formed = reached_well;
   current = λ slots cs. current_is slots (after_all slots cs).state (reached_well slots cs).0;
   populated = λ slots cs. populated_is (after_all slots cs).state;
+  descendants = λ slots cs. descendants_are slots (after_all slots cs).state (reached_well slots cs).0;
 }

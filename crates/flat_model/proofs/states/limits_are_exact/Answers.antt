@@ -1,6 +1,7 @@
 use Rattle.std.proofs.Common.{refl}
 use Rattle.flat_model.specs.Command.{Descendants, Depth}
-use Rattle.flat_model.proofs.Limits.{fork_within, fork_refused, make_fits, make_refused}
+use Rattle.flat_model.proofs.Limits.{fork_within, fork_refused}
+use Rattle.flat_model.proofs.HierarchyLimits.{make_fits, make_refused}
 use Rattle.flat_model.proofs.states.limits_are_exact.Goals as goal
 
 pub returns : goal.returns
