@@ -2,7 +2,7 @@
 use Rattle.std.proofs.Common.{◌≡◌, ℕ, ◌+◌, ◌<◌, ◌≤◌, true, false, nat_le, nat_lt, List, [], ◌∷◌, ◌++◌, length, refl, ap, sym, ◌∙◌, arith, Option, Some, None, Ok, Err, length-append}
 use Rattle.flat_model.specs.Path.{Name, Path}
 use Rattle.flat_model.specs.PathText as grammar
-use Rattle.flat_model.specs.PathText.{IsPath, names_in, spelled, path_text, path_fault, name_fault, child_fault, depth_max, text_max}
+use Rattle.flat_model.specs.PathText.{IsPath, names_in, spelled, path_text, path_fault, name_fault, child_fault, name_max, depth_max, text_max}
 use Rattle.flat_model.specs.Refuse.{refuse, unless}
 use Rattle.flat_model.proofs.PathTextLaws.{refuse_passed, option_or_passed, sound, names_in-path_text, path_fault-path_text}
 use Rattle.flat_model.proofs.PathTextLawsChild.{path_text-child, sound_child}
@@ -62,7 +62,7 @@ child_is : (p : Path) (name : Name) (u : Unit {0}) → IsPath p → checked (chi
 child_is p name u h e = sound_child p name h (no_fault (child_fault p name) u e)
 
 -- so its text is short enough for its length to be a number of the machine
-pub child_short : (p : Path) (name : Name) (u : Unit {0}) → IsPath p → checked (child_fault p name) ≡ Ok u → length (spelled p) + length name ≤ 4350
+pub child_short : (p : Path) (name : Name) (u : Unit {0}) → IsPath p → checked (child_fault p name) ≡ Ok u → length (spelled p) + length name ≤ text_max + name_max
 child_short p name u h e =
     let s = (child_is p name u h e).short in
     let l = ap length (path_text-child p name) ∙ length-append (spelled p) (47 ∷ name) in

@@ -14,7 +14,7 @@ use Rattle.flat_model.proofs.PathTextLawsChild.{length-spelled-take}
 deep_by : (t : Bool) (f : PathFault) (r s : Option PathFault) → t ≡ true → refuse t f r ≡ refuse t f s
 deep_by t f r s e = ap (λ b. refuse b f r) e ∙ sym (ap (λ b. refuse b f s) e)
 
--- what stands behind the 33rd name changes no answer
+-- what stands behind one name too many changes no answer
 front_fault : (m count here : ℕ) (names : List Name) → count + m ≡ depth_max → names_fault count here names ≡ names_fault count here (take (suc m) names)
 front_fault m count here [] e = refl
 front_fault zero count here (n ∷ names) e =
@@ -24,14 +24,14 @@ front_fault (suc m) count here (n ∷ names) e =
     let k : count + 1 + m ≡ depth_max = omega arith in
     ap (λ r. refuse (count == depth_max) TooDeep (option_or (name_fault here n) r)) (front_fault m (count + 1) (here + (length n + 1)) names k)
 
--- the fault of the 33 names that are looked at is that of all
-pub names_fault-front : (bytes : List ℕ) (names : List Name) → names ≡ take 33 (slice_split is_slash bytes) → names_fault 0 1 (slice_split is_slash bytes) ≡ names_fault 0 1 names
-names_fault-front bytes names e = front_fault 32 0 1 (slice_split is_slash bytes) refl ∙ ap (names_fault 0 1) (sym e)
+-- the fault of the names that are looked at, one more than there may be, is that of all
+pub names_fault-front : (bytes : List ℕ) (names : List Name) → names ≡ take (suc depth_max) (slice_split is_slash bytes) → names_fault 0 1 (slice_split is_slash bytes) ≡ names_fault 0 1 names
+names_fault-front bytes names e = front_fault depth_max 0 1 (slice_split is_slash bytes) refl ∙ ap (names_fault 0 1) (sym e)
 
 -- what spells them is no longer than the text
-pub spelled_front : (bytes : List ℕ) (names : List Name) → names ≡ take 33 (slice_split is_slash bytes) → length (spelled names) ≤ length bytes + 1
+pub spelled_front : (bytes : List ℕ) (names : List Name) → names ≡ take (suc depth_max) (slice_split is_slash bytes) → length (spelled names) ≤ length bytes + 1
 spelled_front bytes names e =
-    let k = length-spelled-take 33 (slice_split is_slash bytes) in
+    let k = length-spelled-take (suc depth_max) (slice_split is_slash bytes) in
     let whole = ap length (glued bytes) in
     subst (λ (x : List Name). length (spelled x) ≤ length bytes + 1) (sym e) (omega arith)
 

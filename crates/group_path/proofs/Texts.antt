@@ -2,7 +2,7 @@
 use Rattle.std.proofs.Common.{◌≡◌, ℕ, ◌<◌, ◌≤◌, max, List, [], ◌∷◌, length, take, refl, ap, ◌∙◌, arith, subst, None, length-append}
 use Rattle.std.proofs.lemmas.List.{take_all}
 use Rattle.flat_model.specs.Path.{Path}
-use Rattle.flat_model.specs.PathText.{IsPath, names_in, spelled, path_text, path_fault}
+use Rattle.flat_model.specs.PathText.{IsPath, names_in, spelled, path_text, path_fault, depth_max, text_max}
 use Rattle.flat_model.proofs.PathTextLaws.{sound}
 use Rattle.flat_model.proofs.PathTextLawsChild.{length-spelled-take}
 
@@ -15,8 +15,8 @@ pub path_is : (items : List ℕ) (p : Path) → names_in items ≡ p → path_fa
 path_is items p e h = subst IsPath e (sound items h).path
 
 -- a path has no more names than the bound
-pub all_names : (p : Path) → IsPath p → take 32 p ≡ p
-all_names p h = take_all 32 p h.shallow
+pub all_names : (p : Path) → IsPath p → take depth_max p ≡ p
+all_names p h = take_all depth_max p h.shallow
 
 -- more than a slash means names
 long_by : (p : Path) → 1 < length (path_text p) → path_text p ≡ spelled p
@@ -33,7 +33,7 @@ length-path_text [] = refl
 length-path_text (n ∷ p) = let e = length-append (47 ∷ n) (spelled p) in omega arith
 
 -- the first names are spelled in no more bytes than a text may have
-pub short_front : (n : ℕ) (p : Path) → IsPath p → length (spelled (take n p)) ≤ 4095
+pub short_front : (n : ℕ) (p : Path) → IsPath p → length (spelled (take n p)) ≤ text_max
 short_front n p h =
     let a = length-spelled-take n p in
     let b = length-path_text p in
@@ -43,3 +43,11 @@ short_front n p h =
 -- the bytes counted, and one for the root
 pub length_is : (n : ℕ) (p : Path) (len result : ℕ) → len ≡ length (spelled (take n p)) → result ≡ max len 1 → result ≡ length (path_text (take n p))
 length_is n p len result e r = r ∙ ap (λ m. max m 1) e ∙ length-path_text (take n p)
+
+-- the text of the root has no fault
+slash_alone : path_fault (47 ∷ []) ≡ None
+unfolding path_fault
+slash_alone = refl
+
+pub root_faultless : (text : List ℕ) → text ≡ 47 ∷ [] → path_fault text ≡ None
+root_faultless text e = ap path_fault e ∙ slash_alone

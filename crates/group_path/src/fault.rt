@@ -1,6 +1,9 @@
+//! Why a text is no path.
+
 ghost use Rattle.std.specs.Prelude.{◌≡◌};
 ghost use Rattle.group_path.specs.declared.fault.PathFault.TheVariants.{OutOfMemory};
 
+use crate::grammar::{DEPTH_MAX, NAME_MAX, TEXT_MAX};
 use std::alloc::AllocError;
 use thiserror::Error;
 
@@ -22,14 +25,14 @@ pub enum PathFault {
     /// A name begins with `cgroup.` or `pids.`, as the kernel's interface files do.
     #[error("a name begins with `cgroup.` or `pids.`")]
     Reserved,
-    /// A name has more than 255 bytes.
-    #[error("a name has more than 255 bytes")]
+    /// A name has more than `NAME_MAX` bytes.
+    #[error("a name has more than {max} bytes", max = NAME_MAX)]
     NameTooLong,
-    /// There are more than 32 names.
-    #[error("there are more than 32 names")]
+    /// There are more than `DEPTH_MAX` names.
+    #[error("there are more than {max} names", max = DEPTH_MAX)]
     TooDeep,
-    /// The text has more than 4,095 bytes.
-    #[error("the path has more than 4,095 bytes")]
+    /// The text has more than `TEXT_MAX` bytes.
+    #[error("the path has more than {max} bytes", max = TEXT_MAX)]
     TooLong,
     /// There was no memory for the path.
     #[error("out of memory")]

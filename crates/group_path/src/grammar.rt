@@ -2,7 +2,7 @@
 
 ghost use Rattle.std.specs.Prelude.{◌≡◌, ◌+◌, ◌<◌, ◌≤◌, ◌^◌, length};
 ghost use Rattle.std.specs.List.{position_from, slice_split};
-ghost use Rattle.flat_model.specs.PathText.{is_slash, is_name_byte, is_bad_byte, is_dots, is_reserved, name_fault, names_fault, path_fault};
+ghost use Rattle.flat_model.specs.PathText.{is_slash, is_name_byte, is_bad_byte, is_dots, is_reserved, text_max, name_fault, names_fault, path_fault};
 ghost use Rattle.group_path.specs.Answers.{checked};
 
 use crate::fault::PathFault;
@@ -76,7 +76,7 @@ pub(crate) fn check_name(at: usize, name: &[u8]) -> Result<(), PathFault>
 
 /// Tests the names behind the first slash of a text.
 fn check_names(names: &[u8]) -> Result<(), PathFault>
-    requires { length names.now < 4095 }
+    requires { length names.now < text_max }
     ensures { result ≡ checked (names_fault 0 1 (slice_split is_slash names.now)) }
 {
     let mut at = 1;

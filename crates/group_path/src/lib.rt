@@ -22,6 +22,7 @@
 //! (texts, the grammar, the first fault). `specs/Answers.antt` here says how a call answers one of those faults.
 #![tactic(auto)]
 
+mod child;
 mod fault;
 mod grammar;
 mod names;
@@ -32,6 +33,3 @@ pub use fault::PathFault;
 pub use grammar::{DEPTH_MAX, NAME_MAX, TEXT_MAX};
 pub use names::Names;
 pub use path::GroupPath;
-
-#[cfg(test)]
-mod tests;

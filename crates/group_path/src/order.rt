@@ -1,3 +1,5 @@
+//! When paths are equal, and their order.
+
 ghost use Rattle.std.specs.Prelude.{Some, refl};
 ghost use Rattle.std.specs.Cmp as laws;
 ghost use Rattle.std.specs.Cmp.Lexicographic.{lists_total, nat_list_cmp_total};

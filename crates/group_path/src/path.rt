@@ -1,10 +1,12 @@
-ghost use Rattle.std.specs.Prelude.{◌≡◌, ℕ, ◌+◌, ◌≤◌, [], ◌∷◌, ◌++◌, true, if◌then◌else◌, length, take, IfOk, MatchResult};
+//! A path, and what is read from it.
+
+ghost use Rattle.std.specs.Prelude.{◌≡◌, ℕ, ◌≤◌, [], true, if◌then◌else◌, length, take, IfOk, MatchResult};
 ghost use Rattle.flat_model.specs.Path.{Path, at_or_below, is_root, parent, same_path};
-ghost use Rattle.flat_model.specs.PathText.{IsPath, path_text, spelled, read_path, child_fault, child_path};
-ghost use Rattle.group_path.specs.Answers.{Answers, checked};
+ghost use Rattle.flat_model.specs.PathText.{IsPath, path_text, read_path};
+ghost use Rattle.group_path.specs.Answers.{Answers};
 
 use crate::fault::PathFault;
-use crate::grammar::{DEPTH_MAX, TEXT_MAX, check_name, check_text};
+use crate::grammar::{DEPTH_MAX, check_text};
 use crate::names::Names;
 use std::alloc::{AllocError, Allocator};
 use std::marker::Model;
@@ -12,7 +14,7 @@ use std::marker::Model;
 /// A path of a group, from the root down: the root itself is `/`.
 #[derive(Drop)]
 pub struct GroupPath<A: Allocator + Clone> {
-    text: Vec<u8, A>,
+    pub(crate) text: Vec<u8, A>,
 }
 
 impl<A: Allocator + Clone> Model for GroupPath<A> {
@@ -26,23 +28,15 @@ impl<A: Allocator + Clone> Model for GroupPath<A> {
     ghost invariant = { λ p. path_fault p.text.items ≡ None };
 }
 
-/// A text, a slash and a name.
-fn joined<A: Allocator + Clone>(
-    alloc: A,
-    front: &[u8],
-    name: &[u8],
-) -> Result<Vec<u8, A>, AllocError>
-    requires { length front.now + length name.now ≤ 4350 }
-    ensures { IfOk result (λ text. text.items ≡ front.now ++ 47 ∷ name.now) }
-{
-    let mut text = Vec::with_capacity(alloc, front.len() + 1 + name.len())?;
-    text.extend_from_slice(front)?;
-    text.extend_from_slice(b"/")?;
-    text.extend_from_slice(name)?;
-    Ok(text)
-}
-
 impl<A: Allocator + Clone> GroupPath<A> {
+    /// The path of the root, `/`.
+    pub fn root(alloc: A) -> Result<GroupPath<A>, AllocError>
+        ensures { IfOk result (λ p. p ≡ []) }
+    {
+        let text = Vec::from_slice(alloc, b"/")?;
+        Ok(GroupPath { text })
+    }
+
     /// Reads a path, in time linear in the text.
     ///
     /// # Errors
@@ -65,8 +59,8 @@ impl<A: Allocator + Clone> GroupPath<A> {
         Ok(GroupPath { text })
     }
 
-    /// Tells callers that every path is one of the grammar: at most 32 names of at most 255 bytes, and at most 4,095
-    /// bytes in all. It does nothing.
+    /// Tells callers that every path is one of the grammar, with its bounds on names, on their bytes and on the text. It
+    /// does nothing.
     pub fn known(&self)
         ensures { IsPath self.now }
     {
@@ -108,7 +102,7 @@ impl<A: Allocator + Clone> GroupPath<A> {
         self.names().count()
     }
 
-    /// Whether this group is the other one or stands somewhere below it. Linear in the other's text.
+    /// Whether this group is the other one or stands somewhere below it. Linear in both texts.
     pub fn is_at_or_below<B: Allocator + Clone>(&self, other: &GroupPath<B>) -> bool
         ensures { result ≡ at_or_below self.now other.now }
     {
@@ -145,26 +139,6 @@ impl<A: Allocator + Clone> GroupPath<A> {
         Ok(Some(GroupPath { text }))
     }
 
-    /// The group of this name below this one, in time linear in both texts.
-    ///
-    /// # Errors
-    ///
-    /// The first that holds, in this order: `EmptyName`, `BadByte` with the byte's place in the name, `NameTooLong`,
-    /// `DotName`, `Reserved`, `TooDeep`, `TooLong`, `OutOfMemory`.
-    pub fn child<B: Allocator + Clone>(
-        &self,
-        alloc: B,
-        name: &[u8],
-    ) -> Result<GroupPath<B>, PathFault>
-        ensures found { IfOk result (λ p. p ≡ self.now ++ name.now ∷ []) }
-        ensures first { Answers result (child_path self.now name.now) }
-    {
-        let _ = &self.text;
-        self.check_child(name)?;
-        let text = joined(alloc, self.spelled(), name)?;
-        Ok(GroupPath { text })
-    }
-
     /// The same path in other memory. Linear in the text.
     pub fn copy<B: Allocator + Clone>(&self, alloc: B) -> Result<GroupPath<B>, AllocError>
         ensures { IfOk result (λ p. p ≡ self.now) }
@@ -180,29 +154,6 @@ impl<A: Allocator + Clone> GroupPath<A> {
     {
         let len = self.prefix_len(n);
         self.text.truncate(len);
-    }
-
-    /// Tests one more name.
-    #[tactic(auto, unfolding(flat_model::specs::PathText::child_fault))]
-    fn check_child(&self, name: &[u8]) -> Result<(), PathFault>
-        ensures { result ≡ checked (child_fault self.now name.now) }
-    {
-        check_name(0, name)?;
-        if self.depth() >= DEPTH_MAX {
-            return Err(PathFault::TooDeep);
-        }
-        if self.spelled().len() + 1 + name.len() > TEXT_MAX {
-            return Err(PathFault::TooLong);
-        }
-        Ok(())
-    }
-
-    /// A slash before each name: the text, but nothing for the root.
-    fn spelled(&self) -> &[u8]
-        ensures { result.now ≡ spelled self.now }
-    {
-        let text = self.text.as_slice();
-        if text.len() > 1 { text } else { &text[..0] }
     }
 
     /// How many bytes the path of the first `n` names has.

@@ -6,7 +6,7 @@ use Rattle.std.specs.Cmp.Lexicographic.{nat_list_cmp_total}
 use Rattle.std.specs.FinMap as fin
 use Rattle.flat_model.specs.Path.{Name, Path, name_cmp, path_cmp}
 use Rattle.group_tree.specs.declared.attr.Attr.{Attr}
-use Rattle.group_tree.specs.Node.{Branch, Entry, under, below, groups_of, AllAbove, HasRisingNames, place_of, place_by, one_on}
+use Rattle.group_tree.specs.Node.{Branch, GroupEntry, under, below, groups_of, AllAbove, HasRisingNames, place_of, place_by, one_on}
 use Rattle.group_tree.specs.Sorted.{sorted_node}
 
 -- what the children have at a path that begins with a name
@@ -14,7 +14,7 @@ abbrev pub below_get : List Branch → Name → Path → Option Attr
 below_get [] n p = None
 below_get (kid ∷ kids) n p = cond (eq_by_cmp name_cmp n kid.name) (fin.get kid.groups p) (below_get kids n p)
 
-find_under_other : (n m : Name) (p : Path) (es fs : List Entry) → eq_by_cmp name_cmp n m ≡ false → fin.find path_cmp (n ∷ p) (under m es ++ fs) ≡ fin.find path_cmp (n ∷ p) fs
+find_under_other : (n m : Name) (p : Path) (es fs : List GroupEntry) → eq_by_cmp name_cmp n m ≡ false → fin.find path_cmp (n ∷ p) (under m es ++ fs) ≡ fin.find path_cmp (n ∷ p) fs
 find_under_other n m p [] fs h = refl
 find_under_other n m p (e ∷ es) fs h =
     elim (name_cmp n m) as (λ r. is_eq r ≡ false → cond (is_eq (ordering_then r (path_cmp p e.0))) (Some e.1) (fin.find path_cmp (n ∷ p) (under m es ++ fs)) ≡ fin.find path_cmp (n ∷ p) (under m es ++ fs)) [
@@ -23,7 +23,7 @@ find_under_other n m p (e ∷ es) fs h =
       | Greater ↦ λ k. refl
     ] h ∙ find_under_other n m p es fs h
 
-find_under_same : (n m : Name) (p : Path) (es fs : List Entry) → name_cmp n m ≡ Equal → fin.find path_cmp (n ∷ p) fs ≡ None → fin.find path_cmp (n ∷ p) (under m es ++ fs) ≡ fin.find path_cmp p es
+find_under_same : (n m : Name) (p : Path) (es fs : List GroupEntry) → name_cmp n m ≡ Equal → fin.find path_cmp (n ∷ p) fs ≡ None → fin.find path_cmp (n ∷ p) (under m es ++ fs) ≡ fin.find path_cmp p es
 find_under_same n m p [] fs h none = none
 find_under_same n m p (e ∷ es) fs h none =
     ap (λ r. cond (is_eq (ordering_then r (path_cmp p e.0))) (Some e.1) (fin.find path_cmp (n ∷ p) (under m es ++ fs))) h

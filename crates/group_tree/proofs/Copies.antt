@@ -8,6 +8,9 @@ use Rattle.group_tree.specs.Node.{Branch, under, below, groups_of, HasRisingName
 use Rattle.group_tree.specs.Sorted.{length-under}
 use Rattle.group_tree.proofs.Counted.{len-node}
 
+pub falls_child : (n m t : ℕ) → m ≡ t → n < m → n < t
+falls_child n m t e h = omega arith
+
 -- the entries of one child are among those of all
 child_le : (kids : List Branch) (i : ℕ) (d : Branch) → i < length kids → fin.len (get_or kids i d).groups ≤ length (below kids)
 child_le [] i d h = absurd (omega arith)

@@ -1,8 +1,8 @@
 -- How many groups are below a node, kept along each change.
-use Rattle.std.proofs.Common.{◌≡◌, ℕ, ◌+◌, ◌-◌, ◌^◌, ◌%◌, ◌<◌, Bool, true, false, cond, List, length, ap, sym, ◌∙◌, arith, Ok, Err, Option, Some, None, IsSome, is_some}
+use Rattle.std.proofs.Common.{◌≡◌, ◌≢◌, ℕ, ◌+◌, ◌-◌, ◌^◌, ◌%◌, ◌<◌, Bool, true, false, cond, List, length, ap, sym, ◌∙◌, arith, Ok, Err, Option, Some, None, IsSome, is_some}
 use Rattle.std.proofs.Math.Nat.{mod-add-mod, add-mod_right}
 use Rattle.std.specs.FinMap as fin
-use Rattle.flat_model.specs.Path.{Path}
+use Rattle.flat_model.specs.Path.{Name, Path}
 use Rattle.flat_model.proofs.PathLaws.{path_cmp-IsTotalOrder}
 use Rattle.group_tree.specs.declared.attr.Attr.{Attr}
 use Rattle.group_tree.specs.declared.fault.TreeFault.{TreeFault}
@@ -23,6 +23,31 @@ less m l k d e b was is now =
 
 pub len-node : (attr : Attr) (kids : List Branch) → HasRisingNames kids → fin.len (groups_of attr kids) ≡ length (below kids) + 1
 len-node attr kids h = let e = fin.len-entries (groups_of attr kids) in let f = ap length (entries_of_node attr kids h) in omega (arith, e, f)
+
+-- a node's groups, by the map that the node is seen as
+node_len : (attr : Attr) (kids : List Branch) (b : Branch) (nm : Name) → ◌≡◌ {A = Branch} (record { name = nm; groups = groups_of attr kids }) b → HasRisingNames kids → fin.len b.groups ≡ length (below kids) + 1
+node_len attr kids b nm is h = ap (λ (x : Branch). fin.len x.groups) (sym is) ∙ len-node attr kids h
+
+pub has_some : (attr : Attr) (kids : List Branch) (b : Branch) (nm : Name) → ◌≡◌ {A = Branch} (record { name = nm; groups = groups_of attr kids }) b → HasRisingNames kids → fin.len b.groups ≢ 0
+has_some attr kids b nm is h none = let e = node_len attr kids b nm is h in absurd (omega (arith, e, none))
+
+pub kept_count : (attr : Attr) (kids : List Branch) (b : Branch) (nm : Name) (d : ℕ) → ◌≡◌ {A = Branch} (record { name = nm; groups = groups_of attr kids }) b → IsNode kids d → d ≡ (fin.len b.groups - 1) % 2 ^ 64
+kept_count attr kids b nm d is h =
+    let e = node_len attr kids b nm is h.rising in
+    let one : length (below kids) ≡ fin.len b.groups - 1 = omega (arith, e) in
+    h.counted ∙ ap (λ (x : ℕ). x % 2 ^ 64) one
+
+-- ---- as the tree answers it
+
+pub beside_root : (m tree : Groups) (n : ℕ) → m ≡ tree → n ≡ (fin.len m - 1) % 2 ^ 64 → n ≡ (fin.len tree - 1) % 2 ^ 64
+beside_root m tree n is e = e ∙ ap (λ (x : Groups). (fin.len x - 1) % 2 ^ 64) is
+
+pub exact_beside_root : (m tree : Groups) (n : ℕ) → m ≡ tree → n ≡ (fin.len m - 1) % 2 ^ 64 → fin.len m ≢ 0 → fin.len tree < 2 ^ 64 → n + 1 ≡ fin.len tree
+exact_beside_root m tree n is e some few =
+    let same = ap fin.len is in
+    omega (arith, e, some, few, same)
+
+-- ---- along each change
 
 some_is : {A : Type 0} (o : Option A) (a : A) → o ≡ Some a → is_some o ≡ true
 some_is o a e = ap is_some e

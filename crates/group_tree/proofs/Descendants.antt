@@ -11,21 +11,21 @@ use Rattle.flat_model.proofs.PathLaws.{name_cmp-IsTotalOrder}
 use Rattle.flat_model.proofs.Sums.{count_by-cons}
 use Rattle.group_tree.specs.declared.attr.Attr.{Attr}
 use Rattle.group_tree.specs.Groups.{Groups, descendant_count}
-use Rattle.group_tree.specs.Node.{Branch, Entry, under, below, groups_of, AllAbove, HasRisingNames, IsNode, place_of, place_by, Counts}
+use Rattle.group_tree.specs.Node.{Branch, GroupEntry, under, below, groups_of, AllAbove, HasRisingNames, IsNode, place_of, place_by, Counts}
 use Rattle.group_tree.specs.Sorted.{entries_of_node}
 use Rattle.group_tree.proofs.Children.{later_ok, above_tied}
 use Rattle.group_tree.proofs.Walk.{find_down}
 use Rattle.group_tree.proofs.Steps.{root_is_some}
 
 -- the entries strictly below p
-abbrev pub count_in : Path → List Entry → ℕ
+abbrev pub count_in : Path → List GroupEntry → ℕ
 count_in p es = count_by (λ q. strictly_below q p) (map (λ e. e.0) es)
 
-count_in-cons : (p : Path) (e : Entry) (es : List Entry) → count_in p (e ∷ es) ≡ cond (strictly_below e.0 p) 1 0 + count_in p es
+count_in-cons : (p : Path) (e : GroupEntry) (es : List GroupEntry) → count_in p (e ∷ es) ≡ cond (strictly_below e.0 p) 1 0 + count_in p es
 count_in-cons p e es = count_by-cons (λ q. strictly_below q p) e.0 (map (λ x. x.0) es)
 
 -- each entry of a child is strictly below the root
-count_under : (n : Name) (es fs : List Entry) → count_in [] fs ≡ length fs → count_in [] (under n es ++ fs) ≡ length (under n es ++ fs)
+count_under : (n : Name) (es fs : List GroupEntry) → count_in [] fs ≡ length fs → count_in [] (under n es ++ fs) ≡ length (under n es ++ fs)
 count_under n [] fs h = h
 count_under n (e ∷ es) fs h =
     let c = count_in-cons [] (n ∷ e.0, e.1) (under n es ++ fs) in
@@ -52,7 +52,7 @@ off_name m n p q Less e h = by_name m n p q Less e
 off_name m n p q Equal e h = cc
 off_name m n p q Greater e h = by_name m n p q Greater e
 
-count_other : (n m : Name) (p : Path) (es fs : List Entry) (r : Ordering) → name_cmp m n ≡ r → is_eq r ≡ false → count_in (n ∷ p) (under m es ++ fs) ≡ count_in (n ∷ p) fs
+count_other : (n m : Name) (p : Path) (es fs : List GroupEntry) (r : Ordering) → name_cmp m n ≡ r → is_eq r ≡ false → count_in (n ∷ p) (under m es ++ fs) ≡ count_in (n ∷ p) fs
 count_other n m p [] fs r o h = refl
 count_other n m p (e ∷ es) fs r o h =
     let c = count_in-cons (n ∷ p) (m ∷ e.0, e.1) (under m es ++ fs) in
@@ -60,7 +60,7 @@ count_other n m p (e ∷ es) fs r o h =
     let rest = count_other n m p es fs r o h in
     omega (arith, c, none, rest)
 
-count_same : (n m : Name) (p : Path) (es fs : List Entry) → name_cmp m n ≡ Equal → count_in (n ∷ p) (under m es ++ fs) ≡ count_in p es + count_in (n ∷ p) fs
+count_same : (n m : Name) (p : Path) (es fs : List GroupEntry) → name_cmp m n ≡ Equal → count_in (n ∷ p) (under m es ++ fs) ≡ count_in p es + count_in (n ∷ p) fs
 count_same n m p [] fs o = omega arith
 count_same n m p (e ∷ es) fs o =
     let c = count_in-cons (n ∷ p) (m ∷ e.0, e.1) (under m es ++ fs) in

@@ -14,8 +14,9 @@ mod Counted
 mod Descendants
 mod Chains
 mod Copies
-mod Flat
+pub mod Flat
 mod Prefixes
+mod Upward
 mod LimitsMet
 mod LimitsUpward
 mod InPlace

@@ -14,6 +14,7 @@ use Rattle.group_tree.specs.Node.{Branch, groups_of, HasRisingNames, IsNode, pla
 use Rattle.group_tree.proofs.Walk.{find_down, find_none}
 use Rattle.group_tree.proofs.Steps.{own_attr}
 use Rattle.group_tree.proofs.Descendants.{count_down, count_here}
+use Rattle.group_tree.proofs.Upward.{first_met-here, first_met-below}
 
 -- the counts below a map's paths, as the nodes keep them
 abbrev pub kept : Groups → Path → ℕ
@@ -36,12 +37,13 @@ met_by attr kids b nm k levels n s t is h e1 e2 =
 -- ---- the way down
 
 first_none : (has : Path → Option Attr) (count : Path → ℕ) (p : Path) (n : ℕ) → ((q : Path) → has q ≡ None) → first_met has count p n ≡ None
-first_none has count [] n h = ap (λ o. met_here o (count []) 0 n) (h [])
+first_none has count [] n h = first_met-here has count n ∙ ap (λ o. met_here o (count []) 0 n) (h [])
 first_none has count (x ∷ p) n h =
-    (λ i. option_or (first_none (λ q. has (x ∷ q)) (λ q. count (x ∷ q)) p (n + 1) (λ q. h (x ∷ q)) i) (met_here (h [] i) (count []) (length (x ∷ p)) n))
+    first_met-below has count x p n
+    ∙ (λ i. option_or (first_none (λ q. has (x ∷ q)) (λ q. count (x ∷ q)) p (n + 1) (λ q. h (x ∷ q)) i) (met_here (h [] i) (count []) (length (x ∷ p)) n))
 
 pub met_end : (has : Path → Option Attr) (count : Path → ℕ) (names : Path) (n : ℕ) (r : Option MetLimit) → names ≡ [] → r ≡ met_here (has []) (count []) 0 n → r ≡ first_met has count names n
-met_end has count names n r e is = is ∙ ap (λ p. first_met has count p n) (sym e)
+met_end has count names n r e is = is ∙ sym (first_met-here has count n) ∙ ap (λ p. first_met has count p n) (sym e)
 
 -- how many levels the node is above the new group
 levels_of : (above n : ℕ) (names : Path) (x : Name) (p : Path) → above ≡ n + length names → names ≡ x ∷ p → above - n ≡ length (x ∷ p)
@@ -54,7 +56,7 @@ pub met_missing : (attr : Attr) (kids slice : List Branch) (b : Branch) (nm : Na
 met_missing attr kids slice b nm names x p i above n r is h e at s far met =
     let none = first_none (λ q. fin.get b.groups (x ∷ q)) (λ q. kept b.groups (x ∷ q)) p (n + 1) (λ q. sym (find_none attr kids slice b nm (x ∷ q) x q i is h refl at s)) in
     met ∙ (λ j. option_or (sym none j) (met_here (fin.get b.groups []) (kept b.groups []) (levels_of above n names x p far e j) n))
-    ∙ ap (λ q. first_met (fin.get b.groups) (kept b.groups) q n) (sym e)
+    ∙ sym (first_met-below (fin.get b.groups) (kept b.groups) x p n) ∙ ap (λ q. first_met (fin.get b.groups) (kept b.groups) q n) (sym e)
 
 pub met_below : (attr : Attr) (kids slice : List Branch) (b kid : Branch) (nm : Name) (names : Path) (x : Name) (p : Path) (i above n : ℕ) (below here : Option MetLimit) → ◌≡◌ {A = Branch} (record { name = nm; groups = groups_of attr kids }) b → HasRisingNames kids →
     names ≡ x ∷ p → Ok i ≡ place_of x slice → slice ≡ kids → kid ≡ get_or kids i kid → above ≡ n + length names →
@@ -66,4 +68,4 @@ met_below attr kids slice b kid nm names x p i above n below here is h e at s it
     ap (λ (k : Branch). kept k.groups q) item ∙ ap (λ k. k % 2 ^ 64) (sym (count_down attr kids x q i kid h place)) ∙ ap (λ (k : Branch). kept k.groups (x ∷ q)) is in
     (λ j. option_or (met j) (own j))
     ∙ (λ j. option_or (first_met (λ q. has q j) (λ q. count q j) p (n + 1)) (met_here (fin.get b.groups []) (kept b.groups []) (levels_of above n names x p far e j) n))
-    ∙ ap (λ q. first_met (fin.get b.groups) (kept b.groups) q n) (sym e)
+    ∙ sym (first_met-below (fin.get b.groups) (kept b.groups) x p n) ∙ ap (λ q. first_met (fin.get b.groups) (kept b.groups) q n) (sym e)

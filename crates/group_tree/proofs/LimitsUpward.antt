@@ -11,77 +11,23 @@ use Rattle.flat_model.specs.Command.{Refusal}
 use Rattle.flat_model.specs.Command as model
 use Rattle.flat_model.specs.Refuse.{refuse}
 use Rattle.flat_model.specs.Step.{limit_met, first_refusal}
-use Rattle.flat_model.proofs.MapValues.{get-map_values, keys-map_values}
+use Rattle.flat_model.proofs.MapValues.{get-map_values}
 use Rattle.group_tree.specs.declared.attr.Attr.{Attr}
 use Rattle.group_tree.specs.declared.limits.MetLimit.{MetLimit}
 use Rattle.group_tree.specs.declared.limits.MetLimit.TheVariants.{Descendants, Depth}
 use Rattle.group_tree.specs.Flat.{limit_of, group_of}
 use Rattle.group_tree.specs.Groups.{Groups, descendant_count}
-use Rattle.group_tree.specs.Limits.{without_processes, refusal_along, names_of, met_here, first_met}
-use Rattle.group_tree.proofs.Chains.{upward-cons}
+use Rattle.group_tree.specs.Limits.{without_processes, refusal_along, names_of, met_here, first_along, first_met}
 use Rattle.group_tree.proofs.Descendants.{count_le, small_mod}
+use Rattle.group_tree.proofs.Flat.{same_count}
 use Rattle.group_tree.proofs.LimitsMet.{kept}
+use Rattle.group_tree.proofs.Upward.{first_alike, map-first_along, first_met-here, first_met-below}
 
--- ---- the first refusal along lists of paths
+-- ---- one group on the way
 
-or_none : {X : Type 0} (o : Option X) → option_or o None ≡ o
-or_none None = refl
-or_none (Some x) = refl
-
-or_or : {X : Type 0} (a b c : Option X) → option_or (option_or a b) c ≡ option_or a (option_or b c)
-or_or None b c = refl
-or_or (Some x) b c = refl
-
-map_or : {X Y : Type 0} (f : X → Y) (a b : Option X) → option_map f (option_or a b) ≡ option_or (option_map f a) (option_map f b)
-map_or f None b = refl
-map_or f (Some x) b = refl
-
-first-append : (test : Path → Option Refusal) (ps qs : List Path) → first_refusal test (ps ++ qs) ≡ option_or (first_refusal test ps) (first_refusal test qs)
-first-append test [] qs = refl
-first-append test (p ∷ ps) qs = ap (option_or (test p)) (first-append test ps qs) ∙ sym (or_or (test p) (first_refusal test ps) (first_refusal test qs))
-
-first-map : (test : Path → Option Refusal) (f : Path → Path) (ps : List Path) → first_refusal test (map f ps) ≡ first_refusal (λ q. test (f q)) ps
-first-map test f [] = refl
-first-map test f (p ∷ ps) = ap (option_or (test (f p))) (first-map test f ps)
-
--- from below a name up: the way up there, and then the root
-first-upward : (test : Path → Option Refusal) (x : Name) (p : Path) → first_refusal test (upward (x ∷ p)) ≡ option_or (first_refusal (λ q. test (x ∷ q)) (upward p)) (test [])
-first-upward test x p =
-    ap (first_refusal test) (upward-cons x p) ∙ first-append test (map (λ (q : Path). x ∷ q) (upward p)) ([] ∷ [])
-    ∙ (λ i. option_or (first-map test (λ (q : Path). x ∷ q) (upward p) i) (or_none (test []) i))
-
--- tests that agree on the groups of the way
-first_alike : (t u : Path → Option Refusal) (q : Path) → ((j : ℕ) → j ≤ length q → t (take j q) ≡ u (take j q)) → first_refusal t (upward q) ≡ first_refusal u (upward q)
-first_alike t u [] h = ap (λ o. option_or o None) (h 0 (omega arith))
-first_alike t u (x ∷ p) h =
-    let inner = first_alike (λ q. t (x ∷ q)) (λ q. u (x ∷ q)) p (λ j b. h (suc j) (omega (arith, b))) in
-    first-upward t x p ∙ (λ i. option_or (inner i) (h 0 (omega arith) i)) ∙ sym (first-upward u x p)
-
--- ---- as the nodes find it
-
--- the test of one group on the way, k names being left out in front
-abbrev test_on : (MetLimit → Refusal) → (Path → Option Attr) → (Path → ℕ) → Path → ℕ → Path → Option Refusal
-test_on ref has count p k a = option_map ref (met_here (has a) (count a) (length p - length a) (k + length a))
-
-test_below : (ref : MetLimit → Refusal) (has : Path → Option Attr) (count : Path → ℕ) (x : Name) (p : Path) (k : ℕ) (a : Path) → test_on ref (λ q. has (x ∷ q)) (λ q. count (x ∷ q)) p (k + 1) a ≡ test_on ref has count (x ∷ p) k (x ∷ a)
-test_below ref has count x p k a =
-    let far : length p - length a ≡ length (x ∷ p) - length (x ∷ a) = omega arith in
-    let named : k + 1 + length a ≡ k + length (x ∷ a) = omega arith in
-    λ i. option_map ref (met_here (has (x ∷ a)) (count (x ∷ a)) (far i) (named i))
-
-test_here : (ref : MetLimit → Refusal) (has : Path → Option Attr) (count : Path → ℕ) (p : Path) (k : ℕ) → option_map ref (met_here (has []) (count []) (length p) k) ≡ test_on ref has count p k []
-test_here ref has count p k =
-    let far : length p ≡ length p - length {A = Name} [] = omega arith in
-    let named : k ≡ k + length {A = Name} [] = omega arith in
-    λ i. option_map ref (met_here (has []) (count []) (far i) (named i))
-
-walk_is : (ref : MetLimit → Refusal) (has : Path → Option Attr) (count : Path → ℕ) (p : Path) (k : ℕ) → option_map ref (first_met has count p k) ≡ first_refusal (λ a. test_on ref has count p k a) (upward p)
-walk_is ref has count [] k = test_here ref has count [] k ∙ sym (or_none (test_on ref has count [] k []))
-walk_is ref has count (x ∷ p) k =
-    map_or ref (first_met (λ q. has (x ∷ q)) (λ q. count (x ∷ q)) p (k + 1)) (met_here (has []) (count []) (length (x ∷ p)) k)
-    ∙ (λ i. option_or (walk_is ref (λ q. has (x ∷ q)) (λ q. count (x ∷ q)) p (k + 1) i) (test_here ref has count (x ∷ p) k i))
-    ∙ (λ i. option_or (first_refusal (λ a. test_below ref has count x p k a i) (upward p)) (test_on ref has count (x ∷ p) k []))
-    ∙ sym (first-upward (λ a. test_on ref has count (x ∷ p) k a) x p)
+-- what the group at a says of a new group under p
+abbrev test_on : (MetLimit → Refusal) → (Path → Option Attr) → (Path → ℕ) → Path → Path → Option Refusal
+test_on ref has count p a = option_map ref (met_here (has a) (count a) (length p - length a) (0 + length a))
 
 -- ---- as the flat state has it
 
@@ -106,19 +52,22 @@ take_front (suc j) zero p h = absurd (omega (arith, h))
 take_front (suc j) (suc n) [] h = refl
 take_front (suc j) (suc n) (x ∷ p) h = ap (λ (q : Path). x ∷ q) (take_front j n p (omega (arith, h)))
 
-same_count : (m : Groups) (p : Path) → descendant_count m p ≡ flat.descendant_count (without_processes m) p
-same_count m p = ap (λ (ks : List Path). count_by (λ q. strictly_below q p) ks) (sym (keys-map_values group_of m))
+-- the first refusal is the first answer
+first_is : (test : Path → Option Refusal) (ps : List Path) → first_along test ps ≡ first_refusal test ps
+first_is test [] = refl
+first_is test (p ∷ ps) = ap (option_or (test p)) (first_is test ps)
 
 exact_walk : (m : Groups) (p : Path) (n : ℕ) → n ≤ length p → option_map (refusal_along p) (first_met (fin.get m) (descendant_count m) (take n p) 0) ≡ first_refusal (limit_met (without_processes m) (take n p)) (upward (take n p))
 exact_walk m p n h =
-    walk_is (refusal_along p) (fin.get m) (descendant_count m) (take n p) 0
-    ∙ first_alike (λ a. test_on (refusal_along p) (fin.get m) (descendant_count m) (take n p) 0 a) (limit_met (without_processes m) (take n p)) (take n p) (λ j low.
+    map-first_along (refusal_along p) (λ a. met_here (fin.get m a) (descendant_count m a) (length (take n p) - length a) (0 + length a)) (upward (take n p))
+    ∙ first_alike (λ a. test_on (refusal_along p) (fin.get m) (descendant_count m) (take n p) a) (limit_met (without_processes m) (take n p)) (take n p) (λ j low.
     let size = length-take-le n p h in
     let here : length (take j (take n p)) ≡ j = length-take-le j (take n p) low in
     let whole : 0 + length (take j (take n p)) ≡ j = omega (arith, here) in
     let front : take (0 + length (take j (take n p))) p ≡ take j (take n p) = ap (λ k. take k p) whole ∙ sym (take_front j n p (omega (arith, low, size))) in
     same_test m (take n p) (take j (take n p)) (refusal_along p) (descendant_count m (take j (take n p))) _ (0 + length (take j (take n p))) (fin.get m (take j (take n p)))
-    (ap model.Descendants front) (ap model.Depth front) (same_count m (take j (take n p))) refl (get-map_values group_of m (take j (take n p))))
+    (ap model.Descendants front) (ap model.Depth front) (sym (same_count m fin.empty (take j (take n p)))) refl (get-map_values group_of m (take j (take n p))))
+    ∙ first_is (limit_met (without_processes m) (take n p)) (upward (take n p))
 
 -- ---- as the tree answers it
 
@@ -136,11 +85,12 @@ bound_or None b k ha hb = hb
 bound_or (Some met) b k ha hb = ha
 
 bound_walk : (has : Path → Option Attr) (count : Path → ℕ) (p : Path) (n k : ℕ) → n + length p ≤ k → IfSome (first_met has count p n) (λ met. names_of met ≤ k)
-bound_walk has count [] n k h = bound_here (has []) (count []) 0 n k (omega (arith, h))
+bound_walk has count [] n k h = subst (λ (o : Option MetLimit). IfSome o (λ met. names_of met ≤ k)) (sym (first_met-here has count n)) (bound_here (has []) (count []) 0 n k (omega (arith, h)))
 bound_walk has count (x ∷ p) n k h =
-    bound_or (first_met (λ q. has (x ∷ q)) (λ q. count (x ∷ q)) p (n + 1)) (met_here (has []) (count []) (length (x ∷ p)) n) k
+    subst (λ (o : Option MetLimit). IfSome o (λ met. names_of met ≤ k)) (sym (first_met-below has count x p n))
+    (bound_or (first_met (λ q. has (x ∷ q)) (λ q. count (x ∷ q)) p (n + 1)) (met_here (has []) (count []) (length (x ∷ p)) n) k
     (bound_walk (λ q. has (x ∷ q)) (λ q. count (x ∷ q)) p (n + 1) k (omega (arith, h)))
-    (bound_here (has []) (count []) (length (x ∷ p)) n k (omega (arith, h)))
+    (bound_here (has []) (count []) (length (x ∷ p)) n k (omega (arith, h))))
 
 few_below : (m : Groups) (p : Path) → fin.len m < 2 ^ 64 → kept m p ≡ descendant_count m p
 few_below m p few =

@@ -1,8 +1,8 @@
 -- Which limit of the hierarchy a new group meets first, and at which group.
-use Rattle.std.specs.Prelude.{ℕ, ◌+◌, cond, [], ◌∷◌, length, take, Option, Some, None}
+use Rattle.std.specs.Prelude.{ℕ, ◌+◌, ◌-◌, cond, List, [], ◌∷◌, length, take, Option, Some, None}
 use Rattle.std.specs.Option.{option_or}
 use Rattle.std.specs.FinMap.{empty}
-use Rattle.flat_model.specs.Path.{Path}
+use Rattle.flat_model.specs.Path.{Path, upward}
 use Rattle.flat_model.specs.State.{State}
 use Rattle.flat_model.specs.Counts.{reaches}
 use Rattle.flat_model.specs.Mapped.{map_values}
@@ -35,9 +35,11 @@ met_here (Some attr) count levels n =
     cond (reaches count (limit_of attr.limits.descendants)) (Some (Descendants n))
     (cond (reaches levels (limit_of attr.limits.depth)) (Some (Depth n)) None)
 
--- the first that is met from the end of p up to here, where the group here has n names
+-- the first answer along the paths
+abbrev pub first_along : {X : Type 0} → (Path → Option X) → List Path → Option X
+first_along test [] = None
+first_along test (p ∷ ps) = option_or (test p) (first_along test ps)
+
+-- the limit that a new group under the one at p meets first, from there up to here, where the group here has n names
 abbrev pub first_met : (Path → Option Attr) → (Path → ℕ) → Path → ℕ → Option MetLimit
-first_met has count [] n = met_here (has []) (count []) 0 n
-first_met has count (name ∷ p) n =
-    option_or (first_met (λ q. has (name ∷ q)) (λ q. count (name ∷ q)) p (n + 1))
-    (met_here (has []) (count []) (length (name ∷ p)) n)
+first_met has count p n = first_along (λ q. met_here (has q) (count q) (length p - length q) (n + length q)) (upward p)

@@ -15,16 +15,16 @@ pub record Branch : Type 0 where
   pub name : Name
   pub groups : Groups
 
-abbrev pub Entry : Type 0
-Entry = Path × Attr
+abbrev pub GroupEntry : Type 0
+GroupEntry = Path × Attr
 
 -- the entries of one child, seen from its parent
-abbrev pub under : Name → List Entry → List Entry
+abbrev pub under : Name → List GroupEntry → List GroupEntry
 under name [] = []
 under name (e ∷ es) = (name ∷ e.0, e.1) ∷ under name es
 
 -- the entries of the children, in order
-abbrev pub below : List Branch → List Entry
+abbrev pub below : List Branch → List GroupEntry
 below [] = []
 below (kid ∷ kids) = under kid.name (fin.entries kid.groups) ++ below kids
 

@@ -11,7 +11,7 @@ use lib.Dec.{T}
 use denote.Param.Weighed.{most}
 use Rattle.flat_model.specs.Path.{name_cmp, path_cmp}
 use Rattle.group_tree.specs.declared.attr.Attr.{Attr}
-use Rattle.group_tree.specs.Node.{Branch, Entry, under, below, groups_of, AllAbove, HasRisingNames}
+use Rattle.group_tree.specs.Node.{Branch, GroupEntry, under, below, groups_of, AllAbove, HasRisingNames}
 
 both : (a b : Bool) → T a → T b → T (a && b)
 both true b p q = q
@@ -32,19 +32,19 @@ same_first n p q = ap (λ r. ordering_then r (path_cmp p q)) (tied_itself nat_li
 pub other_first : (n m : List ℕ) (p q : List (List ℕ)) → name_cmp n m ≡ Less → path_cmp (n ∷ p) (m ∷ q) ≡ Less
 other_first n m p q e = ap (λ r. ordering_then r (path_cmp p q)) e
 
-below_under : (n : List ℕ) (p : List (List ℕ)) (es : List Entry) → T (below_all path_cmp p es) → T (below_all path_cmp (n ∷ p) (under n es))
+below_under : (n : List ℕ) (p : List (List ℕ)) (es : List GroupEntry) → T (below_all path_cmp p es) → T (below_all path_cmp (n ∷ p) (under n es))
 below_under n p [] h = tt
 below_under n p (e ∷ es) h = both _ _ (subst (λ r. T (is_lt r)) (sym (same_first n p e.0)) (first _ _ h)) (below_under n p es (second _ _ h))
 
-sorted_under : (n : List ℕ) (es : List Entry) → T (is_sorted path_cmp es) → T (is_sorted path_cmp (under n es))
+sorted_under : (n : List ℕ) (es : List GroupEntry) → T (is_sorted path_cmp es) → T (is_sorted path_cmp (under n es))
 sorted_under n [] h = tt
 sorted_under n (e ∷ es) h = both _ _ (below_under n e.0 es (first _ _ h)) (sorted_under n es (second _ _ h))
 
-below_append : (p : List (List ℕ)) (es fs : List Entry) → T (below_all path_cmp p es) → T (below_all path_cmp p fs) → T (below_all path_cmp p (es ++ fs))
+below_append : (p : List (List ℕ)) (es fs : List GroupEntry) → T (below_all path_cmp p es) → T (below_all path_cmp p fs) → T (below_all path_cmp p (es ++ fs))
 below_append p [] fs g h = h
 below_append p (e ∷ es) fs g h = both _ _ (first _ _ g) (below_append p es fs (second _ _ g) h)
 
-below_other : (n m : List ℕ) (p : List (List ℕ)) (es : List Entry) → name_cmp n m ≡ Less → T (below_all path_cmp (n ∷ p) (under m es))
+below_other : (n m : List ℕ) (p : List (List ℕ)) (es : List GroupEntry) → name_cmp n m ≡ Less → T (below_all path_cmp (n ∷ p) (under m es))
 below_other n m p [] e = tt
 below_other n m p (f ∷ es) e = both _ _ (subst (λ r. T (is_lt r)) (sym (other_first n m p f.0 e)) tt) (below_other n m p es e)
 
@@ -52,7 +52,7 @@ below_kids : (n : List ℕ) (p : List (List ℕ)) (kids : List Branch) → AllAb
 below_kids n p [] h = tt
 below_kids n p (k ∷ kids) h = below_append (n ∷ p) (under k.name (fin.entries k.groups)) (below kids) (below_other n k.name p (fin.entries k.groups) h.0) (below_kids n p kids h.1)
 
-sorted_append : (n : List ℕ) (es : List Entry) (kids : List Branch) → T (is_sorted path_cmp es) → AllAbove n kids → T (is_sorted path_cmp (below kids)) → T (is_sorted path_cmp (under n es ++ below kids))
+sorted_append : (n : List ℕ) (es : List GroupEntry) (kids : List Branch) → T (is_sorted path_cmp es) → AllAbove n kids → T (is_sorted path_cmp (below kids)) → T (is_sorted path_cmp (under n es ++ below kids))
 sorted_append n [] kids h a s = s
 sorted_append n (e ∷ es) kids h a s =
     both _ _ (below_append (n ∷ e.0) (under n es) (below kids) (below_under n e.0 es (first _ _ h)) (below_kids n e.0 kids a)) (sorted_append n es kids (second _ _ h) a s)
@@ -61,7 +61,7 @@ pub sorted_below : (kids : List Branch) → HasRisingNames kids → T (is_sorted
 sorted_below [] h = tt
 sorted_below (k ∷ kids) h = sorted_append k.name (fin.entries k.groups) kids (fin.entries_sorted k.groups) h.0 (sorted_below kids h.1)
 
-root_under : (n : List ℕ) (es fs : List Entry) → T (below_all path_cmp [] fs) → T (below_all path_cmp [] (under n es ++ fs))
+root_under : (n : List ℕ) (es fs : List GroupEntry) → T (below_all path_cmp [] fs) → T (below_all path_cmp [] (under n es ++ fs))
 root_under n [] fs h = h
 root_under n (e ∷ es) fs h = root_under n es fs h
 
@@ -77,7 +77,7 @@ pub entries_of_node : (attr : Attr) (kids : List Branch) → HasRisingNames kids
 unfolding groups_of
 entries_of_node attr kids h = fin.entries-from_sorted path_cmp (([], attr) ∷ below kids) (sorted_node attr kids h)
 
-pub length-under : (n : List ℕ) (es : List Entry) → length (under n es) ≡ length es
+pub length-under : (n : List ℕ) (es : List GroupEntry) → length (under n es) ≡ length es
 length-under n [] = refl
 length-under n (e ∷ es) = ap suc (length-under n es)
 

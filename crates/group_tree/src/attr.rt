@@ -1,3 +1,5 @@
+//! What a group has beside its name: its limits, its event totals and its slot.
+
 /// A limit of a group.
 #[derive(Clone, Copy, Debug, PartialEq, Eq)]
 pub enum Limit {
@@ -39,4 +41,53 @@ pub struct Attr {
     pub total: u64,
     /// Where its processes are counted. The tree gives it back as it was put in, and asks nothing of it.
     pub slot: u16,
+}
+
+impl Attr {
+    ghost use Rattle.std.specs.Prelude.{◌≡◌};
+    ghost use Rattle.flat_model.specs.State.{fresh};
+    ghost use Rattle.flat_model.specs.Step.{limit_at, with_limit};
+    ghost use Rattle.group_tree.specs.Flat.{group_of, limit_of, limit_file_of};
+
+    /// What a group has as it is made: no limits and no events, its processes counted at the slot.
+    pub fn new(slot: u16) -> Attr
+        ensures group { group_of result ≡ fresh }
+        ensures slot { result.slot ≡ slot }
+    {
+        Attr {
+            limits: Limits {
+                pids: Limit::Unlimited,
+                descendants: Limit::Unlimited,
+                depth: Limit::Unlimited,
+            },
+            local: 0,
+            total: 0,
+            slot,
+        }
+    }
+
+    /// The limit that stands in the file.
+    pub fn limit(self, file: LimitFile) -> Limit
+        ensures { limit_of result ≡ limit_at (limit_file_of file) (group_of self) }
+    {
+        match file {
+            LimitFile::PidsMax => self.limits.pids,
+            LimitFile::MaxDescendants => self.limits.descendants,
+            LimitFile::MaxDepth => self.limits.depth,
+        }
+    }
+
+    /// The same with another limit in the file: the other limits, the event totals and the slot stay.
+    pub fn with_limit(self, file: LimitFile, limit: Limit) -> Attr
+        ensures group { group_of result ≡ with_limit (limit_file_of file) (limit_of limit) (group_of self) }
+        ensures slot { result.slot ≡ self.slot }
+    {
+        let mut attr = self;
+        match file {
+            LimitFile::PidsMax => attr.limits.pids = limit,
+            LimitFile::MaxDescendants => attr.limits.descendants = limit,
+            LimitFile::MaxDepth => attr.limits.depth = limit,
+        }
+        attr
+    }
 }

@@ -1,3 +1,5 @@
+//! Why a tree is not changed.
+
 ghost use Rattle.std.specs.Prelude.{◌≡◌};
 ghost use Rattle.group_tree.specs.declared.fault.TreeFault.TheVariants.{OutOfMemory};
 

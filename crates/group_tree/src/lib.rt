@@ -7,11 +7,11 @@
 //! - Refusals come in a fixed order, and each names its cause. Only `insert`, `copy`, `new`, and a `chain` of more than
 //!   eight groups take memory; a group takes one block for its name, and its parent's list of children grows.
 //! - A look-up goes down once, in O(depth · log children) comparisons of names. How many groups are below each group is
-//!   kept, so that a limit on descendants is tested without a walk. The limits of the hierarchy that a new group meets are
-//!   all asked in one such descent.
+//!   kept, so that limits on descendants, and on all groups, are tested without a walk. The limits of the hierarchy that a
+//!   new group meets are all asked in one such descent.
 //! - The calls that end in `_at` do the same at the first n names of a path, and copy nothing.
 //! - A path may lie in other memory than the tree. What a group has is given and taken by value; its slot is the
-//!   caller's, and the tree asks nothing of it: two groups may have the same.
+//!   caller's, and the tree asks nothing of it: two groups may have the same. A change of a limit keeps it.
 //!
 //! Not promised: that a count of descendants is exact in a tree of 2^64 groups or more (it is taken modulo 2^64), and how
 //! much memory a tree takes.
@@ -20,11 +20,14 @@
 #![tactic(auto)]
 
 mod attr;
+mod chain;
 mod copy;
-mod edits;
 mod fault;
+mod insert;
 mod limits;
 mod node;
+mod remove;
+mod set;
 mod tree;
 
 pub use attr::{Attr, Limit, LimitFile, Limits};

@@ -1,20 +1,14 @@
-//! A group with the groups below it, and what is read on the way down.
+//! A group with the groups below it, and what is read of it and on the way down.
 
-ghost use Rattle.std.specs.Prelude.{◌≡◌, ◌<◌, ◌≤◌, ◌+◌, ◌%◌, ◌^◌, ◌++◌, [], length, Some, None, MatchResult, MatchBool, IfOk, IsSome};
+ghost use Rattle.std.specs.Prelude.{◌≡◌, ◌≢◌, ◌<◌, ◌≤◌, ◌-◌, ◌%◌, ◌^◌, [], length, Some, MatchResult};
 ghost use Rattle.std.specs.Option.{option_copied};
 ghost use Rattle.std.specs.FinMap as fin;
 ghost use Rattle.flat_model.specs.Path.{name_cmp};
-ghost use Rattle.flat_model.specs.Counts.{reaches};
-ghost use Rattle.group_tree.specs.Flat.{limit_of};
-ghost use Rattle.group_tree.specs.Groups.{chain_of, descendant_count};
-ghost use Rattle.group_tree.specs.Limits.{met_here, first_met};
-ghost use Rattle.group_tree.specs.Node.{HasRisingNames, place_of, Counts, IsLeafOrNot, PushesInPlace};
+ghost use Rattle.group_tree.specs.Node.{HasRisingNames, place_of, Counts, IsLeafOrNot};
 
-use crate::attr::{Attr, Limit};
-use crate::limits::MetLimit;
+use crate::attr::Attr;
 use group_path::Names;
-use smallvec::SmallVec;
-use std::alloc::{AllocError, Allocator};
+use std::alloc::Allocator;
 use std::cmp::Ordering;
 use std::marker::Model;
 
@@ -66,16 +60,6 @@ pub(crate) fn place<A: Allocator>(children: &[Node<A>], name: &[u8]) -> Result<u
     )
 }
 
-/// Whether so many are at the limit or past it.
-fn is_reached(limit: Limit, n: u64) -> bool
-    ensures { result ≡ reaches n (limit_of limit) }
-{
-    match limit {
-        Limit::Unlimited => false,
-        Limit::At(most) => u64::from(most) <= n,
-    }
-}
-
 impl<A: Allocator> Node<A> {
     /// The last name of its path.
     pub(crate) fn name(&self) -> &[u8]
@@ -110,6 +94,14 @@ impl<A: Allocator> Node<A> {
         }
     }
 
+    /// How many groups are below it, modulo 2^64.
+    pub(crate) fn groups_below(&self) -> u64
+        ensures value { result ≡ (fin.len self.now.groups - 1) % 2 ^ 64 }
+        ensures whole { fin.len self.now.groups ≢ 0 }
+    {
+        self.descendants
+    }
+
     /// What the group at these names from here has.
     pub(crate) fn find(&self, names: Names<'_>) -> Option<&Attr>
         ensures { option_copied result ≡ fin.get self.now.groups names.entry }
@@ -134,66 +126,6 @@ impl<A: Allocator> Node<A> {
             Some(name) => match place(&self.children, name) {
                 Ok(at) => self.children[at].descendants(names),
                 Err(_) => None,
-            },
-        }
-    }
-
-    /// Which of its own limits a new group so many levels below it meets, where its path has `n` names.
-    fn met_here(&self, levels: usize, n: usize) -> Option<MetLimit>
-        ensures { result ≡ met_here (fin.get self.now.groups []) (descendant_count self.now.groups [] % 2 ^ 64) levels n }
-    {
-        if is_reached(self.attr.limits.descendants, self.descendants) {
-            return Some(MetLimit::Descendants(n));
-        }
-        if is_reached(self.attr.limits.depth, levels as u64) {
-            return Some(MetLimit::Depth(n));
-        }
-        None
-    }
-
-    /// The first limit that a new group under the one at these names meets, from there up to here, where the path of
-    /// this one has `n` names and that of the other `above`.
-    pub(crate) fn met_limit(&self, names: Names<'_>, above: usize, n: usize) -> Option<MetLimit>
-        requires { above ≡ n + length names }
-        ensures { result ≡ first_met (fin.get self.now.groups) (λ q. descendant_count self.now.groups q % 2 ^ 64) names.entry n }
-    {
-        let mut names = names;
-        match names.next() {
-            None => self.met_here(0, n),
-            Some(name) => match place(&self.children, name) {
-                Err(_) => self.met_here(above - n, n),
-                Ok(at) => match self.children[at].met_limit(names, above, n + 1) {
-                    Some(met) => Some(met),
-                    None => self.met_here(above - n, n),
-                },
-            },
-        }
-    }
-
-    /// Appends the slots of the groups from the one at these names up to here, this one left out; false where there
-    /// is no such group.
-    pub(crate) fn push_chain<B: Allocator + Copy>(
-        &self,
-        names: Names<'_>,
-        slots: &mut SmallVec<u16, 8, B>,
-    ) -> Result<bool, AllocError>
-        ensures chain { IfOk result (λ b. MatchBool b (IsSome (fin.get self.now.groups names.entry) × (slots.new.items ≡ slots.old.items ++ chain_of self.now.groups names.entry)) (fin.get self.now.groups names.entry ≡ None)) }
-        ensures in_place { PushesInPlace slots.old slots.new (length names.entry) result }
-    {
-        let mut names = names;
-        match names.next() {
-            None => Ok(true),
-            Some(name) => match place(&self.children, name) {
-                Err(_) => Ok(false),
-                Ok(at) => {
-                    let child = &self.children[at];
-                    if !child.push_chain(names, slots)? {
-                        return Ok(false);
-                    }
-                    let attr = child.attr();
-                    slots.push(attr.slot)?;
-                    Ok(true)
-                }
             },
         }
     }

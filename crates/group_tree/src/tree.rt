@@ -1,9 +1,11 @@
-ghost use Rattle.std.specs.Prelude.{◌≡◌, ◌<◌, ◌≤◌, ◌%◌, ◌^◌, ℕ, true, length, take, None, MatchOption, IsOk, IfOk, IfSome, IsSome, option_map};
+//! The tree, seen as a finite map, and each public call on it.
+
+ghost use Rattle.std.specs.Prelude.{◌≡◌, ◌+◌, ◌-◌, ◌<◌, ◌≤◌, ◌%◌, ◌^◌, ℕ, true, length, take, None, MatchOption, IsOk, IfOk, IfSome, IsSome, option_map};
 ghost use Rattle.std.specs.Option.{option_copied};
 ghost use Rattle.std.specs.FinMap as fin;
 ghost use Rattle.flat_model.specs.Path.{Path, at_or_below, upward};
 ghost use Rattle.flat_model.specs.Step.{limit_met, first_refusal};
-ghost use Rattle.group_tree.specs.Flat.{ReadsAsFlat};
+ghost use Rattle.group_tree.specs.Flat.{CountsAsFlat};
 ghost use Rattle.group_tree.specs.Limits.{without_processes, refusal_along, names_of};
 ghost use Rattle.group_tree.specs.Groups.{IsClosed, Inserts, Sets, Removes, only_root, descendant_count, chain_of};
 
@@ -73,6 +75,15 @@ impl<A: Allocator> GroupTree<A> {
         self.root.set(path.first_names(n), attr)
     }
 
+    /// How many groups there are beside the root. The count is kept, so this costs one step. It is exact as long as the
+    /// tree has fewer than 2^64 groups.
+    pub fn groups_beside_root(&self) -> u64
+        ensures counted { result ≡ (fin.len self.now - 1) % 2 ^ 64 }
+        ensures exact { fin.len self.now < 2 ^ 64 → result + 1 ≡ fin.len self.now }
+    {
+        self.root.groups_below()
+    }
+
     /// How many groups are strictly below the one at the path; None where there is no such group. The count is kept,
     /// so this costs no more than `find`. It is exact as long as the tree has fewer than 2^64 groups.
     pub fn descendants<B: Allocator + Clone>(&self, path: &GroupPath<B>) -> Option<u64>
@@ -140,12 +151,12 @@ impl<A: Allocator> GroupTree<A> {
         }
     }
 
-    /// Tells callers that the tree has the root and the parent of each group, and how its groups are those of the flat
-    /// state. It does nothing.
+    /// Tells callers that the tree has the root and the parent of each group, and that what stands below a group is what
+    /// stands below it in the flat state of `map_values group_of`. It does nothing.
     pub fn known(&self)
         ensures closed { IsClosed self.now }
         ensures prefixes { (p q : Path) → IsSome (fin.get self.now p) → at_or_below p q ≡ true → IsSome (fin.get self.now q) }
-        ensures flat { ReadsAsFlat self.now }
+        ensures flat { CountsAsFlat self.now }
     {
         let _ = &self.root;
     }

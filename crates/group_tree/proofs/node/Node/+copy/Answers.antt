@@ -1,10 +1,7 @@
-use Rattle.std.proofs.Common.{ℕ, rules, arith, ◌≡◌, ◌<◌}
+use Rattle.std.proofs.Common.{rules, arith}
 use Rattle.std.proofs.lemmas.Grind.{common_steps}
-use Rattle.group_tree.proofs.Copies.{child_smaller, copied_node}
+use Rattle.group_tree.proofs.Copies.{falls_child, child_smaller, copied_node}
 use Rattle.group_tree.proofs.node.Node.+copy.Goals as goal
-
-falls_child : (n m t : ℕ) → m ≡ t → n < m → n < t
-falls_child n m t e h = omega arith
 
 pub loop-child-init : goal.loop-child-init
 loop-child-init g t c = c.new-children.ensures.items

@@ -1,12 +1,9 @@
-use Rattle.std.proofs.Common.{◌≡◌, ℕ, ◌<◌, rules, arith, sym, ◌∙◌}
+use Rattle.std.proofs.Common.{rules, sym, ◌∙◌}
 use Rattle.group_tree.proofs.Walk.{find_none, find_down}
 use Rattle.group_tree.proofs.Chains.{chain_here, chain_step, at_false, at_true}
 use Rattle.group_tree.proofs.InPlace.{pushes_below, refused_below, pushes_one, push_refused}
-use Rattle.group_tree.proofs.Copies.{child_at_smaller}
+use Rattle.group_tree.proofs.Copies.{falls_child, child_at_smaller}
 use Rattle.group_tree.proofs.node.Node.+push_chain.Goals as goal
-
-falls_child : (n m t : ℕ) → m ≡ t → n < m → n < t
-falls_child n m t e h = omega arith
 
 pub push_chain-requires : goal.push_chain-requires
 push_chain-requires g t c κs within = (falls_child _ _ _ c.decreases (child_at_smaller _ _ _ _ _ _ _ c.self.view_is c.self.invariant.rising c.deref.ensures.value c.index-child.ensures c.in-Ok.ensures.bound), search (rules, within))

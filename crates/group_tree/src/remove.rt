@@ -1,0 +1,59 @@
+//! A group taken out on the way down. A refusal changes nothing.
+
+ghost use Rattle.std.specs.Prelude.{◌≡◌, ◌<◌, ◌∷◌, vec_len};
+ghost use Rattle.group_tree.specs.Node.{NodeRemoves, TakesOut};
+
+use crate::attr::Attr;
+use crate::fault::TreeFault;
+use crate::node::{Node, place};
+use group_path::Names;
+use std::alloc::Allocator;
+
+impl<A: Allocator> Node<A> {
+    /// Takes out the group at this name and then these names from here.
+    pub(crate) fn remove(&mut self, name: &[u8], names: Names<'_>) -> Result<Attr, TreeFault>
+        ensures name { self.new.name ≡ self.old.name }
+        ensures groups { NodeRemoves self.old.groups self.new.groups (name.now ∷ names.entry) result }
+    {
+        let mut names = names;
+        match place(&self.children, name) {
+            Err(_) => Err(TreeFault::NoGroup),
+            Ok(at) => match names.next() {
+                None => match take_out(&mut self.children, at) {
+                    Ok(attr) => {
+                        self.descendants = self.descendants.wrapping_sub(1);
+                        Ok(attr)
+                    }
+                    Err(fault) => Err(fault),
+                },
+                Some(next) => {
+                    let child = &mut self.children[at];
+                    match child.remove(next, names) {
+                        Ok(attr) => {
+                            self.descendants = self.descendants.wrapping_sub(1);
+                            Ok(attr)
+                        }
+                        Err(fault) => Err(fault),
+                    }
+                }
+            },
+        }
+    }
+}
+
+/// Takes a child out that has no children.
+fn take_out<A: Allocator>(children: &mut Vec<Node<A>, A>, at: usize) -> Result<Attr, TreeFault>
+    requires { at < vec_len children.old }
+    ensures { TakesOut children.old.items children.new.items at result }
+{
+    let all = children.as_slice();
+    let child = &all[at];
+    let leaf = child.is_leaf();
+    let attr = child.attr();
+    if leaf {
+        let _removed = children.remove(at);
+        Ok(attr)
+    } else {
+        Err(TreeFault::HasChildren)
+    }
+}
