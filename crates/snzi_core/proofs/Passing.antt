@@ -28,7 +28,7 @@ one_out_helper (Main n) = refl
 one_out_helper Helper = refl
 one_out_helper Spent = refl
 
-one_out_out : (r : Role) → main_weight r ≡ 1 → out (one_out r) ≡ out r + 1
+pub one_out_out : (r : Role) → main_weight r ≡ 1 → out (one_out r) ≡ out r + 1
 one_out_out (Main n) e = refl
 one_out_out Helper e = absurd (omega arith)
 one_out_out Spent e = absurd (omega arith)
@@ -43,7 +43,7 @@ one_back_helper (Main n) = refl
 one_back_helper Helper = refl
 one_back_helper Spent = refl
 
-one_back_out : (r : Role) → out (one_back r) ≡ out r - 1
+pub one_back_out : (r : Role) → out (one_back r) ≡ out r - 1
 one_back_out (Main n) = refl
 one_back_out Helper = refl
 one_back_out Spent = refl

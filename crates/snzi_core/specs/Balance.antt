@@ -5,6 +5,7 @@ use lib.ListN.{get_elem?}
 use Rattle.snzi_core.specs.declared.holding.Holding.{Holding}
 use Rattle.snzi_core.specs.declared.holding.Role.TheVariants.{Spent}
 use Rattle.snzi_core.specs.Holding.{tokens_at, amount_at, main_weight, helper_weight, out}
+use Rattle.snzi_core.specs.Caps.{token_cap, helper_cap}
 use Rattle.snzi_core.specs.Shape.{Line, inner, leaf, stripe}
 
 -- the sum over the hands
@@ -43,11 +44,11 @@ Each P (h ∷ hs) = P h × Each P hs
 
 -- a hand within the cap of tokens at a node; a spent one holds nothing
 abbrev pub Within : Holding → Type 0
-Within h = ((i : ℕ) → tokens_at i h ≤ 2 ^ 40) × (h.role ≡ Spent → (h.tokens ≡ []) × (h.amounts ≡ []))
+Within h = ((i : ℕ) → tokens_at i h ≤ token_cap) × (h.role ≡ Spent → (h.tokens ≡ []) × (h.amounts ≡ []))
 
 -- one main hand, which counts its helpers, and every hand within its cap
 abbrev pub Mustered : List Holding → Type 0
-Mustered hands = (total mains hands ≡ 1) × (total outs hands ≡ total helpers hands) × (total helpers hands ≤ 65535) × Each Within hands
+Mustered hands = (total mains hands ≡ 1) × (total outs hands ≡ total helpers hands) × (total helpers hands ≤ helper_cap) × Each Within hands
 
 -- the balance and the caps
 abbrev pub Ruled : (ℕ → Line) → List ℕ → List Holding → Type 0

@@ -9,6 +9,7 @@ use Rattle.snzi_core.specs.declared.holding.Role.{Role}
 use Rattle.snzi_core.specs.declared.holding.Role.TheVariants.{Main, Helper, Spent}
 use Rattle.snzi_core.specs.declared.unlawful.Unlawful.{Unlawful}
 use Rattle.snzi_core.specs.declared.unlawful.Unlawful.TheVariants.{NoHand, NoToken, Cap, StillHolding, NoNode, ZeroNode}
+use Rattle.snzi_core.specs.Caps.{token_cap, helper_cap}
 use Rattle.snzi_core.specs.Shape.{Line, inner, leaf, stripe, leaves}
 use Rattle.snzi_core.specs.Holding.{tokens_at, out}
 use Rattle.snzi_core.specs.State.{State, hand_of, node_of, parent_of, root_of, token_of, span, kind_of}
@@ -45,7 +46,7 @@ abbrev pub lacks : State → ℕ → ℕ → Bool
 lacks k hand i = nat_eq (tokens_at i (hand_of k hand)) 0
 
 abbrev pub is_full : State → ℕ → ℕ → Bool
-is_full k hand i = nat_le (2 ^ 40) (tokens_at i (hand_of k hand))
+is_full k hand i = nat_le token_cap (tokens_at i (hand_of k hand))
 
 -- the word is zero
 abbrev pub is_zero : State → ℕ → Bool
@@ -69,7 +70,7 @@ main_has k share = list_all (main_covers k share) share
 
 -- no helper more may be out, or no hand more be made
 abbrev pub is_crowded : State → Bool
-is_crowded k = nat_le 65535 (out (hand_of k 0).role) || nat_le (2 ^ 32 - 1) (length k.hands)
+is_crowded k = nat_le helper_cap (out (hand_of k 0).role) || nat_le (2 ^ 32 - 1) (length k.hands)
 
 -- some word of the core passes the test
 abbrev pub some_word : State → (ℕ → Bool) → Bool
@@ -77,7 +78,7 @@ some_word k test = list_any test (range_with_len 0 (length k.words))
 
 -- main and the helper have more tokens at the word than one hand may have
 abbrev pub overflows : State → ℕ → ℕ → Bool
-overflows k helper i = nat_lt (2 ^ 40) (tokens_at i (hand_of k 0) + tokens_at i (hand_of k helper))
+overflows k helper i = nat_lt token_cap (tokens_at i (hand_of k 0) + tokens_at i (hand_of k helper))
 
 abbrev pub is_inner : Line → Bool
 is_inner (inner a b) = true

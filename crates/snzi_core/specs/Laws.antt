@@ -8,6 +8,7 @@ use Rattle.snzi_core.specs.declared.holding.Holding.{Holding}
 use Rattle.snzi_core.specs.declared.holding.Role.TheVariants.{Main, Spent}
 use Rattle.snzi_core.specs.Holding.{tokens_at, amount_at, empty, out}
 use Rattle.snzi_core.specs.Changes.{Gains, Loses, Moves, Raises, Parts, Unites}
+use Rattle.snzi_core.specs.Caps.{token_cap, helper_cap}
 use Rattle.snzi_core.specs.Shape.{Line, stripe, line, parent, IsShape}
 use Rattle.snzi_core.specs.Balance.{Balanced, Mustered, Ruled, Present, Covers}
 use Rattle.snzi_core.specs.State.{State, start, IsRuled}
@@ -23,7 +24,7 @@ Keeps kind words hands id j h x g room =
     (Balanced kind words hands → Balanced kind (set words j x) (set hands id g)) × (Mustered hands → h.role ≢ Spent → room → Mustered (set hands id g))
 
 abbrev pub Room : ℕ → Holding → Type 0
-Room j h = tokens_at j h < 2 ^ 40
+Room j h = tokens_at j h < token_cap
 
 -- a load writes back what it read
 abbrev pub LoadKeeps : Type 0
@@ -43,11 +44,11 @@ ChildAddKeeps = OfAHand (λ w s words hands id j h. line w s j ≢ stripe → pa
     → ((slice_index words j ≡ 0) × Moves (parent w s j) j h g) ⊎ ((slice_index words j ≢ 0) × Gains j h g)
     → Keeps (line w s) words hands id j h (slice_index words j + 1) g (Room j h))
 
--- one less at a node: the last below a root has a token at the parent instead
+-- one less at a node: the last below a root has a token at the parent instead, and asks for room there
 abbrev pub LeaveKeeps : Type 0
 LeaveKeeps = OfAHand (λ w s words hands id j h. line w s j ≢ stripe → (g : Holding)
     → ((slice_index words j ≡ 1) × (parent w s j ≢ j) × Moves j (parent w s j) h g) ⊎ ((parent w s j ≢ j → slice_index words j ≢ 1) × Loses j h g)
-    → Keeps (line w s) words hands id j h (slice_index words j - 1) g (Room (parent w s j) h))
+    → Keeps (line w s) words hands id j h (slice_index words j - 1) g (slice_index words j ≡ 1 → parent w s j ≢ j → Room (parent w s j) h))
 
 -- n more in a stripe, modulo 2^64, counted to the hand
 abbrev pub StripeAddKeeps : Type 0
@@ -56,13 +57,13 @@ StripeAddKeeps = OfAHand (λ w s words hands id j h. line w s j ≡ stripe → (
 -- main gives a share to a new hand; no word changes
 abbrev pub SplitKeeps : Type 0
 SplitKeeps = (w s : ℕ) (words : List ℕ) (hands : List Holding) (id : ℕ) (h g helper : Holding) → IsShape w s → get_elem? hands id ≡ some h → Parts h g helper
-    → (Balanced (line w s) words hands → Balanced (line w s) words (set hands id g ++ helper ∷ [])) × (Mustered hands → out h.role < 65535 → Mustered (set hands id g ++ helper ∷ []))
+    → (Balanced (line w s) words hands → Balanced (line w s) words (set hands id g ++ helper ∷ [])) × (Mustered hands → out h.role < helper_cap → Mustered (set hands id g ++ helper ∷ []))
 
 -- main takes what a helper has, which is spent; no word changes
 abbrev pub JoinKeeps : Type 0
 JoinKeeps = (w s : ℕ) (words : List ℕ) (hands : List Holding) (id other : ℕ) (h helper g : Holding) → IsShape w s → get_elem? hands id ≡ some h → get_elem? (set hands id g) other ≡ some helper → Unites h helper g
     → (Balanced (line w s) words hands → Balanced (line w s) words (set (set hands id g) other (empty Spent)))
-    × (Mustered hands → ((i : ℕ) → tokens_at i g ≤ 2 ^ 40) → Mustered (set (set hands id g) other (empty Spent)))
+    × (Mustered hands → ((i : ℕ) → tokens_at i g ≤ token_cap) → Mustered (set (set hands id g) other (empty Spent)))
 
 -- under the balance a node's word is positive exactly where some hand has a token there or below
 abbrev pub TellsPresence : Type 0

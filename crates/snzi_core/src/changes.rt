@@ -1,5 +1,6 @@
 //! What a step does to a word and a hand.
 ghost use Rattle.std.specs.Prelude.{◌≡◌, ◌≢◌, ℕ, ◌+◌, ◌-◌, ◌*◌, ◌/◌, ◌%◌, ◌^◌, ◌<◌, ◌≤◌, length, slice_index, true};
+ghost use Rattle.snzi_core.specs.Caps.{token_cap};
 ghost use Rattle.snzi_core.specs.Holding.{tokens_at};
 ghost use Rattle.snzi_core.specs.State.{hand_of};
 ghost use Rattle.snzi_core.specs.Lawful.{is_live};
@@ -14,7 +15,7 @@ impl<A: Allocator + Clone> Core<A> {
     pub(crate) fn arrive(&mut self, hand: u32, word: usize)
         requires place { word < length self.old.words }
         requires live { is_live self.old hand ≡ true }
-        requires room { (slice_index self.old.words word < 2 ^ 64 - 1) × (tokens_at word (hand_of self.old hand) < 2 ^ 40) }
+        requires room { (slice_index self.old.words word < 2 ^ 64 - 1) × (tokens_at word (hand_of self.old hand) < token_cap) }
         requires kept { IsCore (arrived self.old hand word) }
         ensures { self.new ≡ arrived self.old hand word }
     {
@@ -26,7 +27,7 @@ impl<A: Allocator + Clone> Core<A> {
     pub(crate) fn descend(&mut self, hand: u32, parent: usize, word: usize)
         requires place { (parent < length self.old.words) × (word < length self.old.words) × (parent ≢ word) }
         requires live { is_live self.old hand ≡ true }
-        requires room { (slice_index self.old.words word < 2 ^ 64 - 1) × (tokens_at word (hand_of self.old hand) < 2 ^ 40) }
+        requires room { (slice_index self.old.words word < 2 ^ 64 - 1) × (tokens_at word (hand_of self.old hand) < token_cap) }
         requires token { 0 < tokens_at parent (hand_of self.old hand) }
         requires kept { IsCore (descended self.old hand parent word) }
         ensures { self.new ≡ descended self.old hand parent word }
@@ -52,7 +53,7 @@ impl<A: Allocator + Clone> Core<A> {
         requires place { (parent < length self.old.words) × (word < length self.old.words) × (parent ≢ word) }
         requires live { is_live self.old hand ≡ true }
         requires token { (0 < slice_index self.old.words word) × (0 < tokens_at word (hand_of self.old hand)) }
-        requires room { tokens_at parent (hand_of self.old hand) < 2 ^ 40 }
+        requires room { tokens_at parent (hand_of self.old hand) < token_cap }
         requires kept { IsCore (ascended self.old hand parent word) }
         ensures { self.new ≡ ascended self.old hand parent word }
     {

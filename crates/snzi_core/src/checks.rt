@@ -1,20 +1,16 @@
 //! What an event asks of a core, test by test.
 ghost use Rattle.std.specs.Prelude.{◌≡◌, ℕ, ◌+◌, ◌-◌, ◌*◌, ◌/◌, ◌%◌, ◌^◌, ◌<◌, ◌≤◌, length, slice_index, nat_lt};
 ghost use Rattle.std.specs.List.{list_all};
+ghost use Rattle.snzi_core.specs.Caps.{token_cap};
 ghost use Rattle.snzi_core.specs.Holding.{tokens_at, out};
 ghost use Rattle.snzi_core.specs.State.{span, node_of, parent_of, root_of, stripe_of, token_of, hand_of, kind_of};
 ghost use Rattle.snzi_core.specs.Lawful.{has_node, has_word, has_stripe, has_token, is_live, helps, is_zero, is_full, lacks, passes_up, count_at, main_covers, main_has, is_crowded, is_inner, overflows, stays, some_word};
 
+use crate::caps::{HELPER_CAP, TOKEN_CAP};
 use crate::event::{At, Token};
 use crate::holding::Role;
 use crate::machine::Core;
 use std::alloc::Allocator;
-
-/// The most tokens of one hand at one node.
-const CAP: u64 = 1 << 40;
-
-/// The most helpers that are out at once.
-const HELPERS_MAX: u64 = 65535;
 
 impl<A: Allocator + Clone> Core<A> {
     pub(crate) fn has_node(&self, at: At) -> bool
@@ -89,7 +85,7 @@ impl<A: Allocator + Clone> Core<A> {
 
     pub(crate) fn tokens(&self, hand: u32, word: usize) -> u64
         ensures value { result ≡ tokens_at word (hand_of self.now hand) }
-        ensures cap { result ≤ 2 ^ 40 }
+        ensures cap { result ≤ token_cap }
     {
         match self.hands.get(hand as usize) {
             Some(holder) => holder.tokens_at(word),
@@ -115,7 +111,7 @@ impl<A: Allocator + Clone> Core<A> {
     pub(crate) fn is_full(&self, hand: u32, word: usize) -> bool
         ensures { result ≡ is_full self.now hand word }
     {
-        CAP <= self.tokens(hand, word)
+        TOKEN_CAP <= self.tokens(hand, word)
     }
 
     pub(crate) fn lacks(&self, hand: u32, word: usize) -> bool
@@ -159,14 +155,15 @@ impl<A: Allocator + Clone> Core<A> {
     pub(crate) fn is_crowded(&self) -> bool
         ensures { result ≡ is_crowded self.now }
     {
-        HELPERS_MAX <= self.helpers_out() || u32::MAX as usize <= self.hands.len()
+        HELPER_CAP <= self.helpers_out() || u32::MAX as usize <= self.hands.len()
     }
 
     // Whether main and a helper have too many tokens together at some word.
     pub(crate) fn overflows(&self, helper: u32) -> bool
         ensures { result ≡ some_word self.now (overflows self.now helper) }
     {
-        (0..self.words.len()).any(|word| CAP < self.tokens(0, word) + self.tokens(helper, word))
+        (0..self.words.len()).any(|word| TOKEN_CAP
+            < self.tokens(0, word) + self.tokens(helper, word))
     }
 
     // Whether a word is a node that is no leaf.

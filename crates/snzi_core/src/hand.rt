@@ -1,6 +1,7 @@
 //! What one hand of a core holds.
 ghost use Rattle.std.specs.Prelude.{◌≡◌, ◌≢◌, ℕ, ◌+◌, ◌-◌, ◌*◌, ◌%◌, ◌^◌, ◌<◌, ◌≤◌, [], length, replicate, IfOk, slice_index};
-ghost use Rattle.snzi_core.specs.Holding.{tokens_at, amount_at, gain, lose, raise, empty, keeper, rejoined, out};
+ghost use Rattle.snzi_core.specs.Caps.{token_cap, helper_cap};
+ghost use Rattle.snzi_core.specs.Holding.{tokens_at, gain, lose, raise, empty, keeper, rejoined, out};
 ghost use Rattle.snzi_core.specs.State.{fresh};
 
 use crate::holding::Role;
@@ -52,14 +53,6 @@ impl<A: Allocator> Hand<A> {
         self.tokens.get(word).copied().unwrap_or(0)
     }
 
-    // The amount in a stripe.
-    #[cfg(test)]
-    pub(crate) fn amount_at(&self, word: usize) -> u64
-        ensures { result ≡ amount_at word self.now }
-    {
-        self.amounts.get(word).copied().unwrap_or(0)
-    }
-
     pub(crate) fn gain(&mut self, word: usize)
         requires place { word < length self.old.tokens }
         requires room { tokens_at word self.old < 2 ^ 64 - 1 }
@@ -86,7 +79,7 @@ impl<A: Allocator> Hand<A> {
     // A token at a word for that at its parent.
     pub(crate) fn descend(&mut self, parent: usize, word: usize)
         requires place { (parent < length self.old.tokens) × (word < length self.old.tokens) × (parent ≢ word) }
-        requires room { tokens_at word self.old < 2 ^ 40 }
+        requires room { tokens_at word self.old < token_cap }
         requires token { 0 < tokens_at parent self.old }
         ensures { self.new ≡ lose (gain self.old word) parent }
     {
@@ -97,7 +90,7 @@ impl<A: Allocator> Hand<A> {
     // A token at the parent of a word for that at the word.
     pub(crate) fn ascend(&mut self, parent: usize, word: usize)
         requires place { (parent < length self.old.tokens) × (word < length self.old.tokens) × (parent ≢ word) }
-        requires room { tokens_at parent self.old < 2 ^ 40 }
+        requires room { tokens_at parent self.old < token_cap }
         requires token { 0 < tokens_at word self.old }
         ensures { self.new ≡ gain (lose self.old word) parent }
     {
@@ -109,7 +102,7 @@ impl<A: Allocator> Hand<A> {
     pub(crate) fn give(&mut self, helper: &Hand<A>)
         requires len { length helper.now.tokens ≡ length self.old.tokens }
         requires enough { (i : ℕ) → tokens_at i helper.now ≤ tokens_at i self.old }
-        requires room { out self.old.role < 65535 }
+        requires room { out self.old.role < helper_cap }
         ensures { self.new ≡ keeper self.old helper.now.tokens }
     {
         subtract_each(&mut self.tokens, &helper.tokens);

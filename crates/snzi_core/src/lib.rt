@@ -21,16 +21,16 @@
 //! anything about threads. A hand's number binds nothing outside the core.
 //!
 //! The definitions stand in `specs/`: the shape of a slot (`Shape`), what a hand has and how it
-//! changes (`Holding`, `Changes`), the balance, the caps and presence (`Balance`), the state that
+//! changes (`Holding`, `Changes`), the caps (`Caps`), the balance and
+//! presence (`Balance`), the state that
 //! contracts see (`State`), the table of refusals (`Lawful`) and of effects (`Effect`). The laws
 //! that other rules over words can use are the contracts of the module `laws` (`specs/Laws`).
 #![tactic(auto)]
 
+mod caps;
 mod changes;
 mod checks;
 mod event;
-#[cfg(test)]
-mod every_list;
 mod hand;
 mod holding;
 pub mod laws;
@@ -40,10 +40,9 @@ mod refusals;
 mod regrouping;
 mod stepping;
 mod table;
-#[cfg(test)]
-mod tests;
 mod unlawful;
 
+pub use caps::{HELPER_CAP, TOKEN_CAP};
 pub use event::{At, Event, Token};
 pub use holding::{Holding, Role};
 pub use machine::Core;

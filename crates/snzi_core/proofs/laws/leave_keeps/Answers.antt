@@ -10,7 +10,7 @@ pub returns : goal.returns
 returns c = λ w s words hands id j h shape at inside node g how. ⊎_elim
     (λ (last : (slice_index words j ≡ 1) × (parent w s j ≢ j) × Moves j (parent w s j) h g). (
       (λ was. last_balance (line w s) (parent w s) (is_family w s shape) words hands id j h g at inside node last.1 last.0 last.2 was),
-      (λ m alive room. move_muster hands id h g m at alive j (parent w s j) room last.2),
+      (λ m alive room. move_muster hands id h g m at alive j (parent w s j) (room last.0 last.1) last.2),
     ))
     (λ (more : (parent w s j ≢ j → slice_index words j ≢ 1) × Loses j h g). (
       (λ was. leave_balance (line w s) (parent w s) (is_family w s shape) words hands id j h g at inside node more.0 more.1 was),

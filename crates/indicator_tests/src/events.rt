@@ -1,8 +1,8 @@
-//! Worked rows of events, the cap on helpers, and growths refused in turn.
+//! Worked rows of events, the cap on helpers, growths refused in turn, and the memory of a spent hand.
 ghost use Rattle.std.specs.Prelude.{◌≡◌};
 
-use crate::{At, Core, Event, Token, Unlawful};
 use linked_list_allocator::LocalHeap;
+use snzi_core::{At, Core, Event, HELPER_CAP, Token, Unlawful};
 use std::alloc::Global;
 use std::test::Fail;
 
@@ -198,7 +198,7 @@ fn amounts_come_back_with_a_helper(rt: HostRuntime) -> Result<(), Fail> {
 #[test]
 fn no_more_helpers_than_the_cap(rt: HostRuntime) -> Result<(), Fail> {
     let mut core = Core::new(rt.alloc(), 1, 7)?;
-    for _ in 0..65535 {
+    for _ in 0..HELPER_CAP {
         assert!(rt; core.step(&Event::Split { share: &[] }) == Ok(()));
     }
     assert!(rt; core.step(&Event::Split { share: &[] }) == Err(Unlawful::Cap));
@@ -272,5 +272,16 @@ fn refused_growths_change_nothing(rt: HostRuntime) -> Result<(), Fail> {
         }
     }
     assert!(rt; refused == 1 && done == 1);
+    Ok(())
+}
+
+#[test]
+fn a_spent_hand_gives_its_memory_back(rt: HostRuntime) -> Result<(), Fail> {
+    let heap = LocalHeap::new(rt.alloc(), 100_000)?;
+    let mut core = Core::new(&heap, 64, 15)?;
+    for helper in 1..100 {
+        assert!(rt; core.step(&Event::Split { share: &[] }) == Ok(()));
+        assert!(rt; core.step(&Event::Join { helper }) == Ok(()));
+    }
     Ok(())
 }

@@ -1,0 +1,13 @@
+use Rattle.std.proofs.Common.{◌∙◌, ap}
+use Rattle.snzi_core.specs.Holding.{out, main_weight}
+use Rattle.snzi_core.proofs.Passing.{one_out_main, one_out_out}
+use Rattle.snzi_tree.specs.Hands.{holds}
+use Rattle.board_bench.proofs.send.Goals as goal
+
+pub returns-clause-main : goal.returns-clause-main
+returns-clause-main c =
+    let e = c.split-hand.ensures in
+    (e.hand.0.0 ∙ c.requires.here.0, ap main_weight e.parts.4 ∙ one_out_main (holds c.args.main.now).role ∙ c.requires.here.1)
+
+pub returns-clause-out : goal.returns-clause-out
+returns-clause-out c = ap out c.split-hand.ensures.parts.4 ∙ one_out_out (holds c.args.main.now).role c.requires.here.1

@@ -1,0 +1,11 @@
+pub mod OneToken
+pub mod Paths
+pub mod Ruled
+pub mod Adds
+pub mod Loads
+pub mod Shares
+pub mod Passes
+pub mod Places
+pub mod Leaves
+pub mod Given
+pub mod Amounts

@@ -1,0 +1,12 @@
+use Rattle.std.proofs.Common.{◌≡◌, ◌%◌, ◌^◌}
+use Rattle.snzi_tree.specs.Contents.{amounts_to}
+use Rattle.snzi_tree.specs.Hands.{holds, counted, SameHand, IsAlone}
+use Rattle.snzi_tree.proofs.board.Board.sum.Given as goal
+
+abbrev pub invariant-loop-k : goal.invariant-loop-k
+invariant-loop-k g l = record {
+  steps : l.hand.steps ≡ counted l.fn.hand.steps l.k;
+  hand : SameHand l.fn.hand l.hand;
+  same : holds l.hand ≡ holds l.fn.hand;
+  sum : IsAlone l.fn.hand → l.sum ≡ amounts_to g.row.W g.row.L l.slot (holds l.fn.hand) l.k % 2 ^ 64;
+}

@@ -1,0 +1,5 @@
+pub mod View
+pub mod Tell
+pub mod Hands
+pub mod Depths
+pub mod Contents

@@ -1,0 +1,38 @@
+//! What a hand tells of itself.
+ghost use Rattle.std.specs.Prelude.{◌≡◌};
+ghost use Rattle.snzi_core.specs.Holding.{held, out};
+ghost use Rattle.snzi_tree.specs.Hands.{holds, counted};
+
+use crate::board::Hand;
+
+impl Hand {
+    /// The tokens of the hand in all.
+    pub fn held(&self) -> u64
+        ensures { result ≡ held (holds self.now) }
+    {
+        self.held
+    }
+
+    /// The helpers that main has out; 0 of a helper.
+    pub fn helpers_out(&self) -> u32
+        ensures { result ≡ out (holds self.now).role }
+    {
+        self.helpers_out
+    }
+
+    /// The hand's steps on words so far, of which a split and a join are one each for main. It
+    /// stays at the greatest u64.
+    pub fn steps(&self) -> u64
+        ensures { result ≡ self.now.steps }
+    {
+        self.steps
+    }
+
+    // One step more.
+    pub(crate) fn count_step(&mut self)
+        ensures steps { self.new.steps ≡ counted self.old.steps 1 }
+        ensures same { (self.new.seat ≡ self.old.seat) × (self.new.held ≡ self.old.held) × (self.new.helpers_out ≡ self.old.helpers_out) }
+    {
+        self.steps = self.steps.saturating_add(1);
+    }
+}

@@ -1,0 +1,39 @@
+//! The board: indicator trees and their stripes on atomic words, for any number of threads.
+//!
+//! A board has `G` slots. Each has `W` nodes in heap shape, an indicator after "SNZI: Scalable
+//! NonZero Indicators" (Ellen, Lev, Luchangco, Moir, PODC 2007), and `L` stripes of one sum, as
+//! `LongAdder` of `java.util.concurrent.atomic` has them. Threads share the board by `&` and act on
+//! it by hands of their own: main, which `new` gives, and the helpers that main splits off.
+//!
+//! What a user can rely on:
+//! - each atomic step is one event of `snzi_core`, and keeps its balance and caps between any two
+//!   steps of any threads;
+//! - `arrive` gives the hand one token at a leaf and `depart` takes one, `add` and `take` change the
+//!   hand's amount in one stripe modulo 2^64; nothing else of the hand changes but `steps`, and no
+//!   other hand; `split` moves exactly the share, `join` gives main all that the helper holds;
+//! - a hand that holds a token in a slot is answered true by `query`, whatever others do; main with
+//!   no helper out is answered exactly, by `query` and by `sum`;
+//! - `arrive`, `depart`, `query`, `add`, `take` and `sum` take no lock, no runtime and no memory, wait
+//!   for nobody and always succeed; an arrival at depth d takes at most 1 + 3d + d(d+1)/2 steps, a
+//!   departure at most d + 1.
+//!
+//! What is not promised: what a hand without a token is told while helpers are out; a sum beside
+//! other threads' adds is no snapshot; time. A helper that is dropped instead of joined stays out.
+//!
+//! The definitions stand in `specs/`: the rule and what a hand's seat knows (`View`), what each kind
+//! of step tells (`Tell`), words of a hand (`Hands`), by slots, leaves and stripes (`Contents`), and
+//! the bounds (`Depths`). Balance, caps and presence are `snzi_core`'s.
+#![tactic(auto)]
+
+mod board;
+mod hand;
+mod hands;
+mod plays;
+mod query;
+mod steps;
+mod stripes;
+mod tokens;
+
+pub use board::{Board, Hand};
+pub use snzi_core::Token;
+pub use tokens::HELD_MAX;

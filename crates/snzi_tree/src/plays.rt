@@ -1,0 +1,115 @@
+//! What each kind of step tells its hand.
+use crate::board::View;
+use atomic_table::{Join, Play, Split};
+
+// A load of a node.
+pub(crate) struct Look;
+
+impl Play<(), View> for Look {
+    ghost use Rattle.snzi_tree.specs.Tell.{looked};
+
+    ghost then = { looked };
+}
+
+// A load of a root, for its answer.
+pub(crate) struct Query<const W: usize, const L: usize>;
+
+impl<const W: usize, const L: usize> Play<(), View> for Query<W, L> {
+    ghost use Rattle.std.specs.Prelude.{◌+◌};
+    ghost use Rattle.snzi_tree.specs.Tell.{queried};
+
+    ghost then = { queried W (W + L) };
+}
+
+// A load of a stripe.
+pub(crate) struct Count;
+
+impl Play<(), View> for Count {
+    ghost use Rattle.snzi_tree.specs.Tell.{summed};
+
+    ghost then = { summed };
+}
+
+// A fetch_add on a root.
+pub(crate) struct RootAdd;
+
+impl Play<(), View> for RootAdd {
+    ghost use Rattle.snzi_tree.specs.Tell.{root_added};
+
+    ghost then = { root_added };
+}
+
+// A fetch_add on a node below a root.
+pub(crate) struct ChildAdd<const W: usize, const L: usize>;
+
+impl<const W: usize, const L: usize> Play<(), View> for ChildAdd<W, L> {
+    ghost use Rattle.std.specs.Prelude.{◌+◌};
+    ghost use Rattle.snzi_tree.specs.Tell.{child_added};
+
+    ghost then = { child_added W (W + L) };
+}
+
+// A compare-exchange on a node that is not zero.
+pub(crate) struct FastAdd;
+
+impl Play<(), View> for FastAdd {
+    ghost use Rattle.snzi_tree.specs.Tell.{fast_added};
+
+    ghost then = { fast_added };
+}
+
+// A fetch_sub on a node.
+pub(crate) struct Leave<const W: usize, const L: usize>;
+
+impl<const W: usize, const L: usize> Play<(), View> for Leave<W, L> {
+    ghost use Rattle.std.specs.Prelude.{◌+◌};
+    ghost use Rattle.snzi_tree.specs.Tell.{left};
+
+    ghost then = { left W (W + L) };
+}
+
+// A fetch_add on a stripe.
+pub(crate) struct StripeAdd;
+
+impl Play<(), View> for StripeAdd {
+    ghost use Rattle.snzi_tree.specs.Tell.{added_on};
+
+    ghost then = { added_on };
+}
+
+// A load that begins a share.
+pub(crate) struct Unstage;
+
+impl Play<(), View> for Unstage {
+    ghost use Rattle.snzi_tree.specs.Tell.{unstaged};
+
+    ghost then = { unstaged };
+}
+
+// A load that puts a token into the share.
+pub(crate) struct Stage;
+
+impl Play<(), View> for Stage {
+    ghost use Rattle.snzi_tree.specs.Tell.{staged};
+
+    ghost then = { staged };
+}
+
+// A split by the share, and a join.
+pub(crate) struct Share;
+
+impl Split<View> for Share {
+    ghost use Rattle.snzi_tree.specs.View.{kept, given};
+
+    ghost left = { kept };
+
+    ghost right = { given };
+}
+
+impl Join<View> for Share {
+    ghost use Rattle.snzi_tree.specs.View.{joined, spent_view};
+
+    ghost both = { joined };
+
+    ghost spent = { spent_view };
+}
