@@ -18,7 +18,5 @@
 #![tactic(auto)]
 
 mod stripes;
-#[cfg(test)]
-mod tests;
 
 pub use stripes::Stripes;

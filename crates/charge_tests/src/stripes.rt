@@ -1,5 +1,7 @@
-use crate::Stripes;
+//! Adds and takes in several stripes.
+
 use std::test::Fail;
+use striped_adder::Stripes;
 
 #[test]
 fn adds_and_takes_in_several_stripes(rt: HostRuntime) -> Result<(), Fail> {

@@ -1,0 +1,13 @@
+//! Tests of stripes and of charges, in a crate of their own so that no other is proved twice for them.
+//!
+//! They ask what no contract says: that calls succeed where there is memory, and worked examples whose answers were written
+//! by hand.
+//!
+//! - `stripes`: adds and takes in several stripes, past 2^64.
+//! - `pids`: the numbers of processes.
+#![tactic(auto)]
+
+#[cfg(test)]
+mod pids;
+#[cfg(test)]
+mod stripes;

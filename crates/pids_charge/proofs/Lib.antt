@@ -1,0 +1,23 @@
+mod Below
+mod Tokens
+mod Entries
+mod Listing
+mod Listed
+mod Charged
+mod Chains
+mod Gathers
+mod Asked
+mod Slots
+mod Counted
+mod Freed
+mod Starts
+mod Changes
+mod Read
+mod Limited
+mod Exited
+mod Walked
+mod Totals
+mod Forked
+mod Removals
+mod Empty
+pub mod Wants

@@ -1,0 +1,45 @@
+use Rattle.std.proofs.Common.{◌≡◌, ℕ, ◌-◌, ◌<◌, ◌++◌, ◌∷◌, [], List, length, take, get_or, arith, sym, ap, ◌∙◌, subst}
+use Rattle.std.specs.FinMap as fin
+use Rattle.group_tree.specs.declared.attr.Attr.{Attr}
+use Rattle.group_tree.specs.Groups.{Groups, IsClosed}
+use Rattle.pids_charge.specs.Recount.{HasSlots}
+use Rattle.pids_charge.proofs.Slots.{has_slots, last-is, kept}
+use Rattle.pids_charge.proofs.Charged.{grown_tree}
+use Rattle.pids_charge.proofs.Asked.{len-is, inserted}
+use Rattle.pids_charge.proofs.Limited.{written-is}
+use Rattle.pids_charge.proofs.charges.Charges.restore.Goals as goal
+
+pub overflow_sub-last : goal.overflow_sub-last
+overflow_sub-last g c =
+    omega (arith, c.self.invariant.has_slots.whole, len-is c.self.inside.tree c.self.inside.processes.entries c.args.self.now c.self.view_is, c.requires.slot, c.len-last.ensures)
+
+pub index-slot-requires : goal.index-slot-requires
+index-slot-requires g c =
+    omega (arith, c.self.invariant.has_slots.whole, len-is c.self.inside.tree c.self.inside.processes.entries c.args.self.now c.self.view_is, c.requires.slot, c.len-last.ensures)
+
+pub invariant_of-self-2 : goal.invariant_of-self-2
+invariant_of-self-2 g c =
+    let h = c.self.invariant.has_slots in
+    let free : List ℕ = c.self.inside.free.items in
+    let x : Attr = record { limits = c.args.attr.limits; local = c.args.attr.local; total = c.args.attr.total; slot = c.index-slot.result.now } in
+    let done = inserted c.self.inside.tree c.insert-made.new.self c.args.path.now x c.insert-made.result c.insert-made.ensures (sym c.is_err.ensures.value ∙ c.if-is_err.false) in
+    let pos : 0 < length free = omega (arith, h.whole, len-is c.self.inside.tree c.self.inside.processes.entries c.args.self.now c.self.view_is, c.requires.slot) in
+    let many : c.len-last.result ≡ length free = omega (arith, c.len-last.ensures) in
+    let now : ℕ = c.index-slot.result.now in
+    let split : free ≡ take (length free - 1) free ++ x.slot ∷ [] =
+    last-is free now now pos (sym (c.index-slot.ensures ∙ ap (λ n. get_or free (n - 1) now) many)) in
+    let gone : c.truncate.new.self.items ≡ take (length free - 1) free = c.truncate.ensures.items ∙ ap (λ n. take (n - 1) free) many in
+    let made : HasSlots g.M.Meter.SLOTS (fin.insert c.self.inside.tree c.args.path.now x) (take (length free - 1) free) =
+    has_slots g.M.Meter.SLOTS c.self.inside.tree free h c.args.path.now x (take (length free - 1) free) split done.0 (subst IsClosed done.1 c.known-3.ensures.closed) c.known.ensures.shallow in
+    record {
+      has_slots = subst (λ (t : Groups). HasSlots g.M.Meter.SLOTS t c.truncate.new.self.items) (sym done.1) (subst (λ (f : List ℕ). HasSlots g.M.Meter.SLOTS (fin.insert c.self.inside.tree c.args.path.now x) f) (sym gone) made);
+      room = omega (arith, c.self.invariant.room, c.truncate.ensures.capacity);
+      recounted = grown_tree g.M.Meter.LEAVES c.self.inside.tree c.self.inside.processes.entries (g.M.Meter.content c.self.inside.meter) (g.M.Meter.held c.self.inside.meter) c.self.invariant.recounted c.insert-made.new.self
+          (λ q i. ap (λ (t : Groups). fin.get t q) done.1 ∙ kept c.self.inside.tree c.args.path.now x done.0 q i) c.known-2.ensures.prefixes;
+    }
+
+pub returns-clause-restored : goal.returns-clause-restored
+returns-clause-restored g c =
+    let x : Attr = record { limits = c.args.attr.limits; local = c.args.attr.local; total = c.args.attr.total; slot = c.index-slot.result.now } in
+    let done = inserted c.self.inside.tree c.insert-made.new.self c.args.path.now x c.insert-made.result c.insert-made.ensures (sym c.is_err.ensures.value ∙ c.if-is_err.false) in
+    written-is c.args.self.now c.self.inside.tree c.self.inside.processes.entries c.self.view_is c.insert-made.new.self c.args.path.now x done.1

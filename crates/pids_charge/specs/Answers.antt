@@ -1,0 +1,51 @@
+-- A call that is a command of the flat state.
+use Rattle.std.specs.Prelude.{ℕ, ◌≡◌, Option, Some, None, Result, Ok, Err, take}
+use Rattle.flat_model.specs.Path.{Path}
+use Rattle.flat_model.specs.State.{State}
+use Rattle.flat_model.specs.Command as model
+use Rattle.flat_model.specs.Command.{Command, Refusal}
+use Rattle.flat_model.specs.Step.{refusal, after, after_refusal}
+use Rattle.pids_charge.specs.declared.fault.ChargeFault.{ChargeFault}
+use Rattle.pids_charge.specs.declared.fault.ChargeFault.TheVariants.{Exists, NoGroup, Descendants, Depth, NoSlot, RootFixed, HasChildren, HasProcesses, NoProcess, PidInUse, PidsMax, OutOfMemory, NoFile}
+
+-- the refusal that a fault is, where its numbers count names of p; want of memory is none
+abbrev pub refusal_of : Path → ChargeFault → Option Refusal
+refusal_of p Exists = Some model.Exists
+refusal_of p (NoGroup n) = Some (model.NoGroup (take n p))
+refusal_of p (Descendants n) = Some (model.Descendants (take n p))
+refusal_of p (Depth n) = Some (model.Depth (take n p))
+refusal_of p NoSlot = Some model.NoSlot
+refusal_of p RootFixed = Some model.RootFixed
+refusal_of p HasChildren = Some model.HasChildren
+refusal_of p HasProcesses = Some model.HasProcesses
+refusal_of p (NoProcess pid) = Some (model.NoProcess pid)
+refusal_of p (PidInUse pid) = Some (model.PidInUse pid)
+refusal_of p (PidsMax n) = Some (model.OverPidsMax (take n p))
+refusal_of p OutOfMemory = None
+refusal_of p NoFile = Some model.NoFile
+
+-- a refusal leaves what it leaves; want of memory leaves all
+abbrev pub after_fault : State → Option Refusal → State
+after_fault s None = s
+after_fault s (Some r) = after_refusal s r
+
+-- the first refusal is answered, memory last; else the state is the command's
+abbrev pub Does : ℕ → State → Command → Path → {X : Type 0} → Result X ChargeFault → State → Type 0
+Does slots s c p (Ok x) new = (refusal slots s c ≡ None) × (new ≡ after s c)
+Does slots s c p (Err f) new = (refusal slots s c ≡ refusal_of p f) × (new ≡ after_fault s (refusal_of p f))
+
+-- how many names of the path a fault counts; 0 where it names no group
+abbrev pub names_in : ChargeFault → ℕ
+names_in (NoGroup n) = n
+names_in (Descendants n) = n
+names_in (Depth n) = n
+names_in (PidsMax n) = n
+names_in Exists = 0
+names_in NoSlot = 0
+names_in RootFixed = 0
+names_in HasChildren = 0
+names_in HasProcesses = 0
+names_in (NoProcess pid) = 0
+names_in (PidInUse pid) = 0
+names_in OutOfMemory = 0
+names_in NoFile = 0

@@ -1,0 +1,42 @@
+-- Forks that limits refuse: which group refuses, and the events that are counted.
+use Rattle.std.specs.Prelude.{ℕ, zero, suc, ◌+◌, ◌-◌, ◌^◌, ◌<◌, ◌≡◌, Bool, true, false, cond, Option, Some, None, take, IsSome}
+use Rattle.std.specs.FinMap as fin
+use Rattle.std.specs.Ordering.{nat_cmp}
+use Rattle.flat_model.specs.Path.{Path}
+use Rattle.flat_model.specs.Mapped.{map_values}
+use Rattle.flat_model.specs.State as flat
+use Rattle.flat_model.specs.State.{State}
+use Rattle.flat_model.specs.Counts.{exceeds}
+use Rattle.flat_model.specs.Step.{counts_for}
+use Rattle.group_tree.specs.Groups.{Groups}
+use Rattle.group_tree.specs.Flat.{group_of, limit_of}
+use Rattle.group_tree.specs.declared.attr.Attr.{Attr}
+use Rattle.pids_charge.specs.Content.{Content, over_leaves}
+
+-- one process more would bring the group past its `pids.max`, by what the meter holds
+abbrev pub full_by : ℕ → Content → Option Attr → Bool
+full_by leaves content None = false
+full_by leaves content (Some attr) = exceeds (over_leaves leaves (content attr.slot) + 1) (limit_of attr.limits.pids)
+
+-- the number of names of the longest prefix of 1 to n names that passes
+abbrev pub longest : (Path → Bool) → Path → ℕ → Option ℕ
+longest test p zero = None
+longest test p (suc n) = cond (test (take (suc n) p)) (Some (suc n)) (longest test p n)
+
+-- the attributes of q with the event total that g makes of the one there, where it counts forks refused by a
+abbrev pub total_by : (ℕ → ℕ) → Path → Path → Attr → Attr
+total_by g a q attr = record attr { total = cond (counts_for a q) (g attr.total) attr.total }
+
+-- the flat state of these groups and homes
+abbrev pub flat_of : Groups → fin.FinMap nat_cmp Path → State
+flat_of tree home = record { groups = map_values group_of tree; home = home }
+
+-- no event total is the greatest that there is
+abbrev pub HasRoomForEvents : State → Type 0
+HasRoomForEvents s = (p : Path) (attr : flat.Attr) → fin.get s.groups p ≡ Some attr → (attr.local < 2 ^ 64 - 1) × (attr.total < 2 ^ 64 - 1)
+
+-- a is a group, and its event totals and those of the groups above it that count its refusals are positive
+pub record HasEvents (s : State) (a : Path) : Type 0 where
+  pub there : IsSome (fin.get s.groups a)
+  pub local : (attr : flat.Attr) → fin.get s.groups a ≡ Some attr → 0 < attr.local
+  pub total : (p : Path) (attr : flat.Attr) → fin.get s.groups p ≡ Some attr → counts_for a p ≡ true → 0 < attr.total

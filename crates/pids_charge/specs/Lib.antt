@@ -1,0 +1,6 @@
+pub mod Content
+pub mod Table
+pub mod Lists
+pub mod Recount
+pub mod Events
+pub mod Answers

@@ -1,0 +1,76 @@
+//! Groups and processes with their charges.
+
+ghost use Rattle.std.specs.Prelude.{◌≡◌, ◌≤◌, IfOk};
+ghost use Rattle.std.specs.Vec.{vec_capacity};
+ghost use Rattle.flat_model.specs.State.{start};
+ghost use Rattle.pids_charge.specs.Content.{IsEmpty};
+ghost use Rattle.pids_charge.specs.Recount.{AreAllFree};
+
+use crate::meter::Meter;
+use crate::pid::Pid;
+use crate::process::Process;
+use group_path::GroupPath;
+use group_tree::{Attr, GroupTree};
+use std::alloc::{AllocError, Allocator};
+use std::collections::BTreeMap;
+use std::marker::Model;
+
+/// Groups and processes, each process charged at its group and at every group above it but the root; seen as the flat
+/// state.
+#[derive(Drop)]
+pub struct Charges<A: Allocator + Clone, M: Meter> {
+    pub(crate) tree: GroupTree<A>,
+    pub(crate) processes: BTreeMap<Pid, Process<A>, A>,
+    pub(crate) free: Vec<u16, A>,
+    pub(crate) meter: M,
+    pub(crate) alloc: A,
+}
+
+impl<A: Allocator + Clone, M: Meter> Model for Charges<A, M> {
+    ghost use Rattle.std.specs.Prelude.{◌≤◌};
+    ghost use Rattle.std.specs.Vec.{vec_capacity};
+    ghost use Rattle.flat_model.specs.State.{State};
+    ghost use Rattle.flat_model.specs.Codes.{state_code};
+    ghost use Rattle.pids_charge.specs.Recount.{IsWhole, state_of};
+
+    ghost Value = { State };
+
+    ghost coded = { state_code };
+
+    ghost view = { λ c. state_of c.tree c.processes.entries };
+
+    ghost invariant = { λ c. IsWhole M.SLOTS M.LEAVES c.tree c.processes.entries c.free.items (vec_capacity c.free) (M.content c.meter) (M.held c.meter) };
+}
+
+/// All slots, in a table that holds as many.
+fn all_slots<A: Allocator>(alloc: A, slots: u16) -> Result<Vec<u16, A>, AllocError>
+    ensures free { IfOk result (λ free. AreAllFree slots free.items) }
+    ensures room { IfOk result (λ free. slots ≤ vec_capacity free) }
+{
+    let mut free = Vec::with_capacity(alloc, usize::from(slots))?;
+    for slot in 0..slots {
+        free.push(slot)?;
+    }
+    Ok(free)
+}
+
+impl<A: Allocator + Clone, M: Meter + Drop> Charges<A, M> {
+    /// The root alone, and process 1 in it, over an empty meter. All slots are free, in a table that is made whole here.
+    pub fn new(alloc: A, meter: M) -> Result<Charges<A, M>, AllocError>
+        requires { IsEmpty (M.content meter) (M.held meter) }
+        ensures { IfOk result (λ c. c ≡ start) }
+    {
+        let home = GroupPath::root(alloc.clone()?)?;
+        let tree = GroupTree::new(alloc.clone()?, Attr::new(0))?;
+        let mut processes = BTreeMap::new(alloc.clone()?);
+        let _ = processes.insert(Pid::first(), Process { home, leaf: 0 })?;
+        let free = all_slots(alloc.clone()?, M::SLOTS)?;
+        Ok(Charges {
+            tree,
+            processes,
+            free,
+            meter,
+            alloc,
+        })
+    }
+}

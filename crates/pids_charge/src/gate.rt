@@ -1,0 +1,25 @@
+//! Points that a part of a settlement passes.
+
+ghost use Rattle.std.specs.Prelude.{◌≤◌};
+
+/// Called by the thread that does a part, at its start. The parts are numbered from 1. A gate may keep the thread waiting.
+pub trait Gate: Sync {
+    fn pass(&self, part: u8)
+        requires from_one { 1 ≤ part }
+        requires to_the_last { part ≤ 24 };
+}
+
+/// A gate that lets each part through at once.
+#[derive(Clone, Copy, Drop)]
+pub struct OpenGate;
+
+impl Gate for OpenGate {
+    fn pass(&self, _part: u8) {}
+}
+
+impl Gate for &(dyn Gate + Sync) {
+    fn pass(&self, part: u8) {
+        let inner = *self;
+        inner.pass(part);
+    }
+}

@@ -1,0 +1,51 @@
+//! Processes in groups, each counted at its group and at every group above it.
+//!
+//! - A `Charges` has the groups as a tree and the processes in a table. It starts with the root alone and process 1 in it.
+//!   Each group beside the root has a slot of a meter; a process is one charge at the slot of its group and at that of each
+//!   group above it but the root, at the leaf that the process remembers.
+//! - How many processes are at or below a group, and whether there is one, is what the meter answers at the group's slot:
+//!   no call but `members` and `kill` goes over the processes.
+//! - A fork is refused where one process more would exceed the `pids.max` of a group at or above the parent's. The nearest
+//!   such group is named, and its event totals rise: the local total of that group, and the total of it and of each group
+//!   above it but the root. Moves, and limits set below what there is, are never blocked.
+//! - Refusals come in a fixed order, want of memory last, and change nothing but those totals.
+//! - Beside each command stands what takes it back without asking any limit: `restore` for a removal, `place` for an exit,
+//!   `place_all` for a kill, `uncount` for a refused fork. A move and a limit are taken back by themselves.
+//! - `exit`, `uncount`, `rmdir`, `set_limit` and the readers take no memory. The table of free slots is made whole by `new`.
+//! - A walk along a path looks each of its groups up from the root, so that a fork, an exit and a move cost
+//!   O(log processes + depth^2 · log children) comparisons; a path has at most 32 names.
+//! - Any meter serves that meets the law of `Meter`. `PlainMeter` keeps plain numbers, for one thread.
+//!
+//! Not promised: which slot a group gets, and in which stripe of a meter an amount stands.
+//!
+//! `specs/Recount.antt` says what ties meter, tree and table, `specs/Answers.antt` what a call that is a command answers
+//! and leaves, `specs/Events.antt` what a limit refuses and what is counted.
+#![tactic(auto)]
+
+mod charges;
+mod exit;
+mod fault;
+mod fork;
+mod gate;
+mod kill;
+mod limit;
+mod lost;
+mod meter;
+mod migrate;
+mod mkdir;
+mod pid;
+mod place;
+mod plain;
+mod process;
+mod readers;
+mod rmdir;
+mod walk;
+
+pub use charges::Charges;
+pub use fault::ChargeFault;
+pub use gate::{Gate, OpenGate};
+pub use lost::{Lost, LostList};
+pub use meter::{HELD_MAX, Meter};
+pub use pid::{PID_MAX, Pid};
+pub use plain::PlainMeter;
+pub use snzi_core::Token;

@@ -1,0 +1,57 @@
+//! The setting of limits. It is taken back by setting the old limit.
+
+ghost use Rattle.std.specs.Prelude.{◌≡◌, ◌&&◌, None, IsOk, IfOk};
+ghost use Rattle.flat_model.specs.Path.{is_root};
+ghost use Rattle.flat_model.specs.File.{is_pids_max};
+ghost use Rattle.flat_model.specs.Command.{SetLimit};
+ghost use Rattle.flat_model.specs.Step.{limit_at, attr_of, refusal};
+ghost use Rattle.group_tree.specs.Flat.{limit_of, limit_file_of};
+ghost use Rattle.pids_charge.specs.Answers.{Does};
+
+use crate::charges::Charges;
+use crate::fault::ChargeFault;
+use crate::meter::Meter;
+use group_path::GroupPath;
+use group_tree::{Limit, LimitFile};
+use std::alloc::Allocator;
+
+// Whether the group has no such file: the root has no `pids.max`.
+fn is_missing<B: Allocator + Clone>(path: &GroupPath<B>, file: LimitFile) -> bool
+    ensures { result ≡ (is_root path.now && is_pids_max (limit_file_of file)) }
+{
+    match file {
+        LimitFile::PidsMax => path.depth() == 0,
+        LimitFile::MaxDescendants => false,
+        LimitFile::MaxDepth => false,
+    }
+}
+
+impl<A: Allocator + Clone, M: Meter> Charges<A, M> {
+    /// Sets a limit of a group, and answers the one that stood there. A limit may be below what there is now. It takes no
+    /// memory, and costs two descents of the tree.
+    ///
+    /// # Errors
+    ///
+    /// `NoFile` for the `pids.max` of the root, and then `NoGroup`. Nothing has changed then.
+    pub fn set_limit<B: Allocator + Clone>(
+        &mut self,
+        path: &GroupPath<B>,
+        file: LimitFile,
+        limit: Limit,
+    ) -> Result<Limit, ChargeFault>
+        ensures state { Does M.SLOTS self.old (SetLimit path.now (limit_file_of file) (limit_of limit)) path.now result self.new }
+        ensures old_limit { IfOk result (λ old. limit_of old ≡ limit_at (limit_file_of file) (attr_of self.old path.now)) }
+        ensures certain { refusal M.SLOTS self.old (SetLimit path.now (limit_file_of file) (limit_of limit)) ≡ None → IsOk result }
+    {
+        if is_missing(path, file) {
+            return Err(ChargeFault::NoFile);
+        }
+        let Some(found) = self.tree.find(path) else {
+            return Err(ChargeFault::NoGroup(path.depth()));
+        };
+        let attr = *found;
+        let _ = self.tree.set(path, attr.with_limit(file, limit));
+        self.tree.known();
+        Ok(attr.limit(file))
+    }
+}

@@ -1,0 +1,52 @@
+//! The processes that a kill took.
+
+ghost use Rattle.std.specs.Prelude.{◌≡◌};
+ghost use Rattle.pids_charge.specs.Lists.{rows_of};
+
+use crate::pid::Pid;
+use group_path::GroupPath;
+use std::alloc::Allocator;
+use std::marker::Model;
+
+/// A process that a kill took, and the group that it was in.
+#[derive(Drop)]
+pub struct Lost<A: Allocator + Clone> {
+    pub pid: Pid,
+    pub path: GroupPath<A>,
+}
+
+/// The processes that a kill took, pids rising; seen as pairs of a pid and a path.
+#[derive(Drop)]
+pub struct LostList<A: Allocator + Clone> {
+    items: Vec<Lost<A>, A>,
+}
+
+impl<A: Allocator + Clone> Model for LostList<A> {
+    ghost use Rattle.std.specs.Prelude.{ℕ, List};
+    ghost use Rattle.std.specs.Coded.{coded×, coded_ℕ, coded_list};
+    ghost use Rattle.flat_model.specs.Path.{Path};
+    ghost use Rattle.flat_model.specs.Codes.{path_code};
+    ghost use Rattle.pids_charge.specs.Lists.{rows_of};
+
+    ghost Value = { List (ℕ × Path) };
+
+    ghost coded = { coded_list (coded× coded_ℕ path_code) };
+
+    ghost view = { λ l. rows_of l.items.items };
+}
+
+impl<A: Allocator + Clone> LostList<A> {
+    /// The list of these. It takes no memory.
+    pub fn of(items: Vec<Lost<A>, A>) -> LostList<A>
+        ensures { result ≡ rows_of items.items }
+    {
+        LostList { items }
+    }
+
+    /// The processes, as they were listed.
+    pub fn as_slice(&self) -> &[Lost<A>]
+        ensures { rows_of result.now ≡ self.now }
+    {
+        self.items.as_slice()
+    }
+}

@@ -1,0 +1,63 @@
+//! The making of groups.
+
+ghost use Rattle.std.specs.Prelude.{◌≡◌, ◌≤◌, length, None, IfSome, IfErr, OnErr, OnOk, MatchOption};
+ghost use Rattle.flat_model.specs.Command.{MakeGroup};
+ghost use Rattle.flat_model.specs.Step.{refusal, after};
+ghost use Rattle.pids_charge.specs.Answers.{Does, refusal_of, after_fault, names_in};
+
+use crate::charges::Charges;
+use crate::fault::ChargeFault;
+use crate::meter::Meter;
+use group_path::GroupPath;
+use group_tree::{Attr, MetLimit};
+use std::alloc::Allocator;
+
+impl<A: Allocator + Clone, M: Meter> Charges<A, M> {
+    /// Why the group may not be made, if it may not: what `mkdir` would be refused, memory aside. It costs three descents of
+    /// the tree.
+    pub fn refuses_mkdir<B: Allocator + Clone>(&self, path: &GroupPath<B>) -> Option<ChargeFault>
+        ensures first { MatchOption result (refusal M.SLOTS self.now (MakeGroup path.now) ≡ None) (λ f. refusal M.SLOTS self.now (MakeGroup path.now) ≡ refusal_of path.now f) }
+        ensures inside { IfSome result (λ f. names_in f ≤ length path.now) }
+        ensures kept { IfSome result (λ f. after_fault self.now (refusal_of path.now f) ≡ self.now) }
+    {
+        if self.tree.find(path).is_some() {
+            return Some(ChargeFault::Exists);
+        }
+        let above = path.depth().saturating_sub(1);
+        if self.tree.find_at(path, above).is_none() {
+            return Some(ChargeFault::NoGroup(above));
+        }
+        match self.tree.met_limit(path, above) {
+            Some(MetLimit::Descendants(n)) => Some(ChargeFault::Descendants(n)),
+            Some(MetLimit::Depth(n)) => Some(ChargeFault::Depth(n)),
+            None if self.free.is_empty() => Some(ChargeFault::NoSlot),
+            None => None,
+        }
+    }
+
+    // Makes a group that may be made.
+    fn add_group<B: Allocator + Clone>(&mut self, path: &GroupPath<B>) -> Result<(), ChargeFault>
+        requires { refusal M.SLOTS self.old (MakeGroup path.now) ≡ None }
+        ensures ok { OnOk result (self.new ≡ after self.old (MakeGroup path.now)) }
+        ensures memory { IfErr result (λ f. f ≡ ChargeFault.OutOfMemory) }
+        ensures err { OnErr result (self.new ≡ self.old) }
+    {
+        self.restore(path, Attr::new(0))
+    }
+
+    /// Makes a group under one that is there, with no limits and no events, on a free slot. Costs four descents of the tree
+    /// at the most: all limits above it are asked in one.
+    ///
+    /// # Errors
+    ///
+    /// The first that holds, in this order: `Exists`, `NoGroup` of the parent, `Descendants` or `Depth` of the first group
+    /// from the parent upward whose limit is met, `NoSlot`, `OutOfMemory`. Nothing has changed then.
+    pub fn mkdir<B: Allocator + Clone>(&mut self, path: &GroupPath<B>) -> Result<(), ChargeFault>
+        ensures { Does M.SLOTS self.old (MakeGroup path.now) path.now result self.new }
+    {
+        if let Some(fault) = self.refuses_mkdir(path) {
+            return Err(fault);
+        }
+        self.add_group(path)
+    }
+}

@@ -1,0 +1,172 @@
+//! Listed processes put where they were: what takes a kill back.
+
+ghost use Rattle.std.specs.Prelude.{◌≡◌, ◌≤◌, ◌<◌, ◌^◌, ℕ, IfOk, IfErr, IsSome, OnErr, OnOk, None, length, drop, eqb, map};
+ghost use Rattle.std.specs.List.{All, sum_by, IsDistinct};
+ghost use Rattle.std.specs.Ordering.{nat_cmp};
+ghost use Rattle.std.specs.BTreeMap.{insert_entry, is_at};
+ghost use Rattle.std.specs.FinMap as fin;
+ghost use Rattle.std.specs.Map.{lookup};
+ghost use Rattle.flat_model.specs.Inverse.{back, Killed};
+ghost use Rattle.pids_charge.specs.Content.{tokens_at, IsWithin};
+ghost use Rattle.pids_charge.specs.Lists.{with_lost, without, placed_at, rows_of};
+ghost use Rattle.pids_charge.specs.Recount.{charges_at, SlotsBelow};
+
+use crate::charges::Charges;
+use crate::fault::ChargeFault;
+use crate::gate::Gate;
+use crate::lost::Lost;
+use crate::meter::Meter;
+use crate::pid::Pid;
+use crate::process::Process;
+use crate::walk::push_tokens;
+use group_tree::GroupTree;
+use snzi_core::Token;
+use std::alloc::{AllocError, Allocator};
+use std::collections::BTreeMap;
+use std::sync::Wait;
+use std::thread::Threads;
+
+// A token for each charge of the listed processes.
+fn tokens_of<M: Meter, T: Allocator, A: Allocator + Clone, B: Allocator + Clone>(
+    tree: &GroupTree<T>,
+    alloc: A,
+    list: &[Lost<B>],
+    leaf: u8,
+) -> Result<Vec<Token, A>, AllocError>
+    requires leaf_below { leaf < M.LEAVES }
+    requires homes { All (λ l. IsSome (fin.get tree.now l.path)) list.now }
+    requires slots { SlotsBelow M.SLOTS tree.now }
+    ensures counted { IfOk result (λ t. (s j : ℕ) → tokens_at t.items s j ≡ sum_by (λ l. charges_at tree.now l.path leaf s j) list.now) }
+    ensures many { IfOk result (λ t. length t.items ≡ sum_by (λ l. length l.path) list.now) }
+    ensures within { IfOk result (λ t. IsWithin M.SLOTS M.LEAVES t.items) }
+{
+    let mut tokens = Vec::new(alloc);
+    for lost in list {
+        push_tokens::<M, _, _, _>(tree, &lost.path, leaf, &mut tokens)?;
+    }
+    Ok(tokens)
+}
+
+// One listed process with its path copied.
+fn place_one<A: Allocator + Clone, B: Allocator + Clone>(
+    processes: &mut BTreeMap<Pid, Process<A>, A>,
+    alloc: &A,
+    lost: &Lost<B>,
+    leaf: u8,
+) -> Result<(), AllocError>
+    ensures placed { OnOk result (processes.new.entries ≡ insert_entry nat_cmp processes.old.entries lost.now.pid (placed_at leaf lost.now)) }
+    ensures kept { OnErr result (processes.new.entries ≡ processes.old.entries) }
+    ensures small { lost.now.pid < 2 ^ 22 }
+{
+    lost.pid.get();
+    let home = lost.path.copy(alloc.clone()?)?;
+    let _ = processes.insert(lost.pid, Process { home, leaf })?;
+    Ok(())
+}
+
+// As many of the list's last processes as there is memory for. Answers the place of the first of them.
+fn place_last<A: Allocator + Clone, B: Allocator + Clone>(
+    processes: &mut BTreeMap<Pid, Process<A>, A>,
+    alloc: &A,
+    list: &[Lost<B>],
+    leaf: u8,
+) -> usize
+    ensures place { result ≤ length list.now }
+    ensures placed { processes.new.entries ≡ with_lost leaf (drop result list.now) processes.old.entries }
+    ensures small { All (λ l. l.pid < 2 ^ 22) (drop result list.now) }
+{
+    let mut at = list.len();
+    while at > 0 {
+        if place_one(processes, alloc, &list[at - 1], leaf).is_err() {
+            return at;
+        }
+        at -= 1;
+    }
+    at
+}
+
+// Takes the list's processes from `at` on out of the table.
+fn take_out<A: Allocator + Clone, B: Allocator + Clone>(
+    processes: &mut BTreeMap<Pid, Process<A>, A>,
+    list: &[Lost<B>],
+    at: usize,
+)
+    requires { at ≤ length list.now }
+    ensures { processes.new.entries ≡ without (drop at list.now) processes.old.entries }
+{
+    for i in at..list.len() {
+        let _ = processes.remove(&list[i].pid);
+    }
+}
+
+// All of them, or none.
+fn place_each<A: Allocator + Clone, B: Allocator + Clone>(
+    processes: &mut BTreeMap<Pid, Process<A>, A>,
+    alloc: &A,
+    list: &[Lost<B>],
+    leaf: u8,
+) -> Result<(), AllocError>
+    requires apart { IsDistinct eqb (map (λ l. l.pid) list.now) }
+    requires new { All (λ l. lookup (is_at (nat_cmp l.pid)) processes.old.entries ≡ None) list.now }
+    ensures placed { OnOk result (processes.new.entries ≡ with_lost leaf list.now processes.old.entries) }
+    ensures small { OnOk result (All (λ l. l.pid < 2 ^ 22) list.now) }
+    ensures kept { OnErr result (processes.new.entries ≡ processes.old.entries) }
+{
+    let _ = processes.len();
+    let at = place_last(processes, alloc, list, leaf);
+    if at > 0 {
+        take_out(processes, list, at);
+        return Err(AllocError);
+    }
+    Ok(())
+}
+
+impl<A: Allocator + Clone, M: Meter> Charges<A, M> {
+    /// Puts the listed processes where they were, charged at the leaf of `who`, or none of them. All charges go to the
+    /// meter at once. It may wait for the threads that do a part of the charges.
+    ///
+    /// # Errors
+    ///
+    /// `OutOfMemory`; nothing has changed then.
+    pub fn place_all<R: Threads + Wait + Sync, B: Allocator + Clone>(
+        &mut self,
+        rt: &R,
+        gate: &(dyn Gate + Sync),
+        who: u8,
+        list: &[Lost<B>],
+    ) -> Result<(), ChargeFault>
+        requires homes { All (λ l. IsSome (fin.get self.old.groups l.path)) list.now }
+        requires new { All (λ l. fin.get self.old.home l.pid ≡ None) list.now }
+        requires apart { IsDistinct eqb (map (λ l. l.pid) list.now) }
+        ensures placed { OnOk result (self.new ≡ back (Killed (rows_of list.now)) self.old) }
+        ensures memory { IfErr result (λ f. f ≡ ChargeFault.OutOfMemory) }
+        ensures kept { OnErr result (self.new ≡ self.old) }
+    {
+        match self.place_listed(rt, gate, who, list) {
+            Ok(()) => Ok(()),
+            Err(_) => Err(ChargeFault::OutOfMemory),
+        }
+    }
+
+    // The same.
+    fn place_listed<R: Threads, B: Allocator + Clone>(
+        &mut self,
+        rt: &R,
+        gate: &(dyn Gate + Sync),
+        who: u8,
+        list: &[Lost<B>],
+    ) -> Result<(), AllocError>
+        requires homes { All (λ l. IsSome (fin.get self.old.groups l.path)) list.now }
+        requires new { All (λ l. fin.get self.old.home l.pid ≡ None) list.now }
+        requires apart { IsDistinct eqb (map (λ l. l.pid) list.now) }
+        ensures placed { OnOk result (self.new ≡ back (Killed (rows_of list.now)) self.old) }
+        ensures kept { OnErr result (self.new ≡ self.old) }
+    {
+        self.tree.known();
+        let leaf = who % M::LEAVES;
+        let tokens = tokens_of::<M, _, _, _>(&self.tree, self.alloc.clone()?, list, leaf)?;
+        place_each(&mut self.processes, &self.alloc, list, leaf)?;
+        self.meter.settle(rt, gate, leaf, &[], tokens.as_slice());
+        Ok(())
+    }
+}

@@ -1,0 +1,116 @@
+//! The removal of groups, and what takes it back.
+
+ghost use Rattle.std.specs.Prelude.{◌≡◌, ◌≢◌, ◌≤◌, length, IsOk, Some, None, IsSome, IfSome, IfOk, IfErr, OnErr, OnOk, MatchOption};
+ghost use Rattle.std.specs.FinMap as fin;
+ghost use Rattle.flat_model.specs.Path.{parent};
+ghost use Rattle.flat_model.specs.Command.{RemoveGroup};
+ghost use Rattle.flat_model.specs.Step.{refusal, after};
+ghost use Rattle.flat_model.specs.Inverse.{back, Removed};
+ghost use Rattle.group_tree.specs.Flat.{group_of};
+ghost use Rattle.pids_charge.specs.Answers.{Does, refusal_of, after_fault, names_in};
+
+use crate::charges::Charges;
+use crate::fault::ChargeFault;
+use crate::meter::Meter;
+use group_path::GroupPath;
+use group_tree::Attr;
+use std::alloc::Allocator;
+
+impl<A: Allocator + Clone, M: Meter> Charges<A, M> {
+    /// Why the group may not be removed, if it may not: what `rmdir` would be refused. It costs two descents of the tree.
+    pub fn refuses_rmdir<B: Allocator + Clone>(
+        &mut self,
+        path: &GroupPath<B>,
+    ) -> Option<ChargeFault>
+        ensures first { MatchOption result (refusal M.SLOTS self.old (RemoveGroup path.now) ≡ None) (λ f. refusal M.SLOTS self.old (RemoveGroup path.now) ≡ refusal_of path.now f) }
+        ensures inside { IfSome result (λ f. names_in f ≤ length path.now) }
+        ensures no_memory { IfSome result (λ f. f ≢ ChargeFault.OutOfMemory) }
+        ensures unchanged { IfSome result (λ f. after_fault self.old (refusal_of path.now f) ≡ self.old) }
+        ensures kept { self.new ≡ self.old }
+    {
+        if path.depth() == 0 {
+            return Some(ChargeFault::RootFixed);
+        }
+        self.tree.known();
+        let Some(below) = self.descendants(path) else {
+            return Some(ChargeFault::NoGroup(path.depth()));
+        };
+        if below > 0 {
+            return Some(ChargeFault::HasChildren);
+        }
+        let Some(is_populated) = self.populated(path) else {
+            unreachable!()
+        };
+        if is_populated {
+            return Some(ChargeFault::HasProcesses);
+        }
+        None
+    }
+
+    // Takes out a group that may be removed, and frees its slot.
+    fn take_group<B: Allocator + Clone>(&mut self, path: &GroupPath<B>) -> Attr
+        requires { refusal M.SLOTS self.old (RemoveGroup path.now) ≡ None }
+        ensures state { self.new ≡ after self.old (RemoveGroup path.now) }
+        ensures attr { Some (group_of result) ≡ fin.get self.old.groups path.now }
+    {
+        self.tree.known();
+        let Ok(attr) = self.tree.remove(path) else {
+            unreachable!()
+        };
+        self.tree.known();
+        let Ok(()) = self.free.push(attr.slot) else {
+            unreachable!()
+        };
+        attr
+    }
+
+    /// Removes a group that has no groups below it and no processes. What it had is answered. It takes no memory, and
+    /// costs four descents of the tree: that there are no processes is known from their count. The groups above it keep
+    /// their event totals.
+    ///
+    /// # Errors
+    ///
+    /// The first that holds, in this order: `RootFixed`, `NoGroup`, `HasChildren`, `HasProcesses`. Nothing has changed
+    /// then.
+    pub fn rmdir<B: Allocator + Clone>(&mut self, path: &GroupPath<B>) -> Result<Attr, ChargeFault>
+        ensures state { Does M.SLOTS self.old (RemoveGroup path.now) path.now result self.new }
+        ensures attr { IfOk result (λ attr. Some (group_of attr) ≡ fin.get self.old.groups path.now) }
+        ensures certain { refusal M.SLOTS self.old (RemoveGroup path.now) ≡ None → IsOk result }
+    {
+        if let Some(fault) = self.refuses_rmdir(path) {
+            return Err(fault);
+        }
+        Ok(self.take_group(path))
+    }
+
+    /// Puts a group back with its limits and event totals, on any free slot: the slot in `attr` binds nothing. No limit
+    /// of the groups above it is asked. Costs one descent of the tree.
+    ///
+    /// # Errors
+    ///
+    /// `OutOfMemory`; nothing has changed then.
+    pub fn restore<B: Allocator + Clone>(
+        &mut self,
+        path: &GroupPath<B>,
+        attr: Attr,
+    ) -> Result<(), ChargeFault>
+        requires new { fin.get self.old.groups path.now ≡ None }
+        requires parent { IsSome (fin.get self.old.groups (parent path.now)) }
+        requires slot { fin.len self.old.groups ≤ M.SLOTS }
+        ensures restored { OnOk result (self.new ≡ back (Removed path.now (group_of attr)) self.old) }
+        ensures memory { IfErr result (λ f. f ≡ ChargeFault.OutOfMemory) }
+        ensures kept { OnErr result (self.new ≡ self.old) }
+    {
+        path.known();
+        self.tree.known();
+        let last = self.free.len() - 1;
+        let slot = self.free[last];
+        let made = self.tree.insert(path, Attr { slot, ..attr });
+        self.tree.known();
+        if made.is_err() {
+            return Err(ChargeFault::OutOfMemory);
+        }
+        self.free.truncate(last);
+        Ok(())
+    }
+}
