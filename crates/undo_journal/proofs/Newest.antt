@@ -1,22 +1,22 @@
 -- The newest record is the one that the past calls for.
-use Rattle.std.proofs.Common.{◌≡◌, List, Some, refl, sym, ap, subst, ◌∙◌}
+use Rattle.std.proofs.Common.{◌≡◌, ℕ, List, Some, refl, sym, ap, subst, ◌∙◌}
 use Rattle.std.specs.List.{slice_get}
 use Rattle.std.proofs.Common.{length, ◌-◌}
 use Rattle.flat_model.specs.State.{State}
 use Rattle.flat_model.specs.Command as model
 use Rattle.flat_model.specs.Inverse.{Inverse, past_of}
-use Rattle.undo_journal.specs.declared.rows.Entry.{Entry}
+use Rattle.undo_journal.specs.declared.journal.Entry.{Entry}
 use Rattle.undo_journal.specs.Answer.{IsNewest, newest_command}
-use Rattle.undo_journal.specs.Rows.{journal_entry, records, IsHistory}
+use Rattle.undo_journal.specs.History.{journal_entry, records, IsHistory}
 use Rattle.undo_journal.proofs.Histories.{records_push}
 use Rattle.undo_journal.proofs.Undos.{snoc_of}
 
-pub newest_is : {A : Type 0} (s : State) (journal : List (Entry A)) (e : Entry A) → slice_get journal (length journal - 1) ≡ Some e → IsHistory s (records journal) → IsNewest s (past_of s (records journal)) (journal_entry e).1
-newest_is {A} s journal e at h =
+pub newest_is : {A : Type 0} (slots : ℕ) (s : State) (journal : List (Entry A)) (e : Entry A) → slice_get journal (length journal - 1) ≡ Some e → IsHistory slots s (records journal) → IsNewest slots s (past_of s (records journal)) (journal_entry e).1
+newest_is {A} slots s journal e at h =
     let r = snoc_of journal e at in
     let are = ap (λ (js : List (Entry A)). records js) r.1 ∙ records_push r.0 e in
-    let k = subst (IsHistory s) are h in
-    subst (λ (es : List (model.Command × Inverse)). IsNewest s (past_of s es) (journal_entry e).1) (sym are) (k.0.record_is, refl)
+    let k = subst (IsHistory slots s) are h in
+    subst (λ (es : List (model.Command × Inverse)). IsNewest slots s (past_of s es) (journal_entry e).1) (sym are) (k.0.record_is, refl)
 
 pub newest_command_is : {A : Type 0} (s : State) (journal : List (Entry A)) (e : Entry A) → slice_get journal (length journal - 1) ≡ Some e → Some (journal_entry e).0 ≡ newest_command (past_of s (records journal))
 newest_command_is {A} s journal e at =

@@ -1,18 +1,21 @@
 -- The newest record taken back.
-use Rattle.std.proofs.Common.{◌≡◌, suc, ◌-◌, ◌<◌, true, List, [], ◌∷◌, ◌++◌, length, get_or, Some, refl, sym, ap, subst, ◌∙◌, arith}
+use Rattle.std.proofs.Common.{◌≡◌, ℕ, suc, ◌-◌, ◌<◌, true, List, [], ◌∷◌, ◌++◌, length, get_or, Some, Result, Ok, Err, refl, sym, ap, subst, ◌∙◌, arith}
 use Rattle.std.specs.List.{slice_get}
 use Rattle.std.proofs.lemmas.Option.{slice_get_within, slice_get-get_or}
-use Rattle.std.specs.Prelude.{unwrap_or}
+use Rattle.std.specs.Prelude.{unwrap_or, OnErr}
 use Rattle.flat_model.specs.State.{State}
 use Rattle.flat_model.specs.Command as model
 use Rattle.flat_model.specs.Inverse.{Inverse, back, past_of}
 use Rattle.flat_model.specs.Machine.{undone, tick}
-use Rattle.group_tree.specs.Groups.{Groups}
-use Rattle.undo_journal.specs.declared.rows.Process.{Process}
-use Rattle.undo_journal.specs.declared.rows.Entry.{Entry}
-use Rattle.undo_journal.specs.Answer.{slots, needs_no_memory, undoes_without_memory}
-use Rattle.undo_journal.specs.Rows.{journal_entry, records, state_of, machine_of, IsHistory}
-use Rattle.undo_journal.proofs.Histories.{records_push}
+use Rattle.undo_journal.specs.declared.journal.Entry.{Entry}
+use Rattle.undo_journal.specs.Answer.{needs_no_memory, undoes_without_memory}
+use Rattle.undo_journal.specs.History.{journal_entry, records, machine_of, IsHistory, IsReady}
+use Rattle.undo_journal.proofs.Histories.{records_push, history_well}
+use Rattle.undo_journal.proofs.Ready.{step_ready}
+
+pub on_err : {X E P : Type 0} (r : Result X E) → P → OnErr r P
+on_err (Ok x) h = tt
+on_err (Err e) h = h
 
 -- ---- the last of a list
 
@@ -49,25 +52,30 @@ read_through {X} xs slice x same e = subst (λ (ys : List X). slice_get ys (leng
 
 -- ---- the machine behind
 
-module _ {A : Type 0} (gs gs' : Groups) (ps ps' : List (Process A)) (journal rest : List (Entry A)) (e : Entry A) (is : journal ≡ rest ++ e ∷ [])
-    (new : state_of gs' ps' ≡ back (journal_entry e).1 (state_of gs ps)) where
+module _ {A : Type 0} (slots : ℕ) (s : State) (journal rest : List (Entry A)) (e : Entry A) (is : journal ≡ rest ++ e ∷ []) where
   records_are : records journal ≡ journal_entry e ∷ records rest
   records_are = ap (λ (js : List (Entry A)). records js) is ∙ records_push rest e
 
-  pub undone_is : machine_of gs' ps' rest ≡ (tick slots (machine_of gs ps journal) model.Undo).0
-  undone_is =
-      (λ k. record { state = new k; past = past_of (new k) (records rest) })
-      ∙ sym (λ k. (undone (state_of gs ps) (past_of (state_of gs ps) (records_are k))).0)
+  -- the last record can be taken back
+  pub last_ready : IsHistory slots s (records journal) → IsReady slots s (journal_entry e).1
+  last_ready h =
+      let k = subst (IsHistory slots s) records_are h in
+      step_ready slots s (journal_entry e).0 (journal_entry e).1 (history_well slots (back (journal_entry e).1 s) (records rest) k.1) k.0
 
-  pub reply_is : (tick slots (machine_of gs ps journal) model.Undo).1 ≡ model.Undone (journal_entry e).0
-  reply_is = λ k. (undone (state_of gs ps) (past_of (state_of gs ps) (records_are k))).1
+  -- an undo that asks for no memory has a record that asks for none
+  pub needs_none : IsHistory slots s (records journal) → undoes_without_memory slots (past_of s (records journal)) ≡ true → needs_no_memory (Some (journal_entry e).1) ≡ true
+  needs_none h u =
+      let k = subst (IsHistory slots s) records_are h in
+      ap needs_no_memory (sym k.0.record_is) ∙ subst (λ (es : List (model.Command × Inverse)). undoes_without_memory slots (past_of s es) ≡ true) records_are u
 
-  pub undone_history : IsHistory (state_of gs ps) (records journal) → IsHistory (state_of gs' ps') (records rest)
-  undone_history h = subst (λ (s : State). IsHistory s (records rest)) (sym new) (subst (IsHistory (state_of gs ps)) records_are h).1
+  module _ (new : State) (new_is : new ≡ back (journal_entry e).1 s) where
+    pub undone_is : machine_of new rest ≡ (tick slots (machine_of s journal) model.Undo).0
+    undone_is =
+        (λ k. record { state = new_is k; past = past_of (new_is k) (records rest) })
+        ∙ sym (λ k. (undone s (past_of s (records_are k))).0)
 
--- an undo that asks for no memory has a record that asks for none
-pub needs_none : {A : Type 0} (s : State) (journal rest : List (Entry A)) (e : Entry A) → journal ≡ rest ++ e ∷ [] → IsHistory s (records journal) → undoes_without_memory (past_of s (records journal)) ≡ true → needs_no_memory (Some (journal_entry e).1) ≡ true
-needs_none {A} s journal rest e is h u =
-    let are = ap (λ (js : List (Entry A)). records js) is ∙ records_push rest e in
-    let k = subst (IsHistory s) are h in
-    ap needs_no_memory (sym k.0.record_is) ∙ subst (λ (es : List (model.Command × Inverse)). undoes_without_memory (past_of s es) ≡ true) are u
+    pub reply_is : (tick slots (machine_of s journal) model.Undo).1 ≡ model.Undone (journal_entry e).0
+    reply_is = λ k. (undone s (past_of s (records_are k))).1
+
+    pub undone_history : IsHistory slots s (records journal) → IsHistory slots new (records rest)
+    undone_history h = subst (λ (t : State). IsHistory slots t (records rest)) (sym new_is) (subst (IsHistory slots s) records_are h).1

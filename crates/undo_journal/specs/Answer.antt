@@ -9,12 +9,8 @@ use Rattle.flat_model.specs.Machine.{Machine, tick}
 use Rattle.undo_journal.specs.declared.reply.Reply.{Reply}
 use Rattle.undo_journal.specs.Meaning.{reply_of}
 
--- how many groups there may be beside the root
-abbrev pub slots : ℕ
-slots = 256
-
--- on this command the machine goes from old to new, and this is its reply
-pub record Answers {A : Type 0} (old : Machine) (c : model.Command) (reply : Reply A) (new : Machine) : Type 0 where
+-- on this command the machine with so many slots goes from old to new, and this is its reply
+pub record Answers {A : Type 0} (slots : ℕ) (old : Machine) (c : model.Command) (reply : Reply A) (new : Machine) : Type 0 where
   pub state : new ≡ (tick slots old c).0
   pub reply_is : reply_of reply ≡ Some (tick slots old c).1
 
@@ -25,15 +21,15 @@ abbrev pub record_by : State → model.Command → Option model.Refusal → Opti
 record_by s c None = inverse s c
 record_by s c (Some r) = inverse_of_refusal r
 
-abbrev pub record_of : State → model.Command → Option model_inverse.Inverse
-record_of s c = record_by s c (refusal slots s c)
+abbrev pub record_of : ℕ → State → model.Command → Option model_inverse.Inverse
+record_of slots s c = record_by s c (refusal slots s c)
 
 abbrev pub state_by : State → model.Command → Option model.Refusal → State
 state_by s c None = after s c
 state_by s c (Some r) = after_refusal s r
 
-abbrev pub state_after : State → model.Command → State
-state_after s c = state_by s c (refusal slots s c)
+abbrev pub state_after : ℕ → State → model.Command → State
+state_after slots s c = state_by s c (refusal slots s c)
 
 -- ---- the newest recorded command
 
@@ -42,9 +38,9 @@ newest_command [] = None
 newest_command (e ∷ past) = Some e.0
 
 -- i is the record that the newest recorded command left, and gives back the state before it
-abbrev pub IsNewest : State → List (model.Command × State) → model_inverse.Inverse → Type 0
-IsNewest now [] i = ⊥
-IsNewest now (e ∷ past) i = (record_of e.1 e.0 ≡ Some i) × (back i now ≡ e.1)
+abbrev pub IsNewest : ℕ → State → List (model.Command × State) → model_inverse.Inverse → Type 0
+IsNewest slots now [] i = ⊥
+IsNewest slots now (e ∷ past) i = (record_of slots e.1 e.0 ≡ Some i) × (back i now ≡ e.1)
 
 -- what was made goes when it is taken back, and a limit or a total is written where one stands
 abbrev pub needs_no_memory : Option model_inverse.Inverse → Bool
@@ -59,6 +55,6 @@ needs_no_memory (Some (model_inverse.Counted a)) = true
 needs_no_memory (Some (model_inverse.Killed lost)) = false
 
 -- whether an undo asks for no memory: there is nothing to take back, or its record asks for none
-abbrev pub undoes_without_memory : List (model.Command × State) → Bool
-undoes_without_memory [] = true
-undoes_without_memory (e ∷ past) = needs_no_memory (record_of e.1 e.0)
+abbrev pub undoes_without_memory : ℕ → List (model.Command × State) → Bool
+undoes_without_memory slots [] = true
+undoes_without_memory slots (e ∷ past) = needs_no_memory (record_of slots e.1 e.0)

@@ -1,19 +1,18 @@
 -- What each command that is answered promises of undoing and counting.
-use Rattle.std.specs.Prelude.{◌≡◌, ◌<◌, ◌+◌, ◌-◌, ◌↔◌, true, List, length, sum_by}
+use Rattle.std.specs.Prelude.{◌≡◌, ℕ, ◌<◌, ◌+◌, ◌-◌, ◌↔◌, true, List, length, sum_by}
 use Rattle.flat_model.specs.Path.{Path}
 use Rattle.flat_model.specs.Counts.{current, populated, members, children, IsInhabited}
 use Rattle.flat_model.specs.Command.{Command, Undo, Undone}
 use Rattle.flat_model.specs.Machine.{Machine, new_machine, tick, end_of, undos, TakesBackItsOwn}
 use Rattle.flat_model.specs.WellFormed.{MachineWellFormed}
-use Rattle.undo_journal.specs.Answer.{slots}
 
 -- the state is well formed, and so is each that an undo can give back, down to the start
-pub record IsReached (m : Machine) : Type 0 where
+pub record IsReached (slots : ℕ) (m : Machine) : Type 0 where
   pub well_formed : MachineWellFormed slots m
   pub all_undone : end_of slots m (undos (length m.past)) ≡ new_machine
 
 -- From the machine `old`, the command c has led to `new`.
-pub record KeepsHistory (old : Machine) (c : Command) (new : Machine) : Type 0 where
+pub record KeepsHistory (slots : ℕ) (old : Machine) (c : Command) (new : Machine) : Type 0 where
   -- if c was recorded, an undo gives `old` back, and says which command it took back
   pub command_undone : length old.past < length new.past → tick slots new Undo ≡ (old, Undone c)
   -- commands and undos from `new`, where the undos take back records of these commands alone, and then as many undos

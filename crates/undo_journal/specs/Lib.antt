@@ -1,4 +1,4 @@
 pub mod Meaning
 pub mod Answer
 pub mod Headline
-pub mod Rows
+pub mod History

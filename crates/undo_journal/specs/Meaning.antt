@@ -2,17 +2,15 @@
 use Rattle.std.specs.Prelude.{Option, Some, None}
 use Rattle.undo_journal.specs.declared.command.File.{File}
 use Rattle.undo_journal.specs.declared.command.File.TheVariants.{PidsCurrent, Stat}
-use Rattle.undo_journal.specs.declared.command.HierarchyLimit.{HierarchyLimit}
-use Rattle.undo_journal.specs.declared.command.HierarchyLimit.TheVariants.{MaxDescendants, MaxDepth}
 use Rattle.undo_journal.specs.declared.command.Command.{Command}
 use Rattle.undo_journal.specs.declared.command.Command.TheVariants.{MakeGroup, RemoveGroup, Fork, Exit, Move, SetLimit, Show, Undo}
 use Rattle.undo_journal.specs.declared.reply.Refusal.{Refusal}
-use Rattle.undo_journal.specs.declared.reply.Refusal.TheVariants.{Exists, NoGroup, Descendants, Depth, NoSlot, RootFixed, HasChildren, HasProcesses, NoProcess, PidInUse, NoFile}
+use Rattle.undo_journal.specs.declared.reply.Refusal.TheVariants.{Exists, NoGroup, Descendants, Depth, NoSlot, RootFixed, HasChildren, HasProcesses, NoProcess, PidInUse, PidsMax, NoFile}
 use Rattle.undo_journal.specs.declared.reply.Reply.{Reply}
 use Rattle.undo_journal.specs.declared.reply.Reply.TheVariants.{Done, Text, Undone, Refused, NothingToUndo, OutOfMemory}
 use Rattle.undo_journal.specs.declared.inverse.Inverse.{Inverse}
-use Rattle.undo_journal.specs.declared.inverse.Inverse.TheVariants.{Made, Removed, Forked, Exited, Moved, Limited}
-use Rattle.group_tree.specs.Flat.{limit_of, group_of}
+use Rattle.undo_journal.specs.declared.inverse.Inverse.TheVariants.{Made, Removed, Forked, Exited, Moved, Limited, Counted}
+use Rattle.group_tree.specs.Flat.{limit_of, limit_file_of, group_of}
 use Rattle.flat_model.specs.File as model_file
 use Rattle.flat_model.specs.Command as model
 use Rattle.flat_model.specs.Inverse as model_inverse
@@ -20,10 +18,6 @@ use Rattle.flat_model.specs.Inverse as model_inverse
 abbrev pub file_of : File → model_file.File
 file_of PidsCurrent = model_file.PidsCurrent
 file_of Stat = model_file.Stat
-
-abbrev pub limit_file_of : HierarchyLimit → model_file.LimitFile
-limit_file_of MaxDescendants = model_file.MaxDescendants
-limit_file_of MaxDepth = model_file.MaxDepth
 
 abbrev pub command_of : {A : Type 0} → Command A → model.Command
 command_of (MakeGroup path) = model.MakeGroup path
@@ -46,6 +40,7 @@ refusal_of HasChildren = model.HasChildren
 refusal_of HasProcesses = model.HasProcesses
 refusal_of (NoProcess pid) = model.NoProcess pid
 refusal_of (PidInUse pid) = model.PidInUse pid
+refusal_of (PidsMax path) = model.OverPidsMax path
 refusal_of NoFile = model.NoFile
 
 -- the machine's reply, and none where memory was wanting
@@ -64,3 +59,4 @@ inverse_of (Forked pid) = model_inverse.Forked pid
 inverse_of (Exited pid path) = model_inverse.Exited pid path
 inverse_of (Moved pid path) = model_inverse.Moved pid path
 inverse_of (Limited path file value) = model_inverse.Limited path (limit_file_of file) (limit_of value)
+inverse_of (Counted path) = model_inverse.Counted path

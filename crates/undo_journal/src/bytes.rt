@@ -1,3 +1,5 @@
+//! The bytes of a text that a reply shows.
+
 ghost use Rattle.std.specs.Prelude.{◌≡◌, IfOk};
 
 use std::alloc::{AllocError, Allocator};

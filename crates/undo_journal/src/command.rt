@@ -1,15 +1,17 @@
+//! What the engine is asked, and the text of each command as a line of a trace.
+
 ghost use Rattle.std.specs.Prelude.{◌≡◌, IfOk};
 ghost use Rattle.flat_model.specs.CommandText.{command_text};
 ghost use Rattle.flat_model.specs.File.{file_name};
 ghost use Rattle.flat_model.specs.FileText.{limit_text};
 ghost use Rattle.flat_model.specs.File as model_file;
-ghost use Rattle.group_tree.specs.Flat.{limit_of};
-ghost use Rattle.undo_journal.specs.Meaning.{command_of, file_of, limit_file_of};
+ghost use Rattle.group_tree.specs.Flat.{limit_of, limit_file_of};
+ghost use Rattle.undo_journal.specs.Meaning.{command_of, file_of};
 
-use crate::pid::Pid;
 use group_path::GroupPath;
-use group_tree::Limit;
+use group_tree::{Limit, LimitFile};
 use itoa::Buffer;
+use pids_charge::Pid;
 use std::alloc::{AllocError, Allocator};
 
 /// An interface file of a group.
@@ -33,24 +35,14 @@ impl File {
     }
 }
 
-/// A limit on the groups below a group.
-#[derive(Clone, Copy, Debug, PartialEq, Eq)]
-pub enum HierarchyLimit {
-    /// `cgroup.max.descendants`: how many groups there may be.
-    MaxDescendants,
-    /// `cgroup.max.depth`: on how many levels.
-    MaxDepth,
-}
-
-impl HierarchyLimit {
-    /// The name of its file.
-    fn name(self) -> &'static [u8]
-        ensures { result.now ≡ file_name (model_file.LimitOf (limit_file_of self)) }
-    {
-        match self {
-            HierarchyLimit::MaxDescendants => b"cgroup.max.descendants",
-            HierarchyLimit::MaxDepth => b"cgroup.max.depth",
-        }
+/// The name of a limit's file.
+fn limit_file_name(file: LimitFile) -> &'static [u8]
+    ensures { result.now ≡ file_name (model_file.LimitOf (limit_file_of file)) }
+{
+    match file {
+        LimitFile::PidsMax => b"pids.max",
+        LimitFile::MaxDescendants => b"cgroup.max.descendants",
+        LimitFile::MaxDepth => b"cgroup.max.depth",
     }
 }
 
@@ -95,7 +87,7 @@ pub enum Command<A: Allocator + Clone> {
         /// The group.
         path: GroupPath<A>,
         /// Which limit.
-        file: HierarchyLimit,
+        file: LimitFile,
         /// The limit.
         value: Limit,
     },
@@ -141,7 +133,7 @@ impl<A: Allocator + Clone> Command<A> {
     }
 
     /// The command as a line of a trace says it, without the line feed: `mkdir /a`, `fork 1 2`,
-    /// `write /a cgroup.procs 2`, `write /a cgroup.max.depth 3`, `cat /a pids.current`, `undo`. Linear in its path.
+    /// `write /a cgroup.procs 2`, `write /a pids.max 3`, `cat /a pids.current`, `undo`. Linear in its path.
     pub fn text<B: Allocator + Clone>(&self, alloc: B) -> Result<Vec<u8, B>, AllocError>
         ensures { IfOk result (λ text. text.items ≡ command_text (command_of self.now)) }
     {
@@ -183,7 +175,7 @@ impl<A: Allocator + Clone> Command<A> {
                 let mut text = Vec::from_slice(alloc, b"write ")?;
                 text.extend_from_slice(path.text())?;
                 text.extend_from_slice(b" ")?;
-                text.extend_from_slice(file.name())?;
+                text.extend_from_slice(limit_file_name(*file))?;
                 text.extend_from_slice(b" ")?;
                 text.extend_from_slice(value.as_slice())?;
                 Ok(text)

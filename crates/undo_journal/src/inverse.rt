@@ -1,7 +1,8 @@
-use crate::command::HierarchyLimit;
-use crate::pid::Pid;
+//! What takes one recorded command back.
+
 use group_path::GroupPath;
-use group_tree::{Attr, Limit};
+use group_tree::{Attr, Limit, LimitFile};
+use pids_charge::Pid;
 use std::alloc::Allocator;
 
 /// What takes one recorded command back.
@@ -43,8 +44,13 @@ pub enum Inverse<A: Allocator + Clone> {
         /// The group.
         path: GroupPath<A>,
         /// Which limit.
-        file: HierarchyLimit,
+        file: LimitFile,
         /// What it was.
         value: Limit,
+    },
+    /// A fork was refused by a `pids.max`: it is no longer counted.
+    Counted {
+        /// The group whose limit refused it.
+        path: GroupPath<A>,
     },
 }

@@ -1,13 +1,15 @@
+//! What a command is answered, and why it is refused.
+
 ghost use Rattle.std.specs.Prelude.{◌≡◌, IfOk};
 ghost use Rattle.undo_journal.specs.Meaning.{refusal_of, reply_of};
 
 use crate::bytes::Bytes;
 use crate::command::Command;
-use crate::pid::Pid;
 use group_path::GroupPath;
+use pids_charge::Pid;
 use std::alloc::{AllocError, Allocator};
 
-/// Why a command was refused. It has changed nothing.
+/// Why a command was refused. All but `PidsMax` have changed nothing.
 #[derive(Drop)]
 pub enum Refusal<A: Allocator + Clone> {
     /// The group is there already.
@@ -18,7 +20,7 @@ pub enum Refusal<A: Allocator + Clone> {
     Descendants(GroupPath<A>),
     /// This group's limit on the levels below it is met.
     Depth(GroupPath<A>),
-    /// There are 256 groups beside the root.
+    /// There are as many groups beside the root as the meter has slots.
     NoSlot,
     /// The root stays.
     RootFixed,
@@ -30,6 +32,8 @@ pub enum Refusal<A: Allocator + Clone> {
     NoProcess(Pid),
     /// There is such a process already.
     PidInUse(Pid),
+    /// This group's limit on processes would be exceeded. The fork was counted there and above, and recorded.
+    PidsMax(GroupPath<A>),
     /// The root has no such file.
     NoFile,
 }
@@ -49,6 +53,7 @@ impl<A: Allocator + Clone> Refusal<A> {
             Refusal::HasProcesses => Ok(Refusal::HasProcesses),
             Refusal::NoProcess(pid) => Ok(Refusal::NoProcess(*pid)),
             Refusal::PidInUse(pid) => Ok(Refusal::PidInUse(*pid)),
+            Refusal::PidsMax(path) => Ok(Refusal::PidsMax(path.copy(alloc)?)),
             Refusal::NoFile => Ok(Refusal::NoFile),
         }
     }
@@ -63,7 +68,7 @@ pub enum Reply<A: Allocator + Clone> {
     Text(Bytes<A>),
     /// It took this command back.
     Undone(Command<A>),
-    /// It was refused, and has changed nothing.
+    /// It was refused.
     Refused(Refusal<A>),
     /// There is no command to take back.
     NothingToUndo,

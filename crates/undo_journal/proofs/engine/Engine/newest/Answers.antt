@@ -1,12 +1,11 @@
 use Rattle.std.proofs.Common.{◌≡◌, ◌-◌, Some, List, length, sym, subst}
 use Rattle.std.specs.List.{slice_get}
-use Rattle.undo_journal.specs.Rows.{state_of}
-use Rattle.undo_journal.specs.declared.rows.Entry.{Entry}
+use Rattle.undo_journal.specs.declared.journal.Entry.{Entry}
 use Rattle.undo_journal.proofs.Newest.{newest_is}
 use Rattle.undo_journal.proofs.engine.Engine.newest.Goals as goal
 
 pub returns-in-Some : goal.returns-in-Some
 returns-in-Some g c =
     rw (← c.self.view_is)
-    (newest_is (state_of c.self.inside.groups c.self.inside.processes.items) c.self.inside.journal.items c.in-Some.entry.now
-    (subst (λ (js : List (Entry g.row.A.Denot)). slice_get js (length js - 1) ≡ Some c.in-Some.entry.now) c.deref.ensures.value (sym c.in-Some.ensures.value)) c.self.invariant.history)
+    (newest_is g.M.Meter.SLOTS c.self.inside.charges c.self.inside.journal.items c.in-Some.entry.now
+    (subst (λ (js : List (Entry g.row.A.Denot)). slice_get js (length js - 1) ≡ Some c.in-Some.entry.now) c.deref.ensures.value (sym c.in-Some.ensures.value)) c.self.invariant)

@@ -1,45 +1,45 @@
 use Rattle.std.proofs.Common.{◌≡◌, [], ◌∷◌, ◌++◌, subst, sym, ◌∙◌, ap, refl, None}
+use Rattle.std.specs.Prelude.{Option, unwrap_or}
+use Rattle.flat_model.specs.State.{Attr, fresh}
 use Rattle.flat_model.specs.Command as model
 use Rattle.flat_model.specs.Inverse as model_inverse
 use Rattle.flat_model.specs.Machine.{Machine, recorded}
 use Rattle.flat_model.specs.Step.{after, refusal, attr_of}
-use Rattle.undo_journal.specs.Answer.{slots}
-use Rattle.undo_journal.specs.Rows.{machine_of, journal_entry, state_of}
-use Rattle.undo_journal.specs.declared.rows.Entry.{Entry}
+use Rattle.undo_journal.specs.History.{machine_of, journal_entry}
+use Rattle.undo_journal.specs.declared.journal.Entry.{Entry}
 use Rattle.undo_journal.specs.declared.command.Command.TheVariants.{RemoveGroup}
 use Rattle.undo_journal.specs.declared.inverse.Inverse.TheVariants.{Removed}
-use Rattle.undo_journal.proofs.Groups.{group_taken}
-use Rattle.undo_journal.proofs.TakenBack.{attr_is}
-use Rattle.undo_journal.proofs.Histories.{accepted_is, accepted_history}
+use Rattle.undo_journal.proofs.Histories.{recorded_is, recorded_history}
 use Rattle.undo_journal.proofs.engine.Engine.take_group.Goals as goal
 
-abbrev entry : (g : _) (c : goal.In_ok-push-in-Ok g) → Entry g.row.A.Denot
-entry g c = record { command = RemoveGroup c.in_ok-copy.field-0; inverse = Removed c.in_ok-path_kept.path_kept c.in-Ok.attr }
+abbrev command : (g : _) (c : goal.In_ok-push g) → model.Command
+command g c = model.RemoveGroup c.args.path.now
 
-journal_is : (g : _) (c : goal.In_ok-push-in-Ok g) → c.push.new.self.items ≡ c.self.inside.journal.items ++ entry g c ∷ []
-journal_is g c = c.in_ok-push-in-Ok.ensures.items ∙ ap (λ js. js ++ entry g c ∷ []) c.reserve.ensures.items
+abbrev inverse : (g : _) (c : goal.In_ok-push g) → model_inverse.Inverse
+inverse g c = model_inverse.Removed c.args.path.now (attr_of c.self.inside.charges c.args.path.now)
 
-entry_is : (g : _) (c : goal.In_ok-push-in-Ok g) → ◌≡◌ {A = model.Command × model_inverse.Inverse} (journal_entry (entry g c)) (model.RemoveGroup c.args.path.now, model_inverse.Removed c.args.path.now (attr_of (state_of c.self.inside.groups c.self.inside.processes.items) c.args.path.now))
-entry_is g c = λ i. (model.RemoveGroup (c.in_ok-copy.ensures i), model_inverse.Removed (c.in_ok-path_kept.ensures i) (sym (attr_is c.self.inside.groups c.args.path.now c.in-Ok.attr (rw c.in-Ok.is at c.remove.ensures).1) i))
+abbrev entry : (g : _) (c : goal.In_ok-push g) → Entry g.row.A.Denot
+entry g c = record { command = RemoveGroup c.in_ok-named.named; inverse = Removed c.in_ok-removed.removed c.in-Ok.attr }
 
-none : (g : _) (c : goal.In_ok-push-in-Ok g) → refusal slots (state_of c.self.inside.groups c.self.inside.processes.items) (model.RemoveGroup c.args.path.now) ≡ None
-none g c = subst (λ (m : Machine). refusal slots m.state (model.RemoveGroup c.args.path.now) ≡ None) (sym c.self.view_is) c.requires
+journal_is : (g : _) (c : goal.In_ok-push g) → c.push.new.self.items ≡ c.self.inside.journal.items ++ entry g c ∷ []
+journal_is g c = c.in_ok-push.ensures.items ∙ ap (λ js. js ++ entry g c ∷ []) c.reserve.ensures.items
 
-state_is : (g : _) (c : goal.In_ok-push-in-Ok g) → state_of c.remove.new.self c.self.inside.processes.items ≡ after (state_of c.self.inside.groups c.self.inside.processes.items) (model.RemoveGroup c.args.path.now)
-state_is g c = group_taken c.self.inside.groups c.remove.new.self c.self.inside.processes.items c.args.path.now (rw c.in-Ok.is at c.remove.ensures).3
+entry_is : (g : _) (c : goal.In_ok-push g) → ◌≡◌ {A = model.Command × model_inverse.Inverse} (journal_entry (entry g c)) (command g c, inverse g c)
+entry_is g c = λ i. (model.RemoveGroup (c.in_ok-named.ensures i), model_inverse.Removed (c.in_ok-removed.ensures i) (ap (λ (o : Option Attr). unwrap_or o fresh) (rw c.in-Ok.is at c.rmdir.ensures.attr) i))
 
-pub invariant_of-self-in-Ok : goal.invariant_of-self-in-Ok
-invariant_of-self-in-Ok g c =
+none : (g : _) (c : goal.In_ok-push g) → refusal g.M.Meter.SLOTS c.self.inside.charges (command g c) ≡ None
+none g c = subst (λ (m : Machine). refusal g.M.Meter.SLOTS m.state (command g c) ≡ None) (sym c.self.view_is) c.requires
+
+state_is : (g : _) (c : goal.In_ok-push g) → c.rmdir.new.self ≡ after c.self.inside.charges (command g c)
+state_is g c = (rw c.in-Ok.is at c.rmdir.ensures.state).1
+
+pub invariant_of-self-2 : goal.invariant_of-self-2
+invariant_of-self-2 g c =
     rw (journal_is g c)
-    (record {
-      pids_apart = c.self.invariant.pids_apart;
-      history = accepted_history c.self.inside.groups c.remove.new.self c.self.inside.processes.items c.self.inside.processes.items c.self.inside.journal.items (entry g c) (model.RemoveGroup c.args.path.now) (model_inverse.Removed c.args.path.now (attr_of (state_of c.self.inside.groups c.self.inside.processes.items) c.args.path.now)) (entry_is g c) refl (none g c) refl
-          (state_is g c) c.self.invariant.history;
-    })
+    (recorded_history g.M.Meter.SLOTS c.self.inside.charges c.rmdir.new.self c.self.inside.journal.items (entry g c) (command g c) (inverse g c) None (entry_is g c) (none g c) refl (state_is g c) c.self.invariant)
 
-pub returns-in_ok-push-in-Ok-clause-ok : goal.returns-in_ok-push-in-Ok-clause-ok
-returns-in_ok-push-in-Ok-clause-ok g c =
-    (λ i. machine_of c.remove.new.self c.self.inside.processes.items (journal_is g c i))
-    ∙ accepted_is c.self.inside.groups c.remove.new.self c.self.inside.processes.items c.self.inside.processes.items c.self.inside.journal.items (entry g c) (model.RemoveGroup c.args.path.now) (model_inverse.Removed c.args.path.now (attr_of (state_of c.self.inside.groups c.self.inside.processes.items) c.args.path.now)) (entry_is g c) refl (none g c) refl
-    (state_is g c)
-    ∙ ap (λ (m : Machine). recorded m (model.RemoveGroup c.args.path.now) (after m.state (model.RemoveGroup c.args.path.now))) c.self.view_is
+pub returns-clause-ok : goal.returns-clause-ok
+returns-clause-ok g c =
+    (λ i. machine_of c.rmdir.new.self (journal_is g c i))
+    ∙ recorded_is g.M.Meter.SLOTS c.self.inside.charges c.rmdir.new.self c.self.inside.journal.items (entry g c) (command g c) (inverse g c) None (entry_is g c) (none g c) refl (state_is g c)
+    ∙ ap (λ (m : Machine). recorded m (command g c) (after m.state (command g c))) c.self.view_is

@@ -3,49 +3,41 @@ use Rattle.flat_model.specs.Command as model
 use Rattle.flat_model.specs.Inverse as model_inverse
 use Rattle.flat_model.specs.Machine.{Machine, recorded}
 use Rattle.flat_model.specs.Step.{after, refusal, home_of}
-use Rattle.undo_journal.specs.Answer.{slots}
-use Rattle.undo_journal.specs.Rows.{machine_of, journal_entry, state_of}
-use Rattle.undo_journal.specs.declared.rows.Entry.{Entry}
+use Rattle.undo_journal.specs.History.{machine_of, journal_entry}
+use Rattle.undo_journal.specs.declared.journal.Entry.{Entry}
 use Rattle.undo_journal.specs.declared.command.Command.TheVariants.{Exit}
 use Rattle.undo_journal.specs.declared.inverse.Inverse.TheVariants.{Exited}
-use Rattle.undo_journal.proofs.Ends.{ended_state, ender_row}
-use Rattle.undo_journal.proofs.Homes.{home_is}
-use Rattle.undo_journal.proofs.Histories.{accepted_is, accepted_history}
+use Rattle.undo_journal.proofs.Histories.{recorded_is, recorded_history}
 use Rattle.undo_journal.proofs.engine.Engine.take_process.Goals as goal
 
-abbrev entry : (g : _) (c : goal.In_ok-push-in-Some g) → Entry g.row.A.Denot
-entry g c = record { command = Exit c.args.pid; inverse = Exited c.args.pid c.in-Some.path }
+abbrev command : (g : _) (c : goal.In_ok-push g) → model.Command
+command g c = model.Exit c.args.pid
 
-journal_is : (g : _) (c : goal.In_ok-push-in-Some g) → c.push.new.self.items ≡ c.self.inside.journal.items ++ entry g c ∷ []
-journal_is g c = c.in_ok-push-in-Some.ensures.items ∙ ap (λ js. js ++ entry g c ∷ []) c.reserve.ensures.items
+abbrev inverse : (g : _) (c : goal.In_ok-push g) → model_inverse.Inverse
+inverse g c = model_inverse.Exited c.args.pid (home_of c.self.inside.charges c.args.pid)
 
-entry_is : (g : _) (c : goal.In_ok-push-in-Some g) → ◌≡◌ {A = model.Command × model_inverse.Inverse} (journal_entry (entry g c)) (model.Exit c.args.pid, model_inverse.Exited c.args.pid (home_of (state_of c.self.inside.groups c.self.inside.processes.items) c.args.pid))
-entry_is g c = λ i. (model.Exit c.args.pid, model_inverse.Exited c.args.pid (home_is c.self.inside.groups c.self.inside.processes.items c.args.pid c.in-Some.path (sym c.in-Some.is ∙ c.remove_process.ensures.home) i))
+abbrev entry : (g : _) (c : goal.In_ok-push g) → Entry g.row.A.Denot
+entry g c = record { command = Exit c.args.pid; inverse = Exited c.args.pid c.in-Ok.path }
 
-none : (g : _) (c : goal.In_ok-push-in-Some g) → refusal slots (state_of c.self.inside.groups c.self.inside.processes.items) (model.Exit c.args.pid) ≡ None
-none g c = subst (λ (m : Machine). refusal slots m.state (model.Exit c.args.pid) ≡ None) (sym c.self.view_is) c.requires
+journal_is : (g : _) (c : goal.In_ok-push g) → c.push.new.self.items ≡ c.self.inside.journal.items ++ entry g c ∷ []
+journal_is g c = c.in_ok-push.ensures.items ∙ ap (λ js. js ++ entry g c ∷ []) c.reserve.ensures.items
 
-state_is : (g : _) (c : goal.In_ok-push-in-Some g) → state_of c.self.inside.groups c.remove_process.new.processes.items ≡ after (state_of c.self.inside.groups c.self.inside.processes.items) (model.Exit c.args.pid)
-state_is g c = ended_state c.self.inside.groups c.self.inside.processes.items c.remove_process.new.processes.items c.args.pid c.remove_process.ensures.rows
+entry_is : (g : _) (c : goal.In_ok-push g) → ◌≡◌ {A = model.Command × model_inverse.Inverse} (journal_entry (entry g c)) (command g c, inverse g c)
+entry_is g c = λ i. (model.Exit c.args.pid, model_inverse.Exited c.args.pid ((rw c.in-Ok.is at c.exit.ensures.old_home) i))
 
-pub invariant_of-self-in-Some : goal.invariant_of-self-in-Some
-invariant_of-self-in-Some g c =
+none : (g : _) (c : goal.In_ok-push g) → refusal g.M.Meter.SLOTS c.self.inside.charges (command g c) ≡ None
+none g c = subst (λ (m : Machine). refusal g.M.Meter.SLOTS m.state (command g c) ≡ None) (sym c.self.view_is) c.requires
+
+state_is : (g : _) (c : goal.In_ok-push g) → c.exit.new.self ≡ after c.self.inside.charges (command g c)
+state_is g c = (rw c.in-Ok.is at c.exit.ensures.state).1
+
+pub invariant_of-self-2 : goal.invariant_of-self-2
+invariant_of-self-2 g c =
     rw (journal_is g c)
-    (record {
-      pids_apart = c.remove_process.ensures.apart;
-      history = accepted_history c.self.inside.groups c.self.inside.groups c.self.inside.processes.items c.remove_process.new.processes.items c.self.inside.journal.items (entry g c) (model.Exit c.args.pid) (model_inverse.Exited c.args.pid (home_of (state_of c.self.inside.groups c.self.inside.processes.items) c.args.pid)) (entry_is g c) refl (none g c) refl
-          (state_is g c) c.self.invariant.history;
-    })
+    (recorded_history g.M.Meter.SLOTS c.self.inside.charges c.exit.new.self c.self.inside.journal.items (entry g c) (command g c) (inverse g c) None (entry_is g c) (none g c) refl (state_is g c) c.self.invariant)
 
 pub returns-clause-ok : goal.returns-clause-ok
 returns-clause-ok g c =
-    (λ i. machine_of c.self.inside.groups c.remove_process.new.processes.items (journal_is g c i))
-    ∙ accepted_is c.self.inside.groups c.self.inside.groups c.self.inside.processes.items c.remove_process.new.processes.items c.self.inside.journal.items (entry g c) (model.Exit c.args.pid) (model_inverse.Exited c.args.pid (home_of (state_of c.self.inside.groups c.self.inside.processes.items) c.args.pid)) (entry_is g c) refl (none g c) refl
-    (state_is g c)
-    ∙ ap (λ (m : Machine). recorded m (model.Exit c.args.pid) (after m.state (model.Exit c.args.pid))) c.self.view_is
-
-pub unreachable-requires : goal.unreachable-requires
-unreachable-requires g c =
-    ender_row c.self.inside.groups c.self.inside.processes.items c.args.pid
-    (subst (λ (m : Machine). refusal slots m.state (model.Exit c.args.pid) ≡ None) (sym c.self.view_is) c.requires)
-    (sym c.remove_process.ensures.home ∙ c.in-None.is)
+    (λ i. machine_of c.exit.new.self (journal_is g c i))
+    ∙ recorded_is g.M.Meter.SLOTS c.self.inside.charges c.exit.new.self c.self.inside.journal.items (entry g c) (command g c) (inverse g c) None (entry_is g c) (none g c) refl (state_is g c)
+    ∙ ap (λ (m : Machine). recorded m (command g c) (after m.state (command g c))) c.self.view_is

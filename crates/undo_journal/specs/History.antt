@@ -1,0 +1,55 @@
+-- The machine that a state and a journal stand for, and what the journal says of the states before.
+use Rattle.std.specs.Prelude.{◌≡◌, ℕ, ◌≤◌, List, [], ◌∷◌, map, reverse, None, Some, IsSome}
+use Rattle.std.specs.FinMap.{get, len}
+use Rattle.flat_model.specs.Path.{parent}
+use Rattle.flat_model.specs.State.{State, start}
+use Rattle.flat_model.specs.Command as model
+use Rattle.flat_model.specs.Step.{refusal}
+use Rattle.flat_model.specs.Inverse as model_inverse
+use Rattle.flat_model.specs.Inverse.{back, past_of}
+use Rattle.flat_model.specs.Machine.{Machine}
+use Rattle.pids_charge.specs.Events.{HasEvents}
+use Rattle.undo_journal.specs.declared.journal.Entry.{Entry}
+use Rattle.undo_journal.specs.Meaning.{command_of, inverse_of}
+use Rattle.undo_journal.specs.Answer.{record_of, state_after}
+
+-- ---- the journal
+
+abbrev pub journal_entry : {A : Type 0} → Entry A → model.Command × model_inverse.Inverse
+journal_entry e = (command_of e.command, inverse_of e.inverse)
+
+-- newest first
+abbrev pub records : {A : Type 0} → List (Entry A) → List (model.Command × model_inverse.Inverse)
+records journal = reverse (map journal_entry journal)
+
+abbrev pub machine_of : {A : Type 0} → State → List (Entry A) → Machine
+machine_of s journal = record { state = s; past = past_of s (records journal) }
+
+-- the command c led to the state s and left the record i, which gives back the state before it
+pub record IsStep (slots : ℕ) (s : State) (c : model.Command) (i : model_inverse.Inverse) : Type 0 where
+  pub record_is : record_of slots (back i s) c ≡ Some i
+  pub state_is : state_after slots (back i s) c ≡ s
+
+-- the recorded commands have led from the start to the state s
+abbrev pub IsHistory : ℕ → State → List (model.Command × model_inverse.Inverse) → Type 0
+IsHistory slots s [] = s ≡ start
+IsHistory slots s (e ∷ es) = IsStep slots s e.0 e.1 × IsHistory slots (back e.1 s) es
+
+-- ---- what a record needs to be taken back
+
+abbrev pub IsReady : ℕ → State → model_inverse.Inverse → Type 0
+-- a group that was made can be removed
+IsReady slots s (model_inverse.Made p) = refusal slots s (model.RemoveGroup p) ≡ None
+-- one that was removed has room under its parent
+IsReady slots s (model_inverse.Removed p attr) = (get s.groups p ≡ None) × IsSome (get s.groups (parent p)) × (len s.groups ≤ slots)
+-- a process that was made can end
+IsReady slots s (model_inverse.Forked pid) = refusal slots s (model.Exit pid) ≡ None
+-- one that has ended has left its number, and its group is there
+IsReady slots s (model_inverse.Exited pid p) = (get s.home pid ≡ None) × IsSome (get s.groups p)
+-- one that was moved can be moved back
+IsReady slots s (model_inverse.Moved pid p) = refusal slots s (model.Move p pid) ≡ None
+-- the limit that stood can be set
+IsReady slots s (model_inverse.Limited p file value) = refusal slots s (model.SetLimit p file value) ≡ None
+-- a counted fork stands in the totals
+IsReady slots s (model_inverse.Counted a) = HasEvents s a
+IsReady slots s (model_inverse.Killed lost) = Unit {0}

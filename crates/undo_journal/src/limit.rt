@@ -1,0 +1,106 @@
+//! A write to `pids.max`, `cgroup.max.descendants` or `cgroup.max.depth`: the setting of a limit, its record, and what
+//! takes it back.
+
+ghost use Rattle.std.specs.Prelude.{◌≡◌, None, IfOk, OnOk, OnErr, option_map};
+ghost use Rattle.flat_model.specs.Step.{refusal, after};
+ghost use Rattle.flat_model.specs.Inverse as model_inverse;
+ghost use Rattle.flat_model.specs.Inverse.{back};
+ghost use Rattle.flat_model.specs.Machine.{recorded};
+ghost use Rattle.flat_model.specs.Command as model;
+ghost use Rattle.group_tree.specs.Flat.{limit_of, limit_file_of};
+ghost use Rattle.undo_journal.specs.Meaning.{refusal_of};
+ghost use Rattle.undo_journal.specs.Answer.{Answers};
+ghost use Rattle.undo_journal.specs.History.{IsReady};
+
+use crate::command::Command;
+use crate::engine::Engine;
+use crate::inverse::Inverse;
+use crate::journal::Entry;
+use crate::reply::{Refusal, Reply};
+use group_path::GroupPath;
+use group_tree::{Limit, LimitFile};
+use pids_charge::{Charges, Meter};
+use std::alloc::{AllocError, Allocator};
+
+impl<A: Allocator + Clone, M: Meter> Engine<A, M> {
+    /// Why the limit may not be set, if it may not.
+    fn refuses_limit<B: Allocator + Clone>(
+        &self,
+        path: &GroupPath<B>,
+        file: LimitFile,
+        value: Limit,
+    ) -> Result<Option<Refusal<A>>, AllocError>
+        ensures { IfOk result (λ r. option_map refusal_of r ≡ refusal M.SLOTS self.now.state (model.SetLimit path.now (limit_file_of file) (limit_of value))) }
+    {
+        if path.depth() == 0 && file == LimitFile::PidsMax {
+            return Ok(Some(Refusal::NoFile));
+        }
+        if !self.has_group(path) {
+            return Ok(Some(Refusal::NoGroup(path.copy(self.alloc.clone()?)?)));
+        }
+        Ok(None)
+    }
+
+    /// Writes a limit that may be set, and records the one that stood there.
+    fn write_limit<B: Allocator + Clone>(
+        &mut self,
+        path: &GroupPath<B>,
+        file: LimitFile,
+        value: Limit,
+    ) -> Result<(), AllocError>
+        requires { refusal M.SLOTS self.old.state (model.SetLimit path.now (limit_file_of file) (limit_of value)) ≡ None }
+        ensures ok { OnOk result (self.new ≡ recorded self.old (model.SetLimit path.now (limit_file_of file) (limit_of value)) (after self.old.state (model.SetLimit path.now (limit_file_of file) (limit_of value)))) }
+        ensures err { OnErr result (self.new ≡ self.old) }
+    {
+        let named = path.copy(self.alloc.clone()?)?;
+        let limited = path.copy(self.alloc.clone()?)?;
+        self.journal.reserve(1)?;
+        let Ok(older) = self.charges.set_limit(path, file, value) else {
+            unreachable!()
+        };
+        self.journal.push(Entry {
+            command: Command::SetLimit {
+                path: named,
+                file,
+                value,
+            },
+            inverse: Inverse::Limited {
+                path: limited,
+                file,
+                value: older,
+            },
+        })?;
+        Ok(())
+    }
+
+    pub(crate) fn set_limit<B: Allocator + Clone>(
+        &mut self,
+        path: &GroupPath<B>,
+        file: LimitFile,
+        value: Limit,
+    ) -> Result<Reply<A>, AllocError>
+        ensures ok { IfOk result (λ reply. Answers M.SLOTS self.old (model.SetLimit path.now (limit_file_of file) (limit_of value)) reply self.new) }
+        ensures err { OnErr result (self.new ≡ self.old) }
+    {
+        if let Some(refusal) = self.refuses_limit(path, file, value)? {
+            return Ok(Reply::Refused(refusal));
+        }
+        self.write_limit(path, file, value)?;
+        Ok(Reply::Done)
+    }
+}
+
+/// Sets the limit that stood.
+pub(crate) fn undo_limit<A: Allocator + Clone, M: Meter>(
+    charges: &mut Charges<A, M>,
+    path: &GroupPath<A>,
+    file: LimitFile,
+    value: Limit,
+)
+    requires { IsReady M.SLOTS charges.old (model_inverse.Limited path.now (limit_file_of file) (limit_of value)) }
+    ensures { charges.new ≡ back (model_inverse.Limited path.now (limit_file_of file) (limit_of value)) charges.old }
+{
+    let Ok(_newer) = charges.set_limit(path, file, value) else {
+        unreachable!()
+    };
+}

@@ -1,0 +1,98 @@
+//! A write to `cgroup.procs`: the move of a process, its record, and what takes it back.
+
+ghost use Rattle.std.specs.Prelude.{◌≡◌, None, IfOk, OnOk, OnErr, option_map};
+ghost use Rattle.flat_model.specs.Step.{refusal, after};
+ghost use Rattle.flat_model.specs.Inverse as model_inverse;
+ghost use Rattle.flat_model.specs.Inverse.{back};
+ghost use Rattle.flat_model.specs.Machine.{recorded};
+ghost use Rattle.flat_model.specs.Command as model;
+ghost use Rattle.undo_journal.specs.Meaning.{refusal_of};
+ghost use Rattle.undo_journal.specs.Answer.{Answers};
+ghost use Rattle.undo_journal.specs.History.{IsReady};
+
+use crate::command::Command;
+use crate::engine::Engine;
+use crate::faults::want_of_memory;
+use crate::inverse::Inverse;
+use crate::journal::Entry;
+use crate::reply::{Refusal, Reply};
+use group_path::GroupPath;
+use pids_charge::{Charges, Meter, Pid};
+use std::alloc::{AllocError, Allocator};
+
+impl<A: Allocator + Clone, M: Meter> Engine<A, M> {
+    /// Why the process may not go to the group, if it may not.
+    fn refuses_move<B: Allocator + Clone>(
+        &self,
+        path: &GroupPath<B>,
+        pid: Pid,
+    ) -> Result<Option<Refusal<A>>, AllocError>
+        ensures { IfOk result (λ r. option_map refusal_of r ≡ refusal M.SLOTS self.now.state (model.Move path.now pid)) }
+    {
+        if !self.has_group(path) {
+            return Ok(Some(Refusal::NoGroup(path.copy(self.alloc.clone()?)?)));
+        }
+        if !self.has_process(pid) {
+            return Ok(Some(Refusal::NoProcess(pid)));
+        }
+        Ok(None)
+    }
+
+    /// Moves a process that may go there, and records the group that it was in.
+    fn write_home<B: Allocator + Clone>(
+        &mut self,
+        who: u8,
+        path: &GroupPath<B>,
+        pid: Pid,
+    ) -> Result<(), AllocError>
+        requires { refusal M.SLOTS self.old.state (model.Move path.now pid) ≡ None }
+        ensures ok { OnOk result (self.new ≡ recorded self.old (model.Move path.now pid) (after self.old.state (model.Move path.now pid))) }
+        ensures err { OnErr result (self.new ≡ self.old) }
+    {
+        let named = path.copy(self.alloc.clone()?)?;
+        self.journal.reserve(1)?;
+        match self.charges.migrate(who, pid, path) {
+            Ok(left) => {
+                self.journal.push(Entry {
+                    command: Command::Move { path: named, pid },
+                    inverse: Inverse::Moved { pid, path: left },
+                })?;
+                Ok(())
+            }
+            Err(fault) => Err(want_of_memory(fault)),
+        }
+    }
+
+    pub(crate) fn move_process<B: Allocator + Clone>(
+        &mut self,
+        who: u8,
+        path: &GroupPath<B>,
+        pid: Pid,
+    ) -> Result<Reply<A>, AllocError>
+        ensures ok { IfOk result (λ reply. Answers M.SLOTS self.old (model.Move path.now pid) reply self.new) }
+        ensures err { OnErr result (self.new ≡ self.old) }
+    {
+        if let Some(refusal) = self.refuses_move(path, pid)? {
+            return Ok(Reply::Refused(refusal));
+        }
+        self.write_home(who, path, pid)?;
+        Ok(Reply::Done)
+    }
+}
+
+/// Moves a process back.
+pub(crate) fn undo_move<A: Allocator + Clone, M: Meter>(
+    charges: &mut Charges<A, M>,
+    who: u8,
+    pid: Pid,
+    path: &GroupPath<A>,
+) -> Result<(), AllocError>
+    requires { IsReady M.SLOTS charges.old (model_inverse.Moved pid path.now) }
+    ensures ok { OnOk result (charges.new ≡ back (model_inverse.Moved pid path.now) charges.old) }
+    ensures err { OnErr result (charges.new ≡ charges.old) }
+{
+    match charges.migrate(who, pid, path) {
+        Ok(_left) => Ok(()),
+        Err(fault) => Err(want_of_memory(fault)),
+    }
+}

@@ -1,0 +1,71 @@
+//! `mkdir`: the making of a group, its record, and what takes it back.
+
+ghost use Rattle.std.specs.Prelude.{◌≡◌, None, IfOk, OnOk, OnErr};
+ghost use Rattle.flat_model.specs.Step.{refusal, after};
+ghost use Rattle.flat_model.specs.Inverse as model_inverse;
+ghost use Rattle.flat_model.specs.Inverse.{back};
+ghost use Rattle.flat_model.specs.Machine.{recorded};
+ghost use Rattle.flat_model.specs.Command as model;
+ghost use Rattle.undo_journal.specs.Answer.{Answers};
+ghost use Rattle.undo_journal.specs.History.{IsReady};
+
+use crate::command::Command;
+use crate::engine::Engine;
+use crate::faults::{refusal_at, want_of_memory};
+use crate::inverse::Inverse;
+use crate::journal::Entry;
+use crate::reply::Reply;
+use group_path::GroupPath;
+use pids_charge::{Charges, Meter};
+use std::alloc::{AllocError, Allocator};
+
+impl<A: Allocator + Clone, M: Meter> Engine<A, M> {
+    /// Makes a group that may be made, and records it.
+    fn add_group<B: Allocator + Clone>(&mut self, path: &GroupPath<B>) -> Result<(), AllocError>
+        requires { refusal M.SLOTS self.old.state (model.MakeGroup path.now) ≡ None }
+        ensures ok { OnOk result (self.new ≡ recorded self.old (model.MakeGroup path.now) (after self.old.state (model.MakeGroup path.now))) }
+        ensures err { OnErr result (self.new ≡ self.old) }
+    {
+        let named = path.copy(self.alloc.clone()?)?;
+        let made = path.copy(self.alloc.clone()?)?;
+        self.journal.reserve(1)?;
+        match self.charges.mkdir(path) {
+            Ok(()) => {
+                self.journal.push(Entry {
+                    command: Command::MakeGroup(named),
+                    inverse: Inverse::Made { path: made },
+                })?;
+                Ok(())
+            }
+            Err(fault) => Err(want_of_memory(fault)),
+        }
+    }
+
+    pub(crate) fn make_group<B: Allocator + Clone>(
+        &mut self,
+        path: &GroupPath<B>,
+    ) -> Result<Reply<A>, AllocError>
+        ensures ok { IfOk result (λ reply. Answers M.SLOTS self.old (model.MakeGroup path.now) reply self.new) }
+        ensures err { OnErr result (self.new ≡ self.old) }
+    {
+        if let Some(fault) = self.charges.refuses_mkdir(path) {
+            let refusal = refusal_at(self.alloc.clone()?, path, fault)?;
+            return Ok(Reply::Refused(refusal));
+        }
+        self.add_group(path)?;
+        Ok(Reply::Done)
+    }
+}
+
+/// Takes out a group that was made.
+pub(crate) fn undo_mkdir<A: Allocator + Clone, M: Meter>(
+    charges: &mut Charges<A, M>,
+    path: &GroupPath<A>,
+)
+    requires { IsReady M.SLOTS charges.old (model_inverse.Made path.now) }
+    ensures { charges.new ≡ back (model_inverse.Made path.now) charges.old }
+{
+    let Ok(_attr) = charges.rmdir(path) else {
+        unreachable!()
+    };
+}

@@ -1,0 +1,77 @@
+//! `rmdir`: the removal of a group, its record, and what takes it back.
+
+ghost use Rattle.std.specs.Prelude.{◌≡◌, None, IfOk, OnOk, OnErr};
+ghost use Rattle.flat_model.specs.Step.{refusal, after};
+ghost use Rattle.flat_model.specs.Inverse as model_inverse;
+ghost use Rattle.flat_model.specs.Inverse.{back};
+ghost use Rattle.flat_model.specs.Machine.{recorded};
+ghost use Rattle.flat_model.specs.Command as model;
+ghost use Rattle.group_tree.specs.Flat.{group_of};
+ghost use Rattle.undo_journal.specs.Answer.{Answers};
+ghost use Rattle.undo_journal.specs.History.{IsReady};
+
+use crate::command::Command;
+use crate::engine::Engine;
+use crate::faults::{refusal_at, want_of_memory};
+use crate::inverse::Inverse;
+use crate::journal::Entry;
+use crate::reply::Reply;
+use group_path::GroupPath;
+use group_tree::Attr;
+use pids_charge::{Charges, Meter};
+use std::alloc::{AllocError, Allocator};
+
+impl<A: Allocator + Clone, M: Meter> Engine<A, M> {
+    /// Removes a group that may be removed, and records it with what it had.
+    fn take_group<B: Allocator + Clone>(&mut self, path: &GroupPath<B>) -> Result<(), AllocError>
+        requires { refusal M.SLOTS self.old.state (model.RemoveGroup path.now) ≡ None }
+        ensures ok { OnOk result (self.new ≡ recorded self.old (model.RemoveGroup path.now) (after self.old.state (model.RemoveGroup path.now))) }
+        ensures err { OnErr result (self.new ≡ self.old) }
+    {
+        let named = path.copy(self.alloc.clone()?)?;
+        let removed = path.copy(self.alloc.clone()?)?;
+        self.journal.reserve(1)?;
+        let Ok(attr) = self.charges.rmdir(path) else {
+            unreachable!()
+        };
+        self.journal.push(Entry {
+            command: Command::RemoveGroup(named),
+            inverse: Inverse::Removed {
+                path: removed,
+                attr,
+            },
+        })?;
+        Ok(())
+    }
+
+    pub(crate) fn remove_group<B: Allocator + Clone>(
+        &mut self,
+        path: &GroupPath<B>,
+    ) -> Result<Reply<A>, AllocError>
+        ensures ok { IfOk result (λ reply. Answers M.SLOTS self.old (model.RemoveGroup path.now) reply self.new) }
+        ensures err { OnErr result (self.new ≡ self.old) }
+    {
+        if let Some(fault) = self.charges.refuses_rmdir(path) {
+            let refusal = refusal_at(self.alloc.clone()?, path, fault)?;
+            return Ok(Reply::Refused(refusal));
+        }
+        self.take_group(path)?;
+        Ok(Reply::Done)
+    }
+}
+
+/// Puts a group that was removed back under its parent, with what it had.
+pub(crate) fn undo_rmdir<A: Allocator + Clone, M: Meter>(
+    charges: &mut Charges<A, M>,
+    path: &GroupPath<A>,
+    attr: Attr,
+) -> Result<(), AllocError>
+    requires { IsReady M.SLOTS charges.old (model_inverse.Removed path.now (group_of attr)) }
+    ensures ok { OnOk result (charges.new ≡ back (model_inverse.Removed path.now (group_of attr)) charges.old) }
+    ensures err { OnErr result (charges.new ≡ charges.old) }
+{
+    match charges.restore(path, attr) {
+        Ok(()) => Ok(()),
+        Err(fault) => Err(want_of_memory(fault)),
+    }
+}
