@@ -1,13 +1,13 @@
 //! Commands by their lines, what the engine answers, and what it keeps of them.
 
 use group_path::GroupPath;
+use pids_charge::{Meter, PlainMeter};
 use replay_main::{Line, parse_line};
 use std::alloc::{AllocError, Allocator, Global};
-use std::process::Abort;
 use std::sync::Wait;
 use std::test::Fail;
 use std::thread::Threads;
-use undo_journal::{Bytes, Command, Engine, Inverse, Pid, Refusal, Reply, SLOTS};
+use undo_journal::{Bytes, Command, Engine, Inverse, Pid, Refusal, Reply};
 
 /// The command that a line says.
 pub(crate) fn command(alloc: Global, line: &str) -> Result<Command<Global>, Fail> {
@@ -48,6 +48,7 @@ fn refused<A: Allocator + Clone>(
         Refusal::HasProcesses => Vec::from_slice(alloc, b"hasprocesses"),
         Refusal::NoProcess(pid) => word_and_pid(alloc, "noprocess ", *pid),
         Refusal::PidInUse(pid) => word_and_pid(alloc, "pidinuse ", *pid),
+        Refusal::PidsMax(path) => word_and_path(alloc, b"pidsmax ", path),
         Refusal::NoFile => Vec::from_slice(alloc, b"nofile"),
     }
 }
@@ -68,10 +69,10 @@ pub(crate) fn said<A: Allocator + Clone>(
 }
 
 /// What the engine answers to a line, said from a copy of the reply to a copy of the command.
-pub(crate) fn answer<R: Threads + Wait + Sync, A: Allocator + Clone>(
+pub(crate) fn answer<R: Threads + Wait + Sync, A: Allocator + Clone, M: Meter>(
     rt: &R,
     alloc: Global,
-    engine: &mut Engine<A>,
+    engine: &mut Engine<A, M>,
     line: &str,
 ) -> Result<Vec<u8>, Fail> {
     let command = command(alloc, line)?;
@@ -79,20 +80,6 @@ pub(crate) fn answer<R: Threads + Wait + Sync, A: Allocator + Clone>(
     let reply = engine.apply(rt, 0, &command);
     let reply = reply.copy(alloc)?;
     Ok(said(alloc, &reply)?)
-}
-
-/// A fresh engine's answers to the lines are those beside them.
-fn answers<R: Abort + Threads + Wait + Sync>(
-    rt: &R,
-    alloc: Global,
-    rows: &[(&str, &str)],
-) -> Result<(), Fail> {
-    let mut engine = Engine::new(alloc)?;
-    for (line, wanted) in rows {
-        let said = answer(rt, alloc, &mut engine, line)?;
-        assert!(rt; said.as_slice() == wanted.as_bytes(), "{line}");
-    }
-    Ok(())
 }
 
 #[test]
@@ -122,6 +109,7 @@ fn texts_of_commands(rt: HostRuntime) -> Result<(), Fail> {
         "write /a cgroup.max.depth 0",
         "write /a cgroup.max.descendants 2147483646",
         "write / cgroup.max.descendants max",
+        "write /a pids.max 5",
         "cat /a pids.current",
         "cat / cgroup.stat",
         "undo",
@@ -137,7 +125,7 @@ fn texts_of_commands(rt: HostRuntime) -> Result<(), Fail> {
 /// A process is made, moved and moved back.
 #[test]
 fn one_trace(rt: HostRuntime) -> Result<(), Fail> {
-    let mut engine = Engine::new(rt.alloc())?;
+    let mut engine = Engine::new(rt.alloc(), PlainMeter::new(rt.alloc())?)?;
     let rows = [
         ("undo", "nothing", 0),
         ("mkdir /a", "ok", 1),
@@ -158,7 +146,7 @@ fn one_trace(rt: HostRuntime) -> Result<(), Fail> {
 /// The newest record and its command, and the undo that takes it back.
 #[test]
 fn newest_record(rt: HostRuntime) -> Result<(), Fail> {
-    let mut engine = Engine::new(rt.alloc())?;
+    let mut engine = Engine::new(rt.alloc(), PlainMeter::new(rt.alloc())?)?;
     assert!(rt; engine.newest().is_none());
     assert!(rt; engine.newest_command().is_none());
     let made = answer(&rt, rt.alloc(), &mut engine, "fork 1 2")?;
@@ -172,33 +160,12 @@ fn newest_record(rt: HostRuntime) -> Result<(), Fail> {
     Ok(())
 }
 
-#[test]
-fn refusals(rt: HostRuntime) -> Result<(), Fail> {
-    let rows = [
-        ("fork 1 1", "pidinuse 1"),
-        ("fork 2 1", "noprocess 2"),
-        ("fork 2 3", "noprocess 2"),
-        ("fork 1 2", "ok"),
-        ("fork 1 2", "pidinuse 2"),
-        ("mkdir /a/b", "nogroup /a"),
-        ("mkdir /", "exists"),
-        ("mkdir /a", "ok"),
-        ("mkdir /a", "exists"),
-        ("write /b cgroup.procs 9", "nogroup /b"),
-        ("write /a cgroup.procs 9", "noprocess 9"),
-        ("exit 9", "noprocess 9"),
-        ("write /b cgroup.max.depth 9", "nogroup /b"),
-        ("cat /b pids.current", "nogroup /b"),
-        ("cat /b cgroup.stat", "nogroup /b"),
-        ("cat / pids.current", "nofile"),
-    ];
-    answers(&rt, rt.alloc(), &rows)
-}
+/// How many groups a plain meter has room for, beside the root.
+const SLOTS: usize = 256;
 
-/// There is room for 256 groups beside the root.
 #[test]
 fn slots(rt: HostRuntime) -> Result<(), Fail> {
-    let mut engine = Engine::new(rt.alloc())?;
+    let mut engine = Engine::new(rt.alloc(), PlainMeter::new(rt.alloc())?)?;
     for number in 0..=SLOTS {
         let line = format!(in rt.alloc(); "mkdir /g{number}")?;
         let said = answer(&rt, rt.alloc(), &mut engine, line.as_str())?;
@@ -209,97 +176,19 @@ fn slots(rt: HostRuntime) -> Result<(), Fail> {
     Ok(())
 }
 
+/// More than 65,536 commands are recorded, and each is taken back.
 #[test]
-fn depth_limit(rt: HostRuntime) -> Result<(), Fail> {
-    let rows = [
-        ("mkdir /a", "ok"),
-        ("write /a cgroup.max.depth 0", "ok"),
-        ("mkdir /a/b", "depth /a"),
-        ("mkdir /b", "ok"),
-    ];
-    answers(&rt, rt.alloc(), &rows)
-}
-
-#[test]
-fn descendants_limit(rt: HostRuntime) -> Result<(), Fail> {
-    let rows = [
-        ("write / cgroup.max.descendants 1", "ok"),
-        ("mkdir /a", "ok"),
-        ("mkdir /b", "descendants /"),
-        ("mkdir /a/b", "descendants /"),
-        (
-            "cat / cgroup.stat",
-            "nr_descendants 1\nnr_dying_descendants 0\n",
-        ),
-        (
-            "cat /a cgroup.stat",
-            "nr_descendants 0\nnr_dying_descendants 0\n",
-        ),
-    ];
-    answers(&rt, rt.alloc(), &rows)
-}
-
-/// The nearest group is asked first, and of one group its limit on descendants.
-#[test]
-fn limits_in_order(rt: HostRuntime) -> Result<(), Fail> {
-    let rows = [
-        ("mkdir /a", "ok"),
-        ("mkdir /a/b", "ok"),
-        ("write / cgroup.max.depth 2", "ok"),
-        ("mkdir /a/b/c", "depth /"),
-        ("write /a cgroup.max.depth 1", "ok"),
-        ("mkdir /a/b/c", "depth /a"),
-        ("write /a cgroup.max.descendants 1", "ok"),
-        ("mkdir /a/b/c", "descendants /a"),
-        ("write /a/b cgroup.max.depth 0", "ok"),
-        ("mkdir /a/b/c", "depth /a/b"),
-        ("write /a/b cgroup.max.depth max", "ok"),
-        ("write /a cgroup.max.descendants max", "ok"),
-        ("write /a cgroup.max.depth 2", "ok"),
-        ("write / cgroup.max.depth 3", "ok"),
-        ("mkdir /a/b/c", "ok"),
-    ];
-    answers(&rt, rt.alloc(), &rows)
-}
-
-#[test]
-fn removals_refused_in_order(rt: HostRuntime) -> Result<(), Fail> {
-    let rows = [
-        ("mkdir /a", "ok"),
-        ("mkdir /a/b", "ok"),
-        ("write /a cgroup.procs 1", "ok"),
-        ("rmdir /a", "haschildren"),
-        ("rmdir /a/b", "ok"),
-        ("rmdir /a", "hasprocesses"),
-        ("write / cgroup.procs 1", "ok"),
-        ("rmdir /a", "ok"),
-        ("rmdir /a", "nogroup /a"),
-        ("rmdir /", "rootfixed"),
-    ];
-    answers(&rt, rt.alloc(), &rows)
-}
-
-/// What was removed comes back with its limits, and what has ended with its group.
-#[test]
-fn removals_and_ends_undone(rt: HostRuntime) -> Result<(), Fail> {
-    let rows = [
-        ("mkdir /a", "ok"),
-        ("write /a cgroup.max.depth 0", "ok"),
-        ("fork 1 2", "ok"),
-        ("write /a cgroup.procs 2", "ok"),
-        ("exit 2", "ok"),
-        ("exit 2", "noprocess 2"),
-        ("cat /a pids.current", "0\n"),
-        ("rmdir /a", "ok"),
-        ("cat /a pids.current", "nogroup /a"),
-        ("undo", "rmdir /a"),
-        ("mkdir /a/b", "depth /a"),
-        ("undo", "exit 2"),
-        ("cat /a pids.current", "1\n"),
-        ("undo", "write /a cgroup.procs 2"),
-        ("undo", "fork 1 2"),
-        ("undo", "write /a cgroup.max.depth 0"),
-        ("mkdir /a/b", "ok"),
-    ];
-    answers(&rt, rt.alloc(), &rows)
+fn long_journal(rt: HostRuntime) -> Result<(), Fail> {
+    let mut engine = Engine::new(rt.alloc(), PlainMeter::new(rt.alloc())?)?;
+    let command = command(rt.alloc(), "write / cgroup.max.depth 7")?;
+    for _ in 0..65_537u32 {
+        assert!(rt; matches!(engine.apply(&rt, 0, &command), Reply::Done));
+    }
+    assert_eq!(rt; engine.depth(), 65_537);
+    for _ in 0..65_537u32 {
+        let undone = engine.undo(&rt, 0);
+        assert!(rt; matches!(undone, Reply::Undone(Command::SetLimit { .. })));
+    }
+    assert!(rt; engine.newest().is_none());
+    Ok(())
 }

@@ -1,28 +1,46 @@
 //! Each growth that a command asks for, refused in turn.
 
 use crate::engine::{answer, command, said};
-use crate::tree_memory::filling;
 use linked_list_allocator::LocalHeap;
+use pids_charge::{Meter, PlainMeter};
 use std::alloc::{AllocError, Allocator, Global};
 use std::sync::Wait;
 use std::test::Fail;
 use std::thread::Threads;
 use undo_journal::{Engine, Reply};
 
+/// Blocks of sixteen bytes that take all memory of a heap, up to ten thousand.
+fn filling<'a>(
+    alloc: Global,
+    heap: &'a LocalHeap,
+) -> Result<Vec<Vec<u8, &'a LocalHeap>>, AllocError> {
+    let mut blocks = Vec::new(alloc);
+    for _ in 0..10_000 {
+        match Vec::with_capacity(heap, 16) {
+            Ok(block) => blocks.push(block)?,
+            Err(_) => break,
+        }
+    }
+    Ok(blocks)
+}
+
 /// The newest recorded command; no text where there is none.
-fn newest<A: Allocator + Clone>(alloc: Global, engine: &Engine<A>) -> Result<Vec<u8>, AllocError> {
+fn newest<A: Allocator + Clone, M: Meter>(
+    alloc: Global,
+    engine: &Engine<A, M>,
+) -> Result<Vec<u8>, AllocError> {
     match engine.newest_command() {
         Some(command) => command.text(alloc),
         None => Ok(Vec::new(alloc)),
     }
 }
 
-/// What can be seen of an engine in which no groups but `/a` and `/b` were made: how many commands are recorded, the
-/// newest, and the files of the groups.
-fn seen<R: Threads + Wait + Sync, A: Allocator + Clone>(
+/// What can be seen of an engine in which no groups but `/a` and `/b` were made: how many commands
+/// are recorded, the newest, and the files of the groups.
+fn seen<R: Threads + Wait + Sync, A: Allocator + Clone, M: Meter>(
     rt: &R,
     alloc: Global,
-    engine: &mut Engine<A>,
+    engine: &mut Engine<A, M>,
 ) -> Result<Vec<u8>, Fail> {
     let depth = engine.depth();
     let mut text = format!(in alloc; "{depth} ")?.into_bytes();
@@ -46,7 +64,7 @@ fn answer_in<'a, R: Threads + Wait + Sync>(
     rt: &R,
     alloc: Global,
     heap: &'a LocalHeap,
-    engine: &mut Engine<&'a LocalHeap>,
+    engine: &mut Engine<&'a LocalHeap, PlainMeter<Global>>,
     line: &str,
     room: usize,
 ) -> Result<Option<Vec<u8>>, Fail> {
@@ -62,13 +80,14 @@ fn answer_in<'a, R: Threads + Wait + Sync>(
     }
 }
 
-/// The first answer that is not want of memory, as the room grows by a block at a time; and whether memory was wanting
-/// before it. Each time that it was, what can be seen of the engine stayed.
+/// The first answer that is not want of memory, as the room grows by a block at a time; and
+/// whether memory was wanting before it. Each time that it was, what can be seen of the engine
+/// stayed.
 fn first_answer<'a, R: Threads + Wait + Sync>(
     rt: &R,
     alloc: Global,
     heap: &'a LocalHeap,
-    engine: &mut Engine<&'a LocalHeap>,
+    engine: &mut Engine<&'a LocalHeap, PlainMeter<Global>>,
     line: &str,
 ) -> Result<(Vec<u8>, bool), Fail> {
     let before = seen(rt, alloc, engine)?;
@@ -84,8 +103,9 @@ fn first_answer<'a, R: Threads + Wait + Sync>(
     Err(Fail::new("there is no answer in 1,600 bytes"))
 }
 
-/// The lines, their answers, and whether memory is asked for. Taking back a fork, a mkdir or a limit asks for none.
-const ROWS: [(&str, &str, bool); 18] = [
+/// The lines, their answers, and whether memory is asked for. Taking back a fork, a mkdir or a
+/// limit asks for none.
+const ROWS: [(&str, &str, bool); 22] = [
     ("mkdir /a", "ok", true),
     ("mkdir /b/c", "nogroup /b", true),
     ("fork 1 2", "ok", true),
@@ -104,6 +124,10 @@ const ROWS: [(&str, &str, bool); 18] = [
     ("rmdir /a", "ok", true),
     ("undo", "rmdir /a", true),
     ("undo", "exit 2", true),
+    ("write /a pids.max 1", "ok", true),
+    ("fork 2 3", "pidsmax /a", true),
+    ("undo", "fork 2 3", false),
+    ("undo", "write /a pids.max 1", false),
     ("undo", "write /a cgroup.max.descendants 0", false),
     ("undo", "write /a cgroup.procs 2", true),
     ("undo", "fork 1 2", false),
@@ -112,8 +136,8 @@ const ROWS: [(&str, &str, bool); 18] = [
 
 #[test]
 fn each_growth_of_a_command_refused(rt: HostRuntime) -> Result<(), Fail> {
-    let heap = LocalHeap::new(rt.alloc(), 4096)?;
-    let mut engine = Engine::new(&heap)?;
+    let heap = LocalHeap::new(rt.alloc(), 8192)?;
+    let mut engine = Engine::new(&heap, PlainMeter::new(rt.alloc())?)?;
     for (line, wanted, grows) in ROWS {
         let (answer, is_refused) = first_answer(&rt, rt.alloc(), &heap, &mut engine, line)?;
         assert!(rt; answer.as_slice() == wanted.as_bytes(), "{line}");
@@ -122,10 +146,10 @@ fn each_growth_of_a_command_refused(rt: HostRuntime) -> Result<(), Fail> {
     Ok(())
 }
 
-/// Whether an engine is made in a heap of that size.
+/// Whether an engine is made in a heap of that size, its meter apart.
 fn is_made_in(alloc: Global, size: usize) -> Result<bool, AllocError> {
     let heap = LocalHeap::new(alloc, size)?;
-    match Engine::new(&heap) {
+    match Engine::new(&heap, PlainMeter::new(alloc)?) {
         Err(AllocError) => Ok(false),
         Ok(engine) => Ok(engine.depth() == 0),
     }

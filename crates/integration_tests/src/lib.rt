@@ -1,20 +1,27 @@
-//! Tests that go across the crates, in a crate of their own so that no other is proved twice for them.
+//! Tests that go across the crates, in a crate of their own so that no other is proved twice for
+//! them.
 //!
-//! They ask what no contract says: that calls succeed where there is memory, what each answers where a growth is refused,
-//! and that the definitions are what the kernel's guide means, by worked examples whose answers were written by hand. What
-//! a contract says of every input is not tested here once more.
+//! They ask what no contract says: that calls succeed where there is memory, what each answers
+//! where a growth is refused, and that the definitions are what the kernel's guide means, by
+//! worked examples whose answers were written by hand. What a contract says of every input is not
+//! tested here once more.
 //!
-//! - `tree`: each public call of `GroupTree`, and its refusals in their order.
-//! - `tree_memory`: a tree in a small heap, with each growth refused.
-//! - `engine`: commands by their lines, with what the engine answers and keeps.
+//! - `engine`: commands, their texts, and what the engine keeps of them.
 //! - `engine_memory`: each growth that a command asks for, refused in turn.
+//! - `traces`: traces with their answers, one table of texts; long lines and long answers.
+//! - `faults`: a replay over devices that fail or end, which stand in `devices`.
+//! - `arguments`: the command line, what the program does by it, its statuses and messages.
 #![tactic(auto)]
 
+#[cfg(test)]
+mod arguments;
+#[cfg(test)]
+mod devices;
 #[cfg(test)]
 mod engine;
 #[cfg(test)]
 mod engine_memory;
 #[cfg(test)]
-mod tree;
+mod faults;
 #[cfg(test)]
-mod tree_memory;
+mod traces;

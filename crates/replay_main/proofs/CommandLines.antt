@@ -3,18 +3,18 @@ use Rattle.std.proofs.Common.{◌≡◌, true, ap, sym, subst, ◌∙◌, ◌⊎
 use Rattle.clap.specs.Words.{App, IsAmong, Kinds, new_app}
 use Rattle.clap.specs.declared.error.kind.ErrorKind.{ErrorKind}
 use Rattle.clap.specs.declared.error.kind.ErrorKind.TheVariants as kind
-use Rattle.replay_main.specs.declared.asking.Ask.{Ask}
-use Rattle.replay_main.specs.declared.asking.Ask.TheVariants.{Run, Help}
-use Rattle.replay_main.specs.declared.asking.LineFault.{LineFault}
-use Rattle.replay_main.specs.declared.asking.LineFault.TheVariants.{Bad, OutOfMemory}
-use Rattle.replay_main.specs.Asks.{Asks, IsAskedBy, program}
+use Rattle.replay_main.specs.declared.arguments.Ask.{Ask}
+use Rattle.replay_main.specs.declared.arguments.Ask.TheVariants.{Run, Help}
+use Rattle.replay_main.specs.declared.arguments.LineFault.{LineFault}
+use Rattle.replay_main.specs.declared.arguments.LineFault.TheVariants.{Bad, OutOfMemory}
+use Rattle.replay_main.specs.Asks.{Asks, IsAskedBy, app}
 
 -- a command without the binary's name
 abbrev pub nameless : App → App
 nameless a = record { top = record a.top { no_binary_name = true }; subs = a.subs }
 
-pub program_is : (old new : App) → new ≡ nameless old → old ≡ new_app (codes "cgreplay") → new ≡ program
-program_is old new e h = e ∙ ap nameless h
+pub app_is : (old new : App) → new ≡ nameless old → old ≡ new_app (codes "cgreplay") → new ≡ app
+app_is old new e h = e ∙ ap nameless h
 
 apart : kind.DisplayHelp ≡ kind.OutOfMemory → ⊥
 apart e = cc

@@ -9,10 +9,9 @@ use Rattle.flat_model.specs.Command.{Command}
 use Rattle.flat_model.specs.Machine.{Machine, new_machine, tick, replies}
 use Rattle.flat_model.specs.Replies.{out, fault_bytes, reply_bytes, commands_in, answers_to, is_numbered, is_fault, is_refused, command_count, refused_count}
 use Rattle.flat_model.specs.Trace.{TextFault, Line, Skip, Run, Fault, is_line_feed, without_empty_end, lines_in, trace_max}
-use Rattle.undo_journal.specs.Answer.{slots}
-use Rattle.replay_main.specs.declared.replaying.Summary.{Summary}
-use Rattle.replay_main.specs.Replayed.{Runs, IsAnswered}
-use Rattle.replay_main.specs.SoFar.{read_line_so_far, read_trace_so_far}
+use Rattle.replay_main.specs.declared.trace.Summary.{Summary}
+use Rattle.replay_main.specs.Replayed.{RunsOne, IsAnswered}
+use Rattle.trace_lines.specs.SoFar.{slots, read_line_so_far, read_trace_so_far}
 
 -- `all` are the lines of the trace, `left` those that are left, and m is the machine that they find
 pub record Stands (all left : List Line) (m : Machine) (bytes : List ℕ) (commands refused : ℕ) : Type 0 where
@@ -106,7 +105,7 @@ run_exact all left m bytes commands refused c s =
       short = s.short;
     }
 
-pub stands_run : (all left : List Line) (m next : Machine) (bytes new : List ℕ) (commands refused more : ℕ) (c : Command) (was_refused : Bool) → Runs m next bytes (commands + 1) c new was_refused → more ≡ refused + cond was_refused 1 0
+pub stands_run : (all left : List Line) (m next : Machine) (bytes new : List ℕ) (commands refused more : ℕ) (c : Command) (was_refused : Bool) → RunsOne m next bytes (commands + 1) c new was_refused → more ≡ refused + cond was_refused 1 0
     → Stands all (Run c ∷ left) m bytes commands refused → Stands all left next new (commands + 1) more
 stands_run all left m next bytes new commands refused more c was_refused r e s =
     same_stands all left (tick slots m c).0 next (bytes ++ reply_bytes (commands + 1) (tick slots m c).1) new (commands + 1) (refused + cond (is_refused (tick slots m c).1) 1 0) more r.goes r.answered (e ∙ ap (λ b. refused + cond b 1 0) r.refused) (run_exact all left m bytes commands refused c s)
@@ -116,6 +115,20 @@ pub next_line : (all : List Line) (lines rest : List (List ℕ)) (line : List �
     → Stands all (map read_line_so_far lines) m bytes commands refused → Stands all (l ∷ map read_line_so_far rest) m bytes commands refused
 next_line all lines rest line l m bytes commands refused e says s =
     subst (λ x. Stands all (x ∷ map read_line_so_far rest) m bytes commands refused) (sym says) (subst (λ ls. Stands all (map read_line_so_far ls) m bytes commands refused) e s)
+
+-- one command more has been run
+pub stands_ran : (all : List Line) (lines rest : List (List ℕ)) (line : List ℕ) (l : Line) (m next : Machine) (bytes new : List ℕ) (commands refused more : ℕ) (c : Command) (was_refused : Bool)
+    → lines ≡ line ∷ rest → l ≡ read_line_so_far line → l ≡ Run c → RunsOne m next bytes (commands + 1) c new was_refused → more ≡ refused + cond was_refused 1 0
+    → Stands all (map read_line_so_far lines) m bytes commands refused → Stands all (map read_line_so_far rest) next new (commands + 1) more
+stands_ran all lines rest line l m next bytes new commands refused more c was_refused steps says is r e s =
+    stands_run all (map read_line_so_far rest) m next bytes new commands refused more c was_refused r e
+    (subst (λ x. Stands all (x ∷ map read_line_so_far rest) m bytes commands refused) is (next_line all lines rest line l m bytes commands refused steps says s))
+
+pub raised : (refused more : ℕ) (was_refused : Bool) → was_refused ≡ true → more ≡ refused + 1 → more ≡ refused + cond was_refused 1 0
+raised refused more was_refused t e = e ∙ ap (λ b. refused + cond b 1 0) (sym t)
+
+pub stayed : (refused more : ℕ) (was_refused : Bool) → was_refused ≡ false → more ≡ refused → more ≡ refused + cond was_refused 1 0
+stayed refused more was_refused t e = e ∙ (let z : refused ≡ refused + 0 = omega arith in z) ∙ ap (λ b. refused + cond b 1 0) (sym t)
 
 -- ---- the end
 

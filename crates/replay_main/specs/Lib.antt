@@ -1,6 +1,4 @@
 pub mod Device
-pub mod Cut
-pub mod SoFar
-pub mod Meaning
 pub mod Replayed
 pub mod Asks
+pub mod Program

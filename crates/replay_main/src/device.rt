@@ -1,13 +1,17 @@
 //! Where a trace comes from and where its answers go.
 
-ghost use Rattle.std.specs.Prelude.{◌≡◌, ◌≤◌, ℕ, List, Bool, true, length, if◌then◌else◌, is_err, Option, IfOk, OnErr};
-ghost use Rattle.replay_main.specs.Device.{Gave, Took, Kept};
+ghost use Rattle.std.specs.Prelude.{◌≡◌, ◌≤◌, ℕ, List, Bool, true, false, length, if◌then◌else◌, is_err, Option, IfOk, OnErr};
+ghost use Rattle.std.specs.Io.KnownBytes.{Keeps, ReadConsumes, WriteAppends};
+
+use thiserror::Error;
 
 /// A read, a write or a flush failed.
-#[derive(Clone, Copy, Debug, PartialEq, Eq)]
+#[derive(Clone, Copy, Debug, PartialEq, Eq, Error)]
+#[error("a device failed")]
 pub struct DeviceFault;
 
-/// Where a trace comes from. Its calls may wait for the device, and how they take memory is the device's matter.
+/// Where a trace comes from. Its calls may wait for the device, and how they take memory is the
+/// device's matter.
 pub trait Source {
     /// The bytes that are left, where the device tells them.
     ghost left: { Self → Option (List ℕ) };
@@ -15,15 +19,16 @@ pub trait Source {
     /// The mark: whether a read has failed.
     ghost is_failed: { Self → Bool };
 
-    /// Reads some of the bytes that are left into the front of the buffer, and tells how many. None into a buffer
-    /// with room means the end.
+    /// Reads some of the bytes that are left into the front of the buffer, and tells how many. None
+    /// into a buffer with room means the end.
     fn read(&mut self, buf: &mut [u8]) -> Result<usize, DeviceFault>
         ensures bound { IfOk result (λ n. n ≤ length buf.new) }
-        ensures bytes { IfOk result (λ n. Gave (left self.old) n buf.new (left self.new)) }
+        ensures bytes { ReadConsumes (left self.old) (left self.new) result buf.new }
         ensures mark { is_failed self.new ≡ (if is_err result then true else is_failed self.old) };
 }
 
-/// Where answers go. Its calls may wait for the device, and how they take memory is the device's matter.
+/// Where answers go. Its calls may wait for the device, and how they take memory is the device's
+/// matter.
 pub trait Sink {
     /// The bytes that were taken, where the device tells them.
     ghost taken: { Self → Option (List ℕ) };
@@ -31,16 +36,22 @@ pub trait Sink {
     /// The mark: whether a write or flush has failed, or a write took no bytes.
     ghost is_failed: { Self → Bool };
 
+    /// Whether all that was taken is out: a flush has succeeded, and nothing was written since.
+    ghost is_flushed: { Self → Bool };
+
     /// Takes some bytes from the front, and tells how many.
     fn write(&mut self, bytes: &[u8]) -> Result<usize, DeviceFault>
         ensures bound { IfOk result (λ n. n ≤ length bytes.now) }
-        ensures bytes { Took (taken self.old) result bytes.now (taken self.new) }
+        ensures bytes { WriteAppends (taken self.old) (taken self.new) result bytes.now }
         ensures good { IfOk result (λ n. 1 ≤ n → is_failed self.new ≡ is_failed self.old) }
         ensures failed { OnErr result (is_failed self.new ≡ true) }
-        ensures none { IfOk result (λ n. n ≡ 0 → is_failed self.new ≡ true) };
+        ensures none { IfOk result (λ n. n ≡ 0 → is_failed self.new ≡ true) }
+        ensures unflushed { is_flushed self.new ≡ false };
 
     /// Sees that all that was taken is out.
     fn flush(&mut self) -> Result<(), DeviceFault>
-        ensures bytes { Kept (taken self.old) (taken self.new) }
-        ensures mark { is_failed self.new ≡ (if is_err result then true else is_failed self.old) };
+        ensures bytes { Keeps (taken self.old) (taken self.new) }
+        ensures mark { is_failed self.new ≡ (if is_err result then true else is_failed self.old) }
+        ensures flushed { is_flushed self.new
+            ≡ (if is_err result then is_flushed self.old else true) };
 }

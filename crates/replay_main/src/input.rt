@@ -12,7 +12,7 @@ pub const TRACE_MAX: usize = 16_777_216;
 /// Reads to the end.
 pub(crate) fn read_whole<S: Source>(alloc: Global, source: &mut S) -> Result<Vec<u8>, ReplayFault>
     requires { S.is_failed source.old ≡ false }
-    ensures { WholeRead (S.left source.old) (S.left source.new) (S.is_failed source.new) result }
+    ensures { WholeRead (S.left source.old) (S.is_failed source.new) result }
 {
     let mut bytes = Vec::new(alloc);
     let mut buf = [0u8; 4096];

@@ -1,6 +1,6 @@
 //! Devices in memory.
 
-ghost use Rattle.std.specs.Prelude.{◌≡◌, Some, false};
+ghost use Rattle.std.specs.Prelude.{◌≡◌, [], Some, false};
 
 use crate::{DeviceFault, Sink, Source};
 use std::alloc::Global;
@@ -14,7 +14,7 @@ pub struct MemorySource<'a> {
 impl<'a> MemorySource<'a> {
     /// A source that has these bytes left.
     pub fn new(bytes: &'a [u8]) -> MemorySource<'a>
-        ensures { result.rest.now ≡ bytes.now }
+        ensures { ⟦<MemorySource<'a> as Source>⟧.left result ≡ Some bytes.now }
     {
         MemorySource { rest: bytes }
     }
@@ -34,27 +34,31 @@ impl<'a> Source for MemorySource<'a> {
     }
 }
 
-/// A sink that keeps the bytes that it takes, and fails where there is no memory for them.
+/// A sink that keeps the bytes that it takes, and fails where there is no memory for them, or none
+/// are given.
 #[derive(Drop)]
 pub struct MemorySink {
     bytes: Vec<u8>,
     is_failed: bool,
+    is_flushed: bool,
 }
 
 impl MemorySink {
-    /// A sink that has taken nothing.
+    /// A sink that has taken nothing, and has not failed.
     pub fn new(alloc: Global) -> MemorySink
-        ensures { result.is_failed ≡ false }
+        ensures taken { ⟦<MemorySink as Sink>⟧.taken result ≡ Some [] }
+        ensures good { ⟦<MemorySink as Sink>⟧.is_failed result ≡ false }
     {
         MemorySink {
             bytes: Vec::new(alloc),
             is_failed: false,
+            is_flushed: false,
         }
     }
 
     /// The bytes that were taken.
     pub fn bytes(&self) -> &[u8]
-        ensures { result.now ≡ self.now.bytes.items }
+        ensures { Some result.now ≡ ⟦<MemorySink as Sink>⟧.taken self.now }
     {
         self.bytes.as_slice()
     }
@@ -65,7 +69,10 @@ impl Sink for MemorySink {
 
     ghost is_failed = { λ s. s.is_failed };
 
+    ghost is_flushed = { λ s. s.is_flushed };
+
     fn write(&mut self, bytes: &[u8]) -> Result<usize, DeviceFault> {
+        self.is_flushed = false;
         if bytes.is_empty() || self.bytes.extend_from_slice(bytes).is_err() {
             self.is_failed = true;
             return Err(DeviceFault);
@@ -74,6 +81,7 @@ impl Sink for MemorySink {
     }
 
     fn flush(&mut self) -> Result<(), DeviceFault> {
+        self.is_flushed = true;
         Ok(())
     }
 }

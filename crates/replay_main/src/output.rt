@@ -1,14 +1,16 @@
 //! The whole output.
 
 ghost use Rattle.std.specs.Prelude.{◌≡◌, false};
-ghost use Rattle.replay_main.specs.Device.{Wrote};
+ghost use Rattle.replay_main.specs.Device.{WholeWrite};
 
 use crate::{DeviceFault, Sink};
 
-/// Writes all bytes, and flushes. A write that takes no bytes is a failure.
+/// Writes all bytes, and flushes, even where there are none. A write that takes no bytes is a
+/// failure.
 pub(crate) fn write_whole<S: Sink>(sink: &mut S, bytes: &[u8]) -> Result<(), DeviceFault>
     requires { S.is_failed sink.old ≡ false }
-    ensures { Wrote (S.taken sink.old) bytes.now (S.taken sink.new) (S.is_failed sink.new) result }
+    ensures { WholeWrite (S.taken sink.old) bytes.now (S.taken sink.new)
+        (S.is_failed sink.new) (S.is_flushed sink.new) result }
 {
     let mut rest = bytes;
     while !rest.is_empty() {

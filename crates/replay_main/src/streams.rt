@@ -5,8 +5,8 @@ ghost use Rattle.std.specs.Prelude.{false, ◌≡◌};
 use crate::{DeviceFault, Sink, Source};
 use std::io::{Read, Write};
 
-/// A source over a reader. It tells the bytes that are left where the reader does: one over memory does, standard input
-/// does not.
+/// A source over a reader. It tells the bytes that are left where the reader does: one over memory
+/// does, standard input does not.
 #[derive(Drop)]
 pub struct StreamSource<R: Read> {
     reader: R,
@@ -14,9 +14,10 @@ pub struct StreamSource<R: Read> {
 }
 
 impl<R: Read> StreamSource<R> {
-    /// A source that has not failed.
+    /// A source that has what this reader has left, and has not failed.
     pub fn new(reader: R) -> StreamSource<R>
-        ensures { result.is_failed ≡ false }
+        ensures left { ⟦<StreamSource<R> as Source>⟧.left result ≡ R.remaining reader }
+        ensures good { ⟦<StreamSource<R> as Source>⟧.is_failed result ≡ false }
     {
         StreamSource {
             reader,
@@ -41,22 +42,25 @@ impl<R: Read> Source for StreamSource<R> {
     }
 }
 
-/// A sink over a writer. It tells the bytes that were taken where the writer does: one over memory does, standard output
-/// does not.
+/// A sink over a writer. It tells the bytes that were taken where the writer does: one over memory
+/// does, standard output does not.
 #[derive(Drop)]
 pub struct StreamSink<W: Write> {
     writer: W,
     is_failed: bool,
+    is_flushed: bool,
 }
 
 impl<W: Write> StreamSink<W> {
-    /// A sink that has not failed.
+    /// A sink that has taken what this writer holds, and has not failed.
     pub fn new(writer: W) -> StreamSink<W>
-        ensures { result.is_failed ≡ false }
+        ensures taken { ⟦<StreamSink<W> as Sink>⟧.taken result ≡ W.contents writer }
+        ensures good { ⟦<StreamSink<W> as Sink>⟧.is_failed result ≡ false }
     {
         StreamSink {
             writer,
             is_failed: false,
+            is_flushed: false,
         }
     }
 }
@@ -66,7 +70,10 @@ impl<W: Write> Sink for StreamSink<W> {
 
     ghost is_failed = { λ s. s.is_failed };
 
+    ghost is_flushed = { λ s. s.is_flushed };
+
     fn write(&mut self, bytes: &[u8]) -> Result<usize, DeviceFault> {
+        self.is_flushed = false;
         match self.writer.write(bytes) {
             Ok(0) => {
                 self.is_failed = true;
@@ -82,7 +89,10 @@ impl<W: Write> Sink for StreamSink<W> {
 
     fn flush(&mut self) -> Result<(), DeviceFault> {
         match self.writer.flush() {
-            Ok(()) => Ok(()),
+            Ok(()) => {
+                self.is_flushed = true;
+                Ok(())
+            }
             Err(_) => {
                 self.is_failed = true;
                 Err(DeviceFault)

@@ -1,0 +1,303 @@
+//! Traces and their answers, over devices in memory.
+
+use replay_main::{LINE_MAX, MemorySink, MemorySource, ReplayFault, Summary, replay};
+use std::alloc::{AllocError, Global};
+use std::sync::Wait;
+use std::test::Fail;
+use std::thread::Threads;
+
+/// Each trace with its answers; a semicolon stands for a line feed, and one ends each text that is
+/// not empty.
+const TRACES: [(&str, &str); 34] = [
+    ("", ""),
+    (
+        "mkdir /a;fork 1 2;write /a cgroup.procs 2;cat /a pids.current;undo;cat /a pids.current",
+        "1 ok;2 ok;3 ok;4 ok;| 1;5 ok;| write /a cgroup.procs 2;6 ok;| 0",
+    ),
+    ("undo;mkdir /a", "1 refused nothing;2 ok"),
+    (
+        "fork 1 1;fork 2 1;fork 2 3;fork 1 2;fork 1 2",
+        "1 refused pidinuse 1;2 refused noprocess 2;3 refused noprocess 2;4 ok;\
+         5 refused pidinuse 2",
+    ),
+    ("\tmkdir\t/a \r; \r;  fork 1\t2\r", "1 ok;2 ok"),
+    (
+        "# note;bogus;mkdir;mkdir /a/b;mkdir /;cat / pids.current;cat /b pids.current",
+        "1 refused syntax;2 refused syntax;3 refused nogroup /a;4 refused exists;\
+         5 refused nofile;6 refused nogroup /b",
+    ),
+    (
+        "write a nofile x;write /a foo x;write /a cgroup.procs 0;write a cgroup.procs 0;fork 1;\
+         fork 01 2;fork x 0",
+        "1 refused path;2 refused file;3 refused value;4 refused path;5 refused syntax;\
+         6 refused value;7 refused value",
+    ),
+    (
+        "cat a nofile;cat /a pids.x;cat /;rmdir a;undo it;write /a cgroup.procs 4194304;\
+         write / cgroup.procs 4194303",
+        "1 refused path;2 refused file;3 refused syntax;4 refused path;5 refused syntax;\
+         6 refused value;7 refused noprocess 4194303",
+    ),
+    (
+        "mkdir /a;#undo;undo;mkdir /a;undo;undo",
+        "1 ok;2 ok;| mkdir /a;3 ok;4 ok;| mkdir /a;5 refused nothing",
+    ),
+    (
+        "mkdir /a;write /a cgroup.max.depth 0;mkdir /a/b;mkdir /b",
+        "1 ok;2 ok;3 refused depth /a;4 ok",
+    ),
+    (
+        "write / cgroup.max.descendants 1;mkdir /a;mkdir /b;mkdir /a/b;cat / cgroup.stat;\
+         cat /a cgroup.stat",
+        "1 ok;2 ok;3 refused descendants /;4 refused descendants /;5 ok;| nr_descendants 1;\
+         | nr_dying_descendants 0;6 ok;| nr_descendants 0;| nr_dying_descendants 0",
+    ),
+    (
+        "mkdir /a;mkdir /a/b;write /a cgroup.procs 1;rmdir /a;rmdir /a/b;rmdir /a;\
+         write / cgroup.procs 1;rmdir /a;rmdir /a;rmdir /",
+        "1 ok;2 ok;3 ok;4 refused haschildren;5 ok;6 refused hasprocesses;7 ok;8 ok;\
+         9 refused nogroup /a;10 refused rootfixed",
+    ),
+    (
+        "fork 1 2;exit 2;exit 2;fork 1 2;exit 1;exit 01;exit",
+        "1 ok;2 ok;3 refused noprocess 2;4 ok;5 ok;6 refused value;7 refused syntax",
+    ),
+    (
+        "write / cgroup.max.depth 05;write / cgroup.max.depth 2147483648;\
+         write / cgroup.max.depth -1",
+        "1 refused value;2 refused value;3 refused value",
+    ),
+    (
+        "write / cgroup.max.depth 2147483647;undo;write / cgroup.max.depth 2147483646;undo",
+        "1 ok;2 ok;| write / cgroup.max.depth max;3 ok;4 ok;| write / cgroup.max.depth 2147483646",
+    ),
+    (
+        "write / cgroup.max.depth 0;mkdir /a;write / cgroup.max.depth max;mkdir /a",
+        "1 ok;2 refused depth /;3 ok;4 ok",
+    ),
+    (
+        "mkdir /a;write /a cgroup.max.depth 3;write /a cgroup.max.descendants 7;rmdir /a;undo;\
+         undo;undo",
+        "1 ok;2 ok;3 ok;4 ok;5 ok;| rmdir /a;6 ok;| write /a cgroup.max.descendants 7;7 ok;\
+         | write /a cgroup.max.depth 3",
+    ),
+    ("fork 1 2;exit 2;undo", "1 ok;2 ok;3 ok;| exit 2"),
+    (
+        "mkdir /a;mkdir /a;write /b cgroup.procs 9;write /a cgroup.procs 9;exit 9",
+        "1 ok;2 refused exists;3 refused nogroup /b;4 refused noprocess 9;5 refused noprocess 9",
+    ),
+    (
+        "write /b cgroup.max.depth 9;cat /b pids.current;cat /b cgroup.stat;cat / pids.current",
+        "1 refused nogroup /b;2 refused nogroup /b;3 refused nogroup /b;4 refused nofile",
+    ),
+    // The nearest group is asked first, and of one group its limit on descendants.
+    (
+        "mkdir /a;mkdir /a/b;write / cgroup.max.depth 2;mkdir /a/b/c;\
+         write /a cgroup.max.depth 1;mkdir /a/b/c",
+        "1 ok;2 ok;3 ok;4 refused depth /;5 ok;6 refused depth /a",
+    ),
+    (
+        "mkdir /a;mkdir /a/b;write /a cgroup.max.depth 1;write /a cgroup.max.descendants 1;\
+         mkdir /a/b/c",
+        "1 ok;2 ok;3 ok;4 ok;5 refused descendants /a",
+    ),
+    (
+        "mkdir /a;mkdir /a/b;write /a cgroup.max.descendants 1;write /a/b cgroup.max.depth 0;\
+         mkdir /a/b/c",
+        "1 ok;2 ok;3 ok;4 ok;5 refused depth /a/b",
+    ),
+    (
+        "mkdir /a;mkdir /a/b;write /a cgroup.max.depth 2;write / cgroup.max.depth 3;mkdir /a/b/c",
+        "1 ok;2 ok;3 ok;4 ok;5 ok",
+    ),
+    // What was removed comes back with its limits, and what has ended with its group.
+    (
+        "mkdir /a;write /a cgroup.max.depth 0;rmdir /a;cat /a pids.current;undo;mkdir /a/b;undo;\
+         mkdir /a/b",
+        "1 ok;2 ok;3 ok;4 refused nogroup /a;5 ok;| rmdir /a;6 refused depth /a;7 ok;\
+         | write /a cgroup.max.depth 0;8 ok",
+    ),
+    (
+        "mkdir /a;fork 1 2;write /a cgroup.procs 2;exit 2;cat /a pids.current;undo;\
+         cat /a pids.current",
+        "1 ok;2 ok;3 ok;4 ok;5 ok;| 0;6 ok;| exit 2;7 ok;| 1",
+    ),
+    (
+        "mkdir /a;fork 1 2;write /a cgroup.procs 2;undo;undo;undo;undo",
+        "1 ok;2 ok;3 ok;4 ok;| write /a cgroup.procs 2;5 ok;| fork 1 2;6 ok;| mkdir /a;\
+         7 refused nothing",
+    ),
+    // A limit of a group above is named, and the refused fork is taken back.
+    (
+        "mkdir /a;mkdir /a/b;write /a pids.max 1;write /a/b cgroup.procs 1;fork 1 2;undo;undo;fork 1 2",
+        "1 ok;2 ok;3 ok;4 ok;5 refused pidsmax /a;6 ok;| fork 1 2;\
+         7 ok;| write /a/b cgroup.procs 1;8 ok",
+    ),
+    // A move and a limit are never blocked, and leave more than the limit; a fork is blocked then.
+    (
+        "mkdir /a;fork 1 2;write /a pids.max 0;write /a cgroup.procs 1;write /a cgroup.procs 2;\
+         cat /a pids.current;fork 2 3;exit 1;exit 2;cat /a pids.current",
+        "1 ok;2 ok;3 ok;4 ok;5 ok;6 ok;| 2;7 refused pidsmax /a;8 ok;9 ok;10 ok;| 0",
+    ),
+    (
+        "mkdir /a;fork 1 2;write /a cgroup.procs 1;write /a cgroup.procs 2;write /a pids.max 1;\
+         fork 1 3;write / cgroup.procs 1;fork 1 3",
+        "1 ok;2 ok;3 ok;4 ok;5 ok;6 refused pidsmax /a;7 ok;8 ok",
+    ),
+    // The nearest full group is named.
+    (
+        "mkdir /a;mkdir /a/b;write /a pids.max 1;write /a/b pids.max 1;write /a/b cgroup.procs 1;fork 1 2;\
+         write /a/b pids.max 2;fork 1 2",
+        "1 ok;2 ok;3 ok;4 ok;5 ok;6 refused pidsmax /a/b;7 ok;8 refused pidsmax /a",
+    ),
+    // There may be as many processes as the limit says, and no more.
+    (
+        "mkdir /a;write /a pids.max 2;write /a cgroup.procs 1;fork 1 2;fork 1 3;cat /a pids.current;undo;undo;\
+         cat /a pids.current",
+        "1 ok;2 ok;3 ok;4 ok;5 refused pidsmax /a;6 ok;| 2;7 ok;| fork 1 3;8 ok;| fork 1 2;9 ok;| 1",
+    ),
+    (
+        "write / pids.max 1;write /b pids.max 5;mkdir /a;write /a pids.max 4194305;write /a pids.max 4194304;\
+         write /a pids.max max;undo;undo;write /a pids.max 05",
+        "1 refused nofile;2 refused nogroup /b;3 ok;4 refused value;5 ok;6 ok;7 ok;| write /a pids.max max;\
+         8 ok;| write /a pids.max 4194304;9 refused value",
+    ),
+    // A group comes back with its limit on processes.
+    (
+        "mkdir /a;write /a pids.max 0;rmdir /a;undo;write /a cgroup.procs 1;fork 1 2;undo;undo;undo;undo",
+        "1 ok;2 ok;3 ok;4 ok;| rmdir /a;5 ok;6 refused pidsmax /a;7 ok;| fork 1 2;\
+         8 ok;| write /a cgroup.procs 1;9 ok;| write /a pids.max 0;10 ok;| mkdir /a",
+    ),
+];
+
+/// What a trace in memory is answered.
+pub(crate) fn replayed<R: Threads + Wait + Sync>(
+    rt: &R,
+    alloc: Global,
+    trace: &[u8],
+) -> Result<(Summary, MemorySink), ReplayFault> {
+    let mut reader = MemorySource::new(trace);
+    let mut writer = MemorySink::new(alloc);
+    let summary = replay(rt, alloc, &mut reader, &mut writer, 1)?;
+    Ok((summary, writer))
+}
+
+/// The text of lines that semicolons end.
+pub(crate) fn lines(alloc: Global, text: &str) -> Result<Vec<u8>, AllocError> {
+    let mut bytes = Vec::new(alloc);
+    for byte in text.as_bytes() {
+        bytes.push(if *byte == b';' { b'\n' } else { *byte })?;
+    }
+    if !bytes.is_empty() {
+        bytes.push(b'\n')?;
+    }
+    Ok(bytes)
+}
+
+/// The two numbers, counted in the answers: the lines without a bar, and those of them that say
+/// `refused`.
+fn counted(answers: &str) -> (u64, u64) {
+    let mut commands = 0u64;
+    let mut refused = 0u64;
+    for line in answers.split(';') {
+        if line.is_empty() || line.starts_with("| ") {
+            continue;
+        }
+        commands = commands.saturating_add(1);
+        if line.contains(" refused ") {
+            refused = refused.saturating_add(1);
+        }
+    }
+    (commands, refused)
+}
+
+#[test]
+fn traces(rt: HostRuntime) -> Result<(), Fail> {
+    for (trace, answers) in TRACES {
+        let bytes = lines(rt.alloc(), trace)?;
+        let (summary, writer) = replayed(&rt, rt.alloc(), bytes.as_slice())?;
+        let wanted = lines(rt.alloc(), answers)?;
+        assert!(rt; writer.bytes() == wanted.as_slice(), "{trace}");
+        let (commands, refused) = counted(answers);
+        assert_eq!(rt; summary, Summary { commands, refused }, "{trace}");
+    }
+    Ok(())
+}
+
+/// Bytes behind the last line feed are a line.
+#[test]
+fn without_last_line_feed(rt: HostRuntime) -> Result<(), Fail> {
+    let (_, writer) = replayed(&rt, rt.alloc(), b"mkdir /a\nundo")?;
+    assert!(rt; writer.bytes() == b"1 ok\n2 ok\n| mkdir /a\n".as_slice());
+    Ok(())
+}
+
+/// The lines `mkdir /g0` to `mkdir /g256`, an undo, and `mkdir /g256` again.
+fn many_groups(alloc: Global) -> Result<String, AllocError> {
+    let mut trace = String::new(alloc);
+    for n in 0..257 {
+        trace.push_str(format!(in alloc; "mkdir /g{n}\n")?.as_str())?;
+    }
+    trace.push_str("undo\nmkdir /g256\n")?;
+    Ok(trace)
+}
+
+#[test]
+fn the_257th_group(rt: HostRuntime) -> Result<(), Fail> {
+    let trace = many_groups(rt.alloc())?;
+    let mut answers = String::new(rt.alloc());
+    for n in 1..257 {
+        answers.push_str(format!(in rt.alloc(); "{n} ok\n")?.as_str())?;
+    }
+    answers.push_str("257 refused noslot\n258 ok\n| mkdir /g255\n259 ok\n")?;
+    let (summary, writer) = replayed(&rt, rt.alloc(), trace.as_str().as_bytes())?;
+    assert_eq!(rt; writer.bytes(), answers.as_str().as_bytes());
+    assert_eq!(rt; (summary.commands, summary.refused), (259, 1));
+    Ok(())
+}
+
+/// The front, and then so many of this text.
+fn with_more(
+    alloc: Global,
+    front: &[u8],
+    more: &[u8],
+    times: usize,
+) -> Result<Vec<u8>, AllocError> {
+    let mut text = Vec::from_slice(alloc, front)?;
+    for _ in 0..times {
+        text.extend_from_slice(more)?;
+    }
+    Ok(text)
+}
+
+#[test]
+fn long_lines(rt: HostRuntime) -> Result<(), Fail> {
+    let rows: [(&[u8], usize, &[u8]); 5] = [
+        (b"# ", 9_998, b""),
+        (b"mkdir /", LINE_MAX - 7, b"1 refused path\n"),
+        (b"mkdir /", LINE_MAX - 6, b"1 refused syntax\n"),
+        (b"mkdir /", 255, b"1 ok\n"),
+        (b"mkdir /", 256, b"1 refused path\n"),
+    ];
+    for (front, letters, answers) in rows {
+        let trace = with_more(rt.alloc(), front, b"x", letters)?;
+        let (_, writer) = replayed(&rt, rt.alloc(), trace.as_slice())?;
+        assert_eq!(rt; writer.bytes(), answers);
+    }
+    Ok(())
+}
+
+/// 80,000 lines are answered with more than a mebibyte.
+#[test]
+fn long_answers(rt: HostRuntime) -> Result<(), Fail> {
+    let trace = with_more(rt.alloc(), b"", b"x\n", 80_000)?;
+    let mut answers = String::new(rt.alloc());
+    for n in 1..80_001 {
+        answers.push_str(format!(in rt.alloc(); "{n} refused syntax\n")?.as_str())?;
+    }
+    let (summary, writer) = replayed(&rt, rt.alloc(), trace.as_slice())?;
+    assert!(rt; answers.as_str().len() > 1_048_576);
+    assert!(rt; writer.bytes() == answers.as_str().as_bytes());
+    assert_eq!(rt; (summary.commands, summary.refused), (80_000, 80_000));
+    Ok(())
+}

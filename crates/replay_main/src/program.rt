@@ -1,0 +1,76 @@
+//! The program over any source and sink, and the status that it ends with.
+
+ghost use Rattle.std.specs.Prelude.{◌≡◌, drop, false, map, string_bytes};
+ghost use Rattle.clap.specs.Words.{fault_of};
+ghost use Rattle.replay_main.specs.Asks.{app};
+ghost use Rattle.replay_main.specs.Program.{Ran, status_of};
+
+use crate::arguments::{Ask, LineFault, read_arguments};
+use crate::output::write_whole;
+use crate::{ReplayFault, Sink, Source, replay};
+use std::alloc::Global;
+use std::sync::Wait;
+use std::thread::Threads;
+use thiserror::Error;
+
+/// Why the program did not do what it was asked for.
+#[derive(Clone, Copy, Debug, PartialEq, Eq, Error)]
+pub enum ProgramFault {
+    /// Its command line asks for nothing.
+    #[error(transparent)]
+    Line(LineFault),
+    /// The replay, or the writing of the help text, ended before its end.
+    #[error(transparent)]
+    Replay(ReplayFault),
+}
+
+/// Does what the arguments ask for, of which the first is the program's name: replays the trace, or
+/// writes the text that says how the program is called.
+///
+/// # Errors
+///
+/// `Line` where the arguments ask for nothing; then nothing is read and nothing is written.
+/// `Replay` with the fault of the replay, or with `Write` where the help text was not written
+/// whole.
+pub fn run_program<R: Threads + Wait + Sync, S: Source, W: Sink>(
+    rt: &R,
+    alloc: Global,
+    args: &[String],
+    reader: &mut S,
+    writer: &mut W,
+) -> Result<(), ProgramFault>
+    requires reader { S.is_failed reader.old ≡ false }
+    requires writer { W.is_failed writer.old ≡ false }
+    ensures { Ran (fault_of app (map string_bytes (drop 1 args.now)))
+        (S.left reader.old) (S.is_failed reader.new)
+        (W.taken writer.old) (W.taken writer.new) (W.is_failed writer.new) (W.is_flushed writer.new)
+        result }
+{
+    match read_arguments(alloc, args) {
+        Ok(
+            Ask::Run {
+                workers,
+                rehearse: _,
+            },
+        ) => match replay(rt, alloc, reader, writer, workers) {
+            Ok(_) => Ok(()),
+            Err(fault) => Err(ProgramFault::Replay(fault)),
+        },
+        Ok(Ask::Help(text)) => match write_whole(writer, text.as_str().as_bytes()) {
+            Ok(()) => Ok(()),
+            Err(_) => Err(ProgramFault::Replay(ReplayFault::Write)),
+        },
+        Err(fault) => Err(ProgramFault::Line(fault)),
+    }
+}
+
+/// The status that the program ends with. A fault's message is its text.
+pub fn exit_status(outcome: Result<(), ProgramFault>) -> u8
+    ensures { result ≡ status_of outcome }
+{
+    match outcome {
+        Ok(()) => 0,
+        Err(ProgramFault::Line(LineFault::Bad)) => 2,
+        Err(_) => 1,
+    }
+}

@@ -1,0 +1,5 @@
+pub mod Cuts
+pub mod Readings
+pub mod NumberTexts
+pub mod Finished
+pub mod Actions

@@ -1,0 +1,12 @@
+use Rattle.std.proofs.Common.{◌≡◌, ◌≤◌, true, take}
+use Rattle.std.specs.Str.{all_ascii_digits}
+use Rattle.std.specs.Str.Parse.{digits_value}
+use Rattle.trace_lines.proofs.numbers.value_of.Given as goal
+
+-- the value of the digits so far
+abbrev pub invariant-loop-digit : goal.invariant-loop-digit
+invariant-loop-digit l = record {
+  value : l.value ≡ digits_value 10 (take l.digit-index l.digits);
+  small : l.value ≤ l.most;
+  digits : all_ascii_digits (take l.digit-index l.digits) ≡ true;
+}

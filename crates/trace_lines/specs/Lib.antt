@@ -1,0 +1,5 @@
+pub mod Cut
+pub mod SoFar
+pub mod Meaning
+pub mod Action
+pub mod Replied

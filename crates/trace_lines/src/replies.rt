@@ -1,0 +1,162 @@
+//! The bytes that answer a command.
+
+ghost use Rattle.std.specs.Prelude.{◌≡◌, ◌++◌, decimal, codes, IfSome, OnOk};
+ghost use Rattle.flat_model.specs.Replies.{refusal_text, fault_text, ok_line, bar_line, fault_bytes, is_refused, reply_bytes};
+ghost use Rattle.flat_model.specs.Trace.{lines_in};
+ghost use Rattle.std.specs.List.{flat_map};
+ghost use Rattle.undo_journal.specs.Meaning.{refusal_of, reply_of};
+ghost use Rattle.trace_lines.specs.Meaning.{text_fault_of};
+ghost use Rattle.trace_lines.specs.Replied.{AddsReply};
+
+use crate::TextFault;
+use crate::lines::Lines;
+use itoa::Buffer;
+use std::alloc::{AllocError, Global};
+use undo_journal::{Refusal, Reply};
+
+/// Puts the number's decimal digits behind the bytes.
+fn put_number(bytes: &mut Vec<u8>, number: u64) -> Result<(), AllocError>
+    ensures { OnOk result (bytes.new.items ≡ bytes.old.items ++ decimal number) }
+{
+    let mut digits = Buffer::new();
+    bytes.extend_from_slice(digits.format(number).as_bytes())
+}
+
+/// Puts `N ok` behind the bytes, and a line feed.
+fn put_ok(bytes: &mut Vec<u8>, number: u64) -> Result<(), AllocError>
+    ensures { OnOk result (bytes.new.items ≡ bytes.old.items ++ ok_line number) }
+{
+    put_number(bytes, number)?;
+    bytes.extend_from_slice(b" ok\n")
+}
+
+/// Puts a line of an answer's text behind the bytes.
+fn put_bar_line(bytes: &mut Vec<u8>, text: &[u8]) -> Result<(), AllocError>
+    ensures { OnOk result (bytes.new.items ≡ bytes.old.items ++ bar_line text.now) }
+{
+    bytes.extend_from_slice(b"| ")?;
+    bytes.extend_from_slice(text)?;
+    bytes.extend_from_slice(b"\n")
+}
+
+/// Puts each line of a text behind the bytes.
+fn put_bar_lines(bytes: &mut Vec<u8>, text: &[u8]) -> Result<(), AllocError>
+    ensures { OnOk result
+        (bytes.new.items ≡ bytes.old.items ++ flat_map bar_line (lines_in text.now)) }
+{
+    for line in Lines::of(text) {
+        put_bar_line(bytes, line)?;
+    }
+    Ok(())
+}
+
+/// Puts the words of a refusal behind the bytes.
+fn put_refusal(bytes: &mut Vec<u8>, refusal: &Refusal<Global>) -> Result<(), AllocError>
+    ensures { OnOk result
+        (bytes.new.items ≡ bytes.old.items ++ refusal_text (refusal_of refusal.now)) }
+{
+    match refusal {
+        Refusal::Exists => bytes.extend_from_slice(b"exists"),
+        Refusal::NoGroup(path) => {
+            bytes.extend_from_slice(b"nogroup ")?;
+            bytes.extend_from_slice(path.text())
+        }
+        Refusal::Descendants(path) => {
+            bytes.extend_from_slice(b"descendants ")?;
+            bytes.extend_from_slice(path.text())
+        }
+        Refusal::Depth(path) => {
+            bytes.extend_from_slice(b"depth ")?;
+            bytes.extend_from_slice(path.text())
+        }
+        Refusal::NoSlot => bytes.extend_from_slice(b"noslot"),
+        Refusal::RootFixed => bytes.extend_from_slice(b"rootfixed"),
+        Refusal::HasChildren => bytes.extend_from_slice(b"haschildren"),
+        Refusal::HasProcesses => bytes.extend_from_slice(b"hasprocesses"),
+        Refusal::NoProcess(pid) => {
+            bytes.extend_from_slice(b"noprocess ")?;
+            put_number(bytes, u64::from(pid.get()))
+        }
+        Refusal::PidInUse(pid) => {
+            bytes.extend_from_slice(b"pidinuse ")?;
+            put_number(bytes, u64::from(pid.get()))
+        }
+        Refusal::PidsMax(path) => {
+            bytes.extend_from_slice(b"pidsmax ")?;
+            bytes.extend_from_slice(path.text())
+        }
+        Refusal::NoFile => bytes.extend_from_slice(b"nofile"),
+    }
+}
+
+/// The word of a text fault.
+fn fault_word(fault: TextFault) -> &'static [u8]
+    ensures { result.now ≡ fault_text (text_fault_of fault) }
+{
+    match fault {
+        TextFault::Syntax => b"syntax",
+        TextFault::Path => b"path",
+        TextFault::File => b"file",
+        TextFault::Direction => b"direction",
+        TextFault::Value => b"value",
+    }
+}
+
+/// Puts `N refused ` behind the bytes.
+fn put_refused(bytes: &mut Vec<u8>, number: u64) -> Result<(), AllocError>
+    ensures { OnOk result
+        (bytes.new.items ≡ bytes.old.items ++ (decimal number ++ codes " refused ")) }
+{
+    put_number(bytes, number)?;
+    bytes.extend_from_slice(b" refused ")
+}
+
+/// Puts the answer to a line that is no command behind the bytes.
+pub fn put_fault(bytes: &mut Vec<u8>, number: u64, fault: TextFault) -> Result<(), AllocError>
+    ensures { OnOk result
+        (bytes.new.items ≡ bytes.old.items ++ fault_bytes number (text_fault_of fault)) }
+{
+    put_refused(bytes, number)?;
+    bytes.extend_from_slice(fault_word(fault))?;
+    bytes.extend_from_slice(b"\n")
+}
+
+/// Puts the answer to a command behind the bytes.
+pub fn put_reply(
+    alloc: Global,
+    bytes: &mut Vec<u8>,
+    number: u64,
+    reply: &Reply<Global>,
+) -> Result<(), AllocError>
+    ensures { OnOk result (AddsReply bytes.old.items number (reply_of reply.now) bytes.new.items) }
+{
+    match reply {
+        Reply::Done => put_ok(bytes, number),
+        Reply::Text(text) => {
+            put_ok(bytes, number)?;
+            put_bar_lines(bytes, text.as_slice())
+        }
+        Reply::Undone(command) => {
+            let text = command.text(alloc)?;
+            put_ok(bytes, number)?;
+            put_bar_line(bytes, text.as_slice())
+        }
+        Reply::Refused(refusal) => {
+            put_refused(bytes, number)?;
+            put_refusal(bytes, refusal)?;
+            bytes.extend_from_slice(b"\n")
+        }
+        Reply::NothingToUndo => {
+            put_refused(bytes, number)?;
+            bytes.extend_from_slice(b"nothing\n")
+        }
+        Reply::OutOfMemory => Err(AllocError),
+    }
+}
+
+/// Whether the answer is `refused`.
+pub fn is_refused(reply: &Reply<Global>) -> bool
+    ensures { IfSome (reply_of reply.now) (λ r. result ≡ is_refused r) }
+{
+    matches!(reply, Reply::Refused(_) | Reply::NothingToUndo)
+}
