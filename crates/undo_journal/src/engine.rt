@@ -78,7 +78,7 @@ impl<A: Allocator + Clone, M: Meter + Drop> Engine<A, M> {
 impl<A: Allocator + Clone, M: Meter> Engine<A, M> {
     /// Answers one command, which a session `who` has issued. It waits for nobody yet.
     ///
-    /// It costs O(log processes + depth · log children) comparisons, `depth` being that of the group or of the process's
+    /// It costs O(log processes + depth² · log children) comparisons, `depth` being that of the group or of the process's
     /// group; `mkdir` and `rmdir` move the siblings behind the group besides.
     pub fn apply<R: Threads + Wait + Sync, B: Allocator + Clone>(
         &mut self,
