@@ -6,7 +6,7 @@ use Rattle.flat_model.specs.PathText.{IsPath, names_in, spelled, path_text, path
 use Rattle.flat_model.specs.Refuse.{refuse, unless}
 use Rattle.flat_model.proofs.PathTextLaws.{refuse_passed, option_or_passed, sound, names_in-path_text, path_fault-path_text}
 use Rattle.flat_model.proofs.PathTextLawsChild.{path_text-child, sound_child}
-use Rattle.group_path.specs.Answers.{checked, Answers}
+use Rattle.group_path.specs.FollowsGrammar.{checked, FollowsGrammar}
 use Rattle.std.proofs.lemmas.Bool.Decides.{nat_tests}
 use Rattle.group_path.specs.declared.fault.PathFault.{PathFault}
 use Rattle.group_path.specs.declared.fault.PathFault.TheVariants.{TooLong}
@@ -76,6 +76,6 @@ pub child_names : (p : Path) (name : Name) (items : List ℕ) (u : Unit {0}) →
 child_names p name items u h e is = ap names_in (is ∙ sym (path_text-child p name)) ∙ names_in-path_text (p ++ name ∷ []) (child_is p name u h e)
 
 -- where the tests pass, the answer is the path itself
-pub answers_path : (fault : Option grammar.PathFault) (path p : Path) (u : Unit {0}) → checked fault ≡ Ok u → p ≡ path → Answers (Ok p) (unless fault path)
+pub answers_path : (fault : Option grammar.PathFault) (path p : Path) (u : Unit {0}) → checked fault ≡ Ok u → p ≡ path → FollowsGrammar (Ok p) (unless fault path)
 answers_path None path p u e is = is
 answers_path (Some fault) path p u e is = cc

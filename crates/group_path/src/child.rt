@@ -2,7 +2,7 @@
 
 ghost use Rattle.std.specs.Prelude.{◌≡◌, ◌+◌, ◌≤◌, [], ◌∷◌, ◌++◌, length, IfOk};
 ghost use Rattle.flat_model.specs.PathText.{name_max, text_max, spelled, child_fault, child_path};
-ghost use Rattle.group_path.specs.Answers.{Answers, checked};
+ghost use Rattle.group_path.specs.FollowsGrammar.{FollowsGrammar, checked};
 
 use crate::fault::PathFault;
 use crate::grammar::{DEPTH_MAX, TEXT_MAX, check_name};
@@ -38,7 +38,7 @@ impl<A: Allocator + Clone> GroupPath<A> {
         name: &[u8],
     ) -> Result<GroupPath<B>, PathFault>
         ensures found { IfOk result (λ p. p ≡ self.now ++ name.now ∷ []) }
-        ensures first { Answers result (child_path self.now name.now) }
+        ensures first { FollowsGrammar result (child_path self.now name.now) }
     {
         let _ = &self.text;
         self.check_child(name)?;

@@ -3,7 +3,7 @@
 ghost use Rattle.std.specs.Prelude.{◌≡◌, ◌+◌, ◌<◌, ◌≤◌, ◌^◌, length};
 ghost use Rattle.std.specs.List.{position_from, slice_split};
 ghost use Rattle.flat_model.specs.PathText.{is_slash, is_name_byte, is_bad_byte, is_dots, is_reserved, text_max, name_fault, names_fault, path_fault};
-ghost use Rattle.group_path.specs.Answers.{checked};
+ghost use Rattle.group_path.specs.FollowsGrammar.{checked};
 
 use crate::fault::PathFault;
 use crate::names::Names;

@@ -19,7 +19,7 @@
 //! Not promised: that a path names a group which exists, or that the kernel would take the name.
 //!
 //! The definitions stand in `flat_model`: `specs/Path.antt` (paths, their order, at or below) and `specs/PathText.antt`
-//! (texts, the grammar, the first fault). `specs/Answers.antt` here says how a call answers one of those faults.
+//! (texts, the grammar, the first fault). `specs/FollowsGrammar.antt` here says how a call answers one of those faults.
 #![tactic(auto)]
 
 mod child;

@@ -3,7 +3,7 @@
 ghost use Rattle.std.specs.Prelude.{◌≡◌, ℕ, ◌≤◌, [], true, if◌then◌else◌, length, take, IfOk, MatchResult};
 ghost use Rattle.flat_model.specs.Path.{Path, at_or_below, is_root, parent, same_path};
 ghost use Rattle.flat_model.specs.PathText.{IsPath, path_text, read_path};
-ghost use Rattle.group_path.specs.Answers.{Answers};
+ghost use Rattle.group_path.specs.FollowsGrammar.{FollowsGrammar};
 
 use crate::fault::PathFault;
 use crate::grammar::{DEPTH_MAX, check_text};
@@ -52,7 +52,7 @@ impl<A: Allocator + Clone> GroupPath<A> {
         ensures only { (p : Path) → IsPath p → text.now ≡ path_text p → MatchResult result (λ q. q ≡ p) (λ fault. fault ≡ PathFault.OutOfMemory) }
 
         // Which fault it is.
-        ensures first { Answers result (read_path text.now) }
+        ensures first { FollowsGrammar result (read_path text.now) }
     {
         check_text(text)?;
         let text = Vec::from_slice(alloc, text)?;

@@ -6,7 +6,7 @@ use Rattle.snzi_core.specs.declared.event.Event.TheVariants.{FastAdd, RootAdd, C
 use Rattle.snzi_core.specs.Holding.{tokens_at}
 use Rattle.snzi_core.specs.Shape.{leaves, node_word}
 use Rattle.snzi_core.specs.State.{State, span, hand_of, node_of, parent_of, root_of, stripe_of, kind_of, above}
-use Rattle.snzi_core.specs.Lawful.{refusal, is_live, is_zero, is_full, lacks, passes_up}
+use Rattle.snzi_core.specs.Lawful.{refusal, is_live, is_zero, is_at_cap, lacks, passes_up}
 use Rattle.snzi_core.specs.Effect.{arrived, descended, departed, ascended, summed}
 use Rattle.snzi_core.specs.Kept.{IsCore}
 use Rattle.snzi_core.proofs.Shapes.{is_root, parent_is, has_parent}
@@ -67,13 +67,13 @@ module _ (k : State) (c : IsCore k) where
     room : slice_index k.words (node_word k.nodes (leaves k.nodes) slot node) < 18446744073709551615
     room = word_small (kind_of k) k.words k.hands (node_word k.nodes (leaves k.nodes) slot node) (node_kind k slot node c in_slot) c.rule
 
-    arrives : (hand : ℕ) → is_live k hand ≡ true → is_full k hand (node_word k.nodes (leaves k.nodes) slot node) ≡ false → (above k (node_word k.nodes (leaves k.nodes) slot node) ≢ node_word k.nodes (leaves k.nodes) slot node → 0 < slice_index k.words (node_word k.nodes (leaves k.nodes) slot node))
+    arrives : (hand : ℕ) → is_live k hand ≡ true → is_at_cap k hand (node_word k.nodes (leaves k.nodes) slot node) ≡ false → (above k (node_word k.nodes (leaves k.nodes) slot node) ≢ node_word k.nodes (leaves k.nodes) slot node → 0 < slice_index k.words (node_word k.nodes (leaves k.nodes) slot node))
         → Arrives k hand (node_word k.nodes (leaves k.nodes) slot node)
     arrives hand live cap filled =
         let less = below_cap (tokens_at (node_word k.nodes (leaves k.nodes) slot node) (hand_of k hand)) 1099511627776 cap in
         (at_node, live, (room, less), arrived_core k c hand (node_word k.nodes (leaves k.nodes) slot node) live at_node (node_kind k slot node c in_slot) filled less)
 
-    descends : (hand : ℕ) → 0 < node → is_live k hand ≡ true → is_full k hand (node_word k.nodes (leaves k.nodes) slot node) ≡ false → lacks k hand (node_word k.nodes (leaves k.nodes) slot ((node - 1) / 2)) ≡ false → slice_index k.words (node_word k.nodes (leaves k.nodes) slot node) ≡ 0
+    descends : (hand : ℕ) → 0 < node → is_live k hand ≡ true → is_at_cap k hand (node_word k.nodes (leaves k.nodes) slot node) ≡ false → lacks k hand (node_word k.nodes (leaves k.nodes) slot ((node - 1) / 2)) ≡ false → slice_index k.words (node_word k.nodes (leaves k.nodes) slot node) ≡ 0
         → Descends k hand (node_word k.nodes (leaves k.nodes) slot ((node - 1) / 2)) (node_word k.nodes (leaves k.nodes) slot node)
     descends hand pos live cap has none =
         let less = below_cap (tokens_at (node_word k.nodes (leaves k.nodes) slot node) (hand_of k hand)) 1099511627776 cap in
@@ -94,7 +94,7 @@ module _ (k : State) (c : IsCore k) where
         let have = some_of (tokens_at (node_word k.nodes (leaves k.nodes) slot node) (hand_of k hand)) has in
         (at_node, live, (filled_word hand live have, have), departed_core k c hand (node_word k.nodes (leaves k.nodes) slot node) live at_node (node_kind k slot node c in_slot) more have)
 
-    ascends : (hand : ℕ) → 0 < node → is_live k hand ≡ true → lacks k hand (node_word k.nodes (leaves k.nodes) slot node) ≡ false → is_full k hand (node_word k.nodes (leaves k.nodes) slot ((node - 1) / 2)) ≡ false → slice_index k.words (node_word k.nodes (leaves k.nodes) slot node) ≡ 1
+    ascends : (hand : ℕ) → 0 < node → is_live k hand ≡ true → lacks k hand (node_word k.nodes (leaves k.nodes) slot node) ≡ false → is_at_cap k hand (node_word k.nodes (leaves k.nodes) slot ((node - 1) / 2)) ≡ false → slice_index k.words (node_word k.nodes (leaves k.nodes) slot node) ≡ 1
         → Ascends k hand (node_word k.nodes (leaves k.nodes) slot ((node - 1) / 2)) (node_word k.nodes (leaves k.nodes) slot node)
     ascends hand pos live has cap one =
         let have = some_of (tokens_at (node_word k.nodes (leaves k.nodes) slot node) (hand_of k hand)) has in
@@ -133,7 +133,7 @@ module _ (k : State) (c : IsCore k) where
   ready_last hand at e p =
       let t = leave k hand at e in let n = named at.slot k.slots at.node k.nodes t.0 in
       let b = both_true (nat_eq (slice_index k.words (node_of k at)) 1) (not (nat_eq at.node 0)) p in
-      ascends at.slot at.node n.0 n.1 hand (some_of at.node (not_true (nat_eq at.node 0) b.1)) t.1 t.2 (both_false (passes_up k at) (is_full k hand (parent_of k at)) t.3 p) (eqb-true (slice_index k.words (node_of k at)) 1 b.0)
+      ascends at.slot at.node n.0 n.1 hand (some_of at.node (not_true (nat_eq at.node 0) b.1)) t.1 t.2 (both_false (passes_up k at) (is_at_cap k hand (parent_of k at)) t.3 p) (eqb-true (slice_index k.words (node_of k at)) 1 b.0)
     where
       not_true : (b : Bool) → not b ≡ true → b ≡ false
       not_true true e = absurd (true≢false (sym e))

@@ -45,8 +45,8 @@ is_live k hand = lives (hand_of k hand).role
 abbrev pub lacks : State → ℕ → ℕ → Bool
 lacks k hand i = nat_eq (tokens_at i (hand_of k hand)) 0
 
-abbrev pub is_full : State → ℕ → ℕ → Bool
-is_full k hand i = nat_le token_cap (tokens_at i (hand_of k hand))
+abbrev pub is_at_cap : State → ℕ → ℕ → Bool
+is_at_cap k hand i = nat_le token_cap (tokens_at i (hand_of k hand))
 
 -- the word is zero
 abbrev pub is_zero : State → ℕ → Bool
@@ -105,12 +105,12 @@ refuses_split k share = refuse (not (list_all (has_token k) share)) NoNode (refu
 abbrev pub refusal : State → Event → Option Unlawful
 refusal k (Load hand slot word) = refuse (not (has_word k slot word)) NoNode (refuse (not (is_live k hand)) NoHand None)
 refusal k (FastAdd hand at) =
-    refuse (not (has_node k at)) NoNode (refuse (not (is_live k hand)) NoHand (refuse (is_zero k (node_of k at)) ZeroNode (refuse (is_full k hand (node_of k at)) Cap None)))
-refusal k (RootAdd hand slot) = refuse (not (nat_lt slot k.slots)) NoNode (refuse (not (is_live k hand)) NoHand (refuse (is_full k hand (root_of k slot)) Cap None))
+    refuse (not (has_node k at)) NoNode (refuse (not (is_live k hand)) NoHand (refuse (is_zero k (node_of k at)) ZeroNode (refuse (is_at_cap k hand (node_of k at)) Cap None)))
+refusal k (RootAdd hand slot) = refuse (not (nat_lt slot k.slots)) NoNode (refuse (not (is_live k hand)) NoHand (refuse (is_at_cap k hand (root_of k slot)) Cap None))
 refusal k (ChildAdd hand at) =
-    refuse (not (has_node k at) || nat_eq at.node 0) NoNode (refuse (not (is_live k hand)) NoHand (refuse (lacks k hand (parent_of k at)) NoToken (refuse (is_full k hand (node_of k at)) Cap None)))
+    refuse (not (has_node k at) || nat_eq at.node 0) NoNode (refuse (not (is_live k hand)) NoHand (refuse (lacks k hand (parent_of k at)) NoToken (refuse (is_at_cap k hand (node_of k at)) Cap None)))
 refusal k (Leave hand at) =
-    refuse (not (has_node k at)) NoNode (refuse (not (is_live k hand)) NoHand (refuse (lacks k hand (node_of k at)) NoToken (refuse (passes_up k at && is_full k hand (parent_of k at)) Cap None)))
+    refuse (not (has_node k at)) NoNode (refuse (not (is_live k hand)) NoHand (refuse (lacks k hand (node_of k at)) NoToken (refuse (passes_up k at && is_at_cap k hand (parent_of k at)) Cap None)))
 refusal k (StripeAdd hand slot s n) = refuses_stripe_add k hand slot s
 refusal k (Split share) = refuses_split k share.now
 refusal k (Join helper) = refuse (not (helps (hand_of k helper).role)) NoHand (refuse (some_word k (overflows k helper)) Cap (refuse (some_word k (stays k helper)) StillHolding None))

@@ -4,7 +4,7 @@ ghost use Rattle.std.specs.List.{list_all};
 ghost use Rattle.snzi_core.specs.Caps.{token_cap};
 ghost use Rattle.snzi_core.specs.Holding.{tokens_at, out};
 ghost use Rattle.snzi_core.specs.State.{span, node_of, parent_of, root_of, stripe_of, token_of, hand_of, kind_of};
-ghost use Rattle.snzi_core.specs.Lawful.{has_node, has_word, has_stripe, has_token, is_live, helps, is_zero, is_full, lacks, passes_up, count_at, main_covers, main_has, is_crowded, is_inner, overflows, stays, some_word};
+ghost use Rattle.snzi_core.specs.Lawful.{has_node, has_word, has_stripe, has_token, is_live, helps, is_zero, is_at_cap, lacks, passes_up, count_at, main_covers, main_has, is_crowded, is_inner, overflows, stays, some_word};
 
 use crate::caps::{HELPER_CAP, TOKEN_CAP};
 use crate::event::{At, Token};
@@ -108,8 +108,8 @@ impl<A: Allocator + Clone> Core<A> {
         self.word(at) == 1 && at.node != 0
     }
 
-    pub(crate) fn is_full(&self, hand: u32, word: usize) -> bool
-        ensures { result ≡ is_full self.now hand word }
+    pub(crate) fn is_at_cap(&self, hand: u32, word: usize) -> bool
+        ensures { result ≡ is_at_cap self.now hand word }
     {
         TOKEN_CAP <= self.tokens(hand, word)
     }

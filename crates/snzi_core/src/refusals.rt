@@ -34,7 +34,7 @@ impl<A: Allocator + Clone> Core<A> {
         if self.is_zero(word) {
             return Some(Unlawful::ZeroNode);
         }
-        if self.is_full(hand, word) {
+        if self.is_at_cap(hand, word) {
             return Some(Unlawful::Cap);
         }
         None
@@ -49,7 +49,7 @@ impl<A: Allocator + Clone> Core<A> {
         if !self.is_live(hand) {
             return Some(Unlawful::NoHand);
         }
-        if self.is_full(hand, self.node_word(At { slot, node: 0 })) {
+        if self.is_at_cap(hand, self.node_word(At { slot, node: 0 })) {
             return Some(Unlawful::Cap);
         }
         None
@@ -67,7 +67,7 @@ impl<A: Allocator + Clone> Core<A> {
         if self.lacks(hand, self.parent_word(at)) {
             return Some(Unlawful::NoToken);
         }
-        if self.is_full(hand, self.node_word(at)) {
+        if self.is_at_cap(hand, self.node_word(at)) {
             return Some(Unlawful::Cap);
         }
         None
@@ -85,7 +85,7 @@ impl<A: Allocator + Clone> Core<A> {
         if self.lacks(hand, self.node_word(at)) {
             return Some(Unlawful::NoToken);
         }
-        if self.passes_up(at) && self.is_full(hand, self.parent_word(at)) {
+        if self.passes_up(at) && self.is_at_cap(hand, self.parent_word(at)) {
             return Some(Unlawful::Cap);
         }
         None

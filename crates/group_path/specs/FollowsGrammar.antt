@@ -21,6 +21,6 @@ abbrev pub checked : Option grammar.PathFault → Result (Unit {0}) PathFault
 checked None = Ok tt
 checked (Some fault) = Err (fault_of fault)
 
-abbrev pub Answers : Result Path PathFault → Result Path grammar.PathFault → Type 0
-Answers result (Err fault) = result ≡ Err (fault_of fault)
-Answers result (Ok path) = MatchResult result (λ p. p ≡ path) (λ fault. fault ≡ OutOfMemory)
+abbrev pub FollowsGrammar : Result Path PathFault → Result Path grammar.PathFault → Type 0
+FollowsGrammar result (Err fault) = result ≡ Err (fault_of fault)
+FollowsGrammar result (Ok path) = MatchResult result (λ p. p ≡ path) (λ fault. fault ≡ OutOfMemory)
