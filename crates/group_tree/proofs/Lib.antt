@@ -13,6 +13,8 @@ mod Closed
 mod Counted
 mod Descendants
 mod Chains
+pub mod Downward
+pub mod Refused
 mod Copies
 pub mod Flat
 mod Prefixes

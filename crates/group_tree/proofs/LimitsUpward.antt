@@ -1,10 +1,10 @@
 -- The first limit that is met on the way up, as the flat state has it.
-use Rattle.std.proofs.Common.{◌≡◌, ℕ, zero, suc, ◌+◌, ◌-◌, ◌<◌, ◌≤◌, ◌^◌, Bool, true, false, cond, List, [], ◌∷◌, ◌++◌, map, length, take, refl, ap, sym, ◌∙◌, subst, arith, Option, Some, None}
-use Rattle.std.specs.Prelude.{option_map, IfSome, count_by}
+use Rattle.std.proofs.Common.{◌≡◌, ℕ, zero, suc, ◌+◌, ◌-◌, ◌<◌, ◌≤◌, ◌^◌, Bool, true, false, cond, List, [], ◌∷◌, length, take, refl, ap, sym, ◌∙◌, subst, arith, Option, Some, None}
+use Rattle.std.specs.Prelude.{option_map, IfSome}
 use Rattle.std.specs.Option.{option_or}
 use Rattle.std.proofs.lemmas.List.{length-map, length-take-le}
 use Rattle.std.specs.FinMap as fin
-use Rattle.flat_model.specs.Path.{Name, Path, strictly_below, upward}
+use Rattle.flat_model.specs.Path.{Path, strictly_below, upward}
 use Rattle.flat_model.specs.Counts as flat
 use Rattle.flat_model.specs.Counts.{asks, reaches}
 use Rattle.flat_model.specs.Command.{Refusal}

@@ -4,7 +4,6 @@ use Rattle.std.specs.Prelude.{option_map}
 use Rattle.std.specs.Option.{option_or}
 use Rattle.flat_model.specs.Path.{Name, Path, upward}
 use Rattle.group_tree.specs.declared.attr.Attr.{Attr}
-use Rattle.group_tree.specs.declared.limits.MetLimit.{MetLimit}
 use Rattle.group_tree.specs.Limits.{met_here, first_along, first_met}
 use Rattle.group_tree.proofs.Chains.{upward-cons}
 

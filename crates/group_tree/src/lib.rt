@@ -9,6 +9,8 @@
 //! - A look-up goes down once, in O(depth · log children) comparisons of names. How many groups are below each group is
 //!   kept, so that limits on descendants, and on all groups, are tested without a walk. The limits of the hierarchy that a
 //!   new group meets are all asked in one such descent.
+//! - What the groups along a path have comes one after another in one descent (`along`), and the event totals of those
+//!   groups are counted up and down in one (`count_refusal`, `uncount_refusal`). Neither takes memory.
 //! - The calls that end in `_at` do the same at the first n names of a path, and copy nothing.
 //! - A path may lie in other memory than the tree. What a group has is given and taken by value; its slot is the
 //!   caller's, and the tree asks nothing of it: two groups may have the same. A change of a limit keeps it.
@@ -19,9 +21,11 @@
 //! `specs/Groups.antt` says what each call reads and leaves, `specs/Flat.antt` how this is the flat state of `flat_model`.
 #![tactic(auto)]
 
+mod along;
 mod attr;
 mod chain;
 mod copy;
+mod events;
 mod fault;
 mod insert;
 mod limits;
@@ -30,6 +34,7 @@ mod remove;
 mod set;
 mod tree;
 
+pub use along::Along;
 pub use attr::{Attr, Limit, LimitFile, Limits};
 pub use fault::TreeFault;
 pub use limits::MetLimit;

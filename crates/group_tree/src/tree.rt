@@ -1,15 +1,19 @@
 //! The tree, seen as a finite map, and each public call on it.
 
-ghost use Rattle.std.specs.Prelude.{◌≡◌, ◌+◌, ◌-◌, ◌<◌, ◌≤◌, ◌%◌, ◌^◌, ℕ, true, length, take, None, MatchOption, IsOk, IfOk, IfSome, IsSome, option_map};
+ghost use Rattle.std.specs.Prelude.{◌≡◌, ◌+◌, ◌-◌, ◌<◌, ◌≤◌, ◌%◌, ◌^◌, ℕ, true, length, take, None, MatchOption, IsOk, IfOk, IfSome, IsSome, option_map, min};
 ghost use Rattle.std.specs.Option.{option_copied};
 ghost use Rattle.std.specs.FinMap as fin;
 ghost use Rattle.flat_model.specs.Path.{Path, at_or_below, upward};
 ghost use Rattle.flat_model.specs.Step.{limit_met, first_refusal};
 ghost use Rattle.group_tree.specs.Flat.{CountsAsFlat};
+ghost use Rattle.group_tree.specs.Along.{along_of};
+ghost use Rattle.group_tree.specs.Refusals.{Counts};
 ghost use Rattle.group_tree.specs.Limits.{without_processes, refusal_along, names_of};
 ghost use Rattle.group_tree.specs.Groups.{IsClosed, Inserts, Sets, Removes, only_root, descendant_count, chain_of};
 
+use crate::along::Along;
 use crate::attr::Attr;
+use crate::events::Change;
 use crate::fault::TreeFault;
 use crate::limits::MetLimit;
 use crate::node::Node;
@@ -73,6 +77,33 @@ impl<A: Allocator> GroupTree<A> {
         ensures { Sets self.old self.new (take n path.now) attr result }
     {
         self.root.set(path.first_names(n), attr)
+    }
+
+    /// What the groups on the way along the path have, from the one below the root down to the path's own; it ends before
+    /// the first that is missing. It goes down once, as `find` does, and takes no memory.
+    pub fn along<'a, B: Allocator + Clone>(&'a self, path: &'a GroupPath<B>) -> Along<'a, A>
+        ensures { result ≡ along_of self.now path.now }
+    {
+        Along::of(&self.root, path.names())
+    }
+
+    /// Counts one fork more that the group at the first `n` names of the path refused: in its local total, and in the
+    /// totals of it and of the groups above it but the root. A total that is the greatest number stays. It goes down once, as
+    /// `find` does, and takes no memory.
+    pub fn count_refusal<B: Allocator + Clone>(&mut self, path: &GroupPath<B>, n: usize)
+        requires at { n ≤ length path.now }
+        ensures { Counts (λ m. min (m + 1) (2 ^ 64 - 1)) self.old self.new (take n path.now) }
+    {
+        self.root.count(path.first_names(n), Change::Raise);
+    }
+
+    /// Counts one fork less that the group at the first `n` names of the path refused. A total of 0 stays. Costs as much as
+    /// `count_refusal`, and takes no memory.
+    pub fn uncount_refusal<B: Allocator + Clone>(&mut self, path: &GroupPath<B>, n: usize)
+        requires at { n ≤ length path.now }
+        ensures { Counts (λ m. m - 1) self.old self.new (take n path.now) }
+    {
+        self.root.count(path.first_names(n), Change::Lower);
     }
 
     /// How many groups there are beside the root. The count is kept, so this costs one step. It is exact as long as the

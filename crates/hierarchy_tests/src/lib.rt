@@ -7,10 +7,13 @@
 //! - `paths`: texts with their faults, and each public call of `GroupPath`.
 //! - `path_memory`: paths in a small heap, with each growth refused.
 //! - `tree`: each public call of `GroupTree` and of `Attr`, and the refusals in their order.
+//! - `along`: what comes along a path, and the counts of refused forks.
 //! - `wide_and_deep`: as many siblings as there are slots, and a group of as many names as a path may have.
 //! - `tree_memory`: a tree in a small heap, with each growth refused.
 #![tactic(auto)]
 
+#[cfg(test)]
+mod along;
 #[cfg(test)]
 mod path_memory;
 #[cfg(test)]

@@ -3,24 +3,61 @@
 use crate::paths::names_of_letters;
 use group_path::{GroupPath, PathFault};
 use linked_list_allocator::LocalHeap;
-use std::alloc::AllocError;
+use std::alloc::{AllocError, Global};
 use std::test::Fail;
+
+/// Whether the parent and the child `c`, made in the heap, have these texts.
+fn has_neighbours(
+    heap: &LocalHeap,
+    group: &GroupPath<&LocalHeap>,
+    above: &[u8],
+    below: &[u8],
+) -> Result<bool, Fail> {
+    let parent = group.parent(heap)?;
+    let has_parent = parent.is_some_and(|p| p.text() == above);
+    let child = group.child(heap, b"c")?;
+    Ok((has_parent, child.text()) == (true, below))
+}
+
+/// Whether two paths have the same names, and whether the first is at or below the second.
+fn compared(one: &GroupPath<&LocalHeap>, other: &GroupPath<Global>) -> (bool, bool) {
+    (one.is_same(other), one.is_at_or_below(other))
+}
 
 #[test]
 fn over_a_small_heap(rt: HostRuntime) -> Result<(), Fail> {
     let heap = LocalHeap::new(rt.alloc(), 1024)?;
     let mut group = GroupPath::read(&heap, b"/a/b")?;
-    assert_eq!(rt; group.depth(), 2);
-    let parent = group.parent(&heap)?;
-    assert!(rt; parent.is_some_and(|p| p.text() == b"/a".as_slice()));
-    assert_eq!(rt; group.child(&heap, b"c")?.text(), b"/a/b/c".as_slice());
+    let depth = group.depth();
+    let is_amid = has_neighbours(&heap, &group, b"/a", b"/a/b/c")?;
     let copy = group.copy(rt.alloc())?;
-    assert!(rt; group.is_same(&copy));
-    assert!(rt; group.is_at_or_below(&copy));
+    let before = compared(&group, &copy);
     group.cut(1);
-    assert_eq!(rt; group.text(), b"/a".as_slice());
-    assert!(rt; !group.is_same(&copy));
+    let after = compared(&group, &copy);
+    let is_cut = group.text() == b"/a".as_slice();
+    assert_eq!(rt;
+        (depth, is_amid, before, after, is_cut),
+        (2, true, (true, true), (false, false), true)
+    );
     Ok(())
+}
+
+/// What is answered in a full heap: to a read of the text, to a child, to a read and a child whose texts have faults of
+/// their own, and to a parent and a copy.
+fn refusals(
+    heap: &LocalHeap,
+    text: &[u8],
+    first: &GroupPath<&LocalHeap>,
+) -> ([Option<PathFault>; 4], [Option<AllocError>; 2]) {
+    (
+        [
+            GroupPath::read(heap, text).err(),
+            first.child(heap, b"c").err(),
+            GroupPath::read(heap, b"/..").err(),
+            first.child(heap, b"..").err(),
+        ],
+        [first.parent(heap).err(), first.copy(heap).err()],
+    )
 }
 
 /// Each growth is refused where the heap is full, and nothing else changes. Want of memory is the last fault.
@@ -29,43 +66,49 @@ fn growth_refused(rt: HostRuntime) -> Result<(), Fail> {
     let heap = LocalHeap::new(rt.alloc(), 256)?;
     let text = names_of_letters(rt.alloc(), 2, 90)?;
     let first = GroupPath::read(&heap, &text)?;
-    let refusals = [
-        (GroupPath::read(&heap, &text).err(), PathFault::OutOfMemory),
-        (first.child(&heap, b"c").err(), PathFault::OutOfMemory),
-        (GroupPath::read(&heap, b"/..").err(), PathFault::DotName),
-        (first.child(&heap, b"..").err(), PathFault::DotName),
-    ];
-    for (fault, wanted) in refusals {
-        assert_eq!(rt; fault, Some(wanted));
-    }
-    for error in [first.parent(&heap).err(), first.copy(&heap).err()] {
-        assert_eq!(rt; error, Some(AllocError));
-    }
-    assert_eq!(rt; first.text(), text.as_slice());
+    let want = Some(PathFault::OutOfMemory);
+    let dots = Some(PathFault::DotName);
+    assert_eq!(rt;
+        (refusals(&heap, &text, &first), first.text()),
+        (
+            (
+                [want, want, dots, dots],
+                [Some(AllocError), Some(AllocError)]
+            ),
+            text.as_slice()
+        )
+    );
     let copy = first.copy(rt.alloc())?;
     drop(first);
-    let again = GroupPath::read(&heap, &text)?;
-    assert!(rt; again.is_same(&copy));
+    assert!(rt; GroupPath::read(&heap, &text).is_ok_and(|again| again.is_same(&copy)));
     Ok(())
+}
+
+/// Takes root after root from the heap; whether one was refused, how many names those that were had have in all, and
+/// why a read of one more is refused.
+fn roots(alloc: Global, heap: &LocalHeap) -> Result<(bool, usize, Option<PathFault>), AllocError> {
+    let mut held = Vec::new(alloc);
+    let mut is_refused = false;
+    for _ in 0..64 {
+        match GroupPath::root(heap) {
+            Ok(root) => held.push(root)?,
+            Err(AllocError) => is_refused = true,
+        }
+    }
+    let mut names = 0usize;
+    for root in &held {
+        names = names.saturating_add(root.depth());
+    }
+    Ok((is_refused, names, GroupPath::read(heap, b"/").err()))
 }
 
 /// In a heap of no free block the root is refused, and read.
 #[test]
 fn root_refused(rt: HostRuntime) -> Result<(), Fail> {
     let heap = LocalHeap::new(rt.alloc(), 64)?;
-    let mut held = Vec::new(rt.alloc());
-    let mut is_refused = false;
-    for _ in 0..64 {
-        match GroupPath::root(&heap) {
-            Ok(root) => held.push(root)?,
-            Err(AllocError) => is_refused = true,
-        }
-    }
-    assert!(rt; is_refused);
-    for root in &held {
-        assert_eq!(rt; root.depth(), 0);
-    }
-    let read = GroupPath::read(&heap, b"/").err();
-    assert_eq!(rt; read, Some(PathFault::OutOfMemory));
+    assert_eq!(rt;
+        roots(rt.alloc(), &heap)?,
+        (true, 0, Some(PathFault::OutOfMemory))
+    );
     Ok(())
 }

@@ -37,15 +37,28 @@ pub(crate) fn names_of_letters(
     Ok(text)
 }
 
+/// What a path is seen as: its depth, its text, whether it has a first name, and whether it has a parent.
+fn seen<'a>(
+    alloc: Global,
+    path: &'a GroupPath<Global>,
+) -> Result<(usize, &'a [u8], bool, bool), AllocError> {
+    path.known();
+    let has_parent = path.parent(alloc)?.is_some();
+    Ok((
+        path.depth(),
+        path.text(),
+        path.names().next().is_some(),
+        has_parent,
+    ))
+}
+
 #[test]
 fn the_root(rt: HostRuntime) -> Result<(), Fail> {
-    for root in [path(rt.alloc(), b"/")?, GroupPath::root(rt.alloc())?] {
-        root.known();
-        assert_eq!(rt; root.depth(), 0);
-        assert_eq!(rt; root.text(), b"/".as_slice());
-        assert!(rt; root.names().next().is_none());
-        assert!(rt; root.parent(rt.alloc())?.is_none());
-    }
+    let root = (0, b"/".as_slice(), false, false);
+    let read = path(rt.alloc(), b"/")?;
+    assert_eq!(rt; seen(rt.alloc(), &read)?, root);
+    let made = GroupPath::root(rt.alloc())?;
+    assert_eq!(rt; seen(rt.alloc(), &made)?, root);
     Ok(())
 }
 
@@ -81,6 +94,18 @@ fn texts(rt: HostRuntime) {
     }
 }
 
+/// The fault of so many names of so many letters each, with this behind them.
+fn fault_of_names(
+    alloc: Global,
+    count: usize,
+    len: usize,
+    behind: &[u8],
+) -> Result<Option<PathFault>, AllocError> {
+    let mut text = names_of_letters(alloc, count, len)?;
+    text.extend_from_slice(behind)?;
+    Ok(fault(alloc, &text))
+}
+
 /// Names of letters, so many of so many letters each, with this behind them. A byte's fault comes before the length of
 /// its name, a name too many before its bytes, and the length of the text first.
 #[test]
@@ -100,9 +125,11 @@ fn bounds(rt: HostRuntime) -> Result<(), Fail> {
         (1, 4095, b"", Some(PathFault::TooLong)),
     ];
     for (count, len, behind, wanted) in rows {
-        let mut text = names_of_letters(rt.alloc(), count, len)?;
-        text.extend_from_slice(behind)?;
-        assert_eq!(rt; fault(rt.alloc(), &text), wanted, "{count} {len}");
+        assert_eq!(rt;
+            fault_of_names(rt.alloc(), count, len, behind)?,
+            wanted,
+            "{count} {len}"
+        );
     }
     assert_eq!(rt; (DEPTH_MAX, NAME_MAX, TEXT_MAX), (32, 255, 4095));
     Ok(())
@@ -118,11 +145,15 @@ fn listed(alloc: Global, names: Names<'_>) -> Result<Vec<u8>, AllocError> {
     Ok(text)
 }
 
+/// Whether these are the names, each with a comma behind it.
+fn are_listed(alloc: Global, names: Names<'_>, wanted: &[u8]) -> Result<bool, AllocError> {
+    Ok(listed(alloc, names)?.as_slice() == wanted)
+}
+
 #[test]
 fn names_from_the_root(rt: HostRuntime) -> Result<(), Fail> {
     let path = path(rt.alloc(), b"/a/bc/d")?;
-    let all = listed(rt.alloc(), path.names())?;
-    assert_eq!(rt; all.as_slice(), b"a,bc,d,".as_slice());
+    assert!(rt; are_listed(rt.alloc(), path.names(), b"a,bc,d,")?);
     let rows = [
         (0, b"".as_slice()),
         (2, b"a,bc,"),
@@ -130,41 +161,54 @@ fn names_from_the_root(rt: HostRuntime) -> Result<(), Fail> {
         (4, b"a,bc,d,"),
     ];
     for (n, wanted) in rows {
-        let first = listed(rt.alloc(), path.first_names(n))?;
-        assert_eq!(rt; first.as_slice(), wanted, "{n}");
+        assert!(rt; are_listed(rt.alloc(), path.first_names(n), wanted)?, "{n}");
     }
     Ok(())
 }
 
-/// A path, its depth, its parent, its child `c`, and what `cut(1)` leaves.
+/// A path's parent, its child `c`, its copy, and what `cut(1)` leaves, as texts with a comma behind each; then what
+/// `cut(0)` leaves, and the child `c` of that.
+fn around(alloc: Global, path: GroupPath<Global>) -> Result<Vec<u8>, Fail> {
+    let mut path = path;
+    let mut text = Vec::new(alloc);
+    if let Some(parent) = path.parent(alloc)? {
+        put(&mut text, &parent)?;
+    }
+    put(&mut text, &path.child(alloc, b"c")?)?;
+    put(&mut text, &path.copy(alloc)?)?;
+    if path.depth() >= 1 {
+        path.cut(1);
+    }
+    put(&mut text, &path)?;
+    path.cut(0);
+    put(&mut text, &path)?;
+    put(&mut text, &path.child(alloc, b"c")?)?;
+    Ok(text)
+}
+
+/// Puts the path's text behind the bytes, and a comma.
+fn put(bytes: &mut Vec<u8>, path: &GroupPath<Global>) -> Result<(), AllocError> {
+    bytes.extend_from_slice(path.text())?;
+    bytes.extend_from_slice(b",")
+}
+
+/// Whether the path of this text has that depth, and this around it.
+fn is_amid(alloc: Global, text: &[u8], depth: usize, wanted: &[u8]) -> Result<bool, Fail> {
+    let path = path(alloc, text)?;
+    let is_text = (path.text(), path.depth()) == (text, depth);
+    let around = around(alloc, path)?;
+    Ok((is_text, around.as_slice()) == (true, wanted))
+}
+
 #[test]
 fn neighbours(rt: HostRuntime) -> Result<(), Fail> {
     let rows = [
-        (
-            b"/a".as_slice(),
-            1,
-            b"/".as_slice(),
-            b"/a/c".as_slice(),
-            b"/a".as_slice(),
-        ),
-        (b"/a/b", 2, b"/a", b"/a/b/c", b"/a"),
-        (b"/a/b/c", 3, b"/a/b", b"/a/b/c/c", b"/a"),
+        (b"/a".as_slice(), 1, b"/,/a/c,/a,/a,/,/c,".as_slice()),
+        (b"/a/b", 2, b"/a,/a/b/c,/a/b,/a,/,/c,"),
+        (b"/a/b/c", 3, b"/a/b,/a/b/c/c,/a/b/c,/a,/,/c,"),
     ];
-    for (text, depth, above, below, front) in rows {
-        let mut group = path(rt.alloc(), text)?;
-        assert_eq!(rt; group.text(), text);
-        assert_eq!(rt; group.depth(), depth);
-        let parent = group.parent(rt.alloc())?;
-        assert!(rt; parent.is_some_and(|p| p.text() == above));
-        assert_eq!(rt; group.child(rt.alloc(), b"c")?.text(), below);
-        assert_eq!(rt; group.copy(rt.alloc())?.text(), text);
-        if group.depth() >= 1 {
-            group.cut(1);
-        }
-        assert_eq!(rt; group.text(), front);
-        group.cut(0);
-        assert_eq!(rt; group.text(), b"/".as_slice());
-        assert_eq!(rt; group.child(rt.alloc(), b"c")?.text(), b"/c".as_slice());
+    for (text, depth, wanted) in rows {
+        assert!(rt; is_amid(rt.alloc(), text, depth, wanted)?, "{depth}");
     }
     Ok(())
 }
@@ -186,6 +230,19 @@ fn faults_of_a_child(rt: HostRuntime) -> Result<(), Fail> {
     Ok(())
 }
 
+/// The fault of the child, of so many letters, of so many names of so many letters each.
+fn fault_of_a_child(
+    alloc: Global,
+    count: usize,
+    len: usize,
+    more: usize,
+) -> Result<Option<PathFault>, Fail> {
+    let text = names_of_letters(alloc, count, len)?;
+    let name = letters(alloc, more)?;
+    let group = path(alloc, &text)?;
+    Ok(group.child(alloc, &name).err())
+}
+
 /// So many names of so many letters each, and one more of so many. The name's faults come before those of the whole.
 #[test]
 fn bounds_of_a_child(rt: HostRuntime) -> Result<(), Fail> {
@@ -200,11 +257,8 @@ fn bounds_of_a_child(rt: HostRuntime) -> Result<(), Fail> {
         (15, 255, 255, Some(PathFault::TooLong)),
     ];
     for (count, len, more, wanted) in rows {
-        let text = names_of_letters(rt.alloc(), count, len)?;
-        let group = path(rt.alloc(), &text)?;
-        let name = letters(rt.alloc(), more)?;
         assert_eq!(rt;
-            group.child(rt.alloc(), &name).err(),
+            fault_of_a_child(rt.alloc(), count, len, more)?,
             wanted,
             "{count} {len} {more}"
         );
@@ -212,17 +266,43 @@ fn bounds_of_a_child(rt: HostRuntime) -> Result<(), Fail> {
     Ok(())
 }
 
+/// The child of the root that has this name.
+fn child_of_the_root(alloc: Global, name: &[u8]) -> Result<GroupPath<Global>, Fail> {
+    let root = GroupPath::root(alloc)?;
+    Ok(root.child(alloc, name)?)
+}
+
 /// The child of the longest name, from its text and back.
 #[test]
 fn child_of_the_longest_name(rt: HostRuntime) -> Result<(), Fail> {
-    let root = GroupPath::root(rt.alloc())?;
-    let name = letters(rt.alloc(), 255)?;
-    let child = root.child(rt.alloc(), &name)?;
     let text = names_of_letters(rt.alloc(), 1, 255)?;
-    assert_eq!(rt; child.text(), text.as_slice());
-    assert!(rt; child.names().next() == Some(name.as_slice()));
-    assert!(rt; child.parent(rt.alloc())?.is_some_and(|p| p.is_same(&root)));
+    let name = text.get(1..).unwrap_or_default();
+    let child = child_of_the_root(rt.alloc(), name)?;
+    assert!(rt; (child.text(), child.names().next()) == (text.as_slice(), Some(name)));
+    assert!(rt;
+        child
+            .parent(rt.alloc())?
+            .is_some_and(|p| p.text() == b"/".as_slice())
+    );
     Ok(())
+}
+
+/// Whether the first is at or below the second, how they are ordered, and whether they are the same, by `==` and by
+/// `is_same`.
+fn compared(
+    alloc: Global,
+    one: &[u8],
+    other: &[u8],
+) -> Result<(bool, Ordering, Option<Ordering>, bool, bool), Fail> {
+    let one = path(alloc, one)?;
+    let other = path(alloc, other)?;
+    Ok((
+        one.is_at_or_below(&other),
+        one.cmp(&other),
+        one.partial_cmp(&other),
+        one == other,
+        one.is_same(&other),
+    ))
 }
 
 /// Two paths: whether the first is at or below the second, and how they are ordered. A group, those below it, and then
@@ -245,13 +325,10 @@ fn pairs(rt: HostRuntime) -> Result<(), Fail> {
         (b"/a!", b"/a", false, Ordering::Greater),
     ];
     for (one, other, is_below, order) in rows {
-        let one = path(rt.alloc(), one)?;
-        let other = path(rt.alloc(), other)?;
-        assert_eq!(rt; one.is_at_or_below(&other), is_below);
-        assert_eq!(rt; one.cmp(&other), order);
-        assert_eq!(rt; one.partial_cmp(&other), Some(order));
-        assert_eq!(rt; one == other, order.is_eq());
-        assert_eq!(rt; one.is_same(&other), order.is_eq());
+        assert_eq!(rt;
+            compared(rt.alloc(), one, other)?,
+            (is_below, order, Some(order), order.is_eq(), order.is_eq())
+        );
     }
     Ok(())
 }

@@ -65,8 +65,22 @@ pub(crate) fn below<A: Allocator>(
     Ok(tree.descendants(&path))
 }
 
+/// The first of these groups that has other attributes than those beside it.
+pub(crate) fn first_other<'a, A: Allocator>(
+    alloc: Global,
+    tree: &GroupTree<A>,
+    rows: &[(&'a str, Option<Attr>)],
+) -> Result<Option<&'a str>, Fail> {
+    for (text, wanted) in rows {
+        if found(alloc, tree, text)? != *wanted {
+            return Ok(Some(*text));
+        }
+    }
+    Ok(None)
+}
+
 /// The slots from the group at the path of this text upward.
-pub(crate) fn chain<A: Allocator>(
+fn chain<A: Allocator>(
     alloc: Global,
     tree: &GroupTree<A>,
     text: &str,
@@ -92,10 +106,22 @@ fn finds(rt: HostRuntime) -> Result<(), Fail> {
         ("/ab", None),
         ("/a/b/c/d", None),
     ];
-    for (text, wanted) in rows {
-        assert_eq!(rt; found(rt.alloc(), &tree, text)?, wanted, "{text}");
-    }
+    assert_eq!(rt; first_other(rt.alloc(), &tree, &rows)?, None);
     Ok(())
+}
+
+/// The first of these groups that has another number of groups below it than the one beside it.
+fn first_other_count<'a>(
+    alloc: Global,
+    tree: &GroupTree<Global>,
+    rows: &[(&'a str, Option<u64>)],
+) -> Result<Option<&'a str>, Fail> {
+    for (text, wanted) in rows {
+        if below(alloc, tree, text)? != *wanted {
+            return Ok(Some(*text));
+        }
+    }
+    Ok(None)
 }
 
 #[test]
@@ -108,11 +134,21 @@ fn counts_what_is_below(rt: HostRuntime) -> Result<(), Fail> {
         ("/e", Some(0)),
         ("/a/x", None),
     ];
-    for (text, wanted) in rows {
-        assert_eq!(rt; below(rt.alloc(), &tree, text)?, wanted, "{text}");
-    }
-    assert_eq!(rt; tree.groups_beside_root(), 5);
+    let other = first_other_count(rt.alloc(), &tree, &rows)?;
+    assert_eq!(rt; (other, tree.groups_beside_root()), (None, 5));
     Ok(())
+}
+
+/// What is found, and counted, at the first names of a path; nothing past its depth.
+fn read_at(
+    tree: &GroupTree<Global>,
+    path: &GroupPath<Global>,
+    n: usize,
+) -> Option<(Option<Attr>, Option<u64>)> {
+    if n > path.depth() {
+        return None;
+    }
+    Some((tree.find_at(path, n).copied(), tree.descendants_at(path, n)))
 }
 
 /// The calls at the first names of a path, which need not be a group's.
@@ -120,48 +156,50 @@ fn counts_what_is_below(rt: HostRuntime) -> Result<(), Fail> {
 fn reads_at_first_names(rt: HostRuntime) -> Result<(), Fail> {
     let tree = sample(rt.alloc())?;
     let path = path(rt.alloc(), "/a/b/x")?;
-    let rows = [
-        (0, Some(attr(0)), Some(5)),
-        (1, Some(attr(1)), Some(3)),
-        (2, Some(attr(2)), Some(1)),
-        (3, None, None),
+    let wanted = [
+        Some((Some(attr(0)), Some(5))),
+        Some((Some(attr(1)), Some(3))),
+        Some((Some(attr(2)), Some(1))),
+        Some((None, None)),
     ];
-    for (n, attr, count) in rows {
-        if n <= path.depth() {
-            assert_eq!(rt; tree.find_at(&path, n).copied(), attr, "{n}");
-            assert_eq!(rt; tree.descendants_at(&path, n), count, "{n}");
-        }
-    }
+    assert_eq!(rt; [0, 1, 2, 3].map(|n| read_at(&tree, &path, n)), wanted);
     Ok(())
+}
+
+/// Sets the attributes at the path of this text; whether there was such a group.
+fn set(alloc: Global, tree: &mut GroupTree<Global>, text: &str, attr: Attr) -> Result<bool, Fail> {
+    let path = path(alloc, text)?;
+    Ok(tree.set(&path, attr))
 }
 
 /// What was set is found, and nothing else has changed.
 #[test]
 fn sets(rt: HostRuntime) -> Result<(), Fail> {
     let mut tree = sample(rt.alloc())?;
-    let deep = path(rt.alloc(), "/a/b/c")?;
-    let missing = path(rt.alloc(), "/a/x")?;
-    assert!(rt; tree.set(&deep, attr(30)));
-    assert!(rt; !tree.set(&missing, attr(40)));
+    let is_set = set(rt.alloc(), &mut tree, "/a/b/c", attr(30))?;
+    let is_missing_set = set(rt.alloc(), &mut tree, "/a/x", attr(40))?;
     let rows = [
         ("/a/b/c", Some(attr(30))),
         ("/a/b", Some(attr(2))),
         ("/a/x", None),
     ];
-    for (text, wanted) in rows {
-        assert_eq!(rt; found(rt.alloc(), &tree, text)?, wanted, "{text}");
-    }
+    let other = first_other(rt.alloc(), &tree, &rows)?;
+    assert_eq!(rt; (is_set, is_missing_set, other), (true, false, None));
     Ok(())
+}
+
+/// Sets the attributes at the first names of a path; whether there was such a group.
+fn set_at(tree: &mut GroupTree<Global>, path: &GroupPath<Global>, n: usize, attr: Attr) -> bool {
+    n <= path.depth() && tree.set_at(path, n, attr)
 }
 
 #[test]
 fn sets_at_first_names(rt: HostRuntime) -> Result<(), Fail> {
     let mut tree = sample(rt.alloc())?;
     let deep = path(rt.alloc(), "/a/b/x")?;
-    for (n, is_set) in [(0, true), (2, true), (3, false)] {
-        if n <= deep.depth() {
-            assert_eq!(rt; tree.set_at(&deep, n, attr(20)), is_set, "{n}");
-        }
+    let mut is_set = [false; 3];
+    for (n, is_set) in [0, 2, 3].into_iter().zip(is_set.iter_mut()) {
+        *is_set = set_at(&mut tree, &deep, n, attr(20));
     }
     let rows = [
         ("/", Some(attr(20))),
@@ -169,10 +207,11 @@ fn sets_at_first_names(rt: HostRuntime) -> Result<(), Fail> {
         ("/a/b", Some(attr(20))),
         ("/a/b/c", Some(attr(3))),
     ];
-    for (text, wanted) in rows {
-        assert_eq!(rt; found(rt.alloc(), &tree, text)?, wanted, "{text}");
-    }
-    assert_eq!(rt; below(rt.alloc(), &tree, "/")?, Some(5));
+    let other = first_other(rt.alloc(), &tree, &rows)?;
+    assert_eq!(rt;
+        (is_set, other, tree.groups_beside_root()),
+        ([true, true, false], None, 5)
+    );
     Ok(())
 }
 
@@ -213,16 +252,41 @@ fn changes_limits(rt: HostRuntime) {
     for (file, limits) in rows {
         let attr = limited(9, [Limit::At(4), Limit::At(5), Limit::At(6)]);
         let changed = attr.with_limit(file, Limit::At(1));
-        assert_eq!(rt; changed, limited(9, limits));
-        assert_eq!(rt; changed.limit(file), Limit::At(1));
-        assert_eq!(rt; fresh.limit(file), Limit::Unlimited);
+        assert_eq!(rt;
+            (changed, changed.limit(file), fresh.limit(file)),
+            (limited(9, limits), Limit::At(1), Limit::Unlimited)
+        );
     }
+}
+
+/// The limit that is met for a group below the first names of the path of this text; None too past its depth.
+fn met(
+    alloc: Global,
+    tree: &GroupTree<Global>,
+    text: &str,
+    n: usize,
+) -> Result<Option<MetLimit>, Fail> {
+    let path = path(alloc, text)?;
+    if n > path.depth() {
+        return Ok(None);
+    }
+    Ok(tree.met_limit(&path, n))
+}
+
+/// The sample, with these limits at the groups of these texts.
+fn limited_sample(alloc: Global, rows: &[(&str, [Limit; 3])]) -> Result<GroupTree<Global>, Fail> {
+    let mut tree = sample(alloc)?;
+    for (text, limits) in rows {
+        if !set(alloc, &mut tree, text, limited(0, *limits))? {
+            return Err(Fail::new("there is no such group"));
+        }
+    }
+    Ok(tree)
 }
 
 /// The nearest group is asked first, and of one group its limit on descendants.
 #[test]
 fn meets_limits(rt: HostRuntime) -> Result<(), Fail> {
-    let mut tree = sample(rt.alloc())?;
     let none = Limit::Unlimited;
     let limits = [
         ("/", [none, none, Limit::At(2)]),
@@ -230,10 +294,7 @@ fn meets_limits(rt: HostRuntime) -> Result<(), Fail> {
         ("/a/b", [none, Limit::At(2), Limit::At(0)]),
         ("/e", [none, Limit::At(0), Limit::At(0)]),
     ];
-    for (text, limits) in limits {
-        let path = path(rt.alloc(), text)?;
-        assert!(rt; tree.set(&path, limited(0, limits)), "{text}");
-    }
+    let tree = limited_sample(rt.alloc(), &limits)?;
     let rows = [
         ("/", 0, None),
         ("/a/d", 1, Some(MetLimit::Descendants(1))),
@@ -243,10 +304,7 @@ fn meets_limits(rt: HostRuntime) -> Result<(), Fail> {
         ("/e", 1, Some(MetLimit::Descendants(1))),
     ];
     for (text, n, wanted) in rows {
-        let path = path(rt.alloc(), text)?;
-        if n <= path.depth() {
-            assert_eq!(rt; tree.met_limit(&path, n), wanted, "{text}");
-        }
+        assert_eq!(rt; met(rt.alloc(), &tree, text, n)?, wanted, "{text} {n}");
     }
     Ok(())
 }
@@ -254,34 +312,54 @@ fn meets_limits(rt: HostRuntime) -> Result<(), Fail> {
 /// Of the groups above, the root is asked last.
 #[test]
 fn meets_the_limit_of_the_root(rt: HostRuntime) -> Result<(), Fail> {
-    let mut tree = sample(rt.alloc())?;
-    let root = path(rt.alloc(), "/")?;
-    let limits = [Limit::Unlimited, Limit::At(9), Limit::At(2)];
-    assert!(rt; tree.set(&root, limited(0, limits)));
-    let deep = path(rt.alloc(), "/a/b")?;
-    for (n, wanted) in [(1, None), (2, Some(MetLimit::Depth(0)))] {
-        if n <= deep.depth() {
-            assert_eq!(rt; tree.met_limit(&deep, n), wanted, "{n}");
-        }
-    }
+    let limits = [("/", [Limit::Unlimited, Limit::At(9), Limit::At(2)])];
+    let tree = limited_sample(rt.alloc(), &limits)?;
+    let nearer = met(rt.alloc(), &tree, "/a/b", 1)?;
+    let deeper = met(rt.alloc(), &tree, "/a/b", 2)?;
+    assert_eq!(rt; (nearer, deeper), (None, Some(MetLimit::Depth(0))));
     Ok(())
+}
+
+/// Why the group at the path of this text is not made.
+fn refused(
+    alloc: Global,
+    tree: &mut GroupTree<Global>,
+    text: &str,
+) -> Result<Option<TreeFault>, Fail> {
+    let path = path(alloc, text)?;
+    Ok(tree.insert(&path, attr(9)).err())
 }
 
 #[test]
 fn refuses_inserts_in_order(rt: HostRuntime) -> Result<(), Fail> {
     let mut tree = sample(rt.alloc())?;
-    let rows = [
-        ("/", TreeFault::Exists),
-        ("/a/b", TreeFault::Exists),
-        ("/x/b", TreeFault::NoParent),
-    ];
-    for (text, wanted) in rows {
-        let path = path(rt.alloc(), text)?;
-        assert_eq!(rt; tree.insert(&path, attr(9)), Err(wanted), "{text}");
-    }
-    assert_eq!(rt; found(rt.alloc(), &tree, "/a/b")?, Some(attr(2)));
-    assert_eq!(rt; below(rt.alloc(), &tree, "/")?, Some(5));
+    let root = refused(rt.alloc(), &mut tree, "/")?;
+    let group = refused(rt.alloc(), &mut tree, "/a/b")?;
+    let stray = refused(rt.alloc(), &mut tree, "/x/b")?;
+    let kept = found(rt.alloc(), &tree, "/a/b")?;
+    assert_eq!(rt;
+        ([root, group, stray], kept, tree.groups_beside_root()),
+        (
+            [
+                Some(TreeFault::Exists),
+                Some(TreeFault::Exists),
+                Some(TreeFault::NoParent)
+            ],
+            Some(attr(2)),
+            5
+        )
+    );
     Ok(())
+}
+
+/// Removes the group at the path of this text.
+fn remove(
+    alloc: Global,
+    tree: &mut GroupTree<Global>,
+    text: &str,
+) -> Result<Result<Attr, TreeFault>, Fail> {
+    let path = path(alloc, text)?;
+    Ok(tree.remove(&path))
 }
 
 /// Refused removals, and two that are not; one makes the other possible.
@@ -297,12 +375,21 @@ fn removes(rt: HostRuntime) -> Result<(), Fail> {
         ("/a/b", Err(TreeFault::NoGroup)),
     ];
     for (text, wanted) in rows {
-        let path = path(rt.alloc(), text)?;
-        assert_eq!(rt; tree.remove(&path), wanted, "{text}");
+        assert_eq!(rt; remove(rt.alloc(), &mut tree, text)?, wanted, "{text}");
     }
-    assert_eq!(rt; found(rt.alloc(), &tree, "/a/d")?, Some(attr(4)));
-    assert_eq!(rt; below(rt.alloc(), &tree, "/")?, Some(3));
+    let kept = found(rt.alloc(), &tree, "/a/d")?;
+    assert_eq!(rt; (kept, tree.groups_beside_root()), (Some(attr(4)), 3));
     Ok(())
+}
+
+/// Whether the chain of the group at the path of this text has these slots.
+pub(crate) fn is_chain<A: Allocator>(
+    alloc: Global,
+    tree: &GroupTree<A>,
+    text: &str,
+    wanted: Option<&[u16]>,
+) -> Result<bool, Fail> {
+    Ok(chain(alloc, tree, text)?.as_deref() == wanted)
 }
 
 #[test]
@@ -315,8 +402,7 @@ fn goes_up(rt: HostRuntime) -> Result<(), Fail> {
         ("/a/x", None),
     ];
     for (text, wanted) in rows {
-        let slots = chain(rt.alloc(), &tree, text)?;
-        assert!(rt; slots.as_deref() == wanted, "{text}");
+        assert!(rt; is_chain(rt.alloc(), &tree, text, wanted)?, "{text}");
     }
     Ok(())
 }
@@ -326,11 +412,13 @@ fn goes_up(rt: HostRuntime) -> Result<(), Fail> {
 fn copies(rt: HostRuntime) -> Result<(), Fail> {
     let mut tree = sample(rt.alloc())?;
     let copy = tree.copy(rt.alloc())?;
-    let removed = path(rt.alloc(), "/a/b/c")?;
-    assert_eq!(rt; tree.remove(&removed), Ok(attr(3)));
-    assert_eq!(rt; found(rt.alloc(), &copy, "/a/b/c")?, Some(attr(3)));
-    assert_eq!(rt; found(rt.alloc(), &copy, "/e")?, Some(attr(5)));
-    assert_eq!(rt; below(rt.alloc(), &copy, "/")?, Some(5));
+    let removed = remove(rt.alloc(), &mut tree, "/a/b/c")?;
+    let rows = [("/a/b/c", Some(attr(3))), ("/e", Some(attr(5)))];
+    let other = first_other(rt.alloc(), &copy, &rows)?;
+    assert_eq!(rt;
+        (removed, other, copy.groups_beside_root()),
+        (Ok(attr(3)), None, 5)
+    );
     Ok(())
 }
 

@@ -1,6 +1,6 @@
 //! A tree in a small heap: what a refused growth leaves.
 
-use crate::tree::{attr, below, chain, found, path};
+use crate::tree::{attr, below, found, is_chain, path};
 use crate::wide_and_deep::{deep, is_rising, nest};
 use group_tree::{GroupTree, TreeFault};
 use linked_list_allocator::LocalHeap;
@@ -8,7 +8,7 @@ use std::alloc::{AllocError, Allocator, Global};
 use std::test::Fail;
 
 /// Makes the group `/gN` with the slot N; why it was not made.
-fn insert<A: Allocator + Clone>(
+pub(crate) fn insert<A: Allocator + Clone>(
     alloc: Global,
     tree: &mut GroupTree<A>,
     number: u16,
@@ -19,7 +19,11 @@ fn insert<A: Allocator + Clone>(
 }
 
 /// Whether the group `/gN` is there with the slot N.
-fn is_found<A: Allocator>(alloc: Global, tree: &GroupTree<A>, number: u16) -> Result<bool, Fail> {
+pub(crate) fn is_found<A: Allocator>(
+    alloc: Global,
+    tree: &GroupTree<A>,
+    number: u16,
+) -> Result<bool, Fail> {
     let text = format!(in alloc; "/g{number}")?;
     let found = found(alloc, tree, text.as_str())?;
     Ok(found == Some(attr(number)))
@@ -66,10 +70,8 @@ fn in_1024_bytes(rt: HostRuntime) -> Result<(), Fail> {
     let heap = LocalHeap::new(rt.alloc(), 1024)?;
     let mut tree = GroupTree::new(&heap, attr(0))?;
     let made = filled(rt.alloc(), &heap, &mut tree, 1000)?;
-    assert!(rt; made.is_some_and(|made| 0 < made && made < 1000));
-    if let Some(made) = made {
-        assert!(rt; has_first(rt.alloc(), &tree, made)?);
-    }
+    let made = made.unwrap_or_default();
+    assert!(rt; 0 < made && made < 1000 && has_first(rt.alloc(), &tree, made)?);
     Ok(())
 }
 
@@ -78,14 +80,15 @@ fn in_1024_bytes(rt: HostRuntime) -> Result<(), Fail> {
 fn in_65536_bytes(rt: HostRuntime) -> Result<(), Fail> {
     let heap = LocalHeap::new(rt.alloc(), 65536)?;
     let mut tree = GroupTree::new(&heap, attr(9))?;
-    let made = insert(rt.alloc(), &mut tree, 0)?;
-    assert_eq!(rt; made, None);
-    let slots = chain(rt.alloc(), &tree, "/g0")?;
-    assert!(rt; slots.as_deref() == Some([0].as_slice()));
+    let refused = insert(rt.alloc(), &mut tree, 0)?;
+    let is_chained = is_chain(rt.alloc(), &tree, "/g0", Some([0].as_slice()))?;
     let copy = tree.copy(rt.alloc())?;
     drop(tree);
-    assert_eq!(rt; heap.used(), 0);
-    assert!(rt; has_first(rt.alloc(), &copy, 1)?);
+    let is_copied = has_first(rt.alloc(), &copy, 1)?;
+    assert_eq!(rt;
+        (refused, is_chained, heap.used(), is_copied),
+        (None, true, 0, true)
+    );
     Ok(())
 }
 
@@ -121,24 +124,29 @@ fn each_growth_of_an_insert_refused(rt: HostRuntime) -> Result<(), Fail> {
             is_whole = true;
         }
     }
-    assert!(rt; is_refused_behind_the_name);
-    assert!(rt; is_whole);
+    assert_eq!(rt; (is_refused_behind_the_name, is_whole), (true, true));
     Ok(())
+}
+
+/// A tree with `/g0` to `/g2`.
+fn three(alloc: Global) -> Result<GroupTree<Global>, Fail> {
+    let mut tree = GroupTree::new(alloc, attr(9))?;
+    for number in 0..3u16 {
+        if insert(alloc, &mut tree, number)?.is_some() {
+            return Err(Fail::new("a group was not made"));
+        }
+    }
+    Ok(tree)
 }
 
 /// A refused copy takes nothing, and leaves its source.
 #[test]
 fn copy_refused(rt: HostRuntime) -> Result<(), Fail> {
-    let mut tree = GroupTree::new(rt.alloc(), attr(9))?;
-    for number in 0..3u16 {
-        let made = insert(rt.alloc(), &mut tree, number)?;
-        assert_eq!(rt; made, None);
-    }
+    let tree = three(rt.alloc())?;
     let heap = LocalHeap::new(rt.alloc(), 512)?;
     let is_refused = tree.copy(&heap).is_err();
-    assert!(rt; is_refused);
-    assert_eq!(rt; heap.used(), 0);
-    assert!(rt; has_first(rt.alloc(), &tree, 3)?);
+    let is_kept = has_first(rt.alloc(), &tree, 3)?;
+    assert_eq!(rt; (is_refused, heap.used(), is_kept), (true, 0, true));
     Ok(())
 }
 
@@ -155,8 +163,7 @@ fn chain_refused(rt: HostRuntime) -> Result<(), Fail> {
             None => (),
         }
     }
-    assert!(rt; is_refused);
-    assert!(rt; is_whole);
+    assert_eq!(rt; (is_refused, is_whole), (true, true));
     Ok(())
 }
 

@@ -1,9 +1,10 @@
 //! As many siblings as there are slots, and groups below one another as deep as a path may go.
 
 use crate::paths::names_of_letters;
-use crate::tree::{attr, found, limited, path};
+use crate::tree::{attr, limited, path};
+use crate::tree_memory::{insert, is_found};
 use group_path::GroupPath;
-use group_tree::{Attr, GroupTree, Limit, MetLimit, TreeFault};
+use group_tree::{GroupTree, Limit, MetLimit, TreeFault};
 use std::alloc::{AllocError, Allocator, Global};
 use std::test::Fail;
 
@@ -79,84 +80,126 @@ fn chains(rt: HostRuntime) -> Result<(), Fail> {
     Ok(())
 }
 
+/// A tree of nested groups as deep as a path may go, and the path of the deepest.
+fn deepest(alloc: Global) -> Result<(GroupTree<Global>, GroupPath<Global>), Fail> {
+    let mut tree = GroupTree::new(alloc, attr(0))?;
+    let deepest = deep(alloc, 32)?;
+    if nest(alloc, &mut tree, &deepest)? {
+        Ok((tree, deepest))
+    } else {
+        Err(Fail::new("a group was not made"))
+    }
+}
+
+/// The limits that are met for a group below the root, below that of 31 names, and below the deepest.
+fn met(tree: &GroupTree<Global>, deepest: &GroupPath<Global>) -> Option<[Option<MetLimit>; 3]> {
+    if deepest.depth() < 32 {
+        return None;
+    }
+    Some([
+        tree.met_limit(deepest, 0),
+        tree.met_limit(deepest, 31),
+        tree.met_limit(deepest, 32),
+    ])
+}
+
 /// A limit of the root on depth is met at the deepest group alone.
 #[test]
 fn limit_of_the_root_at_the_deepest(rt: HostRuntime) -> Result<(), Fail> {
-    let mut tree = GroupTree::new(rt.alloc(), attr(0))?;
-    let deepest = deep(rt.alloc(), 32)?;
-    assert!(rt; nest(rt.alloc(), &mut tree, &deepest)?);
+    let (mut tree, deepest) = deepest(rt.alloc())?;
     let limits = [Limit::Unlimited, Limit::Unlimited, Limit::At(32)];
-    assert!(rt; tree.set_at(&deepest, 0, limited(0, limits)));
-    for (n, wanted) in [(0, None), (31, None), (32, Some(MetLimit::Depth(0)))] {
-        if n <= deepest.depth() {
-            assert_eq!(rt; tree.met_limit(&deepest, n), wanted, "{n}");
-        }
-    }
+    let is_set = tree.set_at(&deepest, 0, limited(0, limits));
+    assert_eq!(rt;
+        (is_set, met(&tree, &deepest)),
+        (true, Some([None, None, Some(MetLimit::Depth(0))]))
+    );
     Ok(())
+}
+
+/// Removes the groups on the way to that path from below, each after the topmost was refused while others were below
+/// it; whether each had its depth as its slot.
+fn remove_from_below(
+    tree: &mut GroupTree<Global>,
+    top: &GroupPath<Global>,
+    deepest: &mut GroupPath<Global>,
+) -> bool {
+    for n in 1..33u16 {
+        let slot = 33 - n;
+        if slot > 1 && tree.remove(top) != Err(TreeFault::HasChildren) {
+            return false;
+        }
+        if tree.remove(deepest) != Ok(attr(slot)) {
+            return false;
+        }
+        let above = deepest.depth().saturating_sub(1);
+        deepest.cut(above);
+    }
+    true
 }
 
 /// From the deepest group up each can be removed, and none before those below it.
 #[test]
 fn removes_from_below(rt: HostRuntime) -> Result<(), Fail> {
-    let mut tree = GroupTree::new(rt.alloc(), attr(0))?;
-    let mut deepest = deep(rt.alloc(), 32)?;
-    assert!(rt; nest(rt.alloc(), &mut tree, &deepest)?);
+    let (mut tree, mut deepest) = deepest(rt.alloc())?;
     let top = path(rt.alloc(), "/x")?;
-    for n in 1..33u16 {
-        let slot = 33 - n;
-        if slot > 1 {
-            assert_eq!(rt; tree.remove(&top), Err(TreeFault::HasChildren));
-        }
-        assert_eq!(rt; tree.remove(&deepest), Ok(attr(slot)), "{slot}");
-        let above = deepest.depth().saturating_sub(1);
-        deepest.cut(above);
-    }
-    assert_eq!(rt; tree.groups_beside_root(), 0);
+    let are_removed = remove_from_below(&mut tree, &top, &mut deepest);
+    assert_eq!(rt; (are_removed, tree.groups_beside_root()), (true, 0));
     Ok(())
 }
 
-/// What `/gN` has.
-fn sibling<A: Allocator>(
-    alloc: Global,
-    tree: &GroupTree<A>,
-    number: u16,
-) -> Result<Option<Attr>, Fail> {
-    let text = format!(in alloc; "/g{number}")?;
-    found(alloc, tree, text.as_str())
+/// 256 siblings, made out of their order.
+fn many(alloc: Global) -> Result<GroupTree<Global>, Fail> {
+    let mut tree = GroupTree::new(alloc, attr(0))?;
+    for step in 0..256u16 {
+        if insert(alloc, &mut tree, (step * 77) % 256)?.is_some() {
+            return Err(Fail::new("a group was not made"));
+        }
+    }
+    Ok(tree)
 }
 
-/// 256 siblings, made out of their order; then every other one is removed.
+/// How many of the 256 siblings of even numbers, and of odd ones, are there with their attributes.
+fn counted(alloc: Global, tree: &GroupTree<Global>) -> Result<[u16; 2], Fail> {
+    let mut even = 0u16;
+    let mut odd = 0u16;
+    for number in 0..256u16 {
+        if is_found(alloc, tree, number)? {
+            if number % 2 == 0 {
+                even = even.saturating_add(1);
+            } else {
+                odd = odd.saturating_add(1);
+            }
+        }
+    }
+    Ok([even, odd])
+}
+
+/// Removes `/gN`; whether it had the slot N.
+fn is_removed(alloc: Global, tree: &mut GroupTree<Global>, number: u16) -> Result<bool, Fail> {
+    let text = format!(in alloc; "/g{number}")?;
+    let path = path(alloc, text.as_str())?;
+    Ok(tree.remove(&path) == Ok(attr(number)))
+}
+
+/// Removes the siblings of even numbers; whether each was there.
+fn remove_even(alloc: Global, tree: &mut GroupTree<Global>) -> Result<bool, Fail> {
+    for half in 0..128u16 {
+        if !is_removed(alloc, tree, half * 2)? {
+            return Ok(false);
+        }
+    }
+    Ok(true)
+}
+
 #[test]
 fn siblings(rt: HostRuntime) -> Result<(), Fail> {
-    let mut tree = GroupTree::new(rt.alloc(), attr(0))?;
-    for step in 0..256u16 {
-        let number = (step * 77) % 256;
-        let text = format!(in rt.alloc(); "/g{number}")?;
-        let path = path(rt.alloc(), text.as_str())?;
-        tree.insert(&path, attr(number))?;
-    }
-    assert_eq!(rt; tree.groups_beside_root(), 256);
-    for number in 0..256u16 {
-        assert_eq!(rt;
-            sibling(rt.alloc(), &tree, number)?,
-            Some(attr(number)),
-            "{number}"
-        );
-    }
-    for half in 0..128u16 {
-        let number = half * 2;
-        let text = format!(in rt.alloc(); "/g{number}")?;
-        let path = path(rt.alloc(), text.as_str())?;
-        assert_eq!(rt; tree.remove(&path), Ok(attr(number)), "{number}");
-    }
-    assert_eq!(rt; tree.groups_beside_root(), 128);
-    for number in 0..256u16 {
-        let is_left = number % 2 == 1;
-        assert_eq!(rt;
-            sibling(rt.alloc(), &tree, number)?.is_some(),
-            is_left,
-            "{number}"
-        );
-    }
+    let mut tree = many(rt.alloc())?;
+    let before = (counted(rt.alloc(), &tree)?, tree.groups_beside_root());
+    let are_removed = remove_even(rt.alloc(), &mut tree)?;
+    let after = (counted(rt.alloc(), &tree)?, tree.groups_beside_root());
+    assert_eq!(rt;
+        (before, are_removed, after),
+        (([128, 128], 256), true, ([0, 128], 128))
+    );
     Ok(())
 }

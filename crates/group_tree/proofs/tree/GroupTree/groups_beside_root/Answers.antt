@@ -1,5 +1,3 @@
-use Rattle.std.proofs.Common.{ap}
-use Rattle.std.specs.FinMap as fin
 use Rattle.group_tree.proofs.Counted.{beside_root, exact_beside_root}
 use Rattle.group_tree.proofs.tree.GroupTree.groups_beside_root.Goals as goal
 

@@ -1,0 +1,67 @@
+//! What the groups on the way along a path have, one after another.
+
+ghost use Rattle.std.specs.Prelude.{◌≡◌, Some};
+ghost use Rattle.std.specs.Iterator.{YieldsFirstRef, item_count};
+ghost use Rattle.group_tree.specs.Along.{along_of};
+
+use crate::attr::Attr;
+use crate::node::{Node, place};
+use group_path::Names;
+use std::alloc::Allocator;
+use std::marker::Model;
+
+/// What the groups on the way along a path have, from the one below the root down to the path's own; it ends before the
+/// first that is missing. Each step costs O(log children) comparisons of names, and no memory.
+#[derive(Drop)]
+pub struct Along<'a, A: Allocator> {
+    /// The group that was given last, at first that at which the way begins; None once one was missing.
+    last: Option<&'a Node<A>>,
+    /// The names from there on.
+    names: Names<'a>,
+}
+
+impl<'a, A: Allocator> Model for Along<'a, A> {
+    ghost use Rattle.std.specs.Prelude.{List, option_map};
+    ghost use Rattle.group_tree.specs.declared.attr.Attr.{Attr};
+    ghost use Rattle.group_tree.specs.Along.{along_from};
+
+    ghost Value = { List Attr };
+
+    ghost view = { λ s. along_from (option_map (λ node. node.now.groups) s.last) s.names };
+}
+
+impl<'a, A: Allocator> Along<'a, A> {
+    /// The way from a node along these names.
+    pub(crate) fn of(from: &'a Node<A>, names: Names<'a>) -> Along<'a, A>
+        ensures { result ≡ along_of from.now.groups names.entry }
+    {
+        Along {
+            last: Some(from),
+            names,
+        }
+    }
+}
+
+impl<'a, A: Allocator> Iterator for Along<'a, A> {
+    type Item = &'a Attr;
+
+    ghost next_gives = { YieldsFirstRef (λ along. along) };
+
+    ghost remaining = { item_count (λ along. along) };
+
+    fn next(&mut self) -> Option<&'a Attr> {
+        let node = self.last?;
+        let name = self.names.next()?;
+        match place(&node.children, name) {
+            Ok(at) => {
+                let child = &node.children[at];
+                self.last = Some(child);
+                Some(&child.attr)
+            }
+            Err(_) => {
+                self.last = None;
+                None
+            }
+        }
+    }
+}

@@ -1,0 +1,63 @@
+//! The event totals of the groups along a path, changed on the way down.
+
+ghost use Rattle.std.specs.Prelude.{◌≡◌, [], true};
+ghost use Rattle.group_tree.specs.Node.{NodeSets};
+ghost use Rattle.group_tree.specs.Refusals.{Counts, stepped};
+
+use crate::attr::Attr;
+use crate::node::{Node, place};
+use group_path::Names;
+use std::alloc::Allocator;
+
+/// How an event total changes.
+#[derive(Clone, Copy)]
+pub(crate) enum Change {
+    /// One event more.
+    Raise,
+    /// One event less.
+    Lower,
+}
+
+impl Change {
+    /// The total after it. The greatest is not raised, and 0 is not lowered.
+    fn of(self, total: u64) -> u64
+        ensures { result ≡ stepped self total }
+    {
+        match self {
+            Change::Raise => total.saturating_add(1),
+            Change::Lower => total.saturating_sub(1),
+        }
+    }
+}
+
+impl<A: Allocator> Node<A> {
+    /// Changes what the group itself has.
+    fn put(&mut self, attr: Attr)
+        ensures name { self.new.name ≡ self.old.name }
+        ensures groups { NodeSets self.old.groups self.new.groups [] attr true }
+    {
+        self.attr = attr;
+    }
+
+    /// Changes the totals of the groups along these names by a fork that the last of them refused; that of the group here
+    /// stays.
+    pub(crate) fn count(&mut self, names: Names<'_>, change: Change)
+        ensures name { self.new.name ≡ self.old.name }
+        ensures counts { Counts (stepped change) self.old.groups self.new.groups names.entry }
+    {
+        let mut names = names;
+        match names.next() {
+            None => self.attr.local = change.of(self.attr.local),
+            Some(name) => match place(&self.children, name) {
+                Ok(at) => {
+                    let child = &mut self.children[at];
+                    child.count(names, change);
+                    let attr = child.attr();
+                    let total = change.of(attr.total);
+                    child.put(Attr { total, ..attr });
+                }
+                Err(_) => {}
+            },
+        }
+    }
+}
