@@ -5,8 +5,13 @@
 //!
 //! - `stripes`: adds and takes in several stripes, past 2^64.
 //! - `pids`: the numbers of processes.
+//! - `commands`: sequences of calls on `Charges` over a plain meter; `calls` makes them.
 #![tactic(auto)]
 
+#[cfg(test)]
+mod calls;
+#[cfg(test)]
+mod commands;
 #[cfg(test)]
 mod pids;
 #[cfg(test)]

@@ -4,7 +4,8 @@ mod Entries
 mod Listing
 mod Listed
 mod Charged
-mod Chains
+mod Copied
+mod Downward
 mod Gathers
 mod Asked
 mod Slots

@@ -1,5 +1,5 @@
 -- The walk from a path upward to the nearest full group.
-use Rattle.std.proofs.Common.{◌≡◌, ℕ, suc, zero, ◌+◌, ◌-◌, ◌<◌, ◌≤◌, ◌&&◌, Bool, true, false, not, cond, ltb, Option, Some, None, IsSome, List, [], ◌∷◌, ◌++◌, map, reverse, length, take, option_map, refl, sym, ap, ◌∙◌, sub-one, arith}
+use Rattle.std.proofs.Common.{◌≡◌, ℕ, suc, zero, ◌+◌, ◌<◌, ◌≤◌, ◌&&◌, Bool, true, false, not, cond, ltb, Option, Some, None, IsSome, List, [], ◌∷◌, ◌++◌, map, reverse, length, take, option_map, refl, sym, ap, ◌∙◌, add-one, arith}
 use Rattle.std.specs.Option.{option_or}
 use Rattle.std.proofs.lemmas.List.{map-append, reverse-append, length-take-le}
 use Rattle.std.proofs.lemmas.Bool.Decides.{nat_tests}
@@ -18,13 +18,11 @@ use Rattle.pids_charge.specs.Recount.{Recounted, HasSlots, state_of}
 use Rattle.pids_charge.proofs.Counted.{current-is}
 
 -- ---- one step of the loop
-pub longest-yes : (full : Path → Bool) (p : Path) (n : ℕ) → 0 < n → full (take n p) ≡ true → longest full p n ≡ Some n
-longest-yes full p zero h e = absurd (omega arith)
-longest-yes full p (suc n) h e = rw e refl
+pub longest-yes : (full : Path → Bool) (p : Path) (n : ℕ) → full (take (n + 1) p) ≡ true → longest full p (n + 1) ≡ Some (n + 1)
+longest-yes full p n e = rw (add-one n) (ap (λ b. cond b (Some (suc n)) (longest full p n)) (rw (add-one n) at e))
 
-pub longest-no : (full : Path → Bool) (p : Path) (n : ℕ) → 0 < n → full (take n p) ≡ false → longest full p n ≡ longest full p (n - 1)
-longest-no full p zero h e = absurd (omega arith)
-longest-no full p (suc n) h e = rw (sub-one, e) refl
+pub longest-no : (full : Path → Bool) (p : Path) (n : ℕ) → full (take (n + 1) p) ≡ false → longest full p (n + 1) ≡ longest full p n
+longest-no full p n e = rw (add-one n) (ap (λ b. cond b (Some (suc n)) (longest full p n)) (rw (add-one n) at e))
 
 -- ---- the same as the flat state's walk
 reverse_map : {X Y : Type 0} (f : X → Y) (xs : List X) → reverse (map f xs) ≡ map f (reverse xs)

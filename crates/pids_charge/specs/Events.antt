@@ -23,10 +23,6 @@ abbrev pub longest : (Path → Bool) → Path → ℕ → Option ℕ
 longest test p zero = None
 longest test p (suc n) = cond (test (take (suc n) p)) (Some (suc n)) (longest test p n)
 
--- the attributes of q with the event total that g makes of the one there, where it counts forks refused by a
-abbrev pub total_by : (ℕ → ℕ) → Path → Path → Attr → Attr
-total_by g a q attr = record attr { total = cond (counts_for a q) (g attr.total) attr.total }
-
 -- the flat state of these groups and homes
 abbrev pub flat_of : Groups → fin.FinMap nat_cmp Path → State
 flat_of tree home = record { groups = map_values group_of tree; home = home }

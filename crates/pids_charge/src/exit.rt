@@ -17,7 +17,8 @@ use group_path::GroupPath;
 use std::alloc::Allocator;
 
 impl<A: Allocator + Clone, M: Meter> Charges<A, M> {
-    /// Ends a process. Its group is answered. It takes no memory: the path is the table's own.
+    /// Ends a process. Its group is answered. It takes no memory: the path is the table's own. Costs one descent of the
+    /// tree.
     ///
     /// # Errors
     ///
@@ -41,7 +42,7 @@ impl<A: Allocator + Clone, M: Meter> Charges<A, M> {
         Ok(process.home)
     }
 
-    /// Puts a process into a group, charged at the leaf of `who`. No limit is asked.
+    /// Puts a process into a group, charged at the leaf of `who`. No limit is asked. Costs one descent of the tree.
     ///
     /// # Errors
     ///

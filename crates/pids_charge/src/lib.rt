@@ -12,9 +12,10 @@
 //! - Beside each command stands what takes it back without asking any limit: `restore` for a removal, `place` for an exit,
 //!   `place_all` for a kill, `uncount` for a refused fork. A move and a limit are taken back by themselves.
 //! - `exit`, `uncount`, `rmdir`, `set_limit` and the readers take no memory. The table of free slots is made whole by `new`.
-//! - A walk along a path looks each of its groups up from the root, so that a fork, an exit and a move cost
-//!   O(log processes + depth^2 · log children) comparisons; a path has at most 32 names.
+//! - A walk along a path goes down the tree once, so that a fork, an exit and a move cost
+//!   O(log processes + depth · log children) comparisons; a path has at most 32 names.
 //! - Any meter serves that meets the law of `Meter`. `PlainMeter` keeps plain numbers, for one thread.
+//! - `copy_plain` gives the same groups and processes in other memory, over a `PlainMeter`.
 //!
 //! Not promised: which slot a group gets, and in which stripe of a meter an amount stands.
 //!
@@ -23,6 +24,7 @@
 #![tactic(auto)]
 
 mod charges;
+mod copy;
 mod exit;
 mod fault;
 mod fork;

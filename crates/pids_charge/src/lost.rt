@@ -1,11 +1,11 @@
 //! The processes that a kill took.
 
-ghost use Rattle.std.specs.Prelude.{◌≡◌};
-ghost use Rattle.pids_charge.specs.Lists.{rows_of};
+ghost use Rattle.std.specs.Prelude.{◌≡◌, IfOk};
+ghost use Rattle.pids_charge.specs.Lists.{row_of, rows_of};
 
 use crate::pid::Pid;
 use group_path::GroupPath;
-use std::alloc::Allocator;
+use std::alloc::{AllocError, Allocator};
 use std::marker::Model;
 
 /// A process that a kill took, and the group that it was in.
@@ -35,6 +35,31 @@ impl<A: Allocator + Clone> Model for LostList<A> {
     ghost view = { λ l. rows_of l.items.items };
 }
 
+impl<A: Allocator + Clone> Lost<A> {
+    fn copy<B: Allocator + Clone>(&self, alloc: B) -> Result<Lost<B>, AllocError>
+        ensures { IfOk result (λ l. row_of l ≡ row_of self.now) }
+    {
+        Ok(Lost {
+            pid: self.pid,
+            path: self.path.copy(alloc)?,
+        })
+    }
+}
+
+// The same in the same order.
+fn copy_all<A: Allocator + Clone, B: Allocator + Clone>(
+    list: &[Lost<A>],
+    alloc: B,
+) -> Result<Vec<Lost<B>, B>, AllocError>
+    ensures { IfOk result (λ items. rows_of items.items ≡ rows_of list.now) }
+{
+    let mut items = Vec::with_capacity(alloc.clone()?, list.len())?;
+    for lost in list {
+        items.push(lost.copy(alloc.clone()?)?)?;
+    }
+    Ok(items)
+}
+
 impl<A: Allocator + Clone> LostList<A> {
     /// The list of these. It takes no memory.
     pub fn of(items: Vec<Lost<A>, A>) -> LostList<A>
@@ -48,5 +73,13 @@ impl<A: Allocator + Clone> LostList<A> {
         ensures { rows_of result.now ≡ self.now }
     {
         self.items.as_slice()
+    }
+
+    /// The same list in other memory, in time linear in its paths.
+    pub fn copy<B: Allocator + Clone>(&self, alloc: B) -> Result<LostList<B>, AllocError>
+        ensures { IfOk result (λ l. l ≡ self.now) }
+    {
+        let items = copy_all(self.items.as_slice(), alloc)?;
+        Ok(LostList { items })
     }
 }

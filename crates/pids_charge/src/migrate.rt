@@ -16,7 +16,8 @@ use std::alloc::Allocator;
 
 impl<A: Allocator + Clone, M: Meter> Charges<A, M> {
     /// Moves a process to the group, where it is charged at the leaf of `who`. Its old group is answered: the path that the
-    /// table had. No limit is asked.
+    /// table had. No limit is asked. Costs three descents of the tree: one sees that the group is there, one takes the
+    /// charges along the old path, and one makes those along the new.
     ///
     /// # Errors
     ///

@@ -1,46 +1,15 @@
-//! Walks along a path, over the parts of a `Charges`.
+//! Walks along a path, over the parts of a `Charges`: each goes down the tree once.
 
-ghost use Rattle.std.specs.Prelude.{◌≡◌, ℕ, ◌+◌, ◌<◌, ◌≤◌, length, take, Some, IsSome, OnOk};
+ghost use Rattle.std.specs.Prelude.{◌≡◌, ℕ, ◌+◌, ◌<◌, ◌≤◌, length, IsSome, OnOk};
 ghost use Rattle.std.specs.FinMap as fin;
 ghost use Rattle.pids_charge.specs.Content.{tokens_at, IsWithin};
-ghost use Rattle.pids_charge.specs.Recount.{charges_at, slot_at, SlotsBelow};
+ghost use Rattle.pids_charge.specs.Recount.{charges_at, SlotsBelow};
 
 use crate::meter::{HELD_MAX, Meter};
 use group_path::GroupPath;
-use group_tree::{Attr, GroupTree};
+use group_tree::GroupTree;
 use snzi_core::Token;
 use std::alloc::{AllocError, Allocator};
-
-// What the group at the first `n` names of a group's path has.
-pub(crate) fn attr_on<T: Allocator, A: Allocator + Clone>(
-    tree: &GroupTree<T>,
-    path: &GroupPath<A>,
-    n: usize,
-) -> Attr
-    requires at { n ≤ length path.now }
-    requires home { IsSome (fin.get tree.now path.now) }
-    ensures { fin.get tree.now (take n path.now) ≡ Some result }
-{
-    tree.known();
-    let Some(attr) = tree.find_at(path, n) else {
-        unreachable!()
-    };
-    *attr
-}
-
-// The slot of the group at the first `n` names of a group's path.
-fn slot_on<T: Allocator, A: Allocator + Clone>(
-    tree: &GroupTree<T>,
-    path: &GroupPath<A>,
-    n: usize,
-) -> u16
-    requires at { n ≤ length path.now }
-    requires home { IsSome (fin.get tree.now path.now) }
-    ensures slot { result ≡ slot_at tree.now (take n path.now) }
-    ensures there { IsSome (fin.get tree.now (take n path.now)) }
-{
-    attr_on(tree, path, n).slot
-}
 
 // One charge at each group along the path.
 pub(crate) fn charge_along<T: Allocator, M: Meter, A: Allocator + Clone>(
@@ -56,9 +25,9 @@ pub(crate) fn charge_along<T: Allocator, M: Meter, A: Allocator + Clone>(
     ensures content { (s j : ℕ) → M.content meter.new s j ≡ M.content meter.old s j + charges_at tree.now path.now leaf s j }
     ensures held { M.held meter.new ≡ M.held meter.old + length path.now }
 {
-    for n in 0..path.depth() {
-        let slot = slot_on(tree, path, n + 1);
-        meter.charge(slot, leaf);
+    tree.known();
+    for attr in tree.along(path) {
+        meter.charge(attr.slot, leaf);
     }
 }
 
@@ -78,9 +47,9 @@ pub(crate) fn uncharge_along<T: Allocator, M: Meter, A: Allocator + Clone>(
     ensures content { (s j : ℕ) → M.content meter.new s j + charges_at tree.now path.now leaf s j ≡ M.content meter.old s j }
     ensures held { M.held meter.new + length path.now ≡ M.held meter.old }
 {
-    for n in 0..path.depth() {
-        let slot = slot_on(tree, path, n + 1);
-        meter.uncharge(slot, leaf, stripe);
+    tree.known();
+    for attr in tree.along(path) {
+        meter.uncharge(attr.slot, leaf, stripe);
     }
 }
 
@@ -99,8 +68,9 @@ pub(crate) fn push_tokens<M: Meter, T: Allocator, A: Allocator + Clone, B: Alloc
     ensures many { OnOk result (length tokens.new.items ≡ length tokens.old.items + length path.now) }
     ensures within { IsWithin M.SLOTS M.LEAVES tokens.new.items }
 {
-    for n in 0..path.depth() {
-        let slot = slot_on(tree, path, n + 1);
+    tree.known();
+    for attr in tree.along(path) {
+        let slot = attr.slot;
         tokens.push(Token { slot, leaf })?;
     }
     Ok(())

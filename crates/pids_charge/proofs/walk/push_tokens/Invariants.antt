@@ -1,12 +1,16 @@
-use Rattle.std.proofs.Common.{◌≡◌, ℕ, ◌+◌, ◌≤◌, length}
+use Rattle.std.proofs.Common.{◌≡◌, ℕ, ◌+◌, ◌<◌, length}
+use Rattle.std.specs.List.{All}
+use Rattle.group_tree.specs.Along.{along_of}
 use Rattle.pids_charge.specs.Content.{tokens_at, IsWithin}
-use Rattle.pids_charge.specs.Recount.{chain_at}
+use Rattle.pids_charge.proofs.Downward.{charges_in}
 use Rattle.pids_charge.proofs.walk.push_tokens.Given as goal
 
-abbrev pub invariant-loop-n : goal.invariant-loop-n
-invariant-loop-n g l = record {
-  bound : l.n ≤ length l.path;
-  counted : (s j : ℕ) → tokens_at l.tokens.items s j ≡ tokens_at l.fn.tokens.items s j + chain_at l.tree l.path l.n l.leaf s j;
-  many : length l.tokens.items ≡ length l.fn.tokens.items + l.n;
+abbrev pub invariant-loop-attr : goal.invariant-loop-attr
+invariant-loop-attr g l = record {
+  can : (goal.iterator-loop-attr g).can_next l.attr-iterator;
+  finite : (goal.iterator-loop-attr g).is_finite l.attr-iterator;
+  slots : All (λ a. a.slot < g.M.Meter.SLOTS) l.attr-iterator;
+  counted : (s j : ℕ) → tokens_at l.tokens.items s j + charges_in l.attr-iterator l.leaf s j ≡ tokens_at l.fn.tokens.items s j + charges_in (along_of l.tree l.path) l.leaf s j;
+  many : length l.tokens.items + length l.attr-iterator ≡ length l.fn.tokens.items + length l.path;
   within : IsWithin g.M.Meter.SLOTS g.M.Meter.LEAVES l.tokens.items;
 }

@@ -1,4 +1,4 @@
-use Rattle.std.proofs.Common.{◌≡◌, true, false, Option, [], is_some, unwrap_or, option_map, refl, sym, ap, ◌∙◌, arith}
+use Rattle.std.proofs.Common.{◌≡◌, true, false, Option, [], is_some, unwrap_or, option_map, sym, ap, ◌∙◌}
 use Rattle.flat_model.specs.Path.{Path}
 use Rattle.pids_charge.specs.Recount.{state_of}
 use Rattle.pids_charge.proofs.Asked.{home-is, process-is}

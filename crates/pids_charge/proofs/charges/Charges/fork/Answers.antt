@@ -1,4 +1,4 @@
-use Rattle.std.proofs.Common.{◌≡◌, Option, Some, None, IsSome, is_some, take, option_copied, option_map, refl, sym, ap, ◌∙◌, subst, ◌≤◌, length}
+use Rattle.std.proofs.Common.{Some, None, IsSome, is_some, take, option_copied, option_map, refl, sym, ap, ◌∙◌, subst, ◌≤◌, length}
 use Rattle.std.specs.FinMap as fin
 use Rattle.flat_model.specs.Path.{Path}
 use Rattle.flat_model.specs.State.{State}

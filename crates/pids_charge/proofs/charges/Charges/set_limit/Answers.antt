@@ -1,4 +1,4 @@
-use Rattle.std.proofs.Common.{◌≡◌, true, false, Some, is_some, option_copied, refl, sym, ap, ◌∙◌, subst}
+use Rattle.std.proofs.Common.{◌≡◌, true, false, is_some, option_copied, refl, sym, ap, ◌∙◌, subst}
 use Rattle.flat_model.specs.Step.{limit_at}
 use Rattle.group_tree.specs.Flat.{limit_file_of, limit_of}
 use Rattle.group_tree.specs.Groups.{Groups, IsClosed}

@@ -1,0 +1,298 @@
+//! Calls on `Charges` over a plain meter, as rows of a table.
+
+ghost use Rattle.std.specs.Prelude.{ℕ, ◌+◌, ◌≡◌, IfOk};
+ghost use Rattle.flat_model.specs.Events.{HasEventsUpTo};
+ghost use Rattle.pids_charge.specs.Events.{HasRoomForEvents};
+
+use group_path::GroupPath;
+use group_tree::{Limit, LimitFile};
+use pids_charge::{ChargeFault, Charges, Lost, OpenGate, Pid, PlainMeter};
+use std::alloc::Global;
+use std::sync::Wait;
+use std::test::Fail;
+use std::thread::Threads;
+
+pub(crate) type Plain = Charges<Global, PlainMeter<Global>>;
+
+/// A call, with its paths as texts; all are made by who 0.
+#[derive(Clone, Copy)]
+pub(crate) enum Call {
+    Make(&'static str),
+    Remove(&'static str),
+    Set(&'static str, LimitFile, Limit),
+    Move(u32, &'static str),
+    Fork(u32, u32),
+    Exit(u32),
+    Kill(&'static str),
+    Uncount(&'static str),
+    Place(u32, &'static str),
+    PlaceAll(u32, &'static str),
+    Attr(&'static str),
+    Current(&'static str),
+    Populated(&'static str),
+    Descendants(&'static str),
+    Members(&'static str),
+    Home(u32),
+}
+
+/// What it answers.
+#[derive(Clone, Copy, PartialEq, Eq)]
+pub(crate) enum Answer {
+    Done,
+    /// So many bytes has the path that is answered.
+    Path(usize),
+    Old(Limit),
+    Refused(ChargeFault),
+    /// The local total and the total.
+    Totals(u64, u64),
+    Number(u64),
+    Flag(bool),
+    /// There is nothing to answer, or the call may not be made now.
+    Nothing,
+}
+
+fn path(alloc: Global, text: &str) -> Result<GroupPath<Global>, Fail> {
+    Ok(GroupPath::read(alloc, text.as_bytes())?)
+}
+
+fn pid(number: u32) -> Pid {
+    match Pid::new(number) {
+        Some(pid) => pid,
+        None => match Pid::new(1) {
+            Some(pid) => pid,
+            None => unreachable!(),
+        },
+    }
+}
+
+fn done(made: Result<(), ChargeFault>) -> Answer {
+    match made {
+        Ok(()) => Answer::Done,
+        Err(fault) => Answer::Refused(fault),
+    }
+}
+
+fn path_answered(left: Result<GroupPath<Global>, ChargeFault>) -> Answer {
+    match left {
+        Ok(path) => Answer::Path(path.text().len()),
+        Err(fault) => Answer::Refused(fault),
+    }
+}
+
+fn make(charges: &mut Plain, path: &GroupPath<Global>) -> Answer
+    ensures up { (n : ℕ) → HasEventsUpTo n charges.old → HasEventsUpTo (n + 1) charges.new }
+{
+    done(charges.mkdir(path))
+}
+
+fn remove(charges: &mut Plain, path: &GroupPath<Global>) -> Answer
+    ensures up { (n : ℕ) → HasEventsUpTo n charges.old → HasEventsUpTo (n + 1) charges.new }
+{
+    match charges.rmdir(path) {
+        Ok(_attr) => Answer::Done,
+        Err(fault) => Answer::Refused(fault),
+    }
+}
+
+fn set(charges: &mut Plain, path: &GroupPath<Global>, file: LimitFile, limit: Limit) -> Answer
+    ensures up { (n : ℕ) → HasEventsUpTo n charges.old → HasEventsUpTo (n + 1) charges.new }
+{
+    match charges.set_limit(path, file, limit) {
+        Ok(old) => Answer::Old(old),
+        Err(fault) => Answer::Refused(fault),
+    }
+}
+
+fn migrate(charges: &mut Plain, who: u32, path: &GroupPath<Global>) -> Answer
+    ensures up { (n : ℕ) → HasEventsUpTo n charges.old → HasEventsUpTo (n + 1) charges.new }
+{
+    path_answered(charges.migrate(0, pid(who), path))
+}
+
+fn fork(charges: &mut Plain, parent: u32, child: u32) -> Answer
+    requires { HasRoomForEvents charges.old }
+    ensures up { (n : ℕ) → HasEventsUpTo n charges.old → HasEventsUpTo (n + 1) charges.new }
+{
+    done(charges.fork(0, pid(parent), pid(child)))
+}
+
+fn exit(charges: &mut Plain, who: u32) -> Answer
+    ensures up { (n : ℕ) → HasEventsUpTo n charges.old → HasEventsUpTo (n + 1) charges.new }
+{
+    path_answered(charges.exit(0, pid(who)))
+}
+
+fn kill<R: Threads + Wait + Sync>(rt: &R, charges: &mut Plain, path: &GroupPath<Global>) -> Answer
+    ensures up { (n : ℕ) → HasEventsUpTo n charges.old → HasEventsUpTo (n + 1) charges.new }
+{
+    match charges.kill(rt, &OpenGate, 0, path) {
+        Ok(list) => Answer::Number(list.as_slice().len() as u64),
+        Err(fault) => Answer::Refused(fault),
+    }
+}
+
+/// At a group below the root alone, whose totals are the only ones.
+fn uncount(charges: &mut Plain, path: &GroupPath<Global>) -> Answer
+    ensures up { (n : ℕ) → HasEventsUpTo n charges.old → HasEventsUpTo (n + 1) charges.new }
+{
+    if path.depth() != 1 {
+        return Answer::Nothing;
+    }
+    let Some(attr) = charges.attr(path) else {
+        return Answer::Nothing;
+    };
+    let counted = attr.local.min(attr.total);
+    if counted == 0 {
+        return Answer::Nothing;
+    }
+    charges.uncount(path);
+    Answer::Done
+}
+
+fn place(charges: &mut Plain, who: u32, path: &GroupPath<Global>) -> Answer
+    ensures up { (n : ℕ) → HasEventsUpTo n charges.old → HasEventsUpTo (n + 1) charges.new }
+{
+    let pid = pid(who);
+    if charges.attr(path).is_none() || charges.home(pid).is_some() {
+        return Answer::Nothing;
+    }
+    done(charges.place(0, pid, path))
+}
+
+fn place_all<R: Threads + Wait + Sync>(
+    rt: &R,
+    charges: &mut Plain,
+    who: u32,
+    path: GroupPath<Global>,
+) -> Answer
+    ensures up { (n : ℕ) → HasEventsUpTo n charges.old → HasEventsUpTo (n + 1) charges.new }
+{
+    let pid = pid(who);
+    if charges.attr(&path).is_none() || charges.home(pid).is_some() {
+        return Answer::Nothing;
+    }
+    done(charges.place_all(rt, &OpenGate, 0, &[Lost { pid, path }]))
+}
+
+fn attr(charges: &Plain, path: &GroupPath<Global>) -> Answer {
+    match charges.attr(path) {
+        Some(attr) => Answer::Totals(attr.local, attr.total),
+        None => Answer::Nothing,
+    }
+}
+
+fn number(n: Option<u64>) -> Answer {
+    match n {
+        Some(n) => Answer::Number(n),
+        None => Answer::Nothing,
+    }
+}
+
+fn flag(is: Option<bool>) -> Answer {
+    match is {
+        Some(is) => Answer::Flag(is),
+        None => Answer::Nothing,
+    }
+}
+
+fn members(alloc: Global, charges: &Plain, path: &GroupPath<Global>) -> Result<Answer, Fail> {
+    match charges.members(alloc, path)? {
+        Some(pids) => Ok(Answer::Number(pids.len() as u64)),
+        None => Ok(Answer::Nothing),
+    }
+}
+
+fn home(charges: &Plain, who: u32) -> Answer {
+    match charges.home(pid(who)) {
+        Some(path) => Answer::Path(path.text().len()),
+        None => Answer::Nothing,
+    }
+}
+
+/// Makes one call.
+#[tactic(auto, using(crate::proofs::UpTo::up_more))]
+fn make_call<R: Threads + Wait + Sync>(
+    rt: &R,
+    alloc: Global,
+    charges: &mut Plain,
+    call: Call,
+) -> Result<Answer, Fail>
+    requires { HasRoomForEvents charges.old }
+    ensures up { (n : ℕ) → HasEventsUpTo n charges.old → HasEventsUpTo (n + 1) charges.new }
+{
+    match call {
+        Call::Fork(parent, child) => Ok(fork(charges, parent, child)),
+        Call::Exit(who) => Ok(exit(charges, who)),
+        Call::Home(who) => Ok(home(charges, who)),
+        Call::Make(text) => {
+            let path = path(alloc, text)?;
+            Ok(make(charges, &path))
+        }
+        Call::Remove(text) => {
+            let path = path(alloc, text)?;
+            Ok(remove(charges, &path))
+        }
+        Call::Set(text, file, limit) => {
+            let path = path(alloc, text)?;
+            Ok(set(charges, &path, file, limit))
+        }
+        Call::Move(who, text) => {
+            let path = path(alloc, text)?;
+            Ok(migrate(charges, who, &path))
+        }
+        Call::Kill(text) => {
+            let path = path(alloc, text)?;
+            Ok(kill(rt, charges, &path))
+        }
+        Call::Uncount(text) => {
+            let path = path(alloc, text)?;
+            Ok(uncount(charges, &path))
+        }
+        Call::Place(who, text) => {
+            let path = path(alloc, text)?;
+            Ok(place(charges, who, &path))
+        }
+        Call::PlaceAll(who, text) => {
+            let path = path(alloc, text)?;
+            Ok(place_all(rt, charges, who, path))
+        }
+        Call::Attr(text) => {
+            let path = path(alloc, text)?;
+            Ok(attr(charges, &path))
+        }
+        Call::Current(text) => {
+            let path = path(alloc, text)?;
+            Ok(number(charges.current(&path)))
+        }
+        Call::Populated(text) => {
+            let path = path(alloc, text)?;
+            Ok(flag(charges.populated(&path)))
+        }
+        Call::Descendants(text) => {
+            let path = path(alloc, text)?;
+            Ok(number(charges.descendants(&path)))
+        }
+        Call::Members(text) => {
+            let path = path(alloc, text)?;
+            members(alloc, charges, &path)
+        }
+    }
+}
+
+/// Makes the calls in turn on new charges, and answers the place of the first whose answer is another than its row's.
+pub(crate) fn first_wrong<R: Threads + Wait + Sync>(
+    rt: &R,
+    alloc: Global,
+    rows: &[(Call, Answer)],
+) -> Result<Option<usize>, Fail> {
+    let meter = PlainMeter::new(alloc)?;
+    let mut charges = Charges::new(alloc, meter)?;
+    for i in 0..rows.len() {
+        let (row, wanted) = rows[i];
+        let answer = make_call(rt, alloc, &mut charges, row)?;
+        if answer != wanted {
+            return Ok(Some(i));
+        }
+    }
+    Ok(None)
+}

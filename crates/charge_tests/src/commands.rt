@@ -1,0 +1,120 @@
+//! Sequences of calls on `Charges`, with the answers of the rules.
+
+use crate::calls::{Answer, Call, first_wrong};
+use group_tree::{Limit, LimitFile};
+use pids_charge::ChargeFault;
+use std::test::Fail;
+
+/// A fork that the limit of the group above blocks, and what takes its count back; refusals in their order.
+#[test]
+fn a_blocked_fork(rt: HostRuntime) -> Result<(), Fail> {
+    let rows = [
+        (Call::Make("/a"), Answer::Done),
+        (Call::Make("/a/b"), Answer::Done),
+        (
+            Call::Set("/a", LimitFile::PidsMax, Limit::At(1)),
+            Answer::Old(Limit::Unlimited),
+        ),
+        // Its old group is the root, `/`.
+        (Call::Move(1, "/a/b"), Answer::Path(1)),
+        (Call::Fork(1, 2), Answer::Refused(ChargeFault::PidsMax(1))),
+        (Call::Attr("/a"), Answer::Totals(1, 1)),
+        (Call::Attr("/a/b"), Answer::Totals(0, 0)),
+        (Call::Uncount("/a"), Answer::Done),
+        (Call::Attr("/a"), Answer::Totals(0, 0)),
+        (
+            Call::Set("/", LimitFile::PidsMax, Limit::At(1)),
+            Answer::Refused(ChargeFault::NoFile),
+        ),
+        (
+            Call::Remove("/a"),
+            Answer::Refused(ChargeFault::HasChildren),
+        ),
+        (
+            Call::Remove("/a/b"),
+            Answer::Refused(ChargeFault::HasProcesses),
+        ),
+        (Call::Current("/a"), Answer::Number(1)),
+        (Call::Current("/"), Answer::Nothing),
+        (Call::Descendants("/"), Answer::Number(2)),
+    ];
+    assert!(rt; first_wrong(&rt, rt.alloc(), &rows)? == None);
+    Ok(())
+}
+
+/// A limit below what there is blocks no move, and each fork; the nearest full group is named.
+#[test]
+fn a_limit_below_what_there_is(rt: HostRuntime) -> Result<(), Fail> {
+    let rows = [
+        (Call::Make("/a"), Answer::Done),
+        (Call::Make("/a/b"), Answer::Done),
+        (Call::Fork(1, 2), Answer::Done),
+        (Call::Fork(2, 3), Answer::Done),
+        (
+            Call::Set("/a/b", LimitFile::PidsMax, Limit::At(1)),
+            Answer::Old(Limit::Unlimited),
+        ),
+        (Call::Move(1, "/a/b"), Answer::Path(1)),
+        (Call::Move(2, "/a/b"), Answer::Path(1)),
+        (
+            Call::Set("/a", LimitFile::PidsMax, Limit::At(0)),
+            Answer::Old(Limit::Unlimited),
+        ),
+        (Call::Move(3, "/a/b"), Answer::Path(1)),
+        (Call::Current("/a"), Answer::Number(3)),
+        (Call::Fork(3, 4), Answer::Refused(ChargeFault::PidsMax(2))),
+        (Call::Attr("/a/b"), Answer::Totals(1, 1)),
+        (Call::Attr("/a"), Answer::Totals(0, 1)),
+        (Call::Attr("/"), Answer::Totals(0, 0)),
+        (
+            Call::Set("/a/b", LimitFile::PidsMax, Limit::Unlimited),
+            Answer::Old(Limit::At(1)),
+        ),
+        (Call::Fork(3, 4), Answer::Refused(ChargeFault::PidsMax(1))),
+        (Call::Attr("/a/b"), Answer::Totals(1, 1)),
+        (Call::Attr("/a"), Answer::Totals(1, 2)),
+        (Call::Move(3, "/a"), Answer::Path(4)),
+        (Call::Current("/a/b"), Answer::Number(2)),
+    ];
+    assert!(rt; first_wrong(&rt, rt.alloc(), &rows)? == None);
+    Ok(())
+}
+
+/// Exits and kills, and what puts the processes back.
+#[test]
+fn ends_and_returns(rt: HostRuntime) -> Result<(), Fail> {
+    let rows = [
+        (Call::Make("/a"), Answer::Done),
+        (Call::Make("/a/b"), Answer::Done),
+        (Call::Make("/a/b"), Answer::Refused(ChargeFault::Exists)),
+        (Call::Make("/x/y"), Answer::Refused(ChargeFault::NoGroup(1))),
+        (Call::Populated("/a"), Answer::Flag(false)),
+        (Call::Fork(1, 2), Answer::Done),
+        (Call::Fork(1, 3), Answer::Done),
+        (Call::Move(2, "/a"), Answer::Path(1)),
+        (Call::Move(3, "/a/b"), Answer::Path(1)),
+        (Call::Populated("/a/b"), Answer::Flag(true)),
+        (Call::Populated("/"), Answer::Nothing),
+        (Call::Members("/a"), Answer::Number(1)),
+        (Call::Members("/"), Answer::Number(1)),
+        (Call::Members("/x"), Answer::Nothing),
+        (Call::Kill("/"), Answer::Refused(ChargeFault::NoFile)),
+        (Call::Kill("/a"), Answer::Number(2)),
+        (Call::Current("/a"), Answer::Number(0)),
+        (Call::Home(3), Answer::Nothing),
+        (Call::PlaceAll(3, "/a/b"), Answer::Done),
+        (Call::Home(3), Answer::Path(4)),
+        (Call::Current("/a"), Answer::Number(1)),
+        (Call::Exit(3), Answer::Path(4)),
+        (Call::Current("/a/b"), Answer::Number(0)),
+        (Call::Place(3, "/a/b"), Answer::Done),
+        (Call::Current("/a/b"), Answer::Number(1)),
+        (Call::Exit(3), Answer::Path(4)),
+        (Call::Remove("/a/b"), Answer::Done),
+        (Call::Remove("/a"), Answer::Done),
+        (Call::Remove("/"), Answer::Refused(ChargeFault::RootFixed)),
+        (Call::Descendants("/"), Answer::Number(0)),
+    ];
+    assert!(rt; first_wrong(&rt, rt.alloc(), &rows)? == None);
+    Ok(())
+}

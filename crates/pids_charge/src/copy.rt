@@ -1,0 +1,109 @@
+//! Charges copied into other memory, over plain numbers.
+
+ghost use Rattle.std.specs.Prelude.{◌≡◌, ℕ, ◌+◌, ◌%◌, ◌≤◌, IfOk, OnOk, IsSome, length, map};
+ghost use Rattle.std.specs.List.{All, sum_by};
+ghost use Rattle.std.specs.Map.{values_of};
+ghost use Rattle.std.specs.Ordering.{nat_cmp};
+ghost use Rattle.std.specs.BTreeMap.{insert_entry};
+ghost use Rattle.std.specs.FinMap as fin;
+ghost use Rattle.std.specs.Vec.{vec_capacity};
+ghost use Rattle.pids_charge.specs.Lists.{at_leaf_below, row_below};
+ghost use Rattle.pids_charge.specs.Recount.{charges_at, SlotsBelow};
+
+use crate::charges::Charges;
+use crate::meter::{HELD_MAX, Meter};
+use crate::pid::Pid;
+use crate::plain::PlainMeter;
+use crate::process::Process;
+use crate::walk::charge_along;
+use group_tree::GroupTree;
+use std::alloc::{AllocError, Allocator};
+use std::collections::BTreeMap;
+
+// The same slots in the same order, in a table that holds as many as there are slots.
+fn copy_slots<A: Allocator, B: Allocator>(
+    free: &Vec<u16, A>,
+    alloc: B,
+    slots: u16,
+) -> Result<Vec<u16, B>, AllocError>
+    ensures items { IfOk result (λ table. table.items ≡ free.now.items) }
+    ensures room { IfOk result (λ table. slots ≤ vec_capacity table) }
+{
+    let mut table = Vec::with_capacity(alloc, usize::from(slots))?;
+    table.extend_from_slice(free.as_slice())?;
+    Ok(table)
+}
+
+// One process put into a table, charged along its path at its leaf modulo the leaves of the meter.
+fn copy_one<T: Allocator, M: Meter, A: Allocator + Clone, B: Allocator + Clone>(
+    tree: &GroupTree<T>,
+    table: &mut BTreeMap<Pid, Process<B>, B>,
+    meter: &mut M,
+    alloc: B,
+    pid: Pid,
+    process: &Process<A>,
+) -> Result<(), AllocError>
+    requires home { IsSome (fin.get tree.now process.now.home) }
+    requires slots { SlotsBelow M.SLOTS tree.now }
+    requires room { M.held meter.old + length process.now.home ≤ HELD_MAX }
+    ensures put { OnOk result (table.new.entries ≡ insert_entry nat_cmp table.old.entries pid (at_leaf_below M.LEAVES process.now)) }
+    ensures content { OnOk result ((s j : ℕ) → M.content meter.new s j ≡ M.content meter.old s j + charges_at tree.now process.now.home (process.now.leaf % M.LEAVES) s j) }
+    ensures held { OnOk result (M.held meter.new ≡ M.held meter.old + length process.now.home) }
+{
+    let leaf = process.leaf % M::LEAVES;
+    let home = process.home.copy(alloc)?;
+    charge_along(tree, meter, &process.home, leaf);
+    let _ = table.insert(pid, Process { home, leaf })?;
+    Ok(())
+}
+
+// All processes put into a table, each charged so.
+fn copy_each<T: Allocator, M: Meter, A: Allocator + Clone, B: Allocator + Clone>(
+    tree: &GroupTree<T>,
+    processes: &BTreeMap<Pid, Process<A>, A>,
+    meter: &mut M,
+    alloc: B,
+) -> Result<BTreeMap<Pid, Process<B>, B>, AllocError>
+    requires homes { All (λ p. IsSome (fin.get tree.now p.home)) (values_of processes.now.entries) }
+    requires slots { SlotsBelow M.SLOTS tree.now }
+    requires room { M.held meter.old + sum_by (λ p. length p.home) (values_of processes.now.entries) ≤ HELD_MAX }
+    ensures rows { IfOk result (λ table. table.entries ≡ map (row_below M.LEAVES) processes.now.entries) }
+    ensures content { IfOk result (λ table. (s j : ℕ) → M.content meter.new s j ≡ M.content meter.old s j + sum_by (λ p. charges_at tree.now p.home (p.leaf % M.LEAVES) s j) (values_of processes.now.entries)) }
+    ensures held { IfOk result (λ table. M.held meter.new ≡ M.held meter.old + sum_by (λ p. length p.home) (values_of processes.now.entries)) }
+{
+    let _ = processes.len();
+    let mut table = BTreeMap::new(alloc.clone()?);
+    for (pid, process) in processes {
+        copy_one(tree, &mut table, meter, alloc.clone()?, *pid, process)?;
+    }
+    Ok(table)
+}
+
+impl<A: Allocator + Clone, M: Meter> Charges<A, M> {
+    /// The same groups and processes in other memory, over plain numbers, each process charged along
+    /// its path at its leaf modulo the copy's leaves. The meter must have as many slots as the
+    /// copy's. It goes over all groups and processes; each process costs one descent of the tree.
+    ///
+    /// # Errors
+    ///
+    /// `AllocError` where there was no memory for the copy.
+    pub fn copy_plain<B: Allocator + Clone>(
+        &self,
+        alloc: B,
+    ) -> Result<Charges<B, PlainMeter<B>>, AllocError>
+        requires { M.SLOTS ≡ ⟦<PlainMeter<B> as Meter>⟧.SLOTS }
+        ensures { IfOk result (λ c. c ≡ self.now) }
+    {
+        let tree = self.tree.copy(alloc.clone()?)?;
+        let free = copy_slots(&self.free, alloc.clone()?, M::SLOTS)?;
+        let mut meter = PlainMeter::new(alloc.clone()?)?;
+        let processes = copy_each(&tree, &self.processes, &mut meter, alloc.clone()?)?;
+        Ok(Charges {
+            tree,
+            processes,
+            free,
+            meter,
+            alloc,
+        })
+    }
+}
