@@ -1,0 +1,5 @@
+pub mod Words
+pub mod Tokens
+pub mod Excess
+pub mod Roles
+pub mod Fanned

@@ -1,0 +1,71 @@
+//! One part of a settlement, with one hand.
+ghost use Rattle.std.specs.Prelude.{◌≡◌, ℕ, ◌+◌, ◌<◌, ◌≤◌, length};
+ghost use Rattle.snzi_core.specs.Holding.{held};
+ghost use Rattle.snzi_tree.specs.Contents.{content_of};
+ghost use Rattle.snzi_tree.specs.Hands.{IsHandOf, holds, SameHand};
+ghost use Rattle.pids_charge.specs.Content.{tokens_at, IsWithin};
+ghost use Rattle.board_meter.specs.Held.{CanSettle, InStep, Settled};
+
+use crate::charges::{charge, uncharge};
+use pids_charge::{Gate, HELD_MAX, Token};
+use snzi_tree::{Board, Hand};
+
+// The charges go, in turn.
+fn uncharge_all<const G: usize, const W: usize, const L: usize>(
+    board: &Board<G, W, L>,
+    hand: &mut Hand,
+    stripe: u8,
+    leaving: &[Token],
+)
+    requires here { IsHandOf board.now hand.old }
+    requires place { IsWithin G L leaving.now × (stripe < L) }
+    requires charged { (s j : ℕ) → tokens_at leaving.now s j ≤ content_of W L (holds hand.old) s j }
+    ensures hand { SameHand hand.old hand.new }
+    ensures content { (s j : ℕ) → content_of W L (holds hand.new) s j + tokens_at leaving.now s j ≡ content_of W L (holds hand.old) s j }
+    ensures held { held (holds hand.new) + length leaving.now ≡ held (holds hand.old) }
+    ensures in_step { InStep W L (holds hand.old) (holds hand.new) }
+{
+    for token in leaving {
+        uncharge(board, hand, *token, stripe);
+    }
+}
+
+// The charges come, in turn.
+fn charge_all<const G: usize, const W: usize, const L: usize>(
+    board: &Board<G, W, L>,
+    hand: &mut Hand,
+    arriving: &[Token],
+)
+    requires here { IsHandOf board.now hand.old }
+    requires place { IsWithin G L arriving.now }
+    requires room { held (holds hand.old) + length arriving.now ≤ HELD_MAX }
+    ensures hand { SameHand hand.old hand.new }
+    ensures content { (s j : ℕ) → content_of W L (holds hand.new) s j ≡ content_of W L (holds hand.old) s j + tokens_at arriving.now s j }
+    ensures held { held (holds hand.new) ≡ held (holds hand.old) + length arriving.now }
+    ensures in_step { InStep W L (holds hand.old) (holds hand.new) }
+{
+    for token in arriving {
+        charge(board, hand, *token);
+    }
+}
+
+/// Passes the gate; then the leaving charges go before the arriving ones come.
+pub(crate) fn do_part<const G: usize, const W: usize, const L: usize, A: Gate>(
+    board: &Board<G, W, L>,
+    hand: &mut Hand,
+    gate: &A,
+    part: u8,
+    stripe: u8,
+    leaving: &[Token],
+    arriving: &[Token],
+)
+    requires here { IsHandOf board.now hand.old }
+    requires part { (1 ≤ part) × (part ≤ 24) }
+    requires can { CanSettle G W L stripe leaving.now arriving.now (holds hand.old) }
+    ensures hand { SameHand hand.old hand.new }
+    ensures settled { Settled W L leaving.now arriving.now (holds hand.old) (holds hand.new) }
+{
+    gate.pass(part);
+    uncharge_all(board, hand, stripe, leaving);
+    charge_all(board, hand, arriving);
+}

@@ -1,0 +1,126 @@
+//! The two parts of a settlement run beside each other.
+ghost use Rattle.std.specs.Prelude.{◌≡◌, ◌≤◌, length};
+ghost use Rattle.pids_charge.specs.Content.{IsWithin};
+
+use crate::swap::{counts, fits};
+use board_meter::BoardMeter;
+use pids_charge::{Gate, Meter, Token};
+use std::alloc::{AllocError, Global};
+use std::sync::atomic::{AtomicBool, Ordering};
+use std::test::Fail;
+use std::thread::Threads;
+
+// A part reads the other's flag as often at most.
+const TURNS: u32 = 100_000_000;
+
+// A gate at which each of two parts sets its flag and waits for the other's, for a bounded time.
+#[derive(Drop)]
+struct Meeting {
+    first: AtomicBool,
+    second: AtomicBool,
+    missed: AtomicBool,
+}
+
+impl Meeting {
+    fn new() -> Meeting {
+        Meeting {
+            first: AtomicBool::new(false),
+            second: AtomicBool::new(false),
+            missed: AtomicBool::new(false),
+        }
+    }
+
+    // Sets one flag and reads another until it is set.
+    fn meet(&self, own: &AtomicBool, other: &AtomicBool) {
+        own.store(true, Ordering::SeqCst);
+        for _turn in 0..TURNS {
+            if other.load(Ordering::SeqCst) {
+                return;
+            }
+        }
+        self.missed.store(true, Ordering::SeqCst);
+    }
+
+    // Whether both parts came, and neither missed the other.
+    fn met(&self) -> bool {
+        let both = self.first.load(Ordering::SeqCst) && self.second.load(Ordering::SeqCst);
+        both && !self.missed.load(Ordering::SeqCst)
+    }
+}
+
+impl Gate for Meeting {
+    fn pass(&self, part: u8) {
+        if part == 1 {
+            self.meet(&self.first, &self.second);
+        } else {
+            self.meet(&self.second, &self.first);
+        }
+    }
+}
+
+// What a settlement there and one back show: whether the parts met in both, and what there is at
+// slots 0, 1 and 255 after the first and after the second.
+#[derive(Clone, Copy, PartialEq, Eq)]
+struct Seen {
+    met: [bool; 2],
+    there: [u64; 3],
+    back: [u64; 3],
+}
+
+// A new meter; the tokens come by one settlement and go by another, each through a gate of its own.
+fn there_and_back<R: Threads>(rt: &R, alloc: Global, tokens: &[Token]) -> Result<Seen, AllocError>
+    requires within { IsWithin 256 4 tokens.now }
+    requires few { length tokens.now ≤ 1000 }
+{
+    let mut meter = BoardMeter::new(alloc)?;
+    let one = Meeting::new();
+    meter.settle(rt, &one, 0, &[], tokens);
+    let there = counts(&mut meter);
+    let other = Meeting::new();
+    meter.settle(rt, &other, 1, tokens, &[]);
+    let back = counts(&mut meter);
+    Ok(Seen {
+        met: [one.met(), other.met()],
+        there,
+        back,
+    })
+}
+
+// The first tokens of those.
+fn first(tokens: &[Token], number: usize) -> &[Token] {
+    &tokens[..number.min(tokens.len())]
+}
+
+const TOKENS: [Token; 9] = [
+    Token { slot: 0, leaf: 0 },
+    Token { slot: 1, leaf: 1 },
+    Token { slot: 0, leaf: 2 },
+    Token { slot: 1, leaf: 3 },
+    Token { slot: 0, leaf: 0 },
+    Token { slot: 1, leaf: 1 },
+    Token { slot: 0, leaf: 2 },
+    Token { slot: 1, leaf: 3 },
+    Token { slot: 0, leaf: 0 },
+];
+
+// With no token, and with one, a part or both have nothing to do and pass the gate all the same.
+#[test]
+fn the_two_parts_meet(rt: HostRuntime) -> Result<(), Fail> {
+    for (number, there) in [
+        (0, [0, 0, 0]),
+        (1, [1, 0, 0]),
+        (2, [1, 1, 0]),
+        (9, [5, 4, 0]),
+    ] {
+        let tokens = first(&TOKENS, number);
+        assert!(rt; fits(tokens));
+        let seen = there_and_back(&rt, rt.alloc(), tokens)?;
+        let wanted = Seen {
+            met: [true, true],
+            there,
+            back: [0, 0, 0],
+        };
+        assert!(rt; seen == wanted);
+    }
+    Ok(())
+}

@@ -1,0 +1,80 @@
+//! The charges of one list go and those of another come, by single calls or by a settlement.
+ghost use Rattle.std.specs.Prelude.{◌≡◌, ℕ, ◌+◌, ◌<◌, ◌≤◌, length, IsTrue};
+ghost use Rattle.pids_charge.specs.Content.{tokens_at, IsWithin};
+ghost use Rattle.board_tests.specs.Tokens.{Holds};
+
+use pids_charge::{HELD_MAX, Meter, OpenGate, Token};
+use std::thread::Threads;
+
+/// Whether the tokens are at slots below 256 and leaves below 4, and a thousand at most.
+pub(crate) fn fits(tokens: &[Token]) -> bool
+    ensures within { IsTrue result → IsWithin 256 4 tokens.now }
+    ensures few { IsTrue result → length tokens.now ≤ 1000 }
+{
+    tokens.len() <= 1000 && tokens.iter().all(|t| t.slot < 256 && t.leaf < 4)
+}
+
+// Each charge goes by a call of its own.
+fn uncharge_each<M: Meter>(meter: &mut M, stripe: u8, leaving: &[Token])
+    requires within { IsWithin M.SLOTS M.LEAVES leaving.now }
+    requires stripe { stripe < M.LEAVES }
+    requires charged { (s j : ℕ) → tokens_at leaving.now s j ≤ M.content meter.old s j }
+    ensures content { (s j : ℕ) → M.content meter.new s j + tokens_at leaving.now s j ≡ M.content meter.old s j }
+    ensures held { M.held meter.new + length leaving.now ≡ M.held meter.old }
+{
+    for token in leaving {
+        meter.uncharge(token.slot, token.leaf, stripe);
+    }
+}
+
+// Each charge comes by a call of its own.
+fn charge_each<M: Meter>(meter: &mut M, arriving: &[Token])
+    requires within { IsWithin M.SLOTS M.LEAVES arriving.now }
+    requires room { M.held meter.old + length arriving.now ≤ HELD_MAX }
+    ensures content { (s j : ℕ) → M.content meter.new s j ≡ M.content meter.old s j + tokens_at arriving.now s j }
+    ensures held { M.held meter.new ≡ M.held meter.old + length arriving.now }
+{
+    for token in arriving {
+        meter.charge(token.slot, token.leaf);
+    }
+}
+
+/// How charges go and come: each by a call, or all by a settlement.
+#[derive(Clone, Copy)]
+pub(crate) enum Way {
+    Calls,
+    Settlement,
+}
+
+/// The leaving charges, which are all that there are, go and the arriving ones come.
+pub(crate) fn swap<R: Threads, M: Meter>(
+    rt: &R,
+    meter: &mut M,
+    way: Way,
+    stripe: u8,
+    leaving: &[Token],
+    arriving: &[Token],
+)
+    requires within { IsWithin M.SLOTS M.LEAVES leaving.now × IsWithin M.SLOTS M.LEAVES arriving.now }
+    requires stripe { stripe < M.LEAVES }
+    requires few { (length leaving.now ≤ 1000) × (length arriving.now ≤ 1000) }
+    requires held { Holds leaving.now (M.content meter.old) (M.held meter.old) }
+    ensures held { Holds arriving.now (M.content meter.new) (M.held meter.new) }
+{
+    match way {
+        Way::Calls => {
+            uncharge_each(meter, stripe, leaving);
+            charge_each(meter, arriving);
+        }
+        Way::Settlement => meter.settle(rt, &OpenGate, stripe, leaving, arriving),
+    }
+}
+
+/// The numbers at slots 0, 1 and 255.
+pub(crate) fn counts<M: Meter>(meter: &mut M) -> [u64; 3]
+    requires { 255 < M.SLOTS }
+    ensures content { M.content meter.new ≡ M.content meter.old }
+    ensures held { M.held meter.new ≡ M.held meter.old }
+{
+    [meter.current(0), meter.current(1), meter.current(255)]
+}
