@@ -1,0 +1,46 @@
+//! `/proc/PID/cgroup`: where a process is.
+
+ghost use Rattle.std.specs.Prelude.{◌≡◌, ◌++◌, IfOk, codes};
+ghost use Rattle.flat_model.specs.FileText.{line};
+ghost use Rattle.flat_model.specs.PathText.{path_text};
+ghost use Rattle.interface_files.specs.Shown.{ShowsHome};
+
+use crate::fault::ShowFault;
+use group_path::GroupPath;
+use pids_charge::{Charges, Meter, Pid};
+use std::alloc::{AllocError, Allocator};
+
+// The line of a process whose group is at the path.
+fn home_line<B: Allocator, P: Allocator + Clone>(
+    alloc: B,
+    home: &GroupPath<P>,
+) -> Result<Vec<u8, B>, AllocError>
+    ensures { IfOk result (λ text. text.items ≡ line (codes "0::" ++ path_text home.now)) }
+{
+    let mut text = Vec::from_slice(alloc, b"0::")?;
+    text.extend_from_slice(home.text())?;
+    text.extend_from_slice(b"\n")?;
+    Ok(text)
+}
+
+/// What `/proc/PID/cgroup` says of a process: `0::`, the path of its group, and a line feed. It costs
+/// O(log processes) and the path's length.
+///
+/// # Errors
+///
+/// `NoProcess`, and then `OutOfMemory`.
+pub fn render_home<A: Allocator + Clone, M: Meter, B: Allocator>(
+    alloc: B,
+    charges: &Charges<A, M>,
+    pid: Pid,
+) -> Result<Vec<u8, B>, ShowFault>
+    ensures { ShowsHome M.SLOTS charges.now pid result }
+{
+    let Some(home) = charges.home(pid) else {
+        return Err(ShowFault::NoProcess);
+    };
+    match home_line(alloc, home) {
+        Ok(text) => Ok(text),
+        Err(_) => Err(ShowFault::OutOfMemory),
+    }
+}

@@ -1,0 +1,38 @@
+//! The values that are written to `cgroup.procs` and `cgroup.kill`.
+
+ghost use Rattle.std.specs.Prelude.{◌≡◌};
+ghost use Rattle.flat_model.specs.Refuse.{map_ok};
+ghost use Rattle.flat_model.specs.Values.{read_pid, read_kill};
+ghost use Rattle.interface_files.specs.Meaning.{reading_of};
+
+use crate::fault::ValueFault;
+use crate::number::{read_number, trimmed};
+use pids_charge::{PID_MAX, Pid};
+
+/// Reads the number of a process: decimal digits without a leading zero, from 1 to `PID_MAX`, and blanks, tabs, line
+/// feeds and carriage returns at both ends. It takes no memory.
+///
+/// # Errors
+///
+/// The first that holds, in the order of `ValueFault`.
+pub fn read_pid(text: &[u8]) -> Result<Pid, ValueFault>
+    ensures { reading_of result ≡ read_pid text.now }
+{
+    let number = read_number(trimmed(text), 1, PID_MAX)?;
+    match Pid::new(number) {
+        Some(pid) => Ok(pid),
+        None => Err(ValueFault::OutOfRange),
+    }
+}
+
+/// Reads the one value of `cgroup.kill`: `1`, and spaces at both ends as for a pid. It takes no memory.
+///
+/// # Errors
+///
+/// The first that holds, in the order of `ValueFault`.
+pub fn read_kill(text: &[u8]) -> Result<(), ValueFault>
+    ensures { reading_of result ≡ map_ok (λ _. tt) (read_kill text.now) }
+{
+    let _ = read_number(trimmed(text), 1, 1)?;
+    Ok(())
+}
