@@ -1,8 +1,11 @@
 mod Fronts
 mod Histories
 mod Totals
+mod Killing
 mod Ready
 mod Undos
 mod Newest
 mod Undone
+mod Alls
 mod Answering
+mod Copies

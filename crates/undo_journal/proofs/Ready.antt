@@ -1,11 +1,11 @@
 -- A record that a step left can be taken back.
-use Rattle.std.proofs.Common.{◌≡◌, ◌≢◌, ℕ, ◌-◌, ◌<◌, ◌≤◌, Bool, true, false, cond, not, ◌&&◌, ◌||◌, List, [], ◌∷◌, length, Option, Some, None, refl, sym, ap, subst, ◌∙◌, is_some, arith, ltb}
+use Rattle.std.proofs.Common.{◌≡◌, ℕ, ◌-◌, ◌<◌, ◌≤◌, Bool, true, false, cond, not, ◌&&◌, ◌||◌, List, [], ◌∷◌, Option, Some, None, refl, sym, ap, subst, ◌∙◌, is_some, arith, ltb}
 use Rattle.std.proofs.lemmas.Bool.Decides.{nat_tests}
 use Rattle.std.specs.declared.cmp.Ordering.{Ordering}
 use Rattle.std.specs.Prelude.{option_map, unwrap_or, count_by}
 use Rattle.std.specs.List.{list_any}
 use Rattle.std.specs.Cmp.{IsTotalOrder, nat_cmp_total, eq_by_cmp_equiv}
-use Rattle.std.specs.Ordering.{nat_cmp, eq_by_cmp}
+use Rattle.std.specs.Ordering.{eq_by_cmp}
 use Rattle.std.specs.FinMap.{get, len, keys, values, insert, remove, nat_cmp-IsAntisymmetric, get-insert, get-remove, len-remove, contains_key-keys}
 use Rattle.flat_model.specs.Path.{Path, path_cmp, strictly_below, same_path, is_root, parent, at_or_below}
 use Rattle.flat_model.specs.State.{State, Attr, Limit, fresh}
@@ -27,6 +27,7 @@ use Rattle.pids_charge.specs.Events.{HasEvents}
 use Rattle.undo_journal.specs.Answer.{record_of, record_by, state_by}
 use Rattle.undo_journal.specs.History.{IsStep, IsReady}
 use Rattle.undo_journal.proofs.Fronts.{front_is_group}
+use Rattle.undo_journal.proofs.Killing.{killed_ready}
 
 -- what an optional record needs
 abbrev ReadyBy : ℕ → State → Option Inverse → Type 0
@@ -156,7 +157,7 @@ accepted_ready slots t w (model.Move p pid) none =
     movable slots (after t (model.Move p pid)) (home_of t pid) pid (home_group slots t w pid (affirmed _ (passed _ _ _ (beyond _ _ _ none)))) (own_process t pid p)
 accepted_ready slots t w (model.SetLimit p file value) none =
     limitable slots (after t (model.SetLimit p file value)) p file (limit_at file (attr_of t p)) (passed _ _ _ none) (ap is_some (get-own path_cmp-IsTotalOrder path_cmp-IsAntisymmetric t.groups p (with_limit file value (attr_of t p))))
-accepted_ready slots t w (model.Kill g) none = tt
+accepted_ready slots t w (model.Kill g) none = killed_ready slots t w g
 accepted_ready slots t w (model.Show p file) none = tt
 accepted_ready slots t w (model.Locate pid) none = tt
 accepted_ready slots t w model.Undo none = tt

@@ -1,5 +1,5 @@
--- What each command that is answered promises of undoing and counting.
-use Rattle.std.specs.Prelude.{◌≡◌, ℕ, ◌<◌, ◌+◌, ◌-◌, ◌↔◌, true, List, length, sum_by}
+-- What each command that is answered promises of undoing and counting, and what the undoing of everything leaves.
+use Rattle.std.specs.Prelude.{◌≡◌, ℕ, ◌<◌, ◌+◌, ◌-◌, ◌↔◌, true, List, length, sum_by, Result, Ok, Err}
 use Rattle.flat_model.specs.Path.{Path}
 use Rattle.flat_model.specs.Counts.{current, populated, members, children, IsInhabited}
 use Rattle.flat_model.specs.Command.{Command, Undo, Undone}
@@ -25,3 +25,8 @@ pub record KeepsHistory (slots : ℕ) (old : Machine) (c : Command) (new : Machi
   pub counts : (g : Path) → current new.state g ≡ length (members new.state g) + sum_by (current new.state) (children new.state g)
   -- and a group is populated where some process is in it or below it
   pub populations : (g : Path) → (populated new.state g ≡ true) ↔ IsInhabited new.state g
+
+-- everything is undone, and this is how many commands that was; or the newest of them are, so many, and the rest stands
+abbrev pub UndoesAll : {E : Type 0} → ℕ → Machine → Result ℕ (ℕ × E) → Machine → Type 0
+UndoesAll slots old (Ok n) new = (n ≡ length old.past) × (new ≡ new_machine)
+UndoesAll slots old (Err e) new = (e.0 < length old.past) × (new ≡ end_of slots old (undos e.0))

@@ -1,5 +1,6 @@
 -- The machine that a state and a journal stand for, and what the journal says of the states before.
-use Rattle.std.specs.Prelude.{◌≡◌, ℕ, ◌≤◌, List, [], ◌∷◌, map, reverse, None, Some, IsSome}
+use Rattle.std.specs.Prelude.{◌≡◌, ℕ, ◌≤◌, List, [], ◌∷◌, map, reverse, None, Some, IsSome, eqb}
+use Rattle.std.specs.List.{All, IsDistinct}
 use Rattle.std.specs.FinMap.{get, len}
 use Rattle.flat_model.specs.Path.{parent}
 use Rattle.flat_model.specs.State.{State, start}
@@ -52,4 +53,5 @@ IsReady slots s (model_inverse.Moved pid p) = refusal slots s (model.Move p pid)
 IsReady slots s (model_inverse.Limited p file value) = refusal slots s (model.SetLimit p file value) ≡ None
 -- a counted fork stands in the totals
 IsReady slots s (model_inverse.Counted a) = HasEvents s a
-IsReady slots s (model_inverse.Killed lost) = Unit {0}
+-- those that were killed have left their numbers, no two have the same, and their groups are there
+IsReady slots s (model_inverse.Killed lost) = All (λ e. get s.home e.0 ≡ None) lost × IsDistinct eqb (map (λ e. e.0) lost) × All (λ e. IsSome (get s.groups e.1)) lost

@@ -1,23 +1,17 @@
 -- What the program's commands, replies and records mean in the model. A value over one allocator means the same as over another.
 use Rattle.std.specs.Prelude.{Option, Some, None}
-use Rattle.undo_journal.specs.declared.command.File.{File}
-use Rattle.undo_journal.specs.declared.command.File.TheVariants.{PidsCurrent, Stat}
 use Rattle.undo_journal.specs.declared.command.Command.{Command}
-use Rattle.undo_journal.specs.declared.command.Command.TheVariants.{MakeGroup, RemoveGroup, Fork, Exit, Move, SetLimit, Show, Undo}
+use Rattle.undo_journal.specs.declared.command.Command.TheVariants.{MakeGroup, RemoveGroup, Fork, Exit, Move, SetLimit, Kill, Show, Locate, Undo}
 use Rattle.undo_journal.specs.declared.reply.Refusal.{Refusal}
-use Rattle.undo_journal.specs.declared.reply.Refusal.TheVariants.{Exists, NoGroup, Descendants, Depth, NoSlot, RootFixed, HasChildren, HasProcesses, NoProcess, PidInUse, PidsMax, NoFile}
+use Rattle.undo_journal.specs.declared.reply.Refusal.TheVariants.{Exists, NoGroup, Descendants, Depth, NoSlot, RootFixed, HasChildren, HasProcesses, NoProcess, PidInUse, PidsMax, NoFile, NotReadable}
 use Rattle.undo_journal.specs.declared.reply.Reply.{Reply}
 use Rattle.undo_journal.specs.declared.reply.Reply.TheVariants.{Done, Text, Undone, Refused, NothingToUndo, OutOfMemory}
 use Rattle.undo_journal.specs.declared.inverse.Inverse.{Inverse}
-use Rattle.undo_journal.specs.declared.inverse.Inverse.TheVariants.{Made, Removed, Forked, Exited, Moved, Limited, Counted}
+use Rattle.undo_journal.specs.declared.inverse.Inverse.TheVariants.{Made, Removed, Forked, Exited, Moved, Limited, Counted, Killed}
 use Rattle.group_tree.specs.Flat.{limit_of, limit_file_of, group_of}
-use Rattle.flat_model.specs.File as model_file
+use Rattle.interface_files.specs.Meaning.{file_of}
 use Rattle.flat_model.specs.Command as model
 use Rattle.flat_model.specs.Inverse as model_inverse
-
-abbrev pub file_of : File → model_file.File
-file_of PidsCurrent = model_file.PidsCurrent
-file_of Stat = model_file.Stat
 
 abbrev pub command_of : {A : Type 0} → Command A → model.Command
 command_of (MakeGroup path) = model.MakeGroup path
@@ -26,7 +20,9 @@ command_of (Fork parent child) = model.Fork parent child
 command_of (Exit pid) = model.Exit pid
 command_of (Move path pid) = model.Move path pid
 command_of (SetLimit path file value) = model.SetLimit path (limit_file_of file) (limit_of value)
+command_of (Kill path) = model.Kill path
 command_of (Show path file) = model.Show path (file_of file)
+command_of (Locate pid) = model.Locate pid
 command_of Undo = model.Undo
 
 abbrev pub refusal_of : {A : Type 0} → Refusal A → model.Refusal
@@ -42,6 +38,7 @@ refusal_of (NoProcess pid) = model.NoProcess pid
 refusal_of (PidInUse pid) = model.PidInUse pid
 refusal_of (PidsMax path) = model.OverPidsMax path
 refusal_of NoFile = model.NoFile
+refusal_of NotReadable = model.NotReadable
 
 -- the machine's reply, and none where memory was wanting
 abbrev pub reply_of : {A : Type 0} → Reply A → Option model.Reply
@@ -60,3 +57,4 @@ inverse_of (Exited pid path) = model_inverse.Exited pid path
 inverse_of (Moved pid path) = model_inverse.Moved pid path
 inverse_of (Limited path file value) = model_inverse.Limited path (limit_file_of file) (limit_of value)
 inverse_of (Counted path) = model_inverse.Counted path
+inverse_of (Killed list) = model_inverse.Killed list

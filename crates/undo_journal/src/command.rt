@@ -2,62 +2,14 @@
 
 ghost use Rattle.std.specs.Prelude.{◌≡◌, IfOk};
 ghost use Rattle.flat_model.specs.CommandText.{command_text};
-ghost use Rattle.flat_model.specs.File.{file_name};
-ghost use Rattle.flat_model.specs.FileText.{limit_text};
-ghost use Rattle.flat_model.specs.File as model_file;
-ghost use Rattle.group_tree.specs.Flat.{limit_of, limit_file_of};
-ghost use Rattle.undo_journal.specs.Meaning.{command_of, file_of};
+ghost use Rattle.undo_journal.specs.Meaning.{command_of};
 
 use group_path::GroupPath;
 use group_tree::{Limit, LimitFile};
+use interface_files::{File, limit_file_name, limit_text};
 use itoa::Buffer;
 use pids_charge::Pid;
 use std::alloc::{AllocError, Allocator};
-
-/// An interface file of a group.
-#[derive(Clone, Copy, Debug, PartialEq, Eq)]
-pub enum File {
-    /// `pids.current`: how many processes are in the group and below it. The root has none.
-    PidsCurrent,
-    /// `cgroup.stat`: how many groups are below it.
-    Stat,
-}
-
-impl File {
-    /// The name of the file in its group.
-    fn name(self) -> &'static [u8]
-        ensures { result.now ≡ file_name (file_of self) }
-    {
-        match self {
-            File::PidsCurrent => b"pids.current",
-            File::Stat => b"cgroup.stat",
-        }
-    }
-}
-
-/// The name of a limit's file.
-fn limit_file_name(file: LimitFile) -> &'static [u8]
-    ensures { result.now ≡ file_name (model_file.LimitOf (limit_file_of file)) }
-{
-    match file {
-        LimitFile::PidsMax => b"pids.max",
-        LimitFile::MaxDescendants => b"cgroup.max.descendants",
-        LimitFile::MaxDepth => b"cgroup.max.depth",
-    }
-}
-
-/// What the file of a limit says: `max`, or the number.
-fn value_text<B: Allocator + Clone>(alloc: B, value: Limit) -> Result<Vec<u8, B>, AllocError>
-    ensures { IfOk result (λ text. text.items ≡ limit_text (limit_of value)) }
-{
-    match value {
-        Limit::Unlimited => Vec::from_slice(alloc, b"max"),
-        Limit::At(most) => {
-            let mut digits = Buffer::new();
-            Vec::from_slice(alloc, digits.format(most).as_bytes())
-        }
-    }
-}
 
 /// What the engine is asked.
 #[derive(Drop)]
@@ -91,6 +43,8 @@ pub enum Command<A: Allocator + Clone> {
         /// The limit.
         value: Limit,
     },
+    /// Ends all processes of a group and of the groups below it: a write to `cgroup.kill`.
+    Kill(GroupPath<A>),
     /// Reads a file of a group.
     Show {
         /// The group.
@@ -98,6 +52,8 @@ pub enum Command<A: Allocator + Clone> {
         /// The file.
         file: File,
     },
+    /// Asks which group a process belongs to.
+    Locate(Pid),
     /// Takes the newest recorded command back.
     Undo,
 }
@@ -124,16 +80,19 @@ impl<A: Allocator + Clone> Command<A> {
                 file: *file,
                 value: *value,
             }),
+            Command::Kill(path) => Ok(Command::Kill(path.copy(alloc)?)),
             Command::Show { path, file } => Ok(Command::Show {
                 path: path.copy(alloc)?,
                 file: *file,
             }),
+            Command::Locate(pid) => Ok(Command::Locate(*pid)),
             Command::Undo => Ok(Command::Undo),
         }
     }
 
     /// The command as a line of a trace says it, without the line feed: `mkdir /a`, `fork 1 2`,
-    /// `write /a cgroup.procs 2`, `write /a pids.max 3`, `cat /a pids.current`, `undo`. Linear in its path.
+    /// `write /a cgroup.procs 2`, `write /a pids.max 3`, `write /a cgroup.kill 1`, `cat /a pids.current`, `where 2`, `undo`.
+    /// Linear in its path.
     pub fn text<B: Allocator + Clone>(&self, alloc: B) -> Result<Vec<u8, B>, AllocError>
         ensures { IfOk result (λ text. text.items ≡ command_text (command_of self.now)) }
     {
@@ -171,7 +130,7 @@ impl<A: Allocator + Clone> Command<A> {
                 Ok(text)
             }
             Command::SetLimit { path, file, value } => {
-                let value = value_text(alloc.clone()?, *value)?;
+                let value = limit_text(alloc.clone()?, *value)?;
                 let mut text = Vec::from_slice(alloc, b"write ")?;
                 text.extend_from_slice(path.text())?;
                 text.extend_from_slice(b" ")?;
@@ -180,11 +139,23 @@ impl<A: Allocator + Clone> Command<A> {
                 text.extend_from_slice(value.as_slice())?;
                 Ok(text)
             }
+            Command::Kill(path) => {
+                let mut text = Vec::from_slice(alloc, b"write ")?;
+                text.extend_from_slice(path.text())?;
+                text.extend_from_slice(b" cgroup.kill 1")?;
+                Ok(text)
+            }
             Command::Show { path, file } => {
                 let mut text = Vec::from_slice(alloc, b"cat ")?;
                 text.extend_from_slice(path.text())?;
                 text.extend_from_slice(b" ")?;
                 text.extend_from_slice(file.name())?;
+                Ok(text)
+            }
+            Command::Locate(pid) => {
+                let mut digits = Buffer::new();
+                let mut text = Vec::from_slice(alloc, b"where ")?;
+                text.extend_from_slice(digits.format(pid.get()).as_bytes())?;
                 Ok(text)
             }
             Command::Undo => Vec::from_slice(alloc, b"undo"),

@@ -14,7 +14,7 @@ use crate::inverse::Inverse;
 use crate::journal::Entry;
 use crate::reply::Reply;
 use group_path::GroupPath;
-use pids_charge::{Charges, Meter, Pid};
+use pids_charge::{Charges, Gate, Meter, OpenGate, Pid};
 use std::alloc::{AllocError, Allocator};
 use std::marker::Model;
 use std::sync::Wait;
@@ -76,10 +76,11 @@ impl<A: Allocator + Clone, M: Meter + Drop> Engine<A, M> {
 }
 
 impl<A: Allocator + Clone, M: Meter> Engine<A, M> {
-    /// Answers one command, which a session `who` has issued. It waits for nobody yet.
+    /// Answers one command, which a session `who` has issued. Where it kills, or takes a kill back, it may wait for the
+    /// threads that do a part of the charges.
     ///
-    /// It costs O(log processes + depth² · log children) comparisons, `depth` being that of the group or of the process's
-    /// group; `mkdir` and `rmdir` move the siblings behind the group besides.
+    /// It costs O(log processes + depth · log children) comparisons, `depth` being that of the group or of the process's
+    /// group; `mkdir` and `rmdir` move the siblings behind the group besides. A kill goes over all processes.
     pub fn apply<R: Threads + Wait + Sync, B: Allocator + Clone>(
         &mut self,
         rt: &R,
@@ -99,13 +100,30 @@ impl<A: Allocator + Clone, M: Meter> Engine<A, M> {
         // is asked for.
         ensures certain { command_of cmd.now ≡ model.Undo → undoes_without_memory M.SLOTS self.old.past ≡ true → reply_of result ≢ None }
     {
-        let reply = self.answer(rt, who, cmd);
+        self.apply_gated(rt, &OpenGate, who, cmd)
+    }
+
+    /// `apply`, where each part of the charges of a kill, or of a kill that is taken back, passes the gate at its start. The
+    /// gate may keep it waiting.
+    pub fn apply_gated<R: Threads + Wait + Sync, B: Allocator + Clone>(
+        &mut self,
+        rt: &R,
+        gate: &(dyn Gate + Sync),
+        who: u8,
+        cmd: &Command<B>,
+    ) -> Reply<A>
+        ensures answered { reply_of result ≢ None → Answers M.SLOTS self.old (command_of cmd.now) result self.new }
+        ensures headline { reply_of result ≢ None → KeepsHistory M.SLOTS self.old (command_of cmd.now) self.new }
+        ensures refused { reply_of result ≡ None → self.new ≡ self.old }
+        ensures certain { command_of cmd.now ≡ model.Undo → undoes_without_memory M.SLOTS self.old.past ≡ true → reply_of result ≢ None }
+    {
+        let reply = self.answer(rt, gate, who, cmd);
         self.known();
         reply
     }
 
-    /// Takes the newest recorded command back, whoever issued it. It checks no limit and is not recorded, and waits for
-    /// nobody yet. Costs no more than the command did.
+    /// Takes the newest recorded command back, whoever issued it. It checks no limit and is not recorded. To take a kill
+    /// back it may wait for the threads that do a part of the charges. Costs no more than the command did.
     pub fn undo<R: Threads + Wait + Sync>(&mut self, rt: &R, who: u8) -> Reply<A>
         ensures answered { reply_of result ≢ None → Answers M.SLOTS self.old model.Undo result self.new }
         ensures headline { reply_of result ≢ None → KeepsHistory M.SLOTS self.old model.Undo self.new }
@@ -115,7 +133,7 @@ impl<A: Allocator + Clone, M: Meter> Engine<A, M> {
         // is asked for.
         ensures certain { undoes_without_memory M.SLOTS self.old.past ≡ true → reply_of result ≢ None }
     {
-        let reply = or_out_of_memory(self.take_newest_back(who));
+        let reply = or_out_of_memory(self.take_newest_back(rt, &OpenGate, who));
         self.known();
         reply
     }
@@ -157,6 +175,7 @@ impl<A: Allocator + Clone, M: Meter> Engine<A, M> {
     fn answer<R: Threads + Wait + Sync, B: Allocator + Clone>(
         &mut self,
         rt: &R,
+        gate: &(dyn Gate + Sync),
         who: u8,
         cmd: &Command<B>,
     ) -> Reply<A>
@@ -173,8 +192,10 @@ impl<A: Allocator + Clone, M: Meter> Engine<A, M> {
             Command::SetLimit { path, file, value } => {
                 or_out_of_memory(self.set_limit(path, *file, *value))
             }
+            Command::Kill(path) => or_out_of_memory(self.kill(rt, gate, who, path)),
             Command::Show { path, file } => or_out_of_memory(self.show(path, *file)),
-            Command::Undo => self.undo(rt, who),
+            Command::Locate(pid) => or_out_of_memory(self.locate(*pid)),
+            Command::Undo => or_out_of_memory(self.take_newest_back(rt, gate, who)),
         }
     }
 
@@ -192,8 +213,8 @@ impl<A: Allocator + Clone, M: Meter> Engine<A, M> {
         self.charges.home(pid).is_some()
     }
 
-    /// Tells `apply` and `undo` what every engine keeps. It does nothing.
-    fn known(&self)
+    /// Tells `apply`, `undo` and `undo_all` what every engine keeps. It does nothing.
+    pub(crate) fn known(&self)
         ensures { IsReached M.SLOTS self.now }
     {
         let _ = &self.journal;

@@ -1,9 +1,12 @@
 //! What takes one recorded command back.
 
+ghost use Rattle.std.specs.Prelude.{◌≡◌, IfOk};
+ghost use Rattle.undo_journal.specs.Meaning.{inverse_of};
+
 use group_path::GroupPath;
 use group_tree::{Attr, Limit, LimitFile};
-use pids_charge::Pid;
-use std::alloc::Allocator;
+use pids_charge::{LostList, Pid};
+use std::alloc::{AllocError, Allocator};
 
 /// What takes one recorded command back.
 #[derive(Drop)]
@@ -53,4 +56,46 @@ pub enum Inverse<A: Allocator + Clone> {
         /// The group whose limit refused it.
         path: GroupPath<A>,
     },
+    /// The processes of a group and of the groups below it were ended: each is put back into its own group.
+    Killed {
+        /// The processes with their groups, pids rising.
+        list: LostList<A>,
+    },
+}
+
+impl<A: Allocator + Clone> Inverse<A> {
+    /// The same record in other memory, in time linear in its paths.
+    pub fn copy<B: Allocator + Clone>(&self, alloc: B) -> Result<Inverse<B>, AllocError>
+        ensures { IfOk result (λ i. inverse_of i ≡ inverse_of self.now) }
+    {
+        match self {
+            Inverse::Made { path } => Ok(Inverse::Made {
+                path: path.copy(alloc)?,
+            }),
+            Inverse::Removed { path, attr } => Ok(Inverse::Removed {
+                path: path.copy(alloc)?,
+                attr: *attr,
+            }),
+            Inverse::Forked { pid } => Ok(Inverse::Forked { pid: *pid }),
+            Inverse::Exited { pid, path } => Ok(Inverse::Exited {
+                pid: *pid,
+                path: path.copy(alloc)?,
+            }),
+            Inverse::Moved { pid, path } => Ok(Inverse::Moved {
+                pid: *pid,
+                path: path.copy(alloc)?,
+            }),
+            Inverse::Limited { path, file, value } => Ok(Inverse::Limited {
+                path: path.copy(alloc)?,
+                file: *file,
+                value: *value,
+            }),
+            Inverse::Counted { path } => Ok(Inverse::Counted {
+                path: path.copy(alloc)?,
+            }),
+            Inverse::Killed { list } => Ok(Inverse::Killed {
+                list: list.copy(alloc)?,
+            }),
+        }
+    }
 }

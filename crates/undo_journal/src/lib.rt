@@ -12,17 +12,22 @@
 //!   memory is asked for before anything is changed. A fork alone asks for its record's memory before its limits are decided.
 //! - The journal keeps a command and a small record each, and no state. It has no bound of its own, and is not kept on
 //!   a disk.
-//! - No call waits yet. The runtime is asked for because taking a kill back will use threads. The session's number `who`
-//!   picks where its charges stand in the meter.
-//! - Groups, processes and their counts are those of `Charges`: no command goes over all processes. There are as many
-//!   groups beside the root as the meter has slots.
-//! - Undo gives a removed group back with its limits and event totals. Only for a removal, an end or a move taken back
-//!   is memory asked for; where it is wanting, state and journal stay.
+//! - `undo_all` takes back everything, newest first, or as much as there is memory for, and says how many commands that was.
+//! - A kill, and a kill that is taken back, give all their charges to the meter at once, and may wait for the threads that
+//!   do a part of them. No other command waits. The session's number `who` picks where its charges stand in the meter.
+//! - What `apply_gated` adds is that each part passes a gate of the caller's at its start; no clause speaks of the gate.
+//! - Commands, refusals and replies over different allocators are compared by `is`: true exactly where they mean the same.
+//! - Groups, processes and their counts are those of `Charges`: no command but a kill goes over all processes. There are
+//!   as many groups beside the root as the meter has slots.
+//! - Undo gives a removed group back with its limits and event totals. Only for a removal, an end, a move or a kill taken
+//!   back is memory asked for; where it is wanting, state and journal stay.
+//! - `rehearse` tells what a list of commands would be answered, undos of the journal among them: it runs them on a copy of
+//!   the engine in an arena of the caller's. The engine itself is only read.
 //!
 //! Each command stands in a file of its own, with its refusals, its doing, its record, and what takes the record back.
 //! What a command, a reply and a record mean stands in `specs/Meaning.antt`; that a reply is the machine's in
-//! `specs/Answer.antt`; what each answered command promises of undoing and counting in `specs/Headline.antt`; what a
-//! journal says of the states before in `specs/History.antt`.
+//! `specs/Answer.antt`; what each answered command promises of undoing and counting, and what the undoing of everything
+//! leaves, in `specs/Headline.antt`; what a journal says of the states before in `specs/History.antt`.
 #![tactic(auto)]
 
 mod bytes;
@@ -34,16 +39,21 @@ mod faults;
 mod fork;
 mod inverse;
 mod journal;
+mod kill;
 mod limit;
+mod locate;
 mod migrate;
 mod mkdir;
+mod rehearse;
 mod reply;
 mod rmdir;
+mod same;
 mod undo;
 
 pub use bytes::Bytes;
-pub use command::{Command, File};
+pub use command::Command;
 pub use engine::Engine;
+pub use interface_files::File;
 pub use inverse::Inverse;
 pub use pids_charge::{PID_MAX, Pid};
 pub use reply::{Refusal, Reply};

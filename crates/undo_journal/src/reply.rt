@@ -36,6 +36,8 @@ pub enum Refusal<A: Allocator + Clone> {
     PidsMax(GroupPath<A>),
     /// The root has no such file.
     NoFile,
+    /// The file is written and not read.
+    NotReadable,
 }
 
 impl<A: Allocator + Clone> Refusal<A> {
@@ -55,6 +57,7 @@ impl<A: Allocator + Clone> Refusal<A> {
             Refusal::PidInUse(pid) => Ok(Refusal::PidInUse(*pid)),
             Refusal::PidsMax(path) => Ok(Refusal::PidsMax(path.copy(alloc)?)),
             Refusal::NoFile => Ok(Refusal::NoFile),
+            Refusal::NotReadable => Ok(Refusal::NotReadable),
         }
     }
 }

@@ -1,27 +1,34 @@
-//! `undo`: the newest recorded command taken back by its record.
+//! `undo`: the newest recorded command taken back by its record, and one after another all of them.
 
 ghost use Rattle.std.specs.Prelude.{◌≡◌, true, Some, IsOk, OnOk, OnErr, IfOk};
 ghost use Rattle.flat_model.specs.Command as model;
 ghost use Rattle.flat_model.specs.Inverse.{back};
+ghost use Rattle.flat_model.specs.Machine.{tick};
 ghost use Rattle.undo_journal.specs.Meaning.{inverse_of};
 ghost use Rattle.undo_journal.specs.Answer.{Answers, needs_no_memory, undoes_without_memory};
+ghost use Rattle.undo_journal.specs.Headline.{UndoesAll};
 ghost use Rattle.undo_journal.specs.History.{IsReady};
 
 use crate::engine::Engine;
 use crate::exit::undo_exit;
 use crate::fork::{undo_counted, undo_fork};
 use crate::inverse::Inverse;
+use crate::kill::undo_kill;
 use crate::limit::undo_limit;
 use crate::migrate::undo_move;
 use crate::mkdir::undo_mkdir;
 use crate::reply::Reply;
 use crate::rmdir::undo_rmdir;
-use pids_charge::{Charges, Meter};
+use pids_charge::{Charges, Gate, Meter, OpenGate};
 use std::alloc::{AllocError, Allocator};
+use std::sync::Wait;
+use std::thread::Threads;
 
 /// Takes one command back by its record.
-fn take_back<A: Allocator + Clone, M: Meter>(
+fn take_back<A: Allocator + Clone, M: Meter, R: Threads + Wait + Sync>(
     charges: &mut Charges<A, M>,
+    rt: &R,
+    gate: &(dyn Gate + Sync),
     who: u8,
     inverse: &Inverse<A>,
 ) -> Result<(), AllocError>
@@ -50,11 +57,17 @@ fn take_back<A: Allocator + Clone, M: Meter>(
             undo_counted(charges, path);
             Ok(())
         }
+        Inverse::Killed { list } => undo_kill(charges, rt, gate, who, list),
     }
 }
 
 impl<A: Allocator + Clone, M: Meter> Engine<A, M> {
-    pub(crate) fn take_newest_back(&mut self, who: u8) -> Result<Reply<A>, AllocError>
+    pub(crate) fn take_newest_back<R: Threads + Wait + Sync>(
+        &mut self,
+        rt: &R,
+        gate: &(dyn Gate + Sync),
+        who: u8,
+    ) -> Result<Reply<A>, AllocError>
         ensures ok { IfOk result (λ reply. Answers M.SLOTS self.old model.Undo reply self.new) }
         ensures err { OnErr result (self.new ≡ self.old) }
         ensures certain { undoes_without_memory M.SLOTS self.old.past ≡ true → IsOk result }
@@ -62,10 +75,44 @@ impl<A: Allocator + Clone, M: Meter> Engine<A, M> {
         let Some(entry) = self.journal.last() else {
             return Ok(Reply::NothingToUndo);
         };
-        take_back(&mut self.charges, who, &entry.inverse)?;
+        take_back(&mut self.charges, rt, gate, who, &entry.inverse)?;
         let Some(newest) = self.journal.pop() else {
             unreachable!()
         };
         Ok(Reply::Undone(newest.command))
+    }
+
+    /// Takes the newest recorded command back, if there is one.
+    fn undo_one<R: Threads + Wait + Sync>(&mut self, rt: &R, who: u8) -> Result<(), AllocError>
+        ensures ok { OnOk result (self.new ≡ (tick M.SLOTS self.old model.Undo).0) }
+        ensures err { OnErr result (self.new ≡ self.old) }
+    {
+        let _undone = self.take_newest_back(rt, &OpenGate, who)?;
+        Ok(())
+    }
+
+    /// Takes all recorded commands back, the newest first, and answers how many there were. The start state is left then:
+    /// the root alone, and process 1 in it. To take a kill back it may wait for the threads that do a part of the charges.
+    /// Costs what as many undos cost.
+    ///
+    /// # Errors
+    ///
+    /// Where memory is wanting, with the number of commands that were taken back until then. The rest stands, and can be
+    /// taken back later.
+    pub fn undo_all<R: Threads + Wait + Sync>(
+        &mut self,
+        rt: &R,
+        who: u8,
+    ) -> Result<usize, (usize, AllocError)>
+        ensures { UndoesAll M.SLOTS self.old result self.new }
+    {
+        self.known();
+        let depth = self.depth();
+        for undone in 0..depth {
+            if let Err(error) = self.undo_one(rt, who) {
+                return Err((undone, error));
+            }
+        }
+        Ok(depth)
     }
 }

@@ -1,4 +1,4 @@
-use Rattle.std.proofs.Common.{◌≡◌, ℕ, [], ◌∷◌, ◌++◌, ◌<◌, ◌-◌, ◌^◌, true, false, take, length, Some, None, refl, sym, ap, subst, ◌∙◌, arith}
+use Rattle.std.proofs.Common.{◌≡◌, [], ◌∷◌, ◌++◌, true, false, take, Some, None, refl, sym, ap, subst, ◌∙◌, arith}
 use Rattle.flat_model.specs.Path.{Path}
 use Rattle.flat_model.specs.Command as model
 use Rattle.flat_model.specs.Counts.{has_process}

@@ -1,0 +1,102 @@
+//! A write to `cgroup.kill`: the end of all processes at or below a group, its record, and what takes it back.
+
+ghost use Rattle.std.specs.Prelude.{◌≡◌, None, IfOk, OnOk, OnErr, option_map};
+ghost use Rattle.flat_model.specs.Step.{refusal, after};
+ghost use Rattle.flat_model.specs.Inverse as model_inverse;
+ghost use Rattle.flat_model.specs.Inverse.{back};
+ghost use Rattle.flat_model.specs.Machine.{recorded};
+ghost use Rattle.flat_model.specs.Command as model;
+ghost use Rattle.undo_journal.specs.Meaning.{refusal_of};
+ghost use Rattle.undo_journal.specs.Answer.{Answers};
+ghost use Rattle.undo_journal.specs.History.{IsReady};
+
+use crate::command::Command;
+use crate::engine::Engine;
+use crate::faults::want_of_memory;
+use crate::inverse::Inverse;
+use crate::journal::Entry;
+use crate::reply::{Refusal, Reply};
+use group_path::GroupPath;
+use pids_charge::{Charges, Gate, LostList, Meter};
+use std::alloc::{AllocError, Allocator};
+use std::sync::Wait;
+use std::thread::Threads;
+
+impl<A: Allocator + Clone, M: Meter> Engine<A, M> {
+    /// Why the group may not be killed, if it may not.
+    fn refuses_kill<B: Allocator + Clone>(
+        &self,
+        path: &GroupPath<B>,
+    ) -> Result<Option<Refusal<A>>, AllocError>
+        ensures { IfOk result (λ r. option_map refusal_of r ≡ refusal M.SLOTS self.now.state (model.Kill path.now)) }
+    {
+        if path.depth() == 0 {
+            return Ok(Some(Refusal::NoFile));
+        }
+        if !self.has_group(path) {
+            return Ok(Some(Refusal::NoGroup(path.copy(self.alloc.clone()?)?)));
+        }
+        Ok(None)
+    }
+
+    /// Takes out all processes of a group that may be killed, and records them with the groups that they were in.
+    fn take_members<R: Threads + Wait + Sync, B: Allocator + Clone>(
+        &mut self,
+        rt: &R,
+        gate: &(dyn Gate + Sync),
+        who: u8,
+        path: &GroupPath<B>,
+    ) -> Result<(), AllocError>
+        requires { refusal M.SLOTS self.old.state (model.Kill path.now) ≡ None }
+        ensures ok { OnOk result (self.new ≡ recorded self.old (model.Kill path.now) (after self.old.state (model.Kill path.now))) }
+        ensures err { OnErr result (self.new ≡ self.old) }
+    {
+        let named = path.copy(self.alloc.clone()?)?;
+        self.journal.reserve(1)?;
+        match self.charges.kill(rt, gate, who, path) {
+            Ok(list) => {
+                self.journal.push(Entry {
+                    command: Command::Kill(named),
+                    inverse: Inverse::Killed { list },
+                })?;
+                Ok(())
+            }
+            Err(fault) => Err(want_of_memory(fault)),
+        }
+    }
+
+    pub(crate) fn kill<R: Threads + Wait + Sync, B: Allocator + Clone>(
+        &mut self,
+        rt: &R,
+        gate: &(dyn Gate + Sync),
+        who: u8,
+        path: &GroupPath<B>,
+    ) -> Result<Reply<A>, AllocError>
+        ensures ok { IfOk result (λ reply. Answers M.SLOTS self.old (model.Kill path.now) reply self.new) }
+        ensures err { OnErr result (self.new ≡ self.old) }
+    {
+        if let Some(refusal) = self.refuses_kill(path)? {
+            return Ok(Reply::Refused(refusal));
+        }
+        self.take_members(rt, gate, who, path)?;
+        Ok(Reply::Done)
+    }
+}
+
+/// Puts the processes that a kill took back, each into its own group.
+pub(crate) fn undo_kill<A: Allocator + Clone, M: Meter, R: Threads + Wait + Sync>(
+    charges: &mut Charges<A, M>,
+    rt: &R,
+    gate: &(dyn Gate + Sync),
+    who: u8,
+    list: &LostList<A>,
+) -> Result<(), AllocError>
+    requires { IsReady M.SLOTS charges.old (model_inverse.Killed list.now) }
+    ensures ok { OnOk result (charges.new ≡ back (model_inverse.Killed list.now) charges.old) }
+    ensures err { OnErr result (charges.new ≡ charges.old) }
+{
+    match charges.place_all(rt, gate, who, list.as_slice()) {
+        Ok(()) => Ok(()),
+        Err(fault) => Err(want_of_memory(fault)),
+    }
+}
