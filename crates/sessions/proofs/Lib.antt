@@ -1,0 +1,5 @@
+mod AuditLists
+mod AuditSteps
+mod Legal
+pub mod SessionCrosses
+mod TakenBack

@@ -1,0 +1,33 @@
+-- A session may cross threads. The search is made in steps, since one for the whole comes to its limit.
+use denote.Param.Send.{IsSend, IsSync, sendable}
+use Rattle.std.proofs.Crossing.{crosses}
+use Rattle.std.proofs.MapsCrossing as maps
+use Rattle.group_path.proofs.path.GroupPath.TheSendSync as group_path
+use Rattle.group_tree.proofs.attr.Attr.TheSendSync as attr
+use Rattle.group_tree.proofs.node.Node.TheLaws.TheKnot as knot
+use Rattle.std.proofs.alloc.Global.TheSendSync as global
+use Rattle.pids_charge.proofs.pid.Pid.TheSendSync as pid
+use Rattle.undo_journal.proofs.command.Command.TheSendSync as command
+use Rattle.undo_journal.proofs.inverse.Inverse.TheSendSync as inverse
+use Rattle.pids_charge.proofs.plain.PlainMeter.TheSendSync as meter
+use Rattle.sessions.proofs.entry.Entry.TheSendSync as entry
+use Rattle.sessions.proofs.entry.Receipt.TheSendSync as receipt
+use Rattle.sessions.specs.contracts.book.Book as Book
+use Rattle.sessions.specs.contracts.hall.Hall as Hall
+use Rattle.sessions.specs.contracts.shared.Shared as Shared
+use Rattle.sessions.specs.contracts.session.Session as Session
+
+book_send : IsSend Book.the_row
+book_send = search (entry.the_send, command.the_field_send, inverse.the_field_send, meter.the_send, knot.crosses, pid.the_send, attr.the_send, group_path.the_send, global.the_send, sendable, crosses, maps.crosses) depth 20
+
+hall_send : IsSend Hall.the_row
+hall_send = search (book_send, sendable, crosses) depth 20
+
+shared_send : IsSend Shared.the_row
+shared_send = search (hall_send, sendable, crosses) depth 20
+
+shared_sync : IsSync Shared.the_row
+shared_sync = search (hall_send, sendable, crosses) depth 20
+
+pub session_send : IsSend Session.the_row
+session_send = search (receipt.the_send, shared_send, shared_sync, sendable, crosses) depth 20

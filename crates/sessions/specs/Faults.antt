@@ -1,0 +1,14 @@
+-- What an audit's answers mean.
+use Rattle.std.specs.Prelude.{ℕ, List}
+use Rattle.flat_model.specs.Log.{Entry, Session}
+use Rattle.flat_model.specs.Audit as model
+use Rattle.flat_model.specs.Audit.{FirstFault}
+use Rattle.sessions.specs.declared.fault.CloseFault.{CloseFault}
+use Rattle.sessions.specs.declared.fault.CloseFault.TheVariants.{Stranger, Mismatch, Missing, OutOfMemory}
+
+-- it is the first fault of the receipts in their order, or memory was wanting
+abbrev pub IsFirstFault : ℕ → List Entry → List Session → CloseFault → Type 0
+IsFirstFault n log sessions (Stranger k) = FirstFault n log sessions (model.Stranger k)
+IsFirstFault n log sessions (Mismatch i) = FirstFault n log sessions (model.Mismatch i)
+IsFirstFault n log sessions (Missing i) = FirstFault n log sessions (model.Missing i)
+IsFirstFault n log sessions OutOfMemory = Unit {0}

@@ -1,0 +1,5 @@
+pub mod Meaning
+pub mod Served
+pub mod Ran
+pub mod Faults
+pub mod Marks

@@ -1,0 +1,17 @@
+-- What entries, receipts and logs of this crate mean in the model.
+use Rattle.std.specs.Prelude.{ℕ, Option, Some, None}
+use Rattle.flat_model.specs.Command as model
+use Rattle.undo_journal.specs.declared.reply.Reply.{Reply}
+use Rattle.undo_journal.specs.Meaning.{reply_of}
+
+-- as many groups beside the root as the meter under a desk has slots
+abbrev pub slots : ℕ
+slots = 256
+
+abbrev pub known : Option model.Reply → model.Reply
+known (Some r) = r
+known None = model.NothingToUndo
+
+-- the machine's reply. An entry and a receipt have one, and never want of memory
+abbrev pub answer_of : {A : Type 0} → Reply A → model.Reply
+answer_of reply = known (reply_of reply)

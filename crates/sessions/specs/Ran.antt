@@ -1,0 +1,28 @@
+-- What a call of a session leaves of it.
+use Rattle.std.specs.Prelude.{◌≡◌, ℕ, List, [], ◌∷◌, ◌++◌, Result, Ok, Err}
+use denote.Ref.{Bor}
+use Rattle.flat_model.specs.Command.{Command}
+use Rattle.flat_model.specs.Log.{Receipt, Session}
+use Rattle.sessions.specs.declared.fault.RunFault.{RunFault}
+use Rattle.sessions.specs.Served.{Appends, AppendsAt}
+
+-- one receipt more, of this command
+abbrev pub Last : Command → Session → Session → Type 0
+Last c before after = (after.number ≡ before.number) × Appends c before.receipts after.receipts
+
+abbrev pub LastAt : ℕ → Command → Session → Session → Type 0
+LastAt turn c before after =
+    (after.number ≡ before.number) × AppendsAt turn c before.receipts after.receipts
+
+abbrev pub with_receipt : Session → Receipt → Session
+with_receipt s r = record s { receipts = s.receipts ++ r ∷ [] }
+
+-- the session has this receipt more, which is of this command; else it is as it was
+abbrev pub Ran : Command → Session → Session → Result (Bor Receipt) RunFault → Type 0
+Ran c before after (Ok r) = (after ≡ with_receipt before r.now) × (r.now.command ≡ c)
+Ran c before after (Err e) = after ≡ before
+
+-- the same, at this number
+abbrev pub RanAt : ℕ → Command → Session → Session → Result (Bor Receipt) RunFault → Type 0
+RanAt turn c before after (Ok r) = (after ≡ with_receipt before r.now) × (r.now.command ≡ c) × (r.now.number ≡ turn)
+RanAt turn c before after (Err e) = after ≡ before

@@ -1,0 +1,87 @@
+//! The closing of a desk: what it leaves, and whether the receipts that were handed in are its log.
+
+ghost use Rattle.std.specs.Prelude.{◌≡◌, IfOk, IfErr};
+ghost use Rattle.flat_model.specs.Log.{IsLegal, log_end};
+ghost use Rattle.flat_model.specs.Audit.{AreEntries};
+ghost use Rattle.sessions.specs.Meaning.{slots};
+
+use crate::auditing::audit;
+use crate::book::Book;
+use crate::desk::Desk;
+use crate::entry::Entry;
+use crate::fault::CloseFault;
+use crate::session::Session;
+use pids_charge::PlainMeter;
+use std::alloc::Global;
+use std::sync::Wait;
+use undo_journal::Engine;
+
+/// What a desk leaves: its engine, its log and the sessions that were handed in.
+#[derive(Drop)]
+pub struct Closed {
+    /// The engine, at the log's end.
+    pub engine: Engine<Global, PlainMeter<Global>>,
+    /// The log.
+    pub log: Vec<Entry>,
+    /// The sessions, as they were handed in.
+    pub sessions: Vec<Session>,
+}
+
+impl Desk {
+    /// Ends the desk, where the receipts of these sessions are the entries of its log, each once.
+    /// From then on every session of the desk answers `Halted`. It takes time linear in the log and
+    /// the receipts, and may wait for a session that runs a command.
+    ///
+    /// # Errors
+    ///
+    /// Desk and sessions come back as they were, with the fault that `audit` gives on the desk's
+    /// log; the desk goes on.
+    pub fn close<R: Wait>(
+        self,
+        rt: &R,
+        sessions: Vec<Session>,
+    ) -> Result<Closed, (Desk, Vec<Session>, CloseFault)>
+        ensures legal { IfOk result (λ c. IsLegal slots c.log.items) }
+        ensures at_end { IfOk result (λ c. c.engine ≡ log_end slots c.log.items) }
+        ensures receipts { IfOk result (λ c. AreEntries self c.log.items sessions.items) }
+        ensures sessions { IfOk result (λ c. c.sessions.items ≡ sessions.items) }
+        ensures refused { IfErr result (λ e. (e.0 ≡ self) × (e.1.items ≡ sessions.items)) }
+    {
+        match self.take_book(rt, sessions.as_slice()) {
+            Ok(book) => {
+                let Book {
+                    alloc: _,
+                    engine,
+                    log,
+                } = book;
+                Ok(Closed {
+                    engine,
+                    log,
+                    sessions,
+                })
+            }
+            Err(fault) => Err((self, sessions, fault)),
+        }
+    }
+
+    /// The book, where these receipts are its log. A desk that is there has its book, which is taken
+    /// out only where the desk ends.
+    fn take_book<R: Wait>(&self, rt: &R, sessions: &[Session]) -> Result<Book, CloseFault>
+        ensures { IfOk result (λ b. AreEntries self.now b.log.items sessions.now) }
+    {
+        let mut hall = self.shared.hall.lock(rt);
+        let Some(book) = hall.book.take() else {
+            return Err(CloseFault::Missing(0));
+        };
+        match audit(self.alloc, self.sessions, book.log.as_slice(), sessions) {
+            Ok(()) => {
+                self.shared.leave(hall);
+                Ok(book)
+            }
+            Err(fault) => {
+                hall.book = Some(book);
+                Err(fault)
+            }
+        }
+    }
+}

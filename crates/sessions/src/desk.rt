@@ -1,0 +1,68 @@
+//! The desk at which sessions are opened.
+
+ghost use Rattle.std.specs.Prelude.{◌≡◌, ◌<◌, ◌≤◌, [], IfOk};
+
+use crate::book::Book;
+use crate::hall::Hall;
+use crate::session::Session;
+use crate::shared::Shared;
+use std::alloc::{AllocError, Global};
+use std::marker::Model;
+use std::sync::Arc;
+
+/// A desk over one engine. Contracts see the number of its sessions.
+#[derive(Drop)]
+pub struct Desk {
+    pub(crate) sessions: u8,
+    pub(crate) alloc: Global,
+    pub(crate) shared: Arc<Shared>,
+}
+
+impl Model for Desk {
+    ghost use Rattle.std.specs.Prelude.{ℕ};
+
+    ghost Value = { ℕ };
+
+    ghost view = { λ d. d.sessions };
+}
+
+impl Desk {
+    /// A desk for sessions numbered below `n`, over the root alone with process 1 in it.
+    ///
+    /// # Errors
+    ///
+    /// `AllocError` where memory was wanting.
+    pub fn new(alloc: Global, n: u8) -> Result<Desk, AllocError>
+        requires { (1 ≤ n) × (n ≤ 8) }
+        ensures { IfOk result (λ d. d ≡ n) }
+    {
+        let hall = Hall {
+            book: Some(Book::new(alloc)?),
+            is_halted: false,
+            waits: [u64::MAX; 8],
+        };
+        let shared = Arc::new(alloc, Shared::new(hall))?;
+        Ok(Desk {
+            sessions: n,
+            alloc,
+            shared,
+        })
+    }
+
+    /// A session numbered `k`, with no receipts. Each thread that runs commands wants its own.
+    ///
+    /// # Errors
+    ///
+    /// `AllocError` where one more pointer to what the desk shares was refused.
+    pub fn session(&self, k: u8) -> Result<Session, AllocError>
+        requires { k < self.now }
+        ensures { IfOk result (λ s. s ≡ record { number = k; receipts = [] }) }
+    {
+        let shared = Arc::try_clone(&self.shared)?;
+        Ok(Session {
+            number: k,
+            receipts: Vec::new(self.alloc),
+            shared,
+        })
+    }
+}

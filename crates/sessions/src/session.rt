@@ -1,0 +1,131 @@
+//! A session: who runs commands at a desk, and keeps a receipt of each.
+
+ghost use Rattle.std.specs.Prelude.{◌≡◌, IfErr, MatchResult};
+ghost use Rattle.std.specs.Borrow.{sem};
+ghost use Rattle.std.specs.Io.BufRead.{Rests};
+ghost use Rattle.undo_journal.specs.Meaning.{command_of};
+ghost use Rattle.sessions.specs.Ran.{Ran, RanAt, Last, LastAt};
+ghost use Rattle.sessions.specs.Served.{IsLate, NamesNoTurn};
+
+use crate::shared::Shared;
+use crate::{Receipt, RunFault};
+use std::alloc::Allocator;
+use std::marker::Model;
+use std::sync::{Arc, Wait};
+use std::thread::Threads;
+use undo_journal::Command;
+
+/// One who runs commands at a desk, with the receipts of all that were run.
+#[derive(Drop)]
+pub struct Session {
+    /// Its number at the desk, from 0.
+    pub number: u8,
+    /// A receipt of each command that it ran, the newest last.
+    pub receipts: Vec<Receipt>,
+    pub(crate) shared: Arc<Shared>,
+}
+
+impl Model for Session {
+    ghost use Rattle.flat_model.specs.Log as log;
+
+    ghost Value = { log.Session };
+
+    ghost view = { λ s. record { number = s.number; receipts = s.receipts.items } };
+}
+
+impl Session {
+    ghost use Rattle.sessions.specs.contracts.session.Session.{the_row};
+
+    /// Runs one command, while no other session runs one, and gives its receipt. Entry and receipt
+    /// have the same number. It may wait for other sessions.
+    ///
+    /// # Errors
+    ///
+    /// `Halted`, then `OutOfMemory`. Nothing was logged or changed.
+    pub fn run<R: Threads + Wait + Sync, B: Allocator + Clone>(
+        &mut self,
+        rt: &R,
+        cmd: &Command<B>,
+    ) -> Result<&Receipt, RunFault>
+        ensures* after { sem 𝓛 (Rests the_row self.entry
+            (λ new. Ran (command_of cmd.now) self.old new result)) }
+        ensures fault { IfErr result (λ e. NamesNoTurn e) }
+    {
+        self.serve(rt, cmd)?;
+        let last = self.receipts.len() - 1;
+        Ok(&self.receipts[last])
+    }
+
+    /// Waits until the log has `turn` entries, and runs one command: its entry and receipt have the
+    /// number `turn`.
+    ///
+    /// # Errors
+    ///
+    /// `Halted`; then `TurnPassed` with the log's length, where that is above `turn`; then
+    /// `OutOfMemory`. Nothing was logged or changed.
+    pub fn run_at<R: Threads + Wait + Sync, B: Allocator + Clone>(
+        &mut self,
+        rt: &R,
+        turn: u64,
+        cmd: &Command<B>,
+    ) -> Result<&Receipt, RunFault>
+        ensures* after { sem 𝓛 (Rests the_row self.entry
+            (λ new. RanAt turn (command_of cmd.now) self.old new result)) }
+        ensures late { IfErr result (λ e. IsLate turn e) }
+    {
+        self.serve_at(rt, turn, cmd)?;
+        let last = self.receipts.len() - 1;
+        Ok(&self.receipts[last])
+    }
+
+    /// Stops the desk: every later or waiting `run` and `run_at` of its sessions answers `Halted`.
+    /// The desk can still be closed.
+    pub fn halt<R: Wait>(&mut self, rt: &R)
+        ensures { self.new ≡ self.old }
+    {
+        let mut hall = self.shared.hall.lock(rt);
+        hall.is_halted = true;
+        self.shared.leave(hall);
+    }
+
+    fn serve<R: Threads + Wait + Sync, B: Allocator + Clone>(
+        &mut self,
+        rt: &R,
+        cmd: &Command<B>,
+    ) -> Result<(), RunFault>
+        ensures ran { MatchResult result (λ _. Last (command_of cmd.now) self.old self.new)
+            (λ _. self.new ≡ self.old) }
+        ensures fault { IfErr result (λ e. NamesNoTurn e) }
+    {
+        let Session {
+            number,
+            receipts,
+            shared,
+        } = self;
+        let mut hall = shared.hall.lock(rt);
+        let outcome = hall.serve(rt, *number, cmd, receipts);
+        shared.leave(hall);
+        outcome
+    }
+
+    fn serve_at<R: Threads + Wait + Sync, B: Allocator + Clone>(
+        &mut self,
+        rt: &R,
+        turn: u64,
+        cmd: &Command<B>,
+    ) -> Result<(), RunFault>
+        ensures ran { MatchResult result (λ _. LastAt turn (command_of cmd.now) self.old self.new)
+            (λ _. self.new ≡ self.old) }
+        ensures late { IfErr result (λ e. IsLate turn e) }
+    {
+        let Session {
+            number,
+            receipts,
+            shared,
+        } = self;
+        let mut hall = shared.wait_for(rt, *number, turn);
+        let outcome = hall.serve_at(rt, *number, turn, cmd, receipts);
+        shared.leave(hall);
+        outcome
+    }
+}

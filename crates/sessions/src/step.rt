@@ -1,0 +1,113 @@
+//! One step of the machine, with its answer twice: for the log and for the receipt.
+
+ghost use Rattle.std.specs.Prelude.{◌≡◌, ◌≢◌, IfOk, OnOk, OnErr, Some, None, true, false};
+ghost use Rattle.flat_model.specs.Command as model;
+ghost use Rattle.flat_model.specs.Command.{is_undo};
+ghost use Rattle.flat_model.specs.Machine.{tick};
+ghost use Rattle.undo_journal.specs.Meaning.{command_of, reply_of};
+ghost use Rattle.undo_journal.specs.Answer.{undoes_without_memory};
+ghost use Rattle.sessions.specs.Meaning.{slots};
+ghost use Rattle.sessions.specs.Served.{AnswersTwice};
+
+use pids_charge::PlainMeter;
+use std::alloc::{AllocError, Allocator, Global};
+use std::sync::Wait;
+use std::thread::Threads;
+use undo_journal::{Command, Engine, Reply};
+
+/// Answers a command of a session. Where memory was wanting, the engine is as it was.
+pub(crate) fn answer_twice<R: Threads + Wait + Sync, B: Allocator + Clone>(
+    rt: &R,
+    alloc: Global,
+    engine: &mut Engine<Global, PlainMeter<Global>>,
+    who: u8,
+    cmd: &Command<B>,
+) -> Result<(Reply<Global>, Reply<Global>), AllocError>
+    ensures ok { IfOk result (λ r. AnswersTwice engine.old (command_of cmd.now) r.0 r.1 engine.new) }
+    ensures err { OnErr result (engine.new ≡ engine.old) }
+{
+    match cmd {
+        Command::Undo => undo_twice(rt, alloc, engine, who),
+        _ => apply_twice(rt, alloc, engine, who, cmd),
+    }
+}
+
+/// Answers any other command. A counted fork whose answer can't be copied is taken back.
+fn apply_twice<R: Threads + Wait + Sync, B: Allocator + Clone>(
+    rt: &R,
+    alloc: Global,
+    engine: &mut Engine<Global, PlainMeter<Global>>,
+    who: u8,
+    cmd: &Command<B>,
+) -> Result<(Reply<Global>, Reply<Global>), AllocError>
+    requires { is_undo (command_of cmd.now) ≡ false }
+    ensures ok { IfOk result (λ r. AnswersTwice engine.old (command_of cmd.now) r.0 r.1 engine.new) }
+    ensures err { OnErr result (engine.new ≡ engine.old) }
+{
+    let depth = engine.depth();
+    let reply = engine.apply(rt, who, cmd);
+    match copy_of(alloc, &reply) {
+        Ok(again) => Ok((reply, again)),
+        Err(refused) => {
+            if engine.depth() > depth {
+                take_back(rt, engine, who);
+            }
+            Err(refused)
+        }
+    }
+}
+
+/// Takes back the newest recorded command, for which no memory is asked.
+fn take_back<R: Threads + Wait + Sync>(
+    rt: &R,
+    engine: &mut Engine<Global, PlainMeter<Global>>,
+    who: u8,
+)
+    requires { undoes_without_memory slots engine.old.past ≡ true }
+    ensures { engine.new ≡ (tick slots engine.old model.Undo).0 }
+{
+    drop(engine.undo(rt, who));
+}
+
+/// A copy of an answer.
+fn copy_of(alloc: Global, reply: &Reply<Global>) -> Result<Reply<Global>, AllocError>
+    ensures same { IfOk result (λ r. reply_of r ≡ reply_of reply.now) }
+    ensures answered { OnOk result (reply_of reply.now ≢ None) }
+    ensures other { OnErr result (reply_of reply.now ≢ Some model.Done) }
+{
+    match reply {
+        Reply::Done => Ok(Reply::Done),
+        Reply::OutOfMemory => Err(AllocError),
+        _ => reply.copy(alloc),
+    }
+}
+
+/// Answers an undo, whose answer is copied before it is given.
+fn undo_twice<R: Threads + Wait + Sync>(
+    rt: &R,
+    alloc: Global,
+    engine: &mut Engine<Global, PlainMeter<Global>>,
+    who: u8,
+) -> Result<(Reply<Global>, Reply<Global>), AllocError>
+    ensures ok { IfOk result (λ r. AnswersTwice engine.old model.Undo r.0 r.1 engine.new) }
+    ensures err { OnErr result (engine.new ≡ engine.old) }
+{
+    let again = answer_to_undo(alloc, engine)?;
+    match engine.undo(rt, who) {
+        Reply::OutOfMemory => Err(AllocError),
+        reply => Ok((reply, again)),
+    }
+}
+
+/// What an undo will be answered.
+fn answer_to_undo(
+    alloc: Global,
+    engine: &Engine<Global, PlainMeter<Global>>,
+) -> Result<Reply<Global>, AllocError>
+    ensures { IfOk result (λ r. reply_of r ≡ Some (tick slots engine.now model.Undo).1) }
+{
+    match engine.newest_command() {
+        Some(newest) => Ok(Reply::Undone(newest.copy(alloc)?)),
+        None => Ok(Reply::NothingToUndo),
+    }
+}
