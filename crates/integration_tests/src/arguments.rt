@@ -33,7 +33,7 @@ fn command_lines(rt: HostRuntime) {
         Ok(Ask::Help(text)) => assert!(rt; text.as_str().contains("cgreplay")),
         _ => assert!(rt; false),
     }
-    for word in ["--bogus", "x", "", "--workers"] {
+    for word in ["--bogus", "x", "", "--workers", "--rehearse"] {
         assert!(rt;
             matches!(command_line(rt.alloc(), &[word]), Err(LineFault::Bad)),
             "{word}"
@@ -41,13 +41,46 @@ fn command_lines(rt: HostRuntime) {
     }
 }
 
+/// A digit from 1 to 8 is a number of workers, and nothing else is one.
+#[test]
+fn numbers_of_workers(rt: HostRuntime) {
+    let rows = [("1", 1), ("2", 2), ("3", 3), ("8", 8)];
+    for (text, wanted) in rows {
+        match command_line(rt.alloc(), &["--workers", text]) {
+            Ok(Ask::Run { workers, .. }) => assert_eq!(rt; workers, wanted, "{text}"),
+            _ => assert!(rt; false, "{text}"),
+        }
+    }
+    for text in ["0", "9", "", "03", "+3", "10", "x"] {
+        assert!(rt;
+            matches!(
+                command_line(rt.alloc(), &["--workers", text]),
+                Err(LineFault::Bad)
+            ),
+            "{text}"
+        );
+    }
+    assert!(rt;
+        matches!(
+            command_line(rt.alloc(), &["--workers=3"]),
+            Ok(Ask::Run { workers: 3, .. })
+        )
+    );
+}
+
 /// The first argument is the program's name, whatever it is.
 #[test]
 fn programs(rt: HostRuntime) -> Result<(), Fail> {
-    let rows: [(&[&str], Result<(), ProgramFault>, &[u8]); 4] = [
+    let rows: [(&[&str], Result<(), ProgramFault>, &[u8]); 6] = [
         (&[], Ok(()), ANSWERS),
         (&["cgreplay"], Ok(()), ANSWERS),
         (&["--bogus"], Ok(()), ANSWERS),
+        (&["cgreplay", "--workers", "8"], Ok(()), ANSWERS),
+        (
+            &["cgreplay", "--workers", "9"],
+            Err(ProgramFault::Line(LineFault::Bad)),
+            b"",
+        ),
         (
             &["cgreplay", "--bogus"],
             Err(ProgramFault::Line(LineFault::Bad)),

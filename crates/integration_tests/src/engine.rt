@@ -1,7 +1,8 @@
 //! Commands by their lines, what the engine answers, and what it keeps of them.
 
 use group_path::GroupPath;
-use pids_charge::{Meter, PlainMeter};
+use interface_files::File;
+use pids_charge::{Meter, OpenGate, PlainMeter};
 use replay_main::{Line, parse_line};
 use std::alloc::{AllocError, Allocator, Global};
 use std::sync::Wait;
@@ -50,6 +51,7 @@ fn refused<A: Allocator + Clone>(
         Refusal::PidInUse(pid) => word_and_pid(alloc, "pidinuse ", *pid),
         Refusal::PidsMax(path) => word_and_path(alloc, b"pidsmax ", path),
         Refusal::NoFile => Vec::from_slice(alloc, b"nofile"),
+        Refusal::NotReadable => Vec::from_slice(alloc, b"direction"),
     }
 }
 
@@ -97,6 +99,13 @@ fn bytes_of_a_vec(rt: HostRuntime) -> Result<(), AllocError> {
     Ok(())
 }
 
+/// Whether the text of the command that the line says is the line.
+fn is_its_text(alloc: Global, line: &str) -> Result<bool, Fail> {
+    let command = command(alloc, line)?;
+    let text = command.text(alloc)?;
+    Ok(text.as_slice() == line.as_bytes())
+}
+
 /// The text of a command is its line, in each form.
 #[test]
 fn texts_of_commands(rt: HostRuntime) -> Result<(), Fail> {
@@ -110,35 +119,113 @@ fn texts_of_commands(rt: HostRuntime) -> Result<(), Fail> {
         "write /a cgroup.max.descendants 2147483646",
         "write / cgroup.max.descendants max",
         "write /a pids.max 5",
-        "cat /a pids.current",
+        "write /a/b cgroup.kill 1",
+        "cat / cgroup.procs",
+        "cat /a cgroup.events",
         "cat / cgroup.stat",
+        "cat / cgroup.max.descendants",
+        "cat /a cgroup.max.depth",
+        "cat /a pids.max",
+        "cat /a pids.current",
+        "cat /a pids.events",
+        "cat /a pids.events.local",
+        "where 4194303",
         "undo",
     ];
     for line in lines {
-        let command = command(rt.alloc(), line)?;
-        let text = command.text(rt.alloc())?;
-        assert!(rt; text.as_slice() == line.as_bytes(), "{line}");
+        assert!(rt; is_its_text(rt.alloc(), line)?, "{line}");
     }
     Ok(())
 }
 
-/// A process is made, moved and moved back.
+/// Lines, what the engine answers to each, and how many records it has then.
+type Row = (&'static str, &'static str, usize);
+
+/// The first line that is answered otherwise, or leaves another number of records.
+fn first_other<R: Threads + Wait + Sync, M: Meter>(
+    rt: &R,
+    alloc: Global,
+    engine: &mut Engine<Global, M>,
+    rows: &[Row],
+) -> Result<Option<&'static str>, Fail> {
+    for (line, wanted, depth) in rows {
+        let said = answer(rt, alloc, engine, line)?;
+        if (said.as_slice(), engine.depth()) != (wanted.as_bytes(), *depth) {
+            return Ok(Some(*line));
+        }
+    }
+    Ok(None)
+}
+
+/// A process is made, moved and moved back; all is undone and made again, and the process killed.
+const LINES: [Row; 17] = [
+    ("undo", "nothing", 0),
+    ("mkdir /a", "ok", 1),
+    ("fork 1 2", "ok", 2),
+    ("write /a cgroup.procs 2", "ok", 3),
+    ("cat /a pids.current", "1\n", 3),
+    ("undo", "write /a cgroup.procs 2", 2),
+    ("cat /a pids.current", "0\n", 2),
+    ("undo", "fork 1 2", 1),
+    ("undo", "mkdir /a", 0),
+    ("undo", "nothing", 0),
+    ("mkdir /a", "ok", 1),
+    ("fork 1 2", "ok", 2),
+    ("write /a cgroup.procs 2", "ok", 3),
+    ("cat /a pids.current", "1\n", 3),
+    ("write /a cgroup.kill 1", "ok", 4),
+    ("cat /a cgroup.events", "populated 0\nfrozen 0\n", 4),
+    ("where 2", "noprocess 2", 4),
+];
+
+/// Then everything is taken back at once.
 #[test]
 fn one_trace(rt: HostRuntime) -> Result<(), Fail> {
     let mut engine = Engine::new(rt.alloc(), PlainMeter::new(rt.alloc())?)?;
-    let rows = [
-        ("undo", "nothing", 0),
-        ("mkdir /a", "ok", 1),
-        ("fork 1 2", "ok", 2),
-        ("write /a cgroup.procs 2", "ok", 3),
-        ("cat /a pids.current", "1\n", 3),
-        ("undo", "write /a cgroup.procs 2", 2),
-        ("cat /a pids.current", "0\n", 2),
+    assert_eq!(rt; first_other(&rt, rt.alloc(), &mut engine, &LINES)?, None);
+    assert_eq!(rt; engine.undo_all(&rt, 0), Ok(4));
+    let start = [
+        ("cat / cgroup.procs", "1\n", 0),
+        (
+            "cat / cgroup.stat",
+            "nr_descendants 0\nnr_dying_descendants 0\n",
+            0,
+        ),
     ];
-    for (line, wanted, depth) in rows {
-        let said = answer(&rt, rt.alloc(), &mut engine, line)?;
-        assert!(rt; said.as_slice() == wanted.as_bytes(), "{line}");
-        assert_eq!(rt; engine.depth(), depth, "{line}");
+    assert_eq!(rt; first_other(&rt, rt.alloc(), &mut engine, &start)?, None);
+    assert_eq!(rt; engine.undo_all(&rt, 0), Ok(0));
+    Ok(())
+}
+
+/// What the engine answers to a reading of the file of the group at the path of this text.
+fn shown<R: Threads + Wait + Sync>(
+    rt: &R,
+    alloc: Global,
+    engine: &mut Engine<Global, PlainMeter<Global>>,
+    path: &str,
+    file: File,
+) -> Result<Vec<u8>, Fail> {
+    let path = GroupPath::read(alloc, path.as_bytes())?;
+    let reply = engine.apply_gated(rt, &OpenGate, 0, &Command::Show { path, file });
+    Ok(said(alloc, &reply)?)
+}
+
+/// That a file is not read comes before its group, and the group before what the root has not.
+#[test]
+fn refusals_of_a_reading(rt: HostRuntime) -> Result<(), Fail> {
+    let mut engine = Engine::new(rt.alloc(), PlainMeter::new(rt.alloc())?)?;
+    let rows = [
+        ("/", File::KillFile, "direction"),
+        ("/b", File::KillFile, "direction"),
+        ("/b", File::PidsMax, "nogroup /b"),
+        ("/b", File::Procs, "nogroup /b"),
+        ("/", File::PidsMax, "nofile"),
+        ("/", File::Events, "nofile"),
+        ("/", File::Procs, "1\n"),
+    ];
+    for (path, file, wanted) in rows {
+        let said = shown(&rt, rt.alloc(), &mut engine, path, file)?;
+        assert!(rt; said.as_slice() == wanted.as_bytes(), "{path}");
     }
     Ok(())
 }

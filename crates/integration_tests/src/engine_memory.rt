@@ -48,8 +48,11 @@ fn seen<R: Threads + Wait + Sync, A: Allocator + Clone, M: Meter>(
     text.extend_from_slice(newest.as_slice())?;
     let lines = [
         "cat / cgroup.stat",
+        "cat / cgroup.procs",
         "cat /a cgroup.stat",
+        "cat /a cgroup.procs",
         "cat /a pids.current",
+        "cat /a pids.events",
         "cat /b cgroup.stat",
     ];
     for line in lines {
@@ -105,7 +108,7 @@ fn first_answer<'a, R: Threads + Wait + Sync>(
 
 /// The lines, their answers, and whether memory is asked for. Taking back a fork, a mkdir or a
 /// limit asks for none.
-const ROWS: [(&str, &str, bool); 22] = [
+const ROWS: [(&str, &str, bool); 36] = [
     ("mkdir /a", "ok", true),
     ("mkdir /b/c", "nogroup /b", true),
     ("fork 1 2", "ok", true),
@@ -132,6 +135,21 @@ const ROWS: [(&str, &str, bool); 22] = [
     ("undo", "write /a cgroup.procs 2", true),
     ("undo", "fork 1 2", false),
     ("undo", "mkdir /a", false),
+    // A kill of two processes, and both back.
+    ("mkdir /a", "ok", true),
+    ("fork 1 3", "ok", true),
+    ("fork 1 2", "ok", true),
+    ("write /a cgroup.procs 3", "ok", true),
+    ("write /a cgroup.procs 2", "ok", true),
+    ("write / cgroup.kill 1", "nofile", false),
+    ("write /b cgroup.kill 1", "nogroup /b", true),
+    ("write /a cgroup.kill 1", "ok", true),
+    ("where 3", "noprocess 3", false),
+    ("undo", "write /a cgroup.kill 1", true),
+    ("where 3", "0::/a\n", true),
+    ("cat /a cgroup.procs", "2\n3\n", true),
+    ("cat /a cgroup.events", "populated 1\nfrozen 0\n", true),
+    ("cat /a pids.max", "max\n", true),
 ];
 
 #[test]
@@ -143,6 +161,87 @@ fn each_growth_of_a_command_refused(rt: HostRuntime) -> Result<(), Fail> {
         assert!(rt; answer.as_slice() == wanted.as_bytes(), "{line}");
         assert_eq!(rt; is_refused, grows, "{line}");
     }
+    Ok(())
+}
+
+/// A process ends in a group of a long name, whose text takes more than the fork behind it gives back.
+const ENDED: [&str; 5] = [
+    "mkdir /gggggggggggggggggggggggggggggggggggggggggggggggggggggggggggg",
+    "fork 1 2",
+    "write /gggggggggggggggggggggggggggggggggggggggggggggggggggggggggggg cgroup.procs 2",
+    "exit 2",
+    "fork 1 3",
+];
+
+/// What `undo_all` answers with that many blocks of sixteen bytes left in the heap. Where memory was
+/// wanting, the newest fork alone is undone, and with memory the other records are.
+fn undone_in<R: Threads + Wait + Sync>(
+    rt: &R,
+    alloc: Global,
+    room: usize,
+) -> Result<Option<usize>, Fail> {
+    let heap = LocalHeap::new(alloc, 8192)?;
+    let mut engine = Engine::new(&heap, PlainMeter::new(alloc)?)?;
+    for line in ENDED {
+        answer(rt, alloc, &mut engine, line)?;
+    }
+    let mut blocks = filling(alloc, &heap)?;
+    let left = blocks.len().saturating_sub(room);
+    blocks.truncate(left);
+    let undone = engine.undo_all(rt, 0);
+    drop(blocks);
+    match undone {
+        Ok(count) => Ok(Some(count)),
+        Err((1, AllocError)) if is_resumed(rt, alloc, &mut engine)? => Ok(None),
+        Err(_) => Err(Fail::new("a refused growth left something else")),
+    }
+}
+
+/// Whether process 1 is alone, the end of process 2 is the newest of four records, and all are taken
+/// back then.
+fn is_resumed<R: Threads + Wait + Sync, A: Allocator + Clone, M: Meter>(
+    rt: &R,
+    alloc: Global,
+    engine: &mut Engine<A, M>,
+) -> Result<bool, Fail> {
+    let before = answer(rt, alloc, engine, "cat / cgroup.procs")?;
+    let depth = engine.depth();
+    let newest = newest(alloc, engine)?;
+    let undone = engine.undo_all(rt, 0);
+    let after = seen(rt, alloc, engine)?;
+    let start = Engine::new(alloc, PlainMeter::new(alloc)?)?;
+    let start = seen_of(rt, alloc, start)?;
+    if (before.as_slice(), depth, newest.as_slice())
+        != (b"1\n".as_slice(), 4, b"exit 2".as_slice())
+    {
+        return Ok(false);
+    }
+    Ok((undone, after) == (Ok(4), start))
+}
+
+/// What can be seen of this engine.
+fn seen_of<R: Threads + Wait + Sync>(
+    rt: &R,
+    alloc: Global,
+    engine: Engine<Global, PlainMeter<Global>>,
+) -> Result<Vec<u8>, Fail> {
+    let mut engine = engine;
+    seen(rt, alloc, &mut engine)
+}
+
+/// Each growth that `undo_all` asks for refused in turn, as the room grows by a block at a time.
+#[test]
+fn each_growth_of_undoing_all_refused(rt: HostRuntime) -> Result<(), Fail> {
+    let mut refusals = 0usize;
+    let mut undone = None;
+    for room in 0..100usize {
+        undone = undone_in(&rt, rt.alloc(), room)?;
+        if undone.is_some() {
+            break;
+        }
+        refusals = room + 1;
+    }
+    assert_eq!(rt; (undone, refusals > 0), (Some(5), true));
     Ok(())
 }
 

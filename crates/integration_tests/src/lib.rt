@@ -8,7 +8,9 @@
 //!
 //! - `engine`: commands, their texts, and what the engine keeps of them.
 //! - `engine_memory`: each growth that a command asks for, refused in turn.
-//! - `traces`: traces with their answers, one table of texts; long lines and long answers.
+//! - `traces`: traces with their answers, as tables of texts; long lines and long answers. Those of
+//!   files, kills and `where` stand in `file_traces`.
+//! - `values`: the names of files, the values that are written to them, and texts of limits.
 //! - `faults`: a replay over devices that fail or end, which stand in `devices`.
 //! - `arguments`: the command line, what the program does by it, its statuses and messages.
 #![tactic(auto)]
@@ -24,4 +26,8 @@ mod engine_memory;
 #[cfg(test)]
 mod faults;
 #[cfg(test)]
+mod file_traces;
+#[cfg(test)]
 mod traces;
+#[cfg(test)]
+mod values;

@@ -1,28 +1,45 @@
 -- The program's command line, as `clap` sees it.
-use Rattle.std.proofs.Common.{◌≡◌, true, ap, sym, subst, ◌∙◌, ◌⊎◌, inl, inr, codes, Result, Ok, Err}
-use Rattle.clap.specs.Words.{App, IsAmong, Kinds, new_app}
+use Rattle.std.proofs.Common.{◌≡◌, true, ap, ap₂, refl, sym, subst, ◌∙◌, ◌⊎◌, inl, inr, codes, List, [], Option, Result, Ok, Err}
+use Rattle.clap.specs.Words.{App, HasMatchesOf, IsAmong, Rule, Text, fault_of, first_of, first_value, found_of, is_simple, is_simple_and_free, matches_of, new_app, rows_of, with_rule}
 use Rattle.clap.specs.declared.error.kind.ErrorKind.{ErrorKind}
 use Rattle.clap.specs.declared.error.kind.ErrorKind.TheVariants as kind
+use Rattle.clap.specs.declared.parser.matches.ArgMatches.{ArgMatches}
+use Rattle.clap.proofs.OnLiterals.{clap_on_literals}
+use Rattle.clap.proofs.WalkLemmas.{first_value-rows}
 use Rattle.replay_main.specs.declared.arguments.Ask.{Ask}
 use Rattle.replay_main.specs.declared.arguments.Ask.TheVariants.{Run, Help}
 use Rattle.replay_main.specs.declared.arguments.LineFault.{LineFault}
 use Rattle.replay_main.specs.declared.arguments.LineFault.TheVariants.{Bad, OutOfMemory}
-use Rattle.replay_main.specs.Asks.{Asks, IsAskedBy, app}
+use Rattle.replay_main.specs.Asks.{Asks, IsAskedBy, app, workers_in, workers_rule, workers_said}
 
 -- a command without the binary's name
 abbrev pub nameless : App → App
 nameless a = record { top = record a.top { no_binary_name = true }; subs = a.subs }
 
-pub app_is : (old new : App) → new ≡ nameless old → old ≡ new_app (codes "cgreplay") → new ≡ app
-app_is old new e h = e ∙ ap nameless h
+pub app_is : (fresh bare whole : App) (rule : Rule) → fresh ≡ new_app (codes "cgreplay") → bare ≡ nameless fresh → whole ≡ with_rule bare rule → rule ≡ workers_rule → whole ≡ app
+app_is fresh bare whole rule f b w r = w ∙ ap₂ with_rule (b ∙ ap nameless f) r
+
+pub app_simple : is_simple app ≡ true
+unfolding clap_on_literals
+app_simple = refl
+
+pub app_free : is_simple_and_free app ≡ true
+unfolding clap_on_literals
+app_free = refl
+
+-- the value that was read is the one that the words say
+pub said_in : (a : App) (words : List Text) (m : ArgMatches) (value : Option Text) → a ≡ app → HasMatchesOf a words m → value ≡ first_value (found_of m) (codes "workers") → workers_said value ≡ workers_in words
+said_in a words m value is h v =
+    let rows : rows_of (found_of m) ≡ matches_of app words = (subst (λ x. HasMatchesOf x words m) is h app_simple).0 in
+    ap workers_said (v ∙ first_value-rows (found_of m) (codes "workers") ∙ ap (first_of (codes "workers")) rows)
 
 apart : kind.DisplayHelp ≡ kind.OutOfMemory → ⊥
 apart e = cc
 
-pub asks_by : (kinds : Kinds) (k : ErrorKind) (r : Result Ask LineFault) → IsAskedBy k r → (k ≡ kind.OutOfMemory) ⊎ IsAmong k kinds → Asks kinds r
-asks_by kinds k (Ok (Run workers rehearse)) h b = absurd h
-asks_by kinds k (Ok (Help text)) h (inl e) = absurd (apart (sym h ∙ e))
-asks_by kinds k (Ok (Help text)) h (inr a) = subst (λ x. IsAmong x kinds) h a
-asks_by kinds k (Err Bad) h (inl e) = absurd (h.1 e)
-asks_by kinds k (Err Bad) h (inr a) = (k, a, h.0)
-asks_by kinds k (Err OutOfMemory) h b = tt
+pub asks_by : (words : List Text) (k : ErrorKind) (r : Result Ask LineFault) → IsAskedBy k r → (k ≡ kind.OutOfMemory) ⊎ IsAmong k (fault_of app words) → Asks words r
+asks_by words k (Ok (Run workers rehearse)) h b = absurd h
+asks_by words k (Ok (Help text)) h (inl e) = absurd (apart (sym h ∙ e))
+asks_by words k (Ok (Help text)) h (inr a) = subst (λ x. IsAmong x (fault_of app words)) h a
+asks_by words k (Err Bad) h (inl e) = absurd (h.1 e)
+asks_by words k (Err Bad) h (inr a) = inl (k, a, h.0)
+asks_by words k (Err OutOfMemory) h b = tt

@@ -1,3 +1,5 @@
 pub mod KnownBytes
-pub mod Standing
+pub mod Answered
 pub mod CommandLines
+pub mod RunMaps
+pub mod ReplyTexts

@@ -1,5 +1,5 @@
--- What a command line asks for, by the kinds of fault that `clap` finds in its words: none, a call for help, or another.
-use Rattle.std.specs.Prelude.{◌≡◌, ◌≢◌, true, false, [], codes, Result, Ok, Err}
+-- What a command line asks for, by the kinds of fault that `clap` finds in its words (none, a call for help, or another) and by what stands at `--workers`.
+use Rattle.std.specs.Prelude.{◌≡◌, ◌≢◌, ◌≤◌, ◌-◌, ◌&&◌, ◌⊎◌, ℕ, true, false, nat_lt, if◌then◌else◌, List, [], ◌∷◌, codes, Option, Some, None, Result, Ok, Err}
 use Rattle.std.specs.Vec.Iter.{into_iter_steps}
 use Rattle.std.specs.Iterator.{Drains}
 use Rattle.std.specs.IoError.{error_kind}
@@ -9,7 +9,7 @@ use Rattle.std.specs.declared.io.ErrorKind.TheVariants as io_kind
 use Rattle.std.specs.declared.string.String.{String}
 use Rattle.std.specs.declared.vec.IntoIter.{IntoIter}
 use Rattle.std.specs.declared.vec.Vec.{Vec}
-use Rattle.clap.specs.Words.{App, IsAmong, Kinds, new_app}
+use Rattle.clap.specs.Words.{App, IsAmong, Kinds, Rule, Text, fault_of, first_of, matches_of, new_app, new_rule, with_rule}
 use Rattle.clap.specs.declared.error.kind.ErrorKind.{ErrorKind}
 use Rattle.clap.specs.declared.error.kind.ErrorKind.TheVariants as kind
 use Rattle.replay_main.specs.declared.arguments.Ask.{Ask}
@@ -17,20 +17,39 @@ use Rattle.replay_main.specs.declared.arguments.Ask.TheVariants.{Run, Help}
 use Rattle.replay_main.specs.declared.arguments.LineFault.{LineFault}
 use Rattle.replay_main.specs.declared.arguments.LineFault.TheVariants.{Bad, OutOfMemory}
 
--- the program takes no arguments but the calls for help, and its own name is not among the words
+-- `--workers N`
+abbrev pub workers_rule : Rule
+workers_rule = record (new_rule (codes "workers")) { long = Some (codes "workers") }
+
+-- the program takes no arguments but this and the calls for help, and its own name is not among the words
 abbrev pub app : App
-app = record { top = record (new_app (codes "cgreplay")).top { no_binary_name = true }; subs = (new_app (codes "cgreplay")).subs }
+app = with_rule (record { top = record (new_app (codes "cgreplay")).top { no_binary_name = true }; subs = (new_app (codes "cgreplay")).subs }) workers_rule
+
+-- a digit from 1 to 8
+abbrev pub digit_said : Text → Option ℕ
+digit_said [] = None
+digit_said (d ∷ []) = if nat_lt 48 d && nat_lt d 57 then Some (d - 48) else None
+digit_said (d ∷ e ∷ text) = None
+
+-- the number of workers, by the value of `--workers`: one where it is left out
+abbrev pub workers_said : Option Text → Option ℕ
+workers_said None = Some 1
+workers_said (Some text) = digit_said text
+
+-- the number of workers that words ask for in which there is no fault, where they ask for one
+abbrev pub workers_in : List Text → Option ℕ
+workers_in words = workers_said (first_of (codes "workers") (matches_of app words))
 
 -- some kind among them is not a call for help
 abbrev pub HasFault : Kinds → Type 0
 HasFault kinds = (k : ErrorKind) × IsAmong k kinds × (k ≢ kind.DisplayHelp)
 
--- a run by one worker where there is no fault, help where it is called for, and a bad line at another fault
-abbrev pub Asks : Kinds → Result Ask LineFault → Type 0
-Asks kinds (Ok (Run workers rehearse)) = (kinds ≡ []) × (workers ≡ 1) × (rehearse ≡ false)
-Asks kinds (Ok (Help text)) = IsAmong kind.DisplayHelp kinds
-Asks kinds (Err Bad) = HasFault kinds
-Asks kinds (Err OutOfMemory) = Unit {0}
+-- a run where there is no fault and 1 to 8 workers are asked for, help where it is called for, and a bad line at another fault or another number
+abbrev pub Asks : List Text → Result Ask LineFault → Type 0
+Asks words (Ok (Run workers rehearse)) = (fault_of app words ≡ []) × (workers_in words ≡ Some workers) × (1 ≤ workers) × (workers ≤ 8) × (rehearse ≡ false)
+Asks words (Ok (Help text)) = IsAmong kind.DisplayHelp (fault_of app words)
+Asks words (Err Bad) = HasFault (fault_of app words) ⊎ ((fault_of app words ≡ []) × (workers_in words ≡ None))
+Asks words (Err OutOfMemory) = Unit {0}
 
 -- what an error of this kind comes to
 abbrev pub IsAskedBy : ErrorKind → Result Ask LineFault → Type 0

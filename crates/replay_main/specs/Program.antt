@@ -1,36 +1,42 @@
 -- What the program leaves, and the status that it ends with.
-use Rattle.std.specs.Prelude.{◌≡◌, ◌⊎◌, ℕ, List, [], Option, Bool, true, Result, Ok, Err}
-use Rattle.clap.specs.Words.{IsAmong, Kinds}
+use Rattle.std.specs.Prelude.{◌≡◌, ◌⊎◌, ℕ, List, [], Option, Some, Bool, true, Result, Ok, Err}
+use Rattle.clap.specs.Words.{IsAmong, Text, fault_of}
 use Rattle.clap.specs.declared.error.kind.ErrorKind.TheVariants as kind
 use Rattle.replay_main.specs.declared.arguments.LineFault.TheVariants.{Bad, OutOfMemory}
 use Rattle.replay_main.specs.declared.fault.ReplayFault.TheVariants as replay
 use Rattle.replay_main.specs.declared.program.ProgramFault.{ProgramFault}
 use Rattle.replay_main.specs.declared.program.ProgramFault.TheVariants.{Line, Replay}
 use Rattle.replay_main.specs.declared.trace.Summary.{Summary}
-use Rattle.replay_main.specs.Asks.{Asks}
+use Rattle.replay_main.specs.Asks.{Asks, app, workers_in}
 use Rattle.replay_main.specs.Device.{TakesFront}
 use Rattle.replay_main.specs.Replayed.{IsWhole, IsUnwritten, Replayed}
 
 -- the help text is called for; all of a text was written and flushed
-pub record IsHelped (kinds : Kinds) (before after : Option (List ℕ)) (flushed : Bool) : Type 0 where
-  pub called : IsAmong kind.DisplayHelp kinds
+pub record IsHelped (words : List Text) (before after : Option (List ℕ)) (flushed : Bool) : Type 0 where
+  pub called : IsAmong kind.DisplayHelp (fault_of app words)
   pub text : List ℕ
   pub written : TakesFront before text [] after
   pub is_out : flushed ≡ true
 
--- there is no fault in the command line, and the trace was answered whole
-pub record IsReplayed (kinds : Kinds) (left before after : Option (List ℕ)) (read_failed write_failed flushed : Bool) : Type 0 where
-  pub called : kinds ≡ []
+-- there is no fault in the command line, and a number of workers in it
+pub record CallsReplay (words : List Text) : Type 0 where
+  pub no_fault : fault_of app words ≡ []
+  pub workers : ℕ
+  pub number : workers_in words ≡ Some workers
+
+-- a replay is called for, and the trace was answered whole
+pub record IsReplayed (words : List Text) (left before after : Option (List ℕ)) (read_failed write_failed flushed : Bool) : Type 0 where
+  pub called : CallsReplay words
   pub summary : Summary
   pub whole : IsWhole left before after read_failed write_failed flushed summary
 
--- by the kinds of fault in the command line, what the program leaves, and why it ended before its end
-abbrev pub Ran : Kinds → Option (List ℕ) → Bool → Option (List ℕ) → Option (List ℕ) → Bool → Bool → Result (Unit {0}) ProgramFault → Type 0
-Ran kinds left read_failed before after write_failed flushed (Ok u) = IsReplayed kinds left before after read_failed write_failed flushed ⊎ IsHelped kinds before after flushed
-Ran kinds left read_failed before after write_failed flushed (Err (Line fault)) = Asks kinds (Err fault) × IsUnwritten before after write_failed
-Ran kinds left read_failed before after write_failed flushed (Err (Replay fault)) =
-    ((kinds ≡ []) × Replayed left read_failed before after write_failed flushed (Err fault))
-    ⊎ (IsAmong kind.DisplayHelp kinds × (fault ≡ replay.Write) × (write_failed ≡ true))
+-- by the words of the command line, what the program leaves, and why it ended before its end
+abbrev pub Ran : List Text → Option (List ℕ) → Bool → Option (List ℕ) → Option (List ℕ) → Bool → Bool → Result (Unit {0}) ProgramFault → Type 0
+Ran words left read_failed before after write_failed flushed (Ok u) = IsReplayed words left before after read_failed write_failed flushed ⊎ IsHelped words before after flushed
+Ran words left read_failed before after write_failed flushed (Err (Line fault)) = Asks words (Err fault) × IsUnwritten before after write_failed
+Ran words left read_failed before after write_failed flushed (Err (Replay fault)) =
+    (CallsReplay words × Replayed left read_failed before after write_failed flushed (Err fault))
+    ⊎ (IsAmong kind.DisplayHelp (fault_of app words) × (fault ≡ replay.Write) × (write_failed ≡ true))
 
 -- 0 where all was done, 2 on a bad command line, and 1 on any other fault
 abbrev pub status_of : Result (Unit {0}) ProgramFault → ℕ

@@ -1,29 +1,32 @@
 -- What a replay answers and leaves.
-use Rattle.std.specs.Prelude.{◌≡◌, ℕ, ◌≤◌, List, [], ◌++◌, length, Option, Bool, true, false, Result, Ok, Err}
-use Rattle.flat_model.specs.Command.{Command}
-use Rattle.flat_model.specs.Machine.{Machine, tick}
-use Rattle.flat_model.specs.Replies.{reply_bytes, is_refused, command_count, refused_count}
-use Rattle.flat_model.specs.Trace.{trace_max}
+use Rattle.std.specs.Prelude.{◌≡◌, ℕ, ◌≤◌, List, [], length, Option, Some, None, Bool, true, false, Result, Ok, Err}
+use Rattle.flat_model.specs.Replies.{command_count, refused_count, answers}
+use Rattle.flat_model.specs.Trace.{trace_max, read_trace}
 use Rattle.replay_main.specs.declared.fault.ReplayFault.{ReplayFault}
 use Rattle.replay_main.specs.declared.fault.ReplayFault.TheVariants.{Read, Write, InputTooLong, OutOfMemory, Close}
 use Rattle.replay_main.specs.declared.trace.Summary.{Summary}
 use Rattle.replay_main.specs.Device.{IsInput, IsTooLong, TakesFront}
-use Rattle.trace_lines.specs.SoFar.{slots, read_trace_so_far, answers_so_far}
 
--- the machine has run the n-th command, and its answer was put behind the bytes
-pub record RunsOne (m next : Machine) (old : List ℕ) (n : ℕ) (c : Command) (new : List ℕ) (was_refused : Bool) : Type 0 where
-  pub goes : next ≡ (tick slots m c).0
-  pub answered : new ≡ old ++ reply_bytes n (tick slots m c).1
-  pub refused : was_refused ≡ is_refused (tick slots m c).1
+-- how many groups there may be beside the root: the slots of a plain meter
+abbrev pub slots : ℕ
+slots = 256
+
+-- a fault of the work between reading and writing
+abbrev pub EndsWork : ReplayFault → Type 0
+EndsWork Read = ⊥
+EndsWork Write = ⊥
+EndsWork InputTooLong = ⊥
+EndsWork OutOfMemory = Unit {0}
+EndsWork Close = Unit {0}
 
 -- the two numbers are those of the trace: its numbered lines, and those answered `refused`
 pub record IsSummary (trace : List ℕ) (summary : Summary) : Type 0 where
-  pub commands : summary.commands ≡ command_count (read_trace_so_far trace)
-  pub refused : summary.refused ≡ refused_count slots (read_trace_so_far trace)
+  pub commands : summary.commands ≡ command_count (read_trace trace)
+  pub refused : summary.refused ≡ refused_count slots (read_trace trace)
 
 -- the bytes answer the trace
 pub record IsAnswered (trace bytes : List ℕ) (summary : Summary) : Type 0 where
-  pub bytes_are : bytes ≡ answers_so_far trace
+  pub bytes_are : bytes ≡ answers slots trace
   pub counts : IsSummary trace summary
 
 -- The trace was read whole, and exactly its answers were written and flushed.
@@ -31,7 +34,7 @@ pub record IsWhole (left before after : Option (List ℕ)) (read_failed write_fa
   pub trace : List ℕ
   pub is_input : IsInput left trace
   pub short : length trace ≤ trace_max
-  pub written : TakesFront before (answers_so_far trace) [] after
+  pub written : TakesFront before (answers slots trace) [] after
   pub counts : IsSummary trace summary
   pub good_reads : read_failed ≡ false
   pub good_writes : write_failed ≡ false
@@ -43,9 +46,14 @@ pub record IsCut (left before after : Option (List ℕ)) (read_failed write_fail
   pub is_input : IsInput left trace
   pub short : length trace ≤ trace_max
   pub rest : List ℕ
-  pub written : TakesFront before (answers_so_far trace) rest after
+  pub written : TakesFront before (answers slots trace) rest after
   pub good_reads : read_failed ≡ false
   pub bad_write : write_failed ≡ true
+
+-- the source had no more than a trace may have, where it tells it
+abbrev pub IsShort : Option (List ℕ) → Type 0
+IsShort None = Unit {0}
+IsShort (Some left) = length left ≤ trace_max
 
 -- Nothing was written, and no write failed.
 pub record IsUnwritten (before after : Option (List ℕ)) (write_failed : Bool) : Type 0 where
@@ -59,4 +67,4 @@ Replayed left read_failed before after write_failed flushed (Err Write) = IsCut 
 Replayed left read_failed before after write_failed flushed (Err Read) = (read_failed ≡ true) × IsUnwritten before after write_failed
 Replayed left read_failed before after write_failed flushed (Err InputTooLong) = IsTooLong left × (read_failed ≡ false) × IsUnwritten before after write_failed
 Replayed left read_failed before after write_failed flushed (Err OutOfMemory) = (read_failed ≡ false) × IsUnwritten before after write_failed
-Replayed left read_failed before after write_failed flushed (Err Close) = ⊥
+Replayed left read_failed before after write_failed flushed (Err Close) = IsShort left × (read_failed ≡ false) × IsUnwritten before after write_failed

@@ -1,11 +1,11 @@
 //! The command line of the program.
 
-ghost use Rattle.std.specs.Prelude.{◌≡◌, drop, map, string_bytes};
-ghost use Rattle.clap.specs.Words.{fault_of, kind_of};
-ghost use Rattle.replay_main.specs.Asks.{Asks, IsAskedBy, Collects, app};
+ghost use Rattle.std.specs.Prelude.{◌≡◌, ◌≤◌, drop, map, option_map, string_bytes, IfSome};
+ghost use Rattle.clap.specs.Words.{kind_of};
+ghost use Rattle.replay_main.specs.Asks.{Asks, IsAskedBy, Collects, digit_said, workers_said};
 
 use clap::error::ErrorKind;
-use clap::{Command, Error};
+use clap::{Arg, Command, Error};
 use std::alloc::Global;
 use std::convert::AsStr;
 use std::{env, io};
@@ -16,9 +16,10 @@ use thiserror::Error;
 pub enum Ask {
     /// A replay.
     Run {
-        /// How many sessions run the commands.
+        /// How many workers replay the trace, 1 to 8.
         workers: u8,
-        /// Whether the trace is only rehearsed.
+        /// Whether the trace is only rehearsed. No words ask for that yet: `--rehearse` is a bad
+        /// command line.
         rehearse: bool,
     },
     /// A text that says how the program is called.
@@ -29,7 +30,7 @@ pub enum Ask {
 /// `TextFault`.)
 #[derive(Clone, Copy, Debug, PartialEq, Eq, Error)]
 pub enum LineFault {
-    /// A word is not known, or no text.
+    /// A word is not known, or no text, or the number of workers is not one from 1 to 8.
     #[error("bad command line")]
     Bad,
     /// There was no memory.
@@ -37,16 +38,17 @@ pub enum LineFault {
     OutOfMemory,
 }
 
-/// Reads the words after the program's name: none, or `--help`.
+/// Reads the words after the program's name: `--workers N`, where N is a digit from 1 to 8, and
+/// one worker where it is left out; or `--help`.
 pub fn command_line(alloc: Global, words: &[&str]) -> Result<Ask, LineFault>
-    ensures { Asks (fault_of app (map (λ word. word.now) words.now)) result }
+    ensures { Asks (map (λ word. word.now) words.now) result }
 {
     read_words(alloc, words)
 }
 
 /// Reads the arguments of the program, whose first is its name.
 pub(crate) fn read_arguments(alloc: Global, args: &[String]) -> Result<Ask, LineFault>
-    ensures { Asks (fault_of app (map string_bytes (drop 1 args.now))) result }
+    ensures { Asks (map string_bytes (drop 1 args.now)) result }
 {
     read_words(alloc, without_name(args))
 }
@@ -84,15 +86,43 @@ fn without_name(args: &[String]) -> &[String]
 }
 
 fn read_words<S: AsStr>(alloc: Global, words: &[S]) -> Result<Ask, LineFault>
-    ensures { Asks (fault_of app (map S.text words.now)) result }
+    ensures { Asks (map S.text words.now) result }
 {
-    let command = Command::new(alloc, "cgreplay").no_binary_name(true);
+    let workers = Arg::new(alloc, "workers").long("workers");
+    let bare = Command::new(alloc, "cgreplay").no_binary_name(true);
+    let Ok(command) = bare.arg(workers) else {
+        return Err(LineFault::OutOfMemory);
+    };
     match command.try_get_matches_from(words) {
-        Ok(_) => Ok(Ask::Run {
-            workers: 1,
-            rehearse: false,
-        }),
+        Ok(matches) => match read_workers(matches.get_str("workers")) {
+            Some(workers) => Ok(Ask::Run {
+                workers,
+                rehearse: false,
+            }),
+            None => Err(LineFault::Bad),
+        },
         Err(error) => asked_by(alloc, &error),
+    }
+}
+
+/// The number of workers that the value of `--workers` says, where it says one.
+fn read_workers(value: Option<&str>) -> Option<u8>
+    ensures said { result ≡ workers_said (option_map (λ text. text.now) value.entry) }
+    ensures bounds { IfSome result (λ n. (1 ≤ n) × (n ≤ 8)) }
+{
+    match value {
+        Some(text) => read_digit(text.as_bytes()),
+        None => Some(1),
+    }
+}
+
+fn read_digit(text: &[u8]) -> Option<u8>
+    ensures said { result ≡ digit_said text.now }
+    ensures bounds { IfSome result (λ n. (1 ≤ n) × (n ≤ 8)) }
+{
+    match text {
+        [digit @ b'1'..=b'8'] => Some(*digit - b'0'),
+        _ => None,
     }
 }
 

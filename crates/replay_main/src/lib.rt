@@ -6,15 +6,18 @@
 //!
 //! - What a line says, and the bytes of its answer, are those of `trace_lines`. Its public names
 //!   are given on from here.
-//! - The answers are those of the machine of `flat_model` from its start, and so are the two
-//!   numbers of the `Summary`.
+//! - The answers are `answers` of `flat_model`: those of its machine from its start, with 256 groups
+//!   at most beside the root, whatever the number of workers is. So are the two numbers of the
+//!   `Summary`.
+//! - Up to eight workers do the work in three phases: lines become commands, the commands are run at
+//!   a desk by a session for each worker, and their replies become bytes.
 //! - A fault of a replay says what failed. After each but `Write` nothing was written; after
 //!   `Write` a prefix of the answers was. A trace of more than `TRACE_MAX` bytes is too long. Want
 //!   of memory is no answer: it ends the replay.
 //! - `run_program` does what the program's arguments ask for: a replay, or the help text.
 //!   `exit_status` says how the program ends; a fault's message is its text.
-//! - It takes memory in proportion to the trace and its answers, and holds no list of lines.
-//!   Nothing is promised of time, nor of when a device answers.
+//! - It takes memory in proportion to the trace and its answers. Nothing is promised of time, nor of
+//!   when a device answers.
 //!
 //! What a replay leaves stands in `specs/Replayed.antt`, what the program leaves and its statuses
 //! in `specs/Program.antt`, what a whole read and a whole write leave in `specs/Device.antt`, and
@@ -25,18 +28,24 @@ mod arguments;
 mod device;
 mod fault;
 mod input;
+mod logged;
 mod memory;
 mod output;
 mod program;
+mod reading;
+mod runs;
 mod streams;
+mod texts;
 mod trace;
+mod turns;
 
 pub use arguments::{Ask, LineFault, collect_arguments, command_line};
 pub use device::{DeviceFault, Sink, Source};
 pub use fault::ReplayFault;
 pub use input::TRACE_MAX;
 pub use memory::{MemorySink, MemorySource};
+pub use pids_charge::{Gate, OpenGate};
 pub use program::{ProgramFault, exit_status, run_program};
 pub use streams::{StreamSink, StreamSource};
-pub use trace::{Summary, replay};
-pub use trace_lines::{LINE_MAX, Line, TextFault, parse_line, so_far_is_finished};
+pub use trace::{Summary, replay, replay_gated};
+pub use trace_lines::{LINE_MAX, Line, TextFault, parse_line};

@@ -1,8 +1,6 @@
 //! The program over any source and sink, and the status that it ends with.
 
 ghost use Rattle.std.specs.Prelude.{◌≡◌, drop, false, map, string_bytes};
-ghost use Rattle.clap.specs.Words.{fault_of};
-ghost use Rattle.replay_main.specs.Asks.{app};
 ghost use Rattle.replay_main.specs.Program.{Ran, status_of};
 
 use crate::arguments::{Ask, LineFault, read_arguments};
@@ -41,18 +39,13 @@ pub fn run_program<R: Threads + Wait + Sync, S: Source, W: Sink>(
 ) -> Result<(), ProgramFault>
     requires reader { S.is_failed reader.old ≡ false }
     requires writer { W.is_failed writer.old ≡ false }
-    ensures { Ran (fault_of app (map string_bytes (drop 1 args.now)))
+    ensures { Ran (map string_bytes (drop 1 args.now))
         (S.left reader.old) (S.is_failed reader.new)
         (W.taken writer.old) (W.taken writer.new) (W.is_failed writer.new) (W.is_flushed writer.new)
         result }
 {
     match read_arguments(alloc, args) {
-        Ok(
-            Ask::Run {
-                workers,
-                rehearse: _,
-            },
-        ) => match replay(rt, alloc, reader, writer, workers) {
+        Ok(Ask::Run { workers, .. }) => match replay(rt, alloc, reader, writer, workers) {
             Ok(_) => Ok(()),
             Err(fault) => Err(ProgramFault::Replay(fault)),
         },

@@ -1,19 +1,19 @@
 //! A trace, from its bytes to the bytes of its answers.
 
-ghost use Rattle.std.specs.Prelude.{◌≡◌, ◌≤◌, length, false, IfOk};
+ghost use Rattle.std.specs.Prelude.{◌≡◌, ◌≤◌, length, false, IfOk, IfErr};
 ghost use Rattle.flat_model.specs.Trace.{trace_max};
-ghost use Rattle.undo_journal.specs.Meaning.{command_of};
-ghost use Rattle.replay_main.specs.Replayed.{IsAnswered, Replayed, RunsOne};
+ghost use Rattle.replay_main.specs.Replayed.{EndsWork, IsAnswered, Replayed};
 
 use crate::input::read_whole;
 use crate::output::write_whole;
+use crate::reading::{commands_of, read_lines};
+use crate::texts::{count_commands, count_faults, count_refused, merge, texts_of};
+use crate::turns::run_commands;
 use crate::{ReplayFault, Sink, Source};
-use pids_charge::PlainMeter;
-use std::alloc::{AllocError, Global};
+use pids_charge::{Gate, OpenGate};
+use std::alloc::Global;
 use std::sync::Wait;
 use std::thread::Threads;
-use trace_lines::{Line, Lines, is_refused, parse_line, put_fault, put_reply};
-use undo_journal::{Command, Engine};
 
 /// The two numbers of a replay.
 #[derive(Clone, Copy, Debug, PartialEq, Eq)]
@@ -31,53 +31,43 @@ pub(crate) struct Answered {
     pub(crate) summary: Summary,
 }
 
-/// Runs a command and puts its answer behind the bytes; tells whether it was refused.
-fn run<R: Threads + Wait + Sync>(
+/// Answers each line of a trace.
+fn answer<R: Threads + Wait + Sync, G: Gate>(
     rt: &R,
     alloc: Global,
-    engine: &mut Engine<Global, PlainMeter<Global>>,
-    bytes: &mut Vec<u8>,
-    number: u64,
-    command: &Command<Global>,
-) -> Result<bool, AllocError>
-    ensures { IfOk result (λ was_refused. RunsOne engine.old engine.new
-        bytes.old.items number (command_of command.now) bytes.new.items was_refused) }
-{
-    let reply = engine.apply(rt, 0, command);
-    put_reply(alloc, bytes, number, &reply)?;
-    Ok(is_refused(&reply))
-}
-
-/// Answers each line of a trace in turn.
-fn answer<R: Threads + Wait + Sync>(
-    rt: &R,
-    alloc: Global,
+    gate: &G,
     trace: &[u8],
-) -> Result<Answered, AllocError>
-    requires { length trace.now ≤ trace_max }
-    ensures { IfOk result (λ a. IsAnswered trace.now a.bytes.items a.summary) }
+    workers: u8,
+) -> Result<Answered, ReplayFault>
+    requires workers { (1 ≤ workers) × (workers ≤ 8) }
+    requires trace { length trace.now ≤ trace_max }
+    ensures ok { IfOk result (λ a. IsAnswered trace.now a.bytes.items a.summary) }
+    ensures fault { IfErr result EndsWork }
 {
-    let mut engine = Engine::new(alloc, PlainMeter::new(alloc)?)?;
-    let mut bytes = Vec::new(alloc);
-    let mut commands = 0u64;
-    let mut refused = 0u64;
-    for line in Lines::of(trace) {
-        match parse_line(alloc, line)? {
-            Line::Skip => {}
-            Line::Fault(fault) => {
-                commands += 1;
-                refused += 1;
-                put_fault(&mut bytes, commands, fault)?;
-            }
-            Line::Run(command) => {
-                commands += 1;
-                if run(rt, alloc, &mut engine, &mut bytes, commands, &command)? {
-                    refused += 1;
-                }
-            }
-        }
-    }
-    let summary = Summary { commands, refused };
+    let Ok(lines) = read_lines(rt, alloc, gate, workers, trace) else {
+        return Err(ReplayFault::OutOfMemory);
+    };
+    let Ok(commands) = commands_of(alloc, lines.as_slice()) else {
+        return Err(ReplayFault::OutOfMemory);
+    };
+    let log = run_commands(rt, alloc, gate, workers, commands.as_slice())?;
+    let Ok(texts) = texts_of(
+        rt,
+        alloc,
+        gate,
+        workers,
+        commands.as_slice(),
+        log.as_slice(),
+    ) else {
+        return Err(ReplayFault::OutOfMemory);
+    };
+    let Ok(bytes) = merge(alloc, lines.as_slice(), texts.as_slice()) else {
+        return Err(ReplayFault::OutOfMemory);
+    };
+    let summary = Summary {
+        commands: count_commands(lines.as_slice()),
+        refused: count_faults(lines.as_slice()) + count_refused(log.as_slice()),
+    };
     Ok(Answered { bytes, summary })
 }
 
@@ -88,11 +78,17 @@ fn answer<R: Threads + Wait + Sync>(
 /// what the engine takes for each command, it takes time and memory linear in the trace and its
 /// answers.
 ///
+/// The work is done in three phases by as many workers, each in a thread of its own where one can
+/// be had, the caller being one of them: the lines are read; the commands are run at a desk, the
+/// i-th by session i mod `workers` at turn i; the replies become bytes. The answers are the same for
+/// every number of workers.
+///
 /// # Errors
 ///
-/// `Read` where a read failed; `InputTooLong` past `TRACE_MAX` bytes; `OutOfMemory`. In all these
-/// nothing was written. `Write` where a write or the flush failed or a write took no bytes; then a
-/// prefix of the answers was written.
+/// `Read` where a read failed; `InputTooLong` past `TRACE_MAX` bytes; `OutOfMemory`; `Close` where
+/// the desk was not closed or its log has not the commands of the trace. In all these nothing was
+/// written. `Write` where a write or the flush failed or a write took no bytes; then a prefix of the
+/// answers was written.
 pub fn replay<R: Threads + Wait + Sync, S: Source, W: Sink>(
     rt: &R,
     alloc: Global,
@@ -100,7 +96,31 @@ pub fn replay<R: Threads + Wait + Sync, S: Source, W: Sink>(
     writer: &mut W,
     workers: u8,
 ) -> Result<Summary, ReplayFault>
-    requires workers { workers ≡ 1 }
+    requires workers { (1 ≤ workers) × (workers ≤ 8) }
+    requires reader { S.is_failed reader.old ≡ false }
+    requires writer { W.is_failed writer.old ≡ false }
+    ensures { Replayed (S.left reader.old) (S.is_failed reader.new)
+        (W.taken writer.old) (W.taken writer.new) (W.is_failed writer.new) (W.is_flushed writer.new)
+        result }
+{
+    replay_gated(rt, alloc, &OpenGate, reader, writer, workers)
+}
+
+/// The same, with a gate: at the start of phase p, counted from 0, the thread that does the work of
+/// worker w, counted from 0, passes part `p * workers + w + 1`. It may wait for the gate.
+///
+/// # Errors
+///
+/// As for `replay`.
+pub fn replay_gated<R: Threads + Wait + Sync, S: Source, W: Sink>(
+    rt: &R,
+    alloc: Global,
+    gate: &(dyn Gate + Sync),
+    reader: &mut S,
+    writer: &mut W,
+    workers: u8,
+) -> Result<Summary, ReplayFault>
+    requires workers { (1 ≤ workers) × (workers ≤ 8) }
     requires reader { S.is_failed reader.old ≡ false }
     requires writer { W.is_failed writer.old ≡ false }
     ensures { Replayed (S.left reader.old) (S.is_failed reader.new)
@@ -108,9 +128,7 @@ pub fn replay<R: Threads + Wait + Sync, S: Source, W: Sink>(
         result }
 {
     let trace = read_whole(alloc, reader)?;
-    let Ok(answered) = answer(rt, alloc, trace.as_slice()) else {
-        return Err(ReplayFault::OutOfMemory);
-    };
+    let answered = answer(rt, alloc, &gate, trace.as_slice(), workers)?;
     match write_whole(writer, answered.bytes.as_slice()) {
         Ok(()) => Ok(answered.summary),
         Err(_) => Err(ReplayFault::Write),

@@ -3,16 +3,15 @@ use Rattle.std.proofs.Common.{◌≡◌, List, [], ◌∷◌, ap, sym, subst, Op
 use Rattle.flat_model.specs.Refuse.{and_then}
 use Rattle.flat_model.specs.Path.{Path}
 use Rattle.flat_model.specs.Command as model
-use Rattle.flat_model.specs.Trace.{Word, path_word}
+use Rattle.flat_model.specs.Trace.{Word, path_word, write_words, cat_of}
 use Rattle.flat_model.specs.Trace as trace
 use Rattle.undo_journal.specs.declared.command.Command.{Command}
 use Rattle.trace_lines.specs.declared.action.Action.{Action}
 use Rattle.trace_lines.specs.declared.fault.TextFault.{TextFault}
 use Rattle.trace_lines.specs.declared.fault.Unread.{Unread}
-use Rattle.trace_lines.specs.Action.{action_at, ReadsAction}
+use Rattle.trace_lines.specs.Action.{write_at, show_at, action_at, ReadsAction}
 use Rattle.trace_lines.specs.Cut.{the_two, the_three}
 use Rattle.trace_lines.specs.Meaning.{ReadsPath, ReadsCommand}
-use Rattle.trace_lines.specs.SoFar.{write_at, show_at, write_so_far, cat_so_far}
 
 -- ---- the words
 
@@ -45,11 +44,11 @@ same_words : {A : Type 0} (m : Result Path trace.TextFault) (path : Result Path 
 same_words m path action r next is says reads = subst (λ f. ReadsCommand r (and_then m f)) (λ i q. says q i) (reads m is)
 
 pub write_reads : {A : Type 0} (ws : List Word) (p f v : Word) (path : Result Path Unread) (action : Result Action TextFault) (r : Result (Command A) Unread)
-    → Some (p, f, v) ≡ the_three ws → ReadsPath path (path_word p) → ((q : Path) → action_at q action ≡ write_at q f v) → ReadsAction path action r → ReadsCommand r (write_so_far ws)
+    → Some (p, f, v) ≡ the_three ws → ReadsPath path (path_word p) → ((q : Path) → action_at q action ≡ write_at q f v) → ReadsAction path action r → ReadsCommand r (write_words ws)
 write_reads ws p f v path action r words is says reads =
-    subst (λ l. ReadsCommand r (write_so_far l)) (sym (three_are ws p f v words)) (same_words (path_word p) path action r (λ q. write_at q f v) is says reads)
+    subst (λ l. ReadsCommand r (write_words l)) (sym (three_are ws p f v words)) (same_words (path_word p) path action r (λ q. write_at q f v) is says reads)
 
 pub cat_reads : {A : Type 0} (ws : List Word) (p f : Word) (path : Result Path Unread) (action : Result Action TextFault) (r : Result (Command A) Unread)
-    → Some (p, f) ≡ the_two ws → ReadsPath path (path_word p) → ((q : Path) → action_at q action ≡ show_at q f) → ReadsAction path action r → ReadsCommand r (cat_so_far ws)
+    → Some (p, f) ≡ the_two ws → ReadsPath path (path_word p) → ((q : Path) → action_at q action ≡ show_at q f) → ReadsAction path action r → ReadsCommand r (cat_of ws)
 cat_reads ws p f path action r words is says reads =
-    subst (λ l. ReadsCommand r (cat_so_far l)) (sym (two_are ws p f words)) (same_words (path_word p) path action r (λ q. show_at q f) is says reads)
+    subst (λ l. ReadsCommand r (cat_of l)) (sym (two_are ws p f words)) (same_words (path_word p) path action r (λ q. show_at q f) is says reads)

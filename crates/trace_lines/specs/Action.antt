@@ -3,27 +3,29 @@ use Rattle.std.specs.Prelude.{Result, Ok, Err}
 use Rattle.group_tree.specs.Flat.{limit_of, limit_file_of}
 use Rattle.flat_model.specs.Refuse.{and_then}
 use Rattle.flat_model.specs.Path.{Path}
-use Rattle.flat_model.specs.File as model_file
 use Rattle.flat_model.specs.Command as model
+use Rattle.flat_model.specs.Trace.{Word, file_word, write_of, show_of}
 use Rattle.flat_model.specs.Trace as trace
+use Rattle.interface_files.specs.Meaning.{file_of}
 use Rattle.undo_journal.specs.declared.command.Command.{Command}
-use Rattle.undo_journal.specs.Meaning.{file_of}
 use Rattle.trace_lines.specs.declared.action.Action.{Action}
-use Rattle.trace_lines.specs.declared.action.Action.TheVariants.{Move, SetLimit, Show}
-use Rattle.trace_lines.specs.declared.action.WrittenFile.{WrittenFile}
-use Rattle.trace_lines.specs.declared.action.WrittenFile.TheVariants.{Procs, Limit}
+use Rattle.trace_lines.specs.declared.action.Action.TheVariants.{Move, SetLimit, Kill, Show}
 use Rattle.trace_lines.specs.declared.fault.TextFault.{TextFault}
 use Rattle.trace_lines.specs.declared.fault.Unread.{Unread}
 use Rattle.trace_lines.specs.Meaning.{text_fault_of, ReadsPath, ReadsCommand}
 
-abbrev pub written_file_of : WrittenFile → model_file.File
-written_file_of Procs = model_file.Procs
-written_file_of (Limit file) = model_file.LimitOf (limit_file_of file)
+-- what is said behind the path of a `write`, and of a `cat`
+abbrev pub write_at : Path → Word → Word → Result model.Command trace.TextFault
+write_at path file value = and_then (file_word file) (λ f. write_of path f value)
+
+abbrev pub show_at : Path → Word → Result model.Command trace.TextFault
+show_at path file = and_then (file_word file) (show_of path)
 
 -- the command that an action is at a path
 abbrev pub command_at : Path → Action → model.Command
 command_at path (Move pid) = model.Move path pid
 command_at path (SetLimit file value) = model.SetLimit path (limit_file_of file) (limit_of value)
+command_at path Kill = model.Kill path
 command_at path (Show file) = model.Show path (file_of file)
 
 -- that command, or the fault in place of an action

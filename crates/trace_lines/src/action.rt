@@ -1,19 +1,17 @@
 //! What a `write` or a `cat` does to a file of a group, by the words behind the path.
 
-ghost use Rattle.std.specs.Prelude.{◌≡◌, option_map, find};
-ghost use Rattle.flat_model.specs.Path.{Path, same_name};
-ghost use Rattle.flat_model.specs.File.{file_name};
-ghost use Rattle.flat_model.specs.Trace.{write_of};
-ghost use Rattle.undo_journal.specs.Meaning.{file_of};
-ghost use Rattle.trace_lines.specs.Action.{action_at, written_file_of};
-ghost use Rattle.trace_lines.specs.SoFar.{written_so_far, shown_so_far, write_at, show_at};
+ghost use Rattle.std.specs.Prelude.{◌≡◌};
+ghost use Rattle.flat_model.specs.Path.{Path};
+ghost use Rattle.flat_model.specs.Trace.{show_of, write_of};
+ghost use Rattle.group_tree.specs.Flat.{limit_file_of};
+ghost use Rattle.flat_model.specs.File as model_file;
+ghost use Rattle.interface_files.specs.Meaning.{file_of};
+ghost use Rattle.trace_lines.specs.Action.{action_at, show_at, write_at};
 
 use crate::TextFault;
-use crate::limits::read_limit;
-use crate::pids::read_pid;
-use crate::words::is_word;
 use group_tree::{Limit, LimitFile};
-use undo_journal::{File, Pid};
+use interface_files::{File, read_kill, read_limit, read_pid};
+use pids_charge::Pid;
 
 /// A command that names a file, without its path.
 #[derive(Clone, Copy)]
@@ -22,67 +20,50 @@ pub(crate) enum Action {
     Move(Pid),
     /// The limit of the group is set.
     SetLimit(LimitFile, Limit),
+    /// The processes of the group and below it are ended.
+    Kill,
     /// The file of the group is shown.
     Show(File),
 }
 
-/// A file that can be written.
-#[derive(Clone, Copy)]
-pub(crate) enum WrittenFile {
-    /// `cgroup.procs`.
-    Procs,
-    /// A limit.
-    Limit(LimitFile),
-}
-
-/// The file of that name, if it can be written.
-fn written_file(word: &[u8]) -> Option<WrittenFile>
-    ensures { option_map written_file_of result
-        ≡ find (λ f. same_name (file_name f) word.now) written_so_far }
+fn write_limit(file: LimitFile, value: &[u8]) -> Result<Action, TextFault>
+    ensures { (path : Path) → action_at path result
+        ≡ write_of path (model_file.LimitOf (limit_file_of file)) value.now }
 {
-    if is_word(b"cgroup.procs", word) {
-        return Some(WrittenFile::Procs);
+    match read_limit(file, value) {
+        Ok(value) => Ok(Action::SetLimit(file, value)),
+        Err(_) => Err(TextFault::Value),
     }
-    if is_word(b"cgroup.max.descendants", word) {
-        return Some(WrittenFile::Limit(LimitFile::MaxDescendants));
-    }
-    if is_word(b"cgroup.max.depth", word) {
-        return Some(WrittenFile::Limit(LimitFile::MaxDepth));
-    }
-    if is_word(b"pids.max", word) {
-        return Some(WrittenFile::Limit(LimitFile::PidsMax));
-    }
-    None
 }
 
-/// The file of that name, if it can be shown.
-fn shown_file(word: &[u8]) -> Option<File>
-    ensures { option_map file_of result
-        ≡ find (λ f. same_name (file_name f) word.now) shown_so_far }
-{
-    if is_word(b"cgroup.stat", word) {
-        return Some(File::Stat);
-    }
-    if is_word(b"pids.current", word) {
-        return Some(File::PidsCurrent);
-    }
-    None
-}
-
-/// What a value does to a file.
-fn read_value(file: WrittenFile, value: &[u8]) -> Result<Action, TextFault>
-    ensures { (path : Path)
-        → action_at path result ≡ write_of path (written_file_of file) value.now }
+/// What a value does to a file. Whether the file is written at all comes before the value.
+fn write_value(file: File, value: &[u8]) -> Result<Action, TextFault>
+    ensures { (path : Path) → action_at path result ≡ write_of path (file_of file) value.now }
 {
     match file {
-        WrittenFile::Procs => match read_pid(value) {
-            Some(pid) => Ok(Action::Move(pid)),
-            None => Err(TextFault::Value),
+        File::Procs => match read_pid(value) {
+            Ok(pid) => Ok(Action::Move(pid)),
+            Err(_) => Err(TextFault::Value),
         },
-        WrittenFile::Limit(file) => match read_limit(file, value) {
-            Some(value) => Ok(Action::SetLimit(file, value)),
-            None => Err(TextFault::Value),
+        File::MaxDescendants => write_limit(LimitFile::MaxDescendants, value),
+        File::MaxDepth => write_limit(LimitFile::MaxDepth, value),
+        File::PidsMax => write_limit(LimitFile::PidsMax, value),
+        File::KillFile => match read_kill(value) {
+            Ok(()) => Ok(Action::Kill),
+            Err(_) => Err(TextFault::Value),
         },
+        File::Events | File::Stat | File::PidsCurrent | File::PidsEvents | File::PidsEventsLocal =>
+            Err(TextFault::Direction),
+    }
+}
+
+fn show_file(file: File) -> Result<Action, TextFault>
+    ensures { (path : Path) → action_at path result ≡ show_of path (file_of file) }
+{
+    if file.readable() {
+        Ok(Action::Show(file))
+    } else {
+        Err(TextFault::Direction)
     }
 }
 
@@ -90,8 +71,8 @@ fn read_value(file: WrittenFile, value: &[u8]) -> Result<Action, TextFault>
 pub(crate) fn read_written(file: &[u8], value: &[u8]) -> Result<Action, TextFault>
     ensures { (path : Path) → action_at path result ≡ write_at path file.now value.now }
 {
-    match written_file(file) {
-        Some(file) => read_value(file, value),
+    match File::read(file) {
+        Some(file) => write_value(file, value),
         None => Err(TextFault::File),
     }
 }
@@ -100,8 +81,8 @@ pub(crate) fn read_written(file: &[u8], value: &[u8]) -> Result<Action, TextFaul
 pub(crate) fn read_shown(file: &[u8]) -> Result<Action, TextFault>
     ensures { (path : Path) → action_at path result ≡ show_at path file.now }
 {
-    match shown_file(file) {
-        Some(file) => Ok(Action::Show(file)),
+    match File::read(file) {
+        Some(file) => show_file(file),
         None => Err(TextFault::File),
     }
 }

@@ -1,19 +1,18 @@
-//! The command of a line, by its words: their number is looked at first, then the path, the file
-//! and the value.
+//! The command of a line, by its words: their number is looked at first, then the path, the file,
+//! the direction and the value.
 
 ghost use Rattle.std.specs.Prelude.{◌≡◌};
-ghost use Rattle.flat_model.specs.Trace.{path_word, mkdir_of, rmdir_of, fork_of, exit_of, undo_of};
+ghost use Rattle.flat_model.specs.Trace.{path_word, mkdir_of, rmdir_of, fork_of, exit_of, write_words, cat_of, where_of, undo_of, command_of_words};
 ghost use Rattle.undo_journal.specs.Meaning.{command_of};
 ghost use Rattle.trace_lines.specs.Action.{command_at, ReadsAction};
 ghost use Rattle.trace_lines.specs.Meaning.{ReadsPath, ReadsCommand};
-ghost use Rattle.trace_lines.specs.SoFar.{write_so_far, cat_so_far, command_so_far};
 
 use crate::TextFault;
 use crate::action::{Action, read_shown, read_written};
 use crate::fault::Unread;
-use crate::pids::read_pid;
 use crate::words::{Words, is_word, one_word, three_words, two_words};
 use group_path::{GroupPath, PathFault};
+use interface_files::read_pid;
 use std::alloc::Global;
 use undo_journal::Command;
 
@@ -53,10 +52,10 @@ fn read_fork(rest: Words<'_>) -> Result<Command<Global>, Unread>
     let Some((parent, child)) = two_words(rest) else {
         return Err(Unread::Fault(TextFault::Syntax));
     };
-    let Some(parent) = read_pid(parent) else {
+    let Ok(parent) = read_pid(parent) else {
         return Err(Unread::Fault(TextFault::Value));
     };
-    let Some(child) = read_pid(child) else {
+    let Ok(child) = read_pid(child) else {
         return Err(Unread::Fault(TextFault::Value));
     };
     Ok(Command::Fork { parent, child })
@@ -68,7 +67,7 @@ fn read_exit(rest: Words<'_>) -> Result<Command<Global>, Unread>
     let Some(pid) = one_word(rest) else {
         return Err(Unread::Fault(TextFault::Syntax));
     };
-    let Some(pid) = read_pid(pid) else {
+    let Ok(pid) = read_pid(pid) else {
         return Err(Unread::Fault(TextFault::Value));
     };
     Ok(Command::Exit(pid))
@@ -81,6 +80,7 @@ fn command_at(path: GroupPath<Global>, action: Action) -> Command<Global>
     match action {
         Action::Move(pid) => Command::Move { path, pid },
         Action::SetLimit(file, value) => Command::SetLimit { path, file, value },
+        Action::Kill => Command::Kill(path),
         Action::Show(file) => Command::Show { path, file },
     }
 }
@@ -107,7 +107,7 @@ fn read_action(
 }
 
 fn read_write(alloc: Global, rest: Words<'_>) -> Result<Command<Global>, Unread>
-    ensures { ReadsCommand result (write_so_far rest.entry) }
+    ensures { ReadsCommand result (write_words rest.entry) }
 {
     let Some((path, file, value)) = three_words(rest) else {
         return Err(Unread::Fault(TextFault::Syntax));
@@ -118,7 +118,7 @@ fn read_write(alloc: Global, rest: Words<'_>) -> Result<Command<Global>, Unread>
 }
 
 fn read_cat(alloc: Global, rest: Words<'_>) -> Result<Command<Global>, Unread>
-    ensures { ReadsCommand result (cat_so_far rest.entry) }
+    ensures { ReadsCommand result (cat_of rest.entry) }
 {
     let Some((path, file)) = two_words(rest) else {
         return Err(Unread::Fault(TextFault::Syntax));
@@ -126,6 +126,18 @@ fn read_cat(alloc: Global, rest: Words<'_>) -> Result<Command<Global>, Unread>
     let action = read_shown(file);
     let path = read_path(alloc, path);
     read_action(path, action)
+}
+
+fn read_where(rest: Words<'_>) -> Result<Command<Global>, Unread>
+    ensures { ReadsCommand result (where_of rest.entry) }
+{
+    let Some(pid) = one_word(rest) else {
+        return Err(Unread::Fault(TextFault::Syntax));
+    };
+    let Ok(pid) = read_pid(pid) else {
+        return Err(Unread::Fault(TextFault::Value));
+    };
+    Ok(Command::Locate(pid))
 }
 
 fn read_undo(rest: Words<'_>) -> Result<Command<Global>, Unread>
@@ -139,13 +151,13 @@ fn read_undo(rest: Words<'_>) -> Result<Command<Global>, Unread>
 }
 
 /// The command of the first word and those behind it.
-#[tactic(auto, unfolding(crate::specs::SoFar::command_so_far))]
+#[tactic(auto, unfolding(flat_model::specs::Trace::command_of_words))]
 pub(crate) fn read_command(
     alloc: Global,
     first: &[u8],
     rest: Words<'_>,
 ) -> Result<Command<Global>, Unread>
-    ensures { ReadsCommand result (command_so_far first.now rest.entry) }
+    ensures { ReadsCommand result (command_of_words first.now rest.entry) }
 {
     if is_word(first, b"mkdir") {
         return read_mkdir(alloc, rest);
@@ -164,6 +176,9 @@ pub(crate) fn read_command(
     }
     if is_word(first, b"cat") {
         return read_cat(alloc, rest);
+    }
+    if is_word(first, b"where") {
+        return read_where(rest);
     }
     if is_word(first, b"undo") {
         return read_undo(rest);

@@ -1,9 +1,8 @@
 //! What a line of a trace says.
 
 ghost use Rattle.std.specs.Prelude.{◌≡◌};
-ghost use Rattle.flat_model.specs.Trace.{is_comment};
+ghost use Rattle.flat_model.specs.Trace.{is_comment, read_line};
 ghost use Rattle.trace_lines.specs.Meaning.{Says};
-ghost use Rattle.trace_lines.specs.SoFar.{read_line_so_far};
 
 use crate::TextFault;
 use crate::commands::read_command;
@@ -42,7 +41,7 @@ fn is_comment(word: &[u8]) -> bool
 ///
 /// `AllocError` where memory for the path was refused, and the line says a command that has one.
 pub fn parse_line(alloc: Global, bytes: &[u8]) -> Result<Line, AllocError>
-    ensures { Says result (read_line_so_far bytes.now) }
+    ensures { Says result (read_line bytes.now) }
 {
     let mut words = Words::of(bytes);
     let Some(first) = words.next() else {

@@ -86,6 +86,7 @@ fn put_refusal(bytes: &mut Vec<u8>, refusal: &Refusal<Global>) -> Result<(), All
             bytes.extend_from_slice(path.text())
         }
         Refusal::NoFile => bytes.extend_from_slice(b"nofile"),
+        Refusal::NotReadable => bytes.extend_from_slice(b"direction"),
     }
 }
 

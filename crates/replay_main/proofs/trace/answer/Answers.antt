@@ -1,88 +1,29 @@
-use Rattle.std.proofs.Common.{◌≡◌, ◌+◌, cond, ap, ◌∙◌}
+use Rattle.std.proofs.Common.{◌≡◌, ◌∙◌, map, refl, ap}
+use Rattle.std.specs.List.{count_by}
+use Rattle.flat_model.specs.Machine.{new_machine, replies}
+use Rattle.flat_model.specs.Replies.{commands_in, command_count, is_fault, is_refused}
+use Rattle.replay_main.specs.Numbered.{numbers_from, merged, texts_at}
+use Rattle.replay_main.specs.Replayed.{slots}
 use Rattle.undo_journal.specs.Meaning.{command_of}
 use Rattle.trace_lines.specs.Meaning.{trace_line_of}
-use Rattle.trace_lines.specs.SoFar.{read_trace_so_far}
-use Rattle.replay_main.proofs.Standing.{stands_first, stands_ran, raised, stayed}
+use Rattle.replay_main.proofs.Answered.{is_answered}
 use Rattle.replay_main.proofs.trace.answer.Goals as goal
-use Rattle.replay_main.proofs.trace.answer.Goals.{then-branch, else-branch}
 
-pub loop-line-init : goal.loop-line-init
-loop-line-init g c = (tt, tt, stands_first c.args.trace.now c.new-bytes.result.items c.into_iter-line-iterator.result c.in_ok-engine.engine c.requires (c.into_iter-line-iterator.ensures.into_iter_gives ∙ c.of-line-items.ensures) c.in_ok-engine.ensures c.new-bytes.ensures.items)
-
-pub loop-line-preserved-after-branch : goal.loop-line-preserved-after-branch
-loop-line-preserved-after-branch g c =
-    let counted : c.if-branch.refused ≡ c.loop-line.refused + cond c.in_ok-run-in-Run.field-0 1 0 = elim c.if-branch.branch [
-      | then-branch w ↦ raised c.loop-line.refused c.if-branch.refused c.in_ok-run-in-Run.field-0 w.if-branch.true w.refused-is
-      | else-branch w ↦ stayed c.loop-line.refused c.if-branch.refused c.in_ok-run-in-Run.field-0 w.if-branch.false w.refused-is
-    ] in (
-      tt,
-      tt,
-      stands_ran (read_trace_so_far c.args.trace.now) c.loop-line.line-iterator c.next.new.self c.in-Some.line.now (trace_line_of c.in_ok-parse_line.field-0) c.loop-line.engine c.run.new.engine
-          c.loop-line.bytes.items c.run.new.bytes.items c.loop-line.commands c.loop-line.refused c.if-branch.refused (command_of c.in-Run.command) c.in_ok-run-in-Run.field-0
-          c.in-Some.ensures.steps c.in_ok-parse_line.ensures (ap trace_line_of c.in-Run.is) c.in_ok-run-in-Run.ensures counted c.loop-line.invariant.2,
-    )
-
-pub loop-line-preserved-after-branch-2 : goal.loop-line-preserved-after-branch-2
-loop-line-preserved-after-branch-2 g c =
-    let counted : c.if-branch.refused ≡ c.loop-line.refused + cond c.in_ok-run-in-Run.field-0 1 0 = elim c.if-branch.branch [
-      | then-branch w ↦ raised c.loop-line.refused c.if-branch.refused c.in_ok-run-in-Run.field-0 w.if-branch.true w.refused-is
-      | else-branch w ↦ stayed c.loop-line.refused c.if-branch.refused c.in_ok-run-in-Run.field-0 w.if-branch.false w.refused-is
-    ] in (
-      tt,
-      tt,
-      stands_ran (read_trace_so_far c.args.trace.now) c.loop-line.line-iterator c.next.new.self c.in-Some.line.now (trace_line_of c.in_ok-parse_line.field-0) c.loop-line.engine c.run.new.engine
-          c.loop-line.bytes.items c.run.new.bytes.items c.loop-line.commands c.loop-line.refused c.if-branch.refused (command_of c.in-Run.command) c.in_ok-run-in-Run.field-0
-          c.in-Some.ensures.steps c.in_ok-parse_line.ensures (ap trace_line_of c.in-Run.is) c.in_ok-run-in-Run.ensures counted c.loop-line.invariant.2,
-    )
-
-pub loop-line-preserved-after-branch-3 : goal.loop-line-preserved-after-branch-3
-loop-line-preserved-after-branch-3 g c =
-    let counted : c.if-branch.refused ≡ c.loop-line.refused + cond c.in_ok-run-in-Run.field-0 1 0 = elim c.if-branch.branch [
-      | then-branch w ↦ raised c.loop-line.refused c.if-branch.refused c.in_ok-run-in-Run.field-0 w.if-branch.true w.refused-is
-      | else-branch w ↦ stayed c.loop-line.refused c.if-branch.refused c.in_ok-run-in-Run.field-0 w.if-branch.false w.refused-is
-    ] in (
-      tt,
-      tt,
-      stands_ran (read_trace_so_far c.args.trace.now) c.loop-line.line-iterator c.next.new.self c.in-Some.line.now (trace_line_of c.in_ok-parse_line.field-0) c.loop-line.engine c.run.new.engine
-          c.loop-line.bytes.items c.run.new.bytes.items c.loop-line.commands c.loop-line.refused c.if-branch.refused (command_of c.in-Run.command) c.in_ok-run-in-Run.field-0
-          c.in-Some.ensures.steps c.in_ok-parse_line.ensures (ap trace_line_of c.in-Run.is) c.in_ok-run-in-Run.ensures counted c.loop-line.invariant.2,
-    )
-
-pub loop-line-preserved-after-branch-4 : goal.loop-line-preserved-after-branch-4
-loop-line-preserved-after-branch-4 g c =
-    let counted : c.if-branch.refused ≡ c.loop-line.refused + cond c.in_ok-run-in-Run.field-0 1 0 = elim c.if-branch.branch [
-      | then-branch w ↦ raised c.loop-line.refused c.if-branch.refused c.in_ok-run-in-Run.field-0 w.if-branch.true w.refused-is
-      | else-branch w ↦ stayed c.loop-line.refused c.if-branch.refused c.in_ok-run-in-Run.field-0 w.if-branch.false w.refused-is
-    ] in (
-      tt,
-      tt,
-      stands_ran (read_trace_so_far c.args.trace.now) c.loop-line.line-iterator c.next.new.self c.in-Some.line.now (trace_line_of c.in_ok-parse_line.field-0) c.loop-line.engine c.run.new.engine
-          c.loop-line.bytes.items c.run.new.bytes.items c.loop-line.commands c.loop-line.refused c.if-branch.refused (command_of c.in-Run.command) c.in_ok-run-in-Run.field-0
-          c.in-Some.ensures.steps c.in_ok-parse_line.ensures (ap trace_line_of c.in-Run.is) c.in_ok-run-in-Run.ensures counted c.loop-line.invariant.2,
-    )
-
-pub loop-line-preserved-after-branch-5 : goal.loop-line-preserved-after-branch-5
-loop-line-preserved-after-branch-5 g c =
-    let counted : c.if-branch.refused ≡ c.loop-line.refused + cond c.in_ok-run-in-Run.field-0 1 0 = elim c.if-branch.branch [
-      | then-branch w ↦ raised c.loop-line.refused c.if-branch.refused c.in_ok-run-in-Run.field-0 w.if-branch.true w.refused-is
-      | else-branch w ↦ stayed c.loop-line.refused c.if-branch.refused c.in_ok-run-in-Run.field-0 w.if-branch.false w.refused-is
-    ] in (
-      tt,
-      tt,
-      stands_ran (read_trace_so_far c.args.trace.now) c.loop-line.line-iterator c.next.new.self c.in-Some.line.now (trace_line_of c.in_ok-parse_line.field-0) c.loop-line.engine c.run.new.engine
-          c.loop-line.bytes.items c.run.new.bytes.items c.loop-line.commands c.loop-line.refused c.if-branch.refused (command_of c.in-Run.command) c.in_ok-run-in-Run.field-0
-          c.in-Some.ensures.steps c.in_ok-parse_line.ensures (ap trace_line_of c.in-Run.is) c.in_ok-run-in-Run.ensures counted c.loop-line.invariant.2,
-    )
-
-pub loop-line-preserved : goal.loop-line-preserved
-loop-line-preserved g c =
-    let counted : c.if-branch.refused ≡ c.loop-line.refused + cond c.in_ok-run-in-Run.field-0 1 0 = elim c.if-branch.branch [
-      | then-branch w ↦ raised c.loop-line.refused c.if-branch.refused c.in_ok-run-in-Run.field-0 w.if-branch.true w.refused-is
-      | else-branch w ↦ stayed c.loop-line.refused c.if-branch.refused c.in_ok-run-in-Run.field-0 w.if-branch.false w.refused-is
-    ] in (
-      tt,
-      tt,
-      stands_ran (read_trace_so_far c.args.trace.now) c.loop-line.line-iterator c.next.new.self c.in-Some.line.now (trace_line_of c.in_ok-parse_line.field-0) c.loop-line.engine c.run.new.engine
-          c.loop-line.bytes.items c.run.new.bytes.items c.loop-line.commands c.loop-line.refused c.if-branch.refused (command_of c.in-Run.command) c.in_ok-run-in-Run.field-0
-          c.in-Some.ensures.steps c.in_ok-parse_line.ensures (ap trace_line_of c.in-Run.is) c.in_ok-run-in-Run.ensures counted c.loop-line.invariant.2,
-    )
+pub returns-clause-ok : goal.returns-clause-ok
+returns-clause-ok g c =
+    let lines = c.in-Ok.lines.items in
+    let commands = c.in-Ok-commands_of.commands.items in
+    let log = c.in_ok-log.log.items in
+    let first = c.as_slice.ensures.value in
+    is_answered c.args.trace.now c.in-Ok-merge.bytes.items (map trace_line_of lines) (map (λ k. command_of k.command.now) commands) (map (λ k. k.number) commands) (map (λ e. e.reply) log)
+    (map (λ text. text.items) c.in-Ok-texts_of.texts.items) _ c.count_faults.result c.count_refused.result
+    c.in-Ok.ensures
+    (c.in-Ok-commands_of.ensures.commands ∙ ap (λ x. commands_in (map trace_line_of x)) first)
+    (c.in-Ok-commands_of.ensures.numbers ∙ ap (λ x. numbers_from 1 (map trace_line_of x)) first)
+    (c.in_ok-log.ensures.log ∙ ap (λ x. replies slots new_machine (map (λ k. command_of k.command.now) x)) c.as_slice-2.ensures.value)
+    (c.in-Ok-texts_of.ensures ∙ ap (λ x. texts_at (map (λ k. k.number) x) (map (λ e. e.reply) c.as_slice-4.result.now)) c.as_slice-3.ensures.value ∙ ap (λ x. texts_at (map (λ k. k.number) commands) (map (λ e. e.reply) x)) c.as_slice-4.ensures.value)
+    (c.in-Ok-merge.ensures ∙ ap (λ x. merged 1 (map trace_line_of x) (map (λ text. text.items) c.as_slice-6.result.now)) c.as_slice-5.ensures.value ∙ ap (λ x. merged 1 (map trace_line_of lines) (map (λ text. text.items) x)) c.as_slice-6.ensures.value)
+    (c.count_commands.ensures ∙ ap (λ x. command_count (map trace_line_of x)) c.as_slice-7.ensures.value)
+    refl
+    (c.count_faults.ensures ∙ ap (λ x. count_by is_fault (map trace_line_of x)) c.as_slice-8.ensures.value)
+    (c.count_refused.ensures ∙ ap (λ x. count_by is_refused (map (λ e. e.reply) x)) c.as_slice-9.ensures.value)

@@ -1,0 +1,211 @@
+//! The second phase: the commands are run at a desk, each by its session at its turn, with a thread
+//! for each session.
+
+ghost use Rattle.std.specs.Prelude.{◌≡◌, ◌<◌, ◌≤◌, length, map, vec_len, IfOk, IfErr};
+ghost use Rattle.flat_model.specs.Machine.{new_machine, replies};
+ghost use Rattle.undo_journal.specs.Meaning.{command_of};
+ghost use Rattle.replay_main.specs.Replayed.{slots, EndsWork};
+ghost use denote.Param.Send.{IsSync};
+
+use crate::ReplayFault;
+use crate::logged::has_commands;
+use crate::reading::Numbered;
+use pids_charge::Gate;
+use sessions::{CloseFault, Desk, Entry, RunFault, Session};
+use std::alloc::{AllocError, Global};
+use std::sync::atomic::{AtomicBool, Ordering};
+use std::sync::{Mutex, Wait};
+use std::thread;
+use std::thread::Threads;
+use undo_journal::Command;
+
+/// Runs these commands at a desk of as many sessions as workers, and gives its log, which has these
+/// commands in their order.
+pub(crate) fn run_commands<R: Threads + Wait + Sync, G: Gate>(
+    rt: &R,
+    alloc: Global,
+    gate: &G,
+    workers: u8,
+    commands: &[Numbered<'_>],
+) -> Result<Vec<Entry>, ReplayFault>
+    requires { (1 ≤ workers) × (workers ≤ 8) }
+    ensures log { IfOk result (λ log. map (λ e. e.reply) log.items
+        ≡ replies slots new_machine (map (λ c. command_of c.command.now) commands.now)) }
+    ensures each { IfOk result (λ log. length log.items ≡ length commands.now) }
+    ensures fault { IfErr result EndsWork }
+{
+    let Ok((desk, sessions)) = open_desk(alloc, workers) else {
+        return Err(ReplayFault::OutOfMemory);
+    };
+    let Ok(sessions) = serve(rt, alloc, gate, sessions, commands) else {
+        return Err(ReplayFault::OutOfMemory);
+    };
+    match desk.close(rt, sessions) {
+        Ok(closed) => {
+            if has_commands(closed.log.as_slice(), commands) {
+                Ok(closed.log)
+            } else {
+                Err(ReplayFault::Close)
+            }
+        }
+        Err(refused) => Err(fault_of(refused.2)),
+    }
+}
+
+/// What a desk that is not closed means for the replay.
+fn fault_of(fault: CloseFault) -> ReplayFault
+    ensures { EndsWork result }
+{
+    match fault {
+        CloseFault::OutOfMemory => ReplayFault::OutOfMemory,
+        _ => ReplayFault::Close,
+    }
+}
+
+/// A desk, and all its sessions.
+fn open_desk(alloc: Global, workers: u8) -> Result<(Desk, Vec<Session>), AllocError>
+    requires { (1 ≤ workers) × (workers ≤ 8) }
+    ensures { IfOk result (λ r. vec_len r.1 ≡ workers) }
+{
+    let desk = Desk::new(alloc, workers)?;
+    let mut sessions = Vec::new(alloc);
+    for number in 0..workers {
+        sessions.push(desk.session(number)?)?;
+    }
+    Ok((desk, sessions))
+}
+
+/// Has each session run its commands: command i is run by session i mod their number, at turn i.
+/// Want of memory in any of them is an error.
+fn serve<R: Threads + Wait + Sync, G: Gate>(
+    rt: &R,
+    alloc: Global,
+    gate: &G,
+    sessions: Vec<Session>,
+    commands: &[Numbered<'_>],
+) -> Result<Vec<Session>, AllocError>
+    requires { (1 ≤ vec_len sessions) × (vec_len sessions ≤ 8) }
+{
+    let seats: Vec<Mutex<Session>> = sessions
+        .into_iter()
+        .map(|session| Mutex::new(session))
+        .collect(alloc)?;
+    let is_short = AtomicBool::new(false);
+    serve_all(rt, gate, seats.as_slice(), commands, &is_short);
+    if is_short.load(Ordering::SeqCst) {
+        return Err(AllocError);
+    }
+    seats
+        .into_iter()
+        .map(|seat| seat.into_inner())
+        .collect(alloc)
+}
+
+/// The caller is worker 0, and does the work of each worker whose thread cannot be started.
+fn serve_all<R: Threads + Wait + Sync, G: Gate>(
+    rt: &R,
+    gate: &G,
+    seats: &[Mutex<Session>],
+    commands: &[Numbered<'_>],
+    is_short: &AtomicBool,
+)
+    requires { (1 ≤ length seats.now) × (length seats.now ≤ 8) }
+{
+    thread::scope(
+        thread::scope_env(),
+        rt,
+        |scope|
+            requires { IsSync R.row × IsSync G.row × (1 ≤ length seats.now) × (length seats.now ≤ 8) }
+        {
+            let mut is_mine = [true, false, false, false, false, false, false, false];
+            let mut is_alone = true;
+            for worker in 1..seats.len() {
+                let work = move ||
+                    requires { (worker < length seats.now) × (length seats.now ≤ 8) }
+                { work_for_one(rt, gate, seats, commands, is_short, worker) };
+                if scope.spawn(work).is_err() {
+                    is_mine[worker] = true;
+                    is_alone = false;
+                }
+            }
+            if is_alone {
+                work_for_one(rt, gate, seats, commands, is_short, 0);
+            } else {
+                work_for_many(rt, gate, seats, commands, is_short, &is_mine);
+            }
+        },
+    );
+}
+
+/// The work of one worker.
+fn work_for_one<R: Threads + Wait + Sync, G: Gate>(
+    rt: &R,
+    gate: &G,
+    seats: &[Mutex<Session>],
+    commands: &[Numbered<'_>],
+    is_short: &AtomicBool,
+    worker: usize,
+)
+    requires { (worker < length seats.now) × (length seats.now ≤ 8) }
+{
+    gate.pass((seats.len() + worker + 1) as u8);
+    let mut session = seats[worker].lock(rt);
+    for (turn, command) in commands.iter().enumerate() {
+        if turn % seats.len() == worker
+            && !run_one(rt, &mut session, turn, command.command, is_short)
+        {
+            break;
+        }
+    }
+}
+
+/// The work of these workers, the commands in the order of their turns.
+fn work_for_many<R: Threads + Wait + Sync, G: Gate>(
+    rt: &R,
+    gate: &G,
+    seats: &[Mutex<Session>],
+    commands: &[Numbered<'_>],
+    is_short: &AtomicBool,
+    is_mine: &[bool; 8],
+)
+    requires { (1 ≤ length seats.now) × (length seats.now ≤ 8) }
+{
+    for worker in 0..seats.len() {
+        if is_mine[worker] {
+            gate.pass((seats.len() + worker + 1) as u8);
+        }
+    }
+    for (turn, command) in commands.iter().enumerate() {
+        let worker = turn % seats.len();
+        if is_mine[worker]
+            && !run_one(
+                rt,
+                &mut seats[worker].lock(rt),
+                turn,
+                command.command,
+                is_short,
+            )
+        {
+            break;
+        }
+    }
+}
+
+/// Runs a command at its turn. False where the desk is halted, as it is once memory was wanting.
+fn run_one<R: Threads + Wait + Sync>(
+    rt: &R,
+    session: &mut Session,
+    turn: usize,
+    command: &Command<Global>,
+    is_short: &AtomicBool,
+) -> bool {
+    match session.run_at(rt, turn as u64, command) {
+        Ok(_) => true,
+        Err(RunFault::OutOfMemory) => {
+            is_short.store(true, Ordering::SeqCst);
+            session.halt(rt);
+            false
+        }
+        Err(_) => false,
+    }
+}

@@ -1,0 +1,13 @@
+//! Tests of the replay by several workers.
+//!
+//! They ask what no contract says: that every number of workers gives the bytes of one where there is
+//! memory, and that the work of each phase is done by as many threads as there are workers.
+//!
+//! - `replays`: a trace with a kill and its undo by 1, 2, 3 and 8 workers, and behind a gate.
+//! - `gates`: a gate at which all parts of a phase have to meet.
+#![tactic(auto)]
+
+#[cfg(test)]
+mod gates;
+#[cfg(test)]
+mod replays;
