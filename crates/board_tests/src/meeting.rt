@@ -2,61 +2,13 @@
 ghost use Rattle.std.specs.Prelude.{◌≡◌, ◌≤◌, length};
 ghost use Rattle.pids_charge.specs.Content.{IsWithin};
 
+use crate::gate::Meeting;
 use crate::swap::{counts, fits};
 use board_meter::BoardMeter;
-use pids_charge::{Gate, Meter, Token};
+use pids_charge::{Meter, Token};
 use std::alloc::{AllocError, Global};
-use std::sync::atomic::{AtomicBool, Ordering};
 use std::test::Fail;
 use std::thread::Threads;
-
-// A part reads the other's flag as often at most.
-const TURNS: u32 = 100_000_000;
-
-// A gate at which each of two parts sets its flag and waits for the other's, for a bounded time.
-#[derive(Drop)]
-struct Meeting {
-    first: AtomicBool,
-    second: AtomicBool,
-    missed: AtomicBool,
-}
-
-impl Meeting {
-    fn new() -> Meeting {
-        Meeting {
-            first: AtomicBool::new(false),
-            second: AtomicBool::new(false),
-            missed: AtomicBool::new(false),
-        }
-    }
-
-    // Sets one flag and reads another until it is set.
-    fn meet(&self, own: &AtomicBool, other: &AtomicBool) {
-        own.store(true, Ordering::SeqCst);
-        for _turn in 0..TURNS {
-            if other.load(Ordering::SeqCst) {
-                return;
-            }
-        }
-        self.missed.store(true, Ordering::SeqCst);
-    }
-
-    // Whether both parts came, and neither missed the other.
-    fn met(&self) -> bool {
-        let both = self.first.load(Ordering::SeqCst) && self.second.load(Ordering::SeqCst);
-        both && !self.missed.load(Ordering::SeqCst)
-    }
-}
-
-impl Gate for Meeting {
-    fn pass(&self, part: u8) {
-        if part == 1 {
-            self.meet(&self.first, &self.second);
-        } else {
-            self.meet(&self.second, &self.first);
-        }
-    }
-}
 
 // What a settlement there and one back show: whether the parts met in both, and what there is at
 // slots 0, 1 and 255 after the first and after the second.

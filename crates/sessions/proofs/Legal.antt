@@ -1,7 +1,7 @@
 -- A log that is one entry longer.
 use Rattle.std.proofs.Common.{◌≡◌, ℕ, List, [], ◌∷◌, ◌++◌, map, refl, sym, ap, subst}
 use Rattle.std.proofs.lemmas.List.{map-append}
-use Rattle.flat_model.specs.Command.{Command, Reply}
+use Rattle.flat_model.specs.Command.{Command}
 use Rattle.flat_model.specs.Machine.{Machine, tick, replies, end_of, new_machine}
 use Rattle.flat_model.specs.Log.{Entry, IsLegal, log_end}
 

@@ -9,7 +9,7 @@ use Rattle.std.proofs.alloc.Global.TheSendSync as global
 use Rattle.pids_charge.proofs.pid.Pid.TheSendSync as pid
 use Rattle.undo_journal.proofs.command.Command.TheSendSync as command
 use Rattle.undo_journal.proofs.inverse.Inverse.TheSendSync as inverse
-use Rattle.pids_charge.proofs.plain.PlainMeter.TheSendSync as meter
+use Rattle.board_meter.proofs.meter.BoardMeter.TheSendSync as meter
 use Rattle.sessions.proofs.entry.Entry.TheSendSync as entry
 use Rattle.sessions.proofs.entry.Receipt.TheSendSync as receipt
 use Rattle.sessions.specs.contracts.book.Book as Book

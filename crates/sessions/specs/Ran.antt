@@ -1,5 +1,5 @@
 -- What a call of a session leaves of it.
-use Rattle.std.specs.Prelude.{◌≡◌, ℕ, List, [], ◌∷◌, ◌++◌, Result, Ok, Err}
+use Rattle.std.specs.Prelude.{◌≡◌, ℕ, [], ◌∷◌, ◌++◌, Result, Ok, Err}
 use denote.Ref.{Bor}
 use Rattle.flat_model.specs.Command.{Command}
 use Rattle.flat_model.specs.Log.{Receipt, Session}

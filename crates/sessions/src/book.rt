@@ -7,17 +7,20 @@ ghost use Rattle.sessions.specs.Meaning.{slots};
 
 use crate::step::answer_twice;
 use crate::{Entry, Receipt};
-use pids_charge::PlainMeter;
+use board_meter::BoardMeter;
 use std::alloc::{AllocError, Allocator, Global};
 use std::sync::Wait;
 use std::thread::Threads;
 use undo_journal::{Command, Engine};
 
+/// The engine of a desk. It counts over a board of atomic words.
+pub type DeskEngine = Engine<Global, BoardMeter>;
+
 /// The log is legal, and the engine stands at its end.
 #[derive(Drop)]
 pub(crate) struct Book {
     pub(crate) alloc: Global,
-    pub(crate) engine: Engine<Global, PlainMeter<Global>>,
+    pub(crate) engine: DeskEngine,
     pub(crate) log: Vec<Entry>,
     ghost legal: { IsLegal slots log.items },
     ghost at_end: { engine ≡ log_end slots log.items },
@@ -28,7 +31,7 @@ impl Book {
     pub(crate) fn new(alloc: Global) -> Result<Book, AllocError>
         ensures { IfOk result (λ b. b.log.items ≡ []) }
     {
-        let engine = Engine::new(alloc, PlainMeter::new(alloc)?)?;
+        let engine = Engine::new(alloc, BoardMeter::new(alloc)?)?;
         let log = Vec::new(alloc);
         Ok(Book { alloc, engine, log })
     }

@@ -6,21 +6,19 @@ ghost use Rattle.flat_model.specs.Audit.{AreEntries};
 ghost use Rattle.sessions.specs.Meaning.{slots};
 
 use crate::auditing::audit;
-use crate::book::Book;
+use crate::book::{Book, DeskEngine};
 use crate::desk::Desk;
 use crate::entry::Entry;
 use crate::fault::CloseFault;
 use crate::session::Session;
-use pids_charge::PlainMeter;
 use std::alloc::Global;
 use std::sync::Wait;
-use undo_journal::Engine;
 
 /// What a desk leaves: its engine, its log and the sessions that were handed in.
 #[derive(Drop)]
 pub struct Closed {
     /// The engine, at the log's end.
-    pub engine: Engine<Global, PlainMeter<Global>>,
+    pub engine: DeskEngine,
     /// The log.
     pub log: Vec<Entry>,
     /// The sessions, as they were handed in.

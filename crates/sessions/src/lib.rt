@@ -35,6 +35,7 @@ mod shared;
 mod step;
 
 pub use auditing::audit;
+pub use book::DeskEngine;
 pub use close::Closed;
 pub use desk::Desk;
 pub use entry::{Entry, Receipt};

@@ -9,17 +9,17 @@ ghost use Rattle.undo_journal.specs.Answer.{undoes_without_memory};
 ghost use Rattle.sessions.specs.Meaning.{slots};
 ghost use Rattle.sessions.specs.Served.{AnswersTwice};
 
-use pids_charge::PlainMeter;
+use crate::book::DeskEngine;
 use std::alloc::{AllocError, Allocator, Global};
 use std::sync::Wait;
 use std::thread::Threads;
-use undo_journal::{Command, Engine, Reply};
+use undo_journal::{Command, Reply};
 
 /// Answers a command of a session. Where memory was wanting, the engine is as it was.
 pub(crate) fn answer_twice<R: Threads + Wait + Sync, B: Allocator + Clone>(
     rt: &R,
     alloc: Global,
-    engine: &mut Engine<Global, PlainMeter<Global>>,
+    engine: &mut DeskEngine,
     who: u8,
     cmd: &Command<B>,
 ) -> Result<(Reply<Global>, Reply<Global>), AllocError>
@@ -36,7 +36,7 @@ pub(crate) fn answer_twice<R: Threads + Wait + Sync, B: Allocator + Clone>(
 fn apply_twice<R: Threads + Wait + Sync, B: Allocator + Clone>(
     rt: &R,
     alloc: Global,
-    engine: &mut Engine<Global, PlainMeter<Global>>,
+    engine: &mut DeskEngine,
     who: u8,
     cmd: &Command<B>,
 ) -> Result<(Reply<Global>, Reply<Global>), AllocError>
@@ -58,11 +58,7 @@ fn apply_twice<R: Threads + Wait + Sync, B: Allocator + Clone>(
 }
 
 /// Takes back the newest recorded command, for which no memory is asked.
-fn take_back<R: Threads + Wait + Sync>(
-    rt: &R,
-    engine: &mut Engine<Global, PlainMeter<Global>>,
-    who: u8,
-)
+fn take_back<R: Threads + Wait + Sync>(rt: &R, engine: &mut DeskEngine, who: u8)
     requires { undoes_without_memory slots engine.old.past ≡ true }
     ensures { engine.new ≡ (tick slots engine.old model.Undo).0 }
 {
@@ -86,7 +82,7 @@ fn copy_of(alloc: Global, reply: &Reply<Global>) -> Result<Reply<Global>, AllocE
 fn undo_twice<R: Threads + Wait + Sync>(
     rt: &R,
     alloc: Global,
-    engine: &mut Engine<Global, PlainMeter<Global>>,
+    engine: &mut DeskEngine,
     who: u8,
 ) -> Result<(Reply<Global>, Reply<Global>), AllocError>
     ensures ok { IfOk result (λ r. AnswersTwice engine.old model.Undo r.0 r.1 engine.new) }
@@ -100,10 +96,7 @@ fn undo_twice<R: Threads + Wait + Sync>(
 }
 
 /// What an undo will be answered.
-fn answer_to_undo(
-    alloc: Global,
-    engine: &Engine<Global, PlainMeter<Global>>,
-) -> Result<Reply<Global>, AllocError>
+fn answer_to_undo(alloc: Global, engine: &DeskEngine) -> Result<Reply<Global>, AllocError>
     ensures { IfOk result (λ r. reply_of r ≡ Some (tick slots engine.now model.Undo).1) }
 {
     match engine.newest_command() {

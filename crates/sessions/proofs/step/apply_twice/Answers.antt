@@ -1,4 +1,4 @@
-use Rattle.std.proofs.Common.{rules, arith, ◌≡◌, ◌≢◌, ◌<◌, ◌≤◌, ◌∙◌, ℕ, None, length, ap}
+use Rattle.std.proofs.Common.{arith, ◌≡◌, ◌≢◌, ◌<◌, ◌≤◌, ◌∙◌, None, length, ap}
 use Rattle.flat_model.specs.Machine.{Machine}
 use Rattle.undo_journal.specs.Meaning.{command_of, reply_of}
 use Rattle.sessions.specs.Meaning.{slots}

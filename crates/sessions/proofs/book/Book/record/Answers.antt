@@ -1,7 +1,7 @@
-use Rattle.std.proofs.Common.{rules, ◌≡◌, ◌++◌, ◌∷◌, [], ◌∙◌, sym, ap}
+use Rattle.std.proofs.Common.{rules, ◌≡◌, ◌∙◌, sym, ap}
 use Rattle.flat_model.specs.Log.{Entry}
 use Rattle.flat_model.specs.Machine.{tick}
-use Rattle.undo_journal.specs.Meaning.{command_of, reply_of}
+use Rattle.undo_journal.specs.Meaning.{command_of}
 use Rattle.sessions.specs.Meaning.{slots, known, answer_of}
 use Rattle.sessions.proofs.Legal.{longer}
 use Rattle.sessions.proofs.book.Book.record.Goals as goal

@@ -1,0 +1,74 @@
+//! A kill, and its undo, are each done by two threads.
+
+use crate::gate::Meeting;
+use crate::replies::{Issued, answers};
+use board_meter::BoardMeter;
+use pids_charge::OpenGate;
+use std::test::Fail;
+use undo_journal::Engine;
+
+// Processes 2 to 6 in a group and in two groups below it.
+const BEFORE: [Issued; 12] = [
+    (0, "mkdir /k"),
+    (0, "mkdir /k/a"),
+    (0, "mkdir /k/b"),
+    (0, "fork 1 2"),
+    (0, "fork 1 3"),
+    (0, "fork 1 4"),
+    (0, "write /k cgroup.procs 2"),
+    (0, "write /k/a cgroup.procs 3"),
+    (0, "write /k/b cgroup.procs 4"),
+    (0, "fork 3 5"),
+    (0, "fork 4 6"),
+    (0, "cat /k pids.current"),
+];
+
+const KILL: [Issued; 3] = [
+    (0, "write /k cgroup.kill 1"),
+    (0, "cat /k pids.current"),
+    (0, "cat /k cgroup.events"),
+];
+
+const UNDO: [Issued; 6] = [
+    (1, "undo"),
+    (1, "cat /k/a cgroup.procs"),
+    (1, "cat /k/b cgroup.procs"),
+    (1, "cat /k cgroup.procs"),
+    (1, "cat /k pids.current"),
+    (1, "cat /k cgroup.events"),
+];
+
+const ANSWERS: [&[u8]; 3] = [
+    b"1 ok\n2 ok\n3 ok\n4 ok\n5 ok\n6 ok\n7 ok\n8 ok\n9 ok\n10 ok\n11 ok\n12 ok\n| 5\n",
+    b"1 ok\n2 ok\n| 0\n3 ok\n| populated 0\n| frozen 0\n",
+    b"1 ok\n| write /k cgroup.kill 1\n2 ok\n| 3\n| 5\n3 ok\n| 4\n| 6\n4 ok\n| 2\n5 ok\n| 5\n\
+6 ok\n| populated 1\n| frozen 0\n",
+];
+
+#[test]
+fn the_parts_of_a_kill_meet(rt: HostRuntime) -> Result<(), Fail> {
+    let mut engine = Engine::new(rt.alloc(), BoardMeter::new(rt.alloc())?)?;
+    let before = answers(&rt, rt.alloc(), &OpenGate, &mut engine, &BEFORE)?;
+    let gate = Meeting::new();
+    let killed = answers(&rt, rt.alloc(), &gate, &mut engine, &KILL)?;
+    let other = Meeting::new();
+    let undone = answers(&rt, rt.alloc(), &other, &mut engine, &UNDO)?;
+    assert!(rt; [before.as_slice(), killed.as_slice(), undone.as_slice()] == ANSWERS);
+    assert!(rt; gate.met() & other.met());
+    Ok(())
+}
+
+/// A kill of an empty group passes the gate as well.
+#[test]
+fn a_kill_of_nobody(rt: HostRuntime) -> Result<(), Fail> {
+    let mut engine = Engine::new(rt.alloc(), BoardMeter::new(rt.alloc())?)?;
+    let gate = Meeting::new();
+    let lines = [(0, "mkdir /k"), (0, "write /k cgroup.kill 1")];
+    let killed = answers(&rt, rt.alloc(), &gate, &mut engine, &lines)?;
+    let other = Meeting::new();
+    let undone = answers(&rt, rt.alloc(), &other, &mut engine, &[(0, "undo")])?;
+    assert!(rt; killed.as_slice() == b"1 ok\n2 ok\n".as_slice());
+    assert!(rt; undone.as_slice() == b"1 ok\n| write /k cgroup.kill 1\n".as_slice());
+    assert!(rt; gate.met() & other.met());
+    Ok(())
+}

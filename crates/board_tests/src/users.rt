@@ -1,0 +1,56 @@
+//! Two users of one engine over a board.
+
+use crate::replies::{Issued, answers};
+use board_meter::BoardMeter;
+use pids_charge::OpenGate;
+use std::test::Fail;
+use undo_journal::Engine;
+
+// User 0 makes two groups, forks and moves; user 1 has a process exit, removes a group and makes
+// another, into which user 0 moves. Then user 1 takes three commands back, the first of user 0.
+const LINES: [Issued; 23] = [
+    (0, "mkdir /a"),
+    (0, "mkdir /b"),
+    (0, "fork 1 2"),
+    (0, "fork 1 3"),
+    (0, "write /a cgroup.procs 2"),
+    (1, "exit 3"),
+    (1, "rmdir /b"),
+    (1, "mkdir /a/c"),
+    (0, "write /a/c cgroup.procs 2"),
+    (0, "cat /a pids.current"),
+    (1, "cat /a/c cgroup.events"),
+    (1, "undo"),
+    (1, "cat /a/c pids.current"),
+    (0, "cat /a/c cgroup.events"),
+    (0, "cat /a pids.current"),
+    (1, "undo"),
+    (1, "undo"),
+    (0, "cat /a/c pids.current"),
+    (0, "cat /b cgroup.events"),
+    (1, "cat /a cgroup.procs"),
+    (1, "where 2"),
+    (0, "where 3"),
+    (0, "cat / cgroup.stat"),
+];
+
+const ANSWERS: &[u8] = b"1 ok\n2 ok\n3 ok\n4 ok\n5 ok\n6 ok\n7 ok\n8 ok\n9 ok\n\
+10 ok\n| 1\n11 ok\n| populated 1\n| frozen 0\n\
+12 ok\n| write /a/c cgroup.procs 2\n13 ok\n| 0\n14 ok\n| populated 0\n| frozen 0\n15 ok\n| 1\n\
+16 ok\n| mkdir /a/c\n17 ok\n| rmdir /b\n\
+18 refused nogroup /a/c\n19 ok\n| populated 0\n| frozen 0\n20 ok\n| 2\n21 ok\n| 0::/a\n\
+22 refused noprocess 3\n23 ok\n| nr_descendants 2\n| nr_dying_descendants 0\n";
+
+/// The six commands that are left are then taken back at once.
+#[test]
+fn two_users(rt: HostRuntime) -> Result<(), Fail> {
+    let mut engine = Engine::new(rt.alloc(), BoardMeter::new(rt.alloc())?)?;
+    let answered = answers(&rt, rt.alloc(), &OpenGate, &mut engine, &LINES)?;
+    assert!(rt; answered.as_slice() == ANSWERS);
+    assert_eq!(rt; engine.undo_all(&rt, 1), Ok(6));
+    let start = [(0, "cat / cgroup.procs"), (1, "cat / cgroup.stat")];
+    let answered = answers(&rt, rt.alloc(), &OpenGate, &mut engine, &start)?;
+    let wanted = b"1 ok\n| 1\n2 ok\n| nr_descendants 0\n| nr_dying_descendants 0\n";
+    assert!(rt; answered.as_slice() == wanted.as_slice());
+    Ok(())
+}
