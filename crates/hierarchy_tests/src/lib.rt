@@ -9,11 +9,14 @@
 //! - `tree`: each public call of `GroupTree` and of `Attr`, and the refusals in their order.
 //! - `along`: what comes along a path, and the counts of refused forks.
 //! - `wide_and_deep`: as many siblings as there are slots, and a group of as many names as a path may have.
+//! - `arena`: a tree in an arena, which is not given up before it.
 //! - `tree_memory`: a tree in a small heap, with each growth refused.
 #![tactic(auto)]
 
 #[cfg(test)]
 mod along;
+#[cfg(test)]
+mod arena;
 #[cfg(test)]
 mod path_memory;
 #[cfg(test)]

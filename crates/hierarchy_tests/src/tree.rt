@@ -31,7 +31,7 @@ fn insert(alloc: Global, tree: &mut GroupTree<Global>, text: &str, slot: u16) ->
 }
 
 /// `/a`, `/a/b`, `/a/b/c`, `/a/d`, `/e`, made out of their order, with the slots 1 to 5.
-fn sample(alloc: Global) -> Result<GroupTree<Global>, Fail> {
+pub(crate) fn sample(alloc: Global) -> Result<GroupTree<Global>, Fail> {
     let mut tree = GroupTree::new(alloc, attr(0))?;
     for (text, slot) in [
         ("/e", 5),

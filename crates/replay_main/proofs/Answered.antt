@@ -1,20 +1,23 @@
 -- What the three phases give together, and what is left where their work ended.
-use Rattle.std.proofs.Common.{◌≡◌, ◌∙◌, ℕ, ◌+◌, ◌≤◌, ◌<◌, ◌==◌, Bool, true, false, cond, List, [], ◌∷◌, length, map, refl, ap, sym, subst, arith, Option, Some, None, Err}
+use Rattle.std.proofs.Common.{◌≡◌, ◌∙◌, ℕ, ◌+◌, ◌≤◌, ◌<◌, ◌==◌, Bool, true, false, cond, List, [], ◌∷◌, length, map, ap, sym, subst, arith, Option, Some, None, is_some, Err}
 use Rattle.std.specs.List.{count_by, slice_split}
 use Rattle.std.proofs.lemmas.List.{length-map}
 use Rattle.std.proofs.lemmas.List.Sums.{count_by-le-length}
 use Rattle.std.proofs.lemmas.List.Splits.{length-slice_split}
-use Rattle.flat_model.specs.Command.{Command, Reply}
+use Rattle.flat_model.specs.Command.{Reply}
 use Rattle.flat_model.specs.Machine.{new_machine, replies}
-use Rattle.flat_model.specs.Replies.{out, commands_in, is_fault, is_refused, command_count, line_replies}
+use Rattle.flat_model.specs.Replies.{out, commands_in, is_fault, is_refused, is_numbered, line_replies}
 use Rattle.flat_model.specs.Trace.{Line, Skip, Run, Fault, is_line_feed, without_empty_end, lines_in, read_line, read_trace, trace_max}
 use Rattle.replay_main.specs.declared.fault.ReplayFault.{ReplayFault}
 use Rattle.replay_main.specs.declared.fault.ReplayFault.TheVariants.{Read, Write, InputTooLong, OutOfMemory, Close}
 use Rattle.replay_main.specs.declared.trace.Summary.{Summary}
 use Rattle.replay_main.specs.Device.{IsInput}
-use Rattle.replay_main.specs.Numbered.{numbers_from, merged, texts_at}
-use Rattle.replay_main.specs.Replayed.{slots, EndsWork, IsAnswered, IsShort, IsUnwritten, Replayed}
-use Rattle.replay_main.proofs.ReplyTexts.{merged-texts_at}
+use Rattle.undo_journal.specs.Meaning.{command_of}
+use Rattle.sessions.specs.Meaning.{slots}
+use Rattle.replay_main.specs.declared.reading.Script.{Script}
+use Rattle.replay_main.specs.Script.{IsScript, answers_from, place_of}
+use Rattle.replay_main.specs.Replayed.{EndsWork, IsAnswered, IsShort, IsUnwritten, Replayed}
+use Rattle.replay_main.proofs.ScriptLaws.{answers-out, places-count, places-faults}
 
 -- ---- the number of lines
 
@@ -35,40 +38,33 @@ few_lines trace short =
     let d = length-map (lines_in trace) read_line in
     omega (arith, a, b, c, d, short)
 
-few_commands : (lines : List Line) → length (commands_in lines) ≤ length lines
-few_commands [] = omega arith
-few_commands (Skip ∷ lines) = let rest = few_commands lines in omega (arith, rest)
-few_commands (Fault f ∷ lines) = let rest = few_commands lines in omega (arith, rest)
-few_commands (Run c ∷ lines) = let rest = few_commands lines in omega (arith, rest)
-
--- no more refusals than lines
-pub few_refused : (trace : List ℕ) (lines : List Line) (cs : List Command) (rs : List Reply) (faults refused : ℕ)
-    → length trace ≤ trace_max → lines ≡ read_trace trace → cs ≡ commands_in lines → length rs ≡ length cs
-    → faults ≡ count_by is_fault lines → refused ≡ count_by is_refused rs → faults + refused < 18446744073709551616
-few_refused trace lines cs rs faults refused short l c same f r =
+-- no more lines with a number than lines
+pub few_places : (trace : List ℕ) (script : Script) → length trace ≤ trace_max → IsScript script (read_trace trace) → length script.places.items < 1152921504606846976
+few_places trace script short is =
     let a = few_lines trace short in
-    let b = few_commands lines in
-    let d = count_by-le-length is_fault lines in
-    let e = count_by-le-length is_refused rs in
-    let g = ap length l in
-    let h = ap length c in
-    omega (arith, a, b, d, e, g, h, same, f, r)
+    let b = count_by-le-length is_numbered (read_trace trace) in
+    let c = places-count (read_trace trace) in
+    let d = ap length is.places in
+    let e = length-map script.places.items place_of in
+    omega (arith, a, b, c, d, e)
 
 -- ---- the answers
 
-pub is_answered : (trace bytes : List ℕ) (lines : List Line) (cs : List Command) (ns : List ℕ) (rs : List Reply) (texts : List (List ℕ)) (summary : Summary) (faults refused : ℕ)
-    → lines ≡ read_trace trace → cs ≡ commands_in lines → ns ≡ numbers_from 1 lines → rs ≡ replies slots new_machine cs → texts ≡ texts_at ns rs → bytes ≡ merged 1 lines texts
-    → summary.commands ≡ command_count lines → summary.refused ≡ faults + refused → faults ≡ count_by is_fault lines → refused ≡ count_by is_refused rs
+pub is_answered : (trace bytes : List ℕ) (script : Script) (rs : List Reply) (summary : Summary) (faults refused : ℕ)
+    → IsScript script (read_trace trace) → rs ≡ replies slots new_machine (map command_of script.commands.items) → length rs ≡ length (map command_of script.commands.items)
+    → bytes ≡ answers_from 1 (map place_of script.places.items) rs → summary.commands ≡ length (map place_of script.places.items)
+    → summary.refused ≡ faults + refused → faults ≡ count_by (λ p. is_some p) (map place_of script.places.items) → refused ≡ count_by is_refused rs
     → IsAnswered trace bytes summary
-is_answered trace bytes lines cs ns rs texts summary faults refused l c n r t b sc sr f k =
-    let all : rs ≡ line_replies slots (read_trace trace) = r ∙ ap (λ x. replies slots new_machine x) (c ∙ ap (λ x. commands_in x) l) in
-    let put : bytes ≡ out 1 lines rs = b ∙ ap (λ x. merged 1 lines x) (t ∙ ap (λ x. texts_at x rs) n) ∙ merged-texts_at 1 lines rs in
-    let f_is : faults ≡ count_by is_fault (read_trace trace) = f ∙ ap (λ x. count_by is_fault x) l in
+is_answered trace bytes script rs summary faults refused is r same b sc sr f k =
+    let all : rs ≡ line_replies slots (read_trace trace) = r ∙ ap (λ x. replies slots new_machine x) is.commands in
+    let many : length rs ≡ length (commands_in (read_trace trace)) = same ∙ ap length is.commands in
+    let put : bytes ≡ out 1 (read_trace trace) rs = b ∙ ap (λ x. answers_from 1 x rs) is.places ∙ answers-out 1 (read_trace trace) rs many in
+    let f_is : faults ≡ count_by is_fault (read_trace trace) = f ∙ ap (λ x. count_by (λ p. is_some p) x) is.places ∙ places-faults (read_trace trace) in
     let k_is : refused ≡ count_by is_refused (line_replies slots (read_trace trace)) = k ∙ ap (λ x. count_by is_refused x) all in
     record {
-      bytes_are = put ∙ ap (λ x. out 1 lines x) all ∙ ap (λ x. out 1 x (line_replies slots (read_trace trace))) l;
+      bytes_are = put ∙ ap (λ x. out 1 (read_trace trace) x) all;
       counts = record {
-        commands = sc ∙ ap (λ x. command_count x) l;
+        commands = sc ∙ ap length is.places ∙ places-count (read_trace trace);
         refused = sr ∙ ap (λ x. x + refused) f_is ∙ ap (λ x. count_by is_fault (read_trace trace) + x) k_is;
       };
     }

@@ -1,5 +1,6 @@
 pub mod KnownBytes
 pub mod Answered
 pub mod CommandLines
-pub mod RunMaps
-pub mod ReplyTexts
+pub mod RunJoins
+pub mod ScriptLaws
+pub mod Rehearsals

@@ -1,5 +1,6 @@
--- What a command line asks for, by the kinds of fault that `clap` finds in its words (none, a call for help, or another) and by what stands at `--workers`.
-use Rattle.std.specs.Prelude.{◌≡◌, ◌≢◌, ◌≤◌, ◌-◌, ◌&&◌, ◌⊎◌, ℕ, true, false, nat_lt, if◌then◌else◌, List, [], ◌∷◌, codes, Option, Some, None, Result, Ok, Err}
+-- What a command line asks for, by the kinds of fault that `clap` finds in its words (none, a call for help, or another) and by what stands at `--workers` and `--rehearse`.
+use Rattle.std.specs.Prelude.{◌≡◌, ◌≢◌, ◌≤◌, ◌-◌, ◌&&◌, ◌⊎◌, ℕ, Bool, true, false, nat_lt, if◌then◌else◌, List, [], ◌∷◌, codes, Option, Some, None, Result, Ok, Err}
+use Rattle.std.specs.Str.{bytes_eq}
 use Rattle.std.specs.Vec.Iter.{into_iter_steps}
 use Rattle.std.specs.Iterator.{Drains}
 use Rattle.std.specs.IoError.{error_kind}
@@ -10,6 +11,7 @@ use Rattle.std.specs.declared.string.String.{String}
 use Rattle.std.specs.declared.vec.IntoIter.{IntoIter}
 use Rattle.std.specs.declared.vec.Vec.{Vec}
 use Rattle.clap.specs.Words.{App, IsAmong, Kinds, Rule, Text, fault_of, first_of, matches_of, new_app, new_rule, with_rule}
+use Rattle.clap.specs.declared.builder.action.ArgAction.TheVariants.{SetTrue}
 use Rattle.clap.specs.declared.error.kind.ErrorKind.{ErrorKind}
 use Rattle.clap.specs.declared.error.kind.ErrorKind.TheVariants as kind
 use Rattle.replay_main.specs.declared.arguments.Ask.{Ask}
@@ -17,13 +19,17 @@ use Rattle.replay_main.specs.declared.arguments.Ask.TheVariants.{Run, Help}
 use Rattle.replay_main.specs.declared.arguments.LineFault.{LineFault}
 use Rattle.replay_main.specs.declared.arguments.LineFault.TheVariants.{Bad, OutOfMemory}
 
--- `--workers N`
+-- `--workers N`; its value has a name in the help text
 abbrev pub workers_rule : Rule
-workers_rule = record (new_rule (codes "workers")) { long = Some (codes "workers") }
+workers_rule = record (new_rule (codes "workers")) { long = Some (codes "workers"); value_names = 1 }
 
--- the program takes no arguments but this and the calls for help, and its own name is not among the words
+-- `--rehearse`, which takes no value: that of the flag is `true` where it stands among the words
+abbrev pub rehearse_rule : Rule
+rehearse_rule = record (new_rule (codes "rehearse")) { long = Some (codes "rehearse"); action = Some SetTrue }
+
+-- the program takes no arguments but these and the calls for help, and its own name is not among the words
 abbrev pub app : App
-app = with_rule (record { top = record (new_app (codes "cgreplay")).top { no_binary_name = true }; subs = (new_app (codes "cgreplay")).subs }) workers_rule
+app = with_rule (with_rule (record { top = record (new_app (codes "cgreplay")).top { no_binary_name = true }; subs = (new_app (codes "cgreplay")).subs }) workers_rule) rehearse_rule
 
 -- a digit from 1 to 8
 abbrev pub digit_said : Text → Option ℕ
@@ -40,13 +46,22 @@ workers_said (Some text) = digit_said text
 abbrev pub workers_in : List Text → Option ℕ
 workers_in words = workers_said (first_of (codes "workers") (matches_of app words))
 
+-- a rehearsal is asked for, by the value of `--rehearse`
+abbrev pub rehearsal_said : Option Text → Bool
+rehearsal_said None = false
+rehearsal_said (Some text) = bytes_eq text (codes "true")
+
+-- words ask for a rehearsal in which there is no fault
+abbrev pub rehearsal_in : List Text → Bool
+rehearsal_in words = rehearsal_said (first_of (codes "rehearse") (matches_of app words))
+
 -- some kind among them is not a call for help
 abbrev pub HasFault : Kinds → Type 0
 HasFault kinds = (k : ErrorKind) × IsAmong k kinds × (k ≢ kind.DisplayHelp)
 
 -- a run where there is no fault and 1 to 8 workers are asked for, help where it is called for, and a bad line at another fault or another number
 abbrev pub Asks : List Text → Result Ask LineFault → Type 0
-Asks words (Ok (Run workers rehearse)) = (fault_of app words ≡ []) × (workers_in words ≡ Some workers) × (1 ≤ workers) × (workers ≤ 8) × (rehearse ≡ false)
+Asks words (Ok (Run workers rehearse)) = (fault_of app words ≡ []) × (workers_in words ≡ Some workers) × (1 ≤ workers) × (workers ≤ 8) × (rehearse ≡ rehearsal_in words)
 Asks words (Ok (Help text)) = IsAmong kind.DisplayHelp (fault_of app words)
 Asks words (Err Bad) = HasFault (fault_of app words) ⊎ ((fault_of app words ≡ []) × (workers_in words ≡ None))
 Asks words (Err OutOfMemory) = Unit {0}

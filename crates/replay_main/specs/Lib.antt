@@ -1,6 +1,7 @@
 pub mod Device
 pub mod Replayed
+pub mod Rehearsed
 pub mod Asks
 pub mod Program
 pub mod Runs
-pub mod Numbered
+pub mod Script

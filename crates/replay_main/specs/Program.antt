@@ -1,5 +1,5 @@
 -- What the program leaves, and the status that it ends with.
-use Rattle.std.specs.Prelude.{◌≡◌, ◌⊎◌, ℕ, List, [], Option, Some, Bool, true, Result, Ok, Err}
+use Rattle.std.specs.Prelude.{◌≡◌, ◌≢◌, ◌⊎◌, ℕ, List, [], Option, Some, Bool, true, Result, Ok, Err}
 use Rattle.clap.specs.Words.{IsAmong, Text, fault_of}
 use Rattle.clap.specs.declared.error.kind.ErrorKind.TheVariants as kind
 use Rattle.replay_main.specs.declared.arguments.LineFault.TheVariants.{Bad, OutOfMemory}
@@ -7,7 +7,7 @@ use Rattle.replay_main.specs.declared.fault.ReplayFault.TheVariants as replay
 use Rattle.replay_main.specs.declared.program.ProgramFault.{ProgramFault}
 use Rattle.replay_main.specs.declared.program.ProgramFault.TheVariants.{Line, Replay}
 use Rattle.replay_main.specs.declared.trace.Summary.{Summary}
-use Rattle.replay_main.specs.Asks.{Asks, app, workers_in}
+use Rattle.replay_main.specs.Asks.{Asks, app, rehearsal_in, workers_in}
 use Rattle.replay_main.specs.Device.{TakesFront}
 use Rattle.replay_main.specs.Replayed.{IsWhole, IsUnwritten, Replayed}
 
@@ -18,24 +18,24 @@ pub record IsHelped (words : List Text) (before after : Option (List ℕ)) (flus
   pub written : TakesFront before text [] after
   pub is_out : flushed ≡ true
 
--- there is no fault in the command line, and a number of workers in it
+-- a replay or a rehearsal is called for: there is no fault in the command line, and a number of workers in it
 pub record CallsReplay (words : List Text) : Type 0 where
   pub no_fault : fault_of app words ≡ []
   pub workers : ℕ
   pub number : workers_in words ≡ Some workers
 
--- a replay is called for, and the trace was answered whole
+-- a replay or a rehearsal is called for, and the trace was answered whole
 pub record IsReplayed (words : List Text) (left before after : Option (List ℕ)) (read_failed write_failed flushed : Bool) : Type 0 where
   pub called : CallsReplay words
   pub summary : Summary
   pub whole : IsWhole left before after read_failed write_failed flushed summary
 
--- by the words of the command line, what the program leaves, and why it ended before its end
+-- by the words of the command line, what the program leaves, and why it ended before its end; a rehearsal closes no desk
 abbrev pub Ran : List Text → Option (List ℕ) → Bool → Option (List ℕ) → Option (List ℕ) → Bool → Bool → Result (Unit {0}) ProgramFault → Type 0
 Ran words left read_failed before after write_failed flushed (Ok u) = IsReplayed words left before after read_failed write_failed flushed ⊎ IsHelped words before after flushed
 Ran words left read_failed before after write_failed flushed (Err (Line fault)) = Asks words (Err fault) × IsUnwritten before after write_failed
 Ran words left read_failed before after write_failed flushed (Err (Replay fault)) =
-    (CallsReplay words × Replayed left read_failed before after write_failed flushed (Err fault))
+    (CallsReplay words × Replayed left read_failed before after write_failed flushed (Err fault) × (rehearsal_in words ≡ true → fault ≢ replay.Close))
     ⊎ (IsAmong kind.DisplayHelp (fault_of app words) × (fault ≡ replay.Write) × (write_failed ≡ true))
 
 -- 0 where all was done, 2 on a bad command line, and 1 on any other fault

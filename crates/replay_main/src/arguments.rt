@@ -1,12 +1,12 @@
 //! The command line of the program.
 
-ghost use Rattle.std.specs.Prelude.{◌≡◌, ◌≤◌, drop, map, option_map, string_bytes, IfSome};
-ghost use Rattle.clap.specs.Words.{kind_of};
-ghost use Rattle.replay_main.specs.Asks.{Asks, IsAskedBy, Collects, digit_said, workers_said};
+ghost use Rattle.std.specs.Prelude.{◌≡◌, ◌≤◌, drop, map, option_map, string_bytes, IfOk, IfSome};
+ghost use Rattle.clap.specs.Words.{app_of, kind_of};
+ghost use Rattle.replay_main.specs.Asks.{Asks, IsAskedBy, Collects, app, digit_said, rehearsal_said, workers_said};
 
 use clap::error::ErrorKind;
-use clap::{Arg, Command, Error};
-use std::alloc::Global;
+use clap::{Arg, ArgAction, Command, Error};
+use std::alloc::{AllocError, Global};
 use std::convert::AsStr;
 use std::{env, io};
 use thiserror::Error;
@@ -14,12 +14,11 @@ use thiserror::Error;
 /// What is asked for.
 #[derive(Drop)]
 pub enum Ask {
-    /// A replay.
+    /// A replay, or a rehearsal.
     Run {
-        /// How many workers replay the trace, 1 to 8.
+        /// How many workers replay the trace, 1 to 8. A rehearsal needs none.
         workers: u8,
-        /// Whether the trace is only rehearsed. No words ask for that yet: `--rehearse` is a bad
-        /// command line.
+        /// Whether the trace is rehearsed in place of being replayed.
         rehearse: bool,
     },
     /// A text that says how the program is called.
@@ -39,7 +38,7 @@ pub enum LineFault {
 }
 
 /// Reads the words after the program's name: `--workers N`, where N is a digit from 1 to 8, and
-/// one worker where it is left out; or `--help`.
+/// one worker where it is left out; `--rehearse`; or `--help`.
 pub fn command_line(alloc: Global, words: &[&str]) -> Result<Ask, LineFault>
     ensures { Asks (map (λ word. word.now) words.now) result }
 {
@@ -85,23 +84,49 @@ fn without_name(args: &[String]) -> &[String]
     }
 }
 
+/// The program's arguments, as `clap` is told them.
+fn program<'a>(alloc: Global) -> Result<Command<'a>, AllocError>
+    ensures { IfOk result (λ command. app_of command ≡ app) }
+{
+    let workers = Arg::new(alloc, "workers")
+        .long("workers")
+        .value_name("1-8")
+        .help("How many workers replay the trace; one where this is left out");
+    let rehearse = Arg::new(alloc, "rehearse")
+        .long("rehearse")
+        .action(ArgAction::SetTrue)
+        .help("Rehearse the trace: answer it on a copy of the engine in an arena");
+    let bare = Command::new(alloc, "cgreplay").no_binary_name(true);
+    let one = bare.arg(workers)?;
+    let both = one.arg(rehearse)?;
+    Ok(both)
+}
+
 fn read_words<S: AsStr>(alloc: Global, words: &[S]) -> Result<Ask, LineFault>
     ensures { Asks (map S.text words.now) result }
 {
-    let workers = Arg::new(alloc, "workers").long("workers");
-    let bare = Command::new(alloc, "cgreplay").no_binary_name(true);
-    let Ok(command) = bare.arg(workers) else {
+    let Ok(command) = program(alloc) else {
         return Err(LineFault::OutOfMemory);
     };
     match command.try_get_matches_from(words) {
         Ok(matches) => match read_workers(matches.get_str("workers")) {
             Some(workers) => Ok(Ask::Run {
                 workers,
-                rehearse: false,
+                rehearse: is_true(matches.get_str("rehearse")),
             }),
             None => Err(LineFault::Bad),
         },
         Err(error) => asked_by(alloc, &error),
+    }
+}
+
+/// Whether the value of a flag is `true`.
+fn is_true(value: Option<&str>) -> bool
+    ensures { result ≡ rehearsal_said (option_map (λ text. text.now) value.entry) }
+{
+    match value {
+        Some(text) => text == "true",
+        None => false,
     }
 }
 

@@ -3,22 +3,21 @@
 ghost use Rattle.std.specs.Prelude.{◌≡◌, length, map, IsTrue};
 ghost use Rattle.undo_journal.specs.Meaning.{command_of};
 
-use crate::reading::Numbered;
 use sessions::Entry;
 use std::alloc::Global;
 use undo_journal::Command;
 
 /// Whether the commands of a log are these, in their order.
-pub(crate) fn has_commands(log: &[Entry], commands: &[Numbered<'_>]) -> bool
+pub(crate) fn has_commands(log: &[Entry], commands: &[Command<Global>]) -> bool
     ensures same { IsTrue result → map (λ e. e.command) log.now
-        ≡ map (λ c. command_of c.command.now) commands.now }
+        ≡ map command_of commands.now }
     ensures each { IsTrue result → length log.now ≡ length commands.now }
 {
     if log.len() != commands.len() {
         return false;
     }
     for i in 0..log.len() {
-        if !is_of(&log[i], commands[i].command) {
+        if !is_of(&log[i], &commands[i]) {
             return false;
         }
     }

@@ -1,11 +1,13 @@
 //! The program over any source and sink, and the status that it ends with.
 
-ghost use Rattle.std.specs.Prelude.{◌≡◌, drop, false, map, string_bytes};
+ghost use Rattle.std.specs.Prelude.{◌≡◌, ◌≢◌, ◌≤◌, drop, true, false, map, string_bytes, Err};
+ghost use Rattle.replay_main.specs.declared.fault.ReplayFault.TheVariants.{Close};
 ghost use Rattle.replay_main.specs.Program.{Ran, status_of};
+ghost use Rattle.replay_main.specs.Replayed.{Replayed};
 
 use crate::arguments::{Ask, LineFault, read_arguments};
 use crate::output::write_whole;
-use crate::{ReplayFault, Sink, Source, replay};
+use crate::{ReplayFault, Sink, Source, Summary, rehearse_trace, replay};
 use std::alloc::Global;
 use std::sync::Wait;
 use std::thread::Threads;
@@ -17,19 +19,19 @@ pub enum ProgramFault {
     /// Its command line asks for nothing.
     #[error(transparent)]
     Line(LineFault),
-    /// The replay, or the writing of the help text, ended before its end.
+    /// The replay, the rehearsal, or the writing of the help text ended before its end.
     #[error(transparent)]
     Replay(ReplayFault),
 }
 
-/// Does what the arguments ask for, of which the first is the program's name: replays the trace, or
-/// writes the text that says how the program is called.
+/// Does what the arguments ask for, of which the first is the program's name: replays the trace,
+/// rehearses it, or writes the text that says how the program is called.
 ///
 /// # Errors
 ///
 /// `Line` where the arguments ask for nothing; then nothing is read and nothing is written.
-/// `Replay` with the fault of the replay, or with `Write` where the help text was not written
-/// whole.
+/// `Replay` with the fault of the replay or the rehearsal, or with `Write` where the help text was
+/// not written whole.
 pub fn run_program<R: Threads + Wait + Sync, S: Source, W: Sink>(
     rt: &R,
     alloc: Global,
@@ -45,16 +47,41 @@ pub fn run_program<R: Threads + Wait + Sync, S: Source, W: Sink>(
         result }
 {
     match read_arguments(alloc, args) {
-        Ok(Ask::Run { workers, .. }) => match replay(rt, alloc, reader, writer, workers) {
-            Ok(_) => Ok(()),
-            Err(fault) => Err(ProgramFault::Replay(fault)),
-        },
+        Ok(Ask::Run { workers, rehearse }) => {
+            match answer_trace(rt, alloc, workers, rehearse, reader, writer) {
+                Ok(_) => Ok(()),
+                Err(fault) => Err(ProgramFault::Replay(fault)),
+            }
+        }
         Ok(Ask::Help(text)) => match write_whole(writer, text.as_str().as_bytes()) {
             Ok(()) => Ok(()),
             Err(_) => Err(ProgramFault::Replay(ReplayFault::Write)),
         },
         Err(fault) => Err(ProgramFault::Line(fault)),
     }
+}
+
+/// Answers the trace, by a rehearsal or by so many workers.
+fn answer_trace<R: Threads + Wait + Sync, S: Source, W: Sink>(
+    rt: &R,
+    alloc: Global,
+    workers: u8,
+    rehearse: bool,
+    reader: &mut S,
+    writer: &mut W,
+) -> Result<Summary, ReplayFault>
+    requires workers { (1 ≤ workers) × (workers ≤ 8) }
+    requires reader { S.is_failed reader.old ≡ false }
+    requires writer { W.is_failed writer.old ≡ false }
+    ensures replayed { Replayed (S.left reader.old) (S.is_failed reader.new)
+        (W.taken writer.old) (W.taken writer.new) (W.is_failed writer.new) (W.is_flushed writer.new)
+        result }
+    ensures never_close { rehearse ≡ true → result ≢ Err Close }
+{
+    if rehearse {
+        return rehearse_trace(rt, alloc, reader, writer);
+    }
+    replay(rt, alloc, reader, writer, workers)
 }
 
 /// The status that the program ends with. A fault's message is its text.

@@ -1,40 +1,50 @@
 //! The first phase: the lines of a trace are read in contiguous runs.
 
-ghost use Rattle.std.specs.Prelude.{◌≡◌, ◌<◌, ◌≤◌, ℕ, length, map, slice_index_or, IfOk};
-ghost use Rattle.flat_model.specs.Replies.{commands_in};
+ghost use Rattle.std.specs.Prelude.{◌≡◌, ◌<◌, ◌≤◌, ◌^◌, ◌++◌, length, map, is_some, IfOk, OnOk};
+ghost use Rattle.std.specs.List.{flat_map, count_by};
+ghost use Rattle.flat_model.specs.Replies.{command_in};
 ghost use Rattle.flat_model.specs.Trace.{lines_in, read_line, read_trace, trace_max};
 ghost use Rattle.undo_journal.specs.Meaning.{command_of};
 ghost use Rattle.trace_lines.specs.Meaning.{trace_line_of};
-ghost use Rattle.replay_main.specs.Numbered.{numbers_from};
+ghost use Rattle.replay_main.specs.Script.{IsScript, is_command, place_in, place_of, run_of};
 
-use crate::runs::in_runs;
+use crate::runs::{in_runs, put_behind, run_of, run_size};
 use pids_charge::Gate;
 use std::alloc::{AllocError, Global};
 use std::thread::Threads;
-use trace_lines::{Line, Lines, parse_line};
+use trace_lines::{Line, Lines, TextFault, parse_line};
 use undo_journal::Command;
 
-/// A command of a trace, with the number of its line.
+/// What stands on a line that has a number.
 #[derive(Clone, Copy)]
-pub(crate) struct Numbered<'a> {
-    pub(crate) number: u64,
-    pub(crate) command: &'a Command<Global>,
+pub(crate) enum Place {
+    /// A command.
+    Command,
+    /// What is no command.
+    Fault(TextFault),
+}
+
+/// The commands of a trace in order, and what stands on each line that has a number.
+#[derive(Drop)]
+pub(crate) struct Script {
+    pub(crate) commands: Vec<Command<Global>>,
+    pub(crate) places: Vec<Place>,
 }
 
 /// Reads the lines of a trace, each worker a run of them.
-pub(crate) fn read_lines<R: Threads + Sync, G: Gate>(
+pub(crate) fn read_script<R: Threads + Sync, G: Gate>(
     rt: &R,
     alloc: Global,
     gate: &G,
     workers: u8,
     trace: &[u8],
-) -> Result<Vec<Line>, AllocError>
+) -> Result<Script, AllocError>
     requires workers { (1 ≤ workers) × (workers ≤ 8) }
     requires trace { length trace.now ≤ trace_max }
-    ensures { IfOk result (λ v. map trace_line_of v.items ≡ read_trace trace.now) }
+    ensures { IfOk result (λ script. IsScript script (read_trace trace.now)) }
 {
     let lines = cut(alloc, trace)?;
-    parse_lines(rt, alloc, gate, workers, lines.as_slice())
+    read_lines(rt, alloc, gate, workers, lines.as_slice())
 }
 
 /// The lines of a trace.
@@ -44,47 +54,95 @@ fn cut(alloc: Global, trace: &[u8]) -> Result<Vec<&[u8]>, AllocError>
     Lines::of(trace).collect(alloc)
 }
 
-fn parse_lines<R: Threads + Sync, G: Gate>(
+fn read_lines<R: Threads + Sync, G: Gate>(
     rt: &R,
     alloc: Global,
     gate: &G,
     workers: u8,
     lines: &[&[u8]],
-) -> Result<Vec<Line>, AllocError>
+) -> Result<Script, AllocError>
     requires { (1 ≤ workers) × (workers ≤ 8) }
-    ensures { IfOk result (λ v.
-        map trace_line_of v.items ≡ map read_line (map (λ line. line.now) lines.now)) }
+    ensures { IfOk result (λ script.
+        IsScript script (map read_line (map (λ line. line.now) lines.now))) }
 {
-    let line_at = |i: usize| -> Result<Line, AllocError>
-        requires { i < length lines.now }
-        ensures { IfOk result (λ l. (d : _)
-            → trace_line_of l ≡ read_line (slice_index_or lines.entry.now i d).now) }
-    { parse_line(alloc, lines[i]) };
-    let read = in_runs(rt, alloc, gate, 0, workers, lines.len(), &line_at)?;
-    Ok(read)
+    let size = run_size(lines.len(), workers);
+    let read = |worker: usize| -> Result<Script, AllocError>
+        requires { (worker < 8) × (size ≤ 2 ^ 60) }
+        ensures { IfOk result (λ script. IsScript script
+            (map read_line (map (λ line. line.now) (run_of size worker lines.entry.now)))) }
+    { read_run(alloc, run_of(lines, size, worker)) };
+    let scripts = in_runs(rt, alloc, gate, 0, workers, &read)?;
+    let script = join(alloc, scripts)?;
+    Ok(script)
 }
 
-/// The commands among the lines, in order.
-pub(crate) fn commands_of<'a>(
-    alloc: Global,
-    lines: &'a [Line],
-) -> Result<Vec<Numbered<'a>>, AllocError>
-    ensures numbers { IfOk result (λ v.
-        map (λ c. c.number) v.items ≡ numbers_from 1 (map trace_line_of lines.now)) }
-    ensures commands { IfOk result (λ v. map (λ c. command_of c.command.now) v.items
-        ≡ commands_in (map trace_line_of lines.now)) }
+/// Reads these lines.
+fn read_run(alloc: Global, lines: &[&[u8]]) -> Result<Script, AllocError>
+    ensures { IfOk result (λ script.
+        IsScript script (map read_line (map (λ line. line.now) lines.now))) }
 {
-    let mut commands = Vec::new(alloc);
-    let mut number = 0u64;
+    let mut script = Script {
+        commands: Vec::with_capacity(alloc, lines.len())?,
+        places: Vec::with_capacity(alloc, lines.len())?,
+    };
     for line in lines {
-        match line {
-            Line::Skip => {}
-            Line::Fault(_) => number += 1,
-            Line::Run(command) => {
-                number += 1;
-                commands.push(Numbered { number, command })?;
-            }
+        add(&mut script, parse_line(alloc, line)?)?;
+    }
+    Ok(script)
+}
+
+/// Puts what a line says behind the script.
+fn add(script: &mut Script, line: Line) -> Result<(), AllocError>
+    ensures commands { OnOk result (map command_of script.new.commands.items
+        ≡ map command_of script.old.commands.items ++ command_in (trace_line_of line)) }
+    ensures places { OnOk result (map place_of script.new.places.items
+        ≡ map place_of script.old.places.items ++ place_in (trace_line_of line)) }
+{
+    match line {
+        Line::Skip => {}
+        Line::Fault(fault) => script.places.push(Place::Fault(fault))?,
+        Line::Run(command) => {
+            script.commands.push(command)?;
+            script.places.push(Place::Command)?;
         }
     }
-    Ok(commands)
+    Ok(())
+}
+
+/// These scripts, one behind the other.
+fn join(alloc: Global, scripts: Vec<Script>) -> Result<Script, AllocError>
+    ensures commands { IfOk result (λ script. map command_of script.commands.items
+        ≡ flat_map (λ s. map command_of s.commands.items) scripts.items) }
+    ensures places { IfOk result (λ script. map place_of script.places.items
+        ≡ flat_map (λ s. map place_of s.places.items) scripts.items) }
+{
+    let mut all = Script {
+        commands: Vec::new(alloc),
+        places: Vec::new(alloc),
+    };
+    for script in scripts {
+        put_behind(&mut all.commands, script.commands)?;
+        put_behind(&mut all.places, script.places)?;
+    }
+    Ok(all)
+}
+
+/// How many lines that have a number are commands.
+pub(crate) fn count_commands(places: &[Place]) -> usize
+    ensures { result ≡ count_by is_command (map place_of places.now) }
+{
+    places
+        .iter()
+        .filter(|place| matches!(place, Place::Command))
+        .count()
+}
+
+/// How many lines that have a number are no commands.
+pub(crate) fn count_faults(places: &[Place]) -> usize
+    ensures { result ≡ count_by is_some (map place_of places.now) }
+{
+    places
+        .iter()
+        .filter(|place| matches!(place, Place::Fault(_)))
+        .count()
 }

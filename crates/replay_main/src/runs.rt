@@ -1,37 +1,27 @@
-//! Work on each number below a length, in contiguous runs, with a thread for each worker.
+//! Work in contiguous runs, with a thread for each worker.
 
-ghost use Rattle.std.specs.Prelude.{◌≡◌, ◌+◌, ◌*◌, ◌<◌, ◌≤◌, ◌^◌, ℕ, min, IfOk};
+ghost use Rattle.std.specs.Prelude.{◌≡◌, ◌+◌, ◌++◌, ◌*◌, ◌<◌, ◌≤◌, ◌^◌, ℕ, take, drop, IfOk, OnOk};
 ghost use Rattle.replay_main.specs.Runs.{IsRun};
+ghost use Rattle.replay_main.specs.Script.{run_of};
 ghost use denote.Param.Send.{IsSend, IsSync};
 
 use pids_charge::Gate;
 use std::alloc::{AllocError, Global};
 use std::thread::{Threads, join};
 
-/// What `f` gives at each number below `len`, in order. The worker w does the run w of these
-/// numbers; at its start it passes part `first + w + 1`. Worker 0 is the caller, who also does the
-/// run of each worker whose thread cannot be started.
+/// What `f` gives for each worker, in order. At its start the worker w passes part `first + w + 1`.
+/// Worker 0 is the caller, who also does the work of each worker whose thread cannot be started.
 pub(crate) fn in_runs<
     R: Threads + Sync,
     G: Gate,
     X: Send + Drop,
     F: Fn(usize) -> Result<X, AllocError> + Sync,
->(
-    rt: &R,
-    alloc: Global,
-    gate: &G,
-    first: u8,
-    workers: u8,
-    len: usize,
-    f: &F,
-) -> Result<Vec<X>, AllocError>
+>(rt: &R, alloc: Global, gate: &G, first: u8, workers: u8, f: &F) -> Result<Vec<X>, AllocError>
     requires workers { (1 ≤ workers) × (workers ≤ 8) × (first ≤ 16) }
-    requires len { len < 2 ^ 59 }
-    requires accepts { (i : ℕ) → i < len → F.pre f.now i }
-    ensures { IfOk result (λ v. IsRun (F.post f.now) 0 len v.items) }
+    requires accepts { (i : ℕ) → i < workers → F.pre f.now i }
+    ensures { IfOk result (λ v. IsRun (F.post f.now) 0 workers v.items) }
 {
-    let size = len / usize::from(workers) + 1;
-    runs_to(rt, alloc, gate, first, size, len, workers - 1, f)
+    runs_to(rt, alloc, gate, first, workers - 1, f)
 }
 
 /// The runs of the workers from 0 to `worker`.
@@ -41,65 +31,86 @@ fn runs_to<
     G: Gate,
     X: Send + Drop,
     F: Fn(usize) -> Result<X, AllocError> + Sync,
->(
-    rt: &R,
-    alloc: Global,
-    gate: &G,
-    first: u8,
-    size: usize,
-    len: usize,
-    worker: u8,
-    f: &F,
-) -> Result<Vec<X>, AllocError>
+>(rt: &R, alloc: Global, gate: &G, first: u8, worker: u8, f: &F) -> Result<Vec<X>, AllocError>
     requires worker { (worker < 8) × (first ≤ 16) }
-    requires size { size < 2 ^ 60 }
-    requires accepts { (i : ℕ) → i < len → F.pre f.now i }
-    ensures { IfOk result (λ v. IsRun (F.post f.now) 0 (min ((worker + 1) * size) len) v.items) }
+    requires accepts { (i : ℕ) → i ≤ worker → F.pre f.now i }
+    ensures { IfOk result (λ v. IsRun (F.post f.now) 0 (worker + 1) v.items) }
 {
     if worker == 0 {
-        return one_run(alloc, gate, first, size, len, worker, f);
+        let mut all = Vec::new(alloc);
+        all.push(one_run(gate, first, 0, f)?)?;
+        return Ok(all);
     }
-    let theirs = move || -> Result<Vec<X>, AllocError>
+    let theirs = move || -> Result<X, AllocError>
         requires { IsSync F.row × IsSend X.row × IsSync G.row × (worker < 8) × (first ≤ 16)
-            × (size < 2 ^ 60) × ((i : ℕ) → i < len → F.pre f.now i) }
-        ensures { IfOk result (λ v. IsRun (F.post f.entry.now)
-            (min (worker * size) len) (min ((worker + 1) * size) len) v.items) }
-    { one_run(alloc, gate, first, size, len, worker, f) };
+            × F.pre f.now worker }
+        ensures { F.post f.entry.now worker result }
+    { one_run(gate, first, worker, f) };
     let mine = move || -> Result<Vec<X>, AllocError>
         requires { IsSync R.row × IsSync F.row × IsSend X.row × IsSync G.row × (0 < worker)
-            × (worker < 8) × (first ≤ 16) × (size < 2 ^ 60)
-            × ((i : ℕ) → i < len → F.pre f.now i) }
-        ensures { IfOk result (λ v. IsRun (F.post f.entry.now) 0 (min (worker * size) len) v.items) }
-    { runs_to(rt, alloc, gate, first, size, len, worker - 1, f) };
+            × (worker < 8) × (first ≤ 16) × ((i : ℕ) → i ≤ worker → F.pre f.now i) }
+        ensures { IfOk result (λ v. IsRun (F.post f.entry.now) 0 worker v.items) }
+    { runs_to(rt, alloc, gate, first, worker - 1, f) };
     let (last, before) = join(rt, theirs, mine);
     let mut all = before?;
-    let mut last = last?;
-    all.append(&mut last)?;
+    all.push(last?)?;
     Ok(all)
 }
 
 /// One worker's run.
-fn one_run<G: Gate, X: Drop, F: Fn(usize) -> Result<X, AllocError>>(
-    alloc: Global,
+fn one_run<G: Gate, X, F: Fn(usize) -> Result<X, AllocError>>(
     gate: &G,
     first: u8,
-    size: usize,
-    len: usize,
     worker: u8,
     f: &F,
-) -> Result<Vec<X>, AllocError>
+) -> Result<X, AllocError>
     requires worker { (worker < 8) × (first ≤ 16) }
-    requires size { size < 2 ^ 60 }
-    requires accepts { (i : ℕ) → i < len → F.pre f.now i }
-    ensures { IfOk result (λ v. IsRun (F.post f.now)
-        (min (worker * size) len) (min ((worker + 1) * size) len) v.items) }
+    requires accepts { F.pre f.now worker }
+    ensures { F.post f.now worker result }
 {
     gate.pass(first + worker + 1);
-    let start = (usize::from(worker) * size).min(len);
-    let end = ((usize::from(worker) + 1) * size).min(len);
-    let mut all = Vec::new(alloc);
-    for i in start..end {
-        all.push(f(i)?)?;
+    f(usize::from(worker))
+}
+
+/// How many of so many items a worker has at most.
+pub(crate) fn run_size(len: usize, workers: u8) -> usize
+    requires { (1 ≤ workers) × (workers ≤ 8) × (len < 2 ^ 60) }
+    ensures whole { len ≤ workers * result }
+    ensures bound { result ≤ 2 ^ 60 }
+{
+    len / usize::from(workers) + 1
+}
+
+/// The items of one worker.
+pub(crate) fn run_of<T>(items: &[T], size: usize, worker: usize) -> &[T]
+    requires { (worker < 8) × (size ≤ 2 ^ 60) }
+    ensures { result.now ≡ run_of size worker items.now }
+{
+    first(behind(items, worker * size), size)
+}
+
+/// The first `n` items, or all where there are no more.
+pub(crate) fn first<T>(items: &[T], n: usize) -> &[T]
+    ensures { result.now ≡ take n items.now }
+{
+    &items[..n.min(items.len())]
+}
+
+/// The items behind the first `n`.
+pub(crate) fn behind<T>(items: &[T], n: usize) -> &[T]
+    ensures { result.now ≡ drop n items.now }
+{
+    &items[n.min(items.len())..]
+}
+
+/// Puts these items behind the others, which are few or none.
+pub(crate) fn put_behind<T: Drop>(all: &mut Vec<T>, more: Vec<T>) -> Result<(), AllocError>
+    ensures { OnOk result (all.new.items ≡ all.old.items ++ more.items) }
+{
+    if all.is_empty() {
+        *all = more;
+        return Ok(());
     }
-    Ok(all)
+    let mut more = more;
+    all.append(&mut more)
 }

@@ -1,98 +1,124 @@
-//! The third phase: the replies of the log become bytes in contiguous runs, which are put in order
-//! with the answers to the lines that are no commands.
+//! The third phase: what is answered on each line that has a number becomes bytes, in contiguous
+//! runs.
 
-ghost use Rattle.std.specs.Prelude.{◌≡◌, ◌<◌, ◌≤◌, ℕ, length, map, slice_index_or, IfOk};
-ghost use Rattle.std.specs.List.{count_by};
-ghost use Rattle.flat_model.specs.Replies.{reply_bytes, command_count, is_fault, is_refused};
-ghost use Rattle.trace_lines.specs.Meaning.{trace_line_of};
-ghost use Rattle.replay_main.specs.Numbered.{merged, texts_at};
+ghost use Rattle.std.specs.Prelude.{◌≡◌, ◌++◌, ◌+◌, ◌*◌, ◌<◌, ◌≤◌, ◌^◌, length, map, IfOk, OnOk};
+ghost use Rattle.std.specs.List.{flat_map, count_by};
+ghost use Rattle.flat_model.specs.Replies.{reply_bytes, is_refused};
+ghost use Rattle.replay_main.specs.Script.{answers_from, place_of, replies_behind, run_answers};
 
-use crate::reading::Numbered;
-use crate::runs::in_runs;
+use crate::reading::{Place, count_commands};
+use crate::runs::{behind, first, in_runs, put_behind, run_of, run_size};
 use pids_charge::Gate;
 use sessions::Entry;
 use std::alloc::{AllocError, Global};
 use std::thread::Threads;
-use trace_lines::{Line, is_refused, put_fault, put_reply};
+use trace_lines::{is_refused, put_fault, put_reply};
 
-/// The answers to the commands of a log, each worker a run of them.
-pub(crate) fn texts_of<R: Threads + Sync, G: Gate>(
+/// The answers, each worker a run of them.
+pub(crate) fn answers_of<R: Threads + Sync, G: Gate>(
     rt: &R,
     alloc: Global,
     gate: &G,
     workers: u8,
-    commands: &[Numbered<'_>],
+    places: &[Place],
     log: &[Entry],
-) -> Result<Vec<Vec<u8>>, AllocError>
+) -> Result<Vec<u8>, AllocError>
     requires workers { (1 ≤ workers) × (workers ≤ 8) }
-    requires each { length log.now ≡ length commands.now }
-    ensures { IfOk result (λ v. map (λ text. text.items) v.items
-        ≡ texts_at (map (λ c. c.number) commands.now) (map (λ e. e.reply) log.now)) }
+    requires few { length places.now < 2 ^ 60 }
+    ensures { IfOk result (λ v. v.items
+        ≡ answers_from 1 (map place_of places.now) (map (λ e. e.reply) log.now)) }
 {
-    let text_at = |i: usize| -> Result<Vec<u8>, AllocError>
-        requires { (i < length log.now) × (length log.now ≡ length commands.now) }
-        ensures { IfOk result (λ v. (c : _) (e : _) → v.items ≡ reply_bytes
-            (slice_index_or commands.entry.now i c).number (slice_index_or log.entry.now i e).reply) }
-    { text_of(alloc, commands[i].number, &log[i]) };
-    let texts = in_runs(rt, alloc, gate, 2 * workers, workers, log.len(), &text_at)?;
-    Ok(texts)
-}
-
-/// The answer to the command of an entry.
-fn text_of(alloc: Global, number: u64, entry: &Entry) -> Result<Vec<u8>, AllocError>
-    ensures { IfOk result (λ v. v.items ≡ reply_bytes number entry.now.reply) }
-{
-    let mut bytes = Vec::new(alloc);
-    put_reply(alloc, &mut bytes, number, &entry.reply)?;
+    let size = run_size(places.len(), workers);
+    let answer = |worker: usize| -> Result<Vec<u8>, AllocError>
+        requires { (worker < 8) × (size ≤ 2 ^ 60) }
+        ensures { IfOk result (λ v. v.items ≡ run_answers size worker
+            (map place_of places.entry.now) (map (λ e. e.reply) log.entry.now)) }
+    { answer_run(alloc, places, log, size, worker) };
+    let texts = in_runs(rt, alloc, gate, 2 * workers, workers, &answer)?;
+    let bytes = join(alloc, texts)?;
     Ok(bytes)
 }
 
-/// These texts, with the answers to the lines that are no commands in their places.
-pub(crate) fn merge(alloc: Global, lines: &[Line], texts: &[Vec<u8>]) -> Result<Vec<u8>, AllocError>
+/// The answers of one worker.
+fn answer_run(
+    alloc: Global,
+    places: &[Place],
+    log: &[Entry],
+    size: usize,
+    worker: usize,
+) -> Result<Vec<u8>, AllocError>
+    requires { (worker < 8) × (size ≤ 2 ^ 60) }
+    ensures { IfOk result (λ v. v.items ≡ run_answers size worker
+        (map place_of places.now) (map (λ e. e.reply) log.now)) }
+{
+    let start = worker * size;
+    let mine = run_of(places, size, worker);
+    let replied = replied(places, start, log);
+    let text = answer(alloc, start, mine, replied)?;
+    Ok(text)
+}
+
+/// The entries behind those of the first `n` places.
+fn replied<'a>(places: &[Place], n: usize, log: &'a [Entry]) -> &'a [Entry]
+    ensures { map (λ e. e.reply) result.now
+        ≡ replies_behind n (map place_of places.now) (map (λ e. e.reply) log.now) }
+{
+    let before = count_commands(first(places, n));
+    behind(log, before)
+}
+
+/// The answers on these lines, where so many with a number stand before them, by the replies to the
+/// commands among them.
+fn answer(
+    alloc: Global,
+    before: usize,
+    places: &[Place],
+    log: &[Entry],
+) -> Result<Vec<u8>, AllocError>
+    requires { before < 2 ^ 63 }
     ensures { IfOk result (λ v. v.items
-        ≡ merged 1 (map trace_line_of lines.now) (map (λ text. text.items) texts.now)) }
+        ≡ answers_from (before + 1) (map place_of places.now) (map (λ e. e.reply) log.now)) }
 {
     let mut bytes = Vec::new(alloc);
-    let mut number = 0u64;
+    let mut number = before as u64;
     let mut at = 0;
-    for line in lines {
-        match line {
-            Line::Skip => {}
-            Line::Fault(fault) => {
-                number += 1;
-                put_fault(&mut bytes, number, *fault)?;
-            }
-            Line::Run(_) => {
-                if at == texts.len() {
-                    return Ok(bytes);
+    for place in places {
+        number += 1;
+        match place {
+            Place::Fault(fault) => put_fault(&mut bytes, number, *fault)?,
+            Place::Command => {
+                if at < log.len() {
+                    put_text(alloc, &mut bytes, number, &log[at])?;
+                    at += 1;
                 }
-                number += 1;
-                bytes.extend_from_slice(texts[at].as_slice())?;
-                at += 1;
             }
         }
     }
     Ok(bytes)
 }
 
-/// How many lines have a number.
-pub(crate) fn count_commands(lines: &[Line]) -> u64
-    ensures { result ≡ command_count (map trace_line_of lines.now) }
+/// Puts the answer to the command of an entry behind the bytes.
+fn put_text(
+    alloc: Global,
+    bytes: &mut Vec<u8>,
+    number: u64,
+    entry: &Entry,
+) -> Result<(), AllocError>
+    ensures { OnOk result
+        (bytes.new.items ≡ bytes.old.items ++ reply_bytes number entry.now.reply) }
 {
-    lines
-        .iter()
-        .filter(|line| !matches!(line, Line::Skip))
-        .count() as u64
+    put_reply(alloc, bytes, number, &entry.reply)
 }
 
-/// How many lines are no commands, and yet have a number.
-pub(crate) fn count_faults(lines: &[Line]) -> u64
-    ensures { result ≡ count_by is_fault (map trace_line_of lines.now) }
+/// These texts, one behind the other.
+fn join(alloc: Global, texts: Vec<Vec<u8>>) -> Result<Vec<u8>, AllocError>
+    ensures { IfOk result (λ v. v.items ≡ flat_map (λ text. text.items) texts.items) }
 {
-    lines
-        .iter()
-        .filter(|line| matches!(line, Line::Fault(_)))
-        .count() as u64
+    let mut all = Vec::new(alloc);
+    for text in texts {
+        put_behind(&mut all, text)?;
+    }
+    Ok(all)
 }
 
 /// How many replies of a log are refusals.

@@ -6,8 +6,8 @@ ghost use Rattle.replay_main.specs.Replayed.{EndsWork, IsAnswered, Replayed};
 
 use crate::input::read_whole;
 use crate::output::write_whole;
-use crate::reading::{commands_of, read_lines};
-use crate::texts::{count_commands, count_faults, count_refused, merge, texts_of};
+use crate::reading::{count_faults, read_script};
+use crate::texts::{answers_of, count_refused};
 use crate::turns::run_commands;
 use crate::{ReplayFault, Sink, Source};
 use pids_charge::{Gate, OpenGate};
@@ -44,29 +44,17 @@ fn answer<R: Threads + Wait + Sync, G: Gate>(
     ensures ok { IfOk result (λ a. IsAnswered trace.now a.bytes.items a.summary) }
     ensures fault { IfErr result EndsWork }
 {
-    let Ok(lines) = read_lines(rt, alloc, gate, workers, trace) else {
+    let Ok(script) = read_script(rt, alloc, gate, workers, trace) else {
         return Err(ReplayFault::OutOfMemory);
     };
-    let Ok(commands) = commands_of(alloc, lines.as_slice()) else {
-        return Err(ReplayFault::OutOfMemory);
-    };
-    let log = run_commands(rt, alloc, gate, workers, commands.as_slice())?;
-    let Ok(texts) = texts_of(
-        rt,
-        alloc,
-        gate,
-        workers,
-        commands.as_slice(),
-        log.as_slice(),
-    ) else {
-        return Err(ReplayFault::OutOfMemory);
-    };
-    let Ok(bytes) = merge(alloc, lines.as_slice(), texts.as_slice()) else {
+    let log = run_commands(rt, alloc, gate, workers, script.commands.as_slice())?;
+    let places = script.places.as_slice();
+    let Ok(bytes) = answers_of(rt, alloc, gate, workers, places, log.as_slice()) else {
         return Err(ReplayFault::OutOfMemory);
     };
     let summary = Summary {
-        commands: count_commands(lines.as_slice()),
-        refused: count_faults(lines.as_slice()) + count_refused(log.as_slice()),
+        commands: places.len() as u64,
+        refused: count_faults(places) as u64 + count_refused(log.as_slice()),
     };
     Ok(Answered { bytes, summary })
 }

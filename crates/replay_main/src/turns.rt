@@ -4,12 +4,12 @@
 ghost use Rattle.std.specs.Prelude.{◌≡◌, ◌<◌, ◌≤◌, length, map, vec_len, IfOk, IfErr};
 ghost use Rattle.flat_model.specs.Machine.{new_machine, replies};
 ghost use Rattle.undo_journal.specs.Meaning.{command_of};
-ghost use Rattle.replay_main.specs.Replayed.{slots, EndsWork};
+ghost use Rattle.replay_main.specs.Replayed.{EndsWork};
+ghost use Rattle.sessions.specs.Meaning.{slots};
 ghost use denote.Param.Send.{IsSync};
 
 use crate::ReplayFault;
 use crate::logged::has_commands;
-use crate::reading::Numbered;
 use pids_charge::Gate;
 use sessions::{CloseFault, Desk, Entry, RunFault, Session};
 use std::alloc::{AllocError, Global};
@@ -26,11 +26,11 @@ pub(crate) fn run_commands<R: Threads + Wait + Sync, G: Gate>(
     alloc: Global,
     gate: &G,
     workers: u8,
-    commands: &[Numbered<'_>],
+    commands: &[Command<Global>],
 ) -> Result<Vec<Entry>, ReplayFault>
     requires { (1 ≤ workers) × (workers ≤ 8) }
     ensures log { IfOk result (λ log. map (λ e. e.reply) log.items
-        ≡ replies slots new_machine (map (λ c. command_of c.command.now) commands.now)) }
+        ≡ replies slots new_machine (map command_of commands.now)) }
     ensures each { IfOk result (λ log. length log.items ≡ length commands.now) }
     ensures fault { IfErr result EndsWork }
 {
@@ -82,7 +82,7 @@ fn serve<R: Threads + Wait + Sync, G: Gate>(
     alloc: Global,
     gate: &G,
     sessions: Vec<Session>,
-    commands: &[Numbered<'_>],
+    commands: &[Command<Global>],
 ) -> Result<Vec<Session>, AllocError>
     requires { (1 ≤ vec_len sessions) × (vec_len sessions ≤ 8) }
 {
@@ -106,7 +106,7 @@ fn serve_all<R: Threads + Wait + Sync, G: Gate>(
     rt: &R,
     gate: &G,
     seats: &[Mutex<Session>],
-    commands: &[Numbered<'_>],
+    commands: &[Command<Global>],
     is_short: &AtomicBool,
 )
     requires { (1 ≤ length seats.now) × (length seats.now ≤ 8) }
@@ -142,7 +142,7 @@ fn work_for_one<R: Threads + Wait + Sync, G: Gate>(
     rt: &R,
     gate: &G,
     seats: &[Mutex<Session>],
-    commands: &[Numbered<'_>],
+    commands: &[Command<Global>],
     is_short: &AtomicBool,
     worker: usize,
 )
@@ -151,9 +151,7 @@ fn work_for_one<R: Threads + Wait + Sync, G: Gate>(
     gate.pass((seats.len() + worker + 1) as u8);
     let mut session = seats[worker].lock(rt);
     for (turn, command) in commands.iter().enumerate() {
-        if turn % seats.len() == worker
-            && !run_one(rt, &mut session, turn, command.command, is_short)
-        {
+        if turn % seats.len() == worker && !run_one(rt, &mut session, turn, command, is_short) {
             break;
         }
     }
@@ -164,7 +162,7 @@ fn work_for_many<R: Threads + Wait + Sync, G: Gate>(
     rt: &R,
     gate: &G,
     seats: &[Mutex<Session>],
-    commands: &[Numbered<'_>],
+    commands: &[Command<Global>],
     is_short: &AtomicBool,
     is_mine: &[bool; 8],
 )
@@ -177,15 +175,7 @@ fn work_for_many<R: Threads + Wait + Sync, G: Gate>(
     }
     for (turn, command) in commands.iter().enumerate() {
         let worker = turn % seats.len();
-        if is_mine[worker]
-            && !run_one(
-                rt,
-                &mut seats[worker].lock(rt),
-                turn,
-                command.command,
-                is_short,
-            )
-        {
+        if is_mine[worker] && !run_one(rt, &mut seats[worker].lock(rt), turn, command, is_short) {
             break;
         }
     }

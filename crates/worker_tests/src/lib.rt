@@ -1,9 +1,10 @@
-//! Tests of the replay by several workers.
+//! Tests of the replay by several workers, and of the rehearsal of the same trace.
 //!
 //! They ask what no contract says: that every number of workers gives the bytes of one where there is
 //! memory, and that the work of each phase is done by as many threads as there are workers.
 //!
-//! - `replays`: a trace with a kill and its undo by 1, 2, 3 and 8 workers, and behind a gate.
+//! - `replays`: a trace with a kill and its undo by 1, 2, 3 and 8 workers, by a rehearsal, and
+//!   behind a gate.
 //! - `gates`: a gate at which all parts of a phase have to meet.
 #![tactic(auto)]
 

@@ -1,7 +1,9 @@
-//! A trace with a kill and its undo, by several workers.
+//! A trace with a kill and its undo, by several workers and by a rehearsal.
 
 use crate::gates::Meeting;
-use replay_main::{MemorySink, MemorySource, ReplayFault, Summary, replay, replay_gated};
+use replay_main::{
+    MemorySink, MemorySource, ReplayFault, Summary, rehearse_trace, replay, replay_gated,
+};
 
 const TRACE: &[u8] = b"mkdir /k\nmkdir /k/a\nmkdir /k/b\nfork 1 2\nfork 1 3\nfork 1 4\n\
 write /k cgroup.procs 2\nwrite /k/a cgroup.procs 3\nwrite /k/b cgroup.procs 4\nfork 3 5\nfork 4 6\n\
@@ -27,6 +29,15 @@ fn any_number_of_workers(rt: HostRuntime) {
         assert!(&rt; summary == WHOLE);
         assert!(&rt; sink.bytes() == ANSWERS);
     }
+}
+
+#[test]
+fn by_a_rehearsal(rt: HostRuntime) {
+    let mut source = MemorySource::new(TRACE);
+    let mut sink = MemorySink::new(rt.alloc());
+    let summary = rehearse_trace(&rt, rt.alloc(), &mut source, &mut sink);
+    assert!(&rt; summary == WHOLE);
+    assert!(&rt; sink.bytes() == ANSWERS);
 }
 
 #[test]

@@ -11,10 +11,13 @@ use Rattle.std.proofs.Crossing.{crosses}
 use Rattle.std.specs.contracts.sync.Mutex as Mutex
 use Rattle.std.specs.contracts.sync.atomic.AtomicBool as AtomicBool
 use Rattle.sessions.specs.contracts.session.Session as Session
-use Rattle.replay_main.specs.contracts.reading.Numbered as Numbered
+use Rattle.undo_journal.specs.contracts.command.Command as Command
+use Rattle.std.specs.contracts.alloc.Global as Global
+use Rattle.std.specs.contracts.impls.GlobalAllocator.TheImpl as allocator
+use Rattle.std.below.core.specs.contracts.clone.Clone+copy.TheImpl as clone
 use Rattle.std.proofs.sync.atomic.AtomicBool.TheSendSync as flag
 use Rattle.std.proofs.sync.Mutex.TheSendSync as mutex
-use Rattle.replay_main.proofs.reading.Numbered.TheSendSync as numbered
+use Rattle.undo_journal.proofs.command.Command.TheSendSync as command
 use Rattle.sessions.proofs.SessionCrosses.{session_send}
 use Rattle.replay_main.proofs.turns.fn.serve_all.scope.Goals as goal
 
@@ -24,14 +27,17 @@ seat_sync = search (session_send, mutex.the_sync, sendable, crosses) depth 20
 flag_sync : IsSync AtomicBool.the_row
 flag_sync = search (flag.the_sync, sendable, crosses) depth 20
 
-numbered_sync : (ℓ : NamedLft) → IsSync (Numbered.the_row ℓ)
-numbered_sync ℓ = search (numbered.the_sync, sendable, crosses) depth 20
+abbrev command_row : RattleType
+command_row = Command.the_row Global.the_row allocator.ghosts (clone.ghosts Global.the_row)
+
+command_sync : IsSync command_row
+command_sync = search (command.the_sync, sendable, crosses) depth 20
 
 -- what the work of a worker holds may go to its thread, where runtime and gate may be shared
-work_send : (ν : Sym) (R G : RattleType) → IsSync R → IsSync G → (a b c d e f : NamedLft) → IsSend (TupleAt ν ((shr_ref_field a (param 0 R) tt).row ∷ (shr_ref_field b (param 1 G) tt).row ∷ (shr_slice_field c (Mutex.the_row Session.the_row) tt).row ∷ (shr_slice_field d (Numbered.the_row e) tt).row ∷ (shr_ref_field f AtomicBool.the_row tt).row ∷ usize-field.row ∷ []))
-work_send ν R G r s a b c d e f = search (seat_sync, numbered_sync, flag_sync, sendable) depth 20
+work_send : (ν : Sym) (R G : RattleType) → IsSync R → IsSync G → (a b c d e : NamedLft) → IsSend (TupleAt ν ((shr_ref_field a (param 0 R) tt).row ∷ (shr_ref_field b (param 1 G) tt).row ∷ (shr_slice_field c (Mutex.the_row Session.the_row) tt).row ∷ (shr_slice_field d command_row tt).row ∷ (shr_ref_field e AtomicBool.the_row tt).row ∷ usize-field.row ∷ []))
+work_send ν R G r s a b c d e = search (seat_sync, command_sync, flag_sync, sendable) depth 20
 
 -- `search` does not find at which exit the work is passed, so it is named
 pub spawn-requires-send-F : goal.spawn-requires-send-F
 spawn-requires-send-F g c κs h =
-    param_send 1 _ (arg_send _ no _ (work_send _ _ _ c.requires.0 c.requires.1 _ _ _ _ _ _))
+    param_send 1 _ (arg_send _ no _ (work_send _ _ _ c.requires.0 c.requires.1 _ _ _ _ _))
