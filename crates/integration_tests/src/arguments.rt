@@ -30,10 +30,26 @@ fn command_lines(rt: HostRuntime) {
         )
     );
     match command_line(rt.alloc(), &["--help"]) {
-        Ok(Ask::Help(text)) => assert!(rt; text.as_str().contains("cgreplay")),
+        Ok(Ask::Help(text)) => {
+            for wanted in [
+                "cgreplay",
+                "--workers <1-8>",
+                "--rehearse",
+                "Rehearse the trace",
+            ] {
+                assert!(rt; text.as_str().contains(wanted), "{wanted}");
+            }
+        }
         _ => assert!(rt; false),
     }
-    for word in ["--bogus", "x", "", "--workers", "--rehearse"] {
+    for word in [
+        "--bogus",
+        "x",
+        "",
+        "--workers",
+        "--rehearse=true",
+        "--rehearse=false",
+    ] {
         assert!(rt;
             matches!(command_line(rt.alloc(), &[word]), Err(LineFault::Bad)),
             "{word}"
@@ -68,14 +84,41 @@ fn numbers_of_workers(rt: HostRuntime) {
     );
 }
 
+/// The number of workers is read where the trace is rehearsed, too.
+#[test]
+fn rehearsals(rt: HostRuntime) {
+    let rows: [(&[&str], Option<(u8, bool)>); 7] = [
+        (&["--rehearse"], Some((1, true))),
+        (&["--workers", "3"], Some((3, false))),
+        (&["--workers", "3", "--rehearse"], Some((3, true))),
+        (&["--rehearse", "--workers=8"], Some((8, true))),
+        (&["--workers", "9", "--rehearse"], None),
+        (&["--rehearse", "x"], None),
+        (&["--rehearse", "--rehearse"], None),
+    ];
+    for (words, wanted) in rows {
+        let asked = match command_line(rt.alloc(), words) {
+            Ok(Ask::Run { workers, rehearse }) => Some((workers, rehearse)),
+            _ => None,
+        };
+        assert_eq!(rt; asked, wanted);
+    }
+}
+
 /// The first argument is the program's name, whatever it is.
 #[test]
 fn programs(rt: HostRuntime) -> Result<(), Fail> {
-    let rows: [(&[&str], Result<(), ProgramFault>, &[u8]); 6] = [
+    let rows: [(&[&str], Result<(), ProgramFault>, &[u8]); 8] = [
         (&[], Ok(()), ANSWERS),
         (&["cgreplay"], Ok(()), ANSWERS),
         (&["--bogus"], Ok(()), ANSWERS),
         (&["cgreplay", "--workers", "8"], Ok(()), ANSWERS),
+        (&["cgreplay", "--rehearse"], Ok(()), ANSWERS),
+        (
+            &["cgreplay", "--workers", "3", "--rehearse"],
+            Ok(()),
+            ANSWERS,
+        ),
         (
             &["cgreplay", "--workers", "9"],
             Err(ProgramFault::Line(LineFault::Bad)),

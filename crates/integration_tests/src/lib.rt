@@ -8,7 +8,8 @@
 //!
 //! - `engine`: commands, their texts, and what the engine keeps of them.
 //! - `engine_memory`: each growth that a command asks for, refused in turn.
-//! - `traces`: traces with their answers, as tables of texts; long lines and long answers. Those of
+//! - `rehearsal`: rehearsals in an arena.
+//! - `traces`: traces with their answers, by a replay and by a rehearsal, as tables of texts; long lines and long answers. Those of
 //!   files, kills and `where` stand in `file_traces`.
 //! - `values`: the names of files, the values that are written to them, and texts of limits.
 //! - `faults`: a replay over devices that fail or end, which stand in `devices`.
@@ -27,6 +28,8 @@ mod engine_memory;
 mod faults;
 #[cfg(test)]
 mod file_traces;
+#[cfg(test)]
+mod rehearsal;
 #[cfg(test)]
 mod traces;
 #[cfg(test)]

@@ -1,6 +1,7 @@
 //! Traces and their answers, over devices in memory.
 
 use crate::file_traces::FILE_TRACES;
+use crate::rehearsal::rehearsed;
 use replay_main::{LINE_MAX, MemorySink, MemorySource, ReplayFault, Summary, replay};
 use std::alloc::{AllocError, Global};
 use std::sync::Wait;
@@ -212,7 +213,8 @@ fn counted(answers: &str) -> (u64, u64) {
     (commands, refused)
 }
 
-/// Whether the trace has these answers, and the two numbers that are counted in them.
+/// Whether the trace has these answers, and the two numbers that are counted in them, by a replay
+/// and by a rehearsal.
 fn is_answered<R: Threads + Wait + Sync>(
     rt: &R,
     alloc: Global,
@@ -222,8 +224,12 @@ fn is_answered<R: Threads + Wait + Sync>(
     let bytes = lines(alloc, trace)?;
     let wanted = lines(alloc, answers)?;
     let (summary, writer) = replayed(rt, alloc, bytes.as_slice())?;
+    let (rehearsed_summary, rehearsed_writer) = rehearsed(rt, alloc, bytes.as_slice())?;
     let numbers = (summary.commands, summary.refused);
-    Ok((writer.bytes(), numbers) == (wanted.as_slice(), counted(answers)))
+    Ok(
+        (writer.bytes(), numbers) == (wanted.as_slice(), counted(answers))
+            && (rehearsed_writer.bytes(), rehearsed_summary) == (wanted.as_slice(), summary),
+    )
 }
 
 /// The first of these traces that is answered otherwise.

@@ -1,0 +1,138 @@
+//! Rehearsals in an arena.
+
+use crate::engine::{answer, command, said};
+use crate::faults::{ANSWERS, TRACE};
+use bumpalo::Bump;
+use linked_list_allocator::LocalHeap;
+use pids_charge::{Meter, PlainMeter};
+use replay_main::{MemorySink, MemorySource, ReplayFault, Summary, rehearse_trace};
+use std::alloc::{AllocError, Global};
+use std::sync::Wait;
+use std::test::Fail;
+use std::thread::Threads;
+use undo_journal::{Command, Engine, Reply};
+
+/// What an engine has answered before it rehearses.
+const BEFORE: [(&str, &str); 2] = [("mkdir /a", "ok"), ("fork 1 2", "ok")];
+
+/// What it rehearses, with the replies.
+const TEN: [(&str, &str); 10] = [
+    ("undo", "fork 1 2"),
+    ("undo", "mkdir /a"),
+    ("undo", "nothing"),
+    ("mkdir /a", "ok"),
+    ("fork 1 2", "ok"),
+    ("write /a cgroup.procs 2", "ok"),
+    ("cat /a pids.current", "1\n"),
+    ("write /a cgroup.kill 1", "ok"),
+    ("cat /a cgroup.events", "populated 0\nfrozen 0\n"),
+    ("where 2", "noprocess 2"),
+];
+
+/// The commands that the lines say.
+fn commands(alloc: Global, rows: &[(&str, &str)]) -> Result<Vec<Command<Global>>, Fail> {
+    let mut commands = Vec::new(alloc);
+    for (line, _) in rows {
+        commands.push(command(alloc, line)?)?;
+    }
+    Ok(commands)
+}
+
+/// The first line that the engine answers otherwise.
+fn first_other<R: Threads + Wait + Sync, M: Meter>(
+    rt: &R,
+    alloc: Global,
+    engine: &mut Engine<Global, M>,
+    rows: &[(&'static str, &'static str)],
+) -> Result<Option<&'static str>, Fail> {
+    for (line, wanted) in rows {
+        let said = answer(rt, alloc, engine, line)?;
+        if said.as_slice() != wanted.as_bytes() {
+            return Ok(Some(*line));
+        }
+    }
+    Ok(None)
+}
+
+/// Whether these are the replies beside the lines, and no others.
+fn are_replies(
+    alloc: Global,
+    replies: &[Reply<Global>],
+    rows: &[(&str, &str)],
+) -> Result<bool, AllocError> {
+    for (reply, (_, wanted)) in replies.iter().zip(rows.iter()) {
+        if said(alloc, reply)?.as_slice() != wanted.as_bytes() {
+            return Ok(false);
+        }
+    }
+    Ok(replies.len() == rows.len())
+}
+
+/// An engine that has a group and a process besides the first.
+fn sample<R: Threads + Wait + Sync>(
+    rt: &R,
+    alloc: Global,
+) -> Result<Engine<Global, PlainMeter<Global>>, Fail> {
+    let mut engine = Engine::new(alloc, PlainMeter::new(alloc)?)?;
+    match first_other(rt, alloc, &mut engine, &BEFORE)? {
+        None => Ok(engine),
+        Some(line) => Err(Fail::new(line)),
+    }
+}
+
+/// Undos of what stood before and of what is rehearsed. Then the engine is as it was, and the heap
+/// under the arena is empty; and `apply` answers as the rehearsal did.
+#[test]
+fn ten_commands(rt: HostRuntime) -> Result<(), Fail> {
+    let mut engine = sample(&rt, rt.alloc())?;
+    let heap = LocalHeap::new(rt.alloc(), 1 << 18)?;
+    let arena = Bump::new(&heap);
+    let cmds = commands(rt.alloc(), &TEN)?;
+    let replies = engine.rehearse(&rt, rt.alloc(), &arena, cmds.as_slice())?;
+    assert!(rt; heap.used() > 0);
+    drop(arena);
+    assert_eq!(rt; heap.used(), 0);
+    assert!(rt; are_replies(rt.alloc(), replies.as_slice(), &TEN)?);
+    assert_eq!(rt; engine.depth(), 2);
+    let shown = [("cat /a pids.current", "0\n")];
+    assert_eq!(rt; first_other(&rt, rt.alloc(), &mut engine, &shown)?, None);
+    assert_eq!(rt; first_other(&rt, rt.alloc(), &mut engine, &TEN)?, None);
+    Ok(())
+}
+
+/// An arena that may not grow refuses the rehearsal, and is empty again.
+#[test]
+fn arena_without_room(rt: HostRuntime) -> Result<(), Fail> {
+    let mut engine = sample(&rt, rt.alloc())?;
+    let mut arena = Bump::new(rt.alloc());
+    arena.set_allocation_limit(Some(0));
+    let cmds = commands(rt.alloc(), &TEN)?;
+    let replies = engine.rehearse(&rt, rt.alloc(), &arena, cmds.as_slice());
+    assert!(rt; replies.is_err());
+    assert_eq!(rt; arena.reset(), Ok(()));
+    assert_eq!(rt; engine.depth(), 2);
+    let shown = [("cat /a pids.current", "0\n"), ("where 2", "0::/\n")];
+    assert_eq!(rt; first_other(&rt, rt.alloc(), &mut engine, &shown)?, None);
+    Ok(())
+}
+
+/// What a trace in memory is answered by a rehearsal.
+pub(crate) fn rehearsed<R: Threads + Wait + Sync>(
+    rt: &R,
+    alloc: Global,
+    trace: &[u8],
+) -> Result<(Summary, MemorySink), ReplayFault> {
+    let mut reader = MemorySource::new(trace);
+    let mut writer = MemorySink::new(alloc);
+    let summary = rehearse_trace(rt, alloc, &mut reader, &mut writer)?;
+    Ok((summary, writer))
+}
+
+/// With any one allocation refused, either all is answered or nothing is written.
+#[test]
+fn a_refused_allocation_of_a_rehearsal(rt: HostRuntime) {
+    match rehearsed(&rt, rt.alloc(), TRACE) {
+        Ok((_, writer)) => assert!(rt; writer.bytes() == ANSWERS),
+        Err(fault) => assert!(rt; matches!(fault, ReplayFault::OutOfMemory | ReplayFault::Write)),
+    }
+}
