@@ -1,6 +1,6 @@
 -- How far the event totals get with each call.
 use Rattle.std.proofs.Common.{◌≡◌, ℕ, ◌+◌, ◌-◌, ◌<◌, ◌≤◌, Bool, true, false, cond, [], ◌∷◌, Option, Some, None, Result, Ok, Err, length, is_some, eqb, refl, sym, ap, subst, ◌∙◌, arith}
-use Rattle.std.specs.Prelude.{option_map, unwrap_or}
+use Rattle.std.specs.Prelude.{option_map, unwrap_or, OnOk, OnErr}
 use Rattle.std.specs.List.{IsDistinct}
 use Rattle.std.specs.Ordering.{eq_by_cmp}
 use Rattle.std.specs.FinMap.{get, insert, remove, get-insert, get-remove}
@@ -10,7 +10,7 @@ use Rattle.flat_model.specs.File.{LimitFile, PidsMax, MaxDescendants, MaxDepth}
 use Rattle.flat_model.specs.Command as model
 use Rattle.flat_model.specs.Command.{Command, Refusal}
 use Rattle.flat_model.specs.Events.{HasEventsUpTo}
-use Rattle.flat_model.specs.Inverse.{back, Counted}
+use Rattle.flat_model.specs.Inverse.{back, Counted, Removed}
 use Rattle.flat_model.specs.Step.{after, after_refusal, with_limit, count_up, count_down, counts_for}
 use Rattle.flat_model.proofs.PathLaws.{path_cmp-IsTotalOrder, path_cmp-IsAntisymmetric, at_or_below_take, at_or_below_length}
 use Rattle.flat_model.proofs.Maps.{get-each}
@@ -112,6 +112,13 @@ down_one n a q attr (Some x) h e =
 pub up_uncounted : (n : ℕ) (s new : State) (a : Path) → HasEventsUpTo n s → new ≡ back (Counted a) s → HasEventsUpTo (n + 1) new
 up_uncounted n s new a h e =
     subst (HasEventsUpTo (n + 1)) (sym e) (up_more n (back (Counted a) s) (λ q attr there. down_one n a q attr (get s.groups q) (h q) (sym (get-each path_cmp-IsTotalOrder path_cmp-IsAntisymmetric (count_down a) s.groups q) ∙ there)))
+
+-- a group put back whose totals are at most the total of another
+pub up_restored : {X E : Type 0} (n : ℕ) (s new : State) (p q : Path) (a b : Attr) (r : Result X E) → HasEventsUpTo n s → get s.groups q ≡ Some b → a.local ≤ b.total → a.total ≤ b.total → OnOk r (new ≡ back (Removed p a) s) → OnErr r (new ≡ s) → HasEventsUpTo (n + 1) new
+up_restored n s new p q a b (Ok x) h there local total ok err =
+    let up = h q b there in
+    subst (HasEventsUpTo (n + 1)) (sym ok) (up_more n (back (Removed p a) s) (up_put n s p a h (omega (arith, up.1, local), omega (arith, up.1, total))))
+up_restored n s new p q a b (Err x) h there local total ok err = subst (HasEventsUpTo (n + 1)) (sym err) (up_more n s h)
 
 -- the start has none
 pub start_up : (s : State) → s ≡ start → HasEventsUpTo 0 s

@@ -1,12 +1,13 @@
 //! Calls on `Charges` over a plain meter, as rows of a table.
 
-ghost use Rattle.std.specs.Prelude.{ℕ, ◌+◌, ◌≡◌, IfOk};
+ghost use Rattle.std.specs.Prelude.{ℕ, ◌+◌, ◌≤◌, ◌≡◌, IsTrue, IfOk};
+ghost use Rattle.std.specs.FinMap as fin;
 ghost use Rattle.flat_model.specs.Events.{HasEventsUpTo};
 ghost use Rattle.pids_charge.specs.Events.{HasRoomForEvents};
 
 use group_path::GroupPath;
-use group_tree::{Limit, LimitFile};
-use pids_charge::{ChargeFault, Charges, Lost, OpenGate, Pid, PlainMeter};
+use group_tree::{Attr, Limit, LimitFile};
+use pids_charge::{ChargeFault, Charges, Lost, Meter, OpenGate, Pid, PlainMeter};
 use std::alloc::Global;
 use std::sync::Wait;
 use std::test::Fail;
@@ -19,6 +20,8 @@ pub(crate) type Plain = Charges<Global, PlainMeter<Global>>;
 pub(crate) enum Call {
     Make(&'static str),
     Remove(&'static str),
+    /// With what the last removed group had.
+    Restore(&'static str),
     Set(&'static str, LimitFile, Limit),
     Move(u32, &'static str),
     Fork(u32, u32),
@@ -85,13 +88,51 @@ fn make(charges: &mut Plain, path: &GroupPath<Global>) -> Answer
     done(charges.mkdir(path))
 }
 
-fn remove(charges: &mut Plain, path: &GroupPath<Global>) -> Answer
+fn remove(charges: &mut Plain, removed: &mut Option<Attr>, path: &GroupPath<Global>) -> Answer
     ensures up { (n : ℕ) → HasEventsUpTo n charges.old → HasEventsUpTo (n + 1) charges.new }
 {
     match charges.rmdir(path) {
-        Ok(_attr) => Answer::Done,
+        Ok(attr) => {
+            *removed = Some(attr);
+            Answer::Done
+        }
         Err(fault) => Answer::Refused(fault),
     }
+}
+
+/// Whether there is a free slot.
+fn has_room(alloc: Global, charges: &Plain) -> Result<bool, Fail>
+    ensures { IfOk result (λ is. IsTrue is → fin.len charges.now.groups ≤ 256) }
+{
+    let root = GroupPath::root(alloc)?;
+    match charges.descendants(&root) {
+        Some(below) => Ok(below < u64::from(PlainMeter::<Global>::SLOTS)),
+        None => Ok(false),
+    }
+}
+
+/// Under a group whose total is not below those of the removed one, as that of the group above it is.
+fn restore(
+    alloc: Global,
+    charges: &mut Plain,
+    attr: Attr,
+    path: &GroupPath<Global>,
+) -> Result<Answer, Fail>
+    ensures up { (n : ℕ) → HasEventsUpTo n charges.old → HasEventsUpTo (n + 1) charges.new }
+{
+    let Some(above) = path.parent(alloc)? else {
+        return Ok(Answer::Nothing);
+    };
+    let Some(parent) = charges.attr(&above) else {
+        return Ok(Answer::Nothing);
+    };
+    if attr.local.max(attr.total) > parent.total {
+        return Ok(Answer::Nothing);
+    }
+    if charges.attr(path).is_some() || !has_room(alloc, charges)? {
+        return Ok(Answer::Nothing);
+    }
+    Ok(done(charges.restore(path, attr)))
 }
 
 fn set(charges: &mut Plain, path: &GroupPath<Global>, file: LimitFile, limit: Limit) -> Answer
@@ -215,6 +256,7 @@ fn make_call<R: Threads + Wait + Sync>(
     rt: &R,
     alloc: Global,
     charges: &mut Plain,
+    removed: &mut Option<Attr>,
     call: Call,
 ) -> Result<Answer, Fail>
     requires { HasRoomForEvents charges.old }
@@ -230,7 +272,14 @@ fn make_call<R: Threads + Wait + Sync>(
         }
         Call::Remove(text) => {
             let path = path(alloc, text)?;
-            Ok(remove(charges, &path))
+            Ok(remove(charges, removed, &path))
+        }
+        Call::Restore(text) => {
+            let Some(attr) = *removed else {
+                return Ok(Answer::Nothing);
+            };
+            let path = path(alloc, text)?;
+            restore(alloc, charges, attr, &path)
         }
         Call::Set(text, file, limit) => {
             let path = path(alloc, text)?;
@@ -287,9 +336,10 @@ pub(crate) fn first_wrong<R: Threads + Wait + Sync>(
 ) -> Result<Option<usize>, Fail> {
     let meter = PlainMeter::new(alloc)?;
     let mut charges = Charges::new(alloc, meter)?;
+    let mut removed = None;
     for i in 0..rows.len() {
         let (row, wanted) = rows[i];
-        let answer = make_call(rt, alloc, &mut charges, row)?;
+        let answer = make_call(rt, alloc, &mut charges, &mut removed, row)?;
         if answer != wanted {
             return Ok(Some(i));
         }

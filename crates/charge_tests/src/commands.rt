@@ -118,3 +118,61 @@ fn ends_and_returns(rt: HostRuntime) -> Result<(), Fail> {
     assert!(rt; first_wrong(&rt, rt.alloc(), &rows)? == None);
     Ok(())
 }
+
+/// A removed group is put back with its limits and event totals, on another slot where its own is taken. No limit of the
+/// groups above it is asked.
+#[test]
+fn a_group_put_back(rt: HostRuntime) -> Result<(), Fail> {
+    let rows = [
+        (Call::Make("/a"), Answer::Done),
+        (Call::Make("/a/b"), Answer::Done),
+        (
+            Call::Set("/a/b", LimitFile::PidsMax, Limit::At(1)),
+            Answer::Old(Limit::Unlimited),
+        ),
+        (
+            Call::Set("/a/b", LimitFile::MaxDepth, Limit::At(7)),
+            Answer::Old(Limit::Unlimited),
+        ),
+        (Call::Fork(1, 2), Answer::Done),
+        (Call::Move(2, "/a/b"), Answer::Path(1)),
+        (Call::Fork(2, 3), Answer::Refused(ChargeFault::PidsMax(2))),
+        (Call::Exit(2), Answer::Path(4)),
+        (Call::Restore("/a/c"), Answer::Nothing),
+        (Call::Remove("/a/b"), Answer::Done),
+        (Call::Attr("/a/b"), Answer::Nothing),
+        (Call::Attr("/a"), Answer::Totals(0, 1)),
+        // It takes a slot, and has a process.
+        (Call::Make("/c"), Answer::Done),
+        (Call::Fork(1, 4), Answer::Done),
+        (Call::Move(4, "/c"), Answer::Path(1)),
+        (
+            Call::Set("/a", LimitFile::MaxDescendants, Limit::At(0)),
+            Answer::Old(Limit::Unlimited),
+        ),
+        (
+            Call::Make("/a/b"),
+            Answer::Refused(ChargeFault::Descendants(1)),
+        ),
+        (Call::Restore("/a/b"), Answer::Done),
+        (Call::Restore("/a/b"), Answer::Nothing),
+        (Call::Attr("/a/b"), Answer::Totals(1, 1)),
+        (Call::Attr("/a"), Answer::Totals(0, 1)),
+        (Call::Current("/a/b"), Answer::Number(0)),
+        (Call::Move(1, "/a/b"), Answer::Path(1)),
+        (Call::Current("/a/b"), Answer::Number(1)),
+        (Call::Current("/c"), Answer::Number(1)),
+        (Call::Fork(1, 2), Answer::Refused(ChargeFault::PidsMax(2))),
+        (Call::Attr("/a/b"), Answer::Totals(2, 2)),
+        (
+            Call::Set("/a/b", LimitFile::PidsMax, Limit::Unlimited),
+            Answer::Old(Limit::At(1)),
+        ),
+        (
+            Call::Set("/a/b", LimitFile::MaxDepth, Limit::Unlimited),
+            Answer::Old(Limit::At(7)),
+        ),
+    ];
+    assert!(rt; first_wrong(&rt, rt.alloc(), &rows)? == None);
+    Ok(())
+}
