@@ -128,7 +128,7 @@ pub(crate) fn rehearsed<R: Threads + Wait + Sync>(
     Ok((summary, writer))
 }
 
-/// With any one allocation refused, either all is answered or nothing is written.
+/// With any one allocation refused, all is answered, or want of memory is: a fault, or a sink's.
 #[test]
 fn a_refused_allocation_of_a_rehearsal(rt: HostRuntime) {
     match rehearsed(&rt, rt.alloc(), TRACE) {
