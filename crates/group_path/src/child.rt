@@ -7,6 +7,7 @@ ghost use Rattle.group_path.specs.FollowsGrammar.{FollowsGrammar, checked};
 use crate::fault::PathFault;
 use crate::grammar::{DEPTH_MAX, TEXT_MAX, check_name};
 use crate::path::GroupPath;
+use inline_bytes::InlineBytes;
 use std::alloc::{AllocError, Allocator};
 
 /// A text, a slash and a name.
@@ -14,15 +15,15 @@ fn joined<A: Allocator + Clone>(
     alloc: A,
     front: &[u8],
     name: &[u8],
-) -> Result<Vec<u8, A>, AllocError>
+) -> Result<InlineBytes<A>, AllocError>
     requires { length front.now + length name.now ≤ text_max + name_max }
-    ensures { IfOk result (λ text. text.items ≡ front.now ++ 47 ∷ name.now) }
+    ensures { IfOk result (λ text. text ≡ front.now ++ 47 ∷ name.now) }
 {
     let mut text = Vec::with_capacity(alloc, front.len() + 1 + name.len())?;
     text.extend_from_slice(front)?;
     text.extend_from_slice(b"/")?;
     text.extend_from_slice(name)?;
-    Ok(text)
+    Ok(InlineBytes::of_vec(text))
 }
 
 impl<A: Allocator + Clone> GroupPath<A> {

@@ -8,13 +8,14 @@ ghost use Rattle.group_path.specs.FollowsGrammar.{FollowsGrammar};
 use crate::fault::PathFault;
 use crate::grammar::{DEPTH_MAX, check_text};
 use crate::names::Names;
+use inline_bytes::InlineBytes;
 use std::alloc::{AllocError, Allocator};
 use std::marker::Model;
 
 /// A path of a group, from the root down: the root itself is `/`.
 #[derive(Drop)]
 pub struct GroupPath<A: Allocator + Clone> {
-    pub(crate) text: Vec<u8, A>,
+    pub(crate) text: InlineBytes<A>,
 }
 
 impl<A: Allocator + Clone> Model for GroupPath<A> {
@@ -23,9 +24,9 @@ impl<A: Allocator + Clone> Model for GroupPath<A> {
 
     ghost Value = { List (List ℕ) };
 
-    ghost view = { λ p. names_in p.text.items };
+    ghost view = { λ p. names_in p.text };
 
-    ghost invariant = { λ p. path_fault p.text.items ≡ None };
+    ghost invariant = { λ p. path_fault p.text ≡ None };
 }
 
 impl<A: Allocator + Clone> GroupPath<A> {
@@ -33,7 +34,7 @@ impl<A: Allocator + Clone> GroupPath<A> {
     pub fn root(alloc: A) -> Result<GroupPath<A>, AllocError>
         ensures { IfOk result (λ p. p ≡ []) }
     {
-        let text = Vec::from_slice(alloc, b"/")?;
+        let text = InlineBytes::copy_of(alloc, b"/")?;
         Ok(GroupPath { text })
     }
 
@@ -55,7 +56,7 @@ impl<A: Allocator + Clone> GroupPath<A> {
         ensures first { FollowsGrammar result (read_path text.now) }
     {
         check_text(text)?;
-        let text = Vec::from_slice(alloc, text)?;
+        let text = InlineBytes::copy_of(alloc, text)?;
         Ok(GroupPath { text })
     }
 
@@ -71,7 +72,7 @@ impl<A: Allocator + Clone> GroupPath<A> {
     pub fn text(&self) -> &[u8]
         ensures { result.now ≡ path_text self.now }
     {
-        &self.text[..]
+        self.text.as_slice()
     }
 
     /// The names from the root down.
@@ -135,7 +136,7 @@ impl<A: Allocator + Clone> GroupPath<A> {
         if depth == 0 {
             return Ok(None);
         }
-        let text = Vec::from_slice(alloc, &self.text()[..self.prefix_len(depth - 1)])?;
+        let text = InlineBytes::copy_of(alloc, &self.text()[..self.prefix_len(depth - 1)])?;
         Ok(Some(GroupPath { text }))
     }
 
@@ -143,7 +144,7 @@ impl<A: Allocator + Clone> GroupPath<A> {
     pub fn copy<B: Allocator + Clone>(&self, alloc: B) -> Result<GroupPath<B>, AllocError>
         ensures { IfOk result (λ p. p ≡ self.now) }
     {
-        let text = Vec::from_slice(alloc, self.text.as_slice())?;
+        let text = InlineBytes::copy_of(alloc, self.text.as_slice())?;
         Ok(GroupPath { text })
     }
 

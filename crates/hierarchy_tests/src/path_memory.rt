@@ -84,31 +84,50 @@ fn growth_refused(rt: HostRuntime) -> Result<(), Fail> {
     Ok(())
 }
 
-/// Takes root after root from the heap; whether one was refused, how many names those that were had have in all, and
-/// why a read of one more is refused.
-fn roots(alloc: Global, heap: &LocalHeap) -> Result<(bool, usize, Option<PathFault>), AllocError> {
+/// What is answered where as many paths of the long text were taken as the heap has room for: to a read of each text,
+/// and to a copy of the short path, which is also asked for its text.
+fn in_a_full_heap(
+    alloc: Global,
+    heap: &LocalHeap,
+    long: &[u8],
+    short: &[u8],
+) -> Result<([Option<PathFault>; 2], bool), Fail> {
     let mut held = Vec::new(alloc);
-    let mut is_refused = false;
     for _ in 0..64 {
-        match GroupPath::root(heap) {
-            Ok(root) => held.push(root)?,
-            Err(AllocError) => is_refused = true,
+        if let Ok(path) = GroupPath::read(heap, long) {
+            held.push(path)?;
         }
     }
-    let mut names = 0usize;
-    for root in &held {
-        names = names.saturating_add(root.depth());
-    }
-    Ok((is_refused, names, GroupPath::read(heap, b"/").err()))
+    let faults = [
+        GroupPath::read(heap, long).err(),
+        GroupPath::read(heap, short).err(),
+    ];
+    let path = GroupPath::read(alloc, short)?;
+    let copy = path.copy(heap)?;
+    Ok((faults, copy.text() == short))
 }
 
-/// In a heap of no free block the root is refused, and read.
+/// A text of 23 bytes takes no memory, and one of 24 does.
 #[test]
-fn root_refused(rt: HostRuntime) -> Result<(), Fail> {
-    let heap = LocalHeap::new(rt.alloc(), 64)?;
+fn short_texts_in_a_full_heap(rt: HostRuntime) -> Result<(), Fail> {
+    let heap = LocalHeap::new(rt.alloc(), 256)?;
+    let long = names_of_letters(rt.alloc(), 1, 23)?;
+    let short = names_of_letters(rt.alloc(), 1, 22)?;
     assert_eq!(rt;
-        roots(rt.alloc(), &heap)?,
-        (true, 0, Some(PathFault::OutOfMemory))
+        in_a_full_heap(rt.alloc(), &heap, &long, &short)?,
+        ([Some(PathFault::OutOfMemory), None], true)
     );
+    Ok(())
+}
+
+/// The root takes no memory.
+#[test]
+fn root_in_a_full_heap(rt: HostRuntime) -> Result<(), Fail> {
+    let heap = LocalHeap::new(rt.alloc(), 64)?;
+    let mut held = Vec::new(rt.alloc());
+    for _ in 0..64 {
+        held.push(GroupPath::root(&heap)?)?;
+    }
+    assert!(rt; held.iter().all(|root| root.depth() == 0));
     Ok(())
 }

@@ -35,7 +35,7 @@ fn newest<A: Allocator + Clone, M: Meter>(
     }
 }
 
-/// What can be seen of an engine in which no groups but `/a` and `/b` were made: how many commands
+/// What can be seen of an engine in which no groups but two were made, of 24 letters each: how many commands
 /// are recorded, the newest, and the files of the groups.
 fn seen<R: Threads + Wait + Sync, A: Allocator + Clone, M: Meter>(
     rt: &R,
@@ -49,11 +49,11 @@ fn seen<R: Threads + Wait + Sync, A: Allocator + Clone, M: Meter>(
     let lines = [
         "cat / cgroup.stat",
         "cat / cgroup.procs",
-        "cat /a cgroup.stat",
-        "cat /a cgroup.procs",
-        "cat /a pids.current",
-        "cat /a pids.events",
-        "cat /b cgroup.stat",
+        "cat /aaaaaaaaaaaaaaaaaaaaaaaa cgroup.stat",
+        "cat /aaaaaaaaaaaaaaaaaaaaaaaa cgroup.procs",
+        "cat /aaaaaaaaaaaaaaaaaaaaaaaa pids.current",
+        "cat /aaaaaaaaaaaaaaaaaaaaaaaa pids.events",
+        "cat /bbbbbbbbbbbbbbbbbbbbbbbb cgroup.stat",
     ];
     for line in lines {
         let shown = answer(rt, alloc, engine, line)?;
@@ -106,50 +106,91 @@ fn first_answer<'a, R: Threads + Wait + Sync>(
     Err(Fail::new("there is no answer in 1,600 bytes"))
 }
 
-/// The lines, their answers, and whether memory is asked for. Taking back a fork, a mkdir or a
-/// limit asks for none.
+/// The lines, their answers, and whether memory is asked for, as it is for names as long as these.
+/// A fork in the root asks for none where the table and the journal have room, nor does taking
+/// back a fork, a mkdir, a limit, or a move from the root.
 const ROWS: [(&str, &str, bool); 36] = [
-    ("mkdir /a", "ok", true),
-    ("mkdir /b/c", "nogroup /b", true),
-    ("fork 1 2", "ok", true),
-    ("write /a cgroup.procs 2", "ok", true),
-    ("cat /a pids.current", "1\n", true),
-    ("cat /b pids.current", "nogroup /b", true),
-    ("write /a cgroup.max.descendants 0", "ok", true),
-    ("mkdir /a/b", "descendants /a", true),
+    ("mkdir /aaaaaaaaaaaaaaaaaaaaaaaa", "ok", true),
     (
-        "cat /a cgroup.stat",
+        "mkdir /bbbbbbbbbbbbbbbbbbbbbbbb/c",
+        "nogroup /bbbbbbbbbbbbbbbbbbbbbbbb",
+        true,
+    ),
+    ("fork 1 2", "ok", false),
+    ("write /aaaaaaaaaaaaaaaaaaaaaaaa cgroup.procs 2", "ok", true),
+    ("cat /aaaaaaaaaaaaaaaaaaaaaaaa pids.current", "1\n", true),
+    (
+        "cat /bbbbbbbbbbbbbbbbbbbbbbbb pids.current",
+        "nogroup /bbbbbbbbbbbbbbbbbbbbbbbb",
+        true,
+    ),
+    (
+        "write /aaaaaaaaaaaaaaaaaaaaaaaa cgroup.max.descendants 0",
+        "ok",
+        true,
+    ),
+    (
+        "mkdir /aaaaaaaaaaaaaaaaaaaaaaaa/bbbbbbbbbbbbbbbbbbbbbbbb",
+        "descendants /aaaaaaaaaaaaaaaaaaaaaaaa",
+        true,
+    ),
+    (
+        "cat /aaaaaaaaaaaaaaaaaaaaaaaa cgroup.stat",
         "nr_descendants 0\nnr_dying_descendants 0\n",
         true,
     ),
     ("exit 2", "ok", true),
-    ("rmdir /b", "nogroup /b", true),
-    ("rmdir /a", "ok", true),
-    ("undo", "rmdir /a", true),
+    (
+        "rmdir /bbbbbbbbbbbbbbbbbbbbbbbb",
+        "nogroup /bbbbbbbbbbbbbbbbbbbbbbbb",
+        true,
+    ),
+    ("rmdir /aaaaaaaaaaaaaaaaaaaaaaaa", "ok", true),
+    ("undo", "rmdir /aaaaaaaaaaaaaaaaaaaaaaaa", true),
     ("undo", "exit 2", true),
-    ("write /a pids.max 1", "ok", true),
-    ("fork 2 3", "pidsmax /a", true),
+    ("write /aaaaaaaaaaaaaaaaaaaaaaaa pids.max 1", "ok", true),
+    ("fork 2 3", "pidsmax /aaaaaaaaaaaaaaaaaaaaaaaa", true),
     ("undo", "fork 2 3", false),
-    ("undo", "write /a pids.max 1", false),
-    ("undo", "write /a cgroup.max.descendants 0", false),
-    ("undo", "write /a cgroup.procs 2", true),
+    ("undo", "write /aaaaaaaaaaaaaaaaaaaaaaaa pids.max 1", false),
+    (
+        "undo",
+        "write /aaaaaaaaaaaaaaaaaaaaaaaa cgroup.max.descendants 0",
+        false,
+    ),
+    (
+        "undo",
+        "write /aaaaaaaaaaaaaaaaaaaaaaaa cgroup.procs 2",
+        false,
+    ),
     ("undo", "fork 1 2", false),
-    ("undo", "mkdir /a", false),
+    ("undo", "mkdir /aaaaaaaaaaaaaaaaaaaaaaaa", false),
     // A kill of two processes, and both back.
-    ("mkdir /a", "ok", true),
-    ("fork 1 3", "ok", true),
-    ("fork 1 2", "ok", true),
-    ("write /a cgroup.procs 3", "ok", true),
-    ("write /a cgroup.procs 2", "ok", true),
+    ("mkdir /aaaaaaaaaaaaaaaaaaaaaaaa", "ok", true),
+    ("fork 1 3", "ok", false),
+    ("fork 1 2", "ok", false),
+    ("write /aaaaaaaaaaaaaaaaaaaaaaaa cgroup.procs 3", "ok", true),
+    ("write /aaaaaaaaaaaaaaaaaaaaaaaa cgroup.procs 2", "ok", true),
     ("write / cgroup.kill 1", "nofile", false),
-    ("write /b cgroup.kill 1", "nogroup /b", true),
-    ("write /a cgroup.kill 1", "ok", true),
+    (
+        "write /bbbbbbbbbbbbbbbbbbbbbbbb cgroup.kill 1",
+        "nogroup /bbbbbbbbbbbbbbbbbbbbbbbb",
+        true,
+    ),
+    ("write /aaaaaaaaaaaaaaaaaaaaaaaa cgroup.kill 1", "ok", true),
     ("where 3", "noprocess 3", false),
-    ("undo", "write /a cgroup.kill 1", true),
-    ("where 3", "0::/a\n", true),
-    ("cat /a cgroup.procs", "2\n3\n", true),
-    ("cat /a cgroup.events", "populated 1\nfrozen 0\n", true),
-    ("cat /a pids.max", "max\n", true),
+    (
+        "undo",
+        "write /aaaaaaaaaaaaaaaaaaaaaaaa cgroup.kill 1",
+        true,
+    ),
+    ("where 3", "0::/aaaaaaaaaaaaaaaaaaaaaaaa\n", true),
+    ("cat /aaaaaaaaaaaaaaaaaaaaaaaa cgroup.procs", "2\n3\n", true),
+    (
+        "cat /aaaaaaaaaaaaaaaaaaaaaaaa cgroup.events",
+        "populated 1\nfrozen 0\n",
+        true,
+    ),
+    ("cat /aaaaaaaaaaaaaaaaaaaaaaaa pids.max", "max\n", true),
 ];
 
 #[test]

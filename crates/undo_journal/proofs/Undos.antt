@@ -1,5 +1,5 @@
 -- The newest record taken back.
-use Rattle.std.proofs.Common.{◌≡◌, ℕ, suc, ◌-◌, ◌<◌, true, List, [], ◌∷◌, ◌++◌, length, get_or, Some, Result, Ok, Err, refl, sym, ap, subst, ◌∙◌, arith}
+use Rattle.std.proofs.Common.{◌≡◌, ℕ, suc, ◌-◌, ◌<◌, true, List, [], ◌∷◌, ◌++◌, length, get_or, Some, None, Result, Ok, Err, refl, sym, ap, subst, ◌∙◌, arith}
 use Rattle.std.specs.List.{slice_get}
 use Rattle.std.proofs.lemmas.Option.{slice_get_within, slice_get-get_or}
 use Rattle.std.specs.Prelude.{unwrap_or, OnErr}
@@ -8,7 +8,8 @@ use Rattle.flat_model.specs.Command as model
 use Rattle.flat_model.specs.Inverse.{Inverse, back, past_of}
 use Rattle.flat_model.specs.Machine.{undone, tick}
 use Rattle.undo_journal.specs.declared.journal.Entry.{Entry}
-use Rattle.undo_journal.specs.Answer.{needs_no_memory, undoes_without_memory}
+use Rattle.undo_journal.specs.Answer.{Answers, needs_no_memory, undoes_without_memory}
+use Rattle.undo_journal.specs.declared.reply.Reply.TheVariants.{NothingToUndo}
 use Rattle.undo_journal.specs.History.{journal_entry, records, machine_of, IsHistory, IsReady}
 use Rattle.undo_journal.proofs.Histories.{records_push, history_well}
 use Rattle.undo_journal.proofs.Ready.{step_ready}
@@ -50,7 +51,16 @@ popped {X} xs rest y x is e = sym (last_at rest y x) ∙ ap (λ (zs : List X). g
 pub read_through : {X : Type 0} (xs slice : List X) (x : X) → slice ≡ xs → Some x ≡ slice_get slice (length slice - 1) → slice_get xs (length xs - 1) ≡ Some x
 read_through {X} xs slice x same e = subst (λ (ys : List X). slice_get ys (length ys - 1) ≡ Some x) same (sym e)
 
+-- a list without a last item is empty
+pub empty_of : {X : Type 0} (xs slice : List X) → slice ≡ xs → None ≡ slice_get slice (length slice - 1) → xs ≡ []
+empty_of xs [] same e = sym same
+empty_of xs (y ∷ ys) same e = absurd (let h : None ≡ Some (get_or (y ∷ ys) (length (y ∷ ys) - 1) y) = e ∙ slice_get-get_or (y ∷ ys) (length (y ∷ ys) - 1) y (omega arith) in cc)
+
 -- ---- the machine behind
+
+-- where nothing is recorded there is nothing to undo
+pub nothing_undone : {A : Type 0} (slots : ℕ) (s : State) (journal : List (Entry A)) → journal ≡ [] → Answers {A = A} slots (machine_of s journal) model.Undo NothingToUndo (machine_of s journal)
+nothing_undone {A} slots s journal e = subst (λ (js : List (Entry A)). Answers {A = A} slots (machine_of s js) model.Undo NothingToUndo (machine_of s js)) (sym e) (record { state = refl; reply_is = refl })
 
 module _ {A : Type 0} (slots : ℕ) (s : State) (journal rest : List (Entry A)) (e : Entry A) (is : journal ≡ rest ++ e ∷ []) where
   records_are : records journal ≡ journal_entry e ∷ records rest

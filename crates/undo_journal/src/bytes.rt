@@ -2,13 +2,14 @@
 
 ghost use Rattle.std.specs.Prelude.{◌≡◌, IfOk};
 
+use inline_bytes::InlineBytes;
 use std::alloc::{AllocError, Allocator};
 use std::marker::Model;
 
 /// The bytes of a text.
 #[derive(Drop)]
 pub struct Bytes<A: Allocator + Clone> {
-    text: Vec<u8, A>,
+    text: InlineBytes<A>,
 }
 
 impl<A: Allocator + Clone> Model for Bytes<A> {
@@ -16,14 +17,15 @@ impl<A: Allocator + Clone> Model for Bytes<A> {
 
     ghost Value = { List ℕ };
 
-    ghost view = { λ b. b.text.items };
+    ghost view = { λ b. b.text };
 }
 
 impl<A: Allocator + Clone> Bytes<A> {
-    /// These bytes. It takes no memory.
+    /// These bytes. It takes no memory, and gives that of a short text up.
     pub fn of(text: Vec<u8, A>) -> Bytes<A>
         ensures { result ≡ text.items }
     {
+        let text = InlineBytes::of_vec(text);
         Bytes { text }
     }
 
@@ -38,7 +40,7 @@ impl<A: Allocator + Clone> Bytes<A> {
     pub(crate) fn copy<B: Allocator + Clone>(&self, alloc: B) -> Result<Bytes<B>, AllocError>
         ensures { IfOk result (λ b. b ≡ self.now) }
     {
-        let text = Vec::from_slice(alloc, self.text.as_slice())?;
+        let text = InlineBytes::copy_of(alloc, self.text.as_slice())?;
         Ok(Bytes { text })
     }
 }

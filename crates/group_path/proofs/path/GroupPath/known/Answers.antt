@@ -2,4 +2,4 @@ use Rattle.group_path.proofs.Texts.{path_is}
 use Rattle.group_path.proofs.path.GroupPath.known.Goals as goal
 
 pub returns : goal.returns
-returns g c = path_is c.self.inside.text.items c.args.self.now c.self.view_is c.self.invariant
+returns g c = path_is c.self.inside.text c.args.self.now c.self.view_is c.self.invariant

@@ -8,7 +8,7 @@ use Rattle.group_path.proofs.path.GroupPath.prefix_len.Goals as goal
 pub loop-name-init : goal.loop-name-init
 loop-name-init g c =
     let is = ap (λ (p : Path). length (spelled p)) (c.into_iter-name-iterator.ensures.into_iter_gives ∙ c.first_names-name-items.ensures) in
-    (tt, tt, omega arith, short_front c.args.n c.args.self.now (path_is c.self.inside.text.items c.args.self.now c.self.view_is c.self.invariant))
+    (tt, tt, omega arith, short_front c.args.n c.args.self.now (path_is c.self.inside.text c.args.self.now c.self.view_is c.self.invariant))
 
 pub returns-clause-value : goal.returns-clause-value
 returns-clause-value g c =

@@ -4,7 +4,7 @@ use Rattle.group_path.proofs.Texts.{root_faultless}
 use Rattle.group_path.proofs.path.GroupPath.root.Goals as goal
 
 pub invariant_of-result : goal.invariant_of-result
-invariant_of-result g c = root_faultless c.in_ok-text.text.items c.in_ok-text.ensures.items
+invariant_of-result g c = root_faultless c.in_ok-text.text c.in_ok-text.ensures.same
 
 pub returns : goal.returns
-returns g c = ap names_in c.in_ok-text.ensures.items
+returns g c = ap names_in c.in_ok-text.ensures.same

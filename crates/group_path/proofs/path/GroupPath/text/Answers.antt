@@ -3,4 +3,4 @@ use Rattle.group_path.proofs.Texts.{text_is}
 use Rattle.group_path.proofs.path.GroupPath.text.Goals as goal
 
 pub returns : goal.returns
-returns g c = c.deref.ensures.value ∙ text_is c.self.inside.text.items c.args.self.now c.self.view_is c.self.invariant
+returns g c = c.as_slice.ensures ∙ text_is c.self.inside.text c.args.self.now c.self.view_is c.self.invariant

@@ -2,11 +2,13 @@ use Rattle.std.proofs.Common.{◌≡◌, true, false, Some, sym, ap, ◌∙◌, 
 use Rattle.flat_model.specs.Command as model
 use Rattle.flat_model.specs.Machine.{Machine, tick}
 use Rattle.flat_model.specs.Inverse.{back}
-use Rattle.undo_journal.specs.Answer.{undoes_without_memory}
+use Rattle.undo_journal.specs.Answer.{Answers, undoes_without_memory}
+use Rattle.undo_journal.specs.declared.reply.Reply.TheVariants.{NothingToUndo}
+use Rattle.flat_model.specs.State.{State}
 use Rattle.undo_journal.specs.Meaning.{inverse_of}
-use Rattle.undo_journal.specs.History.{machine_of}
+use Rattle.undo_journal.specs.History.{machine_of, records, IsHistory}
 use Rattle.undo_journal.specs.declared.journal.Entry.{Entry}
-use Rattle.undo_journal.proofs.Undos.{on_err, snoc_of, popped, read_through, last_ready, needs_none, undone_is, reply_is, undone_history}
+use Rattle.undo_journal.proofs.Undos.{on_err, empty_of, nothing_undone, snoc_of, popped, read_through, last_ready, needs_none, undone_is, reply_is, undone_history}
 use Rattle.undo_journal.proofs.engine.Engine.take_newest_back.Goals as goal
 use Rattle.undo_journal.proofs.engine.Engine.take_newest_back.Goals.{Joined-newest}
 
@@ -25,6 +27,14 @@ returns-in_err-take_back-clause-certain g c =
     let f : false ≡ true = c.in_err-take_back.ensures.certain
     (needs_none g.M.Meter.SLOTS c.self.inside.charges c.self.inside.journal.items r.0 c.in-Some.entry.now r.1 c.self.invariant
     (subst (λ (m : Machine). undoes_without_memory g.M.Meter.SLOTS m.past ≡ true) (sym c.self.view_is) u)) in cc
+
+pub returns-in_default-clause-ok : goal.returns-in_default-clause-ok
+returns-in_default-clause-ok g c =
+    subst (λ (m : Machine). Answers {A = g.row.A.Denot} g.M.Meter.SLOTS m model.Undo NothingToUndo m) c.self.view_is
+    (nothing_undone g.M.Meter.SLOTS c.self.inside.charges c.self.inside.journal.items (empty_of c.self.inside.journal.items c.deref.result.now c.deref.ensures.value c.in_default.ensures.value))
+
+pub invariant_of-self : goal.invariant_of-self
+invariant_of-self g c = subst (λ (s : State). IsHistory g.M.Meter.SLOTS s (records c.self.inside.journal.items)) (sym c.in_err-take_back.ensures.err) c.self.invariant
 
 new_is : (g : _) (c : Joined-newest g) → c.take_back.new.charges ≡ back (inverse_of c.in-Some-pop.newest.inverse) c.self.inside.charges
 new_is g c =

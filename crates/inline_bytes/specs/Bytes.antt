@@ -1,0 +1,13 @@
+-- The bytes of a value, wherever they lie.
+use Rattle.std.specs.Prelude.{ℕ, ◌≤◌, List, take}
+use Rattle.inline_bytes.specs.declared.bytes.Place.{Place}
+use Rattle.inline_bytes.specs.declared.bytes.Place.TheVariants.{Inline, Heap}
+
+abbrev pub bytes_in : {A : Type 0} → Place A → List ℕ
+bytes_in (Inline bytes len) = take len bytes
+bytes_in (Heap v) = v.items
+
+-- no more bytes are said to lie in the value than fit
+abbrev pub IsSound : {A : Type 0} → Place A → Type 0
+IsSound (Inline bytes len) = len ≤ 23
+IsSound (Heap v) = Unit {0}
