@@ -1,10 +1,11 @@
 //! The reading of a file of a group.
 
-ghost use Rattle.std.specs.Prelude.{◌≡◌, IfOk, None};
+ghost use Rattle.std.specs.Prelude.{◌≡◌, ◌≢◌, IfOk, MatchOption, None, OnErr, true};
 ghost use Rattle.flat_model.specs.Command.{Show};
+ghost use Rattle.flat_model.specs.Counts.{is_group};
+ghost use Rattle.flat_model.specs.File.{Procs, readable};
 ghost use Rattle.flat_model.specs.FileText.{file_text};
-ghost use Rattle.flat_model.specs.Step.{attr_of, refusal};
-ghost use Rattle.group_tree.specs.Flat.{group_of};
+ghost use Rattle.flat_model.specs.Step.{refusal};
 ghost use Rattle.interface_files.specs.Meaning.{file_of};
 ghost use Rattle.interface_files.specs.Shown.{Shows};
 
@@ -12,15 +13,14 @@ use crate::fault::ShowFault;
 use crate::file::File;
 use crate::texts::{events_line, limit_line, number_line, pids_text, populated_text, stat_text};
 use group_path::GroupPath;
-use group_tree::Attr;
 use pids_charge::{Charges, Meter};
 use std::alloc::{AllocError, Allocator};
 
 /// The text of a file of the group at the path. Nothing is changed: the charges are taken for writing because a meter
 /// is read that way.
 ///
-/// `cgroup.procs` costs a walk over all processes. Each other file costs at most two descents of the tree, however many
-/// groups and processes there are.
+/// `cgroup.procs` costs a walk over all processes. Each other file costs one descent of the tree, and a refusal two,
+/// however many groups and processes there are.
 ///
 /// # Errors
 ///
@@ -37,62 +37,77 @@ pub fn render<A: Allocator + Clone, M: Meter, B: Allocator + Clone, P: Allocator
     if !file.readable() {
         return Err(ShowFault::NotReadable);
     }
-    let Some(found) = charges.attr(path) else {
-        return Err(ShowFault::NoGroup);
-    };
-    let attr = *found;
-    if path.depth() == 0 && !file.on_root() {
-        return Err(ShowFault::NoFile);
-    }
-    match text_of(alloc, charges, path, attr, file) {
-        Ok(text) => Ok(text),
+    match text_of(alloc, charges, path, file) {
+        Ok(Some(text)) => Ok(text),
+        Ok(None) if charges.attr(path).is_none() => Err(ShowFault::NoGroup),
+        Ok(None) => Err(ShowFault::NoFile),
         Err(_) => Err(ShowFault::OutOfMemory),
     }
 }
 
-// The text of a file that the group has and that is read. `attr` is what stands at the group.
+// The text of a file that is read; None where there is no such group, or where it is the root and has no such file.
 fn text_of<A: Allocator + Clone, M: Meter, B: Allocator + Clone, P: Allocator + Clone>(
     alloc: B,
     charges: &mut Charges<A, M>,
     path: &GroupPath<P>,
-    attr: Attr,
     file: File,
-) -> Result<Vec<u8, B>, AllocError>
-    requires shown { refusal M.SLOTS charges.old (Show path.now (file_of file)) ≡ None }
-    requires found { group_of attr ≡ attr_of charges.old path.now }
-    ensures text { IfOk result (λ text. text.items ≡ file_text charges.old path.now (file_of file)) }
+) -> Result<Option<Vec<u8, B>>, AllocError>
+    requires { readable (file_of file) ≡ true }
+    ensures text { IfOk result (λ o. MatchOption o (refusal M.SLOTS charges.old (Show path.now (file_of file)) ≢ None)
+        (λ text. (refusal M.SLOTS charges.old (Show path.now (file_of file)) ≡ None)
+        × (text.items ≡ file_text charges.old path.now (file_of file)))) }
+    ensures wanting { OnErr result (refusal M.SLOTS charges.old (Show path.now (file_of file)) ≡ None) }
     ensures kept { charges.new ≡ charges.old }
 {
     match file {
-        File::Procs => {
-            let Some(pids) = charges.members(alloc.clone()?, path)? else {
-                unreachable!()
+        File::Events => match charges.populated(path) {
+            Some(populated) => Ok(Some(populated_text(alloc, populated)?)),
+            None => Ok(None),
+        },
+        File::PidsCurrent => match charges.current(path) {
+            Some(current) => Ok(Some(number_line(alloc, current)?)),
+            None => Ok(None),
+        },
+        File::Stat => match charges.descendants(path) {
+            Some(below) => Ok(Some(stat_text(alloc, below)?)),
+            None => Ok(None),
+        },
+        File::Procs => match charges.attr(path) {
+            Some(_) => Ok(Some(procs_text(alloc, charges, path)?)),
+            None => Ok(None),
+        },
+        _ => {
+            let Some(found) = charges.attr(path) else {
+                return Ok(None);
             };
-            pids_text(alloc, pids.as_slice())
-        }
-        File::Events => {
-            let Some(populated) = charges.populated(path) else {
-                unreachable!()
+            let attr = *found;
+            if path.depth() == 0 && !file.on_root() {
+                return Ok(None);
+            }
+            let text = match file {
+                File::MaxDescendants => limit_line(alloc, attr.limits.descendants)?,
+                File::MaxDepth => limit_line(alloc, attr.limits.depth)?,
+                File::PidsMax => limit_line(alloc, attr.limits.pids)?,
+                File::PidsEvents => events_line(alloc, attr.total)?,
+                File::PidsEventsLocal => events_line(alloc, attr.local)?,
+                _ => unreachable!(),
             };
-            populated_text(alloc, populated)
+            Ok(Some(text))
         }
-        File::Stat => {
-            let Some(below) = charges.descendants(path) else {
-                unreachable!()
-            };
-            stat_text(alloc, below)
-        }
-        File::PidsCurrent => {
-            let Some(current) = charges.current(path) else {
-                unreachable!()
-            };
-            number_line(alloc, current)
-        }
-        File::MaxDescendants => limit_line(alloc, attr.limits.descendants),
-        File::MaxDepth => limit_line(alloc, attr.limits.depth),
-        File::PidsMax => limit_line(alloc, attr.limits.pids),
-        File::PidsEvents => events_line(alloc, attr.total),
-        File::PidsEventsLocal => events_line(alloc, attr.local),
-        File::KillFile => unreachable!(),
     }
+}
+
+// The processes of a group.
+fn procs_text<A: Allocator + Clone, M: Meter, B: Allocator + Clone, P: Allocator + Clone>(
+    alloc: B,
+    charges: &Charges<A, M>,
+    path: &GroupPath<P>,
+) -> Result<Vec<u8, B>, AllocError>
+    requires { is_group charges.now path.now ≡ true }
+    ensures { IfOk result (λ text. text.items ≡ file_text charges.now path.now Procs) }
+{
+    let Some(pids) = charges.members(alloc.clone()?, path)? else {
+        unreachable!()
+    };
+    pids_text(alloc, pids.as_slice())
 }

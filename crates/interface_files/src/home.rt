@@ -17,8 +17,10 @@ fn home_line<B: Allocator, P: Allocator + Clone>(
 ) -> Result<Vec<u8, B>, AllocError>
     ensures { IfOk result (λ text. text.items ≡ line (codes "0::" ++ path_text home.now)) }
 {
-    let mut text = Vec::from_slice(alloc, b"0::")?;
-    text.extend_from_slice(home.text())?;
+    let path = home.text();
+    let mut text = Vec::with_capacity(alloc, path.len() + 4)?;
+    text.extend_from_slice(b"0::")?;
+    text.extend_from_slice(path)?;
     text.extend_from_slice(b"\n")?;
     Ok(text)
 }

@@ -14,7 +14,8 @@ pub(crate) fn number_line<B: Allocator>(alloc: B, n: u64) -> Result<Vec<u8, B>, 
     ensures { IfOk result (λ text. text.items ≡ line (decimal n)) }
 {
     let mut digits = Buffer::new();
-    let mut text = Vec::from_slice(alloc, digits.format(n).as_bytes())?;
+    let mut text = Vec::with_capacity(alloc, 21)?;
+    text.extend_from_slice(digits.format(n).as_bytes())?;
     text.extend_from_slice(b"\n")?;
     Ok(text)
 }
@@ -23,8 +24,15 @@ pub(crate) fn number_line<B: Allocator>(alloc: B, n: u64) -> Result<Vec<u8, B>, 
 pub(crate) fn limit_line<B: Allocator>(alloc: B, limit: Limit) -> Result<Vec<u8, B>, AllocError>
     ensures { IfOk result (λ text. text.items ≡ line (limit_text (limit_of limit))) }
 {
-    let mut text = crate::limit_text(alloc, limit)?;
-    text.extend_from_slice(b"\n")?;
+    let mut digits = Buffer::new();
+    let mut text = Vec::with_capacity(alloc, 21)?;
+    match limit {
+        Limit::Unlimited => text.extend_from_slice(b"max\n")?,
+        Limit::At(most) => {
+            text.extend_from_slice(digits.format(most).as_bytes())?;
+            text.extend_from_slice(b"\n")?;
+        }
+    }
     Ok(text)
 }
 
@@ -33,7 +41,8 @@ pub(crate) fn events_line<B: Allocator>(alloc: B, refused: u64) -> Result<Vec<u8
     ensures { IfOk result (λ text. text.items ≡ line (codes "max " ++ decimal refused)) }
 {
     let mut digits = Buffer::new();
-    let mut text = Vec::from_slice(alloc, b"max ")?;
+    let mut text = Vec::with_capacity(alloc, 25)?;
+    text.extend_from_slice(b"max ")?;
     text.extend_from_slice(digits.format(refused).as_bytes())?;
     text.extend_from_slice(b"\n")?;
     Ok(text)
@@ -44,7 +53,8 @@ pub(crate) fn stat_text<B: Allocator>(alloc: B, below: u64) -> Result<Vec<u8, B>
     ensures { IfOk result (λ text. text.items ≡ line (codes "nr_descendants " ++ decimal below) ++ line (codes "nr_dying_descendants 0")) }
 {
     let mut digits = Buffer::new();
-    let mut text = Vec::from_slice(alloc, b"nr_descendants ")?;
+    let mut text = Vec::with_capacity(alloc, 59)?;
+    text.extend_from_slice(b"nr_descendants ")?;
     text.extend_from_slice(digits.format(below).as_bytes())?;
     text.extend_from_slice(b"\n")?;
     text.extend_from_slice(b"nr_dying_descendants 0\n")?;
