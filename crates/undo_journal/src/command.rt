@@ -1,6 +1,6 @@
 //! What the engine is asked, and the text of each command as a line of a trace.
 
-ghost use Rattle.std.specs.Prelude.{◌≡◌, IfOk};
+ghost use Rattle.std.specs.Prelude.{◌≡◌, ◌∷◌, ◌++◌, IfOk, codes};
 ghost use Rattle.flat_model.specs.CommandText.{command_text};
 ghost use Rattle.undo_journal.specs.Meaning.{command_of};
 
@@ -10,6 +10,46 @@ use interface_files::{File, limit_file_name, limit_text};
 use itoa::Buffer;
 use pids_charge::Pid;
 use std::alloc::{AllocError, Allocator};
+
+/// Two words with a blank between them.
+fn two_words<B: Allocator>(alloc: B, first: &[u8], second: &[u8]) -> Result<Vec<u8, B>, AllocError>
+    ensures { IfOk result (λ text. text.items ≡ first.now ++ 0x20 ∷ second.now) }
+{
+    let mut text = Vec::from_slice(alloc, first)?;
+    text.extend_from_slice(b" ")?;
+    text.extend_from_slice(second)?;
+    Ok(text)
+}
+
+/// Three words with a blank between each two.
+fn three_words<B: Allocator>(
+    alloc: B,
+    first: &[u8],
+    second: &[u8],
+    third: &[u8],
+) -> Result<Vec<u8, B>, AllocError>
+    ensures { IfOk result (λ text. text.items ≡ first.now ++ 0x20 ∷ second.now ++ 0x20 ∷ third.now) }
+{
+    let mut text = two_words(alloc, first, second)?;
+    text.extend_from_slice(b" ")?;
+    text.extend_from_slice(third)?;
+    Ok(text)
+}
+
+/// The line that writes a value to a file of a group.
+fn write_line<B: Allocator>(
+    alloc: B,
+    path: &[u8],
+    file: &[u8],
+    value: &[u8],
+) -> Result<Vec<u8, B>, AllocError>
+    ensures { IfOk result (λ text. text.items ≡ codes "write" ++ 0x20 ∷ path.now ++ 0x20 ∷ file.now ++ 0x20 ∷ value.now) }
+{
+    let mut text = three_words(alloc, b"write", path, file)?;
+    text.extend_from_slice(b" ")?;
+    text.extend_from_slice(value)?;
+    Ok(text)
+}
 
 /// What the engine is asked.
 #[derive(Drop)]
@@ -96,68 +136,28 @@ impl<A: Allocator + Clone> Command<A> {
     pub fn text<B: Allocator + Clone>(&self, alloc: B) -> Result<Vec<u8, B>, AllocError>
         ensures { IfOk result (λ text. text.items ≡ command_text (command_of self.now)) }
     {
+        let mut digits = Buffer::new();
         match self {
-            Command::MakeGroup(path) => {
-                let mut text = Vec::from_slice(alloc, b"mkdir ")?;
-                text.extend_from_slice(path.text())?;
-                Ok(text)
-            }
+            Command::MakeGroup(path) => two_words(alloc, b"mkdir", path.text()),
+            Command::RemoveGroup(path) => two_words(alloc, b"rmdir", path.text()),
             Command::Fork { parent, child } => {
-                let mut digits = Buffer::new();
-                let mut text = Vec::from_slice(alloc, b"fork ")?;
-                text.extend_from_slice(digits.format(parent.get()).as_bytes())?;
-                text.extend_from_slice(b" ")?;
-                text.extend_from_slice(digits.format(child.get()).as_bytes())?;
-                Ok(text)
+                let mut more = Buffer::new();
+                let parent = digits.format(parent.get()).as_bytes();
+                let child = more.format(child.get()).as_bytes();
+                three_words(alloc, b"fork", parent, child)
             }
+            Command::Exit(pid) => two_words(alloc, b"exit", digits.format(pid.get()).as_bytes()),
             Command::Move { path, pid } => {
-                let mut digits = Buffer::new();
-                let mut text = Vec::from_slice(alloc, b"write ")?;
-                text.extend_from_slice(path.text())?;
-                text.extend_from_slice(b" cgroup.procs ")?;
-                text.extend_from_slice(digits.format(pid.get()).as_bytes())?;
-                Ok(text)
-            }
-            Command::RemoveGroup(path) => {
-                let mut text = Vec::from_slice(alloc, b"rmdir ")?;
-                text.extend_from_slice(path.text())?;
-                Ok(text)
-            }
-            Command::Exit(pid) => {
-                let mut digits = Buffer::new();
-                let mut text = Vec::from_slice(alloc, b"exit ")?;
-                text.extend_from_slice(digits.format(pid.get()).as_bytes())?;
-                Ok(text)
+                let pid = digits.format(pid.get()).as_bytes();
+                write_line(alloc, path.text(), File::Procs.name(), pid)
             }
             Command::SetLimit { path, file, value } => {
                 let value = limit_text(alloc.clone()?, *value)?;
-                let mut text = Vec::from_slice(alloc, b"write ")?;
-                text.extend_from_slice(path.text())?;
-                text.extend_from_slice(b" ")?;
-                text.extend_from_slice(limit_file_name(*file))?;
-                text.extend_from_slice(b" ")?;
-                text.extend_from_slice(value.as_slice())?;
-                Ok(text)
+                write_line(alloc, path.text(), limit_file_name(*file), value.as_slice())
             }
-            Command::Kill(path) => {
-                let mut text = Vec::from_slice(alloc, b"write ")?;
-                text.extend_from_slice(path.text())?;
-                text.extend_from_slice(b" cgroup.kill 1")?;
-                Ok(text)
-            }
-            Command::Show { path, file } => {
-                let mut text = Vec::from_slice(alloc, b"cat ")?;
-                text.extend_from_slice(path.text())?;
-                text.extend_from_slice(b" ")?;
-                text.extend_from_slice(file.name())?;
-                Ok(text)
-            }
-            Command::Locate(pid) => {
-                let mut digits = Buffer::new();
-                let mut text = Vec::from_slice(alloc, b"where ")?;
-                text.extend_from_slice(digits.format(pid.get()).as_bytes())?;
-                Ok(text)
-            }
+            Command::Kill(path) => write_line(alloc, path.text(), File::KillFile.name(), b"1"),
+            Command::Show { path, file } => three_words(alloc, b"cat", path.text(), file.name()),
+            Command::Locate(pid) => two_words(alloc, b"where", digits.format(pid.get()).as_bytes()),
             Command::Undo => Vec::from_slice(alloc, b"undo"),
         }
     }
