@@ -7,6 +7,7 @@
 //! - `paths`: texts with their faults, and each public call of `GroupPath`.
 //! - `path_memory`: paths in a small heap, with each growth refused.
 //! - `tree`: each public call of `GroupTree` and of `Attr`, and the refusals in their order.
+//! - `limits`: the limits of a group, and the first that a new one meets.
 //! - `along`: what comes along a path, and the counts of refused forks.
 //! - `wide_and_deep`: as many siblings as there are slots, and a group of as many names as a path may have.
 //! - `arena`: a tree in an arena, which is not given up before it.
@@ -17,6 +18,8 @@
 mod along;
 #[cfg(test)]
 mod arena;
+#[cfg(test)]
+mod limits;
 #[cfg(test)]
 mod path_memory;
 #[cfg(test)]

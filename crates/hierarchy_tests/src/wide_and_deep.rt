@@ -1,7 +1,8 @@
 //! As many siblings as there are slots, and groups below one another as deep as a path may go.
 
+use crate::limits::limited;
 use crate::paths::names_of_letters;
-use crate::tree::{attr, limited, path};
+use crate::tree::{attr, path};
 use crate::tree_memory::{insert, is_found};
 use group_path::GroupPath;
 use group_tree::{GroupTree, Limit, MetLimit, TreeFault};
