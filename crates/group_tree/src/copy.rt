@@ -3,6 +3,7 @@
 ghost use Rattle.std.specs.Prelude.{◌≡◌, IfOk};
 
 use crate::node::Node;
+use inline_bytes::InlineBytes;
 use std::alloc::{AllocError, Allocator};
 
 impl<A: Allocator> Node<A> {
@@ -10,7 +11,7 @@ impl<A: Allocator> Node<A> {
     pub(crate) fn copy<B: Allocator + Clone + Drop>(&self, alloc: B) -> Result<Node<B>, AllocError>
         ensures { IfOk result (λ n. n ≡ self.now) }
     {
-        let name = Vec::from_slice(alloc.clone()?, self.name.as_slice())?;
+        let name = InlineBytes::copy_of(alloc.clone()?, self.name.as_slice())?;
         let mut children = Vec::new(alloc.clone()?);
         for child in &self.children {
             children.push(child.copy(alloc.clone()?)?)?;

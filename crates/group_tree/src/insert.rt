@@ -8,6 +8,7 @@ use crate::attr::Attr;
 use crate::fault::TreeFault;
 use crate::node::{Node, place};
 use group_path::Names;
+use inline_bytes::InlineBytes;
 use std::alloc::{AllocError, Allocator};
 
 impl<A: Allocator + Clone> Node<A> {
@@ -16,7 +17,7 @@ impl<A: Allocator + Clone> Node<A> {
         ensures { IfOk result (λ n. n ≡ leaf_of name.now attr) }
     {
         let children = Vec::new(alloc.clone()?);
-        let name = Vec::from_slice(alloc, name)?;
+        let name = InlineBytes::copy_of(alloc, name)?;
         Ok(Node {
             name,
             attr,

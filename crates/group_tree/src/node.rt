@@ -8,6 +8,7 @@ ghost use Rattle.group_tree.specs.Node.{HasRisingNames, place_of, Counts, IsLeaf
 
 use crate::attr::Attr;
 use group_path::Names;
+use inline_bytes::InlineBytes;
 use std::alloc::Allocator;
 use std::cmp::Ordering;
 use std::marker::Model;
@@ -16,7 +17,7 @@ use std::marker::Model;
 #[derive(Drop)]
 pub struct Node<A: Allocator> {
     /// The last name of its path; empty for the root.
-    pub(crate) name: Vec<u8, A>,
+    pub(crate) name: InlineBytes<A>,
     pub(crate) attr: Attr,
     /// How many groups are below it, modulo 2^64.
     pub(crate) descendants: u64,
@@ -36,7 +37,7 @@ impl<A: Allocator> Model for Node<A> {
     ghost use Rattle.std.specs.FinMap as fin;
     ghost use Rattle.group_tree.specs.Sorted.{most_le-groups};
 
-    ghost view = { λ n. record { name = n.name.items; groups = groups_of n.attr n.children.items } };
+    ghost view = { λ n. record { name = n.name; groups = groups_of n.attr n.children.items } };
 
     ghost invariant = { λ n. IsNode n.children.items n.descendants };
 

@@ -1,5 +1,6 @@
 -- The bytes of a value, wherever they lie.
 use Rattle.std.specs.Prelude.{ℕ, ◌≤◌, List, take}
+use Rattle.inline_bytes.specs.declared.bytes.TheConstants.{INLINE_MAX}
 use Rattle.inline_bytes.specs.declared.bytes.Place.{Place}
 use Rattle.inline_bytes.specs.declared.bytes.Place.TheVariants.{Inline, Heap}
 
@@ -9,5 +10,5 @@ bytes_in (Heap v) = v.items
 
 -- no more bytes are said to lie in the value than fit
 abbrev pub IsSound : {A : Type 0} → Place A → Type 0
-IsSound (Inline bytes len) = len ≤ 23
+IsSound (Inline bytes len) = len ≤ INLINE_MAX
 IsSound (Heap v) = Unit {0}

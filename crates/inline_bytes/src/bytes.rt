@@ -12,7 +12,7 @@ pub const INLINE_MAX: usize = 23;
 #[derive(Drop)]
 pub(crate) enum Place<A: Allocator> {
     /// The first `len` of these.
-    Inline { bytes: [u8; 23], len: u8 },
+    Inline { bytes: [u8; INLINE_MAX], len: u8 },
     Heap(Vec<u8, A>),
 }
 
@@ -32,7 +32,7 @@ impl<A: Allocator> Model for InlineBytes<A> {
     ghost invariant = { λ b. IsSound b.place };
 }
 
-// Where the bytes lie is nobody's business where a value is dropped: a function that drops one has one case, not two.
+// A drop of its own hides where the bytes lie: a function that drops such a value has one case, not two.
 impl<A: Allocator> Drop for InlineBytes<A> {
     fn drop(self) {
         let Self { place } = self;
@@ -48,7 +48,7 @@ impl<A: Allocator> InlineBytes<A> {
     /// `AllocError` where there are more than `INLINE_MAX` and no memory was had for them.
     pub fn copy_of(alloc: A, bytes: &[u8]) -> Result<InlineBytes<A>, AllocError>
         ensures same { IfOk result (λ b. b ≡ bytes.now) }
-        ensures few { length bytes.now ≤ 23 → IsOk result }
+        ensures few { length bytes.now ≤ INLINE_MAX → IsOk result }
     {
         if bytes.len() > INLINE_MAX {
             let heap = Vec::from_slice(alloc, bytes)?;
@@ -71,10 +71,10 @@ impl<A: Allocator> InlineBytes<A> {
 
     /// The same few bytes.
     fn inline(few: &[u8]) -> InlineBytes<A>
-        requires { length few.now ≤ 23 }
+        requires { length few.now ≤ INLINE_MAX }
         ensures { result ≡ few.now }
     {
-        let mut bytes = [0u8; 23];
+        let mut bytes = [0u8; INLINE_MAX];
         bytes[..few.len()].copy_from_slice(few);
         let len = few.len() as u8;
         let place = Place::Inline { bytes, len };

@@ -16,9 +16,9 @@ pub returns-in-Ok-clause-steps : goal.returns-in-Ok-clause-steps
 returns-in-Ok-clause-steps g c =
     sym c.self.view_is
     ∙ ap (λ (o : Option (Bor Branch)). along_from (option_map (λ (node : Bor Branch). node.now.groups) o) c.self.inside.names) c.in_ok-node.was
-    ∙ goes_down c.node.inside.attr c.node.inside.children.items c.deref.result.now c.in_ok-node.node.now c.node.inside.name.items c.self.inside.names c.in_ok-name.name.now c.next.new.self c.in-Ok.at
+    ∙ goes_down c.node.inside.attr c.node.inside.children.items c.deref.result.now c.in_ok-node.node.now c.node.inside.name c.self.inside.names c.in_ok-name.name.now c.next.new.self c.in-Ok.at
     c.node.view_is c.node.invariant.rising c.in_ok-name.ensures.steps c.deref.ensures.value c.index-child.result.now c.child.inside.attr c.in-Ok.ensures.value c.index-child.ensures
-    (own_attr c.child.inside.attr c.child.inside.children.items c.index-child.result.now c.child.inside.name.items c.child.view_is c.child.invariant.rising)
+    (own_attr c.child.inside.attr c.child.inside.children.items c.index-child.result.now c.child.inside.name c.child.view_is c.child.invariant.rising)
 
 pub returns-in-Ok-clause-goes : goal.returns-in-Ok-clause-goes
 returns-in-Ok-clause-goes g c = let e = returns-in-Ok-clause-steps g c in grind (arith, common_steps, ap length e)
@@ -27,7 +27,7 @@ pub returns-in-Err-clause-steps : goal.returns-in-Err-clause-steps
 returns-in-Err-clause-steps g c = (
   sym c.self.view_is
       ∙ ap (λ (o : Option (Bor Branch)). along_from (option_map (λ (node : Bor Branch). node.now.groups) o) c.self.inside.names) c.in_ok-node.was
-      ∙ ends_there c.node.inside.attr c.node.inside.children.items c.deref.result.now c.in_ok-node.node.now c.node.inside.name.items c.self.inside.names c.in_ok-name.name.now c.next.new.self c.in-Err.field-0
+      ∙ ends_there c.node.inside.attr c.node.inside.children.items c.deref.result.now c.in_ok-node.node.now c.node.inside.name c.self.inside.names c.in_ok-name.name.now c.next.new.self c.in-Err.field-0
       c.node.view_is c.node.invariant.rising c.in_ok-name.ensures.steps c.deref.ensures.value c.in-Err.ensures.value,
   refl,
 )

@@ -1,6 +1,13 @@
-use Rattle.std.proofs.Common.{Some, None, refl}
+use Rattle.std.proofs.Common.{Some, None, refl, rules, arith, ap, length}
+use Rattle.group_tree.proofs.Copies.{child_at_smaller}
 use Rattle.group_tree.proofs.LimitsMet.{met_missing, met_below}
 use Rattle.group_tree.proofs.node.Node.+met_limit.Goals as goal
+
+pub met_limit-requires : goal.met_limit-requires
+met_limit-requires g t c κs within =
+    let named = ap length c.in-Some.ensures.steps in
+    let smaller = child_at_smaller _ _ _ _ _ _ _ c.self.view_is c.self.invariant.rising c.deref.ensures.value c.index.ensures c.in-Ok.ensures.bound in
+    (omega (arith, c.decreases, smaller), (search (rules, within), omega (arith, c.requires, named)))
 
 pub returns-in-Err : goal.returns-in-Err
 returns-in-Err g t c =

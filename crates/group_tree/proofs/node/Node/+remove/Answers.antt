@@ -10,6 +10,11 @@ invariant_of-self g t c =
     let out = taken c.self.inside.attr _ _ c.take_out.new.children.items c.args.self.now _ _ (Ok c.in-Ok-take_out.attr) c.self.invariant.rising c.in-Ok.ensures.value c.deref.ensures.value c.in-Ok-take_out.ensures in
     shrunk_node c.self.inside.attr _ _ _ c.self.invariant out.rising _ (c.args.name.now ∷ []) c.in-Ok-take_out.attr out.removes refl
 
+pub invariant_of-self-in-Err-take_out : goal.invariant_of-self-in-Err-take_out
+invariant_of-self-in-Err-take_out g t c =
+    let out = taken c.self.inside.attr _ _ c.take_out.new.children.items c.args.self.now _ _ (Err c.in-Err-take_out.fault) c.self.invariant.rising c.in-Ok.ensures.value c.deref.ensures.value c.in-Err-take_out.ensures in
+    stayed_node c.self.inside.attr _ _ _ c.self.invariant out.rising (c.args.name.now ∷ []) c.in-Err-take_out.fault out.removes
+
 pub invariant_of-self-in-Ok-remove : goal.invariant_of-self-in-Ok-remove
 invariant_of-self-in-Ok-remove g t c =
     let e = edited_at _ _ _ _ _ _ c.self.invariant.rising c.in-Ok.ensures.value c.deref.ensures.value c.index_mut-child.ensures.value c.remove.ensures.name in
