@@ -7,36 +7,41 @@ use linked_list_allocator::LocalHeap;
 use std::alloc::{AllocError, Allocator, Global};
 use std::test::Fail;
 
-/// Makes the group `/gN` with the slot N; why it was not made.
+/// The path of the group with this number, below the root. Its name has 24 letters and more, and so takes memory.
+pub(crate) fn numbered(alloc: Global, number: u16) -> Result<String, AllocError> {
+    format!(in alloc; "/ggggggggggggggggggggggg{number}")
+}
+
+/// Makes the group of this number, with it as its slot; why it was not made.
 pub(crate) fn insert<A: Allocator + Clone>(
     alloc: Global,
     tree: &mut GroupTree<A>,
     number: u16,
 ) -> Result<Option<TreeFault>, Fail> {
-    let text = format!(in alloc; "/g{number}")?;
+    let text = numbered(alloc, number)?;
     let path = path(alloc, text.as_str())?;
     Ok(tree.insert(&path, attr(number)).err())
 }
 
-/// Whether the group `/gN` is there with the slot N.
+/// Whether the group of this number is there, with it as its slot.
 pub(crate) fn is_found<A: Allocator>(
     alloc: Global,
     tree: &GroupTree<A>,
     number: u16,
 ) -> Result<bool, Fail> {
-    let text = format!(in alloc; "/g{number}")?;
+    let text = numbered(alloc, number)?;
     let found = found(alloc, tree, text.as_str())?;
     Ok(found == Some(attr(number)))
 }
 
-/// Whether `/g0` to the one before `/gN` are there with their attributes, `/gN` is not, and the count is right.
+/// Whether that many groups from number 0 on are there with their attributes, the next is not, and the count is right.
 fn has_first<A: Allocator>(alloc: Global, tree: &GroupTree<A>, count: u16) -> Result<bool, Fail> {
     for number in 0..count {
         if !is_found(alloc, tree, number)? {
             return Ok(false);
         }
     }
-    let text = format!(in alloc; "/g{count}")?;
+    let text = numbered(alloc, count)?;
     let refused = found(alloc, tree, text.as_str())?;
     let below = below(alloc, tree, "/")?;
     Ok(
@@ -46,7 +51,7 @@ fn has_first<A: Allocator>(alloc: Global, tree: &GroupTree<A>, count: u16) -> Re
     )
 }
 
-/// Makes `/g0`, `/g1` and so on until a growth is refused or there are `most`; how many were made.
+/// Makes groups from number 0 on until a growth is refused or there are `most`; how many were made.
 fn filled<'a>(
     alloc: Global,
     heap: &'a LocalHeap,
@@ -81,7 +86,8 @@ fn in_65536_bytes(rt: HostRuntime) -> Result<(), Fail> {
     let heap = LocalHeap::new(rt.alloc(), 65536)?;
     let mut tree = GroupTree::new(&heap, attr(9))?;
     let refused = insert(rt.alloc(), &mut tree, 0)?;
-    let is_chained = is_chain(rt.alloc(), &tree, "/g0", Some([0].as_slice()))?;
+    let first = numbered(rt.alloc(), 0)?;
+    let is_chained = is_chain(rt.alloc(), &tree, first.as_str(), Some([0].as_slice()))?;
     let copy = tree.copy(rt.alloc())?;
     drop(tree);
     let is_copied = has_first(rt.alloc(), &copy, 1)?;
@@ -92,7 +98,7 @@ fn in_65536_bytes(rt: HostRuntime) -> Result<(), Fail> {
     Ok(())
 }
 
-/// How many of `/g0`, `/g1`, `/g2` are made in a heap of that size; None where there is no heap or tree of that size.
+/// How many of the groups 0, 1 and 2 are made in a heap of that size; None where there is no heap or tree of that size.
 fn made_in(alloc: Global, size: usize) -> Result<Option<u16>, Fail> {
     let heap = match LocalHeap::new(alloc, size) {
         Ok(heap) => heap,
@@ -128,7 +134,7 @@ fn each_growth_of_an_insert_refused(rt: HostRuntime) -> Result<(), Fail> {
     Ok(())
 }
 
-/// A tree with `/g0` to `/g2`.
+/// A tree with the groups 0 to 2.
 fn three(alloc: Global) -> Result<GroupTree<Global>, Fail> {
     let mut tree = GroupTree::new(alloc, attr(9))?;
     for number in 0..3u16 {

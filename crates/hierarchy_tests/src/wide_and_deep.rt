@@ -3,7 +3,7 @@
 use crate::limits::limited;
 use crate::paths::names_of_letters;
 use crate::tree::{attr, path};
-use crate::tree_memory::{insert, is_found};
+use crate::tree_memory::{insert, is_found, numbered};
 use group_path::GroupPath;
 use group_tree::{GroupTree, Limit, MetLimit, TreeFault};
 use std::alloc::{AllocError, Allocator, Global};
@@ -175,9 +175,9 @@ fn counted(alloc: Global, tree: &GroupTree<Global>) -> Result<[u16; 2], Fail> {
     Ok([even, odd])
 }
 
-/// Removes `/gN`; whether it had the slot N.
+/// Removes the group of this number; whether it had it as its slot.
 fn is_removed(alloc: Global, tree: &mut GroupTree<Global>, number: u16) -> Result<bool, Fail> {
-    let text = format!(in alloc; "/g{number}")?;
+    let text = numbered(alloc, number)?;
     let path = path(alloc, text.as_str())?;
     Ok(tree.remove(&path) == Ok(attr(number)))
 }

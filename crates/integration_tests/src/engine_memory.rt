@@ -109,7 +109,7 @@ fn first_answer<'a, R: Threads + Wait + Sync>(
 /// The lines, their answers, and whether memory is asked for, as it is for names as long as these.
 /// A fork in the root asks for none where the table and the journal have room, nor does taking
 /// back a fork, a mkdir, a limit, or a move from the root.
-const ROWS: [(&str, &str, bool); 36] = [
+const ROWS: [(&str, &str, bool); 38] = [
     ("mkdir /aaaaaaaaaaaaaaaaaaaaaaaa", "ok", true),
     (
         "mkdir /bbbbbbbbbbbbbbbbbbbbbbbb/c",
@@ -152,6 +152,9 @@ const ROWS: [(&str, &str, bool); 36] = [
     ("fork 2 3", "pidsmax /aaaaaaaaaaaaaaaaaaaaaaaa", true),
     ("undo", "fork 2 3", false),
     ("undo", "write /aaaaaaaaaaaaaaaaaaaaaaaa pids.max 1", false),
+    // The table of processes takes the path of 25 bytes once more.
+    ("fork 2 3", "ok", true),
+    ("undo", "fork 2 3", false),
     (
         "undo",
         "write /aaaaaaaaaaaaaaaaaaaaaaaa cgroup.max.descendants 0",

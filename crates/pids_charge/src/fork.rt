@@ -1,14 +1,15 @@
 //! The making of processes, the forks that a limit refuses, and what takes the count of a refusal back.
 
-ghost use Rattle.std.specs.Prelude.{◌≡◌, ◌<◌, ◌≤◌, Some, IfSome, IfErr, IsSome, length, take};
+ghost use Rattle.std.specs.Prelude.{◌≡◌, ◌≢◌, ◌<◌, ◌≤◌, true, Some, None, IfSome, IfErr, OnOk, OnErr, IsSome, MatchOption, length, take};
 ghost use Rattle.std.specs.FinMap as fin;
 ghost use Rattle.std.specs.Ordering.{nat_cmp};
 ghost use Rattle.flat_model.specs.Path.{Path};
-ghost use Rattle.flat_model.specs.Command.{Fork};
+ghost use Rattle.flat_model.specs.Command.{Fork, OverPidsMax};
+ghost use Rattle.flat_model.specs.Counts.{has_process};
 ghost use Rattle.flat_model.specs.Inverse.{back, Counted};
-ghost use Rattle.flat_model.specs.Step.{home_of, at_each, count_up, count_down};
+ghost use Rattle.flat_model.specs.Step.{refusal, after, after_refusal, home_of, at_each, count_up, count_down};
 ghost use Rattle.group_tree.specs.Refusals.{HasRoomForRefusals};
-ghost use Rattle.pids_charge.specs.Answers.{Does, names_in};
+ghost use Rattle.pids_charge.specs.Answers.{Does, refusal_of, names_in};
 ghost use Rattle.pids_charge.specs.Events.{full_by, longest, flat_of, HasRoomForEvents, HasEvents};
 ghost use Rattle.pids_charge.specs.Recount.{SlotsBelow, SameSlots};
 
@@ -90,6 +91,66 @@ fn uncount_refusal<T: Allocator, A: Allocator + Clone>(
 }
 
 impl<A: Allocator + Clone, M: Meter> Charges<A, M> {
+    /// What `fork` would refuse this with, memory aside: `NoProcess` of the parent, `PidInUse` of the child, or `PidsMax`. It
+    /// counts nothing and changes nothing. Costs one descent of the tree, which asks the limits, all up to the root.
+    pub fn refuses_fork(&mut self, parent: Pid, child: Pid) -> Option<ChargeFault>
+        ensures first { MatchOption result (refusal M.SLOTS self.old (Fork parent child) ≡ None) (λ f. refusal M.SLOTS self.old (Fork parent child) ≡ refusal_of (home_of self.old parent) f) }
+        ensures inside { IfSome result (λ f. names_in f ≤ length (home_of self.old parent)) }
+        ensures no_memory { IfSome result (λ f. f ≢ ChargeFault.OutOfMemory) }
+        ensures kept { self.new ≡ self.old }
+    {
+        let Some(process) = self.processes.get(&parent) else {
+            return Some(ChargeFault::NoProcess(parent));
+        };
+        if self.processes.contains_key(&child) {
+            return Some(ChargeFault::PidInUse(child));
+        }
+        self.tree.known();
+        if let Some(n) = limiting_group(&self.tree, &mut self.meter, &process.home) {
+            return Some(ChargeFault::PidsMax(n));
+        }
+        None
+    }
+
+    /// Makes a process that `fork` would not refuse, in the group of its parent, charged at the leaf of `who`. Costs one
+    /// descent of the tree.
+    ///
+    /// # Errors
+    ///
+    /// `OutOfMemory`; nothing has changed then.
+    pub fn make_process(&mut self, who: u8, parent: Pid, child: Pid) -> Result<(), ChargeFault>
+        requires { refusal M.SLOTS self.old (Fork parent child) ≡ None }
+        ensures made { OnOk result (self.new ≡ after self.old (Fork parent child)) }
+        ensures memory { IfErr result (λ f. f ≡ ChargeFault.OutOfMemory) }
+        ensures kept { OnErr result (self.new ≡ self.old) }
+    {
+        let Some(process) = self.processes.get(&parent) else {
+            unreachable!()
+        };
+        let Ok(alloc) = self.alloc.clone() else {
+            return Err(ChargeFault::OutOfMemory);
+        };
+        let Ok(home) = process.home.copy(alloc) else {
+            return Err(ChargeFault::OutOfMemory);
+        };
+        self.settle_in(who, child, home)
+    }
+
+    /// Counts a fork that the group at the first `n` names of the parent's path refuses: one more in the local total of that
+    /// group, and in the totals of it and of the groups above it but the root. It takes no memory, and costs one descent of the
+    /// tree.
+    pub fn count_fork(&mut self, parent: Pid, n: usize)
+        requires parent { has_process self.old parent ≡ true }
+        requires at { n ≤ length (home_of self.old parent) }
+        requires room { HasRoomForEvents self.old }
+        ensures { self.new ≡ after_refusal self.old (OverPidsMax (take n (home_of self.old parent))) }
+    {
+        let Some(process) = self.processes.get(&parent) else {
+            unreachable!()
+        };
+        count_refusal(&mut self.tree, &process.home, n);
+    }
+
     /// Makes a process in the group of its parent, charged at the leaf of `who`. Costs two descents of the tree: one asks the
     /// limits, all up to the root, and one charges, or counts the refusal.
     ///
@@ -105,24 +166,15 @@ impl<A: Allocator + Clone, M: Meter> Charges<A, M> {
         ensures state { Does M.SLOTS self.old (Fork parent child) (home_of self.old parent) result self.new }
         ensures inside { IfErr result (λ f. names_in f ≤ length (home_of self.old parent)) }
     {
-        let Some(process) = self.processes.get(&parent) else {
-            return Err(ChargeFault::NoProcess(parent));
-        };
-        if self.processes.contains_key(&child) {
-            return Err(ChargeFault::PidInUse(child));
+        match self.refuses_fork(parent, child) {
+            None => self.make_process(who, parent, child),
+            Some(fault) => {
+                if let ChargeFault::PidsMax(n) = fault {
+                    self.count_fork(parent, n);
+                }
+                Err(fault)
+            }
         }
-        self.tree.known();
-        if let Some(n) = limiting_group(&self.tree, &mut self.meter, &process.home) {
-            count_refusal(&mut self.tree, &process.home, n);
-            return Err(ChargeFault::PidsMax(n));
-        }
-        let Ok(alloc) = self.alloc.clone() else {
-            return Err(ChargeFault::OutOfMemory);
-        };
-        let Ok(home) = process.home.copy(alloc) else {
-            return Err(ChargeFault::OutOfMemory);
-        };
-        self.settle_in(who, child, home)
     }
 
     /// Takes back the count of one refused fork, whose group this is: its local total, and the totals of it and of the

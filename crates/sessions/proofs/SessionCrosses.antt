@@ -1,7 +1,12 @@
 -- A session may cross threads. The search is made in steps, since one for the whole comes to its limit.
-use denote.Param.Send.{IsSend, IsSync, sendable}
+use denote.RattleType.{RattleType}
+use denote.Hole.{as_row}
+use denote.Param.Send.{IsSend, IsSync, Frees, sendable}
+use Rattle.std.specs.declared.alloc.Allocator.{Ghosts}
+use Rattle.inline_bytes.specs.contracts.bytes.InlineBytes as InlineBytes
 use Rattle.std.proofs.Crossing.{crosses}
 use Rattle.std.proofs.MapsCrossing as maps
+use Rattle.inline_bytes.proofs.bytes.InlineBytes.TheSendSync as inline_bytes
 use Rattle.group_path.proofs.path.GroupPath.TheSendSync as group_path
 use Rattle.group_tree.proofs.attr.Attr.TheSendSync as attr
 use Rattle.group_tree.proofs.node.Node.TheLaws.TheKnot as knot
@@ -17,8 +22,12 @@ use Rattle.sessions.specs.contracts.hall.Hall as Hall
 use Rattle.sessions.specs.contracts.shared.Shared as Shared
 use Rattle.sessions.specs.contracts.session.Session as Session
 
+-- the name of a node
+name_send : (T : RattleType) → (g : Ghosts T.Denot) → IsSend T → Frees {D = T.Denot} {G = Ghosts T.Denot} g g.dealloc_token → IsSend (as_row (InlineBytes.the_field T g))
+name_send T g s f = inline_bytes.the_send T g s f
+
 book_send : IsSend Book.the_row
-book_send = search (entry.the_send, command.the_field_send, inverse.the_field_send, meter.the_send, knot.crosses, pid.the_send, attr.the_send, group_path.the_send, global.the_send, sendable, crosses, maps.crosses) depth 20
+book_send = search (entry.the_send, command.the_field_send, inverse.the_field_send, meter.the_send, knot.crosses, pid.the_send, attr.the_send, name_send, group_path.the_send, global.the_send, sendable, crosses, maps.crosses) depth 20
 
 hall_send : IsSend Hall.the_row
 hall_send = search (book_send, sendable, crosses) depth 20

@@ -1,5 +1,6 @@
 -- What a refusal of the charges is to the machine.
 use Rattle.std.proofs.Common.{◌≡◌, ℕ, Bool, true, false, cond, not, Option, Some, None, refl, sym, ap, ◌∙◌}
+use Rattle.std.proofs.lemmas.Bool.{false≢true}
 use Rattle.std.specs.Prelude.{option_map}
 use Rattle.flat_model.specs.Path.{Path}
 use Rattle.flat_model.specs.State.{State}
@@ -63,28 +64,55 @@ module _ (slots : ℕ) where
 -- ---- a fork
 
 module _ (slots : ℕ) where
-  fork_first : (s : State) (from child : ℕ) → has_process s from ≡ true → has_process s child ≡ false → option_map model.OverPidsMax (blocked_fork s (home_of s from)) ≡ refusal slots s (model.Fork from child)
-  fork_first s from child there free = λ i. refuse (not (sym there i)) (model.NoProcess from) (refuse (sym free i) (model.PidInUse child) (option_map model.OverPidsMax (blocked_fork s (home_of s from))))
+  -- what a limit refuses has a parent
+  limit_there : (from : ℕ) (a : Path) (b : Bool) (o : Option model.Refusal) → refuse (not b) (model.NoProcess from) o ≡ Some (model.OverPidsMax a) → b ≡ true
+  limit_there from a true o e = refl
+  limit_there from a false o e = cc
 
-  -- a fork of a process that is there, to a number that is free, is refused by a limit or for want of memory
-  by_limit : (p : Path) (o : Option Path) (f : ChargeFault) → option_map model.OverPidsMax o ≡ charges.refusal_of p f → ((n : ℕ) → f ≡ PidsMax n → ⊥) → f ≡ OutOfMemory
-  by_limit p None f e h = want_only p f (sym e)
-  by_limit p (Some a) (PidsMax n) e h = absurd (h n refl)
-  by_limit p (Some a) OutOfMemory e h = refl
-  by_limit p (Some a) Exists e h = cc
-  by_limit p (Some a) (NoGroup n) e h = cc
-  by_limit p (Some a) (Descendants n) e h = cc
-  by_limit p (Some a) (Depth n) e h = cc
-  by_limit p (Some a) NoSlot e h = cc
-  by_limit p (Some a) RootFixed e h = cc
-  by_limit p (Some a) HasChildren e h = cc
-  by_limit p (Some a) HasProcesses e h = cc
-  by_limit p (Some a) (NoProcess pid) e h = cc
-  by_limit p (Some a) (PidInUse pid) e h = cc
-  by_limit p (Some a) NoFile e h = cc
+  pub parent_there : (s : State) (from child : ℕ) (a : Path) → refusal slots s (model.Fork from child) ≡ Some (model.OverPidsMax a) → has_process s from ≡ true
+  parent_there s from child a e = limit_there from a (has_process s from) _ e
 
-  pub fork_fault : (s : State) (from child : ℕ) (p : Path) (f : ChargeFault) → has_process s from ≡ true → has_process s child ≡ false → refusal slots s (model.Fork from child) ≡ charges.refusal_of p f → ((n : ℕ) → f ≡ PidsMax n → ⊥) → f ≡ OutOfMemory
-  fork_fault s from child p f there free e h = by_limit p (blocked_fork s (home_of s from)) f (fork_first s from child there free ∙ e) h
+  -- the faults that a fork may have
+  abbrev may_fork : Option model.Refusal → Bool
+  may_fork None = true
+  may_fork (Some (model.NoProcess pid)) = true
+  may_fork (Some (model.PidInUse pid)) = true
+  may_fork (Some (model.OverPidsMax a)) = true
+  may_fork (Some model.Exists) = false
+  may_fork (Some (model.NoGroup p)) = false
+  may_fork (Some (model.Descendants p)) = false
+  may_fork (Some (model.Depth p)) = false
+  may_fork (Some model.NoSlot) = false
+  may_fork (Some model.RootFixed) = false
+  may_fork (Some model.HasChildren) = false
+  may_fork (Some model.HasProcesses) = false
+  may_fork (Some model.NoFile) = false
+  may_fork (Some model.NotReadable) = false
+
+  may_refuse : (from child : ℕ) (b d : Bool) (o : Option Path) → may_fork (refuse b (model.NoProcess from) (refuse d (model.PidInUse child) (option_map model.OverPidsMax o))) ≡ true
+  may_refuse from child true d o = refl
+  may_refuse from child false true o = refl
+  may_refuse from child false false None = refl
+  may_refuse from child false false (Some a) = refl
+
+  other_fault : (p : Path) (f : ChargeFault) → may_fork (charges.refusal_of p f) ≡ true → (f ≡ OutOfMemory → ⊥) → ((n : ℕ) → f ≡ NoProcess n → ⊥) → ((n : ℕ) → f ≡ PidInUse n → ⊥) → ((n : ℕ) → f ≡ PidsMax n → ⊥) → ⊥
+  other_fault p OutOfMemory t m h i k = m refl
+  other_fault p (NoProcess n) t m h i k = h n refl
+  other_fault p (PidInUse n) t m h i k = i n refl
+  other_fault p (PidsMax n) t m h i k = k n refl
+  other_fault p Exists t m h i k = false≢true t
+  other_fault p (NoGroup n) t m h i k = false≢true t
+  other_fault p (Descendants n) t m h i k = false≢true t
+  other_fault p (Depth n) t m h i k = false≢true t
+  other_fault p NoSlot t m h i k = false≢true t
+  other_fault p RootFixed t m h i k = false≢true t
+  other_fault p HasChildren t m h i k = false≢true t
+  other_fault p HasProcesses t m h i k = false≢true t
+  other_fault p NoFile t m h i k = false≢true t
+
+  pub no_other_fault : (s : State) (from child : ℕ) (p : Path) (f : ChargeFault) → refusal slots s (model.Fork from child) ≡ charges.refusal_of p f → (f ≡ OutOfMemory → ⊥) → ((n : ℕ) → f ≡ NoProcess n → ⊥) → ((n : ℕ) → f ≡ PidInUse n → ⊥) → ((n : ℕ) → f ≡ PidsMax n → ⊥) → ⊥
+  no_other_fault s from child p f e =
+      other_fault p f (ap may_fork (sym e) ∙ may_refuse from child (not (has_process s from)) (has_process s child) (blocked_fork s (home_of s from)))
 
   -- what the machine answers to a command whose first refusal is known
   pub answers_by : {A : Type 0} (m : Machine) (c : model.Command) (o : Option model.Refusal) (reply : Reply A) (new : Machine) → model.is_undo c ≡ false → refusal slots m.state c ≡ o →

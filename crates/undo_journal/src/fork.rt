@@ -1,8 +1,9 @@
 //! `fork`: the making of a process or the counting of its refusal, the record of either, and what takes it back.
 
-ghost use Rattle.std.specs.Prelude.{◌≡◌, true, false, IfOk, OnErr};
+ghost use Rattle.std.specs.Prelude.{◌≡◌, ◌≤◌, true, Some, None, IfOk, OnOk, OnErr, length, take};
 ghost use Rattle.flat_model.specs.Counts.{has_process};
-ghost use Rattle.flat_model.specs.Step.{home_of};
+ghost use Rattle.flat_model.specs.Step.{refusal, after, home_of};
+ghost use Rattle.flat_model.specs.Machine.{recorded};
 ghost use Rattle.flat_model.specs.Inverse as model_inverse;
 ghost use Rattle.flat_model.specs.Inverse.{back};
 ghost use Rattle.flat_model.specs.Command as model;
@@ -31,47 +32,60 @@ impl<A: Allocator + Clone, M: Meter> Engine<A, M> {
         home.copy(self.alloc.clone()?)
     }
 
-    /// Makes a process in the group of its parent and records it, or counts and records that a limit refuses it.
-    fn add_process(&mut self, who: u8, parent: Pid, child: Pid) -> Result<Reply<A>, AllocError>
-        requires parent { has_process self.old.state parent ≡ true }
-        requires child { has_process self.old.state child ≡ false }
+    /// Makes a process that may be made, in the group of its parent, and records it.
+    fn make_process(&mut self, who: u8, parent: Pid, child: Pid) -> Result<(), AllocError>
+        requires { refusal M.SLOTS self.old.state (model.Fork parent child) ≡ None }
+        ensures ok { OnOk result (self.new ≡ recorded self.old (model.Fork parent child) (after self.old.state (model.Fork parent child))) }
+        ensures err { OnErr result (self.new ≡ self.old) }
+    {
+        self.journal.reserve(1)?;
+        match self.charges.make_process(who, parent, child) {
+            Ok(()) => {
+                self.journal.push(Entry {
+                    command: Command::Fork { parent, child },
+                    inverse: Inverse::Forked { pid: child },
+                })?;
+                Ok(())
+            }
+            Err(fault) => Err(want_of_memory(fault)),
+        }
+    }
+
+    /// Counts and records a fork that the limit of the group at the first `n` names of the parent's path refuses.
+    fn count_fork(&mut self, parent: Pid, child: Pid, n: usize) -> Result<Reply<A>, AllocError>
+        requires refused { refusal M.SLOTS self.old.state (model.Fork parent child) ≡ Some (model.OverPidsMax (take n (home_of self.old.state parent))) }
+        requires inside { n ≤ length (home_of self.old.state parent) }
         ensures ok { IfOk result (λ reply. Answers M.SLOTS self.old (model.Fork parent child) reply self.new) }
         ensures err { OnErr result (self.new ≡ self.old) }
     {
         let mut limiting = self.home_copy(parent)?;
-        let mut counted = self.home_copy(parent)?;
+        limiting.cut(n);
+        let counted = limiting.copy(self.alloc.clone()?)?;
         self.journal.reserve(1)?;
-        let command = Command::Fork { parent, child };
-        match self.charges.fork(who, parent, child) {
-            Ok(()) => {
-                let inverse = Inverse::Forked { pid: child };
-                self.journal.push(Entry { command, inverse })?;
-                Ok(Reply::Done)
-            }
-            Err(fault) => match fault {
-                ChargeFault::PidsMax(n) => {
-                    limiting.cut(n);
-                    counted.cut(n);
-                    let inverse = Inverse::Counted { path: counted };
-                    self.journal.push(Entry { command, inverse })?;
-                    Ok(Reply::Refused(Refusal::PidsMax(limiting)))
-                }
-                _ => Err(want_of_memory(fault)),
-            },
-        }
+        self.charges.count_fork(parent, n);
+        self.journal.push(Entry {
+            command: Command::Fork { parent, child },
+            inverse: Inverse::Counted { path: counted },
+        })?;
+        Ok(Reply::Refused(Refusal::PidsMax(limiting)))
     }
 
     pub(crate) fn fork(&mut self, who: u8, parent: Pid, child: Pid) -> Result<Reply<A>, AllocError>
         ensures ok { IfOk result (λ reply. Answers M.SLOTS self.old (model.Fork parent child) reply self.new) }
         ensures err { OnErr result (self.new ≡ self.old) }
     {
-        if !self.has_process(parent) {
-            return Ok(Reply::Refused(Refusal::NoProcess(parent)));
+        match self.charges.refuses_fork(parent, child) {
+            None => {
+                self.make_process(who, parent, child)?;
+                Ok(Reply::Done)
+            }
+            Some(fault) => match fault {
+                ChargeFault::NoProcess(pid) => Ok(Reply::Refused(Refusal::NoProcess(pid))),
+                ChargeFault::PidInUse(pid) => Ok(Reply::Refused(Refusal::PidInUse(pid))),
+                ChargeFault::PidsMax(n) => self.count_fork(parent, child, n),
+                _ => unreachable!(),
+            },
         }
-        if self.has_process(child) {
-            return Ok(Reply::Refused(Refusal::PidInUse(child)));
-        }
-        self.add_process(who, parent, child)
     }
 }
 

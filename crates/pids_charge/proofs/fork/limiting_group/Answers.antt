@@ -29,6 +29,11 @@ loop-attr-init g c =
       held = refl;
     }
 
+pub is_full-requires : goal.is_full-requires
+is_full-requires g c = record {
+  slot = (all_split g.M.Meter.SLOTS c.next.new.self c.loop-attr.attr-iterator c.in-Some.attr.now c.loop-attr.invariant.slots c.in-Some.ensures.steps).0;
+}
+
 pub loop-attr-preserved-then-is_full : goal.loop-attr-preserved-then-is_full
 loop-attr-preserved-then-is_full g c =
     let e = c.in-Some.ensures.steps in

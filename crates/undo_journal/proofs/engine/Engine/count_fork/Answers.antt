@@ -1,0 +1,70 @@
+use Rattle.std.proofs.Common.{◌≡◌, [], ◌∷◌, ◌++◌, true, take, Some, refl, sym, ap, subst, ◌∙◌, ◌≤◌, length, arith}
+use Rattle.flat_model.specs.Path.{Path}
+use Rattle.flat_model.specs.Command as model
+use Rattle.flat_model.specs.Counts.{has_process}
+use Rattle.flat_model.specs.Inverse as model_inverse
+use Rattle.flat_model.specs.Machine.{Machine}
+use Rattle.flat_model.specs.Step.{refusal, home_of}
+use Rattle.undo_journal.specs.Answer.{Answers}
+use Rattle.undo_journal.specs.History.{machine_of, journal_entry, records}
+use Rattle.undo_journal.specs.declared.journal.Entry.{Entry}
+use Rattle.undo_journal.specs.declared.command.Command.TheVariants.{Fork}
+use Rattle.undo_journal.specs.declared.inverse.Inverse.TheVariants.{Counted}
+use Rattle.undo_journal.specs.declared.reply.Reply.TheVariants.{Refused}
+use Rattle.undo_journal.specs.declared.reply.Refusal.TheVariants.{PidsMax}
+use Rattle.undo_journal.proofs.Histories.{recorded_is, recorded_history, records_length}
+use Rattle.undo_journal.proofs.Totals.{countable}
+use Rattle.undo_journal.proofs.Answering.{parent_there, answers_by}
+use Rattle.undo_journal.proofs.engine.Engine.count_fork.Goals as goal
+use Rattle.undo_journal.proofs.engine.Engine.count_fork.Goals.{In_ok-push}
+
+pub home_copy-requires : goal.home_copy-requires
+home_copy-requires g c = parent_there g.M.Meter.SLOTS c.args.self.now.state c.args.parent c.args.child _ c.requires.refused
+
+pub count_fork-requires-clause-parent : goal.count_fork-requires-clause-parent
+count_fork-requires-clause-parent g c = subst (λ (m : Machine). has_process m.state c.args.parent ≡ true) (sym c.self.view_is) (parent_there g.M.Meter.SLOTS c.args.self.now.state c.args.parent c.args.child _ c.requires.refused)
+
+pub count_fork-requires-clause-at : goal.count_fork-requires-clause-at
+count_fork-requires-clause-at g c = subst (λ (m : Machine). c.args.n ≤ length (home_of m.state c.args.parent)) (sym c.self.view_is) c.requires.inside
+
+pub count_fork-requires-clause-room : goal.count_fork-requires-clause-room
+count_fork-requires-clause-room g c =
+    let e = records_length c.self.inside.journal.items in
+    countable g.M.Meter.SLOTS c.self.inside.charges (records c.self.inside.journal.items) c.self.invariant (omega (arith, e, c.in_ok-reserve.ensures.len, c.in_ok-reserve.ensures.capacity, c.in_ok-reserve.ensures.ok))
+
+-- ---- the record
+
+abbrev limiting : (g : _) (c : In_ok-push g) → Path
+limiting g c = take c.args.n (home_of c.self.inside.charges c.args.parent)
+
+refused : (g : _) (c : In_ok-push g) → refusal g.M.Meter.SLOTS c.self.inside.charges (model.Fork c.args.parent c.args.child) ≡ Some (model.OverPidsMax (limiting g c))
+refused g c = subst (λ (m : Machine). refusal g.M.Meter.SLOTS m.state (model.Fork c.args.parent c.args.child) ≡ Some (model.OverPidsMax (take c.args.n (home_of m.state c.args.parent)))) (sym c.self.view_is) c.requires.refused
+
+cut_is : (g : _) (c : In_ok-push g) → c.cut.new.self ≡ limiting g c
+cut_is g c = c.cut.ensures ∙ ap (take c.args.n) (c.in_ok-limiting.ensures ∙ ap (λ (m : Machine). home_of m.state c.args.parent) (sym c.self.view_is))
+
+abbrev entry : (g : _) (c : In_ok-push g) → Entry g.row.A.Denot
+entry g c = record { command = Fork c.args.parent c.args.child; inverse = Counted c.in_ok-counted.counted }
+
+journal_is : (g : _) (c : In_ok-push g) → c.push.new.self.items ≡ c.self.inside.journal.items ++ entry g c ∷ []
+journal_is g c = c.in_ok-push.ensures.items ∙ ap (λ js. js ++ entry g c ∷ []) c.reserve.ensures.items
+
+entry_is : (g : _) (c : In_ok-push g) → ◌≡◌ {A = model.Command × model_inverse.Inverse} (journal_entry (entry g c)) (model.Fork c.args.parent c.args.child, model_inverse.Counted (limiting g c))
+entry_is g c = λ i. (model.Fork c.args.parent c.args.child, model_inverse.Counted ((c.in_ok-counted.ensures ∙ cut_is g c) i))
+
+pub invariant_of-self-2 : goal.invariant_of-self-2
+invariant_of-self-2 g c =
+    rw (journal_is g c)
+    (recorded_history g.M.Meter.SLOTS c.self.inside.charges c.count_fork.new.self c.self.inside.journal.items (entry g c) (model.Fork c.args.parent c.args.child) (model_inverse.Counted (limiting g c)) (Some (model.OverPidsMax (limiting g c)))
+    (entry_is g c) (refused g c) refl c.count_fork.ensures c.self.invariant)
+
+pub returns-clause-ok : goal.returns-clause-ok
+returns-clause-ok g c =
+    let s = c.self.inside.charges in
+    let command = model.Fork c.args.parent c.args.child in
+    let over = Some (model.OverPidsMax (limiting g c)) in
+    subst (λ (m : Machine). Answers {A = g.row.A.Denot} g.M.Meter.SLOTS m command (Refused (PidsMax c.cut.new.self)) (machine_of c.count_fork.new.self c.push.new.self.items)) c.self.view_is
+    (answers_by g.M.Meter.SLOTS (machine_of s c.self.inside.journal.items) command over (Refused (PidsMax c.cut.new.self)) (machine_of c.count_fork.new.self c.push.new.self.items) refl (refused g c)
+    ((λ i. machine_of c.count_fork.new.self (journal_is g c i))
+    ∙ recorded_is g.M.Meter.SLOTS s c.count_fork.new.self c.self.inside.journal.items (entry g c) command (model_inverse.Counted (limiting g c)) over (entry_is g c) (refused g c) refl c.count_fork.ensures)
+    (λ i. Some (model.Refused (model.OverPidsMax (cut_is g c i)))))
