@@ -5,6 +5,7 @@
 //!
 //! - `stripes`: adds and takes in several stripes, past 2^64.
 //! - `pids`: the numbers of processes.
+//! - `forks`: a fork decided, and then made.
 //! - `commands`: sequences of calls on `Charges` over a plain meter; `calls` makes them.
 #![tactic(auto)]
 
@@ -12,6 +13,8 @@
 mod calls;
 #[cfg(test)]
 mod commands;
+#[cfg(test)]
+mod forks;
 #[cfg(test)]
 mod pids;
 #[cfg(test)]
