@@ -5,7 +5,7 @@
 //! - `insert`, `set` and `remove` change one path and nothing else. A refusal changes nothing, also where memory runs out
 //!   in the middle of an insert: there is no half-made group.
 //! - Refusals come in a fixed order, and each names its cause. Only `insert`, `copy`, `new`, and a `chain` of more than
-//!   eight groups take memory; a group takes one block for its name, and its parent's list of children grows.
+//!   eight groups take memory: a group's parent's list of children grows, and a name of more than 23 bytes takes a block.
 //! - A look-up goes down once, in O(depth · log children) comparisons of names. How many groups are below each group is
 //!   kept, so that limits on descendants, and on all groups, are tested without a walk. The limits of the hierarchy that a
 //!   new group meets are all asked in one such descent.

@@ -9,7 +9,7 @@
 //!   event totals. Any other refused command, one that only shows, and an undo are not.
 //! - `undo` takes back the newest recorded command, whoever issued it, and checks nothing.
 //! - A refusal names its cause and leaves everything but those totals. So does want of memory, which comes last:
-//!   memory is asked for before anything is changed. A fork alone asks for its record's memory before its limits are decided.
+//!   the memory of a record is asked for once it is decided what the command does, and before anything is changed.
 //! - The journal keeps a command and a small record each, and no state. It has no bound of its own, and is not kept on
 //!   a disk.
 //! - `undo_all` takes back everything, newest first, or as much as there is memory for, and says how many commands that was.
