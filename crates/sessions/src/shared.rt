@@ -9,7 +9,7 @@ use std::sync::{Condvar, Mutex, MutexGuard, Wait};
 use std::thread;
 
 /// How often a call looks whether its turn has come, before it sleeps.
-const LOOKS: u32 = 30;
+const LOOKS: u32 = 100;
 
 /// The hall behind its lock, and for each session a sign at which it sleeps.
 #[derive(Drop)]
