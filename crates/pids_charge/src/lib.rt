@@ -11,8 +11,8 @@
 //! - Refusals come in a fixed order, want of memory last, and change nothing but those totals.
 //! - Beside each command stands what takes it back without asking any limit: `restore` for a removal, `place` for an exit,
 //!   `place_all` for a kill, `uncount` for a refused fork. A move and a limit are taken back by themselves.
-//! - `refuses_mkdir`, `refuses_rmdir` and `refuses_fork` only decide. `make_process` and `count_fork` are what `fork` does once
-//!   it has decided, for a caller that asks for memory of its own in between.
+//! - `refuses_mkdir`, `refuses_rmdir` and `refuses_fork` only decide. What a call does once it has decided stands beside it, for
+//!   a caller that asks for memory of its own in between: `make_group`, `take_group`, `make_process`, `count_fork`.
 //! - `exit`, `count_fork`, `uncount`, `rmdir`, `set_limit`, the readers and what only decides take no memory. The table of free
 //!   slots is made whole by `new`.
 //! - A walk along a path goes down the tree once, so that a fork, an exit and a move cost

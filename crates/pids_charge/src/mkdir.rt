@@ -35,12 +35,20 @@ impl<A: Allocator + Clone, M: Meter> Charges<A, M> {
         }
     }
 
-    // Makes a group that may be made.
-    fn add_group<B: Allocator + Clone>(&mut self, path: &GroupPath<B>) -> Result<(), ChargeFault>
+    /// Makes a group that `mkdir` would not refuse, with no limits and no events, on a free slot. Costs one descent of the
+    /// tree.
+    ///
+    /// # Errors
+    ///
+    /// `OutOfMemory`; nothing has changed then.
+    pub fn make_group<B: Allocator + Clone>(
+        &mut self,
+        path: &GroupPath<B>,
+    ) -> Result<(), ChargeFault>
         requires { refusal M.SLOTS self.old (MakeGroup path.now) ≡ None }
-        ensures ok { OnOk result (self.new ≡ after self.old (MakeGroup path.now)) }
+        ensures made { OnOk result (self.new ≡ after self.old (MakeGroup path.now)) }
         ensures memory { IfErr result (λ f. f ≡ ChargeFault.OutOfMemory) }
-        ensures err { OnErr result (self.new ≡ self.old) }
+        ensures kept { OnErr result (self.new ≡ self.old) }
     {
         self.restore(path, Attr::new(0))
     }
@@ -58,6 +66,6 @@ impl<A: Allocator + Clone, M: Meter> Charges<A, M> {
         if let Some(fault) = self.refuses_mkdir(path) {
             return Err(fault);
         }
-        self.add_group(path)
+        self.make_group(path)
     }
 }

@@ -47,8 +47,9 @@ impl<A: Allocator + Clone, M: Meter> Charges<A, M> {
         None
     }
 
-    // Takes out a group that may be removed, and frees its slot.
-    fn take_group<B: Allocator + Clone>(&mut self, path: &GroupPath<B>) -> Attr
+    /// Takes out a group that `rmdir` would not refuse, and frees its slot. What it had is answered. It takes no memory, and
+    /// costs two descents of the tree.
+    pub fn take_group<B: Allocator + Clone>(&mut self, path: &GroupPath<B>) -> Attr
         requires { refusal M.SLOTS self.old (RemoveGroup path.now) ≡ None }
         ensures state { self.new ≡ after self.old (RemoveGroup path.now) }
         ensures attr { Some (group_of result) ≡ fin.get self.old.groups path.now }

@@ -24,9 +24,9 @@ fn front<A: Allocator + Clone, B: Allocator + Clone>(
     Ok(front)
 }
 
-/// The refusal that a fault is, with the path of the group that it names by a number of names.
+/// The refusal that a fault is, with the path of the group that it names by a number of names. Only a path asks for memory.
 pub(crate) fn refusal_at<A: Allocator + Clone, B: Allocator + Clone>(
-    alloc: B,
+    alloc: &B,
     path: &GroupPath<A>,
     fault: ChargeFault,
 ) -> Result<Refusal<B>, AllocError>
@@ -35,16 +35,16 @@ pub(crate) fn refusal_at<A: Allocator + Clone, B: Allocator + Clone>(
 {
     match fault {
         ChargeFault::Exists => Ok(Refusal::Exists),
-        ChargeFault::NoGroup(n) => Ok(Refusal::NoGroup(front(alloc, path, n)?)),
-        ChargeFault::Descendants(n) => Ok(Refusal::Descendants(front(alloc, path, n)?)),
-        ChargeFault::Depth(n) => Ok(Refusal::Depth(front(alloc, path, n)?)),
+        ChargeFault::NoGroup(n) => Ok(Refusal::NoGroup(front(alloc.clone()?, path, n)?)),
+        ChargeFault::Descendants(n) => Ok(Refusal::Descendants(front(alloc.clone()?, path, n)?)),
+        ChargeFault::Depth(n) => Ok(Refusal::Depth(front(alloc.clone()?, path, n)?)),
         ChargeFault::NoSlot => Ok(Refusal::NoSlot),
         ChargeFault::RootFixed => Ok(Refusal::RootFixed),
         ChargeFault::HasChildren => Ok(Refusal::HasChildren),
         ChargeFault::HasProcesses => Ok(Refusal::HasProcesses),
         ChargeFault::NoProcess(pid) => Ok(Refusal::NoProcess(pid)),
         ChargeFault::PidInUse(pid) => Ok(Refusal::PidInUse(pid)),
-        ChargeFault::PidsMax(n) => Ok(Refusal::PidsMax(front(alloc, path, n)?)),
+        ChargeFault::PidsMax(n) => Ok(Refusal::PidsMax(front(alloc.clone()?, path, n)?)),
         ChargeFault::OutOfMemory => Err(AllocError),
         ChargeFault::NoFile => Ok(Refusal::NoFile),
     }

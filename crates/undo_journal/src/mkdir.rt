@@ -29,7 +29,7 @@ impl<A: Allocator + Clone, M: Meter> Engine<A, M> {
         let named = path.copy(self.alloc.clone()?)?;
         let made = path.copy(self.alloc.clone()?)?;
         self.journal.reserve(1)?;
-        match self.charges.mkdir(path) {
+        match self.charges.make_group(path) {
             Ok(()) => {
                 self.journal.push(Entry {
                     command: Command::MakeGroup(named),
@@ -49,7 +49,7 @@ impl<A: Allocator + Clone, M: Meter> Engine<A, M> {
         ensures err { OnErr result (self.new ≡ self.old) }
     {
         if let Some(fault) = self.charges.refuses_mkdir(path) {
-            let refusal = refusal_at(self.alloc.clone()?, path, fault)?;
+            let refusal = refusal_at(&self.alloc, path, fault)?;
             return Ok(Reply::Refused(refusal));
         }
         self.add_group(path)?;
@@ -65,7 +65,5 @@ pub(crate) fn undo_mkdir<A: Allocator + Clone, M: Meter>(
     requires { IsReady M.SLOTS charges.old (model_inverse.Made path.now) }
     ensures { charges.new ≡ back (model_inverse.Made path.now) charges.old }
 {
-    let Ok(_attr) = charges.rmdir(path) else {
-        unreachable!()
-    };
+    let _attr = charges.take_group(path);
 }

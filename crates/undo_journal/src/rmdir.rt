@@ -31,9 +31,7 @@ impl<A: Allocator + Clone, M: Meter> Engine<A, M> {
         let named = path.copy(self.alloc.clone()?)?;
         let removed = path.copy(self.alloc.clone()?)?;
         self.journal.reserve(1)?;
-        let Ok(attr) = self.charges.rmdir(path) else {
-            unreachable!()
-        };
+        let attr = self.charges.take_group(path);
         self.journal.push(Entry {
             command: Command::RemoveGroup(named),
             inverse: Inverse::Removed {
@@ -52,7 +50,7 @@ impl<A: Allocator + Clone, M: Meter> Engine<A, M> {
         ensures err { OnErr result (self.new ≡ self.old) }
     {
         if let Some(fault) = self.charges.refuses_rmdir(path) {
-            let refusal = refusal_at(self.alloc.clone()?, path, fault)?;
+            let refusal = refusal_at(&self.alloc, path, fault)?;
             return Ok(Reply::Refused(refusal));
         }
         self.take_group(path)?;

@@ -1,5 +1,5 @@
 use Rattle.pids_charge.proofs.Asked.{make_open}
-use Rattle.pids_charge.proofs.charges.Charges.add_group.Goals as goal
+use Rattle.pids_charge.proofs.charges.Charges.make_group.Goals as goal
 
 pub restore-requires-clause-new : goal.restore-requires-clause-new
 restore-requires-clause-new g c = (make_open g.M.Meter.SLOTS c.args.self.now c.args.path.now c.requires).0
