@@ -41,6 +41,34 @@ const ANSWERS: &[u8] = b"1 ok\n2 ok\n3 ok\n4 ok\n5 ok\n6 ok\n7 ok\n8 ok\n9 ok\n\
 18 refused nogroup /a/c\n19 ok\n| populated 0\n| frozen 0\n20 ok\n| 2\n21 ok\n| 0::/a\n\
 22 refused noprocess 3\n23 ok\n| nr_descendants 2\n| nr_dying_descendants 0\n";
 
+// User 0 makes a group and moves a process in; user 1 moves it out, removes the group and makes
+// another, which may have the slot of the first.
+const REMADE: [Issued; 11] = [
+    (0, "mkdir /a"),
+    (0, "fork 1 2"),
+    (0, "write /a cgroup.procs 2"),
+    (1, "write / cgroup.procs 2"),
+    (1, "rmdir /a"),
+    (1, "mkdir /b"),
+    (0, "cat /b cgroup.events"),
+    (1, "write /b cgroup.procs 2"),
+    (0, "cat /b pids.current"),
+    (0, "exit 2"),
+    (1, "cat /b cgroup.events"),
+];
+
+const REMADE_ANSWERS: &[u8] = b"1 ok\n2 ok\n3 ok\n4 ok\n5 ok\n6 ok\n\
+7 ok\n| populated 0\n| frozen 0\n8 ok\n9 ok\n| 1\n10 ok\n11 ok\n| populated 0\n| frozen 0\n";
+
+/// What one user has left in the slot of a group that is gone is counted for no other group.
+#[test]
+fn slot_of_another_user(rt: HostRuntime) -> Result<(), Fail> {
+    let mut engine = Engine::new(rt.alloc(), BoardMeter::new(rt.alloc())?)?;
+    let answered = answers(&rt, rt.alloc(), &OpenGate, &mut engine, &REMADE)?;
+    assert!(rt; answered.as_slice() == REMADE_ANSWERS);
+    Ok(())
+}
+
 /// The six commands that are left are then taken back at once.
 #[test]
 fn two_users(rt: HostRuntime) -> Result<(), Fail> {

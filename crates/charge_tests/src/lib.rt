@@ -5,7 +5,7 @@
 //!
 //! - `stripes`: adds and takes in several stripes, past 2^64.
 //! - `pids`: the numbers of processes.
-//! - `forks`: a fork decided, and then made.
+//! - `forks`: a fork decided, and then made; `groups`: a new group and a removal likewise.
 //! - `commands`: sequences of calls on `Charges` over a plain meter; `calls` makes them.
 #![tactic(auto)]
 
@@ -15,6 +15,8 @@ mod calls;
 mod commands;
 #[cfg(test)]
 mod forks;
+#[cfg(test)]
+mod groups;
 #[cfg(test)]
 mod pids;
 #[cfg(test)]

@@ -1,7 +1,7 @@
 //! Traces of files, kills and `where`, with their answers.
 
 /// Each trace with its answers, as in `traces`: a semicolon stands for a line feed.
-pub(crate) const FILE_TRACES: [(&str, &str); 20] = [
+pub(crate) const FILE_TRACES: [(&str, &str); 24] = [
     // A fork that its own group's limit refuses, and what it has counted taken back.
     (
         "mkdir /a;write /a pids.max 1;write /a cgroup.procs 1;fork 1 2;\
@@ -217,5 +217,30 @@ pub(crate) const FILE_TRACES: [(&str, &str); 20] = [
          cat /a pids.current;write /a cgroup.kill 1;cat /a cgroup.events;where 2",
         "1 ok;2 ok;3 ok;| fork 1 2;4 ok;| mkdir /a;5 refused nothing;6 ok;7 ok;8 ok;9 ok;| 1;\
          10 ok;11 ok;| populated 0;| frozen 0;12 refused noprocess 2",
+    ),
+    // An undo asks no limit: a process that has ended comes back into a full group.
+    (
+        "mkdir /a;fork 1 2;write /a cgroup.procs 2;write /a pids.max 0;exit 2;undo;\
+         cat /a pids.current;fork 2 3",
+        "1 ok;2 ok;3 ok;4 ok;5 ok;6 ok;| exit 2;7 ok;| 1;8 refused pidsmax /a",
+    ),
+    // One that has left comes back likewise.
+    (
+        "mkdir /a;write /a cgroup.procs 1;write /a pids.max 0;write / cgroup.procs 1;undo;\
+         cat /a pids.current;fork 1 2",
+        "1 ok;2 ok;3 ok;4 ok;5 ok;| write / cgroup.procs 1;6 ok;| 1;7 refused pidsmax /a",
+    ),
+    // A removed group comes back below a limit on descendants, and below one on depth.
+    (
+        "mkdir /a;mkdir /a/b;write /a cgroup.max.descendants 0;rmdir /a/b;mkdir /a/b;undo;\
+         cat /a cgroup.stat",
+        "1 ok;2 ok;3 ok;4 ok;5 refused descendants /a;6 ok;| rmdir /a/b;7 ok;| nr_descendants 1;\
+         | nr_dying_descendants 0",
+    ),
+    (
+        "mkdir /a;mkdir /a/b;write / cgroup.max.depth 1;rmdir /a/b;mkdir /a/b;undo;\
+         cat / cgroup.stat",
+        "1 ok;2 ok;3 ok;4 ok;5 refused depth /;6 ok;| rmdir /a/b;7 ok;| nr_descendants 2;\
+         | nr_dying_descendants 0",
     ),
 ];

@@ -166,6 +166,33 @@ fn numbers(rt: HostRuntime) {
     }
 }
 
+/// Why a value is not taken, and why a file is not shown, in words.
+#[test]
+fn messages(rt: HostRuntime) -> Result<(), AllocError> {
+    let values = [
+        (ValueFault::Empty, "there is no value"),
+        (ValueFault::NotANumber, "a byte is no decimal digit"),
+        (ValueFault::LeadingZero, "a zero stands before other digits"),
+        (ValueFault::OutOfRange, "the number is out of its range"),
+    ];
+    for (fault, wanted) in values {
+        let message = format!(in rt.alloc(); "{fault}")?;
+        assert_eq!(rt; message.as_str(), wanted);
+    }
+    let files = [
+        (ShowFault::NoGroup, "there is no such group"),
+        (ShowFault::NoFile, "the group has no such file"),
+        (ShowFault::NotReadable, "the file cannot be read"),
+        (ShowFault::OutOfMemory, "out of memory"),
+        (ShowFault::NoProcess, "there is no such process"),
+    ];
+    for (fault, wanted) in files {
+        let message = format!(in rt.alloc(); "{fault}")?;
+        assert_eq!(rt; message.as_str(), wanted);
+    }
+    Ok(())
+}
+
 /// Whether this is the limit's text.
 fn is_text(alloc: Global, limit: Limit, wanted: &str) -> Result<bool, AllocError> {
     Ok(limit_text(alloc, limit)?.as_slice() == wanted.as_bytes())

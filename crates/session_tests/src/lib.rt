@@ -8,13 +8,16 @@
 //! - `receipts`: a worked log of three entries, and each way of altering its receipts.
 //! - `halting`: a halted desk.
 //! - `threads`: sessions in threads of their own, in contention and by turns.
-//! - `calls`: what the other three are written with.
+//! - `memory`: one allocation refused at a time.
+//! - `calls`: what the others are written with.
 #![tactic(auto)]
 
 #[cfg(test)]
 mod calls;
 #[cfg(test)]
 mod halting;
+#[cfg(test)]
+mod memory;
 #[cfg(test)]
 mod receipts;
 #[cfg(test)]
