@@ -13,7 +13,6 @@ use Rattle.flat_model.proofs.Limits.{fork_refused}
 use Rattle.pids_charge.specs.declared.fault.ChargeFault.{ChargeFault}
 use Rattle.pids_charge.specs.declared.fault.ChargeFault.TheVariants.{Exists, NoGroup, Descendants, Depth, NoSlot, RootFixed, HasChildren, HasProcesses, NoProcess, PidInUse, PidsMax, OutOfMemory, NoFile}
 use Rattle.pids_charge.specs.Answers as charges
-use Rattle.pids_charge.proofs.Wants.{want_only}
 use Rattle.undo_journal.specs.declared.reply.Refusal.{Refusal}
 use Rattle.undo_journal.specs.declared.reply.Reply.{Reply}
 use Rattle.undo_journal.specs.declared.reply.Reply.TheVariants.{Refused}
