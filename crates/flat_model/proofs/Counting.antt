@@ -90,7 +90,7 @@ parent_take h n l =
     ap (λ m. take m (take (suc n) h)) k ∙ take_short n h
 
 -- each group on the way from the root to a group is one
-prefix_is_group : (slots : ℕ) (s : State) → WellFormed slots s → (h : Path) → is_group s h ≡ true → (k n : ℕ) → n + k ≡ length h → is_group s (take n h) ≡ true
+pub prefix_is_group : (slots : ℕ) (s : State) → WellFormed slots s → (h : Path) → is_group s h ≡ true → (k n : ℕ) → n + k ≡ length h → is_group s (take n h) ≡ true
 prefix_is_group slots s w h g zero n e = let l : n ≡ length h = omega arith in ap (λ m. is_group s (take m h)) l ∙ ap (is_group s) (take-length h) ∙ g
 prefix_is_group slots s w h g (suc k) n e =
     let up = prefix_is_group slots s w h g k (suc n) (omega arith) in

@@ -1,5 +1,5 @@
 -- What a counted fork raises, and that no event total is above the number of recorded commands.
-use Rattle.std.proofs.Common.{◌≡◌, ◌≢◌, ℕ, ◌+◌, ◌≤◌, Bool, true, false, cond, not, ◌&&◌, List, [], ◌∷◌, length, Option, Some, None, refl, sym, ap, subst, ◌∙◌, arith}
+use Rattle.std.proofs.Common.{◌≡◌, ◌≢◌, ◌↔◌, ℕ, ◌+◌, ◌≤◌, Bool, true, false, cond, not, ◌&&◌, List, [], ◌∷◌, length, Option, Some, None, refl, sym, ap, subst, ◌∙◌, arith}
 use Rattle.std.specs.Prelude.{option_map, unwrap_or}
 use Rattle.std.specs.Ordering.{eq_by_cmp}
 use Rattle.std.specs.FinMap.{get, insert, remove, get-insert, get-remove}
@@ -51,6 +51,36 @@ counted_up a p x = record {
   total = λ h n. one_more x.total (counts_for a p) (counts_above a p h n);
   total_else = λ h. no_more x.total (counts_for a p) (counts_else a p h);
 }
+
+-- each number is one by each of two tests that say the same
+number_is : (n m : ℕ) (b : Bool) → (b ≡ true → m ≡ n + 1) → (b ≡ false → m ≡ n) → m ≡ n + cond b 1 0
+number_is n m true h g = h refl
+number_is n m false h g = let e = g refl in omega (arith, e)
+
+both_by : (a b : Bool) → (not a && b) ≡ true → (a ≡ false) × (b ≡ true)
+both_by true b e = cc
+both_by false b e = (refl, e)
+
+prefix_of : (a p : Path) → counts_for a p ≡ true → HasPrefix a p × (is_root p ≡ false)
+prefix_of a p h = let two = both_by (is_root p) (at_or_below a p) h in ((at_or_below_is a p).0 two.1, two.0)
+
+no_root : (p : Path) → is_root p ≡ false → p ≢ []
+no_root p h e = let t : is_root p ≡ true = ap is_root e in cc
+
+root_or : (a p : Path) → HasPrefix a p → counts_for a p ≡ false → p ≡ []
+root_or a [] h f = refl
+root_or a (n ∷ p) h f = let t : counts_for a (n ∷ p) ≡ true = counts_above a (n ∷ p) h (no_root (n ∷ p) refl) in cc
+
+-- nothing else is counted
+only_up : (a p : Path) (x y : Attr) → IsCounted a p x y → y ≡ count_up a p x
+only_up a p x y c =
+    let one = number_is x.local y.local (same_path p a) (λ t. c.local ((same_path_is p a).0 t)) (λ f. c.local_else (λ e. let t : same_path p a ≡ true = (same_path_is p a).1 e in cc)) in
+    let all = number_is x.total y.total (counts_for a p) (λ t. let two = prefix_of a p t in c.total two.0 (no_root p two.1)) (λ f. c.total_else (λ h. root_or a p h f)) in
+    let limits = c.limits in
+    λ i. record { limits = limits i; local = one i; total = all i }
+
+pub counted_is : (a p : Path) (x y : Attr) → IsCounted a p x y ↔ (y ≡ count_up a p x)
+counted_is a p x y = (only_up a p x y, λ e. subst (IsCounted a p x) (sym e) (counted_up a p x))
 
 each_up : (s : State) (a p : Path) → get (at_each (count_up a) s).groups p ≡ option_map (count_up a p) (get s.groups p)
 each_up s a p = get-each path_cmp-IsTotalOrder path_cmp-IsAntisymmetric (count_up a) s.groups p

@@ -18,7 +18,7 @@ use Rattle.flat_model.proofs.Limits.{met_by, room_by, asked_by, asked_no}
 -- ---- the walk upward
 
 -- whether the test refuses at a path
-abbrev stops : (Path → Option Refusal) → Path → Bool
+abbrev pub stops : (Path → Option Refusal) → Path → Bool
 stops test p = is_some (test p)
 
 -- the first refusal that a walk finds
@@ -27,7 +27,7 @@ pub record RefusedAt (test : Path → Option Refusal) (ps : List Path) (r : Refu
   pub first : first_path (stops test) ps ≡ Some at
   pub refuses : test at ≡ Some r
 
-refused_at : (test : Path → Option Refusal) (ps : List Path) (r : Refusal) → first_refusal test ps ≡ Some r → RefusedAt test ps r
+pub refused_at : (test : Path → Option Refusal) (ps : List Path) (r : Refusal) → first_refusal test ps ≡ Some r → RefusedAt test ps r
 refused_at test [] r e = cc
 refused_at test (p ∷ ps) r e =
     elim (test p) as (λ o. test p ≡ o → option_or o (first_refusal test ps) ≡ Some r → RefusedAt test (p ∷ ps) r) [
@@ -36,7 +36,7 @@ refused_at test (p ∷ ps) r e =
       | Some x ↦ λ t is. record { at = p; first = ap (λ (o : Option Refusal). cond (is_some o) (Some p) (first_path (stops test) ps)) t; refuses = t ∙ is }
     ] refl e
 
-stops_nowhere : (test : Path → Option Refusal) (ps : List Path) → first_refusal test ps ≡ None → first_path (stops test) ps ≡ None
+pub stops_nowhere : (test : Path → Option Refusal) (ps : List Path) → first_refusal test ps ≡ None → first_path (stops test) ps ≡ None
 stops_nowhere test [] e = refl
 stops_nowhere test (p ∷ ps) e =
     elim (test p) as (λ o. test p ≡ o → option_or o (first_refusal test ps) ≡ None → first_path (stops test) (p ∷ ps) ≡ None) [
@@ -49,13 +49,13 @@ walk_passes test ps a e h = absent (test a) (first_path_none (stops test) ps a (
 
 -- ---- what a group lets through
 
-abbrev counts : State → Path → Bool
+abbrev pub counts : State → Path → Bool
 counts s a = asks (λ attr. reaches (descendant_count s a) attr.limits.descendants) (get s.groups a)
 
-abbrev deepens : State → Path → Path → Bool
+abbrev pub deepens : State → Path → Path → Bool
 deepens s q a = asks (λ attr. reaches (length q - length a) attr.limits.depth) (get s.groups a)
 
-room_for : (s : State) (q a : Path) → limit_met s q a ≡ None → HasRoomFor s q a
+pub room_for : (s : State) (q a : Path) → limit_met s q a ≡ None → HasRoomFor s q a
 room_for s q a e = record {
   count = λ attr m there limit.
       room_by _ attr.limits.descendants m (asked_no (λ attr. reaches (descendant_count s a) attr.limits.descendants) (get s.groups a) attr (passed (counts s a) (Descendants a) (refuse (deepens s q a) (Depth a) None) e) there) limit;

@@ -11,12 +11,17 @@ pub mod TakenBack
 pub mod Refusing
 pub mod Kept
 pub mod Nearest
+pub mod NearestLaws
 pub mod Limits
 pub mod HierarchyLimits
+pub mod LimitsExact
+pub mod HierarchyLimitsExact
 pub mod Undoing
 pub mod Reachable
 pub mod Descendants
 pub mod Events
+pub mod ClosedStates
+pub mod GivenBack
 pub mod NewGroups
 pub mod PathTextLawsChild
 pub mod WordLaws

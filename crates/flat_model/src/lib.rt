@@ -35,5 +35,6 @@ pub mod examples;
 pub mod machine;
 pub mod paths;
 pub mod records;
+pub mod refusals;
 pub mod states;
 pub mod texts;

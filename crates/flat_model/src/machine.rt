@@ -6,17 +6,26 @@ ghost use Rattle.std.specs.Prelude.{
   ℕ,
   ◌-◌,
   ◌+◌,
+  ◌<◌,
+  ◌≤◌,
+  ◌||◌,
   ◌↔◌,
   true,
+  false,
   Some,
   None,
   List,
   length,
+  ltb,
+  take,
   map,
   sum_by,
 };
+ghost use Rattle.std.specs.FinMap.{get};
 ghost use Rattle.flat_model.specs.Path.{Path};
+ghost use Rattle.flat_model.specs.State.{State};
 ghost use Rattle.flat_model.specs.Counts.{
+  asks,
   current,
   populated,
   members,
@@ -36,8 +45,8 @@ ghost use Rattle.flat_model.specs.Machine.{
   undos,
   TakesBackItsOwn,
 };
-ghost use Rattle.flat_model.specs.WellFormed.{MachineWellFormed};
-ghost use Rattle.flat_model.specs.Events.{EventsBounded};
+ghost use Rattle.flat_model.specs.WellFormed.{WellFormed, MachineWellFormed};
+ghost use Rattle.flat_model.specs.Events.{HasEventsUpTo, EventsBounded};
 
 /// A recorded command and then its undo give the machine back as it was, from any machine: an
 /// accepted one, and a fork that `pids.max` refused.
@@ -88,4 +97,23 @@ pub fn events_are_bounded()
     ensures kept { (slots : ℕ) (m : Machine) (c : Command) → EventsBounded m
         → EventsBounded (tick slots m c).0 }
     ensures bounded { (slots : ℕ) (cs : List Command) → EventsBounded (after_all slots cs) }
+{}
+
+/// The past is what undos give back, each state in turn: it is well formed where each of those is,
+/// its events are bounded where those of each are by what is still recorded then, and a run takes
+/// back its own records alone where none of its commands leaves fewer than there were.
+pub fn past_is_given_back()
+    ensures well_formed { (slots : ℕ) (m : Machine) → MachineWellFormed slots m
+        ↔ ((k : ℕ) → WellFormed slots (end_of slots m (undos k)).state) }
+    ensures events { (slots : ℕ) (m : Machine) → EventsBounded m ↔ ((k : ℕ)
+        → HasEventsUpTo (length (end_of slots m (undos k)).past) (end_of slots m (undos k)).state) }
+    ensures own { (slots floor : ℕ) (m : Machine) (cs : List Command)
+        → TakesBackItsOwn slots floor m cs ↔ ((k : ℕ) → 0 < k → k ≤ length cs
+        → floor ≤ length (end_of slots m (take k cs)).past) }
+{}
+
+/// No total of a group is above the bound exactly where no group has one that is.
+pub fn bounded_totals()
+    ensures { (n : ℕ) (s : State) → HasEventsUpTo n s ↔ ((p : Path)
+        → asks (λ attr. ltb n attr.local || ltb n attr.total) (get s.groups p) ≡ false) }
 {}

@@ -12,12 +12,14 @@ ghost use Rattle.std.specs.Prelude.{
   Some,
   None,
   length,
+  ltb,
   sum_by,
 };
-ghost use Rattle.std.specs.FinMap.{get};
+ghost use Rattle.std.specs.FinMap.{get, len};
 ghost use Rattle.flat_model.specs.Path.{Path, at_or_below, parent};
 ghost use Rattle.flat_model.specs.State.{State, Attr, Unlimited, start};
 ghost use Rattle.flat_model.specs.Counts.{
+  asks,
   is_group,
   current,
   populated,
@@ -26,12 +28,15 @@ ghost use Rattle.flat_model.specs.Counts.{
   children,
   IsInhabited,
 };
+ghost use Rattle.flat_model.specs.File.{Procs};
 ghost use Rattle.flat_model.specs.Command.{
   Command,
   MakeGroup,
   Fork,
   Kill,
+  Show,
   Refusal,
+  NoSlot,
   Descendants,
   Depth,
   OverPidsMax,
@@ -129,4 +134,18 @@ pub fn limits_are_exact()
         → refusal slots s (MakeGroup p) ≡ Some (Descendants a) → MeetsDescendants s (parent p) a }
     ensures depth { (slots : ℕ) (s : State) (p a : Path)
         → refusal slots s (MakeGroup p) ≡ Some (Depth a) → MeetsDepth s (parent p) a }
+{}
+
+/// What a well-formed state promises: each group above a group is there, each process is in a group
+/// that shows it, a group is refused for want of a slot only when each slot has one, and no group
+/// counts more events of its own than in all.
+pub fn well_formed_is_closed()
+    ensures groups { (slots : ℕ) (s : State) (p q : Path) → WellFormed slots s
+        → is_group s p ≡ true → at_or_below p q ≡ true → is_group s q ≡ true }
+    ensures homes { (slots : ℕ) (s : State) (pid : ℕ) → WellFormed slots s
+        → refusal slots s (Show (home_of s pid) Procs) ≡ None }
+    ensures slots { (slots : ℕ) (s : State) (p : Path) → WellFormed slots s
+        → refusal slots s (MakeGroup p) ≡ Some NoSlot → len s.groups ≡ slots + 1 }
+    ensures totals { (slots : ℕ) (s : State) (g : Path) → WellFormed slots s
+        → asks (λ attr. ltb attr.total attr.local) (get s.groups g) ≡ false }
 {}

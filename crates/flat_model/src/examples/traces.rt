@@ -200,6 +200,17 @@ pub fn mkdir_refusals_in_order()
         ++ codes "5 refused descendants /\n6 ok\n7 refused noslot\n" }
 {}
 
+/// A limit of 0 at the root refuses the first group: on descendants, on both at once as on
+/// descendants, and on depth. A depth of 1 refuses a group in it.
+pub fn first_group_is_refused()
+    ensures { answers 256 (codes "write / cgroup.max.descendants 0\nmkdir /a\n"
+        ++ codes "write / cgroup.max.depth 0\nmkdir /a\n"
+        ++ codes "write / cgroup.max.descendants max\nmkdir /a\n"
+        ++ codes "write / cgroup.max.depth 1\nmkdir /a\nmkdir /a/b\n")
+        ≡ codes "1 ok\n2 refused descendants /\n3 ok\n4 refused descendants /\n5 ok\n"
+        ++ codes "6 refused depth /\n7 ok\n8 ok\n9 refused depth /\n" }
+{}
+
 /// Of two limits that a new group meets, the nearest refuses it; at one group descendants do.
 pub fn nearest_limit()
     ensures { answers 256 (codes "mkdir /a\nmkdir /a/b\nwrite / cgroup.max.descendants 2\n"
