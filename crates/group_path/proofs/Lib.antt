@@ -5,3 +5,4 @@ mod Fronts
 mod Answered
 mod Below
 mod SameTexts
+mod FaultLaws
