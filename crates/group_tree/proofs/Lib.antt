@@ -22,3 +22,5 @@ mod Upward
 mod LimitsMet
 mod LimitsUpward
 mod InPlace
+mod SituationLaws
+mod FlatLaws

@@ -18,7 +18,8 @@
 //! Not promised: that a count of descendants is exact in a tree of 2^64 groups or more (it is taken modulo 2^64), and how
 //! much memory a tree takes.
 //!
-//! `specs/Groups.antt` says what each call reads and leaves, `specs/Flat.antt` how this is the flat state of `flat_model`.
+//! `specs/Groups.antt` says what each call reads and leaves, `specs/Flat.antt` how this is the flat state of `flat_model`, and
+//! `laws` what these definitions tell.
 #![tactic(auto)]
 
 mod along;
@@ -28,6 +29,7 @@ mod copy;
 mod events;
 mod fault;
 mod insert;
+pub mod laws;
 mod limits;
 mod node;
 mod remove;

@@ -1,0 +1,10 @@
+use Rattle.group_tree.proofs.SituationLaws.{root_is, absent_is, children_is, removed_is}
+use Rattle.group_tree.proofs.laws.faults_of_a_removal.Goals as goal
+
+pub returns : goal.returns
+returns c = record {
+  root = root_is;
+  absent = absent_is;
+  children = children_is;
+  removed = removed_is;
+}
