@@ -279,7 +279,7 @@ pub record Found (P : Path → Bool) (es : List (ℕ × Path)) : Type 0 where
   pub home : find nat_cmp pid es ≡ Some at
   pub passes : P at ≡ true
 
-found_by : (P : Path → Bool) (es : List (ℕ × Path)) → T (is_sorted nat_cmp es) → 0 < count_by P (map (λ e. e.1) es) → Found P es
+pub found_by : (P : Path → Bool) (es : List (ℕ × Path)) → T (is_sorted nat_cmp es) → 0 < count_by P (map (λ e. e.1) es) → Found P es
 found_by P [] s h = absurd (omega arith)
 found_by P (e ∷ es) s h =
     let two = halves (below_all nat_cmp e.0 es) (is_sorted nat_cmp es) s in
@@ -290,7 +290,7 @@ found_by P (e ∷ es) s h =
           record { pid = r.pid; at = r.at; home = find_later e es r.pid r.at s r.home; passes = r.passes }
     ] refl c
 
-counted_by : (P : Path → Bool) (es : List (ℕ × Path)) (pid : ℕ) (at : Path) → find nat_cmp pid es ≡ Some at → P at ≡ true → 0 < count_by P (map (λ e. e.1) es)
+pub counted_by : (P : Path → Bool) (es : List (ℕ × Path)) (pid : ℕ) (at : Path) → find nat_cmp pid es ≡ Some at → P at ≡ true → 0 < count_by P (map (λ e. e.1) es)
 counted_by P [] pid at f t = cc
 counted_by P (e ∷ es) pid at f t =
     let c = count_by-cons P e.1 (map (λ x. x.1) es) in

@@ -16,6 +16,7 @@ pub mod Limits
 pub mod HierarchyLimits
 pub mod LimitsExact
 pub mod HierarchyLimitsExact
+pub mod AcceptedLaws
 pub mod Undoing
 pub mod Reachable
 pub mod Descendants
