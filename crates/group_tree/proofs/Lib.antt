@@ -24,3 +24,4 @@ mod LimitsUpward
 mod InPlace
 mod SituationLaws
 mod FlatLaws
+mod ClosedLaws

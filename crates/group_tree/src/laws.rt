@@ -3,7 +3,7 @@
 ghost use Rattle.std.specs.Prelude.{◌≡◌, ◌≢◌, ℕ, ◌+◌, ◌^◌, ◌-◌, ◌<◌, ◌≤◌, ◌↔◌, ◌⊎◌, Bool, true, false, [], ◌∷◌, length, Some, None, IsSome, is_some, option_map, Result, Ok, Err, codes};
 ghost use Rattle.std.specs.List.{list_any};
 ghost use Rattle.std.specs.FinMap.{get, insert, remove, keys};
-ghost use Rattle.flat_model.specs.Path.{Name, Path, parent, strictly_below};
+ghost use Rattle.flat_model.specs.Path.{Name, Path, parent, at_or_below, strictly_below};
 ghost use Rattle.flat_model.specs.Counts.{reaches, is_group, has_process};
 ghost use Rattle.flat_model.specs.File.{LimitOf, file_name};
 ghost use Rattle.flat_model.specs.Step.{limit_at, count_up, count_down};
@@ -17,7 +17,7 @@ ghost use Rattle.group_tree.specs.declared.events.Change.TheVariants.{Raise, Low
 ghost use Rattle.group_tree.specs.declared.fault.TreeFault.{TreeFault};
 ghost use Rattle.group_tree.specs.declared.fault.TreeFault.TheVariants.{Exists, NoParent, NoGroup, HasChildren, RootFixed, OutOfMemory};
 ghost use Rattle.group_tree.specs.declared.limits.MetLimit.{MetLimit};
-ghost use Rattle.group_tree.specs.Groups.{Groups, HasBelow, HasNoneBelow, Inserts, Sets, Removes, chain_of};
+ghost use Rattle.group_tree.specs.Groups.{Groups, IsClosed, only_root, HasBelow, HasNoneBelow, Inserts, Sets, Removes, chain_of};
 ghost use Rattle.group_tree.specs.Along.{groups_down, along_of};
 ghost use Rattle.group_tree.specs.Flat.{limit_of, limit_file_of, group_of};
 ghost use Rattle.group_tree.specs.Refusals.{Counts, HasRoomForRefusals, counted_by, stepped};
@@ -91,4 +91,11 @@ pub fn three_groups()
     ensures along { (m : Groups) (a b c : Name) (x y z : Attr) → get m (a ∷ []) ≡ Some x → get m (a ∷ b ∷ []) ≡ Some y → get m (a ∷ b ∷ c ∷ []) ≡ Some z → along_of m (a ∷ b ∷ c ∷ []) ≡ x ∷ y ∷ z ∷ [] }
     ensures some_along { (m : Groups) (a b c : Name) (x y : Attr) → get m (a ∷ []) ≡ Some x → get m (a ∷ b ∷ []) ≡ Some y → get m (a ∷ b ∷ c ∷ []) ≡ None → along_of m (a ∷ b ∷ c ∷ []) ≡ x ∷ y ∷ [] }
     ensures root_along { (m : Groups) → along_of m [] ≡ [] }
+{}
+
+/// A new tree has the root alone, with what it was given. Each tree has the root, and each group above one of its groups.
+pub fn trees_are_closed()
+    ensures alone { (a x : Attr) (p : Path) → (get (only_root a) p ≡ Some x) ↔ ((p ≡ []) × (x ≡ a)) }
+    ensures root { (m : Groups) → IsClosed m → is_group (without_processes m) [] ≡ true }
+    ensures above { (m : Groups) (p q : Path) → IsClosed m → IsSome (get m p) → at_or_below p q ≡ true → IsSome (get m q) }
 {}
