@@ -1,15 +1,13 @@
-//! The laws of limits, exactly: what a limit lets through, what it refuses, and what is counted of
-//! a refusal.
+//! The laws of refusals, exactly: which commands are accepted, what a limit lets through and what
+//! it refuses, and what is counted of a refusal.
 
-ghost use Rattle.std.specs.Prelude.{◌≡◌, ◌≢◌, ℕ, ◌≤◌, ◌↔◌, true, false, [], ◌∷◌, Some, None};
+ghost use Rattle.std.specs.Prelude.{◌≡◌, ◌≢◌, ℕ, ◌≤◌, ◌↔◌, true, false, [], Some, None};
 ghost use Rattle.std.specs.FinMap.{get, len};
 ghost use Rattle.flat_model.specs.Path.{Path, at_or_below, strictly_below, is_root, parent};
 ghost use Rattle.flat_model.specs.State.{State, Attr, Limit};
 ghost use Rattle.flat_model.specs.Counts.{
   current,
-  descendant_count,
   exceeds,
-  reaches,
   asks,
   is_group,
   has_process,

@@ -1,6 +1,6 @@
 //! The laws of what calls answer and leave, and of what the tree's values are in the flat state.
 
-ghost use Rattle.std.specs.Prelude.{◌≡◌, ◌≢◌, ℕ, ◌+◌, ◌^◌, ◌-◌, ◌<◌, ◌≤◌, ◌↔◌, ◌⊎◌, Bool, true, false, [], ◌∷◌, length, Some, None, IsSome, is_some, option_map, Result, Ok, Err, codes};
+ghost use Rattle.std.specs.Prelude.{◌≡◌, ◌≢◌, ℕ, ◌^◌, ◌-◌, ◌<◌, ◌≤◌, ◌↔◌, ◌⊎◌, Bool, true, false, [], ◌∷◌, length, Some, None, IsSome, is_some, option_map, Result, Ok, Err, codes};
 ghost use Rattle.std.specs.List.{list_any};
 ghost use Rattle.std.specs.FinMap.{get, insert, remove, keys};
 ghost use Rattle.flat_model.specs.Path.{Name, Path, parent, at_or_below, strictly_below};
@@ -11,7 +11,6 @@ ghost use Rattle.flat_model.specs.Mapped.{map_values};
 ghost use Rattle.group_tree.specs.declared.attr.Attr.{Attr};
 ghost use Rattle.group_tree.specs.declared.attr.Limit.{Limit};
 ghost use Rattle.group_tree.specs.declared.attr.Limit.TheVariants.{Unlimited, At};
-ghost use Rattle.group_tree.specs.declared.attr.LimitFile.{LimitFile};
 ghost use Rattle.group_tree.specs.declared.attr.LimitFile.TheVariants.{PidsMax, MaxDescendants, MaxDepth};
 ghost use Rattle.group_tree.specs.declared.events.Change.TheVariants.{Raise, Lower};
 ghost use Rattle.group_tree.specs.declared.fault.TreeFault.{TreeFault};
