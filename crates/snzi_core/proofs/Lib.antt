@@ -15,3 +15,4 @@ pub mod Splitting
 pub mod Joining
 pub mod Ready
 pub mod Keeps
+pub mod Told

@@ -1,0 +1,36 @@
+-- Small cores, each written out, at which the refusals are computed.
+use Rattle.std.specs.Prelude.{ℕ, List, [], ◌∷◌}
+use Rattle.snzi_core.specs.declared.event.At.{At}
+use Rattle.snzi_core.specs.declared.event.Token.{Token}
+use Rattle.snzi_core.specs.declared.holding.Role.TheVariants.{Main, Helper}
+use Rattle.snzi_core.specs.State.{State}
+
+-- one slot of three nodes and two stripes: main has n helpers out and these tokens, and hand 1 is a helper with those
+abbrev pub core : List ℕ → ℕ → List ℕ → List ℕ → State
+core words n mine theirs = record {
+  slots = 1;
+  nodes = 3;
+  words = words;
+  hands = record { role = Main n; tokens = mine; amounts = 0 ∷ 0 ∷ 0 ∷ 0 ∷ 0 ∷ [] } ∷ record { role = Helper; tokens = theirs; amounts = 0 ∷ 0 ∷ 0 ∷ 0 ∷ 0 ∷ [] } ∷ [];
+}
+
+abbrev pub at : ℕ → ℕ → At
+at slot node = record { slot = slot; node = node }
+
+abbrev pub token : ℕ → ℕ → Token
+token slot leaf = record { slot = slot; leaf = leaf }
+
+-- as many tokens as one hand may have at a node
+abbrev pub full : ℕ
+full = 1099511627776
+
+-- main and the helper have as many tokens at each node as they may, and no helper more may be out: with words that are zero, and that are 1
+abbrev pub crowded : State
+crowded = core (0 ∷ 0 ∷ 0 ∷ 0 ∷ 0 ∷ []) 65535 (full ∷ full ∷ full ∷ 0 ∷ 0 ∷ []) (full ∷ full ∷ full ∷ 0 ∷ 0 ∷ [])
+
+abbrev pub filled : State
+filled = core (1 ∷ 1 ∷ 1 ∷ 0 ∷ 0 ∷ []) 65535 (full ∷ full ∷ full ∷ 0 ∷ 0 ∷ []) (full ∷ full ∷ full ∷ 0 ∷ 0 ∷ [])
+
+-- main may have one token more at each node, and one helper more may be out; the helper has a token at each leaf
+abbrev pub roomy : State
+roomy = core (1 ∷ 1 ∷ 1 ∷ 0 ∷ 0 ∷ []) 65534 (1099511627775 ∷ 1099511627775 ∷ 1099511627775 ∷ 0 ∷ 0 ∷ []) (0 ∷ 1 ∷ 1 ∷ 0 ∷ 0 ∷ [])
