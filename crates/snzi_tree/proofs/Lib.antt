@@ -9,3 +9,5 @@ pub mod Places
 pub mod Leaves
 pub mod Given
 pub mod Amounts
+pub mod Deeper
+pub mod Counted

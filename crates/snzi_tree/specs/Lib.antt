@@ -3,3 +3,4 @@ pub mod Tell
 pub mod Hands
 pub mod Depths
 pub mod Contents
+pub mod Examples

@@ -22,12 +22,14 @@
 //!
 //! The definitions stand in `specs/`: the rule and what a hand's seat knows (`View`), what each kind
 //! of step tells (`Tell`), words of a hand (`Hands`), by slots, leaves and stripes (`Contents`), and
-//! the bounds (`Depths`). Balance, caps and presence are `snzi_core`'s.
+//! the bounds (`Depths`). Balance, caps and presence are `snzi_core`'s. The contracts of the module
+//! `laws` are laws of these definitions, with hands written out (`Examples`).
 #![tactic(auto)]
 
 mod board;
 mod hand;
 mod hands;
+pub mod laws;
 mod plays;
 mod query;
 mod steps;
