@@ -2,6 +2,7 @@
 use Rattle.std.specs.Prelude.{ℕ, List, [], ◌∷◌}
 use Rattle.snzi_core.specs.declared.event.At.{At}
 use Rattle.snzi_core.specs.declared.event.Token.{Token}
+use Rattle.snzi_core.specs.declared.holding.Holding.{Holding}
 use Rattle.snzi_core.specs.declared.holding.Role.TheVariants.{Main, Helper}
 use Rattle.snzi_core.specs.State.{State}
 
@@ -34,3 +35,7 @@ filled = core (1 ∷ 1 ∷ 1 ∷ 0 ∷ 0 ∷ []) 65535 (full ∷ full ∷ full �
 -- main may have one token more at each node, and one helper more may be out; the helper has a token at each leaf
 abbrev pub roomy : State
 roomy = core (1 ∷ 1 ∷ 1 ∷ 0 ∷ 0 ∷ []) 65534 (1099511627775 ∷ 1099511627775 ∷ 1099511627775 ∷ 0 ∷ 0 ∷ []) (0 ∷ 1 ∷ 1 ∷ 0 ∷ 0 ∷ [])
+
+-- main with n helpers out
+abbrev pub main_with : ℕ → List ℕ → List ℕ → Holding
+main_with n tokens amounts = record { role = Main n; tokens = tokens; amounts = amounts }

@@ -1,16 +1,19 @@
 //! The laws of answers: what each answer of a step says, and which refusal an event meets first.
-ghost use Rattle.std.specs.Prelude.{◌≡◌, ◌≢◌, ℕ, ◌+◌, ◌<◌, ◌↔◌, List, [], ◌∷◌, Some, None, true, length};
+ghost use Rattle.std.specs.Prelude.{◌≡◌, ◌≢◌, ℕ, ◌+◌, ◌*◌, ◌/◌, ◌%◌, ◌^◌, ◌<◌, ◌≤◌, ◌↔◌, ◌⊎◌, List, [], ◌∷◌, Some, None, true, length};
 ghost use denote.Bor.{Bor};
 ghost use Rattle.snzi_core.specs.declared.event.Event.{Event};
 ghost use Rattle.snzi_core.specs.declared.event.Event.TheVariants.{Load, FastAdd, RootAdd, ChildAdd, Leave, StripeAdd, Split, Join};
 ghost use Rattle.snzi_core.specs.declared.event.Token.{Token};
+ghost use Rattle.snzi_core.specs.declared.holding.Holding.{Holding};
+ghost use Rattle.snzi_core.specs.declared.holding.Role.TheVariants.{Main, Helper, Spent};
 ghost use Rattle.snzi_core.specs.declared.unlawful.Unlawful.{Unlawful};
 ghost use Rattle.snzi_core.specs.declared.unlawful.Unlawful.TheVariants.{NoHand, NoToken, Cap, StillHolding, OutOfMemory, NoNode, ZeroNode};
-ghost use Rattle.snzi_core.specs.State.{State, hand_of};
-ghost use Rattle.snzi_core.specs.Holding.{out};
+ghost use Rattle.snzi_core.specs.State.{State, IsRuled, hand_of, start};
+ghost use Rattle.snzi_core.specs.Holding.{put, added, merged, without, wrapped, held, gain, lose, raise, empty, main_weight, helper_weight, out, keeper, helper_with, rejoined};
+ghost use Rattle.snzi_core.specs.Kept.{HasTables, IsCore};
 ghost use Rattle.snzi_core.specs.Lawful.{refusal, refuses_split};
 ghost use Rattle.snzi_core.specs.Effect.{Refuses, Runs, Stops, after, is_split};
-ghost use Rattle.snzi_core.specs.Examples.{core, at, token, full, crowded, filled, roomy};
+ghost use Rattle.snzi_core.specs.Examples.{core, at, token, full, crowded, filled, roomy, main_with};
 
 /// An answer says one thing only. The refusal that an event meets is answered, and no other; where
 /// it meets none, want of memory alone may be answered, and only of a split, which alone makes a
@@ -98,4 +101,43 @@ pub fn lists_are_told_apart()
         → Stops k es j v b → i < j → u ≡ OutOfMemory }
     ensures inside { (k a : State) (es : List Event) (i : ℕ) (u : Unlawful) → Stops k es i u a
         → i < length es }
+{}
+
+/// How lists by the number of a word are changed, with numbers.
+pub fn lists_by_word_change()
+    ensures put { (put [] 2 7 ≡ 0 ∷ 0 ∷ 7 ∷ []) × (put (1 ∷ 2 ∷ 3 ∷ []) 1 7 ≡ 1 ∷ 7 ∷ 3 ∷ []) }
+    ensures added { (added [] ≡ 0) × (added (1 ∷ 20 ∷ 300 ∷ []) ≡ 321) }
+    ensures merged { (merged (1 ∷ 2 ∷ []) (10 ∷ 20 ∷ 30 ∷ []) ≡ 11 ∷ 22 ∷ 30 ∷ [])
+        × (merged (1 ∷ 2 ∷ 3 ∷ []) (10 ∷ []) ≡ 11 ∷ 2 ∷ 3 ∷ []) }
+    ensures without { (without (5 ∷ 5 ∷ 5 ∷ []) (1 ∷ 2 ∷ []) ≡ 4 ∷ 3 ∷ 5 ∷ []) × (without [] (1 ∷ []) ≡ []) }
+    ensures wrapped { wrapped (18446744073709551615 ∷ 18446744073709551616 ∷ 18446744073709551619 ∷ [])
+        ≡ 18446744073709551615 ∷ 0 ∷ 3 ∷ [] }
+{}
+
+/// What each change makes of a hand, with numbers: main with two helpers out, three words, and what
+/// it has at each.
+pub fn hands_change()
+    ensures gains { gain (main_with 2 (4 ∷ 0 ∷ 6 ∷ []) (0 ∷ 9 ∷ 0 ∷ [])) 2 ≡ main_with 2 (4 ∷ 0 ∷ 7 ∷ []) (0 ∷ 9 ∷ 0 ∷ []) }
+    ensures loses { lose (main_with 2 (4 ∷ 0 ∷ 6 ∷ []) (0 ∷ 9 ∷ 0 ∷ [])) 0 ≡ main_with 2 (3 ∷ 0 ∷ 6 ∷ []) (0 ∷ 9 ∷ 0 ∷ []) }
+    ensures raises { raise (main_with 2 (4 ∷ 0 ∷ 6 ∷ []) (0 ∷ 9 ∷ 0 ∷ [])) 1 18446744073709551610
+        ≡ main_with 2 (4 ∷ 0 ∷ 6 ∷ []) (0 ∷ 3 ∷ 0 ∷ []) }
+    ensures keeps { keeper (main_with 2 (4 ∷ 0 ∷ 6 ∷ []) (0 ∷ 9 ∷ 0 ∷ [])) (1 ∷ 0 ∷ 6 ∷ [])
+        ≡ main_with 3 (3 ∷ 0 ∷ 0 ∷ []) (0 ∷ 9 ∷ 0 ∷ []) }
+    ensures rejoins { rejoined (main_with 2 (4 ∷ 0 ∷ 6 ∷ []) (0 ∷ 9 ∷ 0 ∷ [])) (helper_with (1 ∷ 0 ∷ 2 ∷ []) (0 ∷ 18446744073709551610 ∷ 0 ∷ []))
+        ≡ main_with 1 (5 ∷ 0 ∷ 8 ∷ []) (0 ∷ 3 ∷ 0 ∷ []) }
+    ensures helper { ((helper_with (1 ∷ []) []).role ≡ Helper) × (held (helper_with (1 ∷ 2 ∷ []) (5 ∷ [])) ≡ 3) }
+    ensures roles { (n : ℕ) → (main_weight (Main n) ≡ 1) × (main_weight Helper ≡ 0) × (main_weight Spent ≡ 0)
+        × (helper_weight (Main n) ≡ 0) × (helper_weight Helper ≡ 1) × (helper_weight Spent ≡ 0)
+        × (out (Main n) ≡ n) × (out Helper ≡ 0) × (out Spent ≡ 0) }
+{}
+
+/// A core has an odd number of nodes in a slot, and words and tables for its shape; hand 0 is main.
+pub fn cores_are_exact()
+    ensures words { (k : State) → IsCore k → length k.words ≡ k.slots * (k.nodes + (k.nodes + 1) / 2) }
+    ensures odd { (k : State) → IsCore k → (k.nodes % 2 ≡ 1) × (length k.hands < 2 ^ 32) }
+    ensures main { (k : State) → IsCore k → (n : ℕ) × ((hand_of k 0).role ≡ Main n) × (n ≤ 65535) }
+    ensures rule { (k : State) → IsCore k → IsRuled k }
+    ensures tables { (n : ℕ) (h : Holding) → HasTables n h → h.role ≢ Spent → (length h.tokens ≡ n) × (length h.amounts ≡ n) }
+    ensures spent { (n : ℕ) → HasTables n (empty Spent) }
+    ensures start { (slots nodes : ℕ) → (nodes ≡ 1) ⊎ (nodes ≡ 3) ⊎ (nodes ≡ 7) ⊎ (nodes ≡ 15) → IsCore (start slots nodes) }
 {}
