@@ -25,6 +25,7 @@ mod cat;
 mod fault;
 mod file;
 mod home;
+pub mod laws;
 mod limit;
 mod number;
 mod texts;
