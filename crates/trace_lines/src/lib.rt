@@ -18,6 +18,7 @@
 mod action;
 mod commands;
 mod fault;
+pub mod laws;
 mod line;
 mod lines;
 mod replies;
