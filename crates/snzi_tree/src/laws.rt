@@ -8,10 +8,12 @@ ghost use Rattle.snzi_core.specs.declared.event.Token.{Token};
 ghost use Rattle.snzi_core.specs.Holding.{tokens_at, amount_at, empty, main_weight};
 ghost use Rattle.snzi_core.specs.Changes.{Parts, Unites};
 ghost use Rattle.snzi_core.specs.Shape.{leaf_word};
+ghost use Rattle.snzi_tree.specs.declared.board.Board.{Board};
+ghost use Rattle.snzi_tree.specs.declared.board.Hand.{Hand};
 ghost use Rattle.snzi_tree.specs.declared.board.View.{View};
 ghost use Rattle.snzi_tree.specs.Contents.{one_at, share_at, IsWithin, AllInRange, count_at, content_of, tokens_in, AtLeaves, HasIn, amount_in, only_in, AddsIn};
 ghost use Rattle.snzi_tree.specs.Depths.{halved, OnPath, depth, leaf_depth, arrive_steps, depart_steps};
-ghost use Rattle.snzi_tree.specs.Hands.{counted, IsNodeWord, IsStripeWord, above, IsRootWord};
+ghost use Rattle.snzi_tree.specs.Hands.{counted, holds, IsHandOf, SameHand, IsMain, IsAlone, IsHelper, IsNodeWord, IsStripeWord, above, IsRootWord};
 ghost use Rattle.snzi_tree.specs.Tell.{looked, queried, summed, root_added, child_added, fast_added, left, added_on, staged, unstaged};
 ghost use Rattle.snzi_tree.specs.View.{Knows, IsBoard, Acts, first_view, planned, kept, given, joined, spent_view};
 ghost use Rattle.snzi_tree.specs.Examples.{hand, held_by, token};
@@ -141,4 +143,16 @@ pub fn views_are_exact()
     ensures bare { (v : View) → ((kept v).plan ≡ []) × ((given v).plan ≡ []) }
     ensures join { (v k : View) → main_weight v.holding.role ≡ 1 → k.holding.role ≡ Helper
         → Unites v.holding k.holding (joined v k).holding × ((joined v k).plan ≡ v.plan) }
+{}
+
+/// A hand is main or a helper, never both; main may be alone. Whether a hand is of a board hangs on
+/// which hand it is alone.
+pub fn hands_are_told_apart()
+    ensures alone { (h : Hand) → IsAlone h → IsMain h × ¬ (IsHelper h) }
+    ensures main { (h : Hand) → IsMain h → (n : ℕ) × ((holds h).role ≡ Main n) }
+    ensures helper { (h : Hand) → IsHelper h → ¬ (IsMain h) × ¬ (IsAlone h) }
+    ensures board { (G W L : ℕ) (board : Board G W L) (a b : Hand) → SameHand a b
+        → IsHandOf board a ↔ IsHandOf board b }
+    ensures same { (a b c : Hand) → SameHand a a × (SameHand a b → SameHand b a)
+        × (SameHand a b → SameHand b c → SameHand a c) }
 {}
