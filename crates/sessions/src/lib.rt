@@ -21,6 +21,7 @@
 //!
 //! What a log, a receipt and their faults are stands in `flat_model` (`specs/Log.antt`,
 //! `specs/Audit.antt`); what a call leaves of its session in `specs/Ran.antt`.
+//! The functions in `laws` do nothing: each says in its contract what these definitions say.
 #![tactic(auto)]
 
 mod auditing;
@@ -30,6 +31,7 @@ mod desk;
 mod entry;
 mod fault;
 mod hall;
+pub mod laws;
 mod session;
 mod shared;
 mod step;

@@ -1,0 +1,134 @@
+//! What the definitions of `specs/` say of a call of a session and of the answer of an audit. Each
+//! function says a law in its contract and does nothing.
+
+ghost use Rattle.std.specs.Prelude.{
+  ◌≡◌,
+  ◌≢◌,
+  ◌⊎◌,
+  ◌↔◌,
+  ◌++◌,
+  ◌∷◌,
+  ◌+◌,
+  ℕ,
+  List,
+  [],
+  Some,
+  None,
+  Ok,
+  Err,
+  length,
+};
+ghost use denote.Ref.{Bor};
+ghost use Rattle.std.specs.declared.alloc.Global.{Global};
+ghost use Rattle.flat_model.specs.Audit.{AreEntries};
+ghost use Rattle.flat_model.specs.AuditExamples.{Exchange, entry, receipt, session, three};
+ghost use Rattle.flat_model.specs.Command as model;
+ghost use Rattle.flat_model.specs.Log.{Entry, Receipt, Session};
+ghost use Rattle.undo_journal.specs.declared.reply.Reply.{Reply};
+ghost use Rattle.undo_journal.specs.declared.reply.Reply.TheVariants as reply;
+ghost use Rattle.undo_journal.specs.Meaning.{reply_of};
+ghost use Rattle.sessions.specs.declared.fault.CloseFault.{CloseFault};
+ghost use Rattle.sessions.specs.declared.fault.CloseFault.TheVariants as fault;
+ghost use Rattle.sessions.specs.declared.fault.RunFault.{RunFault};
+ghost use Rattle.sessions.specs.declared.fault.RunFault.TheVariants as run_fault;
+ghost use Rattle.sessions.specs.Faults.{IsFirstFault};
+ghost use Rattle.sessions.specs.Meaning.{slots, answer_of};
+ghost use Rattle.sessions.specs.Ran.{Last, LastAt, Ran, RanAt};
+ghost use Rattle.sessions.specs.Served.{Appends, AppendsAt, IsLate, NamesNoTurn};
+
+/// A call that ran leaves the session its number and its receipts, and behind them one more, which
+/// is the one that is given and of the command that was run. A call that failed leaves the session
+/// as it was.
+pub fn receipts_of_a_call()
+    ensures ran { (c : model.Command) (before after : Session) (r : Bor Receipt)
+        → Ran c before after (Ok r) ↔ ((after.number ≡ before.number)
+        × (after.receipts ≡ before.receipts ++ r.now ∷ []) × (r.now.command ≡ c)) }
+    ensures one_more { (c : model.Command) (before after : Session) (r : Bor Receipt)
+        → Ran c before after (Ok r)
+        → length after.receipts ≡ length before.receipts + 1 }
+    ensures failed { (c : model.Command) (before after : Session) (e : RunFault)
+        → Ran c before after (Err e)
+        ↔ ((after.number ≡ before.number) × (after.receipts ≡ before.receipts)) }
+    ensures last { (c : model.Command) (before after : Session)
+        → Last c before after ↔ ((n : ℕ) × (answer : model.Reply)
+        × (after ≡ session before.number (before.receipts
+        ++ record { number = n; command = c; reply = answer } ∷ []))) }
+    ensures appended { (c : model.Command) (before after : List Receipt)
+        → Appends c before after ↔ ((n : ℕ) × (answer : model.Reply)
+        × (after ≡ before ++ record { number = n; command = c; reply = answer } ∷ [])) }
+{}
+
+/// A call at a turn leaves the same, and the receipt's number is the turn.
+pub fn receipts_of_a_call_at_a_turn()
+    ensures ran { (turn : ℕ) (c : model.Command) (before after : Session) (r : Bor Receipt)
+        → RanAt turn c before after (Ok r) ↔ ((after.number ≡ before.number)
+        × (after.receipts ≡ before.receipts ++ r.now ∷ [])
+        × (r.now ≡ record { number = turn; command = c; reply = r.now.reply })) }
+    ensures one_more { (turn : ℕ) (c : model.Command) (before after : Session) (r : Bor Receipt)
+        → RanAt turn c before after (Ok r) → Ran c before after (Ok r) }
+    ensures failed { (turn : ℕ) (c : model.Command) (before after : Session) (e : RunFault)
+        → RanAt turn c before after (Err e)
+        ↔ ((after.number ≡ before.number) × (after.receipts ≡ before.receipts)) }
+    ensures last { (turn : ℕ) (c : model.Command) (before after : Session)
+        → LastAt turn c before after ↔ ((answer : model.Reply)
+        × (after ≡ session before.number (before.receipts
+        ++ record { number = turn; command = c; reply = answer } ∷ []))) }
+    ensures appended { (turn : ℕ) (c : model.Command) (before after : List Receipt)
+        → AppendsAt turn c before after ↔ ((answer : model.Reply)
+        × (after ≡ before ++ record { number = turn; command = c; reply = answer } ∷ [])) }
+{}
+
+/// A turn has passed where the log has an entry of its number: with five entries turn 4 has passed,
+/// and turn 5 has not. A call without a turn is never told that one has passed, and the other two
+/// faults say nothing of turns.
+pub fn turns_that_passed()
+    ensures exactly { (turn len : ℕ) → IsLate turn (run_fault.TurnPassed len)
+        ↔ ((k : ℕ) × (len ≡ turn + 1 + k)) }
+    ensures passed { IsLate 4 (run_fault.TurnPassed 5) }
+    ensures next { IsLate 5 (run_fault.TurnPassed 5) → ⊥ }
+    ensures later { IsLate 6 (run_fault.TurnPassed 5) → ⊥ }
+    ensures without_a_turn { (e : RunFault)
+        → NamesNoTurn e ↔ ((e ≡ run_fault.Halted) ⊎ (e ≡ run_fault.OutOfMemory)) }
+    ensures never { (len : ℕ) → NamesNoTurn (run_fault.TurnPassed len) → ⊥ }
+    ensures others { (turn : ℕ) (e : RunFault) → NamesNoTurn e → IsLate turn e }
+{}
+
+/// Of the faults but want of memory one at most is the first, and none is where the receipts are
+/// the log's entries. Where they are not, there is one. Want of memory may be told of any receipts.
+pub fn first_faults()
+    ensures one { (n : ℕ) (log : List Entry) (ss : List Session) (f g : CloseFault)
+        → f ≢ fault.OutOfMemory → g ≢ fault.OutOfMemory
+        → IsFirstFault n log ss f → IsFirstFault n log ss g → f ≡ g }
+    ensures none { (n : ℕ) (log : List Entry) (ss : List Session) (f : CloseFault)
+        → AreEntries n log ss → IsFirstFault n log ss f → f ≡ fault.OutOfMemory }
+    ensures found { (n : ℕ) (log : List Entry) (ss : List Session) → AreEntries n log ss
+        ⊎ ((f : CloseFault) × (f ≢ fault.OutOfMemory) × IsFirstFault n log ss f) }
+    ensures memory { (n : ℕ) (log : List Entry) (ss : List Session)
+        → IsFirstFault n log ss fault.OutOfMemory }
+{}
+
+/// Of three commands by the sessions 0, 1 and 0: a receipt taken out is missing, one with another
+/// reply differs, and one with a number past the log is its session's stranger.
+pub fn first_faults_of_three()
+    ensures missing { (a b c : Exchange)
+        → IsFirstFault 2 (three a b c) (session 0 (receipt 0 a ∷ [])
+        ∷ session 1 (receipt 1 b ∷ []) ∷ []) (fault.Missing 2) }
+    ensures differs { (a b c x : Exchange) → x.reply ≢ b.reply
+        → IsFirstFault 2 (three a b c) (session 0 (receipt 0 a ∷ receipt 2 c ∷ [])
+        ∷ session 1 (receipt 1 x ∷ []) ∷ []) (fault.Mismatch 1) }
+    ensures stranger { (a b c : Exchange)
+        → IsFirstFault 2 (three a b c) (session 0 (receipt 0 a ∷ receipt 3 c ∷ [])
+        ∷ session 1 (receipt 1 b ∷ []) ∷ []) (fault.Stranger 0) }
+{}
+
+/// There are 256 slots under a desk.
+pub fn slots_of_a_desk()
+    ensures { slots ≡ 256 }
+{}
+
+/// The answer in an entry or a receipt is the reply that was given.
+pub fn answers_that_are_kept()
+    ensures same { (r : Reply Global) → reply_of r ≢ None → Some (answer_of r) ≡ reply_of r }
+    ensures done { answer_of {A = Global} reply.Done ≡ model.Done }
+    ensures nothing { answer_of {A = Global} reply.NothingToUndo ≡ model.NothingToUndo }
+{}
