@@ -4,3 +4,4 @@ pub mod CommandLines
 pub mod RunJoins
 pub mod ScriptLaws
 pub mod Rehearsals
+mod ToldAnswers

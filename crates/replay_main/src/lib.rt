@@ -21,13 +21,15 @@
 //!
 //! What a replay leaves stands in `specs/Replayed.antt`, what the program leaves and its statuses
 //! in `specs/Program.antt`, what a whole read and a whole write leave in `specs/Device.antt`, and
-//! what a command line asks for in `specs/Asks.antt`.
+//! what a command line asks for in `specs/Asks.antt`. The functions in `laws` do
+//! nothing: each says in its contract what these definitions say.
 #![tactic(auto)]
 
 mod arguments;
 mod device;
 mod fault;
 mod input;
+pub mod laws;
 mod logged;
 mod memory;
 mod output;
