@@ -9,3 +9,5 @@ mod Undone
 mod Alls
 mod Answering
 mod Copies
+mod HistoryLaws
+mod MeaningLaws

@@ -28,6 +28,7 @@
 //! What a command, a reply and a record mean stands in `specs/Meaning.antt`; that a reply is the machine's in
 //! `specs/Answer.antt`; what each answered command promises of undoing and counting, and what the undoing of everything
 //! leaves, in `specs/Headline.antt`; what a journal says of the states before in `specs/History.antt`.
+//! The functions in `laws` do nothing: each says in its contract what these definitions say.
 #![tactic(auto)]
 
 mod bytes;
@@ -40,6 +41,7 @@ mod fork;
 mod inverse;
 mod journal;
 mod kill;
+pub mod laws;
 mod limit;
 mod locate;
 mod migrate;
