@@ -29,7 +29,11 @@ ghost use Rattle.flat_model.specs.Trace.{Word, cat_of, line_of, path_word, write
 ghost use Rattle.flat_model.specs.Trace as trace;
 ghost use Rattle.undo_journal.specs.Meaning.{command_of};
 ghost use Rattle.undo_journal.specs.declared.command.Command.{Command};
+ghost use Rattle.group_tree.specs.declared.attr.Limit.TheVariants as limits;
+ghost use Rattle.group_tree.specs.declared.attr.LimitFile.TheVariants as limit_files;
+ghost use Rattle.interface_files.specs.declared.file.File.TheVariants as files;
 ghost use Rattle.trace_lines.specs.declared.action.Action.{Action};
+ghost use Rattle.trace_lines.specs.declared.action.Action.TheVariants as actions;
 ghost use Rattle.trace_lines.specs.declared.fault.TextFault.{TextFault};
 ghost use Rattle.trace_lines.specs.declared.fault.TextFault.TheVariants as text;
 ghost use Rattle.trace_lines.specs.declared.fault.Unread.{Unread};
@@ -128,6 +132,11 @@ pub fn actions_are_told_apart()
         × (show_at p (codes "pids") ≡ Err trace.BadFile)
         × (show_at p (codes "cgroup.kill") ≡ Err trace.BadDirection) }
     ensures one { (p q : Path) (a b : Action) → command_at p a ≡ command_at q b → (p ≡ q) × (a ≡ b) }
+    ensures kinds { (p : Path) → (command_at p (actions.Move 7) ≡ model.Move p 7)
+        × (command_at p actions.Kill ≡ model.Kill p)
+        × (command_at p (actions.Show files.Stat) ≡ model.Show p model_file.Stat)
+        × (command_at p (actions.SetLimit limit_files.MaxDepth (limits.At 5))
+        ≡ model.SetLimit p model_file.MaxDepth (model_state.At 5)) }
 {}
 
 /// Words are taken where there are just so many.
