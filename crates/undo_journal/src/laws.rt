@@ -8,6 +8,7 @@ ghost use Rattle.std.specs.Prelude.{
   ◌≡◌,
   ◌≢◌,
   ◌<◌,
+  ◌≤◌,
   ◌↔◌,
   ◌++◌,
   ◌∷◌,
@@ -30,9 +31,27 @@ ghost use Rattle.std.specs.FinMap.{get};
 ghost use Rattle.std.specs.declared.alloc.AllocError.{AllocError};
 ghost use Rattle.std.specs.declared.alloc.Global.{Global};
 ghost use Rattle.flat_model.specs.Command as model;
-ghost use Rattle.flat_model.specs.Counts.{current, populated, members, children};
+ghost use Rattle.flat_model.specs.Counts.{
+  children,
+  current,
+  has_process,
+  is_group,
+  members,
+  populated,
+};
 ghost use Rattle.flat_model.specs.File.{LimitFile};
-ghost use Rattle.flat_model.specs.Inverse.{Inverse, back, inverse};
+ghost use Rattle.flat_model.specs.Inverse.{
+  Inverse,
+  Made,
+  Removed,
+  Forked,
+  Exited,
+  Moved,
+  Limited,
+  Counted,
+  back,
+  inverse,
+};
 ghost use Rattle.flat_model.specs.Machine.{
   Machine,
   TakesBackItsOwn,
@@ -42,9 +61,9 @@ ghost use Rattle.flat_model.specs.Machine.{
   tick,
   undos,
 };
-ghost use Rattle.flat_model.specs.Path.{Path, at_or_below};
-ghost use Rattle.flat_model.specs.State.{Limit, State, start};
-ghost use Rattle.flat_model.specs.Step.{after, after_refusal, refusal};
+ghost use Rattle.flat_model.specs.Path.{Path, at_or_below, parent};
+ghost use Rattle.flat_model.specs.State.{Attr, Limit, State, start};
+ghost use Rattle.flat_model.specs.Step.{after, refusal};
 ghost use Rattle.flat_model.specs.WellFormed.{MachineWellFormed};
 ghost use Rattle.undo_journal.specs.declared.journal.Entry.{Entry};
 ghost use Rattle.undo_journal.specs.declared.reply.Reply.{Reply};
@@ -57,7 +76,7 @@ ghost use Rattle.undo_journal.specs.Answer.{
   undoes_without_memory,
 };
 ghost use Rattle.undo_journal.specs.Headline.{IsReached, KeepsHistory, UndoesAll};
-ghost use Rattle.undo_journal.specs.History.{IsHistory, machine_of, records};
+ghost use Rattle.undo_journal.specs.History.{IsHistory, IsReady, machine_of, records};
 ghost use Rattle.undo_journal.specs.Meaning.{command_of, inverse_of, reply_of};
 
 /// An answer is one: the machine goes to one machine only, and there is one reply, which is never
@@ -188,6 +207,29 @@ pub fn journals_are_histories()
         ∷ (machine_of (back (inverse_of e.inverse) s) journal).past }
     ensures reached { (slots : ℕ) (s : State) (journal : List (Entry Global))
         → IsHistory slots s (records journal) → IsReached slots (machine_of s journal) }
+{}
+
+/// What a record takes back could be done by a command: a group that was made removed, a process
+/// that was made ended, one that was moved moved back, a limit set. A removed group has a place, and
+/// a process that has ended a group and its number.
+pub fn records_can_be_taken_back()
+    ensures made { (slots : ℕ) (m : Machine) (p : Path) → IsReady slots m.state (Made p)
+        → (tick slots m (model.RemoveGroup p)).1 ≡ model.Done }
+    ensures forked { (slots : ℕ) (m : Machine) (pid : ℕ) → IsReady slots m.state (Forked pid)
+        → (tick slots m (model.Exit pid)).1 ≡ model.Done }
+    ensures moved { (slots : ℕ) (m : Machine) (pid : ℕ) (p : Path)
+        → IsReady slots m.state (Moved pid p) → (tick slots m (model.Move p pid)).1 ≡ model.Done }
+    ensures limited { (slots : ℕ) (m : Machine) (p : Path) (file : LimitFile) (value : Limit)
+        → IsReady slots m.state (Limited p file value)
+        → (tick slots m (model.SetLimit p file value)).1 ≡ model.Done }
+    ensures removed { (slots : ℕ) (s : State) (p : Path) (x : Attr) → IsReady slots s (Removed p x)
+        → (is_group s p ≡ false) × (is_group s (parent p) ≡ true) }
+    ensures exited { (slots : ℕ) (s : State) (pid : ℕ) (p : Path) → IsReady slots s (Exited pid p)
+        → (has_process s pid ≡ false) × (is_group s p ≡ true) }
+    ensures counted { (slots : ℕ) (s : State) (a : Path) (x : Attr) → IsReady slots s (Counted a)
+        → get s.groups a ≡ Some x → 1 ≤ x.local }
+    ensures newest { (slots : ℕ) (s : State) (c : model.Command) (i : Inverse) (es : List (model.Command × Inverse))
+        → IsHistory slots s ((c, i) ∷ es) → IsReady slots s i }
 {}
 
 /// To take back a group or a process that was made, a limit that was set or a fork that was counted

@@ -8,13 +8,12 @@ ghost use Rattle.std.specs.Prelude.{
   ℕ,
   List,
   [],
-  Option,
   Some,
   None,
   codes,
   option_map,
 };
-ghost use Rattle.std.specs.FinMap.{get, insert};
+ghost use Rattle.std.specs.FinMap.{insert};
 ghost use Rattle.std.specs.declared.alloc.Global.{Global};
 ghost use Rattle.flat_model.specs.Command as model;
 ghost use Rattle.flat_model.specs.CommandText.{command_text};
