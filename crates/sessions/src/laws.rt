@@ -9,7 +9,11 @@ ghost use Rattle.std.specs.Prelude.{
   ◌++◌,
   ◌∷◌,
   ◌+◌,
+  ◌≤◌,
   ℕ,
+  Bool,
+  true,
+  false,
   List,
   [],
   Some,
@@ -17,6 +21,7 @@ ghost use Rattle.std.specs.Prelude.{
   Ok,
   Err,
   length,
+  vec_len,
 };
 ghost use denote.Ref.{Bor};
 ghost use Rattle.std.specs.declared.alloc.Global.{Global};
@@ -24,9 +29,13 @@ ghost use Rattle.flat_model.specs.Audit.{AreEntries};
 ghost use Rattle.flat_model.specs.AuditExamples.{Exchange, entry, receipt, session, three};
 ghost use Rattle.flat_model.specs.Command as model;
 ghost use Rattle.flat_model.specs.Log.{Entry, Receipt, Session};
+ghost use Rattle.flat_model.specs.Machine.{Machine};
+ghost use Rattle.undo_journal.specs.Answer.{Answers};
 ghost use Rattle.undo_journal.specs.declared.reply.Reply.{Reply};
 ghost use Rattle.undo_journal.specs.declared.reply.Reply.TheVariants as reply;
 ghost use Rattle.undo_journal.specs.Meaning.{reply_of};
+ghost use Rattle.sessions.specs.declared.book.Book.{Book};
+ghost use Rattle.sessions.specs.declared.hall.Hall.{Hall};
 ghost use Rattle.sessions.specs.declared.fault.CloseFault.{CloseFault};
 ghost use Rattle.sessions.specs.declared.fault.CloseFault.TheVariants as fault;
 ghost use Rattle.sessions.specs.declared.fault.RunFault.{RunFault};
@@ -34,7 +43,16 @@ ghost use Rattle.sessions.specs.declared.fault.RunFault.TheVariants as run_fault
 ghost use Rattle.sessions.specs.Faults.{IsFirstFault};
 ghost use Rattle.sessions.specs.Meaning.{slots, answer_of};
 ghost use Rattle.sessions.specs.Ran.{Last, LastAt, Ran, RanAt};
-ghost use Rattle.sessions.specs.Served.{Appends, AppendsAt, IsLate, NamesNoTurn};
+ghost use Rattle.sessions.specs.Marks.{AllClear, IsFirstClear};
+ghost use Rattle.sessions.specs.Served.{
+  AnswersTwice,
+  Appends,
+  AppendsAt,
+  IsEarly,
+  IsLate,
+  NamesNoTurn,
+  log_len,
+};
 
 /// A call that ran leaves the session its number and its receipts, and behind them one more, which
 /// is the one that is given and of the command that was run. A call that failed leaves the session
@@ -131,4 +149,36 @@ pub fn answers_that_are_kept()
     ensures same { (r : Reply Global) → reply_of r ≢ None → Some (answer_of r) ≡ reply_of r }
     ensures done { answer_of {A = Global} reply.Done ≡ model.Done }
     ensures nothing { answer_of {A = Global} reply.NothingToUndo ≡ model.NothingToUndo }
+{}
+
+/// The answer for the log and the one for the receipt are both the machine's, and so they are the
+/// same.
+pub fn answers_for_log_and_receipt()
+    ensures both { (old new : Machine) (c : model.Command) (r q : Reply Global)
+        → AnswersTwice old c r q new ↔ (Answers 256 old c r new × Answers 256 old c q new) }
+    ensures same { (old new : Machine) (c : model.Command) (r q : Reply Global)
+        → AnswersTwice old c r q new → reply_of r ≡ reply_of q }
+{}
+
+/// A turn is early where the log has fewer entries; never at a halted desk or a closed one, and
+/// never where it has passed.
+pub fn turns_that_are_early()
+    ensures exactly { (hall : Hall) (book : Book) (turn : ℕ) → hall.book ≡ Some book
+        → IsEarly hall turn ↔ ((hall.is_halted ≡ false) × (vec_len book.log + 1 ≤ turn)) }
+    ensures closed { (hall : Hall) (turn : ℕ) → hall.book ≡ None → IsEarly hall turn → ⊥ }
+    ensures halted { (hall : Hall) (turn : ℕ) → hall.is_halted ≡ true → IsEarly hall turn → ⊥ }
+    ensures not_late { (hall : Hall) (turn : ℕ) → IsEarly hall turn
+        → IsLate turn (run_fault.TurnPassed (log_len hall)) → ⊥ }
+    ensures no_log { (hall : Hall) → hall.book ≡ None → log_len hall ≡ 0 }
+{}
+
+/// The first number that is not marked is one at most, and is not past the marks.
+pub fn marks_of_an_audit()
+    ensures third { IsFirstClear (true ∷ true ∷ false ∷ false ∷ []) 2 }
+    ensures one { (marks : List Bool) (i j : ℕ) → IsFirstClear marks i → IsFirstClear marks j
+        → i ≡ j }
+    ensures all_marked { (i : ℕ) → IsFirstClear (true ∷ true ∷ []) i → ⊥ }
+    ensures clear { AllClear 3 (false ∷ false ∷ false ∷ []) }
+    ensures not_clear { AllClear 3 (false ∷ true ∷ false ∷ []) → ⊥ }
+    ensures as_many { (n : ℕ) (marks : List Bool) → AllClear n marks → length marks ≡ n }
 {}
