@@ -36,6 +36,10 @@ impl Model for BoardMeter {
 impl BoardMeter {
     /// An empty meter. Takes memory for the board's words, 2,816 of them; an error only where that
     /// is refused.
+    ///
+    /// # Errors
+    ///
+    /// `AllocError` where the memory was refused.
     pub fn new(alloc: Global) -> Result<BoardMeter, AllocError>
         ensures empty { IfOk result (λ m. IsEmpty (content_of NODES ROW m) (held m)) }
     {

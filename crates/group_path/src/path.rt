@@ -31,6 +31,10 @@ impl<A: Allocator + Clone> Model for GroupPath<A> {
 
 impl<A: Allocator + Clone> GroupPath<A> {
     /// The path of the root, `/`.
+    ///
+    /// # Errors
+    ///
+    /// `AllocError` where memory was wanting; a text as short as this one asks for none.
     pub fn root(alloc: A) -> Result<GroupPath<A>, AllocError>
         ensures { IfOk result (λ p. p ≡ []) }
     {
@@ -127,6 +131,10 @@ impl<A: Allocator + Clone> GroupPath<A> {
     }
 
     /// The path without its last name; None for the root, which takes no memory. Linear in the text.
+    ///
+    /// # Errors
+    ///
+    /// `AllocError` where memory was wanting.
     pub fn parent<B: Allocator + Clone>(&self, alloc: B) -> Result<Option<GroupPath<B>>, AllocError>
         ensures root { is_root self.now ≡ true → result ≡ Ok None }
         ensures group { IfOk result (λ p. p ≡ (if is_root self.now then None else Some (parent self.now))) }
@@ -141,6 +149,10 @@ impl<A: Allocator + Clone> GroupPath<A> {
     }
 
     /// The same path in other memory. Linear in the text.
+    ///
+    /// # Errors
+    ///
+    /// `AllocError` where memory was wanting.
     pub fn copy<B: Allocator + Clone>(&self, alloc: B) -> Result<GroupPath<B>, AllocError>
         ensures { IfOk result (λ p. p ≡ self.now) }
     {

@@ -193,6 +193,10 @@ impl<A: Allocator> GroupTree<A> {
     }
 
     /// The same tree in the memory of another allocator, in time linear in its groups and their names.
+    ///
+    /// # Errors
+    ///
+    /// `AllocError` where memory was wanting; what was copied is dropped then.
     pub fn copy<B: Allocator + Clone + Drop>(&self, alloc: B) -> Result<GroupTree<B>, AllocError>
         ensures { IfOk result (λ t. t ≡ self.now) }
     {
@@ -203,6 +207,10 @@ impl<A: Allocator> GroupTree<A> {
 
 impl<A: Allocator + Clone> GroupTree<A> {
     /// The tree of the root alone.
+    ///
+    /// # Errors
+    ///
+    /// `AllocError` where memory was wanting.
     pub fn new(alloc: A, root: Attr) -> Result<GroupTree<A>, AllocError>
         ensures { IfOk result (λ t. t ≡ only_root root) }
     {

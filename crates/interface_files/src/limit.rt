@@ -84,6 +84,10 @@ pub fn limit_file_name(file: LimitFile) -> &'static [u8]
 }
 
 /// A limit in text: `max`, or the number in decimal digits.
+///
+/// # Errors
+///
+/// `AllocError` where memory was wanting.
 pub fn limit_text<B: Allocator>(alloc: B, limit: Limit) -> Result<Vec<u8, B>, AllocError>
     ensures { IfOk result (λ text. text.items ≡ limit_text (limit_of limit)) }
 {

@@ -56,6 +56,10 @@ fn all_slots<A: Allocator>(alloc: A, slots: u16) -> Result<Vec<u16, A>, AllocErr
 
 impl<A: Allocator + Clone, M: Meter + Drop> Charges<A, M> {
     /// The root alone, and process 1 in it, over an empty meter. All slots are free, in a table that is made whole here.
+    ///
+    /// # Errors
+    ///
+    /// `AllocError` where memory was wanting; the meter is dropped then.
     pub fn new(alloc: A, meter: M) -> Result<Charges<A, M>, AllocError>
         requires { IsEmpty (M.content meter) (M.held meter) }
         ensures { IfOk result (λ c. c ≡ start) }

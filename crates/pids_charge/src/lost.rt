@@ -76,6 +76,10 @@ impl<A: Allocator + Clone> LostList<A> {
     }
 
     /// The same list in other memory, in time linear in its paths.
+    ///
+    /// # Errors
+    ///
+    /// `AllocError` where memory was wanting.
     pub fn copy<B: Allocator + Clone>(&self, alloc: B) -> Result<LostList<B>, AllocError>
         ensures { IfOk result (λ l. l ≡ self.now) }
     {

@@ -92,6 +92,10 @@ impl<A: Allocator> Model for PlainMeter<A> {
 
 impl<A: Allocator> PlainMeter<A> {
     /// An empty meter, in one block.
+    ///
+    /// # Errors
+    ///
+    /// `AllocError` where memory was wanting.
     pub fn new(alloc: A) -> Result<PlainMeter<A>, AllocError>
         ensures zeros { IfOk result (λ m. m ≡ replicate 256 (replicate 4 0)) }
         ensures empty { IfOk result (λ m. IsEmpty (table_at m) (table_held m)) }

@@ -48,7 +48,7 @@ impl<A: Allocator + Clone, M: Meter> Charges<A, M> {
     }
 
     /// Takes out a group that `rmdir` would not refuse, and frees its slot. What it had is answered. It takes no memory, and
-    /// costs two descents of the tree.
+    /// costs one descent of the tree.
     pub fn take_group<B: Allocator + Clone>(&mut self, path: &GroupPath<B>) -> Attr
         requires { refusal M.SLOTS self.old (RemoveGroup path.now) ≡ None }
         ensures state { self.new ≡ after self.old (RemoveGroup path.now) }
@@ -66,7 +66,7 @@ impl<A: Allocator + Clone, M: Meter> Charges<A, M> {
     }
 
     /// Removes a group that has no groups below it and no processes. What it had is answered. It takes no memory, and
-    /// costs four descents of the tree: that there are no processes is known from their count. The groups above it keep
+    /// costs three descents of the tree: that there are no processes is known from their count. The groups above it keep
     /// their event totals.
     ///
     /// # Errors

@@ -39,6 +39,10 @@ pub enum LineFault {
 
 /// Reads the words after the program's name: `--workers N`, where N is a digit from 1 to 8, and
 /// one worker where it is left out; `--rehearse`; or `--help`.
+///
+/// # Errors
+///
+/// `Bad` where the words are no such line; `OutOfMemory` where memory was wanting.
 pub fn command_line(alloc: Global, words: &[&str]) -> Result<Ask, LineFault>
     ensures { Asks (map (λ word. word.now) words.now) result }
 {

@@ -32,6 +32,10 @@ impl<A: Allocator + Clone> Core<A> {
     /// A core of `slots` slots with `nodes` nodes each: all words zero, and main with nothing.
     ///
     /// Takes memory for three numbers a word. An error only where that is refused.
+    ///
+    /// # Errors
+    ///
+    /// `AllocError` where memory was wanting.
     pub fn new(alloc: A, slots: u16, nodes: u8) -> Result<Core<A>, AllocError>
         requires slots { 1 ≤ slots }
         requires nodes { (nodes ≡ 1) ⊎ (nodes ≡ 3) ⊎ (nodes ≡ 7) ⊎ (nodes ≡ 15) }

@@ -99,6 +99,10 @@ impl<A: Allocator + Clone> Core<A> {
     /// Only a split takes memory, two numbers a word, and compares each two tokens of its share; a
     /// join reads each word's number of both hands. Every other event costs the same however many
     /// words and hands there are.
+    ///
+    /// # Errors
+    ///
+    /// The first refusal that holds, in the order that `Unlawful` gives.
     pub fn step(&mut self, event: &Event<'_>) -> Result<(), Unlawful>
         ensures ok { OnOk result ((refusal self.old event.now ≡ None) × (self.new ≡ after self.old event.now)) }
         ensures err { IfErr result (λ u. Refuses u self.old event.now × (self.new ≡ self.old)) }
@@ -113,6 +117,10 @@ impl<A: Allocator + Clone> Core<A> {
 
     /// Does events in their order, up to the first that is refused, whose place it gives. The
     /// earlier ones stand.
+    ///
+    /// # Errors
+    ///
+    /// The place of the first event that was refused, counted from 0, and its refusal.
     pub fn replay(&mut self, events: &[Event<'_>]) -> Result<(), (usize, Unlawful)>
         ensures runs { MatchResult result (λ _. Runs self.old events.now self.new) (λ stop. Stops self.old events.now stop.0 stop.1 self.new) }
         ensures shape { SameShape self.old self.new }

@@ -19,6 +19,10 @@ use std::alloc::{AllocError, Global};
 impl<const G: usize, const W: usize, const L: usize> Board<G, W, L> {
     /// A board with each word 0, and its main hand. `W` is 1, 3, 7 or 15, or another odd number up
     /// to 15. Takes memory for the words; an error only where that is refused.
+    ///
+    /// # Errors
+    ///
+    /// `AllocError` where memory was wanting.
     pub fn new(alloc: Global) -> Result<(Board<G, W, L>, Hand), AllocError>
         requires { IsBoard G W L }
         ensures here { IfOk result (λ t. IsHandOf t.0 t.1) }

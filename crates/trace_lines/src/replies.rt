@@ -113,6 +113,10 @@ fn put_refused(bytes: &mut Vec<u8>, number: u64) -> Result<(), AllocError>
 }
 
 /// Puts the answer to a line that is no command behind the bytes.
+///
+/// # Errors
+///
+/// `AllocError` where memory was wanting; a part of the answer may stand behind the bytes then.
 pub fn put_fault(bytes: &mut Vec<u8>, number: u64, fault: TextFault) -> Result<(), AllocError>
     ensures { OnOk result
         (bytes.new.items ≡ bytes.old.items ++ fault_bytes number (text_fault_of fault)) }
@@ -123,6 +127,11 @@ pub fn put_fault(bytes: &mut Vec<u8>, number: u64, fault: TextFault) -> Result<(
 }
 
 /// Puts the answer to a command behind the bytes.
+///
+/// # Errors
+///
+/// `AllocError` where memory was wanting, here or for the reply itself; a part of the answer may stand behind the bytes
+/// then.
 pub fn put_reply(
     alloc: Global,
     bytes: &mut Vec<u8>,

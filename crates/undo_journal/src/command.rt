@@ -100,6 +100,10 @@ pub enum Command<A: Allocator + Clone> {
 
 impl<A: Allocator + Clone> Command<A> {
     /// The same command in other memory, in time linear in its path.
+    ///
+    /// # Errors
+    ///
+    /// `AllocError` where memory was wanting.
     pub fn copy<B: Allocator + Clone>(&self, alloc: B) -> Result<Command<B>, AllocError>
         ensures { IfOk result (λ c. command_of c ≡ command_of self.now) }
     {
@@ -133,6 +137,10 @@ impl<A: Allocator + Clone> Command<A> {
     /// The command as a line of a trace says it, without the line feed: `mkdir /a`, `fork 1 2`,
     /// `write /a cgroup.procs 2`, `write /a pids.max 3`, `write /a cgroup.kill 1`, `cat /a pids.current`, `where 2`, `undo`.
     /// Linear in its path.
+    ///
+    /// # Errors
+    ///
+    /// `AllocError` where memory was wanting.
     pub fn text<B: Allocator + Clone>(&self, alloc: B) -> Result<Vec<u8, B>, AllocError>
         ensures { IfOk result (λ text. text.items ≡ command_text (command_of self.now)) }
     {

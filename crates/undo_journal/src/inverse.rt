@@ -65,6 +65,10 @@ pub enum Inverse<A: Allocator + Clone> {
 
 impl<A: Allocator + Clone> Inverse<A> {
     /// The same record in other memory, in time linear in its paths.
+    ///
+    /// # Errors
+    ///
+    /// `AllocError` where memory was wanting.
     pub fn copy<B: Allocator + Clone>(&self, alloc: B) -> Result<Inverse<B>, AllocError>
         ensures { IfOk result (λ i. inverse_of i ≡ inverse_of self.now) }
     {

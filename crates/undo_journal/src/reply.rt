@@ -81,6 +81,10 @@ pub enum Reply<A: Allocator + Clone> {
 
 impl<A: Allocator + Clone> Reply<A> {
     /// The same reply in other memory, in time linear in its text or path.
+    ///
+    /// # Errors
+    ///
+    /// `AllocError` where memory was wanting.
     pub fn copy<B: Allocator + Clone>(&self, alloc: B) -> Result<Reply<B>, AllocError>
         ensures { IfOk result (λ r. reply_of r ≡ reply_of self.now) }
     {
