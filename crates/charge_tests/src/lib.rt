@@ -5,7 +5,7 @@
 //!
 //! - `stripes`: adds and takes in several stripes, past 2^64.
 //! - `pids`: the numbers of processes.
-//! - `forks`: a fork decided, and then made; `groups`: a new group and a removal likewise.
+//! - `forks`: a fork decided, and then made; `made_and_taken`: a new group and a removal likewise.
 //! - `commands`: sequences of calls on `Charges` over a plain meter; `calls` makes them.
 #![tactic(auto)]
 
@@ -16,7 +16,7 @@ mod commands;
 #[cfg(test)]
 mod forks;
 #[cfg(test)]
-mod groups;
+mod made_and_taken;
 #[cfg(test)]
 mod pids;
 #[cfg(test)]
