@@ -29,20 +29,21 @@ const KILL: [Issued; 3] = [
     (0, "cat /k cgroup.events"),
 ];
 
-const UNDO: [Issued; 6] = [
+const UNDO: [Issued; 7] = [
     (1, "undo"),
     (1, "cat /k/a cgroup.procs"),
     (1, "cat /k/b cgroup.procs"),
     (1, "cat /k cgroup.procs"),
-    (1, "cat /k pids.current"),
     (1, "cat /k cgroup.events"),
+    (1, "where 5"),
+    (1, "cat /k pids.current"),
 ];
 
 const ANSWERS: [&[u8]; 3] = [
     b"1 ok\n2 ok\n3 ok\n4 ok\n5 ok\n6 ok\n7 ok\n8 ok\n9 ok\n10 ok\n11 ok\n12 ok\n| 5\n",
     b"1 ok\n2 ok\n| 0\n3 ok\n| populated 0\n| frozen 0\n",
-    b"1 ok\n| write /k cgroup.kill 1\n2 ok\n| 3\n| 5\n3 ok\n| 4\n| 6\n4 ok\n| 2\n5 ok\n| 5\n\
-6 ok\n| populated 1\n| frozen 0\n",
+    b"1 ok\n| write /k cgroup.kill 1\n2 ok\n| 3\n| 5\n3 ok\n| 4\n| 6\n4 ok\n| 2\n\
+5 ok\n| populated 1\n| frozen 0\n6 ok\n| 0::/k/a\n7 ok\n| 5\n",
 ];
 
 #[test]

@@ -41,6 +41,29 @@ const ANSWERS: &[u8] = b"1 ok\n2 ok\n3 ok\n4 ok\n5 ok\n6 ok\n7 ok\n8 ok\n9 ok\n\
 18 refused nogroup /a/c\n19 ok\n| populated 0\n| frozen 0\n20 ok\n| 2\n21 ok\n| 0::/a\n\
 22 refused noprocess 3\n23 ok\n| nr_descendants 2\n| nr_dying_descendants 0\n";
 
+// User 0 makes a group and moves a process in; user 1 has it exit, removes the group, makes another
+// and takes the three back.
+const TAKEN_BACK: [Issued; 13] = [
+    (0, "mkdir /a"),
+    (0, "fork 1 2"),
+    (0, "write /a cgroup.procs 2"),
+    (1, "exit 2"),
+    (1, "rmdir /a"),
+    (1, "mkdir /b"),
+    (1, "cat /b pids.current"),
+    (1, "cat /b cgroup.events"),
+    (1, "undo"),
+    (1, "undo"),
+    (1, "undo"),
+    (1, "cat /a pids.current"),
+    (1, "cat /a cgroup.events"),
+];
+
+const TAKEN_BACK_ANSWERS: &[u8] = b"1 ok\n2 ok\n3 ok\n4 ok\n5 ok\n6 ok\n\
+7 ok\n| 0\n8 ok\n| populated 0\n| frozen 0\n\
+9 ok\n| mkdir /b\n10 ok\n| rmdir /a\n11 ok\n| exit 2\n\
+12 ok\n| 1\n13 ok\n| populated 1\n| frozen 0\n";
+
 // User 0 makes a group and moves a process in; user 1 moves it out, removes the group and makes
 // another, which may have the slot of the first.
 const REMADE: [Issued; 11] = [
@@ -66,6 +89,15 @@ fn slot_of_another_user(rt: HostRuntime) -> Result<(), Fail> {
     let mut engine = Engine::new(rt.alloc(), BoardMeter::new(rt.alloc())?)?;
     let answered = answers(&rt, rt.alloc(), &OpenGate, &mut engine, &REMADE)?;
     assert!(rt; answered.as_slice() == REMADE_ANSWERS);
+    Ok(())
+}
+
+/// What one user left is given back by the undos of another.
+#[test]
+fn taken_back_by_another_user(rt: HostRuntime) -> Result<(), Fail> {
+    let mut engine = Engine::new(rt.alloc(), BoardMeter::new(rt.alloc())?)?;
+    let answered = answers(&rt, rt.alloc(), &OpenGate, &mut engine, &TAKEN_BACK)?;
+    assert!(rt; answered.as_slice() == TAKEN_BACK_ANSWERS);
     Ok(())
 }
 

@@ -10,7 +10,7 @@ use std::thread::Threads;
 
 /// Each trace with its answers; a semicolon stands for a line feed, and one ends each text that is
 /// not empty.
-const TRACES: [(&str, &str); 34] = [
+const TRACES: [(&str, &str); 35] = [
     ("", ""),
     (
         "mkdir /a;fork 1 2;write /a cgroup.procs 2;cat /a pids.current;undo;cat /a pids.current",
@@ -49,10 +49,15 @@ const TRACES: [(&str, &str); 34] = [
         "1 ok;2 ok;3 refused depth /a;4 ok",
     ),
     (
-        "write / cgroup.max.descendants 1;mkdir /a;mkdir /b;mkdir /a/b;cat / cgroup.stat;\
-         cat /a cgroup.stat",
+        "write / cgroup.max.descendants 1;mkdir /a;mkdir /b;mkdir /a/b;cat / cgroup.stat",
         "1 ok;2 ok;3 refused descendants /;4 refused descendants /;5 ok;| nr_descendants 1;\
-         | nr_dying_descendants 0;6 ok;| nr_descendants 0;| nr_dying_descendants 0",
+         | nr_dying_descendants 0",
+    ),
+    // A group without groups below it says so.
+    (
+        "mkdir /a;mkdir /a/b;cat /a cgroup.stat;cat /a/b cgroup.stat",
+        "1 ok;2 ok;3 ok;| nr_descendants 1;| nr_dying_descendants 0;4 ok;| nr_descendants 0;\
+         | nr_dying_descendants 0",
     ),
     (
         "mkdir /a;mkdir /a/b;write /a cgroup.procs 1;rmdir /a;rmdir /a/b;rmdir /a;\
