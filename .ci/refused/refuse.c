@@ -1,0 +1,127 @@
+/*
+ * Refuses one call of a program that is linked to the C library, as a library that is loaded before it:
+ *
+ *   REFUSE=allocation N    the N-th malloc, calloc or realloc, from 1
+ *   REFUSE=allocations N   that one and all behind it
+ *   REFUSE=read N          the N-th read of standard input, which fails with EIO
+ *   REFUSE=write N         the N-th write to standard output, which fails with EIO
+ *   COUNTED=FILE           how many allocations there were is written there, as text, when the program ends
+ *   BYTEWISE=1             each read and each write takes one byte
+ */
+#define _GNU_SOURCE
+#include <errno.h>
+#include <fcntl.h>
+#include <stdatomic.h>
+#include <stdbool.h>
+#include <stdio.h>
+#include <stdlib.h>
+#include <string.h>
+#include <sys/syscall.h>
+#include <unistd.h>
+
+void *__libc_malloc(size_t size);
+void *__libc_calloc(size_t count, size_t size);
+void *__libc_realloc(void *old, size_t size);
+
+enum refused { NOTHING, ALLOCATION, ALLOCATIONS, READ, WRITE };
+
+static enum refused refused;
+static unsigned long place;
+static bool bytewise;
+static atomic_ulong allocations, reads, writes;
+
+__attribute__((constructor)) static void read_plan(void)
+{
+	static const struct {
+		const char *word;
+		enum refused what;
+	} words[] = {
+		{ "allocation ", ALLOCATION },
+		{ "allocations ", ALLOCATIONS },
+		{ "read ", READ },
+		{ "write ", WRITE },
+	};
+	const char *plan = getenv("REFUSE");
+
+	bytewise = getenv("BYTEWISE") != NULL;
+	for (size_t i = 0; plan != NULL && i < sizeof words / sizeof *words; i++) {
+		size_t length = strlen(words[i].word);
+
+		if (strncmp(plan, words[i].word, length) == 0) {
+			refused = words[i].what;
+			place = strtoul(plan + length, NULL, 10);
+		}
+	}
+	atomic_store(&allocations, 0);
+}
+
+__attribute__((destructor)) static void write_count(void)
+{
+	const char *file = getenv("COUNTED");
+	char text[24];
+	int descriptor, length;
+
+	if (file == NULL)
+		return;
+	length = snprintf(text, sizeof text, "%lu\n", atomic_load(&allocations));
+	descriptor = open(file, O_WRONLY | O_CREAT | O_TRUNC, 0644);
+	if (descriptor < 0 || syscall(SYS_write, descriptor, text, length) != length)
+		_exit(99);
+	close(descriptor);
+}
+
+static bool no_memory(void)
+{
+	unsigned long now = atomic_fetch_add(&allocations, 1) + 1;
+	bool is_refused = (refused == ALLOCATION && now == place) || (refused == ALLOCATIONS && now >= place);
+
+	if (is_refused)
+		errno = ENOMEM;
+	return is_refused;
+}
+
+void *malloc(size_t size)
+{
+	return no_memory() ? NULL : __libc_malloc(size);
+}
+
+void *calloc(size_t count, size_t size)
+{
+	return no_memory() ? NULL : __libc_calloc(count, size);
+}
+
+void *realloc(void *old, size_t size)
+{
+	return no_memory() ? NULL : __libc_realloc(old, size);
+}
+
+static bool fails(enum refused what, atomic_ulong *calls)
+{
+	bool is_refused = atomic_fetch_add(calls, 1) + 1 == place && refused == what;
+
+	if (is_refused)
+		errno = EIO;
+	return is_refused;
+}
+
+ssize_t read(int descriptor, void *to, size_t size)
+{
+	if (descriptor == STDIN_FILENO) {
+		if (fails(READ, &reads))
+			return -1;
+		if (bytewise && size > 1)
+			size = 1;
+	}
+	return syscall(SYS_read, descriptor, to, size);
+}
+
+ssize_t write(int descriptor, const void *from, size_t size)
+{
+	if (descriptor == STDOUT_FILENO) {
+		if (fails(WRITE, &writes))
+			return -1;
+		if (bytewise && size > 1)
+			size = 1;
+	}
+	return syscall(SYS_write, descriptor, from, size);
+}
