@@ -22,3 +22,5 @@ pub mod ExamplesMachine
 pub mod AuditLaws
 pub mod AuditSame
 pub mod ExamplesAudits
+mod ExamplesLogs
+mod LogLaws

@@ -3,6 +3,7 @@
 pub mod audits;
 pub mod files;
 pub mod lines;
+pub mod logs;
 pub mod paths;
 pub mod traces;
 pub mod values;

@@ -8,14 +8,16 @@
 //!   others, each exactly.
 //! - `records`, `machine`: a record takes its command back; undo, and what holds of every machine
 //!   that commands reach.
+//! - `logs`: where a log ends, and that it is legal, entry by entry.
 //! - `audits`: receipts are a log's entries, each once, exactly where they have no first fault.
-//! - `examples`: whole traces with their answers, and texts, values, files and audits.
+//! - `examples`: whole traces with their answers, and texts, values, files, logs and audits.
 //!
 //! No crate that runs stands on this one.
 #![tactic(auto)]
 
 pub mod audits;
 pub mod examples;
+pub mod logs;
 pub mod machine;
 pub mod paths;
 pub mod records;
