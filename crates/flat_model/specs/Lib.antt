@@ -16,7 +16,6 @@ pub mod Limiting
 pub mod Events
 pub mod Log
 pub mod Audit
-pub mod AuditExamples
 pub mod Trace
 pub mod Replies
 pub mod Codes

@@ -1,5 +1,4 @@
-//! What Makhloeum means: the definitions that every contract of the other crates speaks of, and
-//! their laws.
+//! What Makhloeum means: the definitions that every contract of the other crates speaks of.
 //!
 //! A reader who knows the kernel's admin-guide, "Control Group v2", can read `specs/` from `Path`
 //! to `Replies` and check that it says what the guide says. Nothing there stands on a type of the
@@ -21,20 +20,13 @@
 //!   limits promise, and what is counted of refused forks.
 //!
 //! Each bound stands once: the names in a path, the bytes of a name and of a path in `PathText`,
-//! pids and limits in `Values`, a line and a trace in `Trace`. The number of slots is a parameter.
+//! pids and limits in `Values`, a line and a trace in `Trace`. The number of slots is a parameter:
+//! there may be `slots` groups beside the root.
 //!
-//! The functions below do nothing. Each says a law in its contract, so that a check of this crate
-//! proves it: other crates cite the lemmas in `proofs/`. There may be `slots` groups beside the
-//! root, and each law holds for any number.
+//! Here is nothing but the definitions in `specs/`, and in `proofs/` the lemmas of them that the
+//! proofs of other crates cite. Their laws, and examples computed from them, stand in
+//! `flat_model_laws`, which is proved beside the crates above and not before them. An edit of a
+//! definition may pass this crate: it is there that it is refused.
 //!
 //! Not said here: anything of memory, time, threads or fairness.
 #![tactic(auto)]
-
-pub mod audits;
-pub mod examples;
-pub mod machine;
-pub mod paths;
-pub mod records;
-pub mod refusals;
-pub mod states;
-pub mod texts;

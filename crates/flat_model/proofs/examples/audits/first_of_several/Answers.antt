@@ -1,5 +1,0 @@
-use Rattle.flat_model.proofs.ExamplesAudits.{several}
-use Rattle.flat_model.proofs.examples.audits.first_of_several.Goals as goal
-
-pub returns : goal.returns
-returns c = several

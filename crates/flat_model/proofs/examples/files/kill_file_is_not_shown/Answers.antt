@@ -1,5 +1,0 @@
-use Rattle.std.proofs.Common.{refl}
-use Rattle.flat_model.proofs.examples.files.kill_file_is_not_shown.Goals as goal
-
-pub returns : goal.returns
-returns c = λ slots s p. refl

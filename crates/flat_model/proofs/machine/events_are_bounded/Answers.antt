@@ -1,5 +1,0 @@
-use Rattle.flat_model.proofs.Events.{tick_bounded, reached_bounded}
-use Rattle.flat_model.proofs.machine.events_are_bounded.Goals as goal
-
-pub returns : goal.returns
-returns c = record { kept = tick_bounded; bounded = reached_bounded }

@@ -1,5 +1,0 @@
-use Rattle.flat_model.proofs.Undoing.{accepted_undone, counted_undone}
-use Rattle.flat_model.proofs.machine.one_undone.Goals as goal
-
-pub returns : goal.returns
-returns c = record { accepted = accepted_undone; counted = counted_undone }

@@ -1,9 +1,0 @@
-use Rattle.flat_model.proofs.GivenBack.{well_formed_is, events_are, own_is}
-use Rattle.flat_model.proofs.machine.past_is_given_back.Goals as goal
-
-pub returns : goal.returns
-returns c = record {
-  well_formed = well_formed_is;
-  events = events_are;
-  own = own_is;
-}

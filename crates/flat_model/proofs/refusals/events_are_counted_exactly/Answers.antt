@@ -1,5 +1,0 @@
-use Rattle.flat_model.proofs.Events.{counted_is}
-use Rattle.flat_model.proofs.refusals.events_are_counted_exactly.Goals as goal
-
-pub returns : goal.returns
-returns c = counted_is

@@ -1,6 +1,0 @@
-use Rattle.flat_model.proofs.Counting.{current_is, populated_is}
-use Rattle.flat_model.proofs.Descendants.{descendants_are}
-use Rattle.flat_model.proofs.states.counts_are_exact.Goals as goal
-
-pub returns : goal.returns
-returns c = record { whole = current_is; populated = populated_is; descendants = descendants_are }

@@ -1,5 +1,0 @@
-use Rattle.flat_model.proofs.Killing.{nobody_left, others_stay}
-use Rattle.flat_model.proofs.states.kill_is_whole.Goals as goal
-
-pub returns : goal.returns
-returns c = record { nobody = nobody_left; others = others_stay }

@@ -1,6 +1,0 @@
-use Rattle.flat_model.proofs.CommandTextLaws.{read_line-command_text, command_text_apart}
-use Rattle.flat_model.proofs.CommandTextLawsOnly.{read_line_only}
-use Rattle.flat_model.proofs.texts.command_is_read_back.Goals as goal
-
-pub returns : goal.returns
-returns c = record { read = read_line-command_text; apart = command_text_apart; only = read_line_only }

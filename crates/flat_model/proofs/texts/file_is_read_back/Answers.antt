@@ -1,6 +1,0 @@
-use Rattle.flat_model.proofs.CommandTextLaws.{file_named-file_name}
-use Rattle.flat_model.proofs.CommandTextLawsOnly.{file_named_only}
-use Rattle.flat_model.proofs.texts.file_is_read_back.Goals as goal
-
-pub returns : goal.returns
-returns c = record { read = file_named-file_name; only = file_named_only }

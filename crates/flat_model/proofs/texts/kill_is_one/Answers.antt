@@ -1,5 +1,0 @@
-use Rattle.flat_model.proofs.ValueLaws.{read_kill_only}
-use Rattle.flat_model.proofs.texts.kill_is_one.Goals as goal
-
-pub returns : goal.returns
-returns c = read_kill_only

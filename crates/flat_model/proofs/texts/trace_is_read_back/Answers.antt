@@ -1,5 +1,0 @@
-use Rattle.flat_model.proofs.CommandTextLawsTrace.{read_trace-written}
-use Rattle.flat_model.proofs.texts.trace_is_read_back.Goals as goal
-
-pub returns : goal.returns
-returns c = read_trace-written

@@ -1,8 +1,0 @@
-//! Worked examples, each computed from the definitions.
-
-pub mod audits;
-pub mod files;
-pub mod lines;
-pub mod paths;
-pub mod traces;
-pub mod values;

@@ -1,0 +1,15 @@
+use Rattle.std.proofs.Common.{◌++◌}
+use Rattle.std.specs.Prelude.{codes, replicate}
+use Rattle.std.specs.Fmt.{digits}
+use Rattle.flat_model.specs.Values.{number_fault}
+use Rattle.flat_model.specs.PathText.{name_fault, path_fault}
+use Rattle.flat_model.specs.Trace.{command_of_words}
+use Rattle.flat_model_laws.proofs.ExamplesMachine.{answers_by_lists}
+use Rattle.flat_model_laws.proofs.examples.traces.longest_line.Goals as goal
+
+pub returns : goal.returns
+unfolding digits number_fault name_fault path_fault command_of_words
+returns c = record {
+  read = answers_by_lists 256 (codes "mkdir /" ++ replicate 8185 97);
+  too_long = answers_by_lists 256 (codes "mkdir /" ++ replicate 8186 97);
+}

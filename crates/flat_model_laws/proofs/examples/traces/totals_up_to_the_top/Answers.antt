@@ -1,0 +1,11 @@
+use Rattle.std.specs.Prelude.{codes}
+use Rattle.std.specs.Fmt.{digits}
+use Rattle.flat_model.specs.Values.{number_fault}
+use Rattle.flat_model.specs.PathText.{name_fault, path_fault}
+use Rattle.flat_model.specs.Trace.{command_of_words}
+use Rattle.flat_model_laws.proofs.ExamplesMachine.{answers_by_lists}
+use Rattle.flat_model_laws.proofs.examples.traces.totals_up_to_the_top.Goals as goal
+
+pub returns : goal.returns
+unfolding digits number_fault name_fault path_fault command_of_words
+returns c = answers_by_lists 256 (codes "mkdir /t\nmkdir /t/a\nmkdir /t/a/b\nmkdir /t/c\nwrite /t/a/b pids.max 1\nwrite /t/a/b cgroup.procs 1\nfork 1 1\nfork 1 2\ncat /t/a/b pids.events\ncat /t/a/b pids.events.local\ncat /t/a pids.events\ncat /t/a pids.events.local\ncat /t pids.events\ncat /t pids.events.local\ncat /t/c pids.events\n")

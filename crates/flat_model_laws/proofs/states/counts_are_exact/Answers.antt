@@ -1,0 +1,6 @@
+use Rattle.flat_model.proofs.Counting.{current_is, populated_is}
+use Rattle.flat_model_laws.proofs.Descendants.{descendants_are}
+use Rattle.flat_model_laws.proofs.states.counts_are_exact.Goals as goal
+
+pub returns : goal.returns
+returns c = record { whole = current_is; populated = populated_is; descendants = descendants_are }

@@ -1,0 +1,5 @@
+use Rattle.flat_model_laws.proofs.Killing.{nobody_left, others_stay}
+use Rattle.flat_model_laws.proofs.states.kill_is_whole.Goals as goal
+
+pub returns : goal.returns
+returns c = record { nobody = nobody_left; others = others_stay }
