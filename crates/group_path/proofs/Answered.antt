@@ -68,6 +68,10 @@ child_short p name u h e =
     let l = ap length (path_text-child p name) ∙ length-append (spelled p) (47 ∷ name) in
     omega arith
 
+-- the parts of a short text are short
+pub child_few : (p : Path) (name : Name) (most : ℕ) → length (path_text (p ++ name ∷ [])) ≤ most → length (spelled p) + 1 + length name ≤ most
+child_few p name most h = let l = ap length (path_text-child p name) ∙ length-append (spelled p) (47 ∷ name) in omega arith
+
 -- the text that is made has no fault, and the child's names
 pub child_faultless : (p : Path) (name : Name) (items : List ℕ) (u : Unit {0}) → IsPath p → checked (child_fault p name) ≡ Ok u → items ≡ spelled p ++ 47 ∷ name → path_fault items ≡ None
 child_faultless p name items u h e is = ap path_fault (is ∙ sym (path_text-child p name)) ∙ path_fault-path_text (p ++ name ∷ []) (child_is p name u h e)

@@ -1,30 +1,15 @@
 //! One name more: the path of a child.
 
-ghost use Rattle.std.specs.Prelude.{◌≡◌, ◌+◌, ◌≤◌, [], ◌∷◌, ◌++◌, length, IfOk};
-ghost use Rattle.flat_model.specs.PathText.{name_max, text_max, spelled, child_fault, child_path};
+ghost use Rattle.std.specs.Prelude.{◌≡◌, ◌≢◌, ◌≤◌, [], ◌∷◌, ◌++◌, length, IfErr, IfOk};
+ghost use Rattle.inline_bytes.specs.declared.bytes.TheConstants.{INLINE_MAX};
+ghost use Rattle.flat_model.specs.PathText.{path_text, spelled, child_fault, child_path};
 ghost use Rattle.group_path.specs.FollowsGrammar.{FollowsGrammar, checked};
 
 use crate::fault::PathFault;
 use crate::grammar::{DEPTH_MAX, TEXT_MAX, check_name};
 use crate::path::GroupPath;
 use inline_bytes::InlineBytes;
-use std::alloc::{AllocError, Allocator};
-
-/// A text, a slash and a name.
-fn joined<A: Allocator + Clone>(
-    alloc: A,
-    front: &[u8],
-    name: &[u8],
-) -> Result<InlineBytes<A>, AllocError>
-    requires { length front.now + length name.now ≤ text_max + name_max }
-    ensures { IfOk result (λ text. text ≡ front.now ++ 47 ∷ name.now) }
-{
-    let mut text = Vec::with_capacity(alloc, front.len() + 1 + name.len())?;
-    text.extend_from_slice(front)?;
-    text.extend_from_slice(b"/")?;
-    text.extend_from_slice(name)?;
-    Ok(InlineBytes::of_vec(text))
-}
+use std::alloc::Allocator;
 
 impl<A: Allocator + Clone> GroupPath<A> {
     /// The group of this name below this one, in time linear in both texts.
@@ -40,10 +25,13 @@ impl<A: Allocator + Clone> GroupPath<A> {
     ) -> Result<GroupPath<B>, PathFault>
         ensures found { IfOk result (λ p. p ≡ self.now ++ name.now ∷ []) }
         ensures first { FollowsGrammar result (child_path self.now name.now) }
+
+        // A text that short takes no memory.
+        ensures few { length (path_text (self.now ++ name.now ∷ [])) ≤ INLINE_MAX → IfErr result (λ fault. fault ≢ PathFault.OutOfMemory) }
     {
         let _ = &self.text;
         self.check_child(name)?;
-        let text = joined(alloc, self.spelled(), name)?;
+        let text = InlineBytes::joined(alloc, self.spelled(), b'/', name)?;
         Ok(GroupPath { text })
     }
 

@@ -10,9 +10,9 @@
 //! caller who needs the bounds.
 //!
 //! A path is over any allocator, and the calls that take a second path, or make one, take any other allocator too.
-//! A text of up to 23 bytes lies in the path itself. `read`, `root`, `parent` and `copy` ask for memory, once, for longer
-//! texts, and `child` for any; they answer `OutOfMemory` or `AllocError` only where that was refused and nothing else is
-//! wrong. All other calls take none. Every call is linear in the texts at most.
+//! A text of up to 23 bytes lies in the path itself. `read`, `parent`, `child` and `copy` ask for memory, once, for longer
+//! texts; they answer `OutOfMemory` or `AllocError` only where that was refused and nothing else is wrong. All other calls
+//! take none. Every call is linear in the texts at most.
 //!
 //! Paths are ordered name by name, so that a group stands before the groups below it and these before its next
 //! sibling. That is not the order of the texts.

@@ -1,6 +1,7 @@
 //! A path, and what is read from it.
 
-ghost use Rattle.std.specs.Prelude.{◌≡◌, ℕ, ◌≤◌, [], true, if◌then◌else◌, length, take, IfOk, MatchResult};
+ghost use Rattle.std.specs.Prelude.{◌≡◌, ◌≢◌, ℕ, ◌<◌, ◌≤◌, [], true, if◌then◌else◌, length, take, IfErr, IfOk, IsOk, IsOkAnd, MatchResult};
+ghost use Rattle.inline_bytes.specs.declared.bytes.TheConstants.{INLINE_MAX};
 ghost use Rattle.flat_model.specs.Path.{Path, at_or_below, is_root, parent, same_path};
 ghost use Rattle.flat_model.specs.PathText.{IsPath, path_text, read_path};
 ghost use Rattle.group_path.specs.FollowsGrammar.{FollowsGrammar};
@@ -30,13 +31,9 @@ impl<A: Allocator + Clone> Model for GroupPath<A> {
 }
 
 impl<A: Allocator + Clone> GroupPath<A> {
-    /// The path of the root, `/`.
-    ///
-    /// # Errors
-    ///
-    /// `AllocError` where memory was wanting; a text as short as this one asks for none.
+    /// The path of the root, `/`. It asks for no memory, and so there is no error.
     pub fn root(alloc: A) -> Result<GroupPath<A>, AllocError>
-        ensures { IfOk result (λ p. p ≡ []) }
+        ensures { IsOkAnd result (λ p. p ≡ []) }
     {
         let text = InlineBytes::copy_of(alloc, b"/")?;
         Ok(GroupPath { text })
@@ -58,6 +55,9 @@ impl<A: Allocator + Clone> GroupPath<A> {
 
         // Which fault it is.
         ensures first { FollowsGrammar result (read_path text.now) }
+
+        // A text that short takes no memory.
+        ensures few { length text.now ≤ INLINE_MAX → IfErr result (λ fault. fault ≢ PathFault.OutOfMemory) }
     {
         check_text(text)?;
         let text = InlineBytes::copy_of(alloc, text)?;
@@ -138,6 +138,7 @@ impl<A: Allocator + Clone> GroupPath<A> {
     pub fn parent<B: Allocator + Clone>(&self, alloc: B) -> Result<Option<GroupPath<B>>, AllocError>
         ensures root { is_root self.now ≡ true → result ≡ Ok None }
         ensures group { IfOk result (λ p. p ≡ (if is_root self.now then None else Some (parent self.now))) }
+        ensures few { length (path_text (parent self.now)) ≤ INLINE_MAX → IsOk result }
     {
         let _ = &self.text;
         let depth = self.depth();
@@ -152,9 +153,10 @@ impl<A: Allocator + Clone> GroupPath<A> {
     ///
     /// # Errors
     ///
-    /// `AllocError` where memory was wanting.
+    /// `AllocError` where memory was wanting; a text of at most `INLINE_MAX` bytes takes none.
     pub fn copy<B: Allocator + Clone>(&self, alloc: B) -> Result<GroupPath<B>, AllocError>
-        ensures { IfOk result (λ p. p ≡ self.now) }
+        // It is the same path, and memory can only be wanting for a text that does not lie in the value.
+        ensures { MatchResult result (λ p. p ≡ self.now) (λ _. INLINE_MAX < length (path_text self.now)) }
     {
         let text = InlineBytes::copy_of(alloc, self.text.as_slice())?;
         Ok(GroupPath { text })

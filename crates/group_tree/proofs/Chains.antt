@@ -1,5 +1,5 @@
 -- The slots on the way up.
-use Rattle.std.proofs.Common.{◌≡◌, ℕ, Bool, true, false, not, List, [], ◌∷◌, ◌++◌, map, reverse, get_or, refl, ap, sym, ◌∙◌, subst, Ok, Option, Some, IsSome, MatchBool, append_assoc, append-nil}
+use Rattle.std.proofs.Common.{◌≡◌, ℕ, Bool, true, false, not, List, [], ◌∷◌, ◌++◌, map, reverse, get_or, refl, ap, sym, ◌∙◌, subst, Ok, Option, Some, None, IsSome, MatchBool, append_assoc, append-nil}
 use Rattle.std.specs.Prelude.{filter}
 use Rattle.std.proofs.lemmas.List.{map-append, reverse-append}
 use Rattle.std.proofs.lemmas.List.Elements.{filter-append}
@@ -76,3 +76,8 @@ at_false P Q false e h = h
 pub at_true : (P Q : Type 0) (b : Bool) → b ≡ true → MatchBool b P Q → P
 at_true P Q true e h = h
 at_true P Q false e h = cc
+
+-- a group is not both there and absent
+pub not_both : (Q : Type 0) (o : Option Attr) → IsSome o → o ≡ None → Q
+not_both Q None some none = cc
+not_both Q (Some a) some none = cc

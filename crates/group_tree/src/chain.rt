@@ -1,6 +1,6 @@
 //! The slots from a group upward, gathered on the way back up.
 
-ghost use Rattle.std.specs.Prelude.{◌≡◌, ◌++◌, length, None, MatchBool, IfOk, IsSome};
+ghost use Rattle.std.specs.Prelude.{◌≡◌, ◌++◌, false, length, None, Ok, MatchBool, IfOk, IsSome};
 ghost use Rattle.std.specs.FinMap as fin;
 ghost use Rattle.group_tree.specs.Groups.{chain_of};
 ghost use Rattle.group_tree.specs.Node.{PushesInPlace};
@@ -19,6 +19,7 @@ impl<A: Allocator> Node<A> {
         slots: &mut SmallVec<u16, 8, B>,
     ) -> Result<bool, AllocError>
         ensures chain { IfOk result (λ b. MatchBool b (IsSome (fin.get self.now.groups names.entry) × (slots.new.items ≡ slots.old.items ++ chain_of self.now.groups names.entry)) (fin.get self.now.groups names.entry ≡ None)) }
+        ensures absent { fin.get self.now.groups names.entry ≡ None → result ≡ Ok false }
         ensures in_place { PushesInPlace slots.old slots.new (length names.entry) result }
     {
         let mut names = names;

@@ -87,11 +87,13 @@ impl<A: Allocator> GroupTree<A> {
         Along::of(&self.root, path.names())
     }
 
-    /// Counts one fork more that the group at the first `n` names of the path refused: in its local total, and in the
+    /// Counts one fork more that the group at the first `n` names of the path refused, which is not the root: in its local
+    /// total, and in the
     /// totals of it and of the groups above it but the root. A total that is the greatest number stays. It goes down once, as
     /// `find` does, and takes no memory.
     pub fn count_refusal<B: Allocator + Clone>(&mut self, path: &GroupPath<B>, n: usize)
         requires at { n ≤ length path.now }
+        requires beside_root { 0 < n }
         ensures { Counts (λ m. min (m + 1) (2 ^ 64 - 1)) self.old self.new (take n path.now) }
     {
         self.root.count(path.first_names(n), Change::Raise);
@@ -144,8 +146,8 @@ impl<A: Allocator> GroupTree<A> {
         self.root.met_limit(path.first_names(n), n, 0)
     }
 
-    /// The slots from the group at the path upward, the root left out; None where there is no such group. Up to eight
-    /// take no memory. It goes down once, as `find` does.
+    /// The slots from the group at the path upward, the root left out; None where there is no such group, which takes no
+    /// memory, as up to eight slots take none. It goes down once, as `find` does.
     ///
     /// # Errors
     ///
@@ -156,6 +158,7 @@ impl<A: Allocator> GroupTree<A> {
     ) -> Result<Option<SmallVec<u16, 8, &A>>, AllocError>
         ensures chain { IfOk result (λ o. MatchOption o (fin.get self.now path.now ≡ None) (λ slots. IsSome (fin.get self.now path.now) × (slots.items ≡ chain_of self.now path.now))) }
         ensures inline { length path.now ≤ 8 → IsOk result }
+        ensures absent { fin.get self.now path.now ≡ None → result ≡ Ok None }
     {
         let alloc = self.root.allocator();
         let mut slots = SmallVec::new(alloc);

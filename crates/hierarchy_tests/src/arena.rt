@@ -1,6 +1,6 @@
 //! Trees that are copied into an arena.
 
-use crate::tree::{below, sample};
+use crate::tree::{path, sample};
 use bumpalo::{Bump, ResetError};
 use std::mem;
 use std::test::Fail;
@@ -8,19 +8,20 @@ use std::test::Fail;
 /// An arena is given up after the tree that was copied into it.
 #[test]
 fn tree_in_an_arena(rt: HostRuntime) -> Result<(), Fail> {
-    let tree = sample(rt.alloc())?;
+    let root = path(rt.alloc(), "/")?;
+    let tree = sample(rt.alloc(), false)?;
     let mut arena = Bump::new(rt.alloc());
     let copy = tree.copy(&arena)?;
-    assert_eq!(rt; below(rt.alloc(), &copy, "/")?, Some(5));
+    let below = copy.descendants(&root);
     drop(copy);
-    assert_eq!(rt; arena.reset(), Ok(()));
+    assert_eq!(rt; (below, arena.reset()), (Some(5), Ok(())));
     Ok(())
 }
 
 /// A tree that is forgotten keeps the arena from being given up.
 #[test]
 fn tree_forgotten_in_an_arena(rt: HostRuntime) -> Result<(), Fail> {
-    let tree = sample(rt.alloc())?;
+    let tree = sample(rt.alloc(), false)?;
     let mut arena = Bump::new(rt.alloc());
     mem::forget(tree.copy(&arena)?);
     assert_eq!(rt; arena.reset(), Err(ResetError));

@@ -2,20 +2,18 @@
 //!
 //! They ask what no contract says: that calls succeed where there is memory, what each leaves where a growth is refused,
 //! and that the definitions are what the grammar and the kernel's guide mean, by worked examples whose answers were
-//! written by hand. What a contract says of every input is not tested here once more.
+//! written by hand. What a contract says of every input is not tested here once more. Tests are tables of texts and numbers,
+//! and what may fail is done in one loop behind them, since a proof grows with the places at which a function may end.
 //!
 //! - `paths`: texts with their faults, and each public call of `GroupPath`.
 //! - `path_memory`: paths in a small heap, with each growth refused.
-//! - `tree`: each public call of `GroupTree` and of `Attr`, and the refusals in their order.
+//! - `tree`: each public call of `GroupTree`, in tables of calls, and the refusals in their order.
 //! - `limits`: the limits of a group, and the first that a new one meets.
-//! - `along`: what comes along a path, and the counts of refused forks.
 //! - `wide_and_deep`: as many siblings as there are slots, and a group of as many names as a path may have.
 //! - `arena`: a tree in an arena, which is not given up before it.
 //! - `tree_memory`: a tree in a small heap, with each growth refused.
 #![tactic(auto)]
 
-#[cfg(test)]
-mod along;
 #[cfg(test)]
 mod arena;
 #[cfg(test)]

@@ -1,8 +1,7 @@
 //! The limits that a group has, and the first that a new group meets.
 
-use crate::tree::{path, sample, set};
-use group_tree::{Attr, GroupTree, Limit, LimitFile, Limits, MetLimit};
-use std::alloc::Global;
+use crate::tree::{Call, first_other_of_sample};
+use group_tree::{Attr, Limit, LimitFile, Limits};
 use std::test::Fail;
 
 /// Attributes with these limits of processes, of descendants and of depth.
@@ -20,92 +19,63 @@ pub(crate) fn limited(slot: u16, limits: [Limit; 3]) -> Attr {
     }
 }
 
+/// Whether a change of that limit to 1, where they are 4, 5 and 6, leaves these; a new group has none.
+fn is_changed(file: LimitFile, pids: u32, descendants: u32, depth: u32) -> bool {
+    let attr = limited(9, [Limit::At(4), Limit::At(5), Limit::At(6)]);
+    let changed = attr.with_limit(file, Limit::At(1));
+    let wanted = [Limit::At(pids), Limit::At(descendants), Limit::At(depth)];
+    (changed, changed.limit(file), Attr::new(9).limit(file))
+        == (limited(9, wanted), Limit::At(1), Limit::Unlimited)
+}
+
 /// A new group has no limits and no events; a limit that is changed leaves the other two, the events and the slot.
 #[test]
 fn changes_limits(rt: HostRuntime) {
-    let fresh = Attr::new(9);
-    assert_eq!(rt; fresh, limited(9, [Limit::Unlimited; 3]));
+    assert_eq!(rt; Attr::new(9), limited(9, [Limit::Unlimited; 3]));
     let rows = [
-        (
-            LimitFile::PidsMax,
-            [Limit::At(1), Limit::At(5), Limit::At(6)],
-        ),
-        (
-            LimitFile::MaxDescendants,
-            [Limit::At(4), Limit::At(1), Limit::At(6)],
-        ),
-        (
-            LimitFile::MaxDepth,
-            [Limit::At(4), Limit::At(5), Limit::At(1)],
-        ),
+        (LimitFile::PidsMax, 1, 5, 6),
+        (LimitFile::MaxDescendants, 4, 1, 6),
+        (LimitFile::MaxDepth, 4, 5, 1),
     ];
-    for (file, limits) in rows {
-        let attr = limited(9, [Limit::At(4), Limit::At(5), Limit::At(6)]);
-        let changed = attr.with_limit(file, Limit::At(1));
-        assert_eq!(rt;
-            (changed, changed.limit(file), fresh.limit(file)),
-            (limited(9, limits), Limit::At(1), Limit::Unlimited)
-        );
+    for (file, pids, descendants, depth) in rows {
+        assert!(rt; is_changed(file, pids, descendants, depth), "{file:?}");
     }
-}
-
-/// The limit that is met for a group below the first names of the path of this text; None too past its depth.
-fn met(
-    alloc: Global,
-    tree: &GroupTree<Global>,
-    text: &str,
-    n: usize,
-) -> Result<Option<MetLimit>, Fail> {
-    let path = path(alloc, text)?;
-    if n > path.depth() {
-        return Ok(None);
-    }
-    Ok(tree.met_limit(&path, n))
-}
-
-/// The sample, with these limits at the groups of these texts.
-fn limited_sample(alloc: Global, rows: &[(&str, [Limit; 3])]) -> Result<GroupTree<Global>, Fail> {
-    let mut tree = sample(alloc)?;
-    for (text, limits) in rows {
-        if !set(alloc, &mut tree, text, limited(0, *limits))? {
-            return Err(Fail::new("there is no such group"));
-        }
-    }
-    Ok(tree)
 }
 
 /// The nearest group is asked first, and of one group its limit on descendants.
 #[test]
 fn meets_limits(rt: HostRuntime) -> Result<(), Fail> {
-    let none = Limit::Unlimited;
-    let limits = [
-        ("/", [none, none, Limit::At(2)]),
-        ("/a", [none, Limit::At(3), none]),
-        ("/a/b", [none, Limit::At(2), Limit::At(0)]),
-        ("/e", [none, Limit::At(0), Limit::At(0)]),
-    ];
-    let tree = limited_sample(rt.alloc(), &limits)?;
+    let depth = LimitFile::MaxDepth;
+    let descendants = LimitFile::MaxDescendants;
     let rows = [
-        ("/", 0, None),
-        ("/a/d", 1, Some(MetLimit::Descendants(1))),
-        ("/a/d", 2, Some(MetLimit::Descendants(1))),
-        ("/a/b/c", 2, Some(MetLimit::Depth(2))),
-        ("/a/b/c", 3, Some(MetLimit::Depth(2))),
-        ("/e", 1, Some(MetLimit::Descendants(1))),
+        ("/", Call::Limit(depth, Limit::At(2)), Ok(1)),
+        ("/a", Call::Limit(descendants, Limit::At(3)), Ok(1)),
+        ("/a", Call::Limit(depth, Limit::Unlimited), Ok(1)),
+        ("/a/b", Call::Limit(descendants, Limit::At(2)), Ok(1)),
+        ("/a/b", Call::Limit(depth, Limit::At(0)), Ok(1)),
+        ("/e", Call::Limit(descendants, Limit::At(0)), Ok(1)),
+        ("/e", Call::Limit(depth, Limit::At(0)), Ok(1)),
+        ("/", Call::Met(0), Ok(0)),
+        ("/a/d", Call::Met(1), Ok(11)),
+        ("/a/d", Call::Met(2), Ok(11)),
+        ("/a/b/c", Call::Met(2), Ok(22)),
+        ("/a/b/c", Call::Met(3), Ok(22)),
+        ("/e", Call::Met(1), Ok(11)),
     ];
-    for (text, n, wanted) in rows {
-        assert_eq!(rt; met(rt.alloc(), &tree, text, n)?, wanted, "{text} {n}");
-    }
+    assert_eq!(rt; first_other_of_sample(rt.alloc(), true, &rows)?, None);
     Ok(())
 }
 
 /// Of the groups above, the root is asked last.
 #[test]
 fn meets_the_limit_of_the_root(rt: HostRuntime) -> Result<(), Fail> {
-    let limits = [("/", [Limit::Unlimited, Limit::At(9), Limit::At(2)])];
-    let tree = limited_sample(rt.alloc(), &limits)?;
-    let nearer = met(rt.alloc(), &tree, "/a/b", 1)?;
-    let deeper = met(rt.alloc(), &tree, "/a/b", 2)?;
-    assert_eq!(rt; (nearer, deeper), (None, Some(MetLimit::Depth(0))));
+    let descendants = LimitFile::MaxDescendants;
+    let rows = [
+        ("/", Call::Limit(descendants, Limit::At(9)), Ok(1)),
+        ("/", Call::Limit(LimitFile::MaxDepth, Limit::At(2)), Ok(1)),
+        ("/a/b", Call::Met(1), Ok(0)),
+        ("/a/b", Call::Met(2), Ok(20)),
+    ];
+    assert_eq!(rt; first_other_of_sample(rt.alloc(), true, &rows)?, None);
     Ok(())
 }

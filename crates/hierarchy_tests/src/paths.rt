@@ -1,18 +1,9 @@
 //! Texts that are paths and texts that are not, and each public call on a path.
 
 use group_path::{DEPTH_MAX, GroupPath, NAME_MAX, Names, PathFault, TEXT_MAX};
-use std::alloc::{AllocError, Global};
+use std::alloc::{AllocError, Allocator, Global};
 use std::cmp::Ordering;
 use std::test::Fail;
-
-/// The fault of a text, where there is one.
-fn fault(alloc: Global, text: &[u8]) -> Option<PathFault> {
-    GroupPath::read(alloc, text).err()
-}
-
-fn path(alloc: Global, text: &[u8]) -> Result<GroupPath<Global>, PathFault> {
-    GroupPath::read(alloc, text)
-}
 
 pub(crate) fn letters(alloc: Global, len: usize) -> Result<Vec<u8>, AllocError> {
     let mut text = Vec::new(alloc);
@@ -37,29 +28,63 @@ pub(crate) fn names_of_letters(
     Ok(text)
 }
 
-/// What a path is seen as: its depth, its text, whether it has a first name, and whether it has a parent.
-fn seen<'a>(
-    alloc: Global,
-    path: &'a GroupPath<Global>,
-) -> Result<(usize, &'a [u8], bool, bool), AllocError> {
+/// Whether this is the parent's text.
+pub(crate) fn has_parent<A: Allocator + Clone, B: Allocator + Clone>(
+    alloc: B,
+    path: &GroupPath<A>,
+    text: &[u8],
+) -> bool {
+    match path.parent(alloc) {
+        Ok(Some(parent)) => parent.text() == text,
+        _ => false,
+    }
+}
+
+/// Whether this is the text of the child of this name.
+pub(crate) fn has_child<A: Allocator + Clone, B: Allocator + Clone>(
+    alloc: B,
+    path: &GroupPath<A>,
+    name: &[u8],
+    text: &[u8],
+) -> bool {
+    match path.child(alloc, name) {
+        Ok(child) => child.text() == text,
+        Err(_) => false,
+    }
+}
+
+/// Whether the path's depth, text, first name and parent are those of the root.
+fn is_root(alloc: Global, path: &GroupPath<Global>) -> bool {
     path.known();
-    let has_parent = path.parent(alloc)?.is_some();
-    Ok((
+    (
         path.depth(),
         path.text(),
-        path.names().next().is_some(),
-        has_parent,
-    ))
+        path.names().next().is_none(),
+        matches!(path.parent(alloc), Ok(None)),
+    ) == (0, b"/".as_slice(), true, true)
 }
 
 #[test]
 fn the_root(rt: HostRuntime) -> Result<(), Fail> {
-    let root = (0, b"/".as_slice(), false, false);
-    let read = path(rt.alloc(), b"/")?;
-    assert_eq!(rt; seen(rt.alloc(), &read)?, root);
+    let read = GroupPath::read(rt.alloc(), b"/")?;
     let made = GroupPath::root(rt.alloc())?;
-    assert_eq!(rt; seen(rt.alloc(), &made)?, root);
+    assert_eq!(rt;
+        (is_root(rt.alloc(), &read), is_root(rt.alloc(), &made)),
+        (true, true)
+    );
     Ok(())
+}
+
+/// The place of the first text that has another fault than the one beside it.
+fn first_other(alloc: Global, rows: &[(&[u8], Option<PathFault>)]) -> Option<usize> {
+    let mut at = 0usize;
+    for (text, wanted) in rows {
+        if GroupPath::read(alloc, text).err() != *wanted {
+            return Some(at);
+        }
+        at = at.saturating_add(1);
+    }
+    None
 }
 
 #[test]
@@ -89,71 +114,66 @@ fn texts(rt: HostRuntime) {
         (b"/../a b", Some(PathFault::DotName)),
         (b"/cgroup.x//", Some(PathFault::Reserved)),
     ];
-    for (text, wanted) in rows {
-        assert_eq!(rt; fault(rt.alloc(), text), wanted);
-    }
+    assert_eq!(rt; first_other(rt.alloc(), &rows), None);
 }
 
-/// The fault of so many names of so many letters each, with this behind them.
+/// The fault of so many names of so many letters each, one of so many more where there are any, and this behind them.
 fn fault_of_names(
     alloc: Global,
     count: usize,
     len: usize,
+    last: usize,
     behind: &[u8],
 ) -> Result<Option<PathFault>, AllocError> {
     let mut text = names_of_letters(alloc, count, len)?;
+    if last > 0 {
+        text.extend_from_slice(&names_of_letters(alloc, 1, last)?)?;
+    }
     text.extend_from_slice(behind)?;
-    Ok(fault(alloc, &text))
+    Ok(GroupPath::read(alloc, &text).err())
 }
 
-/// Names of letters, so many of so many letters each, with this behind them. A byte's fault comes before the length of
-/// its name, a name too many before its bytes, and the length of the text first.
+/// Names of letters, so many of so many letters each, one of so many, and this behind them. A byte's fault comes before
+/// the length of its name, a name too many before its bytes, and the length of the text first.
 #[test]
 fn bounds(rt: HostRuntime) -> Result<(), Fail> {
-    let last = names_of_letters(rt.alloc(), 1, 254)?;
-    let rows = [
-        (1, 255, b"".as_slice(), None),
-        (1, 256, b"", Some(PathFault::NameTooLong)),
-        (1, 255, b"x ", Some(PathFault::BadByte(257))),
-        (32, 1, b"", None),
-        (33, 1, b"", Some(PathFault::TooDeep)),
-        (32, 1, b"/ ", Some(PathFault::TooDeep)),
-        // Fifteen names of 255 letters and one of 254 are 4,095 bytes.
-        (15, 255, last.as_slice(), None),
-        (16, 255, b"", Some(PathFault::TooLong)),
-        (1, 4094, b"", Some(PathFault::NameTooLong)),
-        (1, 4095, b"", Some(PathFault::TooLong)),
-    ];
-    for (count, len, behind, wanted) in rows {
-        assert_eq!(rt;
-            fault_of_names(rt.alloc(), count, len, behind)?,
-            wanted,
-            "{count} {len}"
-        );
-    }
     assert_eq!(rt; (DEPTH_MAX, NAME_MAX, TEXT_MAX), (32, 255, 4095));
+    let rows = [
+        (1, 255, 0, b"".as_slice(), None),
+        (1, 256, 0, b"", Some(PathFault::NameTooLong)),
+        (1, 255, 0, b"x ", Some(PathFault::BadByte(257))),
+        (32, 1, 0, b"", None),
+        (33, 1, 0, b"", Some(PathFault::TooDeep)),
+        (32, 1, 0, b"/ ", Some(PathFault::TooDeep)),
+        // Fifteen names of 255 letters and one of 254 are 4,095 bytes.
+        (15, 255, 254, b"", None),
+        (16, 255, 0, b"", Some(PathFault::TooLong)),
+        (1, 4094, 0, b"", Some(PathFault::NameTooLong)),
+        (1, 4095, 0, b"", Some(PathFault::TooLong)),
+    ];
+    for (count, len, last, behind, wanted) in rows {
+        let found = fault_of_names(rt.alloc(), count, len, last, behind)?;
+        assert!(rt; found == wanted, "{count} {len}");
+    }
     Ok(())
 }
 
-/// Each name with a comma behind it.
-fn listed(alloc: Global, names: Names<'_>) -> Result<Vec<u8>, AllocError> {
-    let mut text = Vec::new(alloc);
-    for name in names {
-        text.extend_from_slice(name)?;
-        text.extend_from_slice(b",")?;
-    }
-    Ok(text)
-}
-
 /// Whether these are the names, each with a comma behind it.
-fn are_listed(alloc: Global, names: Names<'_>, wanted: &[u8]) -> Result<bool, AllocError> {
-    Ok(listed(alloc, names)?.as_slice() == wanted)
+fn are_listed(names: Names<'_>, wanted: &[u8]) -> bool {
+    let mut rest = wanted;
+    for name in names {
+        match rest.strip_prefix(name) {
+            Some([b',', more @ ..]) => rest = more,
+            _ => return false,
+        }
+    }
+    rest.is_empty()
 }
 
 #[test]
 fn names_from_the_root(rt: HostRuntime) -> Result<(), Fail> {
-    let path = path(rt.alloc(), b"/a/bc/d")?;
-    assert!(rt; are_listed(rt.alloc(), path.names(), b"a,bc,d,")?);
+    let path = GroupPath::read(rt.alloc(), b"/a/bc/d")?;
+    assert!(rt; are_listed(path.names(), b"a,bc,d,"));
     let rows = [
         (0, b"".as_slice()),
         (2, b"a,bc,"),
@@ -161,61 +181,75 @@ fn names_from_the_root(rt: HostRuntime) -> Result<(), Fail> {
         (4, b"a,bc,d,"),
     ];
     for (n, wanted) in rows {
-        assert!(rt; are_listed(rt.alloc(), path.first_names(n), wanted)?, "{n}");
+        assert!(rt; are_listed(path.first_names(n), wanted), "{n}");
     }
     Ok(())
 }
 
-/// A path's parent, its child `c`, its copy, and what `cut(1)` leaves, as texts with a comma behind each; then what
-/// `cut(0)` leaves, and the child `c` of that.
-fn around(alloc: Global, path: GroupPath<Global>) -> Result<Vec<u8>, Fail> {
+/// Whether the path keeps these texts as it is cut to its first name and then to none; the root's child is then `c`.
+fn is_cut(alloc: Global, path: GroupPath<Global>) -> bool {
     let mut path = path;
-    let mut text = Vec::new(alloc);
-    if let Some(parent) = path.parent(alloc)? {
-        put(&mut text, &parent)?;
+    if path.depth() == 0 {
+        return false;
     }
-    put(&mut text, &path.child(alloc, b"c")?)?;
-    put(&mut text, &path.copy(alloc)?)?;
-    if path.depth() >= 1 {
-        path.cut(1);
-    }
-    put(&mut text, &path)?;
+    path.cut(1);
+    let is_first = path.text() == b"/a".as_slice();
     path.cut(0);
-    put(&mut text, &path)?;
-    put(&mut text, &path.child(alloc, b"c")?)?;
-    Ok(text)
+    (is_first, path.text(), has_child(alloc, &path, b"c", b"/c")) == (true, b"/".as_slice(), true)
 }
 
-/// Puts the path's text behind the bytes, and a comma.
-fn put(bytes: &mut Vec<u8>, path: &GroupPath<Global>) -> Result<(), AllocError> {
-    bytes.extend_from_slice(path.text())?;
-    bytes.extend_from_slice(b",")
-}
-
-/// Whether the path of this text has that depth, and this around it.
-fn is_amid(alloc: Global, text: &[u8], depth: usize, wanted: &[u8]) -> Result<bool, Fail> {
-    let path = path(alloc, text)?;
-    let is_text = (path.text(), path.depth()) == (text, depth);
-    let around = around(alloc, path)?;
-    Ok((is_text, around.as_slice()) == (true, wanted))
+/// Whether the path of this text has that depth, this parent and this child `c`, a copy, and `/a` as its first name.
+fn is_amid(
+    alloc: Global,
+    text: &[u8],
+    depth: usize,
+    above: &[u8],
+    below: &[u8],
+) -> Result<bool, Fail> {
+    let path = GroupPath::read(alloc, text)?;
+    let copy = path.copy(alloc)?;
+    let around = (
+        path.text(),
+        path.depth(),
+        has_parent(alloc, &path, above),
+        has_child(alloc, &path, b"c", below),
+        copy.text(),
+    ) == (text, depth, true, true, text);
+    Ok((around, is_cut(alloc, path)) == (true, true))
 }
 
 #[test]
 fn neighbours(rt: HostRuntime) -> Result<(), Fail> {
     let rows = [
-        (b"/a".as_slice(), 1, b"/,/a/c,/a,/a,/,/c,".as_slice()),
-        (b"/a/b", 2, b"/a,/a/b/c,/a/b,/a,/,/c,"),
-        (b"/a/b/c", 3, b"/a/b,/a/b/c/c,/a/b/c,/a,/,/c,"),
+        (b"/a".as_slice(), 1, b"/".as_slice(), b"/a/c".as_slice()),
+        (b"/a/b", 2, b"/a", b"/a/b/c"),
+        (b"/a/b/c", 3, b"/a/b", b"/a/b/c/c"),
     ];
-    for (text, depth, wanted) in rows {
-        assert!(rt; is_amid(rt.alloc(), text, depth, wanted)?, "{depth}");
+    for (text, depth, above, below) in rows {
+        assert!(rt; is_amid(rt.alloc(), text, depth, above, below)?, "{depth}");
     }
     Ok(())
 }
 
+/// The place of the first name whose child has another fault than the one beside it.
+fn first_other_child(
+    alloc: Global,
+    group: &GroupPath<Global>,
+    rows: &[(&[u8], Option<PathFault>)],
+) -> Option<usize> {
+    let mut at = 0usize;
+    for (name, wanted) in rows {
+        if group.child(alloc, name).err() != *wanted {
+            return Some(at);
+        }
+        at = at.saturating_add(1);
+    }
+    None
+}
+
 #[test]
 fn faults_of_a_child(rt: HostRuntime) -> Result<(), Fail> {
-    let group = path(rt.alloc(), b"/a")?;
+    let group = GroupPath::read(rt.alloc(), b"/a")?;
     let rows = [
         (b"b".as_slice(), None),
         (b"", Some(PathFault::EmptyName)),
@@ -224,9 +258,7 @@ fn faults_of_a_child(rt: HostRuntime) -> Result<(), Fail> {
         (b"..", Some(PathFault::DotName)),
         (b"cgroup.x", Some(PathFault::Reserved)),
     ];
-    for (name, wanted) in rows {
-        assert_eq!(rt; group.child(rt.alloc(), name).err(), wanted);
-    }
+    assert_eq!(rt; first_other_child(rt.alloc(), &group, &rows), None);
     Ok(())
 }
 
@@ -239,7 +271,7 @@ fn fault_of_a_child(
 ) -> Result<Option<PathFault>, Fail> {
     let text = names_of_letters(alloc, count, len)?;
     let name = letters(alloc, more)?;
-    let group = path(alloc, &text)?;
+    let group = GroupPath::read(alloc, &text)?;
     Ok(group.child(alloc, &name).err())
 }
 
@@ -257,52 +289,54 @@ fn bounds_of_a_child(rt: HostRuntime) -> Result<(), Fail> {
         (15, 255, 255, Some(PathFault::TooLong)),
     ];
     for (count, len, more, wanted) in rows {
-        assert_eq!(rt;
-            fault_of_a_child(rt.alloc(), count, len, more)?,
-            wanted,
-            "{count} {len} {more}"
-        );
+        let found = fault_of_a_child(rt.alloc(), count, len, more)?;
+        assert!(rt; found == wanted, "{count} {len} {more}");
     }
     Ok(())
 }
 
-/// The child of the root that has this name.
-fn child_of_the_root(alloc: Global, name: &[u8]) -> Result<GroupPath<Global>, Fail> {
+/// Whether the child of the root that has this text has its name alone, and the root as its parent.
+fn is_child_of_the_root(alloc: Global, text: &[u8]) -> Result<bool, Fail> {
+    let name = text.get(1..).unwrap_or_default();
     let root = GroupPath::root(alloc)?;
-    Ok(root.child(alloc, name)?)
+    let child = root.child(alloc, name)?;
+    Ok(
+        (
+            child.text(),
+            child.names().next(),
+            has_parent(alloc, &child, b"/"),
+        ) == (text, Some(name), true),
+    )
 }
 
 /// The child of the longest name, from its text and back.
 #[test]
 fn child_of_the_longest_name(rt: HostRuntime) -> Result<(), Fail> {
     let text = names_of_letters(rt.alloc(), 1, 255)?;
-    let name = text.get(1..).unwrap_or_default();
-    let child = child_of_the_root(rt.alloc(), name)?;
-    assert!(rt; (child.text(), child.names().next()) == (text.as_slice(), Some(name)));
-    assert!(rt;
-        child
-            .parent(rt.alloc())?
-            .is_some_and(|p| p.text() == b"/".as_slice())
-    );
+    assert!(rt; is_child_of_the_root(rt.alloc(), &text)?);
     Ok(())
 }
 
-/// Whether the first is at or below the second, how they are ordered, and whether they are the same, by `==` and by
-/// `is_same`.
-fn compared(
+/// Whether the first is at or below the second or not, as wanted, and they are ordered so, and the same by `==` and by
+/// `is_same` where the order says so.
+fn are_compared(
     alloc: Global,
     one: &[u8],
     other: &[u8],
-) -> Result<(bool, Ordering, Option<Ordering>, bool, bool), Fail> {
-    let one = path(alloc, one)?;
-    let other = path(alloc, other)?;
-    Ok((
-        one.is_at_or_below(&other),
-        one.cmp(&other),
-        one.partial_cmp(&other),
-        one == other,
-        one.is_same(&other),
-    ))
+    is_below: bool,
+    order: Ordering,
+) -> Result<bool, Fail> {
+    let one = GroupPath::read(alloc, one)?;
+    let other = GroupPath::read(alloc, other)?;
+    Ok(
+        (
+            one.is_at_or_below(&other),
+            one.cmp(&other),
+            one.partial_cmp(&other),
+            one == other,
+            one.is_same(&other),
+        ) == (is_below, order, Some(order), order.is_eq(), order.is_eq()),
+    )
 }
 
 /// Two paths: whether the first is at or below the second, and how they are ordered. A group, those below it, and then
@@ -325,9 +359,9 @@ fn pairs(rt: HostRuntime) -> Result<(), Fail> {
         (b"/a!", b"/a", false, Ordering::Greater),
     ];
     for (one, other, is_below, order) in rows {
-        assert_eq!(rt;
-            compared(rt.alloc(), one, other)?,
-            (is_below, order, Some(order), order.is_eq(), order.is_eq())
+        assert!(rt;
+            are_compared(rt.alloc(), one, other, is_below, order)?,
+            "{one:?} {other:?}"
         );
     }
     Ok(())

@@ -1,7 +1,7 @@
-//! A tree of five groups, and each public call on it.
+//! Calls on a tree of five groups, in tables.
 
 use group_path::GroupPath;
-use group_tree::{Attr, GroupTree, Limit, Limits, TreeFault};
+use group_tree::{Attr, GroupTree, Limit, LimitFile, Limits, MetLimit, TreeFault};
 use std::alloc::{AllocError, Allocator, Global};
 use std::test::Fail;
 
@@ -23,16 +23,10 @@ pub(crate) fn path(alloc: Global, text: &str) -> Result<GroupPath<Global>, Fail>
     Ok(GroupPath::read(alloc, text.as_bytes())?)
 }
 
-/// Makes the group at the path of this text.
-fn insert(alloc: Global, tree: &mut GroupTree<Global>, text: &str, slot: u16) -> Result<(), Fail> {
-    let path = path(alloc, text)?;
-    tree.insert(&path, attr(slot))?;
-    Ok(())
-}
-
-/// `/a`, `/a/b`, `/a/b/c`, `/a/d`, `/e`, made out of their order, with the slots 1 to 5.
-pub(crate) fn sample(alloc: Global) -> Result<GroupTree<Global>, Fail> {
-    let mut tree = GroupTree::new(alloc, attr(0))?;
+/// `/a`, `/a/b`, `/a/b/c`, `/a/d`, `/e`, made out of their order, with the slots 1 to 5; quiet ones have no limits and no
+/// events.
+pub(crate) fn sample(alloc: Global, is_quiet: bool) -> Result<GroupTree<Global>, Fail> {
+    let mut tree = GroupTree::new(alloc, with(is_quiet, 0))?;
     for (text, slot) in [
         ("/e", 5),
         ("/a", 1),
@@ -40,286 +34,370 @@ pub(crate) fn sample(alloc: Global) -> Result<GroupTree<Global>, Fail> {
         ("/a/b", 2),
         ("/a/b/c", 3),
     ] {
-        insert(alloc, &mut tree, text, slot)?;
+        let path = path(alloc, text)?;
+        tree.insert(&path, with(is_quiet, slot))?;
     }
     Ok(tree)
 }
 
-/// What the group at the path of this text has.
-pub(crate) fn found<A: Allocator>(
-    alloc: Global,
-    tree: &GroupTree<A>,
-    text: &str,
-) -> Result<Option<Attr>, Fail> {
-    let path = path(alloc, text)?;
-    Ok(tree.find(&path).copied())
-}
-
-/// How many groups are below the one at the path of this text.
-pub(crate) fn below<A: Allocator>(
-    alloc: Global,
-    tree: &GroupTree<A>,
-    text: &str,
-) -> Result<Option<u64>, Fail> {
-    let path = path(alloc, text)?;
-    Ok(tree.descendants(&path))
-}
-
-/// The first of these groups that has other attributes than those beside it.
-pub(crate) fn first_other<'a, A: Allocator>(
-    alloc: Global,
-    tree: &GroupTree<A>,
-    rows: &[(&'a str, Option<Attr>)],
-) -> Result<Option<&'a str>, Fail> {
-    for (text, wanted) in rows {
-        if found(alloc, tree, text)? != *wanted {
-            return Ok(Some(*text));
-        }
-    }
-    Ok(None)
-}
-
-/// The slots from the group at the path of this text upward.
-fn chain<A: Allocator>(
-    alloc: Global,
-    tree: &GroupTree<A>,
-    text: &str,
-) -> Result<Option<Vec<u16>>, Fail> {
-    let path = path(alloc, text)?;
-    match tree.chain(&path)? {
-        Some(slots) => Ok(Some(Vec::from_slice(alloc, slots.as_slice())?)),
-        None => Ok(None),
+fn with(is_quiet: bool, slot: u16) -> Attr {
+    if is_quiet {
+        Attr::new(slot)
+    } else {
+        attr(slot)
     }
 }
 
-#[test]
-fn finds(rt: HostRuntime) -> Result<(), Fail> {
-    let tree = sample(rt.alloc())?;
-    tree.known();
-    let rows = [
-        ("/", Some(attr(0))),
-        ("/a", Some(attr(1))),
-        ("/a/b/c", Some(attr(3))),
-        ("/a/d", Some(attr(4))),
-        ("/a/c", None),
-        // A name that begins another is another name.
-        ("/ab", None),
-        ("/a/b/c/d", None),
-    ];
-    assert_eq!(rt; first_other(rt.alloc(), &tree, &rows)?, None);
-    Ok(())
+/// A call on a tree by a path, or by so many of its first names.
+#[derive(Clone, Copy)]
+pub(crate) enum Call {
+    /// Answers the slot, where the rest is as `attr` has it.
+    Find,
+    FindAt(usize),
+    /// How many groups are below it.
+    Below,
+    BelowAt(usize),
+    /// How many groups there are beside the root.
+    All,
+    /// The slots upward, as the digits of a number.
+    Chain,
+    /// The slots downward, as the digits of a number.
+    Along,
+    /// The local total and the total of each group from the root to here, as the digits of a number.
+    Events,
+    /// `attr` of this slot; answers 1.
+    Set(u16),
+    SetAt(usize, u16),
+    /// Another limit in a file; answers 1.
+    Limit(LimitFile, Limit),
+    /// Answers the slot.
+    Insert(u16),
+    /// Answers the slot, where the rest is as `attr` has it.
+    Remove,
+    /// The limit that is met for a new group: 0 for none, and else the number of names of its group's path, with 10 for
+    /// a limit on descendants and 20 for one on depth.
+    Met(usize),
+    /// Counts a refused fork, or takes that back; answers 1.
+    Refuse(usize),
+    Unrefuse(usize),
 }
 
-/// The first of these groups that has another number of groups below it than the one beside it.
-fn first_other_count<'a>(
-    alloc: Global,
-    tree: &GroupTree<Global>,
-    rows: &[(&'a str, Option<u64>)],
-) -> Result<Option<&'a str>, Fail> {
-    for (text, wanted) in rows {
-        if below(alloc, tree, text)? != *wanted {
-            return Ok(Some(*text));
-        }
+/// A path, a call by it, and what is answered; `NoGroup` also where a call answers that with None or false.
+pub(crate) type Row<'a> = (&'a str, Call, Result<u64, TreeFault>);
+
+fn slot_of(attr_there: Attr) -> Result<u64, TreeFault> {
+    if attr_there == attr(attr_there.slot) {
+        Ok(u64::from(attr_there.slot))
+    } else {
+        Err(TreeFault::OutOfMemory)
     }
-    Ok(None)
 }
 
-#[test]
-fn counts_what_is_below(rt: HostRuntime) -> Result<(), Fail> {
-    let tree = sample(rt.alloc())?;
-    let rows = [
-        ("/", Some(5)),
-        ("/a", Some(3)),
-        ("/a/b", Some(1)),
-        ("/e", Some(0)),
-        ("/a/x", None),
-    ];
-    let other = first_other_count(rt.alloc(), &tree, &rows)?;
-    assert_eq!(rt; (other, tree.groups_beside_root()), (None, 5));
-    Ok(())
+fn found(attr: Option<&Attr>) -> Result<u64, TreeFault> {
+    match attr {
+        Some(attr) => slot_of(*attr),
+        None => Err(TreeFault::NoGroup),
+    }
 }
 
-/// What is found, and counted, at the first names of a path; nothing past its depth.
-fn read_at(
-    tree: &GroupTree<Global>,
+fn counted(count: Option<u64>) -> Result<u64, TreeFault> {
+    match count {
+        Some(count) => Ok(count),
+        None => Err(TreeFault::NoGroup),
+    }
+}
+
+fn done(is_done: bool) -> Result<u64, TreeFault> {
+    if is_done {
+        Ok(1)
+    } else {
+        Err(TreeFault::NoGroup)
+    }
+}
+
+fn digits(slots: &[u16]) -> u64 {
+    let mut number = 0u64;
+    for slot in slots {
+        number = number.saturating_mul(10).saturating_add(u64::from(*slot));
+    }
+    number
+}
+
+fn chain<A: Allocator>(tree: &GroupTree<A>, path: &GroupPath<Global>) -> Result<u64, TreeFault> {
+    match tree.chain(path) {
+        Ok(Some(slots)) => Ok(digits(&slots)),
+        Ok(None) => Err(TreeFault::NoGroup),
+        Err(AllocError) => Err(TreeFault::OutOfMemory),
+    }
+}
+
+fn along<A: Allocator>(tree: &GroupTree<A>, path: &GroupPath<Global>) -> u64 {
+    let mut number = 0u64;
+    for attr in tree.along(path) {
+        number = number
+            .saturating_mul(10)
+            .saturating_add(u64::from(attr.slot));
+    }
+    number
+}
+
+fn two_digits(attr: &Attr) -> u64 {
+    attr.local.saturating_mul(10).saturating_add(attr.total)
+}
+
+fn events<A: Allocator>(tree: &GroupTree<A>, path: &GroupPath<Global>) -> u64 {
+    let mut number = match tree.find_at(path, 0) {
+        Some(root) => two_digits(root),
+        None => u64::MAX,
+    };
+    for attr in tree.along(path) {
+        number = number.saturating_mul(100).saturating_add(two_digits(attr));
+    }
+    number
+}
+
+fn limit<A: Allocator>(
+    tree: &mut GroupTree<A>,
+    path: &GroupPath<Global>,
+    file: LimitFile,
+    limit: Limit,
+) -> bool {
+    match tree.find(path).copied() {
+        Some(attr) => tree.set(path, attr.with_limit(file, limit)),
+        None => false,
+    }
+}
+
+fn met(limit: Option<MetLimit>) -> u64 {
+    match limit {
+        None => 0,
+        Some(MetLimit::Descendants(n)) => (n as u64).saturating_add(10),
+        Some(MetLimit::Depth(n)) => (n as u64).saturating_add(20),
+    }
+}
+
+fn change_refusals<A: Allocator>(
+    tree: &mut GroupTree<A>,
     path: &GroupPath<Global>,
     n: usize,
-) -> Option<(Option<Attr>, Option<u64>)> {
-    if n > path.depth() {
-        return None;
+    is_up: bool,
+) -> bool {
+    if n == 0 || n > path.depth() {
+        return false;
     }
-    Some((tree.find_at(path, n).copied(), tree.descendants_at(path, n)))
+    if is_up {
+        tree.count_refusal(path, n);
+    } else {
+        tree.uncount_refusal(path, n);
+    }
+    true
 }
 
-/// The calls at the first names of a path, which need not be a group's.
+/// What the call answers.
+pub(crate) fn answer<A: Allocator + Clone>(
+    tree: &mut GroupTree<A>,
+    path: &GroupPath<Global>,
+    call: Call,
+) -> Result<u64, TreeFault> {
+    let depth = path.depth();
+    match call {
+        Call::Find => found(tree.find(path)),
+        Call::FindAt(n) => found(tree.find_at(path, n.min(depth))),
+        Call::Below => counted(tree.descendants(path)),
+        Call::BelowAt(n) => counted(tree.descendants_at(path, n.min(depth))),
+        Call::All => Ok(tree.groups_beside_root()),
+        Call::Chain => chain(tree, path),
+        Call::Along => Ok(along(tree, path)),
+        Call::Events => Ok(events(tree, path)),
+        Call::Set(slot) => done(tree.set(path, attr(slot))),
+        Call::SetAt(n, slot) => done(tree.set_at(path, n.min(depth), attr(slot))),
+        Call::Limit(file, value) => done(limit(tree, path, file, value)),
+        Call::Insert(slot) => match tree.insert(path, attr(slot)) {
+            Ok(()) => Ok(u64::from(slot)),
+            Err(fault) => Err(fault),
+        },
+        Call::Remove => match tree.remove(path) {
+            Ok(attr) => slot_of(attr),
+            Err(fault) => Err(fault),
+        },
+        Call::Met(n) => Ok(met(tree.met_limit(path, n.min(depth)))),
+        Call::Refuse(n) => done(change_refusals(tree, path, n, true)),
+        Call::Unrefuse(n) => done(change_refusals(tree, path, n, false)),
+    }
+}
+
+/// Makes the calls one after another; the place of the first that is answered otherwise than its row has it.
+pub(crate) fn first_other<A: Allocator + Clone>(
+    alloc: Global,
+    tree: &mut GroupTree<A>,
+    rows: &[Row<'_>],
+) -> Result<Option<usize>, Fail> {
+    tree.known();
+    let mut at = 0usize;
+    for (text, call, wanted) in rows {
+        let path = path(alloc, text)?;
+        if answer(tree, &path, *call) != *wanted {
+            return Ok(Some(at));
+        }
+        at = at.saturating_add(1);
+    }
+    Ok(None)
+}
+
+/// The same on a new sample.
+pub(crate) fn first_other_of_sample(
+    alloc: Global,
+    is_quiet: bool,
+    rows: &[Row<'_>],
+) -> Result<Option<usize>, Fail> {
+    let mut tree = sample(alloc, is_quiet)?;
+    first_other(alloc, &mut tree, rows)
+}
+
 #[test]
-fn reads_at_first_names(rt: HostRuntime) -> Result<(), Fail> {
-    let tree = sample(rt.alloc())?;
-    let path = path(rt.alloc(), "/a/b/x")?;
-    let wanted = [
-        Some((Some(attr(0)), Some(5))),
-        Some((Some(attr(1)), Some(3))),
-        Some((Some(attr(2)), Some(1))),
-        Some((None, None)),
+fn reads(rt: HostRuntime) -> Result<(), Fail> {
+    let none = Err(TreeFault::NoGroup);
+    let rows = [
+        ("/", Call::Find, Ok(0)),
+        ("/a", Call::Find, Ok(1)),
+        ("/a/b/c", Call::Find, Ok(3)),
+        ("/a/d", Call::Find, Ok(4)),
+        ("/a/c", Call::Find, none),
+        // A name that begins another is another name.
+        ("/ab", Call::Find, none),
+        ("/a/b/c/d", Call::Find, none),
+        ("/", Call::Below, Ok(5)),
+        ("/a", Call::Below, Ok(3)),
+        ("/a/b", Call::Below, Ok(1)),
+        ("/e", Call::Below, Ok(0)),
+        ("/a/x", Call::Below, none),
+        ("/", Call::All, Ok(5)),
+        // The first names of a path need not be a group's.
+        ("/a/b/x", Call::FindAt(0), Ok(0)),
+        ("/a/b/x", Call::FindAt(1), Ok(1)),
+        ("/a/b/x", Call::FindAt(2), Ok(2)),
+        ("/a/b/x", Call::FindAt(3), none),
+        ("/a/b/x", Call::BelowAt(0), Ok(5)),
+        ("/a/b/x", Call::BelowAt(1), Ok(3)),
+        ("/a/b/x", Call::BelowAt(2), Ok(1)),
+        ("/a/b/x", Call::BelowAt(3), none),
+        ("/a/b/c", Call::Chain, Ok(321)),
+        ("/e", Call::Chain, Ok(5)),
+        ("/", Call::Chain, Ok(0)),
+        ("/a/x", Call::Chain, none),
     ];
-    assert_eq!(rt; [0, 1, 2, 3].map(|n| read_at(&tree, &path, n)), wanted);
+    assert_eq!(rt; first_other_of_sample(rt.alloc(), false, &rows)?, None);
     Ok(())
 }
 
-/// Sets the attributes at the path of this text; whether there was such a group.
-pub(crate) fn set(
-    alloc: Global,
-    tree: &mut GroupTree<Global>,
-    text: &str,
-    attr: Attr,
-) -> Result<bool, Fail> {
-    let path = path(alloc, text)?;
-    Ok(tree.set(&path, attr))
+/// From the one below the root down, and no further than to the first that is missing.
+#[test]
+fn comes_along(rt: HostRuntime) -> Result<(), Fail> {
+    let rows = [
+        ("/", Call::Along, Ok(0)),
+        ("/a", Call::Along, Ok(1)),
+        ("/a/b/c", Call::Along, Ok(123)),
+        ("/a/d", Call::Along, Ok(14)),
+        ("/a/b/c/d", Call::Along, Ok(123)),
+        // A missing group ends the way, also where one of the names behind it stands here.
+        ("/a/x/b", Call::Along, Ok(1)),
+        ("/x/a", Call::Along, Ok(0)),
+    ];
+    assert_eq!(rt; first_other_of_sample(rt.alloc(), true, &rows)?, None);
+    Ok(())
 }
 
 /// What was set is found, and nothing else has changed.
 #[test]
 fn sets(rt: HostRuntime) -> Result<(), Fail> {
-    let mut tree = sample(rt.alloc())?;
-    let is_set = set(rt.alloc(), &mut tree, "/a/b/c", attr(30))?;
-    let is_missing_set = set(rt.alloc(), &mut tree, "/a/x", attr(40))?;
+    let none = Err(TreeFault::NoGroup);
     let rows = [
-        ("/a/b/c", Some(attr(30))),
-        ("/a/b", Some(attr(2))),
-        ("/a/x", None),
+        ("/a/b/c", Call::Set(30), Ok(1)),
+        ("/a/x", Call::Set(40), none),
+        ("/a/b/c", Call::Find, Ok(30)),
+        ("/a/b", Call::Find, Ok(2)),
+        ("/a/x", Call::Find, none),
     ];
-    let other = first_other(rt.alloc(), &tree, &rows)?;
-    assert_eq!(rt; (is_set, is_missing_set, other), (true, false, None));
+    assert_eq!(rt; first_other_of_sample(rt.alloc(), false, &rows)?, None);
     Ok(())
-}
-
-/// Sets the attributes at the first names of a path; whether there was such a group.
-fn set_at(tree: &mut GroupTree<Global>, path: &GroupPath<Global>, n: usize, attr: Attr) -> bool {
-    n <= path.depth() && tree.set_at(path, n, attr)
 }
 
 #[test]
 fn sets_at_first_names(rt: HostRuntime) -> Result<(), Fail> {
-    let mut tree = sample(rt.alloc())?;
-    let deep = path(rt.alloc(), "/a/b/x")?;
-    let mut is_set = [false; 3];
-    for (n, is_set) in [0, 2, 3].into_iter().zip(is_set.iter_mut()) {
-        *is_set = set_at(&mut tree, &deep, n, attr(20));
-    }
     let rows = [
-        ("/", Some(attr(20))),
-        ("/a", Some(attr(1))),
-        ("/a/b", Some(attr(20))),
-        ("/a/b/c", Some(attr(3))),
+        ("/a/b/x", Call::SetAt(0, 20), Ok(1)),
+        ("/a/b/x", Call::SetAt(2, 20), Ok(1)),
+        ("/a/b/x", Call::SetAt(3, 20), Err(TreeFault::NoGroup)),
+        ("/", Call::Find, Ok(20)),
+        ("/a", Call::Find, Ok(1)),
+        ("/a/b", Call::Find, Ok(20)),
+        ("/a/b/c", Call::Find, Ok(3)),
+        ("/", Call::All, Ok(5)),
     ];
-    let other = first_other(rt.alloc(), &tree, &rows)?;
-    assert_eq!(rt;
-        (is_set, other, tree.groups_beside_root()),
-        ([true, true, false], None, 5)
-    );
+    assert_eq!(rt; first_other_of_sample(rt.alloc(), false, &rows)?, None);
     Ok(())
 }
 
-/// Why the group at the path of this text is not made.
-fn refused(
-    alloc: Global,
-    tree: &mut GroupTree<Global>,
-    text: &str,
-) -> Result<Option<TreeFault>, Fail> {
-    let path = path(alloc, text)?;
-    Ok(tree.insert(&path, attr(9)).err())
-}
-
+/// Refused inserts, then refused removals, and two that are not; one makes the other possible.
 #[test]
-fn refuses_inserts_in_order(rt: HostRuntime) -> Result<(), Fail> {
-    let mut tree = sample(rt.alloc())?;
-    let root = refused(rt.alloc(), &mut tree, "/")?;
-    let group = refused(rt.alloc(), &mut tree, "/a/b")?;
-    let stray = refused(rt.alloc(), &mut tree, "/x/b")?;
-    let kept = found(rt.alloc(), &tree, "/a/b")?;
-    assert_eq!(rt;
-        ([root, group, stray], kept, tree.groups_beside_root()),
-        (
-            [
-                Some(TreeFault::Exists),
-                Some(TreeFault::Exists),
-                Some(TreeFault::NoParent)
-            ],
-            Some(attr(2)),
-            5
-        )
-    );
-    Ok(())
-}
-
-/// Whether a removal of the group at the path of this text answers this.
-fn is_answered(
-    alloc: Global,
-    tree: &mut GroupTree<Global>,
-    text: &str,
-    wanted: Result<Attr, TreeFault>,
-) -> Result<bool, Fail> {
-    let path = path(alloc, text)?;
-    Ok(tree.remove(&path) == wanted)
-}
-
-/// Refused removals, and two that are not; one makes the other possible.
-#[test]
-fn removes(rt: HostRuntime) -> Result<(), Fail> {
-    let mut tree = sample(rt.alloc())?;
+fn refuses_in_order(rt: HostRuntime) -> Result<(), Fail> {
     let rows = [
-        ("/", Err(TreeFault::RootFixed)),
-        ("/x/b", Err(TreeFault::NoGroup)),
-        ("/a/b", Err(TreeFault::HasChildren)),
-        ("/a/b/c", Ok(attr(3))),
-        ("/a/b", Ok(attr(2))),
-        ("/a/b", Err(TreeFault::NoGroup)),
+        ("/", Call::Insert(9), Err(TreeFault::Exists)),
+        ("/a/b", Call::Insert(9), Err(TreeFault::Exists)),
+        ("/x/b", Call::Insert(9), Err(TreeFault::NoParent)),
+        ("/a/b", Call::Find, Ok(2)),
+        ("/", Call::All, Ok(5)),
+        ("/", Call::Remove, Err(TreeFault::RootFixed)),
+        ("/x/b", Call::Remove, Err(TreeFault::NoGroup)),
+        ("/a/b", Call::Remove, Err(TreeFault::HasChildren)),
+        ("/a/b/c", Call::Remove, Ok(3)),
+        ("/a/b", Call::Remove, Ok(2)),
+        ("/a/b", Call::Remove, Err(TreeFault::NoGroup)),
+        ("/a/d", Call::Find, Ok(4)),
+        ("/", Call::All, Ok(3)),
     ];
-    for (text, wanted) in rows {
-        assert!(rt; is_answered(rt.alloc(), &mut tree, text, wanted)?, "{text}");
-    }
-    let kept = found(rt.alloc(), &tree, "/a/d")?;
-    assert_eq!(rt; (kept, tree.groups_beside_root()), (Some(attr(4)), 3));
-    Ok(())
-}
-
-/// Whether the chain of the group at the path of this text has these slots.
-pub(crate) fn is_chain<A: Allocator>(
-    alloc: Global,
-    tree: &GroupTree<A>,
-    text: &str,
-    wanted: Option<&[u16]>,
-) -> Result<bool, Fail> {
-    Ok(chain(alloc, tree, text)?.as_deref() == wanted)
-}
-
-#[test]
-fn goes_up(rt: HostRuntime) -> Result<(), Fail> {
-    let tree = sample(rt.alloc())?;
-    let rows = [
-        ("/a/b/c", Some([3, 2, 1].as_slice())),
-        ("/e", Some([5].as_slice())),
-        ("/", Some([].as_slice())),
-        ("/a/x", None),
-    ];
-    for (text, wanted) in rows {
-        assert!(rt; is_chain(rt.alloc(), &tree, text, wanted)?, "{text}");
-    }
+    assert_eq!(rt; first_other_of_sample(rt.alloc(), false, &rows)?, None);
     Ok(())
 }
 
 /// A copy is not changed with its source.
 #[test]
 fn copies(rt: HostRuntime) -> Result<(), Fail> {
-    let mut tree = sample(rt.alloc())?;
-    let copy = tree.copy(rt.alloc())?;
-    let is_removed = is_answered(rt.alloc(), &mut tree, "/a/b/c", Ok(attr(3)))?;
-    let rows = [("/a/b/c", Some(attr(3))), ("/e", Some(attr(5)))];
-    let other = first_other(rt.alloc(), &copy, &rows)?;
-    assert_eq!(rt;
-        (is_removed, other, copy.groups_beside_root()),
-        (true, None, 5)
-    );
+    let mut tree = sample(rt.alloc(), false)?;
+    let mut copy = tree.copy(rt.alloc())?;
+    let removed = [("/a/b/c", Call::Remove, Ok(3))];
+    assert_eq!(rt; first_other(rt.alloc(), &mut tree, &removed)?, None);
+    let kept = [
+        ("/a/b/c", Call::Find, Ok(3)),
+        ("/e", Call::Find, Ok(5)),
+        ("/", Call::All, Ok(5)),
+    ];
+    assert_eq!(rt; first_other(rt.alloc(), &mut copy, &kept)?, None);
+    Ok(())
+}
+
+/// The local total of the group that refused alone, and the totals of it and of those above it but the root.
+#[test]
+fn counts_refusals(rt: HostRuntime) -> Result<(), Fail> {
+    let rows = [
+        ("/a/b/c", Call::Refuse(2), Ok(1)),
+        ("/a/b/c", Call::Events, Ok(01_11_00)),
+        ("/a/d", Call::Events, Ok(01_00)),
+        ("/a/b/c", Call::Refuse(3), Ok(1)),
+        ("/a/b/c", Call::Events, Ok(02_12_11)),
+        ("/a/d", Call::Events, Ok(02_00)),
+        ("/a/d", Call::Refuse(1), Ok(1)),
+        ("/a/b/c", Call::Events, Ok(13_12_11)),
+        ("/a/d", Call::Events, Ok(13_00)),
+        ("/a/b", Call::Unrefuse(2), Ok(1)),
+        ("/a/b/c", Call::Events, Ok(12_01_11)),
+        ("/a/d", Call::Events, Ok(12_00)),
+        // None that is 0 is lowered.
+        ("/a/d", Call::Unrefuse(2), Ok(1)),
+        ("/a/b/c", Call::Events, Ok(11_01_11)),
+        ("/a/d", Call::Events, Ok(11_00)),
+    ];
+    assert_eq!(rt; first_other_of_sample(rt.alloc(), true, &rows)?, None);
     Ok(())
 }
 

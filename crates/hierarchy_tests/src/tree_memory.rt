@@ -1,53 +1,65 @@
 //! A tree in a small heap: what a refused growth leaves.
 
-use crate::tree::{attr, below, found, is_chain, path};
+use crate::tree::{Call, answer, attr, path};
 use crate::wide_and_deep::{deep, is_rising, nest};
 use group_tree::{GroupTree, TreeFault};
 use linked_list_allocator::LocalHeap;
 use std::alloc::{AllocError, Allocator, Global};
 use std::test::Fail;
 
-/// The path of the group with this number, below the root. Its name has 24 letters and more, and so takes memory.
-pub(crate) fn numbered(alloc: Global, number: u16) -> Result<String, AllocError> {
-    format!(in alloc; "/ggggggggggggggggggggggg{number}")
-}
+/// Before its number a group's path has this: a name of 24 letters and more, which takes memory.
+pub(crate) const LONG: &str = "/ggggggggggggggggggggggg";
 
-/// Makes the group of this number, with it as its slot; why it was not made.
-pub(crate) fn insert<A: Allocator + Clone>(
+/// Or this, which takes none.
+const SHORT: &str = "/g";
+
+/// What a call answers by the path of the group of this number.
+pub(crate) fn call<A: Allocator + Clone>(
     alloc: Global,
     tree: &mut GroupTree<A>,
+    stem: &str,
     number: u16,
-) -> Result<Option<TreeFault>, Fail> {
-    let text = numbered(alloc, number)?;
+    call: Call,
+) -> Result<Result<u64, TreeFault>, Fail> {
+    let text = format!(in alloc; "{stem}{number}")?;
     let path = path(alloc, text.as_str())?;
-    Ok(tree.insert(&path, attr(number)).err())
+    Ok(answer(tree, &path, call))
 }
 
 /// Whether the group of this number is there, with it as its slot.
-pub(crate) fn is_found<A: Allocator>(
+pub(crate) fn is_found<A: Allocator + Clone>(
     alloc: Global,
-    tree: &GroupTree<A>,
+    tree: &mut GroupTree<A>,
+    stem: &str,
     number: u16,
 ) -> Result<bool, Fail> {
-    let text = numbered(alloc, number)?;
-    let found = found(alloc, tree, text.as_str())?;
-    Ok(found == Some(attr(number)))
+    Ok(call(alloc, tree, stem, number, Call::Find)? == Ok(u64::from(number)))
 }
 
 /// Whether that many groups from number 0 on are there with their attributes, the next is not, and the count is right.
-fn has_first<A: Allocator>(alloc: Global, tree: &GroupTree<A>, count: u16) -> Result<bool, Fail> {
+fn has_first<A: Allocator + Clone>(
+    alloc: Global,
+    tree: &mut GroupTree<A>,
+    stem: &str,
+    count: u16,
+) -> Result<bool, Fail> {
     for number in 0..count {
-        if !is_found(alloc, tree, number)? {
+        if !is_found(alloc, tree, stem, number)? {
             return Ok(false);
         }
     }
-    let text = numbered(alloc, count)?;
-    let refused = found(alloc, tree, text.as_str())?;
-    let below = below(alloc, tree, "/")?;
+    let next = call(alloc, tree, stem, count, Call::Find)?;
+    let root = path(alloc, "/")?;
     Ok(
-        refused.is_none()
-            && below == Some(u64::from(count))
-            && tree.groups_beside_root() == u64::from(count),
+        (
+            next,
+            answer(tree, &root, Call::Below),
+            tree.groups_beside_root(),
+        ) == (
+            Err(TreeFault::NoGroup),
+            Ok(u64::from(count)),
+            u64::from(count),
+        ),
     )
 }
 
@@ -56,50 +68,23 @@ fn filled<'a>(
     alloc: Global,
     heap: &'a LocalHeap,
     tree: &mut GroupTree<&'a LocalHeap>,
+    stem: &str,
     most: u16,
 ) -> Result<Option<u16>, Fail> {
     for number in 0..most {
         let before = heap.used();
-        match insert(alloc, tree, number)? {
-            None => (),
-            Some(TreeFault::OutOfMemory) if heap.used() == before => return Ok(Some(number)),
-            Some(_) => return Ok(None),
+        match call(alloc, tree, stem, number, Call::Insert(number))? {
+            Ok(_) => (),
+            Err(TreeFault::OutOfMemory) if heap.used() == before => return Ok(Some(number)),
+            Err(_) => return Ok(None),
         }
     }
     Ok(Some(most))
 }
 
-/// In 1,024 bytes a growth is refused before the thousandth group.
-#[test]
-fn in_1024_bytes(rt: HostRuntime) -> Result<(), Fail> {
-    let heap = LocalHeap::new(rt.alloc(), 1024)?;
-    let mut tree = GroupTree::new(&heap, attr(0))?;
-    let made = filled(rt.alloc(), &heap, &mut tree, 1000)?;
-    let made = made.unwrap_or_default();
-    assert!(rt; 0 < made && made < 1000 && has_first(rt.alloc(), &tree, made)?);
-    Ok(())
-}
-
-/// In 65,536 bytes the first group is made; a copy of the tree stands in other memory.
-#[test]
-fn in_65536_bytes(rt: HostRuntime) -> Result<(), Fail> {
-    let heap = LocalHeap::new(rt.alloc(), 65536)?;
-    let mut tree = GroupTree::new(&heap, attr(9))?;
-    let refused = insert(rt.alloc(), &mut tree, 0)?;
-    let first = numbered(rt.alloc(), 0)?;
-    let is_chained = is_chain(rt.alloc(), &tree, first.as_str(), Some([0].as_slice()))?;
-    let copy = tree.copy(rt.alloc())?;
-    drop(tree);
-    let is_copied = has_first(rt.alloc(), &copy, 1)?;
-    assert_eq!(rt;
-        (refused, is_chained, heap.used(), is_copied),
-        (None, true, 0, true)
-    );
-    Ok(())
-}
-
-/// How many of the groups 0, 1 and 2 are made in a heap of that size; None where there is no heap or tree of that size.
-fn made_in(alloc: Global, size: usize) -> Result<Option<u16>, Fail> {
+/// How many groups are made, of as many as `most`, in a heap of that size, and a refusal leaves those before it as they
+/// were; None where there is no heap or tree of that size.
+fn made_in(alloc: Global, size: usize, stem: &str, most: u16) -> Result<Option<u16>, Fail> {
     let heap = match LocalHeap::new(alloc, size) {
         Ok(heap) => heap,
         Err(AllocError) => return Ok(None),
@@ -108,10 +93,62 @@ fn made_in(alloc: Global, size: usize) -> Result<Option<u16>, Fail> {
         Ok(tree) => tree,
         Err(AllocError) => return Ok(None),
     };
-    match filled(alloc, &heap, &mut tree, 3)? {
-        Some(made) if has_first(alloc, &tree, made)? => Ok(Some(made)),
+    match filled(alloc, &heap, &mut tree, stem, most)? {
+        Some(made) if has_first(alloc, &mut tree, stem, made)? => Ok(Some(made)),
         _ => Err(Fail::new("a refused growth left something changed")),
     }
+}
+
+/// In 1,024 bytes a growth is refused before the thousandth group.
+#[test]
+fn in_1024_bytes(rt: HostRuntime) -> Result<(), Fail> {
+    for stem in [SHORT, LONG] {
+        let made = made_in(rt.alloc(), 1024, stem, 1000)?;
+        assert!(rt; made.is_some_and(|made| 0 < made && made < 1000), "{stem}");
+    }
+    Ok(())
+}
+
+/// Whether the first group is made in the heap with its own slot in its chain, and a copy of the tree stands in other
+/// memory.
+fn has_a_copy(alloc: Global, heap: &LocalHeap, stem: &str) -> Result<bool, Fail> {
+    let mut tree = GroupTree::new(heap, attr(9))?;
+    let made = call(alloc, &mut tree, stem, 0, Call::Insert(0))?;
+    let slots = chain_of_the_first(alloc, &tree, stem)?;
+    let mut copy = tree.copy(alloc)?;
+    drop(tree);
+    Ok(
+        (
+            made,
+            slots,
+            heap.used(),
+            has_first(alloc, &mut copy, stem, 1)?,
+        ) == (Ok(0), true, 0, true),
+    )
+}
+
+/// Whether the chain of the group of number 0 has its slot alone.
+fn chain_of_the_first<A: Allocator>(
+    alloc: Global,
+    tree: &GroupTree<A>,
+    stem: &str,
+) -> Result<bool, Fail> {
+    let text = format!(in alloc; "{stem}0")?;
+    let path = path(alloc, text.as_str())?;
+    match tree.chain(&path) {
+        Ok(Some(slots)) => Ok(slots.as_slice() == &[0][..]),
+        _ => Ok(false),
+    }
+}
+
+/// In 65,536 bytes the first group is made; a copy of the tree stands in other memory.
+#[test]
+fn in_65536_bytes(rt: HostRuntime) -> Result<(), Fail> {
+    let heap = LocalHeap::new(rt.alloc(), 65536)?;
+    for stem in [SHORT, LONG] {
+        assert!(rt; has_a_copy(rt.alloc(), &heap, stem)?, "{stem}");
+    }
+    Ok(())
 }
 
 /// A heap of each size in steps of eight bytes refuses the growths of the first inserts one after another: that of
@@ -122,7 +159,7 @@ fn each_growth_of_an_insert_refused(rt: HostRuntime) -> Result<(), Fail> {
     let mut is_refused_behind_the_name = false;
     let mut is_whole = false;
     for step in 1..160usize {
-        let made = made_in(rt.alloc(), step * 8)?;
+        let made = made_in(rt.alloc(), step * 8, LONG, 3)?;
         if made == Some(0) && step * 8 >= 64 {
             is_refused_behind_the_name = true;
         }
@@ -134,25 +171,28 @@ fn each_growth_of_an_insert_refused(rt: HostRuntime) -> Result<(), Fail> {
     Ok(())
 }
 
-/// A tree with the groups 0 to 2.
-fn three(alloc: Global) -> Result<GroupTree<Global>, Fail> {
+/// Whether a copy of a tree of three groups is refused in the heap, takes nothing, and leaves its source.
+fn is_copy_refused(alloc: Global, heap: &LocalHeap) -> Result<bool, Fail> {
     let mut tree = GroupTree::new(alloc, attr(9))?;
     for number in 0..3u16 {
-        if insert(alloc, &mut tree, number)?.is_some() {
-            return Err(Fail::new("a group was not made"));
+        if call(alloc, &mut tree, LONG, number, Call::Insert(number))? != Ok(u64::from(number)) {
+            return Ok(false);
         }
     }
-    Ok(tree)
+    let is_refused = tree.copy(heap).is_err();
+    Ok(
+        (
+            is_refused,
+            heap.used(),
+            has_first(alloc, &mut tree, LONG, 3)?,
+        ) == (true, 0, true),
+    )
 }
 
-/// A refused copy takes nothing, and leaves its source.
 #[test]
 fn copy_refused(rt: HostRuntime) -> Result<(), Fail> {
-    let tree = three(rt.alloc())?;
     let heap = LocalHeap::new(rt.alloc(), 512)?;
-    let is_refused = tree.copy(&heap).is_err();
-    let is_kept = has_first(rt.alloc(), &tree, 3)?;
-    assert_eq!(rt; (is_refused, heap.used(), is_kept), (true, 0, true));
+    assert!(rt; is_copy_refused(rt.alloc(), &heap)?);
     Ok(())
 }
 

@@ -2,8 +2,8 @@
 
 use crate::limits::limited;
 use crate::paths::names_of_letters;
-use crate::tree::{attr, path};
-use crate::tree_memory::{insert, is_found, numbered};
+use crate::tree::{Call, attr, path};
+use crate::tree_memory::{LONG, call, is_found};
 use group_path::GroupPath;
 use group_tree::{GroupTree, Limit, MetLimit, TreeFault};
 use std::alloc::{AllocError, Allocator, Global};
@@ -57,26 +57,47 @@ fn counts_down<A: Allocator>(tree: &GroupTree<A>, deepest: &GroupPath<Global>) -
     true
 }
 
-/// Whether that many nested groups have the chain, and the counts, that they must have.
-fn is_chained(alloc: Global, depth: u16) -> Result<bool, Fail> {
+/// Whether that many groups come along the path, from the one below the root down.
+fn comes_along<A: Allocator>(tree: &GroupTree<A>, deepest: &GroupPath<Global>, depth: u16) -> bool {
+    let mut last = 0u16;
+    for attr in tree.along(deepest) {
+        if attr.slot != last.saturating_add(1) {
+            return false;
+        }
+        last = attr.slot;
+    }
+    last == depth
+}
+
+/// Whether that many groups have their slots upward.
+fn has_chain<A: Allocator>(tree: &GroupTree<A>, deepest: &GroupPath<Global>, depth: u16) -> bool {
+    match tree.chain(deepest) {
+        Ok(Some(slots)) => is_rising(&slots, depth),
+        _ => false,
+    }
+}
+
+/// Whether that many nested groups have the chain, the counts and the way along that they must have.
+fn is_nested(alloc: Global, depth: u16) -> Result<bool, Fail> {
     let mut tree = GroupTree::new(alloc, attr(0))?;
     let deepest = deep(alloc, usize::from(depth))?;
-    if !nest(alloc, &mut tree, &deepest)? {
-        return Ok(false);
-    }
-    let has_chain = match tree.chain(&deepest)? {
-        Some(slots) => is_rising(&slots, depth),
-        None => false,
-    };
-    let is_counted = tree.groups_beside_root() == u64::from(depth);
-    Ok(has_chain && is_counted && counts_down(&tree, &deepest))
+    let is_whole = nest(alloc, &mut tree, &deepest)?;
+    Ok(
+        (
+            is_whole,
+            has_chain(&tree, &deepest, depth),
+            tree.groups_beside_root(),
+            counts_down(&tree, &deepest),
+            comes_along(&tree, &deepest, depth),
+        ) == (true, true, u64::from(depth), true, true),
+    )
 }
 
 /// Up to eight slots stand in the value itself; a path has at most 32 names.
 #[test]
-fn chains(rt: HostRuntime) -> Result<(), Fail> {
+fn nested(rt: HostRuntime) -> Result<(), Fail> {
     for depth in [1u16, 8, 9, 32] {
-        assert!(rt; is_chained(rt.alloc(), depth)?, "{depth}");
+        assert!(rt; is_nested(rt.alloc(), depth)?, "{depth}");
     }
     Ok(())
 }
@@ -148,23 +169,23 @@ fn removes_from_below(rt: HostRuntime) -> Result<(), Fail> {
     Ok(())
 }
 
-/// 256 siblings, made out of their order.
-fn many(alloc: Global) -> Result<GroupTree<Global>, Fail> {
-    let mut tree = GroupTree::new(alloc, attr(0))?;
+/// Makes 256 siblings, out of their order; whether each was made.
+fn make_all(alloc: Global, tree: &mut GroupTree<Global>) -> Result<bool, Fail> {
     for step in 0..256u16 {
-        if insert(alloc, &mut tree, (step * 77) % 256)?.is_some() {
-            return Err(Fail::new("a group was not made"));
+        let number = (step * 77) % 256;
+        if call(alloc, tree, LONG, number, Call::Insert(number))? != Ok(u64::from(number)) {
+            return Ok(false);
         }
     }
-    Ok(tree)
+    Ok(true)
 }
 
 /// How many of the 256 siblings of even numbers, and of odd ones, are there with their attributes.
-fn counted(alloc: Global, tree: &GroupTree<Global>) -> Result<[u16; 2], Fail> {
+fn counted(alloc: Global, tree: &mut GroupTree<Global>) -> Result<[u16; 2], Fail> {
     let mut even = 0u16;
     let mut odd = 0u16;
     for number in 0..256u16 {
-        if is_found(alloc, tree, number)? {
+        if is_found(alloc, tree, LONG, number)? {
             if number % 2 == 0 {
                 even = even.saturating_add(1);
             } else {
@@ -175,17 +196,11 @@ fn counted(alloc: Global, tree: &GroupTree<Global>) -> Result<[u16; 2], Fail> {
     Ok([even, odd])
 }
 
-/// Removes the group of this number; whether it had it as its slot.
-fn is_removed(alloc: Global, tree: &mut GroupTree<Global>, number: u16) -> Result<bool, Fail> {
-    let text = numbered(alloc, number)?;
-    let path = path(alloc, text.as_str())?;
-    Ok(tree.remove(&path) == Ok(attr(number)))
-}
-
-/// Removes the siblings of even numbers; whether each was there.
+/// Removes the siblings of even numbers; whether each was there with its attributes.
 fn remove_even(alloc: Global, tree: &mut GroupTree<Global>) -> Result<bool, Fail> {
     for half in 0..128u16 {
-        if !is_removed(alloc, tree, half * 2)? {
+        let number = half * 2;
+        if call(alloc, tree, LONG, number, Call::Remove)? != Ok(u64::from(number)) {
             return Ok(false);
         }
     }
@@ -194,13 +209,11 @@ fn remove_even(alloc: Global, tree: &mut GroupTree<Global>) -> Result<bool, Fail
 
 #[test]
 fn siblings(rt: HostRuntime) -> Result<(), Fail> {
-    let mut tree = many(rt.alloc())?;
-    let before = (counted(rt.alloc(), &tree)?, tree.groups_beside_root());
-    let are_removed = remove_even(rt.alloc(), &mut tree)?;
-    let after = (counted(rt.alloc(), &tree)?, tree.groups_beside_root());
-    assert_eq!(rt;
-        (before, are_removed, after),
-        (([128, 128], 256), true, ([0, 128], 128))
-    );
+    let mut tree = GroupTree::new(rt.alloc(), attr(0))?;
+    assert!(rt; make_all(rt.alloc(), &mut tree)?);
+    let before = (counted(rt.alloc(), &mut tree)?, tree.groups_beside_root());
+    assert!(rt; remove_even(rt.alloc(), &mut tree)?);
+    let after = (counted(rt.alloc(), &mut tree)?, tree.groups_beside_root());
+    assert_eq!(rt; (before, after), (([128, 128], 256), ([0, 128], 128)));
     Ok(())
 }

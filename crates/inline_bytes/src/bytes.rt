@@ -1,6 +1,6 @@
 //! The bytes, where they lie, and how they are made and read.
 
-ghost use Rattle.std.specs.Prelude.{◌≡◌, ◌≤◌, IfOk, IsOk, length, take};
+ghost use Rattle.std.specs.Prelude.{◌≡◌, ◌+◌, ◌<◌, ◌≤◌, ◌^◌, ◌∷◌, ◌++◌, IfOk, IsOk, length, take};
 
 use std::alloc::{AllocError, Allocator};
 use std::marker::Model;
@@ -58,6 +58,33 @@ impl<A: Allocator> InlineBytes<A> {
         Ok(InlineBytes::inline(bytes))
     }
 
+    /// The first bytes, one more and the last ones, in time linear in them.
+    ///
+    /// # Errors
+    ///
+    /// `AllocError` where there are more than `INLINE_MAX` and no memory was had for them.
+    pub fn joined(
+        alloc: A,
+        front: &[u8],
+        between: u8,
+        back: &[u8],
+    ) -> Result<InlineBytes<A>, AllocError>
+        requires { length front.now + 1 + length back.now < 2 ^ 64 }
+        ensures same { IfOk result (λ b. b ≡ front.now ++ between ∷ back.now) }
+        ensures few { length front.now + 1 + length back.now ≤ INLINE_MAX → IsOk result }
+    {
+        let len = front.len() + 1 + back.len();
+        if len > INLINE_MAX {
+            let mut heap = Vec::with_capacity(alloc, len)?;
+            heap.extend_from_slice(front)?;
+            heap.push(between)?;
+            heap.extend_from_slice(back)?;
+            let place = Place::Heap(heap);
+            return Ok(InlineBytes { place });
+        }
+        Ok(InlineBytes::inline_joined(front, between, back))
+    }
+
     /// The bytes of this vector, which is given up where they are at most `INLINE_MAX`. It asks for no memory.
     pub fn of_vec(bytes: Vec<u8, A>) -> InlineBytes<A>
         ensures { result ≡ bytes.items }
@@ -67,6 +94,22 @@ impl<A: Allocator> InlineBytes<A> {
             return InlineBytes { place };
         }
         InlineBytes::inline(bytes.as_slice())
+    }
+
+    /// The first bytes, one more and the last ones, where they are few.
+    fn inline_joined(front: &[u8], between: u8, back: &[u8]) -> InlineBytes<A>
+        requires { length front.now + 1 + length back.now ≤ INLINE_MAX }
+        ensures { result ≡ front.now ++ between ∷ back.now }
+    {
+        let mut bytes = [0u8; INLINE_MAX];
+        let at = front.len();
+        let end = at + 1 + back.len();
+        bytes[..at].copy_from_slice(front);
+        bytes[at] = between;
+        bytes[at + 1..end].copy_from_slice(back);
+        let len = end as u8;
+        let place = Place::Inline { bytes, len };
+        InlineBytes { place }
     }
 
     /// The same few bytes.

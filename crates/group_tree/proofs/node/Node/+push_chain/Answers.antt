@@ -1,6 +1,6 @@
-use Rattle.std.proofs.Common.{rules, sym, ◌∙◌}
+use Rattle.std.proofs.Common.{rules, sym, subst, ◌∙◌, IsSome}
 use Rattle.group_tree.proofs.Walk.{find_none, find_down}
-use Rattle.group_tree.proofs.Chains.{chain_here, chain_step, at_false, at_true}
+use Rattle.group_tree.proofs.Chains.{chain_here, chain_step, at_false, at_true, not_both}
 use Rattle.group_tree.proofs.InPlace.{pushes_below, refused_below, pushes_one, push_refused}
 use Rattle.group_tree.proofs.Copies.{falls_child, child_at_smaller}
 use Rattle.group_tree.proofs.node.Node.+push_chain.Goals as goal
@@ -35,3 +35,18 @@ returns-in_err-push-in-Ok-clause-in_place g t c =
 pub returns-in_ok-push-in-Ok-clause-in_place : goal.returns-in_ok-push-in-Ok-clause-in_place
 returns-in_ok-push-in-Ok-clause-in_place g t c =
     pushes_one c.args.slots.now c.push_chain.new.slots c.push.new.self _ _ _ _ _ c.in-Some.ensures.steps c.in_ok-push_chain-in-Ok.ensures.in_place c.in_ok-push-in-Ok.ensures.len c.in_ok-push-in-Ok.ensures.had_room
+
+pub returns-in-None-clause-absent : goal.returns-in-None-clause-absent
+returns-in-None-clause-absent g t c = λ none. not_both _ _ (returns-in-None-clause-chain g t c).0 none
+
+pub returns-in_ok-push-in-Ok-clause-absent : goal.returns-in_ok-push-in-Ok-clause-absent
+returns-in_ok-push-in-Ok-clause-absent g t c = λ none. not_both _ _ (returns-in_ok-push-in-Ok-clause-chain g t c).0 none
+
+pub returns-in_err-push_chain-in-Ok-clause-absent : goal.returns-in_err-push_chain-in-Ok-clause-absent
+returns-in_err-push_chain-in-Ok-clause-absent g t c =
+    λ none. let e = c.in_err-push_chain-in-Ok.ensures.absent (find_down _ _ _ _ _ _ _ _ _ _ c.self.view_is c.self.invariant.rising c.in-Some.ensures.steps c.in-Ok.ensures.value c.deref.ensures.value c.index-child.ensures ∙ none) in cc
+
+pub returns-in_err-push-in-Ok-clause-absent : goal.returns-in_err-push-in-Ok-clause-absent
+returns-in_err-push-in-Ok-clause-absent g t c =
+    λ none. not_both _ _ (at_true _ _ _ c.if-not-branch.false c.in_ok-push_chain-in-Ok.ensures.chain).0
+    (find_down _ _ _ _ _ _ _ _ _ _ c.self.view_is c.self.invariant.rising c.in-Some.ensures.steps c.in-Ok.ensures.value c.deref.ensures.value c.index-child.ensures ∙ none)
