@@ -1,6 +1,6 @@
 use Rattle.snzi_core.specs.Balance.{here}
-use Rattle.snzi_tree.proofs.Deeper.{root_first, path_smaller, path_higher}
-use Rattle.snzi_tree.proofs.laws.depths_follow_parents.Goals as goal
+use Rattle.indicator_laws.proofs.Deeper.{root_first, path_smaller, path_higher}
+use Rattle.indicator_laws.proofs.boards.depths_follow_parents.Goals as goal
 
 pub returns-clause-own : goal.returns-clause-own
 returns-clause-own c = λ k. here

@@ -13,7 +13,7 @@ ghost use Rattle.snzi_core.specs.Holding.{put, added, merged, without, wrapped, 
 ghost use Rattle.snzi_core.specs.Kept.{HasTables, IsCore};
 ghost use Rattle.snzi_core.specs.Lawful.{refusal, refuses_split};
 ghost use Rattle.snzi_core.specs.Effect.{Refuses, Runs, Stops, after, is_split};
-ghost use Rattle.snzi_core.specs.Examples.{core, at, token, full, crowded, filled, roomy, main_with};
+ghost use Rattle.indicator_laws.specs.Cores.{core, at, token, full, crowded, filled, roomy, main_with};
 
 /// An answer says one thing only. The refusal that an event meets is answered, and no other; where
 /// it meets none, want of memory alone may be answered, and only of a split, which alone makes a

@@ -1,6 +1,6 @@
-use Rattle.snzi_tree.proofs.Counted.{nothing_at, nothing_to}
+use Rattle.indicator_laws.proofs.Counted.{nothing_at, nothing_to}
 use Rattle.snzi_tree.proofs.Leaves.{in_positive, positive_in}
-use Rattle.snzi_tree.proofs.laws.contents_are_by_slot.Goals as goal
+use Rattle.indicator_laws.proofs.boards.contents_are_by_slot.Goals as goal
 
 pub returns-clause-nothing : goal.returns-clause-nothing
 returns-clause-nothing c = λ w l s j. (nothing_at w l s j, nothing_to w l s l)

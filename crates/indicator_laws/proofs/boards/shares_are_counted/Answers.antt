@@ -1,8 +1,8 @@
 use Rattle.std.proofs.Common.{[], ◌∷◌, arith}
-use Rattle.snzi_tree.specs.Examples.{token}
-use Rattle.snzi_tree.proofs.Counted.{from_range}
+use Rattle.indicator_laws.specs.Boards.{token}
+use Rattle.indicator_laws.proofs.Counted.{from_range}
 use Rattle.snzi_tree.proofs.Given.{in_range, count_leaf}
-use Rattle.snzi_tree.proofs.laws.shares_are_counted.Goals as goal
+use Rattle.indicator_laws.proofs.boards.shares_are_counted.Goals as goal
 
 pub returns-clause-same : goal.returns-clause-same
 returns-clause-same c = λ w l g share shape within s j below. count_leaf w l shape g share (in_range g l share within) s j below

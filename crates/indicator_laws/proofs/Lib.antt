@@ -1,0 +1,4 @@
+mod Told
+mod Counted
+mod Deeper
+mod NoEvent
