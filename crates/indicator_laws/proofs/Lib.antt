@@ -2,3 +2,4 @@ mod Told
 mod Counted
 mod Deeper
 mod NoEvent
+mod LawfulRuns

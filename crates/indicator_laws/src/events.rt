@@ -1,5 +1,5 @@
 //! The laws of steps: each step on a board is one event of the core that the board stands for.
-ghost use Rattle.std.specs.Prelude.{◌≡◌, ℕ, ◌+◌, ◌-◌, ◌*◌, ◌%◌, ◌^◌, ◌<◌, ◌≤◌, ◌==◌, List, [], slice_index};
+ghost use Rattle.std.specs.Prelude.{◌≡◌, ℕ, ◌+◌, ◌-◌, ◌*◌, ◌%◌, ◌^◌, ◌<◌, ◌≤◌, ◌==◌, List, [], slice_index, length, Some, None};
 ghost use denote.Bor.{Bor};
 ghost use mathlib.Core.Option.{none};
 ghost use prog.Atomic.{either};
@@ -8,14 +8,16 @@ ghost use Rattle.snzi_core.specs.declared.holding.Role.TheVariants.{Helper};
 ghost use Rattle.snzi_core.specs.declared.event.Event.{Event};
 ghost use Rattle.snzi_core.specs.declared.event.Event.TheVariants.{RootAdd, ChildAdd, Leave, StripeAdd};
 ghost use Rattle.snzi_core.specs.declared.event.Token.{Token};
+ghost use Rattle.snzi_core.specs.declared.unlawful.Unlawful.{Unlawful};
+ghost use Rattle.snzi_core.specs.declared.unlawful.Unlawful.TheVariants.{Cap};
 ghost use Rattle.snzi_core.specs.Caps.{token_cap, helper_cap};
 ghost use Rattle.snzi_core.specs.Holding.{tokens_at, held, main_weight, out};
 ghost use Rattle.snzi_core.specs.State.{State as Core};
 ghost use Rattle.snzi_core.specs.Lawful.{refusal};
-ghost use Rattle.snzi_core.specs.Effect.{after};
+ghost use Rattle.snzi_core.specs.Effect.{after, Runs};
 ghost use Rattle.snzi_tree.specs.declared.board.View.{View};
 ghost use Rattle.snzi_tree.specs.Contents.{AllInRange, count_at, AtLeaves};
-ghost use Rattle.snzi_tree.specs.Events.{IsEventOf, IsSplitOf, IsJoinOf, Alike, slot_at, place_at, node_at, load_at, exchange_at};
+ghost use Rattle.snzi_tree.specs.Events.{IsLawful, Comes, IsEventOf, IsSplitOf, IsJoinOf, Alike, slot_at, place_at, node_at, load_at, exchange_at};
 ghost use Rattle.snzi_tree.specs.Hands.{IsNodeWord, IsStripeWord, above, IsRootWord};
 ghost use Rattle.snzi_tree.specs.Tell.{looked, queried, summed, root_added, child_added, fast_added, left, added_on, staged, unstaged};
 ghost use Rattle.snzi_tree.specs.View.{BoardRule, Knows, IsBoard, Acts, first_view, kept, given, joined, spent_view};
@@ -69,4 +71,15 @@ pub fn two_adds_are_no_event()
 /// Cores that no number tells apart refuse the same events for the same causes, and go on alike.
 pub fn alike_cores_go_on_alike()
     ensures { (k k' : Core) (e : Event) → Alike k k' → (refusal k e ≡ refusal k' e) × Alike (after k e) (after k' e) }
+{}
+
+/// A lawful event is one that the core does not refuse, as long as it has a number for the hand of a
+/// split; else it refuses the split for its cap. So a run to fewer than 2^32 hands is one that the core
+/// does itself.
+pub fn lawful_events_are_done()
+    ensures some { (k : Core) (e : Event) → refusal k e ≡ None → IsLawful k e }
+    ensures done { (k : Core) (e : Event) → IsLawful k e → length k.hands < 2 ^ 32 - 1 → refusal k e ≡ None }
+    ensures refused { (k : Core) (e : Event) (u : Unlawful) → IsLawful k e → refusal k e ≡ Some u → (u ≡ Cap) × (2 ^ 32 - 1 ≤ length k.hands) }
+    ensures run { (k k' : Core) (events : List Event) → Comes k events k' → length k'.hands < 2 ^ 32 → Runs k events k' }
+    ensures one { (k a b : Core) (events : List Event) → Comes k events a → Comes k events b → a ≡ b }
 {}

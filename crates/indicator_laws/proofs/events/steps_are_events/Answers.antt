@@ -35,7 +35,7 @@ pub returns-clause-added_on : goal.returns-clause-added_on
 returns-clause-added_on c = λ g w l slots id j n me board acts inside striped s m r at told. stripe_add_makes g w l board s r id me at acts j inside striped m slots n told
 
 pub returns-clause-split : goal.returns-clause-split
-returns-clause-split c = λ g w l id v share board main room all plan fits s r at made. split_makes g w l board s r id v share main room all plan fits at made
+returns-clause-split c = λ g w l id v share board main room all plan fits s r at. split_makes g w l board s r id v share main room all plan fits at
 
 pub returns-clause-join : goal.returns-clause-join
 returns-clause-join c = λ g w l id other v u board main helper room tidy s r at apart there. join_makes g w l board s r id other v u main helper room tidy at apart there
