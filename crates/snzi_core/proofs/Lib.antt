@@ -15,4 +15,3 @@ pub mod Splitting
 pub mod Joining
 pub mod Ready
 pub mod Keeps
-pub mod Told

@@ -24,11 +24,9 @@
 //! changes (`Holding`, `Changes`), the caps (`Caps`), the balance and
 //! presence (`Balance`), the state that
 //! contracts see (`State`), the table of refusals (`Lawful`) and of effects (`Effect`). The laws
-//! that other rules over words can use are the contracts of the module `laws` (`specs/Laws`); those
-//! of the answers, of `answers`, with cores written out (`Examples`).
+//! that other rules over words can use are the contracts of the module `laws` (`specs/Laws`).
 #![tactic(auto)]
 
-pub mod answers;
 mod caps;
 mod changes;
 mod checks;

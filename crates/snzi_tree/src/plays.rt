@@ -95,6 +95,15 @@ impl Play<(), View> for Stage {
     ghost then = { staged };
 }
 
+// The last load of a board.
+pub(crate) struct Ended<const G: usize, const W: usize, const L: usize>;
+
+impl<const G: usize, const W: usize, const L: usize> Play<(), View> for Ended<G, W, L> {
+    ghost use Rattle.snzi_tree.specs.Ended.{ended};
+
+    ghost then = { ended G W L };
+}
+
 // A split by the share, and a join.
 pub(crate) struct Share;
 

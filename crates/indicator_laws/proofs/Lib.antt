@@ -1,0 +1,5 @@
+mod Told
+mod Counted
+mod Deeper
+mod NoEvent
+mod LawfulRuns

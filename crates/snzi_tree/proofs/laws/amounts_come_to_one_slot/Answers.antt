@@ -1,4 +1,0 @@
-use Rattle.snzi_tree.proofs.laws.amounts_come_to_one_slot.Goals as goal
-
-pub returns-clause-not : goal.returns-clause-not
-returns-clause-not c = λ f. let e = f 0 in cc
