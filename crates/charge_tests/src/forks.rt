@@ -1,7 +1,24 @@
 //! A fork in its two halves: decided, and then done.
 
+use crate::calls::Plain;
 use pids_charge::{ChargeFault, Charges, Pid, PlainMeter};
 use std::test::Fail;
+
+/// Makes the process where it is not refused; what it was refused with.
+fn make(charges: &mut Plain, parent: Pid, child: Pid) -> Option<ChargeFault> {
+    match charges.refuses_fork(parent, child) {
+        Some(fault) => Some(fault),
+        None => charges.make_process(0, parent, child).err(),
+    }
+}
+
+/// How deep the group of a process is; None where there is no such process.
+fn depth_of_home(charges: &Plain, pid: Pid) -> Option<usize> {
+    match charges.home(pid) {
+        Some(path) => Some(path.depth()),
+        None => None,
+    }
+}
 
 /// What is not refused is made, once, and in the group of its parent.
 #[test]
@@ -10,21 +27,23 @@ fn decided_and_made(rt: HostRuntime) -> Result<(), Fail> {
     let (Some(parent), Some(child), Some(other)) = (Pid::new(1), Pid::new(2), Pid::new(3)) else {
         return Err(Fail::new("there are no such numbers"));
     };
-    if charges.refuses_fork(parent, child).is_some() {
-        return Err(Fail::new("the first fork is refused"));
-    }
-    let made = charges.make_process(0, parent, child);
-    let home = charges.home(child).map(|path| path.depth());
-    assert_eq!(rt; (made, home), (Ok(()), Some(0)));
-    let again = charges.refuses_fork(parent, child);
-    let orphan = charges.refuses_fork(other, child);
+    let made = make(&mut charges, parent, child);
+    let again = make(&mut charges, parent, child);
+    let orphan = make(&mut charges, other, child);
     assert_eq!(rt;
-        (again, orphan, charges.home(other).is_none()),
+        (made, again, orphan),
         (
+            None,
             Some(ChargeFault::PidInUse(child)),
-            Some(ChargeFault::NoProcess(other)),
-            true
+            Some(ChargeFault::NoProcess(other))
         )
+    );
+    assert_eq!(rt;
+        (
+            depth_of_home(&charges, child),
+            depth_of_home(&charges, other)
+        ),
+        (Some(0), None)
     );
     Ok(())
 }

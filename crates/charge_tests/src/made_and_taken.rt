@@ -1,29 +1,38 @@
 //! A new group, and a removal, in their two halves: decided, and then done.
 
+use crate::calls::Plain;
 use group_path::GroupPath;
 use pids_charge::{ChargeFault, Charges, PlainMeter};
+use std::alloc::Global;
 use std::test::Fail;
+
+/// Makes the group where it is not refused; what it was refused with.
+fn make(charges: &mut Plain, group: &GroupPath<Global>) -> Option<ChargeFault> {
+    match charges.refuses_mkdir(group) {
+        Some(fault) => Some(fault),
+        None => charges.make_group(group).err(),
+    }
+}
+
+/// Takes the group out where it is not refused; its local total and its total.
+fn take(charges: &mut Plain, group: &GroupPath<Global>) -> Result<(u64, u64), ChargeFault> {
+    if let Some(fault) = charges.refuses_rmdir(group) {
+        return Err(fault);
+    }
+    let attr = charges.take_group(group);
+    Ok((attr.local, attr.total))
+}
 
 /// What is not refused is made, once, and is taken out, once.
 #[test]
 fn decided_and_made(rt: HostRuntime) -> Result<(), Fail> {
     let mut charges = Charges::new(rt.alloc(), PlainMeter::new(rt.alloc())?)?;
     let group = GroupPath::read(rt.alloc(), b"/a")?;
-    if charges.refuses_mkdir(&group).is_some() {
-        return Err(Fail::new("the first group is refused"));
-    }
-    let made = charges.make_group(&group);
-    assert_eq!(rt;
-        (made, charges.refuses_mkdir(&group)),
-        (Ok(()), Some(ChargeFault::Exists))
-    );
-    if charges.refuses_rmdir(&group).is_some() {
-        return Err(Fail::new("the removal is refused"));
-    }
-    let attr = charges.take_group(&group);
-    assert_eq!(rt;
-        (attr.local, attr.total, charges.refuses_rmdir(&group)),
-        (0, 0, Some(ChargeFault::NoGroup(1)))
-    );
+    let made = make(&mut charges, &group);
+    let again = make(&mut charges, &group);
+    let taken = take(&mut charges, &group);
+    let gone = take(&mut charges, &group);
+    assert_eq!(rt; (made, again), (None, Some(ChargeFault::Exists)));
+    assert_eq!(rt; (taken, gone), (Ok((0, 0)), Err(ChargeFault::NoGroup(1))));
     Ok(())
 }

@@ -8,6 +8,7 @@
 //!
 //! - `engine`: commands, their texts, and what the engine keeps of them.
 //! - `engine_memory`: each growth that a command asks for, refused in turn.
+//! - `ample_memory`: answers where there is memory, in the cases where a wrong reason could hide behind a want of it.
 //! - `rehearsal`: rehearsals in an arena.
 //! - `traces`: traces with their answers, by a replay and by a rehearsal, as tables of texts; long lines and long answers. Those of
 //!   files, kills and `where` stand in `file_traces`.
@@ -16,6 +17,8 @@
 //! - `arguments`: the command line, what the program does by it, its statuses and messages.
 #![tactic(auto)]
 
+#[cfg(test)]
+mod ample_memory;
 #[cfg(test)]
 mod arguments;
 #[cfg(test)]

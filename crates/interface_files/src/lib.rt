@@ -18,14 +18,13 @@
 //!
 //! The definitions stand in `flat_model`: `specs/File.antt` (names, and which group has what), `specs/Values.antt` (values and
 //! their faults), `specs/FileText.antt` (texts). `specs/Meaning.antt` here says which file and fault is which of the model's,
-//! `specs/Shown.antt` what `render` and `render_home` answer.
+//! `specs/Shown.antt` what `render` and `render_home` answer; `journal_laws` states their laws.
 #![tactic(auto)]
 
 mod cat;
 mod fault;
 mod file;
 mod home;
-pub mod laws;
 mod limit;
 mod number;
 mod texts;

@@ -1,5 +1,5 @@
 -- What a fork is refused with, and what it leaves.
-use Rattle.std.proofs.Common.{◌≡◌, ℕ, Bool, true, false, cond, not, Option, Some, None, IsSome, is_some, Result, Ok, Err, OnOk, OnErr, IfErr, List, [], length, take, option_map, unwrap_or, refl, sym, ap, ◌∙◌}
+use Rattle.std.proofs.Common.{◌≡◌, ℕ, Bool, true, false, cond, not, Option, Some, None, IsSome, is_some, Result, Ok, Err, OnOk, List, [], length, take, option_map, unwrap_or, refl, sym, ap, ◌∙◌}
 use Rattle.std.proofs.lemmas.Bool.{false≢true}
 use Rattle.std.specs.Ordering.{nat_cmp}
 use Rattle.std.specs.Map.{lookup}
@@ -8,12 +8,10 @@ use Rattle.std.specs.FinMap as fin
 use Rattle.flat_model.specs.Path.{Path, at_or_below}
 use Rattle.flat_model.specs.State.{State}
 use Rattle.flat_model.specs.Counts.{has_process, blocked_fork}
-use Rattle.flat_model.specs.Command.{Command, Refusal, Fork, NoProcess, PidInUse, OverPidsMax}
-use Rattle.flat_model.specs.Step.{refusal, after, home_of}
+use Rattle.flat_model.specs.Command.{Refusal, Fork, NoProcess, PidInUse, OverPidsMax}
+use Rattle.flat_model.specs.Step.{refusal, home_of}
 use Rattle.group_tree.specs.Groups.{Groups}
 use Rattle.pids_charge.specs.declared.fault.ChargeFault.{ChargeFault}
-use Rattle.pids_charge.specs.declared.fault.ChargeFault.TheVariants.{OutOfMemory}
-use Rattle.pids_charge.specs.Answers.{Does, refusal_of, after_fault}
 use Rattle.pids_charge.specs.Content.{Content}
 use Rattle.pids_charge.specs.Events.{full_by, longest}
 use Rattle.pids_charge.specs.Lists.{Row}

@@ -1,6 +1,6 @@
 //! The making of processes, the forks that a limit refuses, and what takes the count of a refusal back.
 
-ghost use Rattle.std.specs.Prelude.{◌≡◌, ◌≢◌, ◌<◌, ◌≤◌, true, Some, None, IfSome, IfErr, OnOk, OnErr, IsSome, MatchOption, length, take};
+ghost use Rattle.std.specs.Prelude.{◌≡◌, ◌≢◌, ℕ, ◌<◌, ◌≤◌, true, Some, None, IfSome, IfErr, OnOk, OnErr, IsSome, MatchOption, length, take};
 ghost use Rattle.std.specs.FinMap as fin;
 ghost use Rattle.std.specs.Ordering.{nat_cmp};
 ghost use Rattle.flat_model.specs.Path.{Path};
@@ -45,6 +45,7 @@ fn limiting_group<T: Allocator, M: Meter, A: Allocator + Clone>(
     requires slots { SlotsBelow M.SLOTS tree.now }
     ensures answer { result ≡ longest (λ a. full_by M.LEAVES (M.content meter.old) (fin.get tree.now a)) path.now (length path.now) }
     ensures inside { IfSome result (λ n. n ≤ length path.now) }
+    ensures below_root { IfSome result (λ n. 0 < n) }
     ensures content { M.content meter.new ≡ M.content meter.old }
     ensures held { M.held meter.new ≡ M.held meter.old }
 {
@@ -67,6 +68,7 @@ fn count_refusal<T: Allocator, A: Allocator + Clone>(
     path: &GroupPath<A>,
     n: usize,
 )
+    requires below_root { 0 < n }
     requires at { n ≤ length path.now }
     requires room { HasRoomForRefusals tree.old }
     ensures counted { (home : fin.FinMap nat_cmp Path) → flat_of tree.new home ≡ at_each (count_up (take n path.now)) (flat_of tree.old home) }
@@ -96,6 +98,7 @@ impl<A: Allocator + Clone, M: Meter> Charges<A, M> {
     pub fn refuses_fork(&mut self, parent: Pid, child: Pid) -> Option<ChargeFault>
         ensures first { MatchOption result (refusal M.SLOTS self.old (Fork parent child) ≡ None) (λ f. refusal M.SLOTS self.old (Fork parent child) ≡ refusal_of (home_of self.old parent) f) }
         ensures inside { IfSome result (λ f. names_in f ≤ length (home_of self.old parent)) }
+        ensures below_root { (n : ℕ) → result ≡ Some (ChargeFault.PidsMax n) → 0 < n }
         ensures no_memory { IfSome result (λ f. f ≢ ChargeFault.OutOfMemory) }
         ensures kept { self.new ≡ self.old }
     {
@@ -141,6 +144,7 @@ impl<A: Allocator + Clone, M: Meter> Charges<A, M> {
     /// tree.
     pub fn count_fork(&mut self, parent: Pid, n: usize)
         requires parent { has_process self.old parent ≡ true }
+        requires below_root { 0 < n }
         requires at { n ≤ length (home_of self.old parent) }
         requires room { HasRoomForEvents self.old }
         ensures { self.new ≡ after_refusal self.old (OverPidsMax (take n (home_of self.old parent))) }

@@ -1,13 +1,13 @@
 //! The kill of all processes of a group.
 
-ghost use Rattle.std.specs.Prelude.{◌≡◌, ℕ, ◌+◌, ◌<◌, ◌++◌, ◌∷◌, [], IfOk, OnOk, length, map, filter, not};
+ghost use Rattle.std.specs.Prelude.{◌≡◌, ℕ, ◌+◌, ◌<◌, ◌≤◌, ◌++◌, ◌∷◌, [], IfOk, IfErr, OnOk, length, map, filter, not};
 ghost use Rattle.std.specs.List.{All, sum_by};
 ghost use Rattle.std.specs.List.Sorted.{IsStrictlySortedBy};
 ghost use Rattle.std.specs.Ordering.{nat_cmp};
 ghost use Rattle.std.specs.Map.{values_of, keys_of};
 ghost use Rattle.flat_model.specs.Command.{Kill};
 ghost use Rattle.flat_model.specs.Inverse as inverse;
-ghost use Rattle.pids_charge.specs.Answers.{Does};
+ghost use Rattle.pids_charge.specs.Answers.{Does, names_in};
 ghost use Rattle.pids_charge.specs.Content.{tokens_at, IsWithin};
 ghost use Rattle.pids_charge.specs.Lists.{inside, is_inside, lost_of};
 ghost use Rattle.pids_charge.specs.Recount.{charges_of, IsPlaced, SlotsBelow};
@@ -109,6 +109,7 @@ impl<A: Allocator + Clone, M: Meter> Charges<A, M> {
         path: &GroupPath<B>,
     ) -> Result<LostList<A>, ChargeFault>
         ensures state { Does M.SLOTS self.old (Kill path.now) path.now result self.new }
+        ensures inside { IfErr result (λ f. names_in f ≤ length path.now) }
         ensures taken { IfOk result (λ list. list ≡ inverse.lost self.old path.now) }
     {
         if path.depth() == 0 {

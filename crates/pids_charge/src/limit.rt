@@ -1,12 +1,12 @@
 //! The setting of limits. It is taken back by setting the old limit.
 
-ghost use Rattle.std.specs.Prelude.{◌≡◌, ◌&&◌, None, IsOk, IfOk};
+ghost use Rattle.std.specs.Prelude.{◌≡◌, ◌≤◌, ◌&&◌, None, IsOk, IfOk, IfErr, length};
 ghost use Rattle.flat_model.specs.Path.{is_root};
 ghost use Rattle.flat_model.specs.File.{is_pids_max};
 ghost use Rattle.flat_model.specs.Command.{SetLimit};
 ghost use Rattle.flat_model.specs.Step.{limit_at, attr_of, refusal};
 ghost use Rattle.group_tree.specs.Flat.{limit_of, limit_file_of};
-ghost use Rattle.pids_charge.specs.Answers.{Does};
+ghost use Rattle.pids_charge.specs.Answers.{Does, names_in};
 
 use crate::charges::Charges;
 use crate::fault::ChargeFault;
@@ -40,6 +40,7 @@ impl<A: Allocator + Clone, M: Meter> Charges<A, M> {
         limit: Limit,
     ) -> Result<Limit, ChargeFault>
         ensures state { Does M.SLOTS self.old (SetLimit path.now (limit_file_of file) (limit_of limit)) path.now result self.new }
+        ensures inside { IfErr result (λ f. names_in f ≤ length path.now) }
         ensures old_limit { IfOk result (λ old. limit_of old ≡ limit_at (limit_file_of file) (attr_of self.old path.now)) }
         ensures certain { refusal M.SLOTS self.old (SetLimit path.now (limit_file_of file) (limit_of limit)) ≡ None → IsOk result }
     {

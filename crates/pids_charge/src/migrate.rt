@@ -1,9 +1,9 @@
 //! The moves of processes. A move is taken back by a move to the old group.
 
-ghost use Rattle.std.specs.Prelude.{◌≡◌, IfOk};
+ghost use Rattle.std.specs.Prelude.{◌≡◌, ◌≤◌, length, IfOk, IfErr};
 ghost use Rattle.flat_model.specs.Command.{Move};
 ghost use Rattle.flat_model.specs.Step.{home_of};
-ghost use Rattle.pids_charge.specs.Answers.{Does};
+ghost use Rattle.pids_charge.specs.Answers.{Does, names_in};
 
 use crate::charges::Charges;
 use crate::fault::ChargeFault;
@@ -29,6 +29,7 @@ impl<A: Allocator + Clone, M: Meter> Charges<A, M> {
         path: &GroupPath<B>,
     ) -> Result<GroupPath<A>, ChargeFault>
         ensures state { Does M.SLOTS self.old (Move path.now pid) path.now result self.new }
+        ensures inside { IfErr result (λ f. names_in f ≤ length path.now) }
         ensures old_home { IfOk result (λ home. home ≡ home_of self.old pid) }
     {
         if self.tree.find(path).is_none() {

@@ -61,7 +61,8 @@ impl<A: Allocator + Clone, M: Meter> Charges<A, M> {
     /// The first that holds, in this order: `Exists`, `NoGroup` of the parent, `Descendants` or `Depth` of the first group
     /// from the parent upward whose limit is met, `NoSlot`, `OutOfMemory`. Nothing has changed then.
     pub fn mkdir<B: Allocator + Clone>(&mut self, path: &GroupPath<B>) -> Result<(), ChargeFault>
-        ensures { Does M.SLOTS self.old (MakeGroup path.now) path.now result self.new }
+        ensures state { Does M.SLOTS self.old (MakeGroup path.now) path.now result self.new }
+        ensures inside { IfErr result (λ f. names_in f ≤ length path.now) }
     {
         if let Some(fault) = self.refuses_mkdir(path) {
             return Err(fault);

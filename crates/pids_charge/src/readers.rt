@@ -1,6 +1,6 @@
 //! What is read of groups and processes.
 
-ghost use Rattle.std.specs.Prelude.{◌≡◌, ◌&&◌, ◌++◌, not, is_some, false, true, map, filter, IfOk, IfSome, MatchOption, option_map};
+ghost use Rattle.std.specs.Prelude.{◌≡◌, ◌&&◌, ◌++◌, not, is_some, false, true, map, filter, IfOk, IsOk, IfSome, MatchOption, option_map};
 ghost use Rattle.std.specs.Option.{option_copied};
 ghost use Rattle.std.specs.FinMap as fin;
 ghost use Rattle.flat_model.specs.Path.{is_root, same_path};
@@ -66,13 +66,14 @@ impl<A: Allocator + Clone, M: Meter> Charges<A, M> {
     ///
     /// # Errors
     ///
-    /// `AllocError` where there was no memory for the list.
+    /// `AllocError` where there was no memory for the list. None is asked for where there is no such group.
     pub fn members<B: Allocator, P: Allocator + Clone>(
         &self,
         alloc: B,
         path: &GroupPath<P>,
     ) -> Result<Option<Vec<Pid, B>>, AllocError>
-        ensures { IfOk result (λ o. MatchOption o (is_group self.now path.now ≡ false) (λ pids. (is_group self.now path.now ≡ true) × (pids.items ≡ flat.members self.now path.now))) }
+        ensures listed { IfOk result (λ o. MatchOption o (is_group self.now path.now ≡ false) (λ pids. (is_group self.now path.now ≡ true) × (pids.items ≡ flat.members self.now path.now))) }
+        ensures absent { is_group self.now path.now ≡ false → IsOk result }
     {
         if self.tree.find(path).is_none() {
             return Ok(None);

@@ -75,6 +75,7 @@ impl<A: Allocator + Clone, M: Meter> Charges<A, M> {
     /// then.
     pub fn rmdir<B: Allocator + Clone>(&mut self, path: &GroupPath<B>) -> Result<Attr, ChargeFault>
         ensures state { Does M.SLOTS self.old (RemoveGroup path.now) path.now result self.new }
+        ensures inside { IfErr result (λ f. names_in f ≤ length path.now) }
         ensures attr { IfOk result (λ attr. Some (group_of attr) ≡ fin.get self.old.groups path.now) }
         ensures certain { refusal M.SLOTS self.old (RemoveGroup path.now) ≡ None → IsOk result }
     {

@@ -1,5 +1,4 @@
 pub mod Cuts
 pub mod Readings
 pub mod Actions
-pub mod Said
-pub mod Ordered
+mod Ordered

@@ -11,7 +11,8 @@
 //!   (`put_reply`, `put_fault`).
 //!
 //! What a line says is `read_line` of `flat_model`, and an answer `reply_bytes` and `fault_bytes`
-//! there; what a `Line` and a `TextFault` mean in it stands in `specs/Meaning.antt`. Nothing is
+//! there; what a `Line` and a `TextFault` mean in it stands in `specs/Meaning.antt`. The laws of these
+//! definitions stand in `journal_laws`, those of what only this crate names in `laws`. Nothing is
 //! promised of time beyond that each call is linear in its bytes.
 #![tactic(auto)]
 

@@ -1,13 +1,11 @@
 mod Fronts
-mod Histories
+pub mod Histories
 mod Totals
 mod Killing
-mod Ready
+pub mod Ready
 mod Undos
 mod Newest
-mod Undone
+pub mod Undone
 mod Alls
 mod Answering
 mod Copies
-mod HistoryLaws
-mod MeaningLaws

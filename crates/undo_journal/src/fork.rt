@@ -1,6 +1,6 @@
 //! `fork`: the making of a process or the counting of its refusal, the record of either, and what takes it back.
 
-ghost use Rattle.std.specs.Prelude.{◌≡◌, ◌≤◌, true, Some, None, IfOk, OnOk, OnErr, length, take};
+ghost use Rattle.std.specs.Prelude.{◌≡◌, ◌<◌, ◌≤◌, true, Some, None, IfOk, OnOk, OnErr, length, take};
 ghost use Rattle.flat_model.specs.Counts.{has_process};
 ghost use Rattle.flat_model.specs.Step.{refusal, after, home_of};
 ghost use Rattle.flat_model.specs.Machine.{recorded};
@@ -54,6 +54,7 @@ impl<A: Allocator + Clone, M: Meter> Engine<A, M> {
     /// Counts and records a fork that the limit of the group at the first `n` names of the parent's path refuses.
     fn count_fork(&mut self, parent: Pid, child: Pid, n: usize) -> Result<Reply<A>, AllocError>
         requires refused { refusal M.SLOTS self.old.state (model.Fork parent child) ≡ Some (model.OverPidsMax (take n (home_of self.old.state parent))) }
+        requires below_root { 0 < n }
         requires inside { n ≤ length (home_of self.old.state parent) }
         ensures ok { IfOk result (λ reply. Answers M.SLOTS self.old (model.Fork parent child) reply self.new) }
         ensures err { OnErr result (self.new ≡ self.old) }

@@ -28,7 +28,7 @@
 //! What a command, a reply and a record mean stands in `specs/Meaning.antt`; that a reply is the machine's in
 //! `specs/Answer.antt`; what each answered command promises of undoing and counting, and what the undoing of everything
 //! leaves, in `specs/Headline.antt`; what a journal says of the states before in `specs/History.antt`.
-//! The functions in `laws` do nothing: each says in its contract what these definitions say.
+//! What these definitions say is stated as laws in `journal_laws`.
 #![tactic(auto)]
 
 mod bytes;
@@ -41,7 +41,6 @@ mod fork;
 mod inverse;
 mod journal;
 mod kill;
-pub mod laws;
 mod limit;
 mod locate;
 mod migrate;

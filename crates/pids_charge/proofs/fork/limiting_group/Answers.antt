@@ -25,6 +25,7 @@ loop-attr-init g c =
       rest = e;
       answer = refl;
       inside = tt;
+      below_root = tt;
       same = refl;
       held = refl;
     }
@@ -48,6 +49,7 @@ loop-attr-preserved-then-is_full g c =
       rest = step.1;
       answer = sym (longest-yes full c.args.path.now c.loop-attr.n (told ∙ c.if-is_full.true));
       inside = omega arith;
+      below_root = omega arith;
       same = c.is_full.ensures.content ∙ c.loop-attr.invariant.same;
       held = c.is_full.ensures.held ∙ c.loop-attr.invariant.held;
     }
@@ -66,6 +68,7 @@ loop-attr-preserved g c =
       rest = step.1;
       answer = c.loop-attr.invariant.answer ∙ sym (longest-no full c.args.path.now c.loop-attr.n (told ∙ c.if-is_full.false));
       inside = one_further c.loop-attr.nearest c.loop-attr.n c.loop-attr.invariant.inside;
+      below_root = c.loop-attr.invariant.below_root;
       same = c.is_full.ensures.content ∙ c.loop-attr.invariant.same;
       held = c.is_full.ensures.held ∙ c.loop-attr.invariant.held;
     }

@@ -14,6 +14,7 @@ invariant-loop-attr g l = record {
   rest : l.attr-iterator ≡ drop l.n (along_of l.tree l.path);
   answer : l.nearest ≡ longest (λ a. full_by g.M.Meter.LEAVES (g.M.Meter.content l.fn.meter) (fin.get l.tree a)) l.path l.n;
   inside : IfSome l.nearest (λ n. n ≤ l.n);
+  below_root : IfSome l.nearest (λ n. 0 < n);
   same : g.M.Meter.content l.meter ≡ g.M.Meter.content l.fn.meter;
   held : g.M.Meter.held l.meter ≡ g.M.Meter.held l.fn.meter;
 }

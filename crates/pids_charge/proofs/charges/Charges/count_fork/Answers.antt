@@ -1,4 +1,4 @@
-use Rattle.std.proofs.Common.{◌≡◌, Some, None, is_some, take, option_copied, sym, ap, ◌∙◌, subst, ◌≤◌, length}
+use Rattle.std.proofs.Common.{is_some, take, option_copied, sym, ap, ◌∙◌, subst, ◌≤◌, length}
 use Rattle.std.proofs.lemmas.Bool.{false≢true}
 use Rattle.flat_model.specs.Path.{Path}
 use Rattle.flat_model.specs.State.{State}

@@ -1,4 +1,4 @@
-use Rattle.std.proofs.Common.{◌≡◌, Some, None, IsSome, is_some, option_copied, sym, ap, ◌∙◌, subst}
+use Rattle.std.proofs.Common.{IsSome, is_some, option_copied, sym, ap, ◌∙◌, subst}
 use Rattle.std.proofs.lemmas.Bool.{false≢true}
 use Rattle.std.specs.FinMap as fin
 use Rattle.flat_model.specs.Path.{Path}

@@ -1,4 +1,4 @@
-use Rattle.std.proofs.Common.{◌≡◌, Some, None, is_some, take, option_copied, refl, sym, ap, ◌∙◌, subst, ◌≤◌, length}
+use Rattle.std.proofs.Common.{Some, None, is_some, option_copied, sym, ap, ◌∙◌, subst, ◌≤◌, length}
 use Rattle.flat_model.specs.Path.{Path}
 use Rattle.pids_charge.proofs.Asked.{process-is}
 use Rattle.pids_charge.proofs.Charged.{found_placed}

@@ -1,0 +1,4 @@
+mod FileMeanings
+mod HistoryLaws
+mod MeaningLaws
+mod Said

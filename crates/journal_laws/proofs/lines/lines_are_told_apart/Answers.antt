@@ -1,0 +1,5 @@
+use Rattle.journal_laws.proofs.Said.{fault_for}
+use Rattle.journal_laws.proofs.lines.lines_are_told_apart.Goals as goal
+
+pub returns-clause-all : goal.returns-clause-all
+returns-clause-all c = fault_for

@@ -1,0 +1,261 @@
+//! The machine behind an engine: what is kept of its past, what an undo takes back and what memory it
+//! asks for.
+
+ghost use Rattle.std.specs.Prelude.{
+  ◌≡◌,
+  ◌≢◌,
+  ◌<◌,
+  ◌≤◌,
+  ◌↔◌,
+  ◌++◌,
+  ◌∷◌,
+  ◌+◌,
+  ◌-◌,
+  ℕ,
+  true,
+  false,
+  List,
+  [],
+  Some,
+  None,
+  Ok,
+  Err,
+  length,
+  drop,
+  sum_by,
+};
+ghost use Rattle.std.specs.FinMap.{get};
+ghost use Rattle.std.specs.declared.alloc.AllocError.{AllocError};
+ghost use Rattle.std.specs.declared.alloc.Global.{Global};
+ghost use Rattle.flat_model.specs.Command as model;
+ghost use Rattle.flat_model.specs.Counts.{
+  children,
+  current,
+  has_process,
+  is_group,
+  members,
+  populated,
+};
+ghost use Rattle.flat_model.specs.File.{LimitFile};
+ghost use Rattle.flat_model.specs.Inverse.{
+  Inverse,
+  Made,
+  Removed,
+  Forked,
+  Exited,
+  Moved,
+  Limited,
+  Counted,
+  back,
+  inverse,
+};
+ghost use Rattle.flat_model.specs.Machine.{
+  Machine,
+  TakesBackItsOwn,
+  after_all,
+  end_of,
+  new_machine,
+  tick,
+  undos,
+};
+ghost use Rattle.flat_model.specs.Path.{Path, at_or_below, parent};
+ghost use Rattle.flat_model.specs.State.{Attr, Limit, State, start};
+ghost use Rattle.flat_model.specs.Step.{after, refusal};
+ghost use Rattle.flat_model.specs.WellFormed.{MachineWellFormed};
+ghost use Rattle.undo_journal.specs.declared.journal.Entry.{Entry};
+ghost use Rattle.undo_journal.specs.declared.reply.Reply.{Reply};
+ghost use Rattle.undo_journal.specs.Answer.{
+  Answers,
+  IsNewest,
+  newest_command,
+  record_of,
+  state_after,
+  undoes_without_memory,
+};
+ghost use Rattle.undo_journal.specs.Headline.{IsReached, KeepsHistory, UndoesAll};
+ghost use Rattle.undo_journal.specs.History.{IsHistory, IsReady, machine_of, records};
+ghost use Rattle.undo_journal.specs.Meaning.{command_of, inverse_of, reply_of};
+
+/// An answer is one: the machine goes to one machine only, and there is one reply, which is never
+/// want of memory.
+pub fn answers_are_one()
+    ensures exactly { (slots : ℕ) (old new : Machine) (c : model.Command) (r : Reply Global)
+        → Answers slots old c r new ↔ ((new ≡ (tick slots old c).0)
+        × (reply_of r ≡ Some (tick slots old c).1)) }
+    ensures one { (slots : ℕ) (old new again : Machine) (c : model.Command) (r q : Reply Global)
+        → Answers slots old c r new → Answers slots old c q again
+        → (reply_of r ≡ reply_of q) × (new ≡ again) }
+    ensures answered { (slots : ℕ) (old new : Machine) (c : model.Command) (r : Reply Global)
+        → Answers slots old c r new → reply_of r ≢ None }
+{}
+
+/// Where a command is recorded, it and the state before it stand in front of the past that was
+/// there, so that an undo gives the machine before it back. From any machine that commands reach,
+/// the machine's own step keeps its history.
+pub fn history_is_kept()
+    ensures reached { (slots : ℕ) (cs : List model.Command) (c : model.Command)
+        → KeepsHistory slots (after_all slots cs) c (tick slots (after_all slots cs) c).0 }
+    ensures recorded { (slots : ℕ) (old new : Machine) (c : model.Command)
+        → KeepsHistory slots old c new → length old.past < length new.past
+        → new.past ≡ (c, old.state) ∷ old.past }
+    ensures undone { (slots : ℕ) (old new : Machine) (c : model.Command)
+        → KeepsHistory slots old c new → length old.past < length new.past
+        → tick slots new model.Undo ≡ (old, model.Undone c) }
+    ensures run { (slots : ℕ) (old new : Machine) (c : model.Command) (cs : List model.Command)
+        → KeepsHistory slots old c new → TakesBackItsOwn slots (length new.past) new cs
+        → end_of slots (end_of slots new cs) (undos (length (end_of slots new cs).past - length new.past))
+        ≡ new }
+{}
+
+/// The oldest state in the past is the start; where there is no past, so is the state now.
+pub fn history_begins_at_the_start()
+    ensures oldest { (slots : ℕ) (old new : Machine) (c d : model.Command) (s : State) (past : List (model.Command × State))
+        → KeepsHistory slots old c new → new.past ≡ past ++ (d, s) ∷ [] → s ≡ start }
+    ensures nothing { (slots : ℕ) (old new : Machine) (c : model.Command)
+        → KeepsHistory slots old c new → new.past ≡ [] → new ≡ new_machine }
+    ensures reached { (slots : ℕ) (cs : List model.Command) → IsReached slots (after_all slots cs) }
+    ensures well_formed { (slots : ℕ) (m : Machine) → IsReached slots m → MachineWellFormed slots m }
+    ensures first { (slots : ℕ) (m : Machine) (d : model.Command) (s : State) (past : List (model.Command × State))
+        → IsReached slots m → m.past ≡ past ++ (d, s) ∷ [] → s ≡ start }
+{}
+
+/// Each group counts its own members and what its children count, and no other process; it is
+/// populated exactly where some process has its home in it or below it.
+pub fn counts_are_kept()
+    ensures whole { (slots : ℕ) (old new : Machine) (c : model.Command) (g : Path)
+        → KeepsHistory slots old c new
+        → current new.state g
+        ≡ length (members new.state g) + sum_by (current new.state) (children new.state g) }
+    ensures leaf { (slots : ℕ) (old new : Machine) (c : model.Command) (g : Path)
+        → KeepsHistory slots old c new → children new.state g ≡ []
+        → current new.state g ≡ length (members new.state g) }
+    ensures populated { (slots : ℕ) (old new : Machine) (c : model.Command) (g : Path)
+        → KeepsHistory slots old c new → (populated new.state g ≡ true)
+        ↔ ((pid : ℕ) × (at : Path) × (get new.state.home pid ≡ Some at) × (at_or_below at g ≡ true)) }
+{}
+
+/// Where everything was undone, the start is left and as many commands are told as were recorded.
+/// Where memory was wanting, fewer are told; the others stand as they stood, and the state is the
+/// one before the last that was undone.
+pub fn everything_undone()
+    ensures all { (slots n : ℕ) (old new : Machine)
+        → UndoesAll {E = AllocError} slots old (Ok n) new
+        ↔ ((n ≡ length old.past) × (new.state ≡ start) × (new.past ≡ [])) }
+    ensures fewer { (slots n : ℕ) (e : AllocError) (old new : Machine)
+        → UndoesAll slots old (Err (n, e)) new → n < length old.past }
+    ensures rest { (slots n : ℕ) (e : AllocError) (old new : Machine)
+        → UndoesAll slots old (Err (n, e)) new → new.past ≡ drop n old.past }
+    ensures none { (slots : ℕ) (e : AllocError) (old new : Machine)
+        → UndoesAll slots old (Err (0, e)) new → new ≡ old }
+    ensures state { (slots : ℕ) (e : AllocError) (old new : Machine) (d : model.Command) (s : State) (before past : List (model.Command × State))
+        → old.past ≡ before ++ (d, s) ∷ past
+        → UndoesAll slots old (Err (length before + 1, e)) new → new.state ≡ s }
+    ensures without_a_past { (slots n : ℕ) (e : AllocError) (old new : Machine) → old.past ≡ []
+        → UndoesAll slots old (Err (n, e)) new → ⊥ }
+    ensures any { (slots n : ℕ) (e : AllocError) (old : Machine) → n < length old.past
+        → UndoesAll slots old (Err (n, e)) (end_of slots old (undos n)) }
+{}
+
+/// The newest recorded command is the one that an undo says it took back, and there is none where
+/// an undo says that there is nothing. Its record is one only, and gives back the state before it.
+pub fn newest_is_the_last_recorded()
+    ensures undone { (slots : ℕ) (m : Machine) (c : model.Command)
+        → (newest_command m.past ≡ Some c) ↔ ((tick slots m model.Undo).1 ≡ model.Undone c) }
+    ensures nothing { (slots : ℕ) (m : Machine)
+        → (newest_command m.past ≡ None) ↔ ((tick slots m model.Undo).1 ≡ model.NothingToUndo) }
+    ensures recorded { (slots : ℕ) (m : Machine) (c : model.Command) (i : Inverse)
+        → refusal slots m.state c ≡ None → inverse m.state c ≡ Some i
+        → IsNewest slots (after m.state c) ((c, m.state) ∷ m.past) i }
+    ensures one { (slots : ℕ) (now : State) (past : List (model.Command × State)) (i j : Inverse)
+        → IsNewest slots now past i → IsNewest slots now past j → i ≡ j }
+    ensures given_back { (slots : ℕ) (m : Machine) (i : Inverse)
+        → IsNewest slots m.state m.past i → back i m.state ≡ (tick slots m model.Undo).0.state }
+    ensures never { (slots : ℕ) (now : State) (i : Inverse) → IsNewest slots now [] i → ⊥ }
+{}
+
+/// A command but an undo leaves the state that the machine goes to, and a record exactly where the
+/// machine's past grows. The record gives back the state before.
+pub fn records_are_of_what_changes()
+    ensures state { (slots : ℕ) (m : Machine) (c : model.Command) → model.is_undo c ≡ false
+        → state_after slots m.state c ≡ (tick slots m c).0.state }
+    ensures recorded { (slots : ℕ) (m : Machine) (c : model.Command) (i : Inverse)
+        → record_of slots m.state c ≡ Some i
+        → (tick slots m c).0.past ≡ (c, m.state) ∷ m.past }
+    ensures unrecorded { (slots : ℕ) (m : Machine) (c : model.Command) → model.is_undo c ≡ false
+        → record_of slots m.state c ≡ None → (tick slots m c).0 ≡ m }
+    ensures given_back { (slots : ℕ) (s : State) (c : model.Command) (i : Inverse)
+        → record_of slots s c ≡ Some i → back i (state_after slots s c) ≡ s }
+    ensures history { (slots : ℕ) (s : State) (es : List (model.Command × Inverse)) (c : model.Command) (i : Inverse)
+        → IsHistory slots s es → record_of slots s c ≡ Some i
+        → IsHistory slots (state_after slots s c) ((c, i) ∷ es) }
+{}
+
+/// A journal is read with its newest entry first, and the machine that it stands for is one that
+/// commands reach.
+pub fn journals_are_histories()
+    ensures newest_first { (journal : List (Entry Global)) (e : Entry Global)
+        → records (journal ++ e ∷ []) ≡ (command_of e.command, inverse_of e.inverse) ∷ records journal }
+    ensures empty { records {A = Global} [] ≡ [] }
+    ensures start { (slots : ℕ) (s : State) → IsHistory slots s [] ↔ (s ≡ start) }
+    ensures state { (s : State) (journal : List (Entry Global)) → (machine_of s journal).state ≡ s }
+    ensures past { (s : State) (journal : List (Entry Global)) (e : Entry Global)
+        → (machine_of s (journal ++ e ∷ [])).past
+        ≡ (command_of e.command, back (inverse_of e.inverse) s)
+        ∷ (machine_of (back (inverse_of e.inverse) s) journal).past }
+    ensures reached { (slots : ℕ) (s : State) (journal : List (Entry Global))
+        → IsHistory slots s (records journal) → IsReached slots (machine_of s journal) }
+{}
+
+/// What a record takes back could be done by a command: a group that was made removed, a process
+/// that was made ended, one that was moved moved back, a limit set. A removed group has a place, and
+/// a process that has ended a group and its number.
+pub fn records_can_be_taken_back()
+    ensures made { (slots : ℕ) (m : Machine) (p : Path) → IsReady slots m.state (Made p)
+        → (tick slots m (model.RemoveGroup p)).1 ≡ model.Done }
+    ensures forked { (slots : ℕ) (m : Machine) (pid : ℕ) → IsReady slots m.state (Forked pid)
+        → (tick slots m (model.Exit pid)).1 ≡ model.Done }
+    ensures moved { (slots : ℕ) (m : Machine) (pid : ℕ) (p : Path)
+        → IsReady slots m.state (Moved pid p) → (tick slots m (model.Move p pid)).1 ≡ model.Done }
+    ensures limited { (slots : ℕ) (m : Machine) (p : Path) (file : LimitFile) (value : Limit)
+        → IsReady slots m.state (Limited p file value)
+        → (tick slots m (model.SetLimit p file value)).1 ≡ model.Done }
+    ensures removed { (slots : ℕ) (s : State) (p : Path) (x : Attr) → IsReady slots s (Removed p x)
+        → (is_group s p ≡ false) × (is_group s (parent p) ≡ true) }
+    ensures exited { (slots : ℕ) (s : State) (pid : ℕ) (p : Path) → IsReady slots s (Exited pid p)
+        → (has_process s pid ≡ false) × (is_group s p ≡ true) }
+    ensures counted { (slots : ℕ) (s : State) (a : Path) (x : Attr) → IsReady slots s (Counted a)
+        → get s.groups a ≡ Some x → 1 ≤ x.local }
+    ensures newest { (slots : ℕ) (s : State) (c : model.Command) (i : Inverse) (es : List (model.Command × Inverse))
+        → IsHistory slots s ((c, i) ∷ es) → IsReady slots s i }
+{}
+
+/// To take back a group or a process that was made, a limit that was set or a fork that was counted
+/// no memory is asked for, nor where there is nothing to take back. To take back a removal, an end,
+/// a move or a kill it may be.
+pub fn undone_without_memory()
+    ensures nothing { (slots : ℕ) → undoes_without_memory slots [] ≡ true }
+    ensures made { (slots : ℕ) (s : State) (past : List (model.Command × State)) (p : Path)
+        → refusal slots s (model.MakeGroup p) ≡ None
+        → undoes_without_memory slots ((model.MakeGroup p, s) ∷ past) ≡ true }
+    ensures forked { (slots : ℕ) (s : State) (past : List (model.Command × State)) (from child : ℕ)
+        → refusal slots s (model.Fork from child) ≡ None
+        → undoes_without_memory slots ((model.Fork from child, s) ∷ past) ≡ true }
+    ensures limited { (slots : ℕ) (s : State) (past : List (model.Command × State)) (p : Path) (file : LimitFile) (value : Limit)
+        → refusal slots s (model.SetLimit p file value) ≡ None
+        → undoes_without_memory slots ((model.SetLimit p file value, s) ∷ past) ≡ true }
+    ensures counted { (slots : ℕ) (s : State) (past : List (model.Command × State)) (c : model.Command) (a : Path)
+        → refusal slots s c ≡ Some (model.OverPidsMax a)
+        → undoes_without_memory slots ((c, s) ∷ past) ≡ true }
+    ensures removed { (slots : ℕ) (s : State) (past : List (model.Command × State)) (p : Path)
+        → refusal slots s (model.RemoveGroup p) ≡ None
+        → undoes_without_memory slots ((model.RemoveGroup p, s) ∷ past) ≡ false }
+    ensures exited { (slots : ℕ) (s : State) (past : List (model.Command × State)) (pid : ℕ)
+        → refusal slots s (model.Exit pid) ≡ None
+        → undoes_without_memory slots ((model.Exit pid, s) ∷ past) ≡ false }
+    ensures moved { (slots : ℕ) (s : State) (past : List (model.Command × State)) (p : Path) (pid : ℕ)
+        → refusal slots s (model.Move p pid) ≡ None
+        → undoes_without_memory slots ((model.Move p pid, s) ∷ past) ≡ false }
+    ensures killed { (slots : ℕ) (s : State) (past : List (model.Command × State)) (g : Path)
+        → refusal slots s (model.Kill g) ≡ None
+        → undoes_without_memory slots ((model.Kill g, s) ∷ past) ≡ false }
+{}

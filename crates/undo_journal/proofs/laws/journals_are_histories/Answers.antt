@@ -1,5 +1,0 @@
-use Rattle.undo_journal.proofs.Histories.{reached}
-use Rattle.undo_journal.proofs.laws.journals_are_histories.Goals as goal
-
-pub returns-clause-reached : goal.returns-clause-reached
-returns-clause-reached c = λ slots s journal h. reached slots s journal h

@@ -1,8 +1,0 @@
-use Rattle.std.proofs.Common.{refl}
-use Rattle.flat_model.specs.Command as model
-use Rattle.flat_model.specs.Inverse.{Counted}
-use Rattle.flat_model.proofs.TakenBack.{back_refused}
-use Rattle.undo_journal.proofs.laws.meanings.records_by_what_they_give_back.Goals as goal
-
-pub returns-clause-counted : goal.returns-clause-counted
-returns-clause-counted c = λ s a. back_refused s (model.OverPidsMax a) (Counted a) refl

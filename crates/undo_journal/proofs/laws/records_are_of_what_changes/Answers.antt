@@ -1,8 +1,0 @@
-use Rattle.undo_journal.proofs.HistoryLaws.{given_back, history_more}
-use Rattle.undo_journal.proofs.laws.records_are_of_what_changes.Goals as goal
-
-pub returns-clause-given_back : goal.returns-clause-given_back
-returns-clause-given_back c = given_back
-
-pub returns-clause-history : goal.returns-clause-history
-returns-clause-history c = history_more
