@@ -7,7 +7,7 @@ use Rattle.std.proofs.lemmas.List.Splits.{length-slice_split}
 use Rattle.flat_model.specs.Command.{Reply}
 use Rattle.flat_model.specs.Machine.{new_machine, replies}
 use Rattle.flat_model.specs.Replies.{out, commands_in, is_fault, is_refused, is_numbered, line_replies}
-use Rattle.flat_model.specs.Trace.{Line, Skip, Run, Fault, is_line_feed, without_empty_end, lines_in, read_line, read_trace, trace_max}
+use Rattle.flat_model.specs.Trace.{is_line_feed, without_empty_end, lines_in, read_line, read_trace, trace_max}
 use Rattle.replay_main.specs.declared.fault.ReplayFault.{ReplayFault}
 use Rattle.replay_main.specs.declared.fault.ReplayFault.TheVariants.{Read, Write, InputTooLong, OutOfMemory, Close}
 use Rattle.replay_main.specs.declared.trace.Summary.{Summary}

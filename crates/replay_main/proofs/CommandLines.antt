@@ -1,5 +1,5 @@
 -- The program's command line, as `clap` sees it.
-use Rattle.std.proofs.Common.{◌≡◌, true, ap, ap₂, refl, sym, subst, ◌∙◌, ◌⊎◌, inl, inr, codes, List, [], Option, Result, Ok, Err}
+use Rattle.std.proofs.Common.{◌≡◌, true, ap, ap₂, refl, sym, subst, ◌∙◌, ◌⊎◌, inl, inr, codes, List, Option, Result, Ok, Err}
 use Rattle.clap.specs.Words.{App, HasMatchesOf, IsAmong, Rule, Text, fault_of, first_of, first_value, found_of, is_simple, is_simple_and_free, matches_of, new_app, rows_of, with_rule}
 use Rattle.clap.specs.declared.error.kind.ErrorKind.{ErrorKind}
 use Rattle.clap.specs.declared.error.kind.ErrorKind.TheVariants as kind

@@ -4,4 +4,3 @@ pub mod CommandLines
 pub mod RunJoins
 pub mod ScriptLaws
 pub mod Rehearsals
-mod ToldAnswers

@@ -1,5 +1,5 @@
 -- What the program leaves, and the status that it ends with.
-use Rattle.std.specs.Prelude.{◌≡◌, ◌≢◌, ◌⊎◌, ℕ, List, [], Option, Some, Bool, true, Result, Ok, Err}
+use Rattle.std.specs.Prelude.{◌≡◌, ◌≢◌, ◌⊎◌, ℕ, List, [], Option, Some, Bool, true, false, Result, Ok, Err}
 use Rattle.clap.specs.Words.{IsAmong, Text, fault_of}
 use Rattle.clap.specs.declared.error.kind.ErrorKind.TheVariants as kind
 use Rattle.replay_main.specs.declared.arguments.LineFault.TheVariants.{Bad, OutOfMemory}
@@ -11,11 +11,18 @@ use Rattle.replay_main.specs.Asks.{Asks, app, rehearsal_in, workers_in}
 use Rattle.replay_main.specs.Device.{TakesFront}
 use Rattle.replay_main.specs.Replayed.{IsWhole, IsUnwritten, Replayed}
 
--- the help text is called for; all of a text was written and flushed
-pub record IsHelped (words : List Text) (before after : Option (List ℕ)) (flushed : Bool) : Type 0 where
+-- nothing was read: the source has left what it had, and no read failed
+pub record IsUnread (left rest : Option (List ℕ)) (read_failed : Bool) : Type 0 where
+  pub same : rest ≡ left
+  pub good_reads : read_failed ≡ false
+
+-- the help text is called for; nothing was read, and all of a text was written and flushed
+pub record IsHelped (words : List Text) (left rest : Option (List ℕ)) (read_failed : Bool) (before after : Option (List ℕ)) (write_failed flushed : Bool) : Type 0 where
   pub called : IsAmong kind.DisplayHelp (fault_of app words)
+  pub unread : IsUnread left rest read_failed
   pub text : List ℕ
   pub written : TakesFront before text [] after
+  pub good_writes : write_failed ≡ false
   pub is_out : flushed ≡ true
 
 -- a replay or a rehearsal is called for: there is no fault in the command line, and a number of workers in it
@@ -30,13 +37,16 @@ pub record IsReplayed (words : List Text) (left before after : Option (List ℕ)
   pub summary : Summary
   pub whole : IsWhole left before after read_failed write_failed flushed summary
 
--- by the words of the command line, what the program leaves, and why it ended before its end; a rehearsal closes no desk
-abbrev pub Ran : List Text → Option (List ℕ) → Bool → Option (List ℕ) → Option (List ℕ) → Bool → Bool → Result (Unit {0}) ProgramFault → Type 0
-Ran words left read_failed before after write_failed flushed (Ok u) = IsReplayed words left before after read_failed write_failed flushed ⊎ IsHelped words before after flushed
-Ran words left read_failed before after write_failed flushed (Err (Line fault)) = Asks words (Err fault) × IsUnwritten before after write_failed
-Ran words left read_failed before after write_failed flushed (Err (Replay fault)) =
+-- by the words of the command line, what the program leaves of a source that had `left` and of a sink that had `before`, and why it ended before its end; a rehearsal closes no desk
+abbrev pub Ran : List Text → Option (List ℕ) → Option (List ℕ) → Bool → Option (List ℕ) → Option (List ℕ) → Bool → Bool → Result (Unit {0}) ProgramFault → Type 0
+Ran words left rest read_failed before after write_failed flushed (Ok u) =
+    IsReplayed words left before after read_failed write_failed flushed
+    ⊎ IsHelped words left rest read_failed before after write_failed flushed
+Ran words left rest read_failed before after write_failed flushed (Err (Line fault)) =
+    Asks words (Err fault) × IsUnread left rest read_failed × IsUnwritten before after write_failed
+Ran words left rest read_failed before after write_failed flushed (Err (Replay fault)) =
     (CallsReplay words × Replayed left read_failed before after write_failed flushed (Err fault) × (rehearsal_in words ≡ true → fault ≢ replay.Close))
-    ⊎ (IsAmong kind.DisplayHelp (fault_of app words) × (fault ≡ replay.Write) × (write_failed ≡ true))
+    ⊎ (IsAmong kind.DisplayHelp (fault_of app words) × IsUnread left rest read_failed × (fault ≡ replay.Write) × (write_failed ≡ true))
 
 -- 0 where all was done, 2 on a bad command line, and 1 on any other fault
 abbrev pub status_of : Result (Unit {0}) ProgramFault → ℕ

@@ -23,6 +23,10 @@ abbrev pub place_of : Place → Option trace.TextFault
 place_of Command = None
 place_of (Fault f) = Some (text_fault_of f)
 
+-- a script, under a name that other crates may cite
+abbrev pub TraceScript : Type 0
+TraceScript = Script
+
 -- the script has the commands of the lines and what stands on those that have a number
 pub record IsScript (script : Script) (lines : List trace.Line) : Type 0 where
   pub commands : map command_of script.commands.items ≡ commands_in lines

@@ -21,15 +21,14 @@
 //!
 //! What a replay leaves stands in `specs/Replayed.antt`, what the program leaves and its statuses
 //! in `specs/Program.antt`, what a whole read and a whole write leave in `specs/Device.antt`, and
-//! what a command line asks for in `specs/Asks.antt`. The functions in `laws` do
-//! nothing: each says in its contract what these definitions say.
+//! what a command line asks for in `specs/Asks.antt`. What these definitions say as laws stands in
+//! `session_laws`.
 #![tactic(auto)]
 
 mod arguments;
 mod device;
 mod fault;
 mod input;
-pub mod laws;
 mod logged;
 mod memory;
 mod output;

@@ -1,7 +1,9 @@
 //! The program over any source and sink, and the status that it ends with.
 
 ghost use Rattle.std.specs.Prelude.{◌≡◌, ◌≢◌, ◌≤◌, drop, true, false, map, string_bytes, Err};
+ghost use Rattle.replay_main.specs.declared.arguments.LineFault.{LineFault};
 ghost use Rattle.replay_main.specs.declared.fault.ReplayFault.TheVariants.{Close};
+ghost use Rattle.replay_main.specs.declared.program.ProgramFault.TheVariants.{Line};
 ghost use Rattle.replay_main.specs.Program.{Ran, status_of};
 ghost use Rattle.replay_main.specs.Replayed.{Replayed};
 
@@ -29,7 +31,7 @@ pub enum ProgramFault {
 ///
 /// # Errors
 ///
-/// `Line` where the arguments ask for nothing; then nothing is read and nothing is written.
+/// `Line` where the arguments ask for nothing; then reader and writer are as they were.
 /// `Replay` with the fault of the replay or the rehearsal, or with `Write` where the help text was
 /// not written whole.
 pub fn run_program<R: Threads + Wait + Sync, S: Source, W: Sink>(
@@ -41,10 +43,12 @@ pub fn run_program<R: Threads + Wait + Sync, S: Source, W: Sink>(
 ) -> Result<(), ProgramFault>
     requires reader { S.is_failed reader.old ≡ false }
     requires writer { W.is_failed writer.old ≡ false }
-    ensures { Ran (map string_bytes (drop 1 args.now))
-        (S.left reader.old) (S.is_failed reader.new)
+    ensures ran { Ran (map string_bytes (drop 1 args.now))
+        (S.left reader.old) (S.left reader.new) (S.is_failed reader.new)
         (W.taken writer.old) (W.taken writer.new) (W.is_failed writer.new) (W.is_flushed writer.new)
         result }
+    ensures bad_line { (f : LineFault) → result ≡ Err (Line f)
+        → (reader.new ≡ reader.old) × (writer.new ≡ writer.old) }
 {
     match read_arguments(alloc, args) {
         Ok(Ask::Run { workers, rehearse }) => {

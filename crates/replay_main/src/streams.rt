@@ -1,9 +1,25 @@
 //! Devices over the readers and writers of std, as standard input and output.
 
-ghost use Rattle.std.specs.Prelude.{false, ◌≡◌};
+ghost use Rattle.std.specs.Prelude.{◌≡◌, true, false, is_err, Ok, IfOk, OnErr};
 
 use crate::{DeviceFault, Sink, Source};
+use std::io;
 use std::io::{Read, Write};
+
+/// What a device tells by the answer of its reader or writer: a failure is told, and leaves its
+/// mark.
+fn tell<X>(is_failed: &mut bool, answer: io::Result<X>) -> Result<X, DeviceFault>
+    ensures ok { IfOk answer (λ x. (result ≡ Ok x) × (is_failed.new ≡ is_failed.old)) }
+    ensures failed { OnErr answer ((is_err result ≡ true) × (is_failed.new ≡ true)) }
+{
+    match answer {
+        Ok(value) => Ok(value),
+        Err(_) => {
+            *is_failed = true;
+            Err(DeviceFault)
+        }
+    }
+}
 
 /// A source over a reader. It tells the bytes that are left where the reader does: one over memory
 /// does, standard input does not.
@@ -32,13 +48,7 @@ impl<R: Read> Source for StreamSource<R> {
     ghost is_failed = { λ s. s.is_failed };
 
     fn read(&mut self, buf: &mut [u8]) -> Result<usize, DeviceFault> {
-        match self.reader.read(buf) {
-            Ok(count) => Ok(count),
-            Err(_) => {
-                self.is_failed = true;
-                Err(DeviceFault)
-            }
-        }
+        tell(&mut self.is_failed, self.reader.read(buf))
     }
 }
 
@@ -74,29 +84,16 @@ impl<W: Write> Sink for StreamSink<W> {
 
     fn write(&mut self, bytes: &[u8]) -> Result<usize, DeviceFault> {
         self.is_flushed = false;
-        match self.writer.write(bytes) {
-            Ok(0) => {
-                self.is_failed = true;
-                Ok(0)
-            }
-            Ok(count) => Ok(count),
-            Err(_) => {
-                self.is_failed = true;
-                Err(DeviceFault)
-            }
+        let count = tell(&mut self.is_failed, self.writer.write(bytes))?;
+        if count == 0 {
+            self.is_failed = true;
         }
+        Ok(count)
     }
 
     fn flush(&mut self) -> Result<(), DeviceFault> {
-        match self.writer.flush() {
-            Ok(()) => {
-                self.is_flushed = true;
-                Ok(())
-            }
-            Err(_) => {
-                self.is_failed = true;
-                Err(DeviceFault)
-            }
-        }
+        tell(&mut self.is_failed, self.writer.flush())?;
+        self.is_flushed = true;
+        Ok(())
     }
 }

@@ -1,8 +1,9 @@
 -- What an audit's answers mean.
 use Rattle.std.specs.Prelude.{ℕ, List}
-use Rattle.flat_model.specs.Log.{Entry, Session}
+use Rattle.flat_model.specs.Log.{Entry, IsLegal, Session}
 use Rattle.flat_model.specs.Audit as model
 use Rattle.flat_model.specs.Audit.{FirstFault}
+use Rattle.sessions.specs.Meaning.{slots}
 use Rattle.sessions.specs.declared.fault.CloseFault.{CloseFault}
 use Rattle.sessions.specs.declared.fault.CloseFault.TheVariants.{Stranger, Mismatch, Missing, OutOfMemory}
 
@@ -12,3 +13,9 @@ IsFirstFault n log sessions (Stranger k) = FirstFault n log sessions (model.Stra
 IsFirstFault n log sessions (Mismatch i) = FirstFault n log sessions (model.Mismatch i)
 IsFirstFault n log sessions (Missing i) = FirstFault n log sessions (model.Missing i)
 IsFirstFault n log sessions OutOfMemory = Unit {0}
+
+-- it is that of some legal log
+pub record IsRefused (n : ℕ) (sessions : List Session) (fault : CloseFault) : Type 0 where
+  pub log : List Entry
+  pub legal : IsLegal slots log
+  pub first : IsFirstFault n log sessions fault

@@ -3,3 +3,4 @@ pub mod Served
 pub mod Ran
 pub mod Faults
 pub mod Marks
+pub mod Desks

@@ -1,8 +1,8 @@
 -- What one call of a session does under the lock.
-use Rattle.std.specs.Prelude.{◌≡◌, ℕ, ◌<◌, List, [], ◌∷◌, ◌++◌, Bool, false, Option, Some, None, vec_len}
+use Rattle.std.specs.Prelude.{◌≡◌, ℕ, ◌<◌, List, [], ◌∷◌, ◌++◌, Bool, false, Option, Some, None, Result, Ok, Err, vec_len}
 use Rattle.flat_model.specs.Command as model
 use Rattle.flat_model.specs.Machine.{Machine, tick}
-use Rattle.flat_model.specs.Log.{Receipt}
+use Rattle.flat_model.specs.Log.{Entry, Receipt, entry_of}
 use Rattle.undo_journal.specs.declared.reply.Reply.{Reply}
 use Rattle.undo_journal.specs.Meaning.{reply_of}
 use Rattle.sessions.specs.declared.fault.RunFault.{RunFault}
@@ -52,3 +52,58 @@ IsEarlyFor None halted turn = ⊥
 -- the turn has not come yet
 abbrev pub IsEarly : Hall → ℕ → Type 0
 IsEarly h turn = IsEarlyFor h.book h.is_halted turn
+
+-- ---- what a call leaves behind the lock, and what it answers by what it found there
+
+-- where the engine of a book stands, and its log
+pub record Pages : Type 0 where
+  pub engine : Machine
+  pub log : List Entry
+
+abbrev pub pages_of : Option Book → Option Pages
+pages_of (Some b) = Some (record { engine = b.engine; log = b.log.items })
+pages_of None = None
+
+-- the log; a desk that is closed has none
+abbrev pub log_in : Option Book → List Entry
+log_in (Some b) = b.log.items
+log_in None = []
+
+-- engine and log are what they were, and it is halted where it was
+abbrev pub IsSame : Hall → Hall → Type 0
+IsSame before after = (pages_of after.book ≡ pages_of before.book) × (after.is_halted ≡ before.is_halted)
+
+-- nothing but the turns that are slept for has changed
+abbrev pub IsBut : Hall → Hall → Type 0
+IsBut before after = after ≡ record before { waits = after.waits }
+
+-- this session ran this command: the log has one entry more, which is of the session, and its receipt, of that number, stands behind the session's others
+pub record Served (session : ℕ) (c : model.Command) (before after : Hall) (receipts more : List Receipt) : Type 0 where
+  pub receipt : Receipt
+  pub command : receipt.command ≡ c
+  pub number : receipt.number ≡ log_len before
+  pub logged : log_in after.book ≡ log_in before.book ++ entry_of session receipt ∷ []
+  pub handed : more ≡ receipts ++ receipt ∷ []
+  pub halted : after.is_halted ≡ before.is_halted
+
+abbrev pub IsServingFor : Option Book → Bool → Type 0
+IsServingFor (Some b) halted = halted ≡ false
+IsServingFor None halted = ⊥
+
+-- the desk is neither halted nor closed
+abbrev pub IsServing : Hall → Type 0
+IsServing h = IsServingFor h.book h.is_halted
+
+-- what a call answers: `Halted` exactly where nobody is served
+abbrev pub Answer : Hall → Result (Unit {0}) RunFault → Type 0
+Answer h (Ok u) = IsServing h
+Answer h (Err Halted) = IsServing h → ⊥
+Answer h (Err (TurnPassed len)) = ⊥
+Answer h (Err OutOfMemory) = IsServing h
+
+-- the same at a turn, and `TurnPassed` exactly where the log is longer, with its length
+abbrev pub AnswerAt : ℕ → Hall → Result (Unit {0}) RunFault → Type 0
+AnswerAt turn h (Ok u) = IsServing h × (log_len h ≡ turn)
+AnswerAt turn h (Err Halted) = IsServing h → ⊥
+AnswerAt turn h (Err (TurnPassed len)) = IsServing h × (len ≡ log_len h) × (turn < len)
+AnswerAt turn h (Err OutOfMemory) = IsServing h × (log_len h ≡ turn)

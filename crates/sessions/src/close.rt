@@ -3,9 +3,9 @@
 ghost use Rattle.std.specs.Prelude.{◌≡◌, IfOk, IfErr};
 ghost use Rattle.flat_model.specs.Log.{IsLegal, log_end};
 ghost use Rattle.flat_model.specs.Audit.{AreEntries};
+ghost use Rattle.sessions.specs.Faults.{IsRefused};
 ghost use Rattle.sessions.specs.Meaning.{slots};
 
-use crate::auditing::audit;
 use crate::book::{Book, DeskEngine};
 use crate::desk::Desk;
 use crate::entry::Entry;
@@ -41,9 +41,10 @@ impl Desk {
     ) -> Result<Closed, (Desk, Vec<Session>, CloseFault)>
         ensures legal { IfOk result (λ c. IsLegal slots c.log.items) }
         ensures at_end { IfOk result (λ c. c.engine ≡ log_end slots c.log.items) }
-        ensures receipts { IfOk result (λ c. AreEntries self c.log.items sessions.items) }
+        ensures receipts { IfOk result (λ c. AreEntries self.sessions c.log.items sessions.items) }
         ensures sessions { IfOk result (λ c. c.sessions.items ≡ sessions.items) }
         ensures refused { IfErr result (λ e. (e.0 ≡ self) × (e.1.items ≡ sessions.items)) }
+        ensures fault { IfErr result (λ e. IsRefused self.sessions sessions.items e.2) }
     {
         match self.take_book(rt, sessions.as_slice()) {
             Ok(book) => {
@@ -62,24 +63,14 @@ impl Desk {
         }
     }
 
-    /// The book, where these receipts are its log. A desk that is there has its book, which is taken
-    /// out only where the desk ends.
+    /// The book, where these receipts are its log.
     fn take_book<R: Wait>(&self, rt: &R, sessions: &[Session]) -> Result<Book, CloseFault>
-        ensures { IfOk result (λ b. AreEntries self.now b.log.items sessions.now) }
+        ensures receipts { IfOk result (λ b. AreEntries self.now.sessions b.log.items sessions.now) }
+        ensures fault { IfErr result (λ f. IsRefused self.now.sessions sessions.now f) }
     {
         let mut hall = self.shared.hall.lock(rt);
-        let Some(book) = hall.book.take() else {
-            return Err(CloseFault::Missing(0));
-        };
-        match audit(self.alloc, self.sessions, book.log.as_slice(), sessions) {
-            Ok(()) => {
-                self.shared.leave(hall);
-                Ok(book)
-            }
-            Err(fault) => {
-                hall.book = Some(book);
-                Err(fault)
-            }
-        }
+        let taken = hall.take_book(self.alloc, self.sessions, sessions);
+        self.shared.leave(hall);
+        taken
     }
 }

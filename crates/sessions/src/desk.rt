@@ -10,7 +10,8 @@ use std::alloc::{AllocError, Global};
 use std::marker::Model;
 use std::sync::Arc;
 
-/// A desk over one engine. Contracts see the number of its sessions.
+/// A desk over one engine. Contracts see the number of its sessions, and which lock it shares with
+/// them; what lies behind the lock they do not see.
 #[derive(Drop)]
 pub struct Desk {
     pub(crate) sessions: u8,
@@ -19,11 +20,12 @@ pub struct Desk {
 }
 
 impl Model for Desk {
-    ghost use Rattle.std.specs.Prelude.{ℕ};
+    ghost use Rattle.std.specs.Arc.{arc_value};
+    ghost use Rattle.sessions.specs.Desks as desks;
 
-    ghost Value = { ℕ };
+    ghost Value = { desks.Desk };
 
-    ghost view = { λ d. d.sessions };
+    ghost view = { λ d. record { sessions = d.sessions; shared = arc_value d.shared } };
 }
 
 impl Desk {
@@ -34,7 +36,7 @@ impl Desk {
     /// `AllocError` where memory was wanting.
     pub fn new(alloc: Global, n: u8) -> Result<Desk, AllocError>
         requires { (1 ≤ n) × (n ≤ 8) }
-        ensures { IfOk result (λ d. d ≡ n) }
+        ensures { IfOk result (λ d. d.sessions ≡ n) }
     {
         let hall = Hall {
             book: Some(Book::new(alloc)?),
@@ -55,7 +57,7 @@ impl Desk {
     ///
     /// `AllocError` where one more pointer to what the desk shares was refused.
     pub fn session(&self, k: u8) -> Result<Session, AllocError>
-        requires { k < self.now }
+        requires { k < self.now.sessions }
         ensures { IfOk result (λ s. s ≡ record { number = k; receipts = [] }) }
     {
         let shared = Arc::try_clone(&self.shared)?;

@@ -1,12 +1,23 @@
 //! What lies behind the lock, and one call of a session there.
 
-ghost use Rattle.std.specs.Prelude.{◌≡◌, ◌↔◌, IsTrue, IfOk, IfErr, OnErr};
+ghost use Rattle.std.specs.Prelude.{◌≡◌, ◌↔◌, IsTrue, IfOk, IfErr, OnErr, Some, None, true};
+ghost use Rattle.flat_model.specs.Audit.{AreEntries};
 ghost use Rattle.undo_journal.specs.Meaning.{command_of};
-ghost use Rattle.sessions.specs.Served.{AppendsAt, IsLate, NamesNoTurn, IsEarly, log_len};
+ghost use Rattle.sessions.specs.Faults.{IsFirstFault};
+ghost use Rattle.sessions.specs.Served.{
+  Answer,
+  AnswerAt,
+  IsBut,
+  IsEarly,
+  IsSame,
+  Served,
+  log_in,
+};
 
+use crate::auditing::audit;
 use crate::book::Book;
-use crate::{Receipt, RunFault};
-use std::alloc::Allocator;
+use crate::{CloseFault, Receipt, RunFault, Session};
+use std::alloc::{Allocator, Global};
 use std::sync::Wait;
 use std::thread::Threads;
 use undo_journal::Command;
@@ -33,7 +44,8 @@ impl Hall {
 
     /// The same; and if so, notes that the session sleeps for this turn.
     pub(crate) fn must_wait(&mut self, session: u8, turn: u64) -> bool
-        ensures { IsTrue result ↔ IsEarly self.new turn }
+        ensures early { IsTrue result ↔ IsEarly self.new turn }
+        ensures same { IsBut self.old self.new }
     {
         let is_early = self.is_early(turn);
         if is_early {
@@ -52,16 +64,42 @@ impl Hall {
     }
 
     /// The sessions whose sleepers have to look again.
-    pub(crate) fn take_due(&mut self) -> [bool; 8] {
+    pub(crate) fn take_due(&mut self) -> [bool; 8]
+        ensures { IsBut self.old self.new }
+    {
         let reached = self.reached();
-        let mut due = [false; 8];
-        for at in 0..8 {
-            if self.waits[at] <= reached {
-                due[at] = self.waits[at] != u64::MAX;
-                self.waits[at] = u64::MAX;
-            }
+        due_of(&mut self.waits, reached)
+    }
+
+    /// From now on nobody is served.
+    pub(crate) fn halt(&mut self)
+        ensures { self.new ≡ record self.old { is_halted = true } }
+    {
+        self.is_halted = true;
+    }
+
+    /// Takes the book out, where these receipts are its log. Without a book, which is so only once
+    /// the desk was closed, it answers as if memory were wanting.
+    pub(crate) fn take_book(
+        &mut self,
+        alloc: Global,
+        n: u8,
+        sessions: &[Session],
+    ) -> Result<Book, CloseFault>
+        ensures book { IfOk result (λ b. self.old.book ≡ Some b) }
+        ensures taken { IfOk result (λ _. self.new ≡ record self.old { book = None }) }
+        ensures receipts { IfOk result (λ b. AreEntries n b.log.items sessions.now) }
+        ensures same { OnErr result (self.new ≡ self.old) }
+        ensures fault { IfErr result (λ f.
+            IsFirstFault n (log_in self.old.book) sessions.now f) }
+    {
+        if let Some(book) = &self.book {
+            audit(alloc, n, book.log.as_slice(), sessions)?;
         }
-        due
+        match self.book.take() {
+            Some(book) => Ok(book),
+            None => Err(CloseFault::OutOfMemory),
+        }
     }
 
     /// Runs a command for a session, and keeps its receipt.
@@ -72,10 +110,11 @@ impl Hall {
         cmd: &Command<B>,
         receipts: &mut Vec<Receipt>,
     ) -> Result<(), RunFault>
-        ensures receipt { IfOk result (λ _. AppendsAt (log_len self.old) (command_of cmd.now)
+        ensures served { IfOk result (λ _. Served session (command_of cmd.now) self.old self.new
             receipts.old.items receipts.new.items) }
         ensures kept { OnErr result (receipts.new.items ≡ receipts.old.items) }
-        ensures fault { IfErr result (λ e. NamesNoTurn e) }
+        ensures same { OnErr result (IsSame self.old self.new) }
+        ensures answer { Answer self.old result }
     {
         if self.is_halted {
             return Err(RunFault::Halted);
@@ -103,10 +142,11 @@ impl Hall {
         receipts: &mut Vec<Receipt>,
     ) -> Result<(), RunFault>
         requires { ¬ IsEarly self.old turn }
-        ensures receipt { IfOk result (λ _. AppendsAt turn (command_of cmd.now)
+        ensures served { IfOk result (λ _. Served session (command_of cmd.now) self.old self.new
             receipts.old.items receipts.new.items) }
         ensures kept { OnErr result (receipts.new.items ≡ receipts.old.items) }
-        ensures late { IfErr result (λ e. IsLate turn e) }
+        ensures same { OnErr result (IsSame self.old self.new) }
+        ensures answer { AnswerAt turn self.old result }
     {
         match &self.book {
             Some(book) if !self.is_halted => {
@@ -119,4 +159,16 @@ impl Hall {
         }
         self.serve(rt, session, cmd, receipts)
     }
+}
+
+/// The signs at which a turn is slept for that is reached; nobody sleeps there for it any more.
+fn due_of(waits: &mut [u64; 8], reached: u64) -> [bool; 8] {
+    let mut due = [false; 8];
+    for at in 0..8 {
+        if waits[at] <= reached {
+            due[at] = waits[at] != u64::MAX;
+            waits[at] = u64::MAX;
+        }
+    }
+    due
 }

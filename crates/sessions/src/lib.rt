@@ -15,13 +15,19 @@
 //!   replies) and the engine stands at its end. Else it gives everything back, with the first fault.
 //! - `audit` is the same test on a log that is given.
 //!
+//! No public clause can name what lies behind the lock. The private calls of `Hall` and `Book`, which
+//! are lent it, say what each answer leaves of engine, log and halt: one entry more, of this session
+//! and with its receipt; or all as it was. That each public call hands the locked value to them, and
+//! back to the lock as they left it, no clause says.
+//!
 //! Nothing is said of waiting: that a turn comes, that no session is passed over, how long it takes.
 //! Nor is there an order between sessions but the log's. That every session answers `Halted` once a
 //! desk was halted or closed is shown by tests.
 //!
 //! What a log, a receipt and their faults are stands in `flat_model` (`specs/Log.antt`,
-//! `specs/Audit.antt`); what a call leaves of its session in `specs/Ran.antt`.
-//! The functions in `laws` do nothing: each says in its contract what these definitions say.
+//! `specs/Audit.antt`); what a call leaves of its session in `specs/Ran.antt`, and of what lies behind
+//! the lock in `specs/Served.antt`.
+//! What these definitions say as laws stands in `session_laws`.
 #![tactic(auto)]
 
 mod auditing;
@@ -31,7 +37,6 @@ mod desk;
 mod entry;
 mod fault;
 mod hall;
-pub mod laws;
 mod session;
 mod shared;
 mod step;

@@ -84,7 +84,7 @@ impl Session {
         ensures { self.new ≡ self.old }
     {
         let mut hall = self.shared.hall.lock(rt);
-        hall.is_halted = true;
+        hall.halt();
         self.shared.leave(hall);
     }
 

@@ -1,6 +1,6 @@
 //! The bytes that answer a command.
 
-ghost use Rattle.std.specs.Prelude.{◌≡◌, ◌++◌, decimal, codes, false, IfSome, None, OnOk};
+ghost use Rattle.std.specs.Prelude.{◌≡◌, ◌++◌, decimal, codes, false, None, IfSome, OnOk};
 ghost use Rattle.flat_model.specs.Replies.{refusal_text, fault_text, ok_line, bar_line, fault_bytes, is_refused, reply_bytes};
 ghost use Rattle.flat_model.specs.Trace.{lines_in};
 ghost use Rattle.std.specs.List.{flat_map};
@@ -164,10 +164,10 @@ pub fn put_reply(
     }
 }
 
-/// Whether the answer is `refused`. Want of memory is no answer.
+/// Whether the answer is `refused`. Want of memory is not.
 pub fn is_refused(reply: &Reply<Global>) -> bool
-    ensures answered { IfSome (reply_of reply.now) (λ r. result ≡ is_refused r) }
-    ensures wanting { reply_of reply.now ≡ None → result ≡ false }
+    ensures refused { IfSome (reply_of reply.now) (λ r. result ≡ is_refused r) }
+    ensures no_memory { reply_of reply.now ≡ None → result ≡ false }
 {
     matches!(reply, Reply::Refused(_) | Reply::NothingToUndo)
 }

@@ -1,6 +1,6 @@
 use Rattle.std.proofs.Common.{◌∙◌, Some, is_some, map, length, refl, ap}
 use Rattle.std.specs.List.{count_by}
-use Rattle.flat_model.specs.Machine.{new_machine, replies}
+use Rattle.flat_model.specs.Machine.{replies}
 use Rattle.undo_journal.specs.Meaning.{command_of, reply_of}
 use Rattle.replay_main.specs.Rehearsed.{answers_at, is_refusal}
 use Rattle.sessions.specs.Meaning.{slots}

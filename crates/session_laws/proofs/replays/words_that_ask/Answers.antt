@@ -1,0 +1,80 @@
+use Rattle.std.proofs.Common.{◌≡◌, ◌≢◌, ◌⊎◌, [], ◌∷◌, None, codes, refl, inl, inr, arith}
+use Rattle.clap.specs.Words.{IsAmong, fault_of}
+use Rattle.clap.specs.declared.error.kind.ErrorKind.{ErrorKind}
+use Rattle.clap.specs.declared.error.kind.ErrorKind.TheVariants as kind
+use Rattle.clap.proofs.OnLiterals.{clap_on_literals}
+use Rattle.replay_main.specs.Asks.{HasFault, app, workers_in}
+use Rattle.session_laws.proofs.replays.words_that_ask.Goals as goal
+
+alone : (k : ErrorKind) → IsAmong k (kind.DisplayHelp ∷ []) → k ≢ kind.DisplayHelp → ⊥
+alone k (inl e) n = n e
+alone k (inr x) n = absurd x
+
+pub returns-clause-none : goal.returns-clause-none
+unfolding clap_on_literals
+returns-clause-none c = (refl, refl, omega arith, omega arith, refl)
+
+pub returns-clause-workers : goal.returns-clause-workers
+unfolding clap_on_literals
+returns-clause-workers c = (refl, refl, omega arith, omega arith, refl)
+
+pub returns-clause-joined : goal.returns-clause-joined
+unfolding clap_on_literals
+returns-clause-joined c = (refl, refl, omega arith, omega arith, refl)
+
+pub returns-clause-rehearse : goal.returns-clause-rehearse
+unfolding clap_on_literals
+returns-clause-rehearse c = (refl, refl, omega arith, omega arith, refl)
+
+pub returns-clause-both : goal.returns-clause-both
+unfolding clap_on_literals
+returns-clause-both c = (refl, refl, omega arith, omega arith, refl)
+
+pub returns-clause-nine : goal.returns-clause-nine
+unfolding clap_on_literals
+returns-clause-nine c = inr (refl, refl)
+
+pub returns-clause-nought : goal.returns-clause-nought
+unfolding clap_on_literals
+returns-clause-nought c = inr (refl, refl)
+
+pub returns-clause-ten : goal.returns-clause-ten
+unfolding clap_on_literals
+returns-clause-ten c = inr (refl, refl)
+
+pub returns-clause-unknown : goal.returns-clause-unknown
+unfolding clap_on_literals
+returns-clause-unknown c = inl (kind.UnknownArgument, inl refl, λ e. cc)
+
+pub returns-clause-stray : goal.returns-clause-stray
+unfolding clap_on_literals
+returns-clause-stray c = inl (kind.UnknownArgument, inl refl, λ e. cc)
+
+pub returns-clause-left_out : goal.returns-clause-left_out
+unfolding clap_on_literals
+returns-clause-left_out c = inl (kind.InvalidValue, inl refl, λ e. cc)
+
+pub returns-clause-joined_three : goal.returns-clause-joined_three
+unfolding clap_on_literals
+returns-clause-joined_three c = (refl, refl, omega arith, omega arith, refl)
+
+pub returns-clause-dashes : goal.returns-clause-dashes
+unfolding clap_on_literals
+returns-clause-dashes c = (refl, refl, omega arith, omega arith, refl)
+
+pub returns-clause-twice : goal.returns-clause-twice
+unfolding clap_on_literals
+returns-clause-twice c = inl (kind.ArgumentConflict, inl refl, λ e. cc)
+
+pub returns-clause-help : goal.returns-clause-help
+unfolding clap_on_literals
+returns-clause-help c = λ text. inl refl
+
+only : HasFault (fault_of app (codes "--help" ∷ [])) ⊎ ((fault_of app (codes "--help" ∷ []) ≡ []) × (workers_in (codes "--help" ∷ []) ≡ None)) → ⊥
+unfolding clap_on_literals
+only (inl f) = alone f.0 f.1 f.2
+only (inr e) = let none : kind.DisplayHelp ∷ [] ≡ [] = e.0 in cc
+
+pub returns-clause-help_alone : goal.returns-clause-help_alone
+unfolding clap_on_literals
+returns-clause-help_alone c = only

@@ -1,0 +1,213 @@
+//! What the definitions of `sessions` say of a call of a session, of what it leaves behind the lock,
+//! and of the answer of an audit.
+
+ghost use Rattle.std.specs.Prelude.{
+  ◌≡◌,
+  ◌≢◌,
+  ◌⊎◌,
+  ◌↔◌,
+  ◌++◌,
+  ◌∷◌,
+  ◌+◌,
+  ◌≤◌,
+  ℕ,
+  Bool,
+  true,
+  false,
+  List,
+  [],
+  Some,
+  None,
+  Ok,
+  Err,
+  length,
+  vec_len,
+};
+ghost use denote.Ref.{Bor};
+ghost use Rattle.std.specs.declared.alloc.Global.{Global};
+ghost use Rattle.flat_model.specs.Audit.{AreEntries};
+ghost use Rattle.flat_model_laws.specs.AuditExamples.{Exchange, entry, receipt, session, three};
+ghost use Rattle.flat_model.specs.Command as model;
+ghost use Rattle.flat_model.specs.Log.{Entry, Receipt, Session};
+ghost use Rattle.flat_model.specs.Machine.{Machine};
+ghost use Rattle.undo_journal.specs.Answer.{Answers};
+ghost use Rattle.undo_journal.specs.declared.reply.Reply.{Reply};
+ghost use Rattle.undo_journal.specs.declared.reply.Reply.TheVariants as reply;
+ghost use Rattle.undo_journal.specs.Meaning.{reply_of};
+ghost use Rattle.sessions.specs.declared.book.Book.{Book};
+ghost use Rattle.sessions.specs.declared.hall.Hall.{Hall};
+ghost use Rattle.sessions.specs.declared.fault.CloseFault.{CloseFault};
+ghost use Rattle.sessions.specs.declared.fault.CloseFault.TheVariants as fault;
+ghost use Rattle.sessions.specs.declared.fault.RunFault.{RunFault};
+ghost use Rattle.sessions.specs.declared.fault.RunFault.TheVariants as run_fault;
+ghost use Rattle.sessions.specs.Faults.{IsFirstFault};
+ghost use Rattle.sessions.specs.Meaning.{slots, answer_of};
+ghost use Rattle.sessions.specs.Ran.{Last, LastAt, Ran, RanAt};
+ghost use Rattle.sessions.specs.Marks.{AllClear, IsFirstClear};
+ghost use Rattle.sessions.specs.Served.{
+  Answer,
+  AnswerAt,
+  AnswersTwice,
+  Appends,
+  AppendsAt,
+  IsEarly,
+  IsLate,
+  IsServing,
+  NamesNoTurn,
+  Served,
+  log_in,
+  log_len,
+};
+
+/// A call that ran leaves the session its number and its receipts, and behind them one more, which
+/// is the one that is given and of the command that was run. A call that failed leaves the session
+/// as it was.
+pub fn receipts_of_a_call()
+    ensures ran { (c : model.Command) (before after : Session) (r : Bor Receipt)
+        → Ran c before after (Ok r) ↔ ((after.number ≡ before.number)
+        × (after.receipts ≡ before.receipts ++ r.now ∷ []) × (r.now.command ≡ c)) }
+    ensures one_more { (c : model.Command) (before after : Session) (r : Bor Receipt)
+        → Ran c before after (Ok r)
+        → length after.receipts ≡ length before.receipts + 1 }
+    ensures failed { (c : model.Command) (before after : Session) (e : RunFault)
+        → Ran c before after (Err e)
+        ↔ ((after.number ≡ before.number) × (after.receipts ≡ before.receipts)) }
+    ensures last { (c : model.Command) (before after : Session)
+        → Last c before after ↔ ((n : ℕ) × (answer : model.Reply)
+        × (after ≡ session before.number (before.receipts
+        ++ record { number = n; command = c; reply = answer } ∷ []))) }
+    ensures appended { (c : model.Command) (before after : List Receipt)
+        → Appends c before after ↔ ((n : ℕ) × (answer : model.Reply)
+        × (after ≡ before ++ record { number = n; command = c; reply = answer } ∷ [])) }
+{}
+
+/// A call at a turn leaves the same, and the receipt's number is the turn.
+pub fn receipts_of_a_call_at_a_turn()
+    ensures ran { (turn : ℕ) (c : model.Command) (before after : Session) (r : Bor Receipt)
+        → RanAt turn c before after (Ok r) ↔ ((after.number ≡ before.number)
+        × (after.receipts ≡ before.receipts ++ r.now ∷ [])
+        × (r.now ≡ record { number = turn; command = c; reply = r.now.reply })) }
+    ensures one_more { (turn : ℕ) (c : model.Command) (before after : Session) (r : Bor Receipt)
+        → RanAt turn c before after (Ok r) → Ran c before after (Ok r) }
+    ensures failed { (turn : ℕ) (c : model.Command) (before after : Session) (e : RunFault)
+        → RanAt turn c before after (Err e)
+        ↔ ((after.number ≡ before.number) × (after.receipts ≡ before.receipts)) }
+    ensures last { (turn : ℕ) (c : model.Command) (before after : Session)
+        → LastAt turn c before after ↔ ((answer : model.Reply)
+        × (after ≡ session before.number (before.receipts
+        ++ record { number = turn; command = c; reply = answer } ∷ []))) }
+    ensures appended { (turn : ℕ) (c : model.Command) (before after : List Receipt)
+        → AppendsAt turn c before after ↔ ((answer : model.Reply)
+        × (after ≡ before ++ record { number = turn; command = c; reply = answer } ∷ [])) }
+{}
+
+/// A turn has passed where the log has an entry of its number: with five entries turn 4 has passed,
+/// and turn 5 has not. A call without a turn is never told that one has passed, and the other two
+/// faults say nothing of turns.
+pub fn turns_that_passed()
+    ensures exactly { (turn len : ℕ) → IsLate turn (run_fault.TurnPassed len)
+        ↔ ((k : ℕ) × (len ≡ turn + 1 + k)) }
+    ensures passed { IsLate 4 (run_fault.TurnPassed 5) }
+    ensures next { IsLate 5 (run_fault.TurnPassed 5) → ⊥ }
+    ensures later { IsLate 6 (run_fault.TurnPassed 5) → ⊥ }
+    ensures without_a_turn { (e : RunFault)
+        → NamesNoTurn e ↔ ((e ≡ run_fault.Halted) ⊎ (e ≡ run_fault.OutOfMemory)) }
+    ensures never { (len : ℕ) → NamesNoTurn (run_fault.TurnPassed len) → ⊥ }
+    ensures others { (turn : ℕ) (e : RunFault) → NamesNoTurn e → IsLate turn e }
+{}
+
+/// Of the faults but want of memory one at most is the first, and none is where the receipts are
+/// the log's entries. Where they are not, there is one. Want of memory may be told of any receipts.
+pub fn first_faults()
+    ensures one { (n : ℕ) (log : List Entry) (ss : List Session) (f g : CloseFault)
+        → f ≢ fault.OutOfMemory → g ≢ fault.OutOfMemory
+        → IsFirstFault n log ss f → IsFirstFault n log ss g → f ≡ g }
+    ensures none { (n : ℕ) (log : List Entry) (ss : List Session) (f : CloseFault)
+        → AreEntries n log ss → IsFirstFault n log ss f → f ≡ fault.OutOfMemory }
+    ensures found { (n : ℕ) (log : List Entry) (ss : List Session) → AreEntries n log ss
+        ⊎ ((f : CloseFault) × (f ≢ fault.OutOfMemory) × IsFirstFault n log ss f) }
+    ensures memory { (n : ℕ) (log : List Entry) (ss : List Session)
+        → IsFirstFault n log ss fault.OutOfMemory }
+{}
+
+/// Of three commands by the sessions 0, 1 and 0: a receipt taken out is missing, one with another
+/// reply differs, and one with a number past the log is its session's stranger.
+pub fn first_faults_of_three()
+    ensures missing { (a b c : Exchange)
+        → IsFirstFault 2 (three a b c) (session 0 (receipt 0 a ∷ [])
+        ∷ session 1 (receipt 1 b ∷ []) ∷ []) (fault.Missing 2) }
+    ensures differs { (a b c x : Exchange) → x.reply ≢ b.reply
+        → IsFirstFault 2 (three a b c) (session 0 (receipt 0 a ∷ receipt 2 c ∷ [])
+        ∷ session 1 (receipt 1 x ∷ []) ∷ []) (fault.Mismatch 1) }
+    ensures stranger { (a b c : Exchange)
+        → IsFirstFault 2 (three a b c) (session 0 (receipt 0 a ∷ receipt 3 c ∷ [])
+        ∷ session 1 (receipt 1 b ∷ []) ∷ []) (fault.Stranger 0) }
+{}
+
+/// There are 256 slots under a desk.
+pub fn slots_of_a_desk()
+    ensures { slots ≡ 256 }
+{}
+
+/// The answer in an entry or a receipt is the reply that was given.
+pub fn answers_that_are_kept()
+    ensures same { (r : Reply Global) → reply_of r ≢ None → Some (answer_of r) ≡ reply_of r }
+    ensures done { answer_of {A = Global} reply.Done ≡ model.Done }
+    ensures nothing { answer_of {A = Global} reply.NothingToUndo ≡ model.NothingToUndo }
+{}
+
+/// The answer for the log and the one for the receipt are both the machine's, and so they are the
+/// same.
+pub fn answers_for_log_and_receipt()
+    ensures both { (old new : Machine) (c : model.Command) (r q : Reply Global)
+        → AnswersTwice old c r q new ↔ (Answers 256 old c r new × Answers 256 old c q new) }
+    ensures same { (old new : Machine) (c : model.Command) (r q : Reply Global)
+        → AnswersTwice old c r q new → reply_of r ≡ reply_of q }
+{}
+
+/// A turn is early where the log has fewer entries; never at a halted desk or a closed one, and
+/// never where it has passed.
+pub fn turns_that_are_early()
+    ensures exactly { (hall : Hall) (book : Book) (turn : ℕ) → hall.book ≡ Some book
+        → IsEarly hall turn ↔ ((hall.is_halted ≡ false) × (vec_len book.log + 1 ≤ turn)) }
+    ensures closed { (hall : Hall) (turn : ℕ) → hall.book ≡ None → IsEarly hall turn → ⊥ }
+    ensures halted { (hall : Hall) (turn : ℕ) → hall.is_halted ≡ true → IsEarly hall turn → ⊥ }
+    ensures not_late { (hall : Hall) (turn : ℕ) → IsEarly hall turn
+        → IsLate turn (run_fault.TurnPassed (log_len hall)) → ⊥ }
+    ensures no_log { (hall : Hall) → hall.book ≡ None → log_len hall ≡ 0 }
+{}
+
+/// A desk serves until it is halted or closed. A call is told `Halted` exactly where nobody is
+/// served, and `TurnPassed` exactly where the log is longer than the turn, with its length. A call
+/// that ran leaves a log that is one entry longer.
+pub fn answers_behind_the_lock()
+    ensures serving { (hall : Hall) (book : Book) → hall.book ≡ Some book
+        → IsServing hall ↔ (hall.is_halted ≡ false) }
+    ensures closed { (hall : Hall) → hall.book ≡ None → IsServing hall → ⊥ }
+    ensures halted { (hall : Hall)
+        → Answer hall (Err run_fault.Halted) ↔ (IsServing hall → ⊥) }
+    ensures halted_at { (turn : ℕ) (hall : Hall)
+        → AnswerAt turn hall (Err run_fault.Halted) ↔ (IsServing hall → ⊥) }
+    ensures passed { (turn len : ℕ) (hall : Hall)
+        → AnswerAt turn hall (Err (run_fault.TurnPassed len))
+        ↔ (IsServing hall × (len ≡ log_len hall) × (turn + 1 ≤ len)) }
+    ensures never { (len : ℕ) (hall : Hall) → Answer hall (Err (run_fault.TurnPassed len)) → ⊥ }
+    ensures in_turn { (turn : ℕ) (hall : Hall) (u : Unit {0})
+        → AnswerAt turn hall (Ok u) ↔ (IsServing hall × (log_len hall ≡ turn)) }
+    ensures longer { (session : ℕ) (c : model.Command) (before after : Hall) (rs more : List Receipt)
+        → Served session c before after rs more
+        → length (log_in after.book) ≡ length (log_in before.book) + 1 }
+    ensures receipt { (session : ℕ) (c : model.Command) (before after : Hall) (rs more : List Receipt)
+        → Served session c before after rs more → AppendsAt (log_len before) c rs more }
+{}
+
+/// The first number that is not marked is one at most, and is not past the marks.
+pub fn marks_of_an_audit()
+    ensures third { IsFirstClear (true ∷ true ∷ false ∷ false ∷ []) 2 }
+    ensures one { (marks : List Bool) (i j : ℕ) → IsFirstClear marks i → IsFirstClear marks j
+        → i ≡ j }
+    ensures all_marked { (i : ℕ) → IsFirstClear (true ∷ true ∷ []) i → ⊥ }
+    ensures clear { AllClear 3 (false ∷ false ∷ false ∷ []) }
+    ensures not_clear { AllClear 3 (false ∷ true ∷ false ∷ []) → ⊥ }
+    ensures as_many { (n : ℕ) (marks : List Bool) → AllClear n marks → length marks ≡ n }
+{}

@@ -1,0 +1,8 @@
+-- What contracts see of a desk.
+use Rattle.std.specs.Prelude.{ℕ}
+use Rattle.sessions.specs.declared.shared.Shared.{Shared}
+
+-- how many sessions it has at most, and what it shares with them: its lock, and the signs at which they sleep
+pub record Desk : Type 0 where
+  pub sessions : ℕ
+  pub shared : Shared
