@@ -5,4 +5,3 @@ mod Fronts
 mod Answered
 mod Below
 mod SameTexts
-mod FaultLaws

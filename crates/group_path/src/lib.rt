@@ -21,13 +21,12 @@
 //!
 //! The definitions stand in `flat_model`: `specs/Path.antt` (paths, their order, at or below) and `specs/PathText.antt`
 //! (texts, the grammar, the first fault). `specs/FollowsGrammar.antt` here says how a call answers one of those faults,
-//! and `laws` what such an answer tells.
+//! and the laws of `hierarchy_laws` what such an answer tells.
 #![tactic(auto)]
 
 mod child;
 mod fault;
 mod grammar;
-pub mod laws;
 mod names;
 mod order;
 mod path;

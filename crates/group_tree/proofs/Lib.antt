@@ -17,11 +17,8 @@ pub mod Downward
 pub mod Refused
 mod Copies
 pub mod Flat
-mod Prefixes
+pub mod Prefixes
 mod Upward
 mod LimitsMet
 mod LimitsUpward
 mod InPlace
-mod SituationLaws
-mod FlatLaws
-mod ClosedLaws

@@ -19,7 +19,7 @@
 //! much memory a tree takes.
 //!
 //! `specs/Groups.antt` says what each call reads and leaves, `specs/Flat.antt` how this is the flat state of `flat_model`, and
-//! `laws` what these definitions tell.
+//! the laws of `hierarchy_laws` what these definitions tell.
 #![tactic(auto)]
 
 mod along;
@@ -29,7 +29,6 @@ mod copy;
 mod events;
 mod fault;
 mod insert;
-pub mod laws;
 mod limits;
 mod node;
 mod remove;

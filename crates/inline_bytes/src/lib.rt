@@ -7,9 +7,10 @@
 //!
 //! Not promised: that few bytes lie in the value after `truncate`.
 //!
-//! `specs/Bytes.antt` says which bytes a value has.
+//! `specs/Bytes.antt` says which bytes a value has, and `laws` what that tells.
 #![tactic(auto)]
 
 mod bytes;
+pub mod laws;
 
 pub use bytes::{INLINE_MAX, InlineBytes};

@@ -1,9 +1,0 @@
-use Rattle.group_path.proofs.FaultLaws.{passed_is, tested_is, tests_take_none}
-use Rattle.group_path.proofs.laws.tests_follow_the_grammar.Goals as goal
-
-pub returns : goal.returns
-returns c = record {
-  passed = passed_is;
-  fault = tested_is;
-  memory = tests_take_none;
-}

@@ -1,9 +1,0 @@
-use Rattle.group_tree.proofs.SituationLaws.{exists_is, parent_is, made_is}
-use Rattle.group_tree.proofs.laws.faults_of_a_new_group.Goals as goal
-
-pub returns : goal.returns
-returns c = record {
-  exists = exists_is;
-  no_parent = parent_is;
-  made = made_is;
-}

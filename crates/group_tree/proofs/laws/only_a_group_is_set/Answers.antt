@@ -1,8 +1,0 @@
-use Rattle.group_tree.proofs.SituationLaws.{set_is, unset_is}
-use Rattle.group_tree.proofs.laws.only_a_group_is_set.Goals as goal
-
-pub returns : goal.returns
-returns c = record {
-  there = set_is;
-  absent = unset_is;
-}

@@ -1,0 +1,4 @@
+mod FaultLaws
+mod SituationLaws
+mod FlatLaws
+mod ClosedLaws

@@ -1,0 +1,16 @@
+//! The laws of the bytes that a value has, wherever they lie.
+
+ghost use Rattle.std.specs.Prelude.{◌≡◌, ℕ, ◌↔◌, List, ◌++◌, length, Vec};
+ghost use Rattle.inline_bytes.specs.declared.bytes.TheConstants.{INLINE_MAX};
+ghost use Rattle.inline_bytes.specs.declared.bytes.Place.{Place};
+ghost use Rattle.inline_bytes.specs.declared.bytes.Place.TheVariants.{Inline, Heap};
+ghost use Rattle.inline_bytes.specs.Bytes.{bytes_in, IsSound};
+
+/// The bytes in front of the end are the value's, and no others; on the heap all are. A value is sound exactly where it has
+/// as many bytes as it says.
+pub fn bytes_are_those_in_front()
+    ensures in_front { (few behind : List ℕ) → bytes_in {A = Unit {0}} (Inline (few ++ behind) (length few)) ≡ few }
+    ensures heap { (v : Vec ℕ (Unit {0})) → bytes_in {A = Unit {0}} (Heap v) ≡ v.items }
+    ensures sound { (bytes : List ℕ) (len : ℕ) → length bytes ≡ INLINE_MAX → IsSound {A = Unit {0}} (Inline bytes len) ↔ (length (bytes_in {A = Unit {0}} (Inline bytes len)) ≡ len) }
+    ensures sound_heap { (v : Vec ℕ (Unit {0})) → IsSound {A = Unit {0}} (Heap v) }
+{}
