@@ -8,8 +8,8 @@
 //!   list of events comes to; how hands and lists by word change.
 //! - `boards`: how deep leaves stand and what a call may take, what is counted where, what a board
 //!   and a view are.
-//! - `events`: each step of a board is one event of the core, a step of two adds is none, and cores
-//!   that no number tells apart go on alike.
+//! - `events`: each step of a board is one event of the core, a step of two adds is none, cores that no
+//!   number tells apart go on alike, and a run to fewer than 2^32 hands is one that the core does.
 //!
 //! The laws that say what each line of the core's events keeps stand in `snzi_core::laws`, where the
 //! board's rule uses them. Cores and boards written out are in `specs/`. No crate that runs stands on
