@@ -15,12 +15,15 @@
 //! - `values`: the names of files, the values that are written to them, and texts of limits.
 //! - `faults`: a replay over devices that fail or end, which stand in `devices`.
 //! - `arguments`: the command line, what the program does by it, its statuses and messages.
+//! - `command_lines`: words that stand twice, `--workers=3` and `--`; a bad line reads nothing.
 #![tactic(auto)]
 
 #[cfg(test)]
 mod ample_memory;
 #[cfg(test)]
 mod arguments;
+#[cfg(test)]
+mod command_lines;
 #[cfg(test)]
 mod devices;
 #[cfg(test)]

@@ -8,6 +8,7 @@
 //! - `receipts`: a worked log of three entries, and each way of altering its receipts.
 //! - `halting`: a halted desk.
 //! - `threads`: sessions in threads of their own, in contention and by turns.
+//! - `waking`: eight sessions that sleep for their turns.
 //! - `memory`: one allocation refused at a time.
 //! - `calls`: what the others are written with.
 #![tactic(auto)]
@@ -22,3 +23,5 @@ mod memory;
 mod receipts;
 #[cfg(test)]
 mod threads;
+#[cfg(test)]
+mod waking;

@@ -1,8 +1,10 @@
 -- What contracts see of a desk.
 use Rattle.std.specs.Prelude.{ℕ}
+use Rattle.std.specs.declared.alloc.Global.{Global}
+use Rattle.std.specs.declared.sync.Arc.{Arc}
 use Rattle.sessions.specs.declared.shared.Shared.{Shared}
 
--- how many sessions it has at most, and what it shares with them: its lock, and the signs at which they sleep
+-- how many sessions it has at most, and the pointer to what it shares with them: its lock, and the signs at which they sleep
 pub record Desk : Type 0 where
   pub sessions : ℕ
-  pub shared : Shared
+  pub shared : Arc Shared Global

@@ -20,12 +20,11 @@ pub struct Desk {
 }
 
 impl Model for Desk {
-    ghost use Rattle.std.specs.Arc.{arc_value};
     ghost use Rattle.sessions.specs.Desks as desks;
 
     ghost Value = { desks.Desk };
 
-    ghost view = { λ d. record { sessions = d.sessions; shared = arc_value d.shared } };
+    ghost view = { λ d. record { sessions = d.sessions; shared = d.shared } };
 }
 
 impl Desk {
