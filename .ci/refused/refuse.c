@@ -4,6 +4,7 @@
  *   REFUSE=allocation N    the N-th malloc, calloc or realloc, from 1
  *   REFUSE=allocations N   that one and all behind it
  *   REFUSE=read N          the N-th read of standard input, which fails with EIO
+ *   REFUSE=interrupted N   that read, which fails with EINTR
  *   REFUSE=write N         the N-th write to standard output, which fails with EIO
  *   COUNTED=FILE           how many allocations there were stands there afterwards, in eight bytes
  *   BYTEWISE=1             each read and each write takes one byte
@@ -23,7 +24,7 @@ void *__libc_malloc(size_t size);
 void *__libc_calloc(size_t count, size_t size);
 void *__libc_realloc(void *old, size_t size);
 
-enum refused { NOTHING, ALLOCATION, ALLOCATIONS, READ, WRITE };
+enum refused { NOTHING, ALLOCATION, ALLOCATIONS, READ, INTERRUPTED, WRITE };
 
 static enum refused refused;
 static unsigned long place;
@@ -54,6 +55,7 @@ __attribute__((constructor)) static void read_plan(void)
 		{ "allocation ", ALLOCATION },
 		{ "allocations ", ALLOCATIONS },
 		{ "read ", READ },
+		{ "interrupted ", INTERRUPTED },
 		{ "write ", WRITE },
 	};
 	const char *plan = getenv("REFUSE");
@@ -97,13 +99,23 @@ void *realloc(void *old, size_t size)
 	return no_memory() ? NULL : __libc_realloc(old, size);
 }
 
+/* What the next of these calls fails with, or 0. */
+static int failure(enum refused what, atomic_ulong *calls)
+{
+	if (atomic_fetch_add(calls, 1) + 1 != place)
+		return 0;
+	if (what == READ && refused == INTERRUPTED)
+		return EINTR;
+	return refused == what ? EIO : 0;
+}
+
 static bool fails(enum refused what, atomic_ulong *calls)
 {
-	bool is_refused = atomic_fetch_add(calls, 1) + 1 == place && refused == what;
+	int why = failure(what, calls);
 
-	if (is_refused)
-		errno = EIO;
-	return is_refused;
+	if (why != 0)
+		errno = why;
+	return why != 0;
 }
 
 ssize_t read(int descriptor, void *to, size_t size)

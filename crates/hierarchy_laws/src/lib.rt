@@ -7,7 +7,7 @@
 //! - `trees`: what the calls of `group_tree` answer and leave by what the tree had, and what its values are in the flat
 //!   state.
 //!
-//! The laws of the paths themselves, of their order and of their grammar stand with the laws of `flat_model`.
+//! The laws of the paths themselves, of their order and of their grammar stand in `flat_model_laws`.
 #![tactic(auto)]
 
 pub mod paths;

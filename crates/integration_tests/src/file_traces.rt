@@ -1,5 +1,61 @@
 //! Traces of files, kills and `where`, with their answers.
 
+/// Every file of three groups before a kill, after it, and after its undo.
+pub(crate) const EVERY_FILE: (&str, &str) = (
+    "mkdir /k;mkdir /k/a;mkdir /k/b;write /k pids.max 5;write /k/a cgroup.max.depth 4;\
+     fork 1 3;fork 1 2;fork 1 9;write /k/a cgroup.procs 3;write /k/b cgroup.procs 2;\
+     write /k cgroup.procs 9;fork 3 7;fork 9 8;fork 7 4;cat /k cgroup.procs;\
+     cat /k cgroup.events;cat /k cgroup.stat;cat /k cgroup.max.descendants;\
+     cat /k cgroup.max.depth;cat /k pids.max;cat /k pids.current;cat /k pids.events;\
+     cat /k pids.events.local;cat /k/a cgroup.procs;cat /k/a cgroup.events;\
+     cat /k/a cgroup.stat;cat /k/a cgroup.max.descendants;cat /k/a cgroup.max.depth;\
+     cat /k/a pids.max;cat /k/a pids.current;cat /k/a pids.events;\
+     cat /k/a pids.events.local;cat /k/b cgroup.procs;cat /k/b cgroup.events;\
+     cat /k/b cgroup.stat;cat /k/b cgroup.max.descendants;cat /k/b cgroup.max.depth;\
+     cat /k/b pids.max;cat /k/b pids.current;cat /k/b pids.events;\
+     cat /k/b pids.events.local;write /k cgroup.kill 1;cat /k cgroup.procs;\
+     cat /k cgroup.events;cat /k cgroup.stat;cat /k cgroup.max.descendants;\
+     cat /k cgroup.max.depth;cat /k pids.max;cat /k pids.current;cat /k pids.events;\
+     cat /k pids.events.local;cat /k/a cgroup.procs;cat /k/a cgroup.events;\
+     cat /k/a cgroup.stat;cat /k/a cgroup.max.descendants;cat /k/a cgroup.max.depth;\
+     cat /k/a pids.max;cat /k/a pids.current;cat /k/a pids.events;\
+     cat /k/a pids.events.local;cat /k/b cgroup.procs;cat /k/b cgroup.events;\
+     cat /k/b cgroup.stat;cat /k/b cgroup.max.descendants;cat /k/b cgroup.max.depth;\
+     cat /k/b pids.max;cat /k/b pids.current;cat /k/b pids.events;\
+     cat /k/b pids.events.local;where 7;where 1;fork 2 20;undo;cat /k cgroup.procs;\
+     cat /k cgroup.events;cat /k cgroup.stat;cat /k cgroup.max.descendants;\
+     cat /k cgroup.max.depth;cat /k pids.max;cat /k pids.current;cat /k pids.events;\
+     cat /k pids.events.local;cat /k/a cgroup.procs;cat /k/a cgroup.events;\
+     cat /k/a cgroup.stat;cat /k/a cgroup.max.descendants;cat /k/a cgroup.max.depth;\
+     cat /k/a pids.max;cat /k/a pids.current;cat /k/a pids.events;\
+     cat /k/a pids.events.local;cat /k/b cgroup.procs;cat /k/b cgroup.events;\
+     cat /k/b cgroup.stat;cat /k/b cgroup.max.descendants;cat /k/b cgroup.max.depth;\
+     cat /k/b pids.max;cat /k/b pids.current;cat /k/b pids.events;\
+     cat /k/b pids.events.local;where 7;fork 7 4",
+    "1 ok;2 ok;3 ok;4 ok;5 ok;6 ok;7 ok;8 ok;9 ok;10 ok;11 ok;12 ok;13 ok;\
+     14 refused pidsmax /k;15 ok;| 8;| 9;16 ok;| populated 1;| frozen 0;17 ok;\
+     | nr_descendants 2;| nr_dying_descendants 0;18 ok;| max;19 ok;| max;20 ok;| 5;21 ok;\
+     | 5;22 ok;| max 1;23 ok;| max 1;24 ok;| 3;| 7;25 ok;| populated 1;| frozen 0;26 ok;\
+     | nr_descendants 0;| nr_dying_descendants 0;27 ok;| max;28 ok;| 4;29 ok;| max;30 ok;\
+     | 2;31 ok;| max 0;32 ok;| max 0;33 ok;| 2;34 ok;| populated 1;| frozen 0;35 ok;\
+     | nr_descendants 0;| nr_dying_descendants 0;36 ok;| max;37 ok;| max;38 ok;| max;39 ok;\
+     | 1;40 ok;| max 0;41 ok;| max 0;42 ok;43 ok;44 ok;| populated 0;| frozen 0;45 ok;\
+     | nr_descendants 2;| nr_dying_descendants 0;46 ok;| max;47 ok;| max;48 ok;| 5;49 ok;\
+     | 0;50 ok;| max 1;51 ok;| max 1;52 ok;53 ok;| populated 0;| frozen 0;54 ok;\
+     | nr_descendants 0;| nr_dying_descendants 0;55 ok;| max;56 ok;| 4;57 ok;| max;58 ok;\
+     | 0;59 ok;| max 0;60 ok;| max 0;61 ok;62 ok;| populated 0;| frozen 0;63 ok;\
+     | nr_descendants 0;| nr_dying_descendants 0;64 ok;| max;65 ok;| max;66 ok;| max;67 ok;\
+     | 0;68 ok;| max 0;69 ok;| max 0;70 refused noprocess 7;71 ok;| 0::/;\
+     72 refused noprocess 2;73 ok;| write /k cgroup.kill 1;74 ok;| 8;| 9;75 ok;\
+     | populated 1;| frozen 0;76 ok;| nr_descendants 2;| nr_dying_descendants 0;77 ok;\
+     | max;78 ok;| max;79 ok;| 5;80 ok;| 5;81 ok;| max 1;82 ok;| max 1;83 ok;| 3;| 7;84 ok;\
+     | populated 1;| frozen 0;85 ok;| nr_descendants 0;| nr_dying_descendants 0;86 ok;\
+     | max;87 ok;| 4;88 ok;| max;89 ok;| 2;90 ok;| max 0;91 ok;| max 0;92 ok;| 2;93 ok;\
+     | populated 1;| frozen 0;94 ok;| nr_descendants 0;| nr_dying_descendants 0;95 ok;\
+     | max;96 ok;| max;97 ok;| max;98 ok;| 1;99 ok;| max 0;100 ok;| max 0;101 ok;| 0::/k/a;\
+     102 refused pidsmax /k",
+);
+
 /// Each trace with its answers, as in `traces`: a semicolon stands for a line feed.
 pub(crate) const FILE_TRACES: [(&str, &str); 24] = [
     // A fork that its own group's limit refuses, and what it has counted taken back.
@@ -49,61 +105,7 @@ pub(crate) const FILE_TRACES: [(&str, &str); 24] = [
          15 ok;| populated 0;| frozen 0;16 ok;| write /k cgroup.kill 1;17 ok;| 3;| 5;18 ok;| 4;\
          | 6;19 ok;| 2;20 ok;| populated 1;| frozen 0;21 ok;| 0::/k/a",
     ),
-    // Every file of the three groups before the kill, after it, and after its undo.
-    (
-        "mkdir /k;mkdir /k/a;mkdir /k/b;write /k pids.max 5;write /k/a cgroup.max.depth 4;\
-         fork 1 3;fork 1 2;fork 1 9;write /k/a cgroup.procs 3;write /k/b cgroup.procs 2;\
-         write /k cgroup.procs 9;fork 3 7;fork 9 8;fork 7 4;cat /k cgroup.procs;\
-         cat /k cgroup.events;cat /k cgroup.stat;cat /k cgroup.max.descendants;\
-         cat /k cgroup.max.depth;cat /k pids.max;cat /k pids.current;cat /k pids.events;\
-         cat /k pids.events.local;cat /k/a cgroup.procs;cat /k/a cgroup.events;\
-         cat /k/a cgroup.stat;cat /k/a cgroup.max.descendants;cat /k/a cgroup.max.depth;\
-         cat /k/a pids.max;cat /k/a pids.current;cat /k/a pids.events;\
-         cat /k/a pids.events.local;cat /k/b cgroup.procs;cat /k/b cgroup.events;\
-         cat /k/b cgroup.stat;cat /k/b cgroup.max.descendants;cat /k/b cgroup.max.depth;\
-         cat /k/b pids.max;cat /k/b pids.current;cat /k/b pids.events;\
-         cat /k/b pids.events.local;write /k cgroup.kill 1;cat /k cgroup.procs;\
-         cat /k cgroup.events;cat /k cgroup.stat;cat /k cgroup.max.descendants;\
-         cat /k cgroup.max.depth;cat /k pids.max;cat /k pids.current;cat /k pids.events;\
-         cat /k pids.events.local;cat /k/a cgroup.procs;cat /k/a cgroup.events;\
-         cat /k/a cgroup.stat;cat /k/a cgroup.max.descendants;cat /k/a cgroup.max.depth;\
-         cat /k/a pids.max;cat /k/a pids.current;cat /k/a pids.events;\
-         cat /k/a pids.events.local;cat /k/b cgroup.procs;cat /k/b cgroup.events;\
-         cat /k/b cgroup.stat;cat /k/b cgroup.max.descendants;cat /k/b cgroup.max.depth;\
-         cat /k/b pids.max;cat /k/b pids.current;cat /k/b pids.events;\
-         cat /k/b pids.events.local;where 7;where 1;fork 2 20;undo;cat /k cgroup.procs;\
-         cat /k cgroup.events;cat /k cgroup.stat;cat /k cgroup.max.descendants;\
-         cat /k cgroup.max.depth;cat /k pids.max;cat /k pids.current;cat /k pids.events;\
-         cat /k pids.events.local;cat /k/a cgroup.procs;cat /k/a cgroup.events;\
-         cat /k/a cgroup.stat;cat /k/a cgroup.max.descendants;cat /k/a cgroup.max.depth;\
-         cat /k/a pids.max;cat /k/a pids.current;cat /k/a pids.events;\
-         cat /k/a pids.events.local;cat /k/b cgroup.procs;cat /k/b cgroup.events;\
-         cat /k/b cgroup.stat;cat /k/b cgroup.max.descendants;cat /k/b cgroup.max.depth;\
-         cat /k/b pids.max;cat /k/b pids.current;cat /k/b pids.events;\
-         cat /k/b pids.events.local;where 7;fork 7 4",
-        "1 ok;2 ok;3 ok;4 ok;5 ok;6 ok;7 ok;8 ok;9 ok;10 ok;11 ok;12 ok;13 ok;\
-         14 refused pidsmax /k;15 ok;| 8;| 9;16 ok;| populated 1;| frozen 0;17 ok;\
-         | nr_descendants 2;| nr_dying_descendants 0;18 ok;| max;19 ok;| max;20 ok;| 5;21 ok;\
-         | 5;22 ok;| max 1;23 ok;| max 1;24 ok;| 3;| 7;25 ok;| populated 1;| frozen 0;26 ok;\
-         | nr_descendants 0;| nr_dying_descendants 0;27 ok;| max;28 ok;| 4;29 ok;| max;30 ok;\
-         | 2;31 ok;| max 0;32 ok;| max 0;33 ok;| 2;34 ok;| populated 1;| frozen 0;35 ok;\
-         | nr_descendants 0;| nr_dying_descendants 0;36 ok;| max;37 ok;| max;38 ok;| max;39 ok;\
-         | 1;40 ok;| max 0;41 ok;| max 0;42 ok;43 ok;44 ok;| populated 0;| frozen 0;45 ok;\
-         | nr_descendants 2;| nr_dying_descendants 0;46 ok;| max;47 ok;| max;48 ok;| 5;49 ok;\
-         | 0;50 ok;| max 1;51 ok;| max 1;52 ok;53 ok;| populated 0;| frozen 0;54 ok;\
-         | nr_descendants 0;| nr_dying_descendants 0;55 ok;| max;56 ok;| 4;57 ok;| max;58 ok;\
-         | 0;59 ok;| max 0;60 ok;| max 0;61 ok;62 ok;| populated 0;| frozen 0;63 ok;\
-         | nr_descendants 0;| nr_dying_descendants 0;64 ok;| max;65 ok;| max;66 ok;| max;67 ok;\
-         | 0;68 ok;| max 0;69 ok;| max 0;70 refused noprocess 7;71 ok;| 0::/;\
-         72 refused noprocess 2;73 ok;| write /k cgroup.kill 1;74 ok;| 8;| 9;75 ok;\
-         | populated 1;| frozen 0;76 ok;| nr_descendants 2;| nr_dying_descendants 0;77 ok;\
-         | max;78 ok;| max;79 ok;| 5;80 ok;| 5;81 ok;| max 1;82 ok;| max 1;83 ok;| 3;| 7;84 ok;\
-         | populated 1;| frozen 0;85 ok;| nr_descendants 0;| nr_dying_descendants 0;86 ok;\
-         | max;87 ok;| 4;88 ok;| max;89 ok;| 2;90 ok;| max 0;91 ok;| max 0;92 ok;| 2;93 ok;\
-         | populated 1;| frozen 0;94 ok;| nr_descendants 0;| nr_dying_descendants 0;95 ok;\
-         | max;96 ok;| max;97 ok;| max;98 ok;| 1;99 ok;| max 0;100 ok;| max 0;101 ok;| 0::/k/a;\
-         102 refused pidsmax /k",
-    ),
+    EVERY_FILE,
     // A kill of a group without processes is done and recorded; the root has no such file.
     (
         "mkdir /a;write /a cgroup.kill 1;cat /a cgroup.procs;undo;undo;write / cgroup.kill 1;\

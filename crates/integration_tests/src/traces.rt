@@ -1,28 +1,33 @@
 //! Traces and their answers, over devices in memory.
 
 use crate::file_traces::FILE_TRACES;
-use crate::rehearsal::rehearsed;
-use replay_main::{LINE_MAX, MemorySink, MemorySource, ReplayFault, Summary, replay};
+use replay_main::{LINE_MAX, MemorySink, MemorySource, ReplayFault, Summary, rehearse_trace, replay};
 use std::alloc::{AllocError, Global};
 use std::sync::Wait;
 use std::test::Fail;
 use std::thread::Threads;
 
+/// A process that is moved to a group, and back.
+pub(crate) const UNDONE_MOVE: (&str, &str) = (
+    "mkdir /a;fork 1 2;write /a cgroup.procs 2;cat /a pids.current;undo;cat /a pids.current",
+    "1 ok;2 ok;3 ok;4 ok;| 1;5 ok;| write /a cgroup.procs 2;6 ok;| 0",
+);
+
+/// Words between blanks of each kind, and an empty line.
+pub(crate) const LINE_ENDS: (&str, &str) = ("\tmkdir\t/a \r; \r;  fork 1\t2\r", "1 ok;2 ok");
+
 /// Each trace with its answers; a semicolon stands for a line feed, and one ends each text that is
 /// not empty.
 const TRACES: [(&str, &str); 35] = [
     ("", ""),
-    (
-        "mkdir /a;fork 1 2;write /a cgroup.procs 2;cat /a pids.current;undo;cat /a pids.current",
-        "1 ok;2 ok;3 ok;4 ok;| 1;5 ok;| write /a cgroup.procs 2;6 ok;| 0",
-    ),
+    UNDONE_MOVE,
     ("undo;mkdir /a", "1 refused nothing;2 ok"),
     (
         "fork 1 1;fork 2 1;fork 2 3;fork 1 2;fork 1 2",
         "1 refused pidinuse 1;2 refused noprocess 2;3 refused noprocess 2;4 ok;\
          5 refused pidinuse 2",
     ),
-    ("\tmkdir\t/a \r; \r;  fork 1\t2\r", "1 ok;2 ok"),
+    LINE_ENDS,
     (
         "# note;bogus;mkdir;mkdir /a/b;mkdir /;cat / pids.current;cat /b pids.current",
         "1 refused syntax;2 refused syntax;3 refused nogroup /a;4 refused exists;\
@@ -186,6 +191,18 @@ pub(crate) fn replayed<R: Threads + Wait + Sync>(
     let mut reader = MemorySource::new(trace);
     let mut writer = MemorySink::new(alloc);
     let summary = replay(rt, alloc, &mut reader, &mut writer, 1)?;
+    Ok((summary, writer))
+}
+
+/// What a trace in memory is answered by a rehearsal.
+pub(crate) fn rehearsed<R: Threads + Wait + Sync>(
+    rt: &R,
+    alloc: Global,
+    trace: &[u8],
+) -> Result<(Summary, MemorySink), ReplayFault> {
+    let mut reader = MemorySource::new(trace);
+    let mut writer = MemorySink::new(alloc);
+    let summary = rehearse_trace(rt, alloc, &mut reader, &mut writer)?;
     Ok((summary, writer))
 }
 

@@ -14,8 +14,10 @@
 //! - A fault of a replay says what failed. After each but `Write` nothing was written; after
 //!   `Write` a prefix of the answers was. A trace of more than `TRACE_MAX` bytes is too long. Want
 //!   of memory is no answer: it ends the replay.
-//! - `run_program` does what the program's arguments ask for: a replay, or the help text.
-//!   `exit_status` says how the program ends; a fault's message is its text.
+//! - `rehearse_trace` answers a trace on a copy of a fresh engine in an arena: the same bytes, by
+//!   `Engine::rehearse`.
+//! - `run_program` does what the program's arguments ask for: a replay, a rehearsal, or the help
+//!   text. `exit_status` says how the program ends; a fault's message is its text.
 //! - It takes memory in proportion to the trace and its answers. Nothing is promised of time, nor of
 //!   when a device answers.
 //!

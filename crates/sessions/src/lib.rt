@@ -14,6 +14,9 @@
 //!   entries, each once: then the log is legal (the machine, run over its commands, gives its
 //!   replies) and the engine stands at its end. Else it gives everything back, with the first fault.
 //! - `audit` is the same test on a log that is given.
+//! - A session that is dropped takes its receipts with it: a desk whose log has an entry of it answers
+//!   `Missing` to every `close`. Who waits for a turn waits for the log's length, whoever makes it
+//!   longer; where nobody does, `halt` ends the waiting.
 //!
 //! No public clause can name what lies behind the lock. The private calls of `Hall` and `Book`, which
 //! are lent it, say what each answer leaves of engine, log and halt: one entry more, of this session

@@ -1,7 +1,7 @@
 //! Tests of the replay by several workers, and of the rehearsal of the same trace.
 //!
 //! They ask what no contract says: that every number of workers gives the bytes of one where there is
-//! memory, and that the work of each phase is done by as many threads as there are workers.
+//! memory, and that three workers are three threads in each phase, which meet.
 //!
 //! - `replays`: a trace with a kill and its undo by 1, 2, 3 and 8 workers, by a rehearsal, and
 //!   behind a gate.

@@ -1,11 +1,9 @@
 //! Rehearsals in an arena.
 
 use crate::engine::{answer, command, said};
-use crate::faults::{ANSWERS, TRACE};
 use bumpalo::Bump;
 use linked_list_allocator::LocalHeap;
 use pids_charge::{Meter, PlainMeter};
-use replay_main::{MemorySink, MemorySource, ReplayFault, Summary, rehearse_trace};
 use std::alloc::{AllocError, Global};
 use std::process::Abort;
 use std::sync::Wait;
@@ -205,25 +203,4 @@ fn arena_without_room(rt: HostRuntime) -> Result<(), Fail> {
     let shown = [("cat /a pids.current", "0\n"), ("where 2", "0::/\n")];
     assert_eq!(rt; first_other(&rt, rt.alloc(), &mut engine, &shown)?, None);
     Ok(())
-}
-
-/// What a trace in memory is answered by a rehearsal.
-pub(crate) fn rehearsed<R: Threads + Wait + Sync>(
-    rt: &R,
-    alloc: Global,
-    trace: &[u8],
-) -> Result<(Summary, MemorySink), ReplayFault> {
-    let mut reader = MemorySource::new(trace);
-    let mut writer = MemorySink::new(alloc);
-    let summary = rehearse_trace(rt, alloc, &mut reader, &mut writer)?;
-    Ok((summary, writer))
-}
-
-/// With any one allocation refused, all is answered, or want of memory is: a fault, or a sink's.
-#[test]
-fn a_refused_allocation_of_a_rehearsal(rt: HostRuntime) {
-    match rehearsed(&rt, rt.alloc(), TRACE) {
-        Ok((_, writer)) => assert!(rt; writer.bytes() == ANSWERS),
-        Err(fault) => assert!(rt; matches!(fault, ReplayFault::OutOfMemory | ReplayFault::Write)),
-    }
 }

@@ -3,11 +3,11 @@
 use group_path::GroupPath;
 use interface_files::File;
 use pids_charge::{Meter, OpenGate, PlainMeter};
-use replay_main::{Line, parse_line};
 use std::alloc::{AllocError, Allocator, Global};
 use std::sync::Wait;
 use std::test::Fail;
 use std::thread::Threads;
+use trace_lines::{Line, parse_line};
 use undo_journal::{Bytes, Command, Engine, Inverse, Pid, Refusal, Reply};
 
 /// The command that a line says.

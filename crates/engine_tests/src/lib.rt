@@ -1,0 +1,18 @@
+//! Tests of the engine: that its calls succeed where there is memory, what each answers where an allocation is refused,
+//! and worked examples whose answers were written by hand. What a contract says of every input is not tested here once
+//! more.
+//!
+//! - `engine`: commands, their texts, and what the engine keeps of them.
+//! - `engine_memory`: each allocation that a command asks for, refused in turn.
+//! - `ample_memory`: answers where there is memory, in the cases where a wrong reason could hide behind a want of it.
+//! - `rehearsal`: rehearsals in an arena.
+#![tactic(auto)]
+
+#[cfg(test)]
+mod ample_memory;
+#[cfg(test)]
+mod engine;
+#[cfg(test)]
+mod engine_memory;
+#[cfg(test)]
+mod rehearsal;
