@@ -201,7 +201,12 @@ int run_program(char **program, const struct wishes *asked)
 	signal(SIGQUIT, SIG_IGN);
 	int signals = signalfd(-1, &held, SFD_CLOEXEC | SFD_NONBLOCK);
 	link_use(ends[0]);
-	int status = supervise(program, &before, signals, ends[0]);
+	/* until it is asked for once, the kernel takes the mount's root for nobody's, where nothing may be made */
+	int status = 1;
+	if (stat(cgroup_mount, &(struct stat){ 0 }))
+		say("the mount does not answer: %s", strerror(errno));
+	else
+		status = supervise(program, &before, signals, ends[0]);
 	end_server(server, ends[0]);
 	return status;
 }
