@@ -1,0 +1,87 @@
+#include "companion.h"
+#include "place.h"
+#include <fcntl.h>
+#include <signal.h>
+#include <stdio.h>
+#include <string.h>
+#include <sys/mount.h>
+#include <sys/wait.h>
+#include <unistd.h>
+
+/* A path of one byte that no file has. */
+static const char farewell[] = "-";
+
+/* A truncation is one call, changes nothing, and shows itself to inotify as a modification alone. */
+static void touch(const char *mountpoint, const char *path)
+{
+	char whole[2 * PATH_MAX_SAID];
+	int n = snprintf(whole, sizeof whole, "%s%s", mountpoint, path);
+	if (n > 0 && (size_t)n < sizeof whole && truncate(whole, 0)) {
+		/* the group may be gone */
+	}
+}
+
+static void take_away(const char *mountpoint)
+{
+	if (umount2(mountpoint, MNT_DETACH) == 0)
+		return;
+	execlp("fusermount3", "fusermount3", "-u", "-q", "-z", "--", mountpoint, (char *)NULL);
+}
+
+static void serve(int from, const char *mountpoint, bool unmount)
+{
+	char told[4 * PATH_MAX_SAID];
+	size_t size = 0;
+	for (;;) {
+		ssize_t n = read(from, told + size, sizeof told - size);
+		if (n <= 0)
+			break;
+		size += (size_t)n;
+		char *path = told, *end;
+		while ((end = memchr(path, 0, size - (size_t)(path - told)))) {
+			if (strcmp(path, farewell) == 0)
+				return;
+			touch(mountpoint, path);
+			path = end + 1;
+		}
+		size -= (size_t)(path - told);
+		memmove(told, path, size);
+	}
+	if (unmount)
+		take_away(mountpoint);
+}
+
+int companion_start(const char *mountpoint, bool unmount)
+{
+	int ends[2];
+	if (pipe(ends))
+		return -1;
+	pid_t pid = fork();
+	if (pid == 0) {
+		/* twice, so that nobody has to wait for it */
+		if (fork())
+			_exit(0);
+		close(ends[1]);
+		setsid();
+		signal(SIGTERM, SIG_IGN);
+		signal(SIGINT, SIG_IGN);
+		serve(ends[0], mountpoint, unmount);
+		_exit(0);
+	}
+	close(ends[0]);
+	if (pid < 0) {
+		close(ends[1]);
+		return -1;
+	}
+	waitpid(pid, NULL, 0);
+	fcntl(ends[1], F_SETFD, FD_CLOEXEC);
+	return ends[1];
+}
+
+void companion_end(int pipe)
+{
+	if (write(pipe, farewell, sizeof farewell) < 0) {
+		/* it has ended already */
+	}
+	close(pipe);
+}

@@ -1,0 +1,195 @@
+#include "control.h"
+#include "engine.h"
+#include "number.h"
+#include "opened.h"
+#include "operations.h"
+#include "real.h"
+#include "watch.h"
+#include <errno.h>
+#include <fcntl.h>
+#include <stdio.h>
+#include <stdlib.h>
+#include <string.h>
+
+static struct opened *opened_of(const struct fuse_file_info *fi)
+{
+	return (struct opened *)(uintptr_t)fi->fh;
+}
+
+/* As in the kernel, the superuser opens against the mode, and is refused when he reads or writes. */
+static int may_open(mode_t mode, int flags)
+{
+	int way = flags & O_ACCMODE;
+	bool reads = way != O_WRONLY, writes = way != O_RDONLY;
+	if (fuse_get_context()->uid != 0 && ((reads && !(mode & 0444)) || (writes && !(mode & 0222))))
+		return -EACCES;
+	return 0;
+}
+
+static int open_control(const char *path, struct fuse_file_info *fi)
+{
+	int file = control_find(path);
+	int fault = file < 0 ? -ENOENT : may_open(control_mode(file), fi->flags);
+	if (fault)
+		return fault;
+	fi->fh = (uintptr_t)opened_new("/", NULL, file);
+	return fi->fh ? 0 : -ENOMEM;
+}
+
+static int open_file(const char *path, struct fuse_file_info *fi)
+{
+	struct place place;
+	int fault = place_of(path, &place);
+	if (fault)
+		return fault;
+	if (!place.file || engine_has_group(place.group))
+		return -ENOENT;
+	if ((fault = may_open(file_mode(place.file), fi->flags)))
+		return fault;
+	fi->fh = (uintptr_t)opened_new(place.group, place.file, 0);
+	return fi->fh ? 0 : -ENOMEM;
+}
+
+int content_open(const char *path, struct fuse_file_info *fi)
+{
+	fi->direct_io = 1;
+	engine_lock();
+	int fault = control_has(path) ? open_control(path, fi) : open_file(path, fi);
+	engine_unlock();
+	return fault;
+}
+
+static int keep(void *opened, const char *text, size_t size)
+{
+	return opened_keep(opened, text, size);
+}
+
+/* A read from the start asks anew; any other goes on in what it gave. */
+static int begin_read(struct opened *o)
+{
+	size_t size;
+	if (!o->file)
+		return control_read(o->control, keep, o);
+	if (!o->file->readable)
+		return -EINVAL;
+	if (o->gone)
+		return -ENODEV;
+	if (o->file->constant)
+		return opened_keep(o, o->file->constant, strlen(o->file->constant));
+	real_sweep();
+	int fault = engine_line("cat %s %s", o->group, o->file->name);
+	if (fault)
+		return fault;
+	const char *text = engine_text(&size);
+	return opened_keep(o, text, size);
+}
+
+int content_read(const char *path, char *out, size_t size, off_t at, struct fuse_file_info *fi)
+{
+	struct opened *o = opened_of(fi);
+	(void)path;
+	engine_lock();
+	int fault = at == 0 ? begin_read(o) : 0;
+	int n = fault ? fault : opened_read(o, out, size, at);
+	engine_unlock();
+	return n;
+}
+
+/* A move takes the process of any of its threads, and 0 is the writer's own. */
+static int move(const struct opened *o, char said[SAID_MAX], pid_t writer)
+{
+	char from[PATH_MAX_SAID];
+	size_t size;
+	if (strcmp(said, "0") == 0)
+		snprintf(said, SAID_MAX, "%d", real_process_of(writer));
+	real_sweep();
+	int fault = real_adopt((pid_t)atoi(said));
+	if (fault)
+		return fault;
+	from[0] = 0;
+	if (engine_look("where %s", said) == 0) {
+		const char *text = engine_text(&size);
+		snprintf(from, sizeof from, "%.*s", (int)size - 4, text + 3);
+	}
+	fault = engine_line("write %s %s %s", o->group, o->file->name, said);
+	if (fault == 0 && from[0]) {
+		watch_above(from);
+		watch_above(o->group);
+	}
+	return fault;
+}
+
+static int kill_group(const struct opened *o, const char *said)
+{
+	real_sweep();
+	real_note(o->group);
+	int fault = engine_line("write %s %s %s", o->group, o->file->name, said);
+	if (fault == 0) {
+		real_kill_noted();
+		watch_all();
+	}
+	return fault;
+}
+
+/* A constant takes what changes nothing. */
+static int write_constant(const struct file *file, const char *data, size_t size)
+{
+	size_t n = strlen(file->unchanged);
+	while (size && strchr(" \t\n\r", data[size - 1]) && data[size - 1])
+		size--;
+	if (size == 0 || (size == n && memcmp(data, file->unchanged, n) == 0))
+		return 0;
+	return -EOPNOTSUPP;
+}
+
+static int write_file(struct opened *o, const char *data, size_t size, pid_t writer)
+{
+	char said[SAID_MAX];
+	if (!o->file)
+		return control_write(o->control, data, size);
+	if (o->file->value == NOTHING)
+		return -EINVAL;
+	if (o->gone)
+		return -ENODEV;
+	if (o->file->value == NO_CHANGE)
+		return write_constant(o->file, data, size);
+	int fault = value_said(o->file->value, data, size, said);
+	if (fault)
+		return fault;
+	if (o->file->value == A_PID)
+		return move(o, said, writer);
+	if (o->file->value == A_ONE)
+		return kill_group(o, said);
+	return engine_line("write %s %s %s", o->group, o->file->name, said);
+}
+
+int content_write(const char *path, const char *data, size_t size, off_t at, struct fuse_file_info *fi)
+{
+	(void)path, (void)at;
+	pid_t writer = fuse_get_context()->pid;
+	engine_lock();
+	int fault = write_file(opened_of(fi), data, size, writer);
+	engine_unlock();
+	return fault ? fault : (int)size;
+}
+
+int content_poll(const char *path, struct fuse_file_info *fi, struct fuse_pollhandle *waiter, unsigned *told)
+{
+	struct opened *o = opened_of(fi);
+	(void)path;
+	engine_lock();
+	if (o->file && o->file->notified && !o->gone)
+		watch_seen(o->group, o->file);
+	*told = opened_poll(o, waiter);
+	engine_unlock();
+	return 0;
+}
+
+int content_release(const char *path, struct fuse_file_info *fi)
+{
+	(void)path;
+	engine_lock();
+	opened_free(opened_of(fi));
+	engine_unlock();
+	return 0;
+}

@@ -1,0 +1,23 @@
+/* The control directory at the mount's root: .makhloeum/{undo,depth,newest,trace,fork,exit}. */
+#ifndef CONTROL_H
+#define CONTROL_H
+
+#include <stdbool.h>
+#include <stddef.h>
+#include <sys/types.h>
+
+extern const char control_directory[]; /* its name, without a slash */
+
+/* Whether a path is the directory or below it. */
+bool control_has(const char *path);
+/* The number of the file at such a path; -1 for the directory itself; -ENOENT. */
+int control_find(const char *path);
+const char *control_name(int file);
+mode_t control_mode(int file);
+
+/* Both want the engine's lock. The text of a file: 0 or -errno, with what `keep` gave. */
+int control_read(int file, int (*keep)(void *, const char *, size_t), void *to);
+/* 0 or -errno. */
+int control_write(int file, const char *data, size_t size);
+
+#endif

@@ -1,0 +1,275 @@
+#include "engine.h"
+#include <errno.h>
+#include <makhloeum.h>
+#include <pthread.h>
+#include <stdarg.h>
+#include <stdint.h>
+#include <stdio.h>
+#include <stdlib.h>
+#include <string.h>
+#include <unistd.h>
+
+enum { LINE_MAX = 8192, FIRST_ANSWER = 16384 };
+
+static pthread_mutex_t lock = PTHREAD_MUTEX_INITIALIZER;
+static mk_handle engine;
+static int trace_to = -1, answers_to = -1;
+static int broken;          /* the errno after which the trace cannot go on: it ends in half a line */
+static uint64_t number = 1; /* of the next line that is kept */
+static char line[LINE_MAX];
+static size_t line_size;
+
+/* a buffer that grows */
+struct buffer {
+	char *at;
+	size_t size, room;
+};
+static struct buffer answer, text, standing, names;
+
+static bool make_room(struct buffer *b, size_t room)
+{
+	if (room <= b->room)
+		return true;
+	size_t want = b->room ? b->room : 4096;
+	while (want < room)
+		want *= 2;
+	char *at = realloc(b->at, want);
+	if (!at)
+		return false;
+	b->at = at;
+	b->room = want;
+	return true;
+}
+
+bool engine_start(int trace, int answers)
+{
+	trace_to = trace;
+	answers_to = answers;
+	return make_room(&answer, FIRST_ANSWER) && make_room(&text, FIRST_ANSWER) && make_room(&standing, LINE_MAX) &&
+	       make_room(&names, MK_CHILDREN_MAX) && mk_open(&engine) == MK_DONE;
+}
+
+void engine_end(void)
+{
+	mk_close(&engine);
+	struct buffer *all[] = { &answer, &text, &standing, &names };
+	for (size_t i = 0; i < sizeof all / sizeof *all; i++)
+		free(all[i]->at);
+	if (trace_to >= 0)
+		close(trace_to);
+	if (answers_to >= 0)
+		close(answers_to);
+}
+
+void engine_lock(void)
+{
+	pthread_mutex_lock(&lock);
+}
+
+void engine_unlock(void)
+{
+	pthread_mutex_unlock(&lock);
+}
+
+/* Writes all, or takes the part back that was written. 0 or -errno. */
+static int keep(int fd, const char *bytes, size_t size)
+{
+	size_t done = 0;
+	if (broken)
+		return -broken;
+	while (done < size) {
+		ssize_t n = write(fd, bytes + done, size - done);
+		if (n < 0 && errno == EINTR)
+			continue;
+		if (n <= 0) {
+			int fault = n < 0 ? errno : EIO;
+			off_t end = lseek(fd, 0, SEEK_CUR);
+			if (done && (end < (off_t)done || ftruncate(fd, end - (off_t)done) || lseek(fd, end - (off_t)done, SEEK_SET) < 0))
+				broken = fault;
+			return -fault;
+		}
+		done += (size_t)n;
+	}
+	return 0;
+}
+
+/* The answer without its first line, and without the mark before each other line. */
+static int take_text(void)
+{
+	const char *from = memchr(answer.at, '\n', answer.size), *end = answer.at + answer.size;
+	text.size = 0;
+	if (!from)
+		return 0;
+	if (!make_room(&text, answer.size))
+		return -ENOMEM;
+	for (from++; from < end;) {
+		const char *feed = memchr(from, '\n', (size_t)(end - from));
+		size_t n = (size_t)(feed - from) - 1;
+		memcpy(text.at + text.size, from + 2, n);
+		text.size += n;
+		from = feed + 1;
+	}
+	return 0;
+}
+
+static uint32_t ask(uint64_t as, uint32_t *code)
+{
+	mk_info info;
+	for (;;) {
+		uint32_t status = mk_line(&engine, as, (const uint8_t *)line, line_size, (uint8_t *)answer.at, answer.room, &info);
+		if (status == MK_TOO_SMALL && make_room(&answer, 2 * answer.room))
+			continue;
+		answer.size = info.len;
+		*code = info.code;
+		return status;
+	}
+}
+
+static int error_of(uint32_t status, uint32_t code)
+{
+	switch (status) {
+	case MK_DONE:
+		return take_text();
+	case MK_REFUSED:
+	case MK_FAULT:
+		text.size = 0;
+		return -mk_errno(code);
+	default:
+		return -ENOMEM;
+	}
+}
+
+/* Whether an answered line is one that an undo takes back. */
+static bool is_recorded(uint32_t status, uint32_t code)
+{
+	static const char *const changes[] = { "mkdir ", "rmdir ", "fork ", "exit ", "write " };
+	if (status == MK_REFUSED)
+		return code == MK_PIDS_MAX;
+	for (size_t i = 0; i < sizeof changes / sizeof *changes; i++)
+		if (strncmp(line, changes[i], strlen(changes[i])) == 0)
+			return true;
+	return false;
+}
+
+static void stand(uint32_t status, uint32_t code)
+{
+	if ((status == MK_DONE || status == MK_REFUSED) && is_recorded(status, code)) {
+		memcpy(standing.at + standing.size, line, line_size + 1);
+		standing.size += line_size + 1;
+	} else if (status == MK_DONE && strcmp(line, "undo\n") == 0) {
+		size_t newest;
+		engine_newest(&newest);
+		standing.size -= newest;
+	}
+}
+
+/* `line` has the text; 0 or -errno */
+static int ask_and_keep(void)
+{
+	uint32_t code;
+	int fault = 0;
+	line[line_size] = '\n';
+	line[line_size + 1] = 0;
+	if (!make_room(&standing, standing.size + line_size + 1))
+		return -ENOMEM;
+	if (trace_to >= 0 && (fault = keep(trace_to, line, line_size + 1)))
+		return fault;
+	uint32_t status = ask(number, &code);
+	if (status != MK_DONE && status != MK_REFUSED && status != MK_FAULT) {
+		/* no answer, and nothing has changed: so the line was never there */
+		off_t end = trace_to >= 0 ? lseek(trace_to, 0, SEEK_CUR) : -1;
+		if (trace_to >= 0 && (end < 0 || ftruncate(trace_to, end - (off_t)line_size - 1) || lseek(trace_to, -(off_t)line_size - 1, SEEK_CUR) < 0))
+			broken = ENOMEM;
+		return -ENOMEM;
+	}
+	number++;
+	stand(status, code);
+	if (answers_to >= 0 && keep(answers_to, answer.at, answer.size))
+		broken = EIO;
+	return error_of(status, code);
+}
+
+static bool set_line(const char *format, va_list words)
+{
+	int n = vsnprintf(line, sizeof line - 2, format, words);
+	line_size = n > 0 ? (size_t)n : 0;
+	return n > 0 && (size_t)n < sizeof line - 2;
+}
+
+int engine_line(const char *format, ...)
+{
+	va_list words;
+	va_start(words, format);
+	bool fits = set_line(format, words);
+	va_end(words);
+	return fits ? ask_and_keep() : -ENAMETOOLONG;
+}
+
+int engine_look(const char *format, ...)
+{
+	uint32_t code;
+	va_list words;
+	va_start(words, format);
+	bool fits = set_line(format, words);
+	va_end(words);
+	if (!fits)
+		return -ENAMETOOLONG;
+	uint32_t status = ask(0, &code);
+	return error_of(status, code);
+}
+
+const char *engine_text(size_t *size)
+{
+	*size = text.size;
+	return text.at;
+}
+
+int engine_has_group(const char *path)
+{
+	mk_info info;
+	return mk_has_group(&engine, (const uint8_t *)path, strlen(path), &info) == MK_DONE ? 0 : -ENOENT;
+}
+
+int engine_children(const char *path, const char **found, size_t *count)
+{
+	mk_info info;
+	uint32_t status = mk_children(&engine, (const uint8_t *)path, strlen(path), (uint8_t *)names.at, names.room, &info);
+	*found = names.at;
+	*count = info.count;
+	return status == MK_DONE ? 0 : status == MK_OUT_OF_MEMORY ? -ENOMEM : -ENOENT;
+}
+
+int engine_groups(const char **found, size_t *count)
+{
+	mk_info info;
+	if (!make_room(&names, MK_GROUPS_MAX))
+		return -ENOMEM;
+	uint32_t status = mk_groups(&engine, (uint8_t *)names.at, names.room, &info);
+	*found = names.at;
+	*count = info.count;
+	return status == MK_DONE ? 0 : -ENOMEM;
+}
+
+size_t engine_depth(void)
+{
+	size_t depth = 0;
+	mk_depth(&engine, &depth);
+	return depth;
+}
+
+const char *engine_standing(size_t *size)
+{
+	*size = standing.size;
+	return standing.at;
+}
+
+const char *engine_newest(size_t *size)
+{
+	size_t from = standing.size;
+	if (from)
+		from--;
+	while (from && standing.at[from - 1] != '\n')
+		from--;
+	*size = standing.size - from;
+	return standing.at + from;
+}

@@ -1,0 +1,37 @@
+/* One engine behind one lock, asked line by line; and what is kept of the lines. */
+#ifndef ENGINE_H
+#define ENGINE_H
+
+#include <stdbool.h>
+#include <stddef.h>
+
+/* Makes the engine. Where a file descriptor is not -1, each line goes to `trace` before it is asked, and its answer to
+   `answers`: cgreplay < TRACE writes the same. */
+bool engine_start(int trace, int answers);
+void engine_end(void);
+
+/* All calls below want the lock, and so does all that the mount remembers beside the engine. */
+void engine_lock(void);
+void engine_unlock(void);
+
+/* Asks one line and keeps it. 0, or the negated errno of its refusal; that of the device, where the line could not be
+   kept and was not asked. */
+int engine_line(const char *format, ...) __attribute__((format(printf, 1, 2)));
+/* Asks a line that changes nothing, and keeps nothing of it. */
+int engine_look(const char *format, ...) __attribute__((format(printf, 1, 2)));
+/* The text that the last answer carried, without its marks: of cat and where the file's bytes, of undo the command. */
+const char *engine_text(size_t *size);
+
+/* 0, or -ENOENT. */
+int engine_has_group(const char *path);
+/* The names below a group, each ended by a zero byte. 0, or -ENOENT. */
+int engine_children(const char *path, const char **names, size_t *count);
+/* The paths of all groups, likewise. */
+int engine_groups(const char **paths, size_t *count);
+size_t engine_depth(void);
+
+/* The recorded commands that stand, oldest first, as a trace; and the newest of them. */
+const char *engine_standing(size_t *size);
+const char *engine_newest(size_t *size);
+
+#endif

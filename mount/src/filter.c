@@ -1,0 +1,59 @@
+#include "filter.h"
+#include <fcntl.h>
+#include <linux/audit.h>
+#include <linux/filter.h>
+#include <linux/sched.h>
+#include <linux/seccomp.h>
+#include <stddef.h>
+#include <sys/prctl.h>
+#include <sys/syscall.h>
+#include <unistd.h>
+
+#if defined(__x86_64__)
+#define NATIVE AUDIT_ARCH_X86_64
+#elif defined(__aarch64__)
+#define NATIVE AUDIT_ARCH_AARCH64
+#else
+#error "makhloeum run knows x86_64 and aarch64"
+#endif
+
+#define LOAD(field) BPF_STMT(BPF_LD | BPF_W | BPF_ABS, offsetof(struct seccomp_data, field))
+#define ANSWER(what) BPF_STMT(BPF_RET | BPF_K, what)
+#define UNLESS(number, skipped) BPF_JUMP(BPF_JMP | BPF_JEQ | BPF_K, number, 0, skipped)
+#define IF_ANY(bits, skipped) BPF_JUMP(BPF_JMP | BPF_JSET | BPF_K, bits, 0, skipped)
+
+/* A call that is seen; and one that is seen unless its argument has any of these bits. */
+#define SEEN(number, how) UNLESS(number, 1), ANSWER(how)
+#define SEEN_WITHOUT(number, argument, bits, how) \
+	UNLESS(number, 4), LOAD(args[argument]), IF_ANY(bits, 1), ANSWER(SECCOMP_RET_ALLOW), ANSWER(how)
+
+/* Only an open to read can be one of a text of /proc. */
+static const unsigned other_opens = O_WRONLY | O_RDWR | O_CREAT | O_DIRECTORY | O_PATH;
+
+int filter_install(void)
+{
+	struct sock_filter filter[] = {
+		LOAD(arch),
+		BPF_JUMP(BPF_JMP | BPF_JEQ | BPF_K, NATIVE, 1, 0),
+		ANSWER(SECCOMP_RET_ALLOW),
+		LOAD(nr),
+		SEEN_WITHOUT(__NR_openat, 2, other_opens, SECCOMP_RET_USER_NOTIF),
+		SEEN(__NR_openat2, SECCOMP_RET_USER_NOTIF),
+		SEEN(__NR_statfs, SECCOMP_RET_TRACE),
+		SEEN(__NR_fstatfs, SECCOMP_RET_TRACE),
+		SEEN_WITHOUT(__NR_clone, 0, CLONE_THREAD, SECCOMP_RET_TRACE),
+		SEEN(__NR_clone3, SECCOMP_RET_TRACE),
+#ifdef __NR_open
+		SEEN_WITHOUT(__NR_open, 1, other_opens, SECCOMP_RET_USER_NOTIF),
+		SEEN(__NR_fork, SECCOMP_RET_TRACE),
+		SEEN(__NR_vfork, SECCOMP_RET_TRACE),
+#endif
+		ANSWER(SECCOMP_RET_ALLOW),
+	};
+	struct sock_fprog program = { sizeof filter / sizeof *filter, filter };
+	/* the superuser of his own namespace needs no promise that nothing gains privileges; another makes it */
+	int fd = (int)syscall(SYS_seccomp, SECCOMP_SET_MODE_FILTER, SECCOMP_FILTER_FLAG_NEW_LISTENER, &program);
+	if (fd < 0 && prctl(PR_SET_NO_NEW_PRIVS, 1, 0, 0, 0) == 0)
+		fd = (int)syscall(SYS_seccomp, SECCOMP_SET_MODE_FILTER, SECCOMP_FILTER_FLAG_NEW_LISTENER, &program);
+	return fd;
+}

@@ -1,0 +1,9 @@
+/* Which system calls of a program its supervisor sees: a seccomp filter. */
+#ifndef FILTER_H
+#define FILTER_H
+
+/* In the program, before it is executed: the descriptor on which opens are told, or -1. Forks and statfs stop for the
+   tracer. */
+int filter_install(void);
+
+#endif

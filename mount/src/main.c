@@ -1,0 +1,76 @@
+/* makhloeum mount, makhloeum run: the command line. */
+#include "run.h"
+#include "serve.h"
+#include <stdio.h>
+#include <string.h>
+
+static const char help[] =
+	"makhloeum mount DIR [--trace FILE] [--answers FILE] [--extra] [--adopt] [--control] [--foreground]\n"
+	"makhloeum run [--trace FILE] [--answers FILE] [--control] [--root] [--] PROGRAM ARGS..\n"
+	"\n"
+	"mount lays a hierarchy of process groups over the directory DIR, as a cgroup2 file system looks. A process is a\n"
+	"number there. It returns once the mount is there; fusermount3 -u DIR, or the end of its process, takes it away.\n"
+	"run lays one over /sys/fs/cgroup in namespaces of its own and runs PROGRAM there: it sees a cgroup2 file system,\n"
+	"and its processes are those of the hierarchy. What it leaves behind ends with it. No privilege is needed.\n"
+	"\n"
+	"  --trace FILE    keep each line that was asked: `cgreplay < FILE` gives the same answers\n"
+	"  --answers FILE  keep these answers\n"
+	"  --extra         files that clients look for and the hierarchy does not have (run: always). They are constants:\n"
+	"                  cgroup.controllers and cgroup.subtree_control `pids`, cgroup.type `domain`, cgroup.freeze `0`,\n"
+	"                  cpu.stat all 0. A write that says what is so already is taken; any other is EOPNOTSUPP.\n"
+	"  --adopt         a process that is written to cgroup.procs is a real one: it exits when it dies, its children are\n"
+	"                  forked, cgroup.kill kills it\n"
+	"  --control       list the control directory .makhloeum, which is there in any case: undo (written: takes the\n"
+	"                  newest command back, or as many as the number), depth, newest, trace, fork (PARENT CHILD), exit (PID)\n"
+	"  --foreground    mount stays in the foreground\n"
+	"  --root          PROGRAM sees itself as the superuser\n"
+	"\n"
+	"The status of run is that of PROGRAM (128 and the signal where one ended it). It is 2 on a bad command line and where\n"
+	"the machine does not allow what is needed, which one sentence then names.\n";
+
+static int bad(void)
+{
+	fprintf(stderr, "makhloeum: bad command line; makhloeum --help tells it\n");
+	return 2;
+}
+
+/* Reads the options from argv[at] on; the place behind them, or -1. */
+static int read_options(int argc, char **argv, int at, struct wishes *w)
+{
+	struct { const char *name; bool *flag; const char **word; } options[] = {
+		{ "--trace", NULL, &w->trace },       { "--answers", NULL, &w->answers }, { "--extra", &w->extra, NULL },
+		{ "--adopt", &w->adopt, NULL },       { "--control", &w->control, NULL },
+		{ "--foreground", &w->foreground, NULL }, { "--root", &w->as_root, NULL },
+	};
+	size_t i, count = sizeof options / sizeof *options;
+	for (; at < argc && argv[at][0] == '-'; at++) {
+		if (strcmp(argv[at], "--") == 0)
+			return at + 1;
+		for (i = 0; i < count && strcmp(argv[at], options[i].name); i++)
+			;
+		if (i == count || (options[i].word && at + 1 == argc))
+			return -1;
+		if (options[i].word)
+			*options[i].word = argv[++at];
+		else
+			*options[i].flag = true;
+	}
+	return at;
+}
+
+int main(int argc, char **argv)
+{
+	struct wishes w = { 0 };
+	if (argc == 2 && (strcmp(argv[1], "--help") == 0 || strcmp(argv[1], "-h") == 0))
+		return fputs(help, stdout) < 0 || fflush(stdout) ? 1 : 0;
+	if (argc < 3)
+		return bad();
+	int at = read_options(argc, argv, 2, &w);
+	if (strcmp(argv[1], "run") == 0)
+		return at < 0 || at == argc || w.adopt || w.foreground ? bad() : run_program(argv + at, &w);
+	if (strcmp(argv[1], "mount") != 0 || at < 0 || at == argc || w.as_root)
+		return bad();
+	const char *directory = argv[at];
+	at = read_options(argc, argv, at + 1, &w);
+	return at != argc || w.as_root ? bad() : mount_directory(directory, &w);
+}

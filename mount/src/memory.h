@@ -1,0 +1,14 @@
+/* The memory of a program under the supervisor. */
+#ifndef MEMORY_H
+#define MEMORY_H
+
+#include <stdbool.h>
+#include <stddef.h>
+#include <sys/types.h>
+
+bool memory_read(pid_t thread, unsigned long at, void *out, size_t size);
+bool memory_write(pid_t thread, unsigned long at, const void *bytes, size_t size);
+/* A text that ends with a zero byte. */
+bool memory_text(pid_t thread, unsigned long at, char *out, size_t size);
+
+#endif

@@ -1,0 +1,37 @@
+/* Open files: each keeps the text that it began to read, and who waits for another. */
+#ifndef OPENED_H
+#define OPENED_H
+
+#include "place.h"
+#include <fuse3/fuse.h>
+
+enum { A_DIRECTORY = -1 }; /* as `control` */
+
+struct opened {
+	struct opened *next, *before;
+	const struct file *file;   /* NULL: a directory, or one of the control directory */
+	int control;
+	char *group;
+	char *text;                /* as of the last read from the start */
+	size_t size;
+	bool gone;                 /* the group was removed */
+	bool changed;              /* since it was last read; at first it is */
+	struct fuse_pollhandle *waiting;
+};
+
+/* All calls want the engine's lock. */
+struct opened *opened_new(const char *group, const struct file *file, int control);
+void opened_free(struct opened *o);
+/* Keeps a text for the reads that go on. */
+int opened_keep(struct opened *o, const char *text, size_t size);
+int opened_read(const struct opened *o, char *out, size_t size, off_t at);
+/* A poll: what is to be told, and who is to be woken once it is otherwise. */
+unsigned opened_poll(struct opened *o, struct fuse_pollhandle *waiter);
+/* The text of a file has changed. */
+void opened_wake(const char *group, const struct file *file);
+/* The group is there no more. */
+void opened_lose(const char *group);
+/* So are perhaps some groups. */
+void opened_check(void);
+
+#endif

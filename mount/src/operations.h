@@ -1,0 +1,45 @@
+/* The operations of the file system, for libfuse. */
+#ifndef OPERATIONS_H
+#define OPERATIONS_H
+
+#include "place.h"
+#include <fuse3/fuse.h>
+#include <stdbool.h>
+#include <sys/stat.h>
+
+/* How the mount looks. */
+struct look {
+	bool show_control; /* readdir tells the control directory */
+	bool marked;       /* statfs carries a mark by which the supervisor knows this file system */
+	uid_t uid;
+	gid_t gid;
+};
+extern struct look look;
+extern const struct fuse_operations operations;
+
+/* What the mark is: a number of free files that no file system has. */
+enum { MARK = 0x6d6b6872 };
+
+/* Groups (tree.c) */
+int tree_getattr(const char *path, struct stat *st, struct fuse_file_info *fi);
+int tree_opendir(const char *path, struct fuse_file_info *fi);
+int tree_readdir(const char *path, void *out, fuse_fill_dir_t fill, off_t at, struct fuse_file_info *fi,
+                 enum fuse_readdir_flags flags);
+int tree_mkdir(const char *path, mode_t mode);
+int tree_rmdir(const char *path);
+int tree_chmod(const char *path, mode_t mode, struct fuse_file_info *fi);
+int tree_chown(const char *path, uid_t uid, gid_t gid, struct fuse_file_info *fi);
+
+/* Files (content.c) */
+int content_open(const char *path, struct fuse_file_info *fi);
+int content_read(const char *path, char *out, size_t size, off_t at, struct fuse_file_info *fi);
+int content_write(const char *path, const char *data, size_t size, off_t at, struct fuse_file_info *fi);
+int content_poll(const char *path, struct fuse_file_info *fi, struct fuse_pollhandle *waiter, unsigned *told);
+int content_release(const char *path, struct fuse_file_info *fi);
+
+/* Owners and modes that were given to a group or file (owner.c); all want the engine's lock. */
+void owner_apply(const char *path, struct stat *st);
+int owner_set(const char *path, const struct stat *st);
+void owner_forget(const char *group);
+
+#endif

@@ -1,0 +1,281 @@
+#include "real.h"
+#include "engine.h"
+#include "place.h"
+#include "watch.h"
+#include <errno.h>
+#include <signal.h>
+#include <stdio.h>
+#include <stdlib.h>
+#include <string.h>
+#include <sys/epoll.h>
+#include <sys/syscall.h>
+#include <unistd.h>
+
+enum { PIDS = 4194304, PROCESS_ONE = 1 };
+
+/* What is known of each number. A process that a kill of the hierarchy has met is dying: it may fork no more. */
+enum { UNKNOWN, LIVE, DYING };
+static unsigned char known[PIDS];
+static enum { NUMBERS, ADOPTED, REPORTED } way;
+
+static struct adopted {
+	pid_t pid;
+	int fd;
+} *adopted;
+static size_t adopted_count, adopted_room;
+static int deaths = -1; /* an epoll set of their pidfds */
+
+static pid_t *noted;
+static size_t noted_count, noted_room;
+
+bool real_adopt_all(void)
+{
+	way = ADOPTED;
+	deaths = epoll_create1(EPOLL_CLOEXEC);
+	return deaths >= 0;
+}
+
+void real_are_reported(void)
+{
+	way = REPORTED;
+}
+
+static bool is_known(pid_t pid)
+{
+	return pid > 0 && pid < PIDS && known[pid] != UNKNOWN;
+}
+
+/* The group of a process, or false. */
+static bool find_group(pid_t pid, char group[PATH_MAX_SAID])
+{
+	size_t size;
+	if (engine_look("where %d", pid))
+		return false;
+	const char *text = engine_text(&size);
+	snprintf(group, PATH_MAX_SAID, "%.*s", (int)size - 4, text + 3);
+	return true;
+}
+
+pid_t real_process_of(pid_t thread)
+{
+	char path[40], said[64];
+	int process = thread;
+	snprintf(path, sizeof path, "/proc/%d/status", thread);
+	FILE *f = fopen(path, "re");
+	if (!f)
+		return thread;
+	while (fgets(said, sizeof said, f))
+		if (sscanf(said, "Tgid: %d", &process) == 1)
+			break;
+	fclose(f);
+	return process;
+}
+
+/* ---------------------------------------------------------------- mount --adopt */
+
+static int remember(pid_t pid)
+{
+	int fd = (int)syscall(SYS_pidfd_open, pid, 0);
+	if (fd < 0)
+		return -errno;
+	if (adopted_count == adopted_room) {
+		size_t room = adopted_room ? 2 * adopted_room : 64;
+		struct adopted *more = realloc(adopted, room * sizeof *more);
+		if (!more) {
+			close(fd);
+			return -ENOMEM;
+		}
+		adopted = more;
+		adopted_room = room;
+	}
+	struct epoll_event e = { .events = EPOLLIN, .data.u32 = (unsigned)pid };
+	if (epoll_ctl(deaths, EPOLL_CTL_ADD, fd, &e)) {
+		close(fd);
+		return -ENOMEM;
+	}
+	adopted[adopted_count++] = (struct adopted){ pid, fd };
+	known[pid] = LIVE;
+	return 0;
+}
+
+static void die(pid_t pid)
+{
+	char group[PATH_MAX_SAID];
+	bool stood = find_group(pid, group);
+	if (known[pid] == LIVE)
+		engine_line("exit %d", pid);
+	known[pid] = UNKNOWN;
+	for (size_t i = 0; i < adopted_count; i++)
+		if (adopted[i].pid == pid) {
+			close(adopted[i].fd);
+			adopted[i] = adopted[--adopted_count];
+			break;
+		}
+	if (stood)
+		watch_above(group);
+}
+
+static void adopt_children(pid_t pid)
+{
+	char path[64], text[4096];
+	snprintf(path, sizeof path, "/proc/%d/task/%d/children", pid, pid);
+	FILE *f = fopen(path, "re");
+	if (!f)
+		return;
+	size_t n = fread(text, 1, sizeof text - 1, f);
+	fclose(f);
+	text[n] = 0;
+	for (char *at = text, *end; ; at = end) {
+		long child = strtol(at, &end, 10);
+		if (end == at)
+			break;
+		if (is_known((pid_t)child) || child <= PROCESS_ONE || child >= PIDS)
+			continue;
+		/* a fork that pids.max refuses is counted once: the child is real all the same, and remembered */
+		if (remember((pid_t)child) == 0)
+			engine_line("fork %d %ld", pid, child);
+	}
+}
+
+void real_sweep(void)
+{
+	struct epoll_event dead[16];
+	int n;
+	if (way != ADOPTED || adopted_count == 0)
+		return;
+	for (size_t i = 0; i < adopted_count; i++)
+		adopt_children(adopted[i].pid);
+	while ((n = epoll_wait(deaths, dead, 16, 0)) > 0)
+		for (int i = 0; i < n; i++)
+			die((pid_t)dead[i].data.u32);
+}
+
+int real_adopt(pid_t pid)
+{
+	if (way != ADOPTED || pid == PROCESS_ONE || is_known(pid))
+		return 0;
+	if (engine_look("where %d", pid) == 0)
+		return 0;
+	int fault = remember(pid);
+	if (fault)
+		return fault == -ENOMEM ? fault : -ESRCH;
+	fault = engine_line("fork %d %d", PROCESS_ONE, pid);
+	if (fault)
+		known[pid] = DYING;
+	return fault;
+}
+
+/* ---------------------------------------------------------------- cgroup.kill */
+
+void real_note(const char *group)
+{
+	const char *paths;
+	size_t count, size;
+	noted_count = 0;
+	if (way == NUMBERS || engine_groups(&paths, &count))
+		return;
+	for (; count--; paths += strlen(paths) + 1) {
+		if (!is_at_or_below(paths, group) || engine_look("cat %s cgroup.procs", paths))
+			continue;
+		const char *text = engine_text(&size), *end = text + size;
+		while (text < end) {
+			pid_t pid = (pid_t)strtol(text, NULL, 10);
+			text = (const char *)memchr(text, '\n', (size_t)(end - text)) + 1;
+			if (!is_known(pid))
+				continue;
+			if (noted_count == noted_room) {
+				size_t room = noted_room ? 2 * noted_room : 64;
+				pid_t *more = realloc(noted, room * sizeof *more);
+				if (!more)
+					return;
+				noted = more;
+				noted_room = room;
+			}
+			noted[noted_count++] = pid;
+		}
+	}
+}
+
+/* A number stands for the same process until its death is noticed: of an adopted one the descriptor says so. */
+static void slay(pid_t pid)
+{
+	known[pid] = DYING;
+	if (way == REPORTED) {
+		kill(pid, SIGKILL);
+		return;
+	}
+	for (size_t i = 0; i < adopted_count; i++)
+		if (adopted[i].pid == pid)
+			syscall(SYS_pidfd_send_signal, adopted[i].fd, SIGKILL, NULL, 0);
+}
+
+void real_kill_noted(void)
+{
+	for (size_t i = 0; i < noted_count; i++)
+		slay(noted[i]);
+}
+
+/* ---------------------------------------------------------------- run */
+
+static bool is_full(const char *group)
+{
+	size_t size;
+	if (engine_look("cat %s pids.max", group))
+		return false;
+	const char *text = engine_text(&size);
+	if (size && text[0] == 'm')
+		return false;
+	long most = strtol(text, NULL, 10);
+	if (engine_look("cat %s pids.current", group))
+		return false;
+	return strtol(engine_text(&size), NULL, 10) + 1 > most;
+}
+
+/* A number that no process has, for a fork that is going to be refused. */
+static pid_t free_number(void)
+{
+	pid_t pid = PIDS - 1;
+	while (engine_look("where %d", pid) == 0)
+		pid--;
+	return pid;
+}
+
+int real_may_fork(pid_t parent, const char *group)
+{
+	char at[PATH_MAX_SAID];
+	if (group)
+		snprintf(at, sizeof at, "%s", group);
+	else if (!find_group(parent, at))
+		return 0;
+	for (; !is_root(at); go_up(at))
+		if (is_full(at)) {
+			/* one that is born in another group is refused there, where nobody forks: no event is counted */
+			if (!group && engine_line("fork %d %d", parent, free_number()) == -EAGAIN && find_group(parent, at))
+				watch_above(at);
+			return -EAGAIN;
+		}
+	return 0;
+}
+
+int real_forked(pid_t parent, pid_t child, const char *group)
+{
+	if (child <= PROCESS_ONE || child >= PIDS)
+		return 0;
+	/* a kill reaches the child of one that it has met */
+	if (is_known(parent) && known[parent] == DYING)
+		return -ESRCH;
+	int fault = engine_line("fork %d %d", group || !is_known(parent) ? PROCESS_ONE : parent, child);
+	if (fault == 0 && group) {
+		fault = engine_line("write %s cgroup.procs %d", group, child);
+		watch_above(group);
+	}
+	if (fault == 0)
+		known[child] = LIVE;
+	return fault == -EAGAIN ? -EAGAIN : 0;
+}
+
+void real_exited(pid_t pid)
+{
+	if (is_known(pid))
+		die(pid);
+}

@@ -1,0 +1,212 @@
+#include "run.h"
+#include "engine.h"
+#include "filter.h"
+#include "link.h"
+#include "operations.h"
+#include "procfiles.h"
+#include "real.h"
+#include "space.h"
+#include "tracer.h"
+#include "watch.h"
+#include <errno.h>
+#include <poll.h>
+#include <signal.h>
+#include <stdio.h>
+#include <stdlib.h>
+#include <string.h>
+#include <sys/mount.h>
+#include <sys/prctl.h>
+#include <sys/signalfd.h>
+#include <sys/socket.h>
+#include <sys/wait.h>
+#include <unistd.h>
+
+enum { REFUSED_HERE = 2, NOT_EXECUTABLE = 126, NOT_FOUND = 127, KILLED = 128, PATIENCE = 200 };
+
+/* ---------------------------------------------------------------- the process that serves the mount */
+
+static void nothing(void)
+{
+}
+
+static pid_t start_server(int connection, int ends[2])
+{
+	char where[32];
+	pid_t pid = fork();
+	if (pid)
+		return pid;
+	close(ends[0]);
+	setsid();
+	snprintf(where, sizeof where, "/dev/fd/%d", connection);
+	if (!link_answer(ends[1]))
+		_exit(1);
+	exit(serve(where, nothing));
+}
+
+/* ---------------------------------------------------------------- the program */
+
+static void send_listener(int to, int fd)
+{
+	char byte = 0, room[CMSG_SPACE(sizeof fd)] = { 0 };
+	struct iovec bytes = { &byte, 1 };
+	struct msghdr message = { .msg_iov = &bytes, .msg_iovlen = 1, .msg_control = room, .msg_controllen = sizeof room };
+	struct cmsghdr *head = CMSG_FIRSTHDR(&message);
+	*head = (struct cmsghdr){ .cmsg_level = SOL_SOCKET, .cmsg_type = SCM_RIGHTS, .cmsg_len = CMSG_LEN(sizeof fd) };
+	memcpy(CMSG_DATA(head), &fd, sizeof fd);
+	sendmsg(to, &message, 0);
+}
+
+static int receive_listener(int from)
+{
+	int fd = -1;
+	char byte, room[CMSG_SPACE(sizeof fd)];
+	struct iovec bytes = { &byte, 1 };
+	struct msghdr message = { .msg_iov = &bytes, .msg_iovlen = 1, .msg_control = room, .msg_controllen = sizeof room };
+	if (recvmsg(from, &message, MSG_CMSG_CLOEXEC) <= 0 || !CMSG_FIRSTHDR(&message))
+		return -1;
+	memcpy(&fd, CMSG_DATA(CMSG_FIRSTHDR(&message)), sizeof fd);
+	return fd;
+}
+
+/* Waits until it is held, takes the filter, and becomes the program. */
+static void become(char **program, int control, const sigset_t *signals)
+{
+	char go;
+	if (read(control, &go, 1) != 1)
+		_exit(1);
+	sigprocmask(SIG_SETMASK, signals, NULL);
+	signal(SIGPIPE, SIG_DFL);
+	signal(SIGXFSZ, SIG_DFL);
+	int listener = filter_install();
+	if (listener < 0)
+		_exit(1);
+	send_listener(control, listener);
+	close(listener);
+	if (read(control, &go, 1) != 1)
+		_exit(1);
+	execvp(program[0], program);
+	say("%s: %s", program[0], strerror(errno));
+	_exit(errno == ENOENT ? NOT_FOUND : NOT_EXECUTABLE);
+}
+
+/* ---------------------------------------------------------------- the supervisor */
+
+/* Passes a signal on that was meant for the program. */
+static void pass_on(int signals, pid_t program)
+{
+	struct signalfd_siginfo one;
+	while (read(signals, &one, sizeof one) == sizeof one)
+		if (one.ssi_signo == SIGTERM || one.ssi_signo == SIGHUP || (one.ssi_signo == SIGINT && one.ssi_code != SI_KERNEL))
+			kill(program, (int)one.ssi_signo);
+}
+
+static int watch_over(int listener, int signals, int link, pid_t program)
+{
+	int status = 0;
+	struct pollfd from[3] = { { .fd = listener, .events = POLLIN }, { .fd = signals, .events = POLLIN }, { .fd = link } };
+	for (;;) {
+		pass_on(signals, program);
+		if (tracer_look(&status))
+			break;
+		if (poll(from, 3, -1) < 0 && errno != EINTR)
+			break;
+		if (from[2].revents) {
+			say("the mount has ended");
+			kill(program, SIGKILL);
+			from[2].fd = -1;
+		}
+		if (from[0].revents & POLLIN)
+			procfiles_answer(listener);
+		else if (from[0].revents)
+			from[0].fd = -1;
+	}
+	close(listener);
+	tracer_end_rest();
+	return WIFEXITED(status) ? WEXITSTATUS(status) : KILLED + WTERMSIG(status);
+}
+
+static int supervise(char **program, const sigset_t *before, int signals, int link)
+{
+	int control[2];
+	if (socketpair(AF_UNIX, SOCK_STREAM | SOCK_CLOEXEC, 0, control))
+		return 1;
+	pid_t pid = fork();
+	if (pid == 0)
+		become(program, control[1], before);
+	close(control[1]);
+	if (pid < 0 || !tracer_hold(pid)) {
+		say("this machine does not allow a process to be traced: %s", strerror(errno));
+		if (pid > 0)
+			kill(pid, SIGKILL);
+		return REFUSED_HERE;
+	}
+	int status, listener = write(control[0], "", 1) == 1 ? receive_listener(control[0]) : -1;
+	if (listener < 0 || write(control[0], "", 1) != 1) {
+		say("this machine does not allow seccomp notification");
+		kill(pid, SIGKILL);
+		while (!tracer_look(&status))
+			;
+		return REFUSED_HERE;
+	}
+	return watch_over(listener, signals, link, pid);
+}
+
+/* The mount goes, and with it the process that serves it. */
+static void end_server(pid_t server, int end)
+{
+	int status;
+	umount2(cgroup_mount, MNT_DETACH);
+	close(end);
+	for (int i = 0; i < PATIENCE; i++) {
+		if (waitpid(server, &status, WNOHANG))
+			return;
+		usleep(10000);
+	}
+	kill(server, SIGKILL);
+	waitpid(server, &status, 0);
+}
+
+int run_program(char **program, const struct wishes *asked)
+{
+	struct wishes wishes = *asked;
+	sigset_t held, before;
+	int ends[2];
+	wishes.extra = true;
+	if (!serve_prepare(&wishes))
+		return 1;
+	if (!space_enter(wishes.as_root))
+		return REFUSED_HERE;
+	look.uid = geteuid();
+	look.gid = getegid();
+	look.marked = true;
+	real_are_reported();
+	if (!watch_begin(cgroup_mount, false) || !link_make(ends))
+		return 1;
+	int connection = space_mount();
+	if (connection < 0)
+		return REFUSED_HERE;
+	pid_t server = start_server(connection, ends);
+	close(connection);
+	close(ends[1]);
+	watch_leave();
+	engine_end();
+	if (server < 0)
+		return 1;
+	sigemptyset(&held);
+	sigaddset(&held, SIGCHLD);
+	sigaddset(&held, SIGTERM);
+	sigaddset(&held, SIGHUP);
+	sigaddset(&held, SIGINT);
+	sigprocmask(SIG_BLOCK, &held, &before);
+	signal(SIGQUIT, SIG_IGN);
+	int signals = signalfd(-1, &held, SFD_CLOEXEC | SFD_NONBLOCK);
+	link_use(ends[0]);
+	/* until it is asked for once, the kernel takes the mount's root for nobody's, where nothing may be made */
+	int status = 1;
+	if (stat(cgroup_mount, &(struct stat){ 0 }))
+		say("the mount does not answer: %s", strerror(errno));
+	else
+		status = supervise(program, &before, signals, ends[0]);
+	end_server(server, ends[0]);
+	return status;
+}

@@ -1,0 +1,158 @@
+#include "serve.h"
+#include "engine.h"
+#include "operations.h"
+#include "real.h"
+#include "watch.h"
+#include <errno.h>
+#include <fcntl.h>
+#include <limits.h>
+#include <signal.h>
+#include <stdarg.h>
+#include <stdio.h>
+#include <stdlib.h>
+#include <string.h>
+#include <sys/wait.h>
+#include <unistd.h>
+
+void say(const char *format, ...)
+{
+	va_list words;
+	fprintf(stderr, "makhloeum: ");
+	va_start(words, format);
+	vfprintf(stderr, format, words);
+	va_end(words);
+	fprintf(stderr, "\n");
+}
+
+/* A file to keep lines in; -1 for none, -2 where it cannot be had. */
+static int open_kept(const char *name)
+{
+	if (!name)
+		return -1;
+	int fd = open(name, O_WRONLY | O_CREAT | O_TRUNC | O_CLOEXEC, 0666);
+	if (fd < 0)
+		say("%s cannot be written: %s", name, strerror(errno));
+	return fd < 0 ? -2 : fd;
+}
+
+bool serve_prepare(const struct wishes *wishes)
+{
+	int trace = open_kept(wishes->trace), answers = open_kept(wishes->answers);
+	if (trace == -2 || answers == -2)
+		return false;
+	if (!engine_start(trace, answers)) {
+		say("out of memory");
+		return false;
+	}
+	if (wishes->extra)
+		files_use_extra();
+	if (wishes->adopt && !real_adopt_all()) {
+		say("processes cannot be watched here: %s", strerror(errno));
+		return false;
+	}
+	look = (struct look){ .show_control = wishes->control, .uid = getuid(), .gid = getgid() };
+	signal(SIGPIPE, SIG_IGN);
+	signal(SIGXFSZ, SIG_IGN);
+	return true;
+}
+
+static struct fuse *make_session(void)
+{
+	char *words[] = { "makhloeum", "-o", "fsname=makhloeum,subtype=cgroup2,nosuid,nodev,noexec", NULL };
+	struct fuse_args args = FUSE_ARGS_INIT(3, words);
+	struct fuse *fuse = fuse_new(&args, &operations, sizeof operations, NULL);
+	fuse_opt_free_args(&args);
+	return fuse;
+}
+
+int serve(const char *where, void (*ready)(void))
+{
+	struct fuse *fuse = make_session();
+	if (!fuse || fuse_mount(fuse, where)) {
+		if (fuse)
+			fuse_destroy(fuse);
+		say("no file system can be mounted on %s: /dev/fuse, fusermount3 or the directory does not allow it", where);
+		return 2;
+	}
+	struct fuse_session *session = fuse_get_session(fuse);
+	if (fuse_set_signal_handlers(session))
+		return 1;
+	ready();
+	int ended = fuse_loop_mt(fuse, 0);
+	watch_stop();
+	fuse_remove_signal_handlers(session);
+	fuse_unmount(fuse);
+	fuse_destroy(fuse);
+	engine_end();
+	return ended < 0 ? 1 : 0;
+}
+
+/* ---------------------------------------------------------------- makhloeum mount */
+
+static int to_starter = -1; /* a pipe to the process that waits until the mount is there */
+
+static void tell_starter(void)
+{
+	if (to_starter < 0)
+		return;
+	char status = 0;
+	if (write(to_starter, &status, 1) < 0) {
+		/* it has gone */
+	}
+	close(to_starter);
+	to_starter = -1;
+	int null = open("/dev/null", O_RDWR);
+	for (int fd = 0; fd < 3 && null >= 0; fd++)
+		dup2(null, fd);
+	if (null > 2)
+		close(null);
+}
+
+/* The starter's part: it ends once the mount is there, or with the status of the process that failed. */
+static int wait_for(pid_t server, int from)
+{
+	char status;
+	int ended = 0;
+	if (read(from, &status, 1) == 1)
+		return 0;
+	waitpid(server, &ended, 0);
+	return WIFEXITED(ended) && WEXITSTATUS(ended) ? WEXITSTATUS(ended) : 1;
+}
+
+int mount_directory(const char *directory, const struct wishes *wishes)
+{
+	char whole[PATH_MAX];
+	int ends[2] = { -1, -1 };
+	if (!realpath(directory, whole)) {
+		say("%s: %s", directory, strerror(errno));
+		return 2;
+	}
+	if (access("/dev/fuse", R_OK | W_OK)) {
+		say("this machine does not allow FUSE: /dev/fuse: %s", strerror(errno));
+		return 2;
+	}
+	if (!wishes->foreground) {
+		if (pipe(ends))
+			return 1;
+		pid_t server = fork();
+		if (server < 0)
+			return 1;
+		if (server > 0) {
+			close(ends[1]);
+			return wait_for(server, ends[0]);
+		}
+		close(ends[0]);
+		to_starter = ends[1];
+		fcntl(to_starter, F_SETFD, FD_CLOEXEC);
+		setsid();
+	}
+	if (!serve_prepare(wishes))
+		return 1;
+	if (!watch_begin(whole, true)) {
+		say("no process can be had");
+		return 1;
+	}
+	if (chdir("/"))
+		return 1;
+	return serve(whole, tell_starter);
+}

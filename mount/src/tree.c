@@ -1,0 +1,198 @@
+#include "control.h"
+#include "engine.h"
+#include "opened.h"
+#include "operations.h"
+#include "real.h"
+#include "watch.h"
+#include <errno.h>
+#include <stdio.h>
+#include <string.h>
+#include <time.h>
+
+struct look look;
+
+static void set_stat(struct stat *st, mode_t mode, nlink_t links)
+{
+	static struct timespec born;
+	if (born.tv_sec == 0)
+		clock_gettime(CLOCK_REALTIME, &born);
+	memset(st, 0, sizeof *st);
+	st->st_mode = mode;
+	st->st_nlink = links;
+	st->st_uid = look.uid;
+	st->st_gid = look.gid;
+	st->st_atim = st->st_mtim = st->st_ctim = born;
+}
+
+static int control_getattr(const char *path, struct stat *st)
+{
+	int file = control_find(path);
+	if (file == -ENOENT)
+		return -ENOENT;
+	if (file < 0)
+		set_stat(st, S_IFDIR | 0755, 2);
+	else
+		set_stat(st, S_IFREG | control_mode(file), 1);
+	return 0;
+}
+
+static int group_getattr(const char *path, struct stat *st)
+{
+	const char *names;
+	size_t count = 0;
+	int fault = engine_children(path, &names, &count);
+	if (fault)
+		return fault;
+	set_stat(st, S_IFDIR | 0755, (nlink_t)(2 + count));
+	return 0;
+}
+
+static int getattr(const char *path, struct stat *st)
+{
+	struct place place;
+	int fault = place_of(path, &place);
+	if (fault)
+		return fault;
+	if (!place.file)
+		return group_getattr(place.group, st);
+	if (engine_has_group(place.group))
+		return -ENOENT;
+	set_stat(st, S_IFREG | file_mode(place.file), 1);
+	if (place.file->notified)
+		watch_seen(place.group, place.file);
+	return 0;
+}
+
+/* Of what is open, libfuse tells no path. */
+static const char *path_of(const char *path, const struct fuse_file_info *fi, char *out, size_t size)
+{
+	const struct opened *o = path ? NULL : (const struct opened *)(uintptr_t)(fi ? fi->fh : 0);
+	if (!o || o->gone)
+		return path;
+	if (o->file)
+		snprintf(out, size, "%s/%s", is_root(o->group) ? "" : o->group, o->file->name);
+	else if (o->control >= 0)
+		snprintf(out, size, "/%s/%s", control_directory, control_name(o->control));
+	else
+		snprintf(out, size, "%s", o->group);
+	return out;
+}
+
+int tree_getattr(const char *path, struct stat *st, struct fuse_file_info *fi)
+{
+	char of_open[PATH_MAX_SAID + 32];
+	if (!(path = path_of(path, fi, of_open, sizeof of_open)))
+		return -ENOENT;
+	if (control_has(path))
+		return control_getattr(path, st);
+	engine_lock();
+	int fault = getattr(path, st);
+	if (fault == 0)
+		owner_apply(path, st);
+	engine_unlock();
+	return fault;
+}
+
+static int list_control(void *out, fuse_fill_dir_t fill)
+{
+	const char *name;
+	for (int i = 0; (name = control_name(i)); i++)
+		fill(out, name, NULL, 0, 0);
+	return 0;
+}
+
+int tree_opendir(const char *path, struct fuse_file_info *fi)
+{
+	engine_lock();
+	fi->fh = (uintptr_t)opened_new(path, NULL, A_DIRECTORY);
+	engine_unlock();
+	return fi->fh ? 0 : -ENOMEM;
+}
+
+int tree_readdir(const char *unsaid, void *out, fuse_fill_dir_t fill, off_t at, struct fuse_file_info *fi,
+                 enum fuse_readdir_flags flags)
+{
+	const struct file *file;
+	const char *names;
+	size_t count;
+	const char *path = ((const struct opened *)(uintptr_t)fi->fh)->group;
+	(void)unsaid, (void)at, (void)flags;
+	fill(out, ".", NULL, 0, 0);
+	fill(out, "..", NULL, 0, 0);
+	if (control_has(path))
+		return list_control(out, fill);
+	engine_lock();
+	int fault = engine_children(path, &names, &count);
+	if (fault == 0) {
+		for (size_t i = 0; (file = file_at(i)); i++)
+			if (file->on_root || !is_root(path))
+				fill(out, file->name, NULL, 0, 0);
+		if (look.show_control && is_root(path))
+			fill(out, control_directory, NULL, 0, 0);
+		for (; count--; names += strlen(names) + 1)
+			fill(out, names, NULL, 0, 0);
+	}
+	engine_unlock();
+	return fault;
+}
+
+int tree_mkdir(const char *path, mode_t mode)
+{
+	(void)mode;
+	int fault = control_has(path) ? -EPERM : path_fault(path);
+	if (fault)
+		return fault;
+	engine_lock();
+	fault = engine_line("mkdir %s", path);
+	engine_unlock();
+	return fault;
+}
+
+int tree_rmdir(const char *path)
+{
+	if (control_has(path))
+		return -EPERM;
+	engine_lock();
+	real_sweep();
+	int fault = engine_line("rmdir %s", path);
+	if (fault == 0) {
+		opened_lose(path);
+		watch_forget(path);
+		owner_forget(path);
+	}
+	engine_unlock();
+	return fault;
+}
+
+int tree_chmod(const char *path, mode_t mode, struct fuse_file_info *fi)
+{
+	struct stat st;
+	char of_open[PATH_MAX_SAID + 32];
+	path = path_of(path, fi, of_open, sizeof of_open);
+	int fault = path ? tree_getattr(path, &st, fi) : -ENOENT;
+	if (fault || control_has(path))
+		return fault ? fault : -EPERM;
+	st.st_mode = mode;
+	engine_lock();
+	fault = owner_set(path, &st);
+	engine_unlock();
+	return fault;
+}
+
+int tree_chown(const char *path, uid_t uid, gid_t gid, struct fuse_file_info *fi)
+{
+	struct stat st;
+	char of_open[PATH_MAX_SAID + 32];
+	path = path_of(path, fi, of_open, sizeof of_open);
+	int fault = path ? tree_getattr(path, &st, fi) : -ENOENT;
+	if (fault || control_has(path))
+		return fault ? fault : -EPERM;
+	if (uid != (uid_t)-1)
+		st.st_uid = uid;
+	if (gid != (gid_t)-1)
+		st.st_gid = gid;
+	engine_lock();
+	fault = owner_set(path, &st);
+	engine_unlock();
+	return fault;
+}
