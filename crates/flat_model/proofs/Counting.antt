@@ -40,7 +40,7 @@ module _ {K : Type 0} {R : K → K → Ordering} (o : IsTotalOrder R) where
   not_itself : (k : K) → is_lt (R k k) ≡ true → ⊥
   not_itself k h = let f : false ≡ true = sym (ap is_lt (itself k)) ∙ h in cc
 
-halves : (a b : Bool) → T (a && b) → T a × T b
+pub halves : (a b : Bool) → T (a && b) → T a × T b
 halves true b h = (tt, h)
 halves false b h = absurd h
 
@@ -95,6 +95,12 @@ prefix_is_group slots s w h g zero n e = let l : n ≡ length h = omega arith in
 prefix_is_group slots s w h g (suc k) n e =
     let up = prefix_is_group slots s w h g k (suc n) (omega arith) in
     ap (is_group s) (sym (parent_take h n (omega arith))) ∙ w.parents (take (suc n) h) up
+
+-- each group above a group is one
+pub groups_above : (slots : ℕ) (s : State) (p q : Path) → WellFormed slots s → is_group s p ≡ true → at_or_below p q ≡ true → is_group s q ≡ true
+groups_above slots s p q w there above =
+    let short = at_or_below_length p q above in
+    ap (is_group s) (at_or_below_take p q above) ∙ prefix_is_group slots s w p there (length p - length q) (length q) (omega arith)
 
 abbrev is_child : Path → Path → Bool
 is_child g p = not (is_root p) && same_path (parent p) g
@@ -233,7 +239,7 @@ less_apart Equal e = cc
 less_apart Greater e = cc
 
 module _ {X : Type 0} where
-  find_behind : (q : ℕ) (es : List (ℕ × X)) → T (below_all nat_cmp q es) → find nat_cmp q es ≡ None
+  pub find_behind : (q : ℕ) (es : List (ℕ × X)) → T (below_all nat_cmp q es) → find nat_cmp q es ≡ None
   find_behind q [] h = refl
   find_behind q (e ∷ es) h =
       let two = front (is_lt (nat_cmp q e.0)) (below_all nat_cmp q es) h in
@@ -312,3 +318,12 @@ populated_is s g = (
       record { pid = f.pid; at = f.at; home = get-entries s.home f.pid ∙ f.home; below = f.passes },
   λ i. is_positive (current s g) (counted_by (λ p. at_or_below p g) (entries s.home) i.pid i.at (sym (get-entries s.home i.pid) ∙ i.home) i.below),
 )
+
+-- nobody is where there is no group
+pub nobody_without_group : (slots : ℕ) (s : State) (p : Path) → WellFormed slots s → is_group s p ≡ false → current s p ≡ 0
+nobody_without_group slots s p w gone = by (current s p) (to_false (populated s p) (λ e.
+    let at = (populated_is s p).0 e in
+    let f : true ≡ false = sym (groups_above slots s at.at p w (w.homes at.pid at.at at.home) at.below) ∙ gone in cc))
+  where
+    by : (n : ℕ) → ltb 0 n ≡ false → n ≡ 0
+    by n e = grind (arith, nat_tests)

@@ -2,23 +2,26 @@
 use Rattle.std.proofs.Common.{◌≡◌, ℕ, ◌+◌, ◌-◌, ◌≤◌, Bool, true, false, cond, not, ◌&&◌, ◌||◌, List, [], ◌∷◌, map, length, Option, Some, None, refl, sym, ap, subst, ◌∙◌, is_some, arith, ltb}
 use Rattle.std.proofs.lemmas.Bool.Decides.{nat_tests}
 use Rattle.std.proofs.lemmas.List.{length-take}
-use Rattle.std.specs.Prelude.{unwrap_or, option_map}
+use Rattle.std.specs.Prelude.{unwrap_or, option_map, max}
+use Rattle.std.proofs.Math.Nat.{le-max_right}
 use Rattle.std.specs.List.{list_any}
 use Rattle.std.specs.Option.{option_or}
 use Rattle.std.specs.declared.cmp.Ordering.{Ordering}
 use Rattle.std.specs.Ordering.{nat_cmp, eq_by_cmp}
 use Rattle.std.specs.Cmp.{nat_cmp_total, IsTotalOrder}
-use Rattle.std.specs.FinMap.{IsAntisymmetric, nat_cmp-IsAntisymmetric, get, insert, remove, retain_keys, entries, keys, values, find, len, from_entries, get-insert, get-remove, get-retain_keys, get-entries, len-insert, len-remove, len-entries, len-empty}
-use Rattle.flat_model.specs.Path.{Path, path_cmp, parent, is_root, strictly_below, same_path}
+use Rattle.std.specs.FinMap.{FinMap, IsAntisymmetric, nat_cmp-IsAntisymmetric, get, insert, remove, retain_keys, entries, keys, values, find, len, from_entries, get-insert, get-remove, get-retain_keys, get-entries, len-insert, len-remove, len-entries, len-empty}
+use Rattle.flat_model.specs.Path.{Path, path_cmp, parent, is_root, at_or_below, strictly_below, same_path}
 use Rattle.flat_model.specs.State.{State, Attr, Limit, fresh}
-use Rattle.flat_model.specs.Counts.{is_group}
+use Rattle.flat_model.specs.Counts.{is_group, current}
 use Rattle.flat_model.specs.File.{LimitFile, PidsMax, MaxDescendants, MaxDepth}
 use Rattle.flat_model.specs.Command.{Command, MakeGroup, RemoveGroup, Fork, Exit, Move, SetLimit, Kill, Show, Locate, Undo, Refusal, Exists, NoSlot, NoGroup, RootFixed, HasChildren, HasProcesses}
 use Rattle.flat_model.specs.Refuse.{refuse}
-use Rattle.flat_model.specs.Step.{refusal, after, home_of, attr_of, lives_in, count_up, counts_for, with_limit, at_each, blocked_make}
+use Rattle.flat_model.specs.Step.{refusal, after, home_of, attr_of, lives_in, count_up, counts_for, with_limit, at_each, blocked_make, raise_peak, raise_peaks}
 use Rattle.flat_model.specs.WellFormed.{WellFormed}
 use Rattle.flat_model.proofs.PathLaws.{path_cmp-IsTotalOrder, path_cmp-IsAntisymmetric, same_path_is, same_path_itself, at_or_below_itself, strictly_below_is, parent_above}
 use Rattle.flat_model.proofs.Maps.{key_of, get-each}
+use Rattle.flat_model.proofs.CountChanges.{count_fewer, count_put_in}
+use Rattle.flat_model.proofs.Counting.{nobody_without_group}
 use Rattle.flat_model.proofs.Refusing.{passed, beyond, affirmed}
 
 some_of : {X : Type 0} (b : Bool) (x : X) (o : Option X) → is_some o ≡ true → is_some (cond b (Some x) o) ≡ true
@@ -52,6 +55,11 @@ even_limit PidsMax value attr h = h
 even_limit MaxDescendants value attr h = h
 even_limit MaxDepth value attr h = h
 
+limit_peak : (file : LimitFile) (value : Limit) (attr : Attr) → (with_limit file value attr).peak ≡ attr.peak
+limit_peak PidsMax value attr = refl
+limit_peak MaxDescendants value attr = refl
+limit_peak MaxDepth value attr = refl
+
 even_own : (o : Option Attr) → ((attr : Attr) → o ≡ Some attr → IsEven attr) → IsEven (unwrap_or o fresh)
 even_own None h = omega arith
 even_own (Some attr) h = h attr refl
@@ -72,8 +80,25 @@ module _ (slots : ℕ) (s : State) (w : WellFormed slots s) where
         | false ↦ λ e. w.totals q attr e
       ] (sym (get-insert path_cmp-IsTotalOrder s.groups p a q) ∙ h)
 
-  with_group : (p : Path) (a : Attr) → is_group s (parent p) ≡ true → IsEven a → len (insert s.groups p a) ≤ slots + 1 → WellFormed slots (record s { groups = insert s.groups p a })
-  with_group p a above even few = record {
+  peak_put : (p : Path) (a : Attr) → (is_root p ≡ false → current s p ≤ a.peak) → (q : Path) (attr : Attr) → get (insert s.groups p a) q ≡ Some attr → is_root q ≡ false → current s q ≤ attr.peak
+  peak_put p a fits q attr h r =
+      elim (eq_by_cmp path_cmp q p) as (λ b. eq_by_cmp path_cmp q p ≡ b → cond b (Some a) (get s.groups q) ≡ Some attr → current s q ≤ attr.peak) [
+        | true ↦ λ t e.
+            let is : q ≡ p = key_of path_cmp-IsAntisymmetric q p t in
+            let same : a ≡ attr = cc in
+            subst (λ (x : Path). current s x ≤ attr.peak) (sym is) (subst (λ (x : Attr). current s p ≤ x.peak) same (fits (ap is_root (sym is) ∙ r)))
+        | false ↦ λ t e. w.peaks q attr e r
+      ] refl (sym (get-insert path_cmp-IsTotalOrder s.groups p a q) ∙ h)
+
+  root_put : (p : Path) (a : Attr) → (is_root p ≡ true → a.peak ≡ 0) → (attr : Attr) → get (insert s.groups p a) [] ≡ Some attr → attr.peak ≡ 0
+  root_put p a bare attr h =
+      elim (eq_by_cmp path_cmp [] p) as (λ b. eq_by_cmp path_cmp [] p ≡ b → cond b (Some a) (get s.groups []) ≡ Some attr → attr.peak ≡ 0) [
+        | true ↦ λ t e. let same : a ≡ attr = cc in ap (λ (x : Attr). x.peak) (sym same) ∙ bare (ap is_root (sym (key_of path_cmp-IsAntisymmetric [] p t)))
+        | false ↦ λ t e. w.root_peak attr e
+      ] refl (sym (get-insert path_cmp-IsTotalOrder s.groups p a []) ∙ h)
+
+  with_group : (p : Path) (a : Attr) → is_group s (parent p) ≡ true → IsEven a → (is_root p ≡ false → current s p ≤ a.peak) → (is_root p ≡ true → a.peak ≡ 0) → len (insert s.groups p a) ≤ slots + 1 → WellFormed slots (record s { groups = insert s.groups p a })
+  with_group p a above even fits bare few = record {
     root = more p a [] w.root;
     parents = λ q h. more p a (parent q) (elim (eq_by_cmp path_cmp q p) as (λ b. eq_by_cmp path_cmp q p ≡ b → is_group s (parent q) ≡ true) [
       | true ↦ λ t. ap (λ x. is_group s (parent x)) (key_of path_cmp-IsAntisymmetric q p t) ∙ above
@@ -82,46 +107,39 @@ module _ (slots : ℕ) (s : State) (w : WellFormed slots s) where
     homes = λ pid q h. more p a q (w.homes pid q h);
     few = few;
     totals = even_put p a even;
+    peaks = peak_put p a fits;
+    root_peak = root_put p a bare;
   }
 
-  -- ---- homes
-  with_home : (pid : ℕ) (p : Path) → is_group s p ≡ true → WellFormed slots (record s { home = insert s.home pid p })
-  with_home pid p g = record {
+  -- ---- homes that were there already
+  fewer : (h : FinMap nat_cmp Path) → ((k : ℕ) (q : Path) → get h k ≡ Some q → get s.home k ≡ Some q) → WellFormed slots (record s { home = h })
+  fewer h among = record {
     root = w.root;
     parents = w.parents;
-    homes = λ k q h. elim (eq_by_cmp nat_cmp k pid) as (λ b. cond b (Some p) (get s.home k) ≡ Some q → is_group s q ≡ true) [
-      | true ↦ λ e. subst (λ x. is_group s x ≡ true) (let same : p ≡ q = cc in same) g
-      | false ↦ λ e. w.homes k q e
-    ] (sym (get-insert nat_cmp_total s.home pid p k) ∙ h);
+    homes = λ k q e. w.homes k q (among k q e);
     few = w.few;
     totals = w.totals;
+    peaks = λ q attr e r.
+        let less = count_fewer (λ p. at_or_below p q) h s.home among in
+        let was = w.peaks q attr e r in omega (arith, less, was);
+    root_peak = w.root_peak;
   }
 
-  fewer : (keep : ℕ → Bool) → WellFormed slots (record s { home = retain_keys s.home keep })
-  fewer keep = record {
-    root = w.root;
-    parents = w.parents;
-    homes = λ k q h. elim (keep k) as (λ b. cond b (get s.home k) None ≡ Some q → is_group s q ≡ true) [
-      | true ↦ λ e. w.homes k q e
-      | false ↦ λ e. cc
-    ] (sym (get-retain_keys s.home keep k (λ x t. ap keep (sym (nat_cmp-IsAntisymmetric k x t)))) ∙ h);
-    few = w.few;
-    totals = w.totals;
-  }
+  left_over : (keep : ℕ → Bool) (k : ℕ) (q : Path) → get (retain_keys s.home keep) k ≡ Some q → get s.home k ≡ Some q
+  left_over keep k q h =
+      elim (keep k) as (λ b. cond b (get s.home k) None ≡ Some q → get s.home k ≡ Some q) [
+        | true ↦ λ e. e
+        | false ↦ λ e. cc
+      ] (sym (get-retain_keys s.home keep k (λ x t. ap keep (sym (nat_cmp-IsAntisymmetric k x t)))) ∙ h)
 
-  without_home : (pid : ℕ) → WellFormed slots (record s { home = remove s.home pid })
-  without_home pid = record {
-    root = w.root;
-    parents = w.parents;
-    homes = λ k q h. elim (eq_by_cmp nat_cmp k pid) as (λ b. cond b None (get s.home k) ≡ Some q → is_group s q ≡ true) [
-      | true ↦ λ e. cc
-      | false ↦ λ e. w.homes k q e
-    ] (sym (get-remove nat_cmp_total s.home pid k) ∙ h);
-    few = w.few;
-    totals = w.totals;
-  }
+  others : (pid k : ℕ) (q : Path) → get (remove s.home pid) k ≡ Some q → get s.home k ≡ Some q
+  others pid k q h =
+      elim (eq_by_cmp nat_cmp k pid) as (λ b. cond b None (get s.home k) ≡ Some q → get s.home k ≡ Some q) [
+        | true ↦ λ e. cc
+        | false ↦ λ e. e
+      ] (sym (get-remove nat_cmp_total s.home pid k) ∙ h)
 
-  -- ---- a counted fork
+  -- ---- each group changed, and none made or taken out
   each_group : (f : Path → Attr → Attr) (q : Path) → is_group s q ≡ is_some (option_map (f q) (get s.groups q))
   each_group f q = by (get s.groups q)
     where
@@ -129,6 +147,63 @@ module _ (slots : ℕ) (s : State) (w : WellFormed slots s) where
       by None = refl
       by (Some a) = refl
 
+  gets : (f : Path → Attr → Attr) (q : Path) → get (at_each f s).groups q ≡ option_map (f q) (get s.groups q)
+  gets f = get-each path_cmp-IsTotalOrder path_cmp-IsAntisymmetric f s.groups
+
+  same_group : (f : Path → Attr → Attr) (q : Path) → is_group (at_each f s) q ≡ is_group s q
+  same_group f q = ap is_some (gets f q) ∙ sym (each_group f q)
+
+  few_each : (f : Path → Attr → Attr) → len (at_each f s).groups ≤ slots + 1
+  few_each f =
+      let made = len-from_entries path_cmp-IsTotalOrder (map (λ e. (e.0, f e.0 e.1)) (entries s.groups)) in
+      let size = length_map {Y = Path × Attr} (λ e. (e.0, f e.0 e.1)) (entries s.groups) ∙ sym (len-entries s.groups) in
+      let few = w.few in omega (arith, made, size, few)
+
+  -- what holds of each group as it is changed
+  at_one : (f : Path → Attr → Attr) (P : Attr → Type 0) (q : Path) → ((x : Attr) → get s.groups q ≡ Some x → P (f q x)) → (attr : Attr) → get (at_each f s).groups q ≡ Some attr → P attr
+  at_one f P q h attr e = by (get s.groups q) h (sym (gets f q) ∙ e)
+    where
+      by : (o : Option Attr) → ((x : Attr) → o ≡ Some x → P (f q x)) → option_map (f q) o ≡ Some attr → P attr
+      by None h e = cc
+      by (Some x) h e = subst P (let same : f q x ≡ attr = cc in same) (h x refl)
+
+  -- ---- a process that comes to a group
+  module _ (pid : ℕ) (p : Path) (there : is_group s p ≡ true) where
+    abbrev come : State
+    come = record s { home = insert s.home pid p }
+
+    at_home : (k : ℕ) (q : Path) → get (insert s.home pid p) k ≡ Some q → is_group s q ≡ true
+    at_home k q h =
+        elim (eq_by_cmp nat_cmp k pid) as (λ b. cond b (Some p) (get s.home k) ≡ Some q → is_group s q ≡ true) [
+          | true ↦ λ e. subst (λ x. is_group s x ≡ true) (let same : p ≡ q = cc in same) there
+          | false ↦ λ e. w.homes k q e
+        ] (sym (get-insert nat_cmp_total s.home pid p k) ∙ h)
+
+    away : (b c : Bool) → (not b && c) ≡ false → b ≡ false → c ≡ false
+    away b c e r = sym (ap (λ x. not x && c) r) ∙ e
+
+    reached : (q : Path) (x : Attr) → get s.groups q ≡ Some x → is_root q ≡ false → current come q ≤ (raise_peak come p q x).peak
+    reached q x e r =
+        elim (counts_for p q) as (λ b. counts_for p q ≡ b → current come q ≤ cond b (max x.peak (current come q)) x.peak) [
+          | true ↦ λ c. le-max_right x.peak (current come q)
+          | false ↦ λ c.
+              let more = count_put_in (λ h. at_or_below h q) s.home pid p in
+              let none : ◌≡◌ {A = ℕ} (cond (at_or_below p q) 1 0) 0 = ap (λ b. cond b 1 0) (away (is_root q) (at_or_below p q) c r) in
+              let was = w.peaks q x e r in omega (arith, more, none, was)
+        ] refl
+
+    with_process : WellFormed slots (raise_peaks p (record s { home = insert s.home pid p }))
+    with_process = record {
+      root = same_group (raise_peak come p) [] ∙ w.root;
+      parents = λ q h. same_group (raise_peak come p) (parent q) ∙ w.parents q (sym (same_group (raise_peak come p) q) ∙ h);
+      homes = λ k q h. same_group (raise_peak come p) q ∙ at_home k q h;
+      few = few_each (raise_peak come p);
+      totals = λ q. at_one (raise_peak come p) IsEven q (w.totals q);
+      peaks = λ q attr e r. at_one (raise_peak come p) (λ (x : Attr). current come q ≤ x.peak) q (λ x h. reached q x h r) attr e;
+      root_peak = at_one (raise_peak come p) (λ (x : Attr). x.peak ≡ 0) [] w.root_peak;
+    }
+
+  -- ---- a counted fork
   -- where the local total rises, the total rises too
   even_up : (a p : Path) (attr : Attr) → is_root a ≡ false → IsEven attr → IsEven (count_up a p attr)
   even_up a p attr not_root h =
@@ -139,24 +214,16 @@ module _ (slots : ℕ) (s : State) (w : WellFormed slots s) where
         | false ↦ λ t. omega arith
       ] refl
 
-  even_each : (a q : Path) (o : Option Attr) → is_root a ≡ false → ((x : Attr) → o ≡ Some x → IsEven x) → (attr : Attr) → option_map (count_up a q) o ≡ Some attr → IsEven attr
-  even_each a q None n h attr e = cc
-  even_each a q (Some x) n h attr e = subst IsEven (let same : count_up a q x ≡ attr = cc in same) (even_up a q x n (h x refl))
-
   pub counted : (a : Path) → is_root a ≡ false → WellFormed slots (at_each (count_up a) s)
-  counted a not_root =
-      let each : (q : Path) → get (at_each (count_up a) s).groups q ≡ option_map (count_up a q) (get s.groups q) = get-each path_cmp-IsTotalOrder path_cmp-IsAntisymmetric (count_up a) s.groups in
-      let same : (q : Path) → is_group (at_each (count_up a) s) q ≡ is_group s q = λ q. ap is_some (each q) ∙ sym (each_group (count_up a) q) in
-      record {
-        root = same [] ∙ w.root;
-        parents = λ p h. same (parent p) ∙ w.parents p (sym (same p) ∙ h);
-        homes = λ pid p h. same p ∙ w.homes pid p h;
-        few =
-            let made = len-from_entries path_cmp-IsTotalOrder (map (λ e. (e.0, count_up a e.0 e.1)) (entries s.groups)) in
-            let size = length_map {Y = Path × Attr} (λ e. (e.0, count_up a e.0 e.1)) (entries s.groups) ∙ sym (len-entries s.groups) in
-            let few = w.few in omega (arith, made, size, few);
-        totals = λ q attr h. even_each a q (get s.groups q) not_root (w.totals q) attr (sym (each q) ∙ h);
-      }
+  counted a not_root = record {
+    root = same_group (count_up a) [] ∙ w.root;
+    parents = λ p h. same_group (count_up a) (parent p) ∙ w.parents p (sym (same_group (count_up a) p) ∙ h);
+    homes = λ pid p h. same_group (count_up a) p ∙ w.homes pid p h;
+    few = few_each (count_up a);
+    totals = λ q. at_one (count_up a) IsEven q (λ x h. even_up a q x not_root (w.totals q x h));
+    peaks = λ q attr e r. at_one (count_up a) (λ (x : Attr). current s q ≤ x.peak) q (λ x h. w.peaks q x h r) attr e;
+    root_peak = at_one (count_up a) (λ (x : Attr). x.peak ≡ 0) [] w.root_peak;
+  }
 
 -- ---- a group taken out
 key_passes : {K X : Type 0} {R : K → K → Ordering} → IsAntisymmetric R → (test : K → Bool) (q : K) (es : List (K × X)) → is_some (find R q es) ≡ true → test q ≡ true → list_any test (map (λ e. e.0) es) ≡ true
@@ -235,6 +302,8 @@ module _ (slots : ℕ) (s : State) (w : WellFormed slots s) (p : Path) (not_root
         let f : true ≡ false = sym (value_passes nat_cmp (λ a. same_path a p) pid q (entries s.home) (sym (get-entries s.home pid) ∙ h) (ap (λ a. same_path a p) e ∙ same_path_itself p)) ∙ no_member in cc);
     few = subst (λ n. n ≤ slots + 1) (sym (len-remove path_cmp-IsTotalOrder s.groups p)) (one_less _ _ _ w.few);
     totals = λ q attr h. w.totals q attr (there_before q attr h);
+    peaks = λ q attr h r. w.peaks q attr (there_before q attr h) r;
+    root_peak = λ attr h. w.root_peak attr (there_before [] attr h);
   }
 
 four : (a b c d : Bool) (p : Path) → refuse a RootFixed (refuse b (NoGroup p) (refuse c HasChildren (refuse d HasProcesses None))) ≡ None → (a ≡ false) × (b ≡ false) × (c ≡ false) × (d ≡ false)
@@ -245,11 +314,11 @@ four false false false true p e = cc
 four false false false false p e = (refl, refl, refl, refl)
 
 -- the tests that a new group passes
-makes : (a b : Bool) (q : Path) (o : Option Refusal) (d : Bool) → refuse a Exists (refuse b (NoGroup q) (option_or o (refuse d NoSlot None))) ≡ None → (b ≡ false) × (d ≡ false)
+makes : (a b : Bool) (q : Path) (o : Option Refusal) (d : Bool) → refuse a Exists (refuse b (NoGroup q) (option_or o (refuse d NoSlot None))) ≡ None → (b ≡ false) × (d ≡ false) × (a ≡ false)
 makes true b q o d e = cc
 makes false true q o d e = cc
 makes false false q None true e = cc
-makes false false q None false e = (refl, refl)
+makes false false q None false e = (refl, refl, refl)
 makes false false q (Some r) d e = cc
 
 room : (slots n : ℕ) → ltb slots n ≡ false → n ≤ slots
@@ -262,25 +331,37 @@ kept_len b n e = ap (λ c. cond c n (n + 1)) e
 pub kept : (slots : ℕ) (s : State) (c : Command) → WellFormed slots s → refusal slots s c ≡ None → WellFormed slots (after s c)
 kept slots s (MakeGroup p) w e =
     let tests = makes (is_group s p) (not (is_group s (parent p))) (parent p) (blocked_make s p) (ltb slots (len s.groups)) e in
-    with_group slots s w p fresh (affirmed _ tests.0) (omega arith)
+    let nobody = nobody_without_group slots s p w tests.2 in
+    with_group slots s w p fresh (affirmed _ tests.0) (omega arith) (λ _. omega (arith, nobody)) (λ _. refl)
     (subst (λ n. n ≤ slots + 1) (sym (len-insert path_cmp-IsTotalOrder s.groups p fresh))
     (one_more (is_group s p) _ _ (room slots (len s.groups) tests.1)))
 kept slots s (RemoveGroup p) w e =
     let tests = four (is_root p) (not (is_group s p)) (list_any (λ q. strictly_below q p) (keys s.groups)) (list_any (λ q. same_path q p) (values s.home)) p e in
     without_group slots s w p tests.0 tests.2 tests.3
-kept slots s (Fork from child) w e = with_home slots s w child (home_of s from) (at_home (get s.home from) refl (affirmed _ (passed _ _ _ e)))
+kept slots s (Fork from child) w e = with_process slots s w child (home_of s from) (at_home (get s.home from) refl (affirmed _ (passed _ _ _ e)))
   where
     at_home : (o : Option Path) → get s.home from ≡ o → is_some o ≡ true → is_group s (unwrap_or o []) ≡ true
     at_home None is h = cc
     at_home (Some q) is h = w.homes from q is
-kept slots s (Exit pid) w e = without_home slots s w pid
-kept slots s (Move p pid) w e = with_home slots s w pid p (affirmed _ (passed _ _ _ e))
+kept slots s (Exit pid) w e = fewer slots s w (remove s.home pid) (others slots s w pid)
+kept slots s (Move p pid) w e = with_process slots s w pid p (affirmed _ (passed _ _ _ e))
 kept slots s (SetLimit p file value) w e =
     let there = affirmed _ (passed _ _ _ (beyond _ _ _ e)) in
     with_group slots s w p _ (w.parents p there)
     (even_limit file value _ (even_own (get s.groups p) (w.totals p)))
+    (λ r. subst (λ n. current s p ≤ n) (sym (limit_peak file value (attr_of s p))) (own_peak (get s.groups p) refl there r))
+    (λ r. limit_peak file value (attr_of s p) ∙ bare_root p r (get s.groups p) refl there)
     (subst (λ n. n ≤ slots + 1) (sym (len-insert path_cmp-IsTotalOrder s.groups p (with_limit file value (attr_of s p)) ∙ kept_len _ _ there)) w.few)
-kept slots s (Kill g) w e = fewer slots s w (λ pid. not (lives_in s g pid))
+  where
+    own_peak : (o : Option Attr) → get s.groups p ≡ o → is_some o ≡ true → is_root p ≡ false → current s p ≤ (unwrap_or o fresh).peak
+    own_peak None is h r = cc
+    own_peak (Some x) is h r = w.peaks p x is r
+
+    bare_root : (q : Path) → is_root q ≡ true → (o : Option Attr) → get s.groups q ≡ o → is_some o ≡ true → (unwrap_or o fresh).peak ≡ 0
+    bare_root q r None is h = cc
+    bare_root [] r (Some x) is h = w.root_peak x is
+    bare_root (n ∷ q) r (Some x) is h = cc
+kept slots s (Kill g) w e = fewer slots s w (retain_keys s.home (λ pid. not (lives_in s g pid))) (left_over slots s w (λ pid. not (lives_in s g pid)))
 kept slots s (Show p file) w e = w
 kept slots s (Locate pid) w e = w
 kept slots s Undo w e = w

@@ -6,6 +6,7 @@ pub mod MapValues
 pub mod Sums
 pub mod CountChanges
 pub mod Counting
+pub mod Peaks
 pub mod TakenBack
 pub mod Refusing
 pub mod Kept

@@ -3,20 +3,22 @@ use Rattle.std.proofs.Common.{◌≡◌, ℕ, ◌+◌, ◌-◌, ◌<◌, ◌≤�
 use Rattle.std.proofs.lemmas.Bool.Decides.{nat_tests}
 use Rattle.std.specs.Prelude.{option_map}
 use Rattle.std.specs.Option.{option_or}
-use Rattle.std.specs.FinMap.{get, len, keys, values}
+use Rattle.std.specs.FinMap.{get, insert, len, keys, values}
 use Rattle.std.specs.List.{list_any}
 use Rattle.flat_model.specs.Path.{Path, is_root, parent, at_or_below, strictly_below, same_path, upward}
-use Rattle.flat_model.specs.State.{State, Attr, Limit, Unlimited, At}
+use Rattle.flat_model.specs.State.{State, Attr, Limit, Limits, Unlimited, At}
 use Rattle.flat_model.specs.Counts.{current, descendant_count, is_group, has_process, exceeds, reaches, asks, is_full, blocked_fork}
 use Rattle.flat_model.specs.File.{readable, on_root, is_pids_max}
 use Rattle.flat_model.specs.Command.{Command, MakeGroup, RemoveGroup, Fork, Exit, Move, SetLimit, Kill, Show, Locate, Undo, Refusal, Exists, NoGroup, Descendants, Depth, NoSlot, RootFixed, HasChildren, HasProcesses, NoProcess, PidInUse, OverPidsMax, NoFile, NotReadable}
 use Rattle.flat_model.specs.Refuse.{refuse}
-use Rattle.flat_model.specs.Step.{refusal, after, after_refusal, home_of, limit_met, first_refusal, blocked_make}
+use Rattle.flat_model.specs.Step.{refusal, after, after_refusal, home_of, limit_met, first_refusal, blocked_make, raise_peak}
 use Rattle.flat_model.specs.WellFormed.{WellFormed}
 use Rattle.flat_model.specs.Limiting.{IsLimiting, IsWithinPids}
 use Rattle.flat_model.proofs.PathMembers.{upward_are}
 use Rattle.std.specs.Cmp.{nat_cmp_total}
 use Rattle.flat_model.proofs.CountChanges.{count_inserted}
+use Rattle.flat_model.proofs.PathLaws.{path_cmp-IsTotalOrder, path_cmp-IsAntisymmetric}
+use Rattle.flat_model.proofs.Maps.{get-each}
 use Rattle.flat_model.proofs.Refusing.{absent}
 use Rattle.flat_model.proofs.Nearest.{first_path_found, first_path_none, first_is_nearest}
 use Rattle.flat_model.proofs.Kept.{counted}
@@ -204,7 +206,16 @@ current_forked s from child g free = count_inserted nat_cmp_total (λ p. at_or_b
 pub fork_within : (slots : ℕ) (s : State) (from child : ℕ) → refusal slots s (Fork from child) ≡ None → IsWithinPids (after s (Fork from child)) (home_of s from)
 fork_within slots s from child e a attr m above not_root there limit =
     let tests = fork_passed slots s from child e in
-    let fits = fork_fits s (home_of s from) tests.2 a attr m above not_root there limit in
+    let was = as_before (get s.groups a) (sym (get-each path_cmp-IsTotalOrder path_cmp-IsAntisymmetric (raise_peak come (home_of s from)) s.groups a) ∙ there) in
+    let fits = fork_fits s (home_of s from) tests.2 a was.0 m above not_root was.1 (ap (λ (l : Limits). l.pids) was.2 ∙ limit) in
     let one : ◌≡◌ {A = ℕ} (cond (at_or_below (home_of s from) a) 1 0) 1 = ap (λ b. cond b 1 0) above in
     let more = current_forked s from child a tests.1 in
     omega (arith, fits, one, more)
+  where
+    come : State
+    come = record s { home = insert s.home child (home_of s from) }
+
+    -- its limits are those that it had
+    as_before : (o : Option Attr) → option_map (raise_peak come (home_of s from) a) o ≡ Some attr → (x : Attr) × (o ≡ Some x) × (x.limits ≡ attr.limits)
+    as_before None e = cc
+    as_before (Some x) e = (x, refl, (let same : raise_peak come (home_of s from) a x ≡ attr = cc in ap (λ (y : Attr). y.limits) same))

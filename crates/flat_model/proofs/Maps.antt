@@ -72,6 +72,16 @@ module _ {K X : Type 0} {R : K → K → Ordering} (o : IsTotalOrder R) (same : 
   each_back f g h m = same_map o same _ _ (λ q.
       get-each g (from_entries {R = R} (map (λ e. (e.0, f e.0 e.1)) (entries m))) q ∙ ap (option_map (g q)) (get-each f m q) ∙ undone_at f g h q (get m q))
 
+  -- the same where it takes back what is there
+  back_at : (f g : K → X → X) (q : K) (o : Option X) → ((x : X) → o ≡ Some x → g q (f q x) ≡ x) → option_map (g q) (option_map (f q) o) ≡ o
+  back_at f g q None h = refl
+  back_at f g q (Some x) h = ap Some (h x refl)
+
+  pub each_there_back : (f g : K → X → X) (m : FinMap R X) → ((k : K) (x : X) → get m k ≡ Some x → g k (f k x) ≡ x) →
+      from_entries {R = R} (map (λ e. (e.0, g e.0 e.1)) (entries (from_entries {R = R} (map (λ e. (e.0, f e.0 e.1)) (entries m))))) ≡ m
+  each_there_back f g m h = same_map o same _ _ (λ q.
+      get-each g (from_entries {R = R} (map (λ e. (e.0, f e.0 e.1)) (entries m))) q ∙ ap (option_map (g q)) (get-each f m q) ∙ back_at f g q (get m q) (h q))
+
 get-place_all : (es : List (ℕ × Path)) (home : FinMap nat_cmp Path) (q : ℕ) → get (place_all es home) q ≡ option_or (find nat_cmp q es) (get home q)
 get-place_all [] home q = refl
 get-place_all (e ∷ es) home q =

@@ -3,7 +3,7 @@ use Rattle.std.proofs.Common.{◌≡◌, ℕ, ◌+◌, ◌≤◌, Bool, true, fa
 use Rattle.std.specs.Cmp.{nat_cmp_total}
 use Rattle.std.specs.Ordering.{nat_cmp, eq_by_cmp}
 use Rattle.std.specs.FinMap.{get, empty, len, get-insert, get-empty, len-insert, len-empty}
-use Rattle.flat_model.specs.Path.{Path, path_cmp, parent}
+use Rattle.flat_model.specs.Path.{Path, path_cmp, parent, is_root}
 use Rattle.flat_model.specs.State.{State, Attr, start, fresh}
 use Rattle.flat_model.specs.Counts.{is_group}
 use Rattle.flat_model.specs.Command.{Command, Refusal, is_undo, changes, is_counted}
@@ -51,6 +51,8 @@ start_well_formed slots = record {
       let one = at_most_one (is_some (get (empty {X = Attr} {R = path_cmp}) [])) (len (empty {X = Attr} {R = path_cmp})) (len-empty path_cmp Attr) in
       omega (arith, e, one);
   totals = λ p attr h. subst (λ (a : Attr). a.local ≤ a.total) (only_root p attr h).1 (omega arith);
+  peaks = λ p attr h r. let f : true ≡ false = sym (ap is_root (only_root p attr h).0) ∙ r in cc;
+  root_peak = λ attr h. ap (λ (a : Attr). a.peak) (sym (only_root [] attr h).1);
 }
 
 module _ (slots : ℕ) where

@@ -1,5 +1,5 @@
 -- Each recorded command, taken back by its record, leaves the state as it was.
-use Rattle.std.proofs.Common.{◌≡◌, ℕ, ◌+◌, ◌-◌, Bool, true, false, cond, not, Option, Some, None, refl, sym, ap, ◌∙◌, arith}
+use Rattle.std.proofs.Common.{◌≡◌, ℕ, ◌+◌, ◌-◌, Bool, true, false, cond, not, [], Option, Some, None, refl, sym, ap, ◌∙◌, arith}
 use Rattle.std.specs.Prelude.{unwrap_or, is_some}
 use Rattle.std.specs.Ordering.{nat_cmp}
 use Rattle.std.specs.Cmp.{nat_cmp_total}
@@ -8,11 +8,12 @@ use Rattle.flat_model.specs.Path.{Path, path_cmp, same_path}
 use Rattle.flat_model.specs.State.{State, Attr, Limit, fresh}
 use Rattle.flat_model.specs.File.{LimitFile, PidsMax, MaxDescendants, MaxDepth}
 use Rattle.flat_model.specs.Command.{Command, MakeGroup, RemoveGroup, Fork, Exit, Move, SetLimit, Kill, Show, Locate, Undo, Refusal, Exists, NoGroup, Descendants, Depth, NoSlot, RootFixed, HasChildren, HasProcesses, NoProcess, PidInUse, OverPidsMax, NoFile, NotReadable, changes, is_counted}
-use Rattle.flat_model.specs.Step.{refusal, after, after_refusal, count_up, count_down, with_limit, limit_at, attr_of, home_of, lives_in, counts_for}
+use Rattle.flat_model.specs.Step.{refusal, after, after_refusal, count_up, count_down, with_limit, limit_at, attr_of, home_of, lives_in, counts_for, raise_peaks, peaks_upward, set_peaks}
 use Rattle.flat_model.specs.Refuse.{refuse}
 use Rattle.flat_model.specs.Inverse.{Inverse, Made, Removed, Forked, Exited, Moved, Limited, Counted, Killed, back, inverse, inverse_of_refusal, lost}
 use Rattle.flat_model.proofs.PathLaws.{path_cmp-IsTotalOrder, path_cmp-IsAntisymmetric}
 use Rattle.flat_model.proofs.Maps.{remove_insert, insert_remove, insert_insert, each_back, place_lost, get-own}
+use Rattle.flat_model.proofs.Peaks as peaks
 
 -- a test that was passed
 passed : (b : Bool) (r : Refusal) (rest : Option Refusal) → refuse b r rest ≡ None → b ≡ false
@@ -62,18 +63,26 @@ groups_back s g e = ap (λ (x : FinMap path_cmp Attr). record s { groups = x }) 
 homes_back : (s : State) (h : FinMap nat_cmp Path) → h ≡ s.home → record s { home = h } ≡ s
 homes_back s h e = ap (λ (x : FinMap nat_cmp Path). record s { home = x }) e
 
+-- a process that came to a group, taken away again, with the peaks that were there
+come_back : (s : State) (pid : ℕ) (a : Path) (h : FinMap nat_cmp Path) → h ≡ s.home →
+    set_peaks (home_of (raise_peaks a (record s { home = insert s.home pid a })) pid) (peaks_upward s a) (record (raise_peaks a (record s { home = insert s.home pid a })) { home = h }) ≡ s
+come_back s pid a h was =
+    ap (λ (o : Option Path). set_peaks (unwrap_or o []) (peaks_upward s a) (record (raise_peaks a (record s { home = insert s.home pid a })) { home = h }))
+    (get-own nat_cmp_total nat_cmp-IsAntisymmetric s.home pid a)
+    ∙ (λ i. record { groups = peaks.groups_back s (record s { home = insert s.home pid a }) a refl i; home = was i })
+
 -- an accepted command, taken back by its record
 pub back_accepted : (slots : ℕ) (s : State) (c : Command) (i : Inverse) → refusal slots s c ≡ None → inverse s c ≡ Some i → back i (after s c) ≡ s
 back_accepted slots s (MakeGroup p) i e is = by_record (Made p) i s _ is
     (groups_back s _ (remove_insert path_cmp-IsTotalOrder path_cmp-IsAntisymmetric s.groups p fresh (absent _ (passed _ _ _ e))))
 back_accepted slots s (RemoveGroup p) i e is = by_record (Removed p (attr_of s p)) i s _ is
     (groups_back s _ (insert_remove path_cmp-IsTotalOrder path_cmp-IsAntisymmetric s.groups p (attr_of s p) (there _ _ (passed _ _ _ (beyond _ _ _ e)))))
-back_accepted slots s (Fork from child) i e is = by_record (Forked child) i s _ is
-    (homes_back s _ (remove_insert nat_cmp_total nat_cmp-IsAntisymmetric s.home child (home_of s from) (absent _ (passed _ _ _ (beyond _ _ _ e)))))
+back_accepted slots s (Fork from child) i e is = by_record (Forked child (peaks_upward s (home_of s from))) i s _ is
+    (come_back s child (home_of s from) _ (remove_insert nat_cmp_total nat_cmp-IsAntisymmetric s.home child (home_of s from) (absent _ (passed _ _ _ (beyond _ _ _ e)))))
 back_accepted slots s (Exit pid) i e is = by_record (Exited pid (home_of s pid)) i s _ is
     (homes_back s _ (insert_remove nat_cmp_total nat_cmp-IsAntisymmetric s.home pid (home_of s pid) (there _ _ (passed _ _ _ e))))
-back_accepted slots s (Move p pid) i e is = by_record (Moved pid (home_of s pid)) i s _ is
-    (homes_back s _ (insert_insert nat_cmp_total nat_cmp-IsAntisymmetric s.home pid (home_of s pid) p (there _ _ (passed _ _ _ (beyond _ _ _ e)))))
+back_accepted slots s (Move p pid) i e is = by_record (Moved pid (home_of s pid) (peaks_upward s p)) i s _ is
+    (come_back s pid p _ (insert_insert nat_cmp_total nat_cmp-IsAntisymmetric s.home pid (home_of s pid) p (there _ _ (passed _ _ _ (beyond _ _ _ e)))))
 back_accepted slots s (SetLimit p file value) i e is = by_record (Limited p file (limit_at file (attr_of s p))) i s _ is
     (let there_is : get s.groups p ≡ Some (attr_of s p) = there _ _ (passed _ _ _ (beyond _ _ _ e)) in
     groups_back s _

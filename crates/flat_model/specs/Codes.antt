@@ -32,8 +32,8 @@ limits_code =
 
 abbrev pub attr_code : Coded Attr
 attr_code =
-    code_by (Limits × (ℕ × ℕ)) (coded× limits_code (coded× coded_ℕ coded_ℕ))
-    (λ a. (a.limits, (a.local, a.total))) (λ t. record { limits = t.0; local = t.1.0; total = t.1.1 }) (λ _. refl)
+    code_by (Limits × (ℕ × (ℕ × ℕ))) (coded× limits_code (coded× coded_ℕ (coded× coded_ℕ coded_ℕ)))
+    (λ a. (a.limits, (a.local, (a.total, a.peak)))) (λ t. record { limits = t.0; local = t.1.0; total = t.1.1.0; peak = t.1.1.1 }) (λ _. refl)
 
 abbrev pub state_code : Coded State
 state_code =

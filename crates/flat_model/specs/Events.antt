@@ -9,6 +9,7 @@ use Rattle.flat_model.specs.Machine.{Machine}
 -- the group at p had the attributes x and has y, since a has refused one fork more: the local total of a alone rises by one, and the total of a and of each group above it but the root
 pub record IsCounted (a p : Path) (x y : Attr) : Type 0 where
   pub limits : y.limits ≡ x.limits
+  pub peak : y.peak ≡ x.peak
   pub local : p ≡ a → y.local ≡ x.local + 1
   pub local_else : p ≢ a → y.local ≡ x.local
   pub total : HasPrefix a p → p ≢ [] → y.total ≡ x.total + 1

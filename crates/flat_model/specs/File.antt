@@ -16,6 +16,7 @@ pub data File : Type 0 where
   LimitOf : LimitFile → File
   KillFile : File
   PidsCurrent : File
+  PidsPeak : File
   PidsEvents : File
   PidsEventsLocal : File
   deriving Discrete as File-discrete
@@ -29,11 +30,12 @@ file_name (LimitOf MaxDepth) = codes "cgroup.max.depth"
 file_name KillFile = codes "cgroup.kill"
 file_name (LimitOf PidsMax) = codes "pids.max"
 file_name PidsCurrent = codes "pids.current"
+file_name PidsPeak = codes "pids.peak"
 file_name PidsEvents = codes "pids.events"
 file_name PidsEventsLocal = codes "pids.events.local"
 
 abbrev pub all_files : List File
-all_files = Procs ∷ Events ∷ Stat ∷ LimitOf MaxDescendants ∷ LimitOf MaxDepth ∷ KillFile ∷ LimitOf PidsMax ∷ PidsCurrent ∷ PidsEvents ∷ PidsEventsLocal ∷ []
+all_files = Procs ∷ Events ∷ Stat ∷ LimitOf MaxDescendants ∷ LimitOf MaxDepth ∷ KillFile ∷ LimitOf PidsMax ∷ PidsCurrent ∷ PidsPeak ∷ PidsEvents ∷ PidsEventsLocal ∷ []
 
 -- the file of that name
 abbrev pub file_named : List ℕ → Option File
@@ -52,6 +54,7 @@ on_root Stat = true
 on_root (LimitOf file) = not (is_pids_max file)
 on_root KillFile = false
 on_root PidsCurrent = false
+on_root PidsPeak = false
 on_root PidsEvents = false
 on_root PidsEventsLocal = false
 
@@ -62,6 +65,7 @@ readable Stat = true
 readable (LimitOf file) = true
 readable KillFile = false
 readable PidsCurrent = true
+readable PidsPeak = true
 readable PidsEvents = true
 readable PidsEventsLocal = true
 
@@ -79,6 +83,7 @@ value_kind Stat = None
 value_kind (LimitOf file) = Some (LimitValue file)
 value_kind KillFile = Some KillValue
 value_kind PidsCurrent = None
+value_kind PidsPeak = None
 value_kind PidsEvents = None
 value_kind PidsEventsLocal = None
 

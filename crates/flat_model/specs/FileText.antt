@@ -4,7 +4,7 @@ use Rattle.flat_model.specs.Path.{Path}
 use Rattle.flat_model.specs.PathText.{path_text}
 use Rattle.flat_model.specs.State.{State, Limit, Unlimited, At}
 use Rattle.flat_model.specs.Counts.{current, populated, descendant_count, members}
-use Rattle.flat_model.specs.File.{File, Procs, Events, Stat, LimitOf, KillFile, PidsCurrent, PidsEvents, PidsEventsLocal}
+use Rattle.flat_model.specs.File.{File, Procs, Events, Stat, LimitOf, KillFile, PidsCurrent, PidsPeak, PidsEvents, PidsEventsLocal}
 use Rattle.flat_model.specs.Step.{home_of, attr_of, limit_at}
 
 abbrev pub line : List ℕ → List ℕ
@@ -24,6 +24,7 @@ file_text s g Stat = line (codes "nr_descendants " ++ decimal (descendant_count 
 file_text s g (LimitOf file) = line (limit_text (limit_at file (attr_of s g)))
 file_text s g KillFile = []
 file_text s g PidsCurrent = line (decimal (current s g))
+file_text s g PidsPeak = line (decimal (attr_of s g).peak)
 file_text s g PidsEvents = line (codes "max " ++ decimal (attr_of s g).total)
 file_text s g PidsEventsLocal = line (codes "max " ++ decimal (attr_of s g).local)
 

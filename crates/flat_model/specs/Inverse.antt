@@ -6,16 +6,18 @@ use Rattle.flat_model.specs.Path.{Path}
 use Rattle.flat_model.specs.State.{State, Attr, Limit}
 use Rattle.flat_model.specs.File.{LimitFile}
 use Rattle.flat_model.specs.Command.{Command, MakeGroup, RemoveGroup, Fork, Exit, Move, SetLimit, Kill, Show, Locate, Undo, Refusal, Exists, NoGroup, Descendants, Depth, NoSlot, RootFixed, HasChildren, HasProcesses, NoProcess, PidInUse, OverPidsMax, NoFile, NotReadable}
-use Rattle.flat_model.specs.Step.{at_each, count_down, set_limit, home_of, attr_of, limit_at, lives_in}
+use Rattle.flat_model.specs.Step.{at_each, count_down, set_limit, peaks_upward, set_peaks, home_of, attr_of, limit_at, lives_in}
 
 pub data Inverse : Type 0 where
   Made : Path → Inverse
   -- with the attributes that the group had
   Removed : Path → Attr → Inverse
-  Forked : ℕ → Inverse
+  -- with the peaks that its home and the groups above it had, from there upward, the root left out
+  Forked : ℕ → List ℕ → Inverse
   -- with the home that the process had
   Exited : ℕ → Path → Inverse
-  Moved : ℕ → Path → Inverse
+  -- with the home that the process had, and the peaks that its new home and the groups above it had
+  Moved : ℕ → Path → List ℕ → Inverse
   -- with the limit that stood there
   Limited : Path → LimitFile → Limit → Inverse
   -- a fork refused by this group's `pids.max`
@@ -32,9 +34,9 @@ place_all (e ∷ es) home = insert (place_all es home) e.0 e.1
 abbrev pub back : Inverse → State → State
 back (Made p) s = record s { groups = remove s.groups p }
 back (Removed p attr) s = record s { groups = insert s.groups p attr }
-back (Forked pid) s = record s { home = remove s.home pid }
+back (Forked pid peaks) s = set_peaks (home_of s pid) peaks (record s { home = remove s.home pid })
 back (Exited pid p) s = record s { home = insert s.home pid p }
-back (Moved pid p) s = record s { home = insert s.home pid p }
+back (Moved pid p peaks) s = set_peaks (home_of s pid) peaks (record s { home = insert s.home pid p })
 back (Limited p file value) s = set_limit p file value s
 back (Counted a) s = at_each (count_down a) s
 back (Killed lost) s = record s { home = place_all lost s.home }
@@ -47,9 +49,9 @@ lost s g = entries (retain_keys s.home (lives_in s g))
 abbrev pub inverse : State → Command → Option Inverse
 inverse s (MakeGroup p) = Some (Made p)
 inverse s (RemoveGroup p) = Some (Removed p (attr_of s p))
-inverse s (Fork from child) = Some (Forked child)
+inverse s (Fork from child) = Some (Forked child (peaks_upward s (home_of s from)))
 inverse s (Exit pid) = Some (Exited pid (home_of s pid))
-inverse s (Move p pid) = Some (Moved pid (home_of s pid))
+inverse s (Move p pid) = Some (Moved pid (home_of s pid) (peaks_upward s p))
 inverse s (SetLimit p file value) = Some (Limited p file (limit_at file (attr_of s p)))
 inverse s (Kill g) = Some (Killed (lost s g))
 inverse s (Show p file) = None

@@ -14,6 +14,7 @@ pub mod Machine
 pub mod WellFormed
 pub mod Limiting
 pub mod Events
+pub mod Peaks
 pub mod Log
 pub mod Audit
 pub mod Trace

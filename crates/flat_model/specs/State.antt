@@ -22,6 +22,8 @@ pub record Attr : Type 0 where
   pub local : ℕ
   -- those and the forks refused by the `pids.max` of a group below it
   pub total : ℕ
+  -- the most processes that the group and those below it have had at once; the root's stays 0
+  pub peak : ℕ
 
 -- a process is a number, and its home is the group that it belongs to
 pub record State : Type 0 where
@@ -33,7 +35,7 @@ no_limits = record { pids = Unlimited; descendants = Unlimited; depth = Unlimite
 
 -- a group as it is made
 abbrev pub fresh : Attr
-fresh = record { limits = no_limits; local = 0; total = 0 }
+fresh = record { limits = no_limits; local = 0; total = 0; peak = 0 }
 
 -- the root alone, and process 1 in it
 abbrev pub start : State

@@ -1,12 +1,12 @@
 -- One command on the state: the first refusal that holds, in the order of the rules, or else what the command leaves.
-use Rattle.std.specs.Prelude.{ℕ, ◌+◌, ◌-◌, Bool, false, cond, ◌&&◌, not, List, [], ◌∷◌, length, ltb, Option, Some, None, map, option_map, unwrap_or}
+use Rattle.std.specs.Prelude.{ℕ, ◌+◌, ◌-◌, max, Bool, false, cond, ◌&&◌, not, List, [], ◌∷◌, length, get_or, take, ltb, Option, Some, None, map, option_map, unwrap_or}
 use Rattle.std.specs.Option.{option_or}
 use Rattle.std.specs.List.{list_any}
 use Rattle.std.specs.FinMap.{get, insert, remove, retain_keys, from_entries, len, entries, keys, values}
 use Rattle.flat_model.specs.Refuse.{refuse}
 use Rattle.flat_model.specs.Path.{Path, at_or_below, strictly_below, same_path, is_root, parent, upward}
 use Rattle.flat_model.specs.State.{State, Attr, Limit, fresh}
-use Rattle.flat_model.specs.Counts.{descendant_count, is_group, has_process, reaches, asks, blocked_fork}
+use Rattle.flat_model.specs.Counts.{current, descendant_count, is_group, has_process, reaches, asks, blocked_fork}
 use Rattle.flat_model.specs.File.{LimitFile, PidsMax, MaxDescendants, MaxDepth, is_pids_max, readable, on_root}
 use Rattle.flat_model.specs.Command.{Command, MakeGroup, RemoveGroup, Fork, Exit, Move, SetLimit, Kill, Show, Locate, Undo, Refusal, Exists, NoGroup, Descendants, Depth, NoSlot, RootFixed, HasChildren, HasProcesses, NoProcess, PidInUse, OverPidsMax, NoFile, NotReadable}
 
@@ -94,26 +94,46 @@ is_within g (Some p) = at_or_below p g
 abbrev pub lives_in : State → Path → ℕ → Bool
 lives_in s g pid = is_within g (get s.home pid)
 
+-- each group with the attributes that f makes of its path and of what it had
+abbrev pub at_each : (Path → Attr → Attr) → State → State
+at_each f s = record s { groups = from_entries (map (λ e. (e.0, f e.0 e.1)) (entries s.groups)) }
+
+-- whether p counts what happens in a, events and processes: p is a or a group above it, but not the root
+abbrev pub counts_for : Path → Path → Bool
+counts_for a p = not (is_root p) && at_or_below a p
+
+-- the attributes of p once a process has come to a, which stands in s already: the peak is no lower than the count
+abbrev pub raise_peak : State → Path → Path → Attr → Attr
+raise_peak s a p attr = record attr { peak = cond (counts_for a p) (max attr.peak (current s p)) attr.peak }
+
+-- the state that a process has come to a in, with the peaks raised
+abbrev pub raise_peaks : Path → State → State
+raise_peaks a s = at_each (raise_peak s a) s
+
+-- the peaks of the groups from p upward, the root left out
+abbrev pub peaks_upward : State → Path → List ℕ
+peaks_upward s p = map (λ q. (attr_of s q).peak) (take (length p) (upward p))
+
+-- the attributes of p with its peak among those of the groups from a upward
+abbrev pub set_peak : Path → List ℕ → Path → Attr → Attr
+set_peak a peaks p attr = record attr { peak = cond (counts_for a p) (get_or peaks (length a - length p) attr.peak) attr.peak }
+
+-- these peaks along the groups from a upward, the root left out
+abbrev pub set_peaks : Path → List ℕ → State → State
+set_peaks a peaks s = at_each (set_peak a peaks) s
+
 -- what an accepted command leaves
 abbrev pub after : State → Command → State
 after s (MakeGroup p) = record s { groups = insert s.groups p fresh }
 after s (RemoveGroup p) = record s { groups = remove s.groups p }
-after s (Fork from child) = record s { home = insert s.home child (home_of s from) }
+after s (Fork from child) = raise_peaks (home_of s from) (record s { home = insert s.home child (home_of s from) })
 after s (Exit pid) = record s { home = remove s.home pid }
-after s (Move p pid) = record s { home = insert s.home pid p }
+after s (Move p pid) = raise_peaks p (record s { home = insert s.home pid p })
 after s (SetLimit p file value) = set_limit p file value s
 after s (Kill g) = record s { home = retain_keys s.home (λ pid. not (lives_in s g pid)) }
 after s (Show p file) = s
 after s (Locate pid) = s
 after s Undo = s
-
--- each group with the attributes that f makes of its path and of what it had
-abbrev pub at_each : (Path → Attr → Attr) → State → State
-at_each f s = record s { groups = from_entries (map (λ e. (e.0, f e.0 e.1)) (entries s.groups)) }
-
--- whether the event total of p counts a fork refused by a: p is a or a group above it, but not the root
-abbrev pub counts_for : Path → Path → Bool
-counts_for a p = not (is_root p) && at_or_below a p
 
 -- the attributes of p when a has refused one fork more
 abbrev pub count_up : Path → Path → Attr → Attr

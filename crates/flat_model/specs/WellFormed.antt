@@ -1,9 +1,9 @@
 -- What holds of every state that commands reach.
-use Rattle.std.specs.Prelude.{◌≡◌, ℕ, ◌+◌, ◌≤◌, true, Some, [], List, ◌∷◌}
+use Rattle.std.specs.Prelude.{◌≡◌, ℕ, ◌+◌, ◌≤◌, true, false, Some, [], List, ◌∷◌}
 use Rattle.std.specs.FinMap.{get, len}
-use Rattle.flat_model.specs.Path.{Path, parent}
+use Rattle.flat_model.specs.Path.{Path, parent, is_root}
 use Rattle.flat_model.specs.State.{State, Attr}
-use Rattle.flat_model.specs.Counts.{is_group}
+use Rattle.flat_model.specs.Counts.{is_group, current}
 use Rattle.flat_model.specs.Command.{Command}
 use Rattle.flat_model.specs.Machine.{Machine}
 
@@ -15,6 +15,9 @@ pub record WellFormed (slots : ℕ) (s : State) : Type 0 where
   -- as many groups beside the root as there are slots, at the most
   pub few : len s.groups ≤ slots + 1
   pub totals : (p : Path) (attr : Attr) → get s.groups p ≡ Some attr → attr.local ≤ attr.total
+  -- a group but the root has had at once as many processes as there are now, and the root has no peak
+  pub peaks : (p : Path) (attr : Attr) → get s.groups p ≡ Some attr → is_root p ≡ false → current s p ≤ attr.peak
+  pub root_peak : (attr : Attr) → get s.groups [] ≡ Some attr → attr.peak ≡ 0
 
 abbrev pub PastWellFormed : ℕ → List (Command × State) → Type 0
 PastWellFormed slots [] = Unit {0}

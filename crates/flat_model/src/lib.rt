@@ -7,7 +7,7 @@
 //! what it leaves.
 //!
 //! - `Path`, `PathText`: paths, their texts, and the first fault of a text that is none.
-//! - `State`, `Counts`: groups, limits, event totals, homes; `pids.current`, `populated`,
+//! - `State`, `Counts`: groups, limits, event totals, peaks, homes; `pids.current`, `populated`,
 //!   descendants, members.
 //! - `File`, `Command`, `Step`: the interface files, the commands, what refuses them and what they
 //!   leave.
@@ -16,8 +16,8 @@
 //!   up to `answers`, which says what is answered to a trace.
 //! - `Log`, `Audit`: the log of several sessions; receipts that are its entries, each once, and the
 //!   first fault where they are not.
-//! - `WellFormed`, `Limiting`, `Events`: what holds of every state that commands reach, what the
-//!   limits promise, and what is counted of refused forks.
+//! - `WellFormed`, `Limiting`, `Events`, `Peaks`: what holds of every state that commands reach, what
+//!   the limits promise, what is counted of refused forks, and what becomes of peaks.
 //!
 //! Each bound stands once: the names in a path, the bytes of a name and of a path in `PathText`,
 //! pids and limits in `Values`, a line and a trace in `Trace`. The number of slots is a parameter:

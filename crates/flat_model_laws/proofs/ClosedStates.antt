@@ -6,22 +6,14 @@ use Rattle.std.specs.Option.{option_or}
 use Rattle.std.specs.FinMap.{get, len}
 use Rattle.flat_model.specs.Path.{Path, parent, at_or_below, is_root, upward}
 use Rattle.flat_model.specs.State.{State}
-use Rattle.flat_model.specs.Counts.{is_group, asks}
+use Rattle.flat_model.specs.Counts.{is_group, current, asks}
 use Rattle.flat_model.specs.File.{Procs}
 use Rattle.flat_model.specs.Command.{MakeGroup, Show, Refusal, Exists, NoGroup, Descendants, Depth, NoSlot, NoFile}
 use Rattle.flat_model.specs.Refuse.{refuse}
 use Rattle.flat_model.specs.Step.{refusal, home_of, limit_met, blocked_make}
 use Rattle.flat_model.specs.WellFormed.{WellFormed}
-use Rattle.flat_model.proofs.PathLaws.{at_or_below_take, at_or_below_length}
-use Rattle.flat_model.proofs.Counting.{prefix_is_group}
 use Rattle.flat_model_laws.proofs.HierarchyLimits.{counts, deepens, refused_at}
 use Rattle.flat_model_laws.proofs.NearestLaws.{asks_not}
-
--- each group above a group is one
-pub groups_above : (slots : ℕ) (s : State) (p q : Path) → WellFormed slots s → is_group s p ≡ true → at_or_below p q ≡ true → is_group s q ≡ true
-groups_above slots s p q w there above =
-    let short = at_or_below_length p q above in
-    ap (is_group s) (at_or_below_take p q above) ∙ prefix_is_group slots s w p there (length p - length q) (length q) (omega arith)
 
 -- the home of a process is a group, and the root is where there is no such process
 home_is : (slots : ℕ) (s : State) → WellFormed slots s → (pid : ℕ) (o : Option Path) → get s.home pid ≡ o → is_group s (unwrap_or o []) ≡ true
@@ -67,3 +59,12 @@ own_in_all slots s g w = asks_not (λ attr. ltb attr.total attr.local) (get s.gr
   where
     none : (a b : ℕ) → b ≤ a → ltb a b ≡ false
     none a b l = grind (arith, nat_tests)
+
+none_over : (a b : ℕ) → b ≤ a → ltb a b ≡ false
+none_over a b l = grind (arith, nat_tests)
+
+pub peak_holds : (slots : ℕ) (s : State) (g : Path) → WellFormed slots s → is_root g ≡ false → asks (λ attr. ltb attr.peak (current s g)) (get s.groups g) ≡ false
+peak_holds slots s g w r = asks_not (λ attr. ltb attr.peak (current s g)) (get s.groups g) (λ attr there. none_over attr.peak (current s g) (w.peaks g attr there r))
+
+pub root_without_peak : (slots : ℕ) (s : State) → WellFormed slots s → asks (λ attr. ltb 0 attr.peak) (get s.groups []) ≡ false
+root_without_peak slots s w = asks_not (λ attr. ltb 0 attr.peak) (get s.groups []) (λ attr there. let e = w.root_peak attr there in none_over 0 attr.peak (omega (arith, e)))

@@ -7,7 +7,7 @@ use Rattle.flat_model.specs.Refuse.{map_ok, or_fault, and_then, some_or}
 use Rattle.flat_model.specs.Path.{Path}
 use Rattle.flat_model.specs.PathText.{path_text, IsPath}
 use Rattle.flat_model.specs.State.{Limit}
-use Rattle.flat_model.specs.File.{PidsMax, MaxDescendants, MaxDepth, File, Procs, Events, Stat, LimitOf, KillFile, PidsCurrent, PidsEvents, PidsEventsLocal, file_name, file_named}
+use Rattle.flat_model.specs.File.{PidsMax, MaxDescendants, MaxDepth, File, Procs, Events, Stat, LimitOf, KillFile, PidsCurrent, PidsPeak, PidsEvents, PidsEventsLocal, file_name, file_named}
 use Rattle.flat_model.specs.FileText.{limit_text}
 use Rattle.flat_model.specs.Values.{number_fault, ValueFault}
 use Rattle.flat_model.specs.Command.{Command, MakeGroup, RemoveGroup, Fork, Exit, Move, SetLimit, Kill, Show, Locate, Undo}
@@ -49,6 +49,7 @@ file_named-file_name (LimitOf MaxDescendants) = refl
 file_named-file_name (LimitOf MaxDepth) = refl
 file_named-file_name KillFile = refl
 file_named-file_name PidsCurrent = refl
+file_named-file_name PidsPeak = refl
 file_named-file_name PidsEvents = refl
 file_named-file_name PidsEventsLocal = refl
 

@@ -5,7 +5,7 @@ use Rattle.flat_model.specs.Refuse.{map_ok, or_fault, and_then}
 use Rattle.flat_model.specs.Path.{Path, same_name}
 use Rattle.flat_model.specs.PathText.{IsPath, read_path}
 use Rattle.flat_model.specs.State.{Limit}
-use Rattle.flat_model.specs.File.{LimitFile, File, Procs, Events, Stat, LimitOf, KillFile, PidsCurrent, PidsEvents, PidsEventsLocal, file_name, all_files, file_named, readable}
+use Rattle.flat_model.specs.File.{LimitFile, File, Procs, Events, Stat, LimitOf, KillFile, PidsCurrent, PidsPeak, PidsEvents, PidsEventsLocal, file_name, all_files, file_named, readable}
 use Rattle.flat_model.specs.Values.{read_pid, read_limit, read_kill}
 use Rattle.flat_model.specs.Command.{Command, MakeGroup, RemoveGroup, Fork, Exit, Move, SetLimit, Kill, Show, Locate, Undo}
 use Rattle.flat_model.specs.CommandText.{IsPid, IsLimit, IsSayable}
@@ -72,6 +72,7 @@ said_write p KillFile w h = said_map (λ (one : ℕ). Unit {0}) (λ one. Kill p)
 said_write p Events w h = said_fault BadDirection
 said_write p Stat w h = said_fault BadDirection
 said_write p PidsCurrent w h = said_fault BadDirection
+said_write p PidsPeak w h = said_fault BadDirection
 said_write p PidsEvents w h = said_fault BadDirection
 said_write p PidsEventsLocal w h = said_fault BadDirection
 

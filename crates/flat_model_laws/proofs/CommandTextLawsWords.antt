@@ -8,7 +8,7 @@ use Rattle.std.proofs.lemmas.Fmt.{length-decimal-le}
 use Rattle.flat_model.specs.Path.{Name, Path}
 use Rattle.flat_model.specs.PathText.{spelled, path_text, is_name_byte, IsName, IsPath}
 use Rattle.flat_model.specs.State.{Limit, Unlimited, At}
-use Rattle.flat_model.specs.File.{LimitFile, PidsMax, MaxDescendants, MaxDepth, File, Procs, Events, Stat, LimitOf, KillFile, PidsCurrent, PidsEvents, PidsEventsLocal, file_name}
+use Rattle.flat_model.specs.File.{LimitFile, PidsMax, MaxDescendants, MaxDepth, File, Procs, Events, Stat, LimitOf, KillFile, PidsCurrent, PidsPeak, PidsEvents, PidsEventsLocal, file_name}
 use Rattle.flat_model.specs.FileText.{limit_text}
 use Rattle.flat_model.specs.Values.{is_space}
 use Rattle.flat_model.specs.Command.{Command, MakeGroup, RemoveGroup, Fork, Exit, Move, SetLimit, Kill, Show, Locate, Undo}
@@ -59,6 +59,7 @@ file_is_word (LimitOf MaxDescendants) = refl
 file_is_word (LimitOf MaxDepth) = refl
 file_is_word KillFile = refl
 file_is_word PidsCurrent = refl
+file_is_word PidsPeak = refl
 file_is_word PidsEvents = refl
 file_is_word PidsEventsLocal = refl
 
@@ -98,6 +99,7 @@ file_length (LimitOf MaxDescendants) = omega arith
 file_length (LimitOf MaxDepth) = omega arith
 file_length KillFile = omega arith
 file_length PidsCurrent = omega arith
+file_length PidsPeak = omega arith
 file_length PidsEvents = omega arith
 file_length PidsEventsLocal = omega arith
 

@@ -2,7 +2,7 @@
 use Rattle.std.proofs.Common.{◌≡◌, Bool, true, false, cond, ◌↔◌, Result, Ok, Err, refl}
 use Rattle.flat_model.specs.Refuse.{map_ok, or_fault}
 use Rattle.flat_model.specs.Path.{Path}
-use Rattle.flat_model.specs.File.{File, Procs, Events, Stat, LimitOf, KillFile, PidsCurrent, PidsEvents, PidsEventsLocal, readable, writable}
+use Rattle.flat_model.specs.File.{File, Procs, Events, Stat, LimitOf, KillFile, PidsCurrent, PidsPeak, PidsEvents, PidsEventsLocal, readable, writable}
 use Rattle.flat_model.specs.Command.{Command, Move, SetLimit, Kill, Show}
 use Rattle.flat_model.specs.Values.{read_pid, read_limit, read_kill}
 use Rattle.flat_model.specs.Trace.{Word, TextFault, BadDirection, BadValue, write_of, show_of}
@@ -18,6 +18,7 @@ direction_written p Stat w = (λ e. refl, λ e. refl)
 direction_written p (LimitOf file) w = (value_only (SetLimit p file) (read_limit file w), λ e. cc)
 direction_written p KillFile w = (value_only (λ one. Kill p) (read_kill w), λ e. cc)
 direction_written p PidsCurrent w = (λ e. refl, λ e. refl)
+direction_written p PidsPeak w = (λ e. refl, λ e. refl)
 direction_written p PidsEvents w = (λ e. refl, λ e. refl)
 direction_written p PidsEventsLocal w = (λ e. refl, λ e. refl)
 

@@ -7,7 +7,7 @@ use Rattle.flat_model.specs.Path.{Path, path_cmp, HasPrefix, at_or_below, same_p
 use Rattle.flat_model.specs.State.{State, Attr, Limit, fresh}
 use Rattle.flat_model.specs.File.{LimitFile, PidsMax, MaxDescendants, MaxDepth}
 use Rattle.flat_model.specs.Command.{Command, MakeGroup, RemoveGroup, Fork, Exit, Move, SetLimit, Kill, Show, Locate, Undo, Refusal, Exists, NoGroup, Descendants, Depth, NoSlot, RootFixed, HasChildren, HasProcesses, NoProcess, PidInUse, OverPidsMax, NoFile, NotReadable, is_undo, changes, is_counted}
-use Rattle.flat_model.specs.Step.{refusal, after, after_refusal, with_limit, at_each, counts_for, count_up}
+use Rattle.flat_model.specs.Step.{refusal, after, after_refusal, home_of, with_limit, at_each, counts_for, count_up, raise_peak, raise_peaks}
 use Rattle.flat_model.specs.Machine.{Machine, new_machine, recorded, outcome, undone, tick, end_of, after_all}
 use Rattle.flat_model.specs.Events.{IsCounted, HasEventsUpTo, PastEventsBounded, EventsBounded}
 use Rattle.flat_model.proofs.PathLaws.{path_cmp-IsTotalOrder, path_cmp-IsAntisymmetric, same_path_is, at_or_below_is}
@@ -24,10 +24,10 @@ root_is (x ∷ p) e = cc
 not_root : (p : Path) → p ≢ [] → is_root p ≡ false
 not_root p h = to_false (is_root p) (λ e. h (root_is p e))
 
-counts_above : (a p : Path) → HasPrefix a p → p ≢ [] → counts_for a p ≡ true
+pub counts_above : (a p : Path) → HasPrefix a p → p ≢ [] → counts_for a p ≡ true
 counts_above a p h n = λ i. not (not_root p n i) && (at_or_below_is a p).1 h i
 
-counts_else : (a p : Path) → (HasPrefix a p → p ≡ []) → counts_for a p ≡ false
+pub counts_else : (a p : Path) → (HasPrefix a p → p ≡ []) → counts_for a p ≡ false
 counts_else a p h = elim (at_or_below a p) as (λ b. at_or_below a p ≡ b → (not (is_root p) && b) ≡ false) [
   | true ↦ λ t. let e = h ((at_or_below_is a p).0 t) in ap (λ (q : Path). not (is_root q) && true) e
   | false ↦ λ t. and_false (not (is_root p))
@@ -46,6 +46,7 @@ one_more n b e = ap (λ c. n + cond c 1 0) e
 counted_up : (a p : Path) (x : Attr) → IsCounted a p x (count_up a p x)
 counted_up a p x = record {
   limits = refl;
+  peak = refl;
   local = λ e. one_more x.local (same_path p a) ((same_path_is p a).1 e);
   local_else = λ n. no_more x.local (same_path p a) (to_false (same_path p a) (λ t. n ((same_path_is p a).0 t)));
   total = λ h n. one_more x.total (counts_for a p) (counts_above a p h n);
@@ -77,7 +78,8 @@ only_up a p x y c =
     let one = number_is x.local y.local (same_path p a) (λ t. c.local ((same_path_is p a).0 t)) (λ f. c.local_else (λ e. let t : same_path p a ≡ true = (same_path_is p a).1 e in cc)) in
     let all = number_is x.total y.total (counts_for a p) (λ t. let two = prefix_of a p t in c.total two.0 (no_root p two.1)) (λ f. c.total_else (λ h. root_or a p h f)) in
     let limits = c.limits in
-    λ i. record { limits = limits i; local = one i; total = all i }
+    let peak = c.peak in
+    λ i. record { limits = limits i; local = one i; total = all i; peak = peak i }
 
 pub counted_is : (a p : Path) (x y : Attr) → IsCounted a p x y ↔ (y ≡ count_up a p x)
 counted_is a p x y = (only_up a p x y, λ e. subst (IsCounted a p x) (sym e) (counted_up a p x))
@@ -134,13 +136,22 @@ up_removed n s p h q attr there =
       | false ↦ λ e. h q attr e
     ] (sym (get-remove path_cmp-IsTotalOrder s.groups p q) ∙ there)
 
+-- a process that comes raises a peak, and nothing else of a group
+up_come : (n : ℕ) (s : State) (pid : ℕ) (a : Path) → HasEventsUpTo n s → HasEventsUpTo n (raise_peaks a (record s { home = insert s.home pid a }))
+up_come n s pid a h q attr there =
+    by (get s.groups q) (h q) (sym (get-each path_cmp-IsTotalOrder path_cmp-IsAntisymmetric (raise_peak (record s { home = insert s.home pid a }) a) s.groups q) ∙ there)
+  where
+    by : (o : Option Attr) → ((x : Attr) → o ≡ Some x → IsUpTo n x) → option_map (raise_peak (record s { home = insert s.home pid a }) a q) o ≡ Some attr → IsUpTo n attr
+    by None f e = cc
+    by (Some x) f e = subst (IsUpTo n) (let same : raise_peak (record s { home = insert s.home pid a }) a q x ≡ attr = cc in same) (f x refl)
+
 -- an accepted command raises none
 up_after : (n : ℕ) (s : State) (c : Command) → HasEventsUpTo n s → HasEventsUpTo n (after s c)
 up_after n s (MakeGroup p) h = up_put n s p fresh h (omega arith, omega arith)
 up_after n s (RemoveGroup p) h = up_removed n s p h
-up_after n s (Fork from child) h = h
+up_after n s (Fork from child) h = up_come n s child (home_of s from) h
 up_after n s (Exit pid) h = h
-up_after n s (Move p pid) h = h
+up_after n s (Move p pid) h = up_come n s pid p h
 up_after n s (SetLimit p file value) h = up_put n s p _ h (up_limit n file value _ (up_own n (get s.groups p) (h p)))
 up_after n s (Kill g) h = h
 up_after n s (Show p file) h = h

@@ -1,15 +1,15 @@
 -- What a command leaves, as lists of entries.
 use Rattle.std.proofs.Common.{◌≡◌, ℕ, arith, Bool, true, false, cond, not, List, [], ◌∷◌, map, length, refl, ap, sym, ◌∙◌, Option, None}
-use Rattle.std.specs.Prelude.{filter}
+use Rattle.std.specs.Prelude.{filter, max, count_by}
 use Rattle.std.specs.Cmp.{IsTotalOrder, nat_cmp_total}
-use Rattle.std.specs.FinMap.{FinMap, IsAntisymmetric, nat_cmp-IsAntisymmetric, retain_keys, remove, from_entries, entries, put, entries_sorted, get-entries, get-retain_keys, get-remove, entries-insert, empty, len-empty, len-entries}
+use Rattle.std.specs.FinMap.{FinMap, IsAntisymmetric, nat_cmp-IsAntisymmetric, insert, retain_keys, remove, from_entries, entries, put, entries_sorted, get-entries, get-retain_keys, get-remove, entries-insert, empty, len-empty, len-entries}
 use Rattle.std.specs.FinMap.Entries.{same_entries, is_sorted-where_key, find-where_key}
 use Rattle.std.specs.Ordering.{nat_cmp, eq_by_cmp}
 use Rattle.std.specs.declared.cmp.Ordering.{Ordering}
-use Rattle.flat_model.specs.Path.{Path, path_cmp}
+use Rattle.flat_model.specs.Path.{Path, path_cmp, at_or_below}
 use Rattle.flat_model.specs.State.{State, Attr, fresh, start}
 use Rattle.flat_model.specs.Command.{Command, MakeGroup, RemoveGroup, Fork, Exit, Move, SetLimit, Kill, Show, Locate, Undo, Refusal, Exists, NoGroup, Descendants, Depth, NoSlot, RootFixed, HasChildren, HasProcesses, NoProcess, PidInUse, OverPidsMax, NoFile, NotReadable}
-use Rattle.flat_model.specs.Step.{with_limit, is_within, after, count_up, after_refusal}
+use Rattle.flat_model.specs.Step.{with_limit, is_within, after, count_up, after_refusal, counts_for, raise_peak, raise_peaks, home_of}
 use Rattle.flat_model.proofs.PathLaws.{path_cmp-IsTotalOrder, path_cmp-IsAntisymmetric}
 use Rattle.flat_model_laws.proofs.ExamplesReads.{Lists, lists_of, reads_in, reads_are, home_by, attr_by}
 
@@ -59,12 +59,20 @@ entries-from_entries (e ∷ es) = entries-insert path_cmp-IsTotalOrder (from_ent
 
 -- ---- an accepted command
 
+-- the attributes of p once a process has come to a, among these homes
+abbrev pub raise_by : List (ℕ × Path) → Path → Path → Attr → Attr
+raise_by homes a p attr = record attr { peak = cond (counts_for a p) (max attr.peak (count_by (λ q. at_or_below q p) (map (λ e. e.1) homes))) attr.peak }
+
+-- a process put into a group, with the peaks raised
+abbrev pub come : Lists → ℕ → Path → Lists
+come l pid a = record { groups = put_all (map (λ e. (e.0, raise_by (put nat_cmp pid a l.home) a e.0 e.1)) l.groups); home = put nat_cmp pid a l.home }
+
 abbrev pub leaves : Lists → Command → Lists
 leaves l (MakeGroup p) = record { groups = put path_cmp p fresh l.groups; home = l.home }
 leaves l (RemoveGroup p) = record { groups = filter (λ e. not (eq_by_cmp path_cmp e.0 p)) l.groups; home = l.home }
-leaves l (Fork from child) = record { groups = l.groups; home = put nat_cmp child (home_by (reads_in l) from) l.home }
+leaves l (Fork from child) = come l child (home_by (reads_in l) from)
 leaves l (Exit pid) = record { groups = l.groups; home = filter (λ e. not (eq_by_cmp nat_cmp e.0 pid)) l.home }
-leaves l (Move p pid) = record { groups = l.groups; home = put nat_cmp pid p l.home }
+leaves l (Move p pid) = come l pid p
 leaves l (SetLimit p file value) = record { groups = put path_cmp p (with_limit file value (attr_by (reads_in l) p)) l.groups; home = l.home }
 leaves l (Kill g) = record { groups = l.groups; home = filter (λ e. not (is_within g ((reads_in l).home e.0))) l.home }
 leaves l (Show p file) = l
@@ -78,13 +86,21 @@ in_groups s e = λ i. record { groups = e i; home = entries s.home }
 in_home : (s : State) {gs hs : List (ℕ × Path)} → gs ≡ hs → ◌≡◌ {A = Lists} (record { groups = entries s.groups; home = gs }) (record { groups = entries s.groups; home = hs })
 in_home s e = λ i. record { groups = entries s.groups; home = e i }
 
+come_leaves : (s : State) (pid : ℕ) (a : Path) → lists_of (raise_peaks a (record s { home = insert s.home pid a })) ≡ come (lists_of s) pid a
+come_leaves s pid a =
+    let homes = entries-insert nat_cmp_total s.home pid a in λ i. record {
+      groups = (entries-from_entries (map (λ e. (e.0, raise_peak (record s { home = insert s.home pid a }) a e.0 e.1)) (entries s.groups))
+          ∙ ap (λ (hs : List (ℕ × Path)). put_all (map (λ e. (e.0, raise_by hs a e.0 e.1)) (entries s.groups))) homes) i;
+      home = homes i;
+    }
+
 -- the entries of what an accepted command leaves
 pub after_leaves : (s : State) (c : Command) → lists_of (after s c) ≡ leaves (lists_of s) c
 after_leaves s (MakeGroup p) = in_groups s (entries-insert path_cmp-IsTotalOrder s.groups p fresh)
 after_leaves s (RemoveGroup p) = in_groups s (entries-remove path_cmp-IsTotalOrder path_cmp-IsAntisymmetric s.groups p)
-after_leaves s (Fork from child) = in_home s (entries-insert nat_cmp_total s.home child _ ∙ ap (λ r. put nat_cmp child (home_by r from) (entries s.home)) (reads_are s))
+after_leaves s (Fork from child) = come_leaves s child (home_of s from) ∙ ap (λ r. come (lists_of s) child (home_by r from)) (reads_are s)
 after_leaves s (Exit pid) = in_home s (entries-remove nat_cmp_total nat_cmp-IsAntisymmetric s.home pid)
-after_leaves s (Move p pid) = in_home s (entries-insert nat_cmp_total s.home pid p)
+after_leaves s (Move p pid) = come_leaves s pid p
 after_leaves s (SetLimit p file value) = in_groups s (entries-insert path_cmp-IsTotalOrder s.groups p _ ∙ ap (λ r. put path_cmp p (with_limit file value (attr_by r p)) (entries s.groups)) (reads_are s))
 after_leaves s (Kill g) = in_home s (entries-retain_keys nat_cmp_total nat_cmp-IsAntisymmetric s.home _ ∙ ap (λ r. filter (λ e. not (is_within g (r.home e.0))) (entries s.home)) (reads_are s))
 after_leaves s (Show p file) = refl

@@ -10,7 +10,7 @@ use Rattle.flat_model.specs.PathText.{path_text}
 use Rattle.flat_model.specs.Refuse.{refuse}
 use Rattle.flat_model.specs.State.{State, Attr, fresh}
 use Rattle.flat_model.specs.Counts.{exceeds, reaches, asks, first_path}
-use Rattle.flat_model.specs.File.{File, Procs, Events, Stat, LimitOf, KillFile, PidsCurrent, PidsEvents, PidsEventsLocal, is_pids_max, readable, on_root}
+use Rattle.flat_model.specs.File.{File, Procs, Events, Stat, LimitOf, KillFile, PidsCurrent, PidsPeak, PidsEvents, PidsEventsLocal, is_pids_max, readable, on_root}
 use Rattle.flat_model.specs.Command.{Command, MakeGroup, RemoveGroup, Fork, Exit, Move, SetLimit, Kill, Show, Locate, Undo, Refusal, Exists, NoGroup, Descendants, Depth, NoSlot, RootFixed, HasChildren, HasProcesses, NoProcess, PidInUse, OverPidsMax, NoFile, NotReadable, Reply, Done, Text}
 use Rattle.flat_model.specs.Step.{first_refusal, refusal, limit_at}
 use Rattle.flat_model.specs.FileText.{line, limit_text, flag_text, file_text}
@@ -121,6 +121,7 @@ file_by r g Stat = line (codes "nr_descendants " ++ decimal (descendants_by r g)
 file_by r g (LimitOf file) = line (limit_text (limit_at file (attr_by r g)))
 file_by r g KillFile = []
 file_by r g PidsCurrent = line (decimal (current_by r g))
+file_by r g PidsPeak = line (decimal (attr_by r g).peak)
 file_by r g PidsEvents = line (codes "max " ++ decimal (attr_by r g).total)
 file_by r g PidsEventsLocal = line (codes "max " ++ decimal (attr_by r g).local)
 
@@ -132,6 +133,7 @@ file_reads s g Stat = refl
 file_reads s g (LimitOf file) = refl
 file_reads s g KillFile = refl
 file_reads s g PidsCurrent = refl
+file_reads s g PidsPeak = refl
 file_reads s g PidsEvents = refl
 file_reads s g PidsEventsLocal = refl
 

@@ -6,6 +6,7 @@ mod HierarchyLimitsExact
 mod AcceptedLaws
 mod Descendants
 mod Events
+mod PeakLaws
 mod ClosedStates
 mod GivenBack
 mod NewGroups

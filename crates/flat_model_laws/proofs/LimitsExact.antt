@@ -2,14 +2,16 @@
 use Rattle.std.proofs.Common.{◌≡◌, ℕ, ◌+◌, ◌<◌, ◌≤◌, Bool, true, false, cond, not, ◌&&◌, ◌↔◌, Option, Some, None, refl, sym, ap, ◌∙◌, arith}
 use Rattle.std.proofs.lemmas.Bool.Decides.{nat_tests}
 use Rattle.std.specs.Prelude.{option_map}
-use Rattle.std.specs.FinMap.{get}
+use Rattle.std.specs.FinMap.{get, insert}
 use Rattle.flat_model.specs.Path.{Path, is_root, at_or_below}
 use Rattle.flat_model.specs.State.{State, Attr, Limit, Unlimited, At}
 use Rattle.flat_model.specs.Counts.{current, has_process, exceeds, asks, is_full, blocked_fork}
 use Rattle.flat_model.specs.Command.{Fork, NoProcess, PidInUse, OverPidsMax}
 use Rattle.flat_model.specs.Refuse.{refuse}
-use Rattle.flat_model.specs.Step.{refusal, after, home_of}
+use Rattle.flat_model.specs.Step.{refusal, after, home_of, raise_peak}
 use Rattle.flat_model.specs.Limiting.{IsLimiting, IsWithinPids}
+use Rattle.flat_model.proofs.PathLaws.{path_cmp-IsTotalOrder, path_cmp-IsAntisymmetric}
+use Rattle.flat_model.proofs.Maps.{get-each}
 use Rattle.flat_model.proofs.Limits.{limiting, fork_within, current_forked, asked_no}
 use Rattle.flat_model_laws.proofs.NearestLaws.{asks_not, nearest_found}
 
@@ -57,7 +59,9 @@ fits s from child free h =
       | None ↦ λ e. refl
       | Some a ↦ λ e.
           let l = limiting s (home_of s from) a e in
-          let most = h a l.attr l.most l.above l.not_root l.there l.limit in
+          let now : get (after s (Fork from child)).groups a ≡ Some (raise_peak (record s { home = insert s.home child (home_of s from) }) (home_of s from) a l.attr) =
+              get-each path_cmp-IsTotalOrder path_cmp-IsAntisymmetric (raise_peak (record s { home = insert s.home child (home_of s from) }) (home_of s from)) s.groups a ∙ ap (option_map (raise_peak (record s { home = insert s.home child (home_of s from) }) (home_of s from) a)) l.there in
+          let most = h a (raise_peak (record s { home = insert s.home child (home_of s from) }) (home_of s from) a l.attr) l.most l.above l.not_root now l.limit in
           let past = l.past in
           let one : ◌≡◌ {A = ℕ} (cond (at_or_below (home_of s from) a) 1 0) 1 = ap (λ b. cond b 1 0) l.above in
           let more = current_forked s from child a free in

@@ -6,6 +6,7 @@
 //! - `paths`, `texts`: paths are ordered and read back, and so is each word, line and trace.
 //! - `states`, `refusals`: what commands keep, which commands are accepted, and what refuses the
 //!   others, each exactly.
+//! - `peaks`: what raises the peak of a group, and that it is no lower than its count.
 //! - `records`, `machine`: a record takes its command back; undo, and what holds of every machine
 //!   that commands reach.
 //! - `logs`: where a log ends, and that it is legal, entry by entry.
@@ -20,6 +21,7 @@ pub mod examples;
 pub mod logs;
 pub mod machine;
 pub mod paths;
+pub mod peaks;
 pub mod records;
 pub mod refusals;
 pub mod states;

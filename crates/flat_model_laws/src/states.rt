@@ -16,7 +16,7 @@ ghost use Rattle.std.specs.Prelude.{
   sum_by,
 };
 ghost use Rattle.std.specs.FinMap.{get, len};
-ghost use Rattle.flat_model.specs.Path.{Path, at_or_below, parent};
+ghost use Rattle.flat_model.specs.Path.{Path, at_or_below, is_root, parent};
 ghost use Rattle.flat_model.specs.State.{State, Attr, Unlimited, start};
 ghost use Rattle.flat_model.specs.Counts.{
   asks,
@@ -55,7 +55,7 @@ ghost use Rattle.flat_model.specs.Limiting.{
 
 /// Every command keeps a state well formed: the root is a group, the parents of groups and the
 /// homes of processes are groups, there are at most as many groups beside the root as there are
-/// slots, and no total is below its local one.
+/// slots, no total is below its local one, and no peak but the root's is below its group's count.
 pub fn well_formed_kept()
     ensures start { (slots : ℕ) → WellFormed slots start }
     ensures accepted { (slots : ℕ) (s : State) (c : Command) → WellFormed slots s
@@ -76,13 +76,14 @@ pub fn counts_are_exact()
 {}
 
 /// At the start there is the root alone, without limits, and process 1 in it. A new group has no
-/// limits and no events, and leaves all else as it was.
+/// limits, no events and no peak, and leaves all else as it was.
 pub fn new_groups_are_bare()
     ensures root { get start.groups []
         ≡ Some (record {
           limits = record { pids = Unlimited; descendants = Unlimited; depth = Unlimited };
           local = 0;
           total = 0;
+          peak = 0;
         }) }
     ensures root_alone { (p : Path) → is_group start p ≡ true → p ≡ [] }
     ensures process { (pid : ℕ) (p : Path) → get start.home pid ≡ Some p ↔ (pid ≡ 1) × (p ≡ []) }
@@ -91,6 +92,7 @@ pub fn new_groups_are_bare()
           limits = record { pids = Unlimited; descendants = Unlimited; depth = Unlimited };
           local = 0;
           total = 0;
+          peak = 0;
         }) }
     ensures others { (s : State) (p q : Path) → q ≢ p
         → get (after s (MakeGroup p)).groups q ≡ get s.groups q }
@@ -137,8 +139,9 @@ pub fn limits_are_exact()
 {}
 
 /// What a well-formed state promises: each group above a group is there, each process is in a group
-/// that shows it, a group is refused for want of a slot only when each slot has one, and no group
-/// counts more events of its own than in all.
+/// that shows it, a group is refused for want of a slot only when each slot has one, no group
+/// counts more events of its own than in all, and none but the root counts more processes than its
+/// peak.
 pub fn well_formed_is_closed()
     ensures groups { (slots : ℕ) (s : State) (p q : Path) → WellFormed slots s
         → is_group s p ≡ true → at_or_below p q ≡ true → is_group s q ≡ true }
@@ -148,4 +151,8 @@ pub fn well_formed_is_closed()
         → refusal slots s (MakeGroup p) ≡ Some NoSlot → len s.groups ≡ slots + 1 }
     ensures totals { (slots : ℕ) (s : State) (g : Path) → WellFormed slots s
         → asks (λ attr. ltb attr.total attr.local) (get s.groups g) ≡ false }
+    ensures peaks { (slots : ℕ) (s : State) (g : Path) → WellFormed slots s → is_root g ≡ false
+        → asks (λ attr. ltb attr.peak (current s g)) (get s.groups g) ≡ false }
+    ensures root_peak { (slots : ℕ) (s : State) → WellFormed slots s
+        → asks (λ attr. ltb 0 attr.peak) (get s.groups []) ≡ false }
 {}

@@ -14,7 +14,9 @@ mod Counted
 mod Descendants
 mod Chains
 pub mod Downward
+pub mod Changed
 pub mod Refused
+mod PeaksSet
 mod Copies
 pub mod Flat
 pub mod Prefixes

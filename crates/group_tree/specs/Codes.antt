@@ -30,7 +30,7 @@ abbrev pub limits_code : Coded Limits
 limits_code = code_by (Limit × (Limit × Limit)) (coded× limit_code (coded× limit_code limit_code)) (λ l. (l.pids, (l.descendants, l.depth))) (λ p. record { pids = p.0; descendants = p.1.0; depth = p.1.1 }) (λ _. refl)
 
 abbrev pub attr_code : Coded Attr
-attr_code = code_by (Limits × (ℕ × (ℕ × ℕ))) (coded× limits_code (coded× coded_ℕ (coded× coded_ℕ coded_ℕ))) (λ a. (a.limits, (a.local, (a.total, a.slot)))) (λ p. record { limits = p.0; local = p.1.0; total = p.1.1.0; slot = p.1.1.1 }) (λ _. refl)
+attr_code = code_by (Limits × (ℕ × (ℕ × (ℕ × ℕ)))) (coded× limits_code (coded× coded_ℕ (coded× coded_ℕ (coded× coded_ℕ coded_ℕ)))) (λ a. (a.limits, (a.local, (a.total, (a.peak, a.slot))))) (λ p. record { limits = p.0; local = p.1.0; total = p.1.1.0; peak = p.1.1.1.0; slot = p.1.1.1.1 }) (λ _. refl)
 
 abbrev pub groups_code : Coded Groups
 groups_code = fin.code path_code attr_code

@@ -1,4 +1,4 @@
--- The tree's groups as `flat_model` has them: `map_values group_of`, the same paths, limits and event totals, and no slot.
+-- The tree's groups as `flat_model` has them: `map_values group_of`, the same paths, limits, event totals and peaks, and no slot.
 use Rattle.std.specs.Prelude.{◌≡◌, ◌↔◌, true}
 use Rattle.std.specs.List.{list_any}
 use Rattle.std.specs.Ordering.{nat_cmp}
@@ -30,7 +30,7 @@ limits_of l = record { pids = limit_of l.pids; descendants = limit_of l.descenda
 
 -- a group as the flat state has it
 abbrev pub group_of : Attr → flat.Attr
-group_of a = record { limits = limits_of a.limits; local = a.local; total = a.total }
+group_of a = record { limits = limits_of a.limits; local = a.local; total = a.total; peak = a.peak }
 
 -- what stands below a group of the tree is what stands below it in a flat state of the tree's groups
 pub record CountsAsFlat (m : Groups) : Type 0 where

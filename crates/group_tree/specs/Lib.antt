@@ -3,6 +3,7 @@ pub mod Flat
 pub mod Limits
 pub mod Along
 pub mod Refusals
+pub mod Peaks
 pub mod Node
 pub mod Sorted
 pub mod Codes

@@ -1,4 +1,4 @@
-//! What a group has beside its name: its limits, its event totals and its slot.
+//! What a group has beside its name: its limits, its event totals, its peak and its slot.
 
 /// A limit of a group.
 #[derive(Clone, Copy, Debug, PartialEq, Eq)]
@@ -39,6 +39,9 @@ pub struct Attr {
     pub local: u64,
     /// Those, and the ones that the `pids.max` of a group below it refused (`pids.events`).
     pub total: u64,
+    /// How many processes it and the groups below it have had at once, at the most (`pids.peak`). The tree gives it back as
+    /// it was put in or set, and asks nothing of it.
+    pub peak: u64,
     /// Where its processes are counted. The tree gives it back as it was put in, and asks nothing of it.
     pub slot: u16,
 }
@@ -49,7 +52,7 @@ impl Attr {
     ghost use Rattle.flat_model.specs.Step.{limit_at, with_limit};
     ghost use Rattle.group_tree.specs.Flat.{group_of, limit_of, limit_file_of};
 
-    /// What a group has as it is made: no limits and no events, its processes counted at the slot.
+    /// What a group has as it is made: no limits, no events and no peak, its processes counted at the slot.
     pub fn new(slot: u16) -> Attr
         ensures group { group_of result ≡ fresh }
         ensures slot { result.slot ≡ slot }
@@ -62,6 +65,7 @@ impl Attr {
             },
             local: 0,
             total: 0,
+            peak: 0,
             slot,
         }
     }
@@ -77,7 +81,7 @@ impl Attr {
         }
     }
 
-    /// The same with another limit in the file: the other limits, the event totals and the slot stay.
+    /// The same with another limit in the file: the other limits, the event totals, the peak and the slot stay.
     pub fn with_limit(self, file: LimitFile, limit: Limit) -> Attr
         ensures group { group_of result ≡ with_limit (limit_file_of file) (limit_of limit) (group_of self) }
         ensures slot { result.slot ≡ self.slot }

@@ -32,7 +32,7 @@ impl Change {
 
 impl<A: Allocator> Node<A> {
     /// Changes what the group itself has.
-    fn put(&mut self, attr: Attr)
+    pub(crate) fn put(&mut self, attr: Attr)
         ensures name { self.new.name ≡ self.old.name }
         ensures groups { NodeSets self.old.groups self.new.groups [] attr true }
     {

@@ -10,10 +10,12 @@
 //!   kept, so that limits on descendants, and on all groups, are tested without a walk. The limits of the hierarchy that a
 //!   new group meets are all asked in one such descent.
 //! - What the groups along a path have comes one after another in one descent (`along`), and the event totals of those
-//!   groups are counted up and down in one (`count_refusal`, `uncount_refusal`). Neither takes memory.
+//!   groups are counted up and down in one (`count_refusal`, `uncount_refusal`), and their peaks set in one (`set_peaks`).
+//!   None of these takes memory.
 //! - The calls that end in `_at` do the same at the first n names of a path, and copy nothing.
 //! - A path may lie in other memory than the tree. What a group has is given and taken by value; its slot is the
-//!   caller's, and the tree asks nothing of it: two groups may have the same. A change of a limit keeps it.
+//!   caller's, and the tree asks nothing of it: two groups may have the same. A change of a limit keeps it. Nor does the
+//!   tree ask what a peak is: it holds the ones that it is given.
 //!
 //! Not promised: that a count of descendants is exact in a tree of 2^64 groups or more (it is taken modulo 2^64), and how
 //! much memory a tree takes.
@@ -31,6 +33,7 @@ mod fault;
 mod insert;
 mod limits;
 mod node;
+mod peaks;
 mod remove;
 mod set;
 mod tree;

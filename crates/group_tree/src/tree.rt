@@ -8,6 +8,7 @@ ghost use Rattle.flat_model.specs.Step.{limit_met, first_refusal};
 ghost use Rattle.group_tree.specs.Flat.{CountsAsFlat};
 ghost use Rattle.group_tree.specs.Along.{along_of};
 ghost use Rattle.group_tree.specs.Refusals.{Counts};
+ghost use Rattle.group_tree.specs.Peaks.{SetsPeaks};
 ghost use Rattle.group_tree.specs.Limits.{without_processes, refusal_along, names_of};
 ghost use Rattle.group_tree.specs.Groups.{IsClosed, Inserts, Sets, Removes, only_root, descendant_count, chain_of};
 
@@ -106,6 +107,15 @@ impl<A: Allocator> GroupTree<A> {
         ensures { Counts (λ m. m - 1) self.old self.new (take n path.now) }
     {
         self.root.count(path.first_names(n), Change::Lower);
+    }
+
+    /// Sets the peaks of the groups from the one at the path upward, the root left out: the first is that of the path's own
+    /// group. A group that is missing is passed over. It goes down once, as `find` does, and takes no memory.
+    pub fn set_peaks<B: Allocator + Clone>(&mut self, path: &GroupPath<B>, peaks: &[u64])
+        requires { length peaks.now ≡ length path.now }
+        ensures { SetsPeaks self.old self.new path.now peaks.now }
+    {
+        self.root.set_peaks(path.names(), peaks);
     }
 
     /// How many groups there are beside the root. The count is kept, so this costs one step. It is exact as long as the

@@ -1,5 +1,5 @@
 -- The tree's limits, groups and counts are those of the flat state, and no two become one.
-use Rattle.std.proofs.Common.{◌≡◌, ℕ, ◌+◌, ◌-◌, ◌^◌, ◌<◌, ◌≤◌, ◌↔◌, Bool, true, false, cond, [], ◌∷◌, length, take, Option, Some, None, refl, sym, ap, ◌∙◌, is_some, arith, min}
+use Rattle.std.proofs.Common.{◌≡◌, ℕ, ◌+◌, ◌-◌, ◌^◌, ◌<◌, ◌≤◌, ◌↔◌, Bool, true, false, cond, List, [], ◌∷◌, length, take, Option, Some, None, refl, sym, ap, ◌∙◌, is_some, arith, min}
 use Rattle.std.specs.Prelude.{option_map}
 use Rattle.std.specs.List.{cons_option}
 use Rattle.std.proofs.lemmas.Bool.Decides.{nat_tests}
@@ -10,7 +10,7 @@ use Rattle.flat_model.specs.Path.{Name, Path, same_path}
 use Rattle.flat_model.specs.State as flat
 use Rattle.flat_model.specs.Counts.{reaches, is_group, has_process}
 use Rattle.flat_model.specs.Command as model
-use Rattle.flat_model.specs.Step.{count_up, count_down, counts_for}
+use Rattle.flat_model.specs.Step.{count_up, count_down, counts_for, set_peak}
 use Rattle.flat_model.specs.Mapped.{map_values}
 use Rattle.flat_model.proofs.MapValues.{get-map_values, contains-map_values}
 use Rattle.group_tree.specs.declared.attr.Attr.{Attr}
@@ -22,6 +22,7 @@ use Rattle.group_tree.specs.Groups.{Groups, slot_of, chain_of}
 use Rattle.group_tree.specs.Along.{along_of}
 use Rattle.group_tree.specs.Flat.{limit_of, limits_of, group_of}
 use Rattle.group_tree.specs.Refusals.{Counts, HasRoomForRefusals, counted_by}
+use Rattle.group_tree.specs.Peaks.{SetsPeaks, peaked_by}
 use Rattle.group_tree.specs.Limits.{refusal_along, names_of, without_processes}
 
 -- an event total after one event more, and after one less
@@ -51,7 +52,8 @@ one_group a b e s =
     let l = one_limit a.limits.depth b.limits.depth (ap (λ (g : flat.Attr). g.limits.depth) e) in
     let o = ap (λ (g : flat.Attr). g.local) e in
     let t = ap (λ (g : flat.Attr). g.total) e in
-    λ i. record { limits = record { pids = p i; descendants = d i; depth = l i }; local = o i; total = t i; slot = s i }
+    let k = ap (λ (g : flat.Attr). g.peak) e in
+    λ i. record { limits = record { pids = p i; descendants = d i; depth = l i }; local = o i; total = t i; peak = k i; slot = s i }
 
 pub reached_is : (n m : ℕ) → (reaches n (limit_of (At m)) ≡ true) ↔ (m ≤ n)
 reached_is n m = (λ e. grind (arith, nat_tests), λ h. grind (arith, nat_tests))
@@ -93,13 +95,13 @@ pub counted_up : (a q : Path) (x : Attr) → x.local < 2 ^ 64 - 1 → x.total < 
 counted_up a q x h k =
     let l = up_by (same_path q a) x.local h in
     let t = up_by (counts_for a q) x.total k in
-    λ i. record { limits = limits_of x.limits; local = l i; total = t i }
+    λ i. record { limits = limits_of x.limits; local = l i; total = t i; peak = x.peak }
 
 pub counted_down : (a q : Path) (x : Attr) → group_of (counted_by (lowered) a q x) ≡ count_down a q (group_of x)
 counted_down a q x =
     let l = down_by (same_path q a) x.local in
     let t = down_by (counts_for a q) x.total in
-    λ i. record { limits = limits_of x.limits; local = l i; total = t i }
+    λ i. record { limits = limits_of x.limits; local = l i; total = t i; peak = x.peak }
 
 pub up_to_the_greatest : (n : ℕ) → raised n < 2 ^ 64
 up_to_the_greatest n = omega arith
@@ -119,6 +121,16 @@ all_up_is old new a q room c =
 pub all_down_is : (old new : Groups) (a q : Path) → Counts (lowered) old new a → get (map_values group_of new) q ≡ option_map (count_down a q) (get (map_values group_of old) q)
 all_down_is old new a q c =
     get-map_values group_of new q ∙ ap (option_map group_of) (c q) ∙ each_down (get old q) a q ∙ ap (option_map (count_down a q)) (sym (get-map_values group_of old q))
+
+-- ---- peaks
+
+each_set : (a q : Path) (peaks : List ℕ) (o : Option Attr) → option_map group_of (option_map (peaked_by a peaks q) o) ≡ option_map (set_peak a peaks q) (option_map group_of o)
+each_set a q peaks None = refl
+each_set a q peaks (Some x) = refl
+
+pub all_set : (old new : Groups) (a q : Path) (peaks : List ℕ) → SetsPeaks old new a peaks → get (map_values group_of new) q ≡ option_map (set_peak a peaks q) (get (map_values group_of old) q)
+all_set old new a q peaks c =
+    get-map_values group_of new q ∙ ap (option_map group_of) (c q) ∙ each_set a q peaks (get old q) ∙ ap (option_map (set_peak a peaks q)) (sym (get-map_values group_of old q))
 
 -- ---- three groups
 

@@ -1,12 +1,12 @@
 //! The laws of what calls answer and leave, and of what the tree's values are in the flat state.
 
-ghost use Rattle.std.specs.Prelude.{◌≡◌, ◌≢◌, ℕ, ◌+◌, ◌^◌, ◌-◌, ◌<◌, ◌≤◌, ◌↔◌, ◌⊎◌, Bool, true, false, [], ◌∷◌, length, Some, None, IsSome, is_some, option_map, min, Result, Ok, Err, codes};
+ghost use Rattle.std.specs.Prelude.{◌≡◌, ◌≢◌, ℕ, List, ◌+◌, ◌^◌, ◌-◌, ◌<◌, ◌≤◌, ◌↔◌, ◌⊎◌, Bool, true, false, [], ◌∷◌, length, Some, None, IsSome, is_some, option_map, min, Result, Ok, Err, codes};
 ghost use Rattle.std.specs.List.{list_any};
 ghost use Rattle.std.specs.FinMap.{get, insert, remove, keys};
 ghost use Rattle.flat_model.specs.Path.{Name, Path, parent, at_or_below, strictly_below};
 ghost use Rattle.flat_model.specs.Counts.{reaches, is_group, has_process};
 ghost use Rattle.flat_model.specs.File.{LimitOf, file_name};
-ghost use Rattle.flat_model.specs.Step.{limit_at, count_up, count_down};
+ghost use Rattle.flat_model.specs.Step.{limit_at, count_up, count_down, set_peak};
 ghost use Rattle.flat_model.specs.Mapped.{map_values};
 ghost use Rattle.group_tree.specs.declared.attr.Attr.{Attr};
 ghost use Rattle.group_tree.specs.declared.attr.Limit.{Limit};
@@ -19,6 +19,7 @@ ghost use Rattle.group_tree.specs.Groups.{Groups, IsClosed, only_root, HasBelow,
 ghost use Rattle.group_tree.specs.Along.{groups_down, along_of};
 ghost use Rattle.group_tree.specs.Flat.{limit_of, limit_file_of, group_of};
 ghost use Rattle.group_tree.specs.Refusals.{Counts, HasRoomForRefusals, counted_by};
+ghost use Rattle.group_tree.specs.Peaks.{SetsPeaks, peaked_by};
 ghost use Rattle.group_tree.specs.Limits.{refusal_along, names_of, without_processes};
 
 /// What a new group answers, by what the tree had: one fault where there is such a group, one where there is none to put
@@ -56,6 +57,7 @@ pub fn groups_are_flat_groups()
     ensures groups { (a b : Attr) → group_of a ≡ group_of b → a.slot ≡ b.slot → a ≡ b }
     ensures local { (a : Attr) → (group_of a).local ≡ a.local }
     ensures total { (a : Attr) → (group_of a).total ≡ a.total }
+    ensures peak { (a : Attr) → (group_of a).peak ≡ a.peak }
     ensures pids { (a : Attr) → limit_at (limit_file_of PidsMax) (group_of a) ≡ limit_of a.limits.pids }
     ensures descendants { (a : Attr) → limit_at (limit_file_of MaxDescendants) (group_of a) ≡ limit_of a.limits.descendants }
     ensures depth { (a : Attr) → limit_at (limit_file_of MaxDepth) (group_of a) ≡ limit_of a.limits.depth }
@@ -70,14 +72,26 @@ pub fn groups_are_flat_groups()
 {}
 
 /// Event totals are counted as the flat state counts them: up as far as the greatest number, down as far as 0. The slot
-/// stays.
+/// and the peak stay.
 pub fn refusals_are_counted()
     ensures up { (a q : Path) (x : Attr) → x.local < 2 ^ 64 - 1 → x.total < 2 ^ 64 - 1 → group_of (counted_by (λ m. min (m + 1) (2 ^ 64 - 1)) a q x) ≡ count_up a q (group_of x) }
     ensures down { (a q : Path) (x : Attr) → group_of (counted_by (λ m. m - 1) a q x) ≡ count_down a q (group_of x) }
     ensures slot { (g : ℕ → ℕ) (a q : Path) (x : Attr) → (counted_by g a q x).slot ≡ x.slot }
+    ensures peak { (g : ℕ → ℕ) (a q : Path) (x : Attr) → (counted_by g a q x).peak ≡ x.peak }
     ensures greatest { (n : ℕ) → min (n + 1) (2 ^ 64 - 1) < 2 ^ 64 }
     ensures all_up { (old new : Groups) (a q : Path) → HasRoomForRefusals old → Counts (λ m. min (m + 1) (2 ^ 64 - 1)) old new a → get (map_values group_of new) q ≡ option_map (count_up a q) (get (map_values group_of old) q) }
     ensures all_down { (old new : Groups) (a q : Path) → Counts (λ m. m - 1) old new a → get (map_values group_of new) q ≡ option_map (count_down a q) (get (map_values group_of old) q) }
+{}
+
+/// Peaks are set as the flat state sets them. All else of a group stays, and so does the root: of three groups on a way,
+/// the last has the first peak, and the first the last.
+pub fn peaks_are_set()
+    ensures each { (a q : Path) (peaks : List ℕ) (x : Attr) → group_of (peaked_by a peaks q x) ≡ set_peak a peaks q (group_of x) }
+    ensures slot { (a q : Path) (peaks : List ℕ) (x : Attr) → (peaked_by a peaks q x).slot ≡ x.slot }
+    ensures root { (a : Path) (peaks : List ℕ) (x : Attr) → peaked_by a peaks [] x ≡ x }
+    ensures all { (old new : Groups) (a q : Path) (peaks : List ℕ) → SetsPeaks old new a peaks → get (map_values group_of new) q ≡ option_map (set_peak a peaks q) (get (map_values group_of old) q) }
+    ensures three { (l m n : ℕ) (x : Attr) → (peaked_by (codes "a" ∷ codes "b" ∷ codes "c" ∷ []) (l ∷ m ∷ n ∷ []) (codes "a" ∷ []) x).peak ≡ n }
+    ensures three_last { (l m n : ℕ) (x : Attr) → (peaked_by (codes "a" ∷ codes "b" ∷ codes "c" ∷ []) (l ∷ m ∷ n ∷ []) (codes "a" ∷ codes "b" ∷ codes "c" ∷ []) x).peak ≡ l }
 {}
 
 /// A group, its child and the child of that: the slots upward, the groups downward, and what they have as far as they are

@@ -15,6 +15,7 @@ pub(crate) fn limited(slot: u16, limits: [Limit; 3]) -> Attr {
         },
         local: 0,
         total: 0,
+        peak: 0,
         slot,
     }
 }

@@ -173,8 +173,8 @@ pub(crate) const FILE_TRACES: [(&str, &str); 24] = [
     // What is not written, and the direction before the value.
     (
         "write / cgroup.events 1;write / cgroup.stat x;write /a pids.current 05;\
-         write /a pids.events 1;write /a pids.events.local max;write / pids.peak 1;\
-         cat / pids.peak;write / cgroup.kill x;write / cgroup.kill 01;write / cgroup.kill 2;\
+         write /a pids.events 1;write /a pids.events.local max;write / pids.peaks 1;\
+         cat / pids.peaks;write / cgroup.kill x;write / cgroup.kill 01;write / cgroup.kill 2;\
          write a cgroup.events 1;write / cgroup.events",
         "1 refused direction;2 refused direction;3 refused direction;4 refused direction;\
          5 refused direction;6 refused file;7 refused file;8 refused value;9 refused value;\

@@ -45,7 +45,7 @@ fn names_of_files(rt: HostRuntime) {
         "cgroup.proc",
         "cgroup.procs ",
         "Cgroup.procs",
-        "pids.peak",
+        "pids.peaks",
         "pids.events.locals",
         "cgroup.threads",
     ] {

@@ -5,7 +5,7 @@ use Rattle.std.specs.Cmp.Lexicographic.{pointwise, texts_ties}
 use Rattle.flat_model.specs.Path.{same_name}
 use Rattle.flat_model.specs.File.{file_name, file_named}
 use Rattle.interface_files.specs.declared.file.File.{File}
-use Rattle.interface_files.specs.declared.file.File.TheVariants.{Procs, Events, Stat, MaxDescendants, MaxDepth, KillFile, PidsMax, PidsCurrent, PidsEvents, PidsEventsLocal}
+use Rattle.interface_files.specs.declared.file.File.TheVariants.{Procs, Events, Stat, MaxDescendants, MaxDepth, KillFile, PidsMax, PidsCurrent, PidsPeak, PidsEvents, PidsEventsLocal}
 use Rattle.interface_files.specs.Meaning.{file_of}
 
 pub same_bytes : (a b name : List ℕ) (r : Bool) → a ≡ b → r ≡ pointwise nat_eq a name → r ≡ same_name b name
@@ -20,7 +20,7 @@ find-map f p [] = refl
 find-map f p (x ∷ xs) = cond_map f (p (f x)) x (find (λ y. p (f y)) xs) (find p (map f xs)) (find-map f p xs)
 
 abbrev pub every_file : List File
-every_file = Procs ∷ Events ∷ Stat ∷ MaxDescendants ∷ MaxDepth ∷ KillFile ∷ PidsMax ∷ PidsCurrent ∷ PidsEvents ∷ PidsEventsLocal ∷ []
+every_file = Procs ∷ Events ∷ Stat ∷ MaxDescendants ∷ MaxDepth ∷ KillFile ∷ PidsMax ∷ PidsCurrent ∷ PidsPeak ∷ PidsEvents ∷ PidsEventsLocal ∷ []
 
 pub file_is : (name : List ℕ) → option_map file_of (find (λ f. same_name (file_name (file_of f)) name) every_file) ≡ file_named name
 file_is name = find-map file_of (λ f. same_name (file_name f) name) every_file

@@ -3,7 +3,7 @@ use Rattle.std.specs.Prelude.{Result, Ok, Err}
 use Rattle.flat_model.specs.File as model_file
 use Rattle.flat_model.specs.Values as model_values
 use Rattle.interface_files.specs.declared.file.File.{File}
-use Rattle.interface_files.specs.declared.file.File.TheVariants.{Procs, Events, Stat, MaxDescendants, MaxDepth, KillFile, PidsMax, PidsCurrent, PidsEvents, PidsEventsLocal}
+use Rattle.interface_files.specs.declared.file.File.TheVariants.{Procs, Events, Stat, MaxDescendants, MaxDepth, KillFile, PidsMax, PidsCurrent, PidsPeak, PidsEvents, PidsEventsLocal}
 use Rattle.interface_files.specs.declared.fault.ValueFault.{ValueFault}
 use Rattle.interface_files.specs.declared.fault.ValueFault.TheVariants.{Empty, NotANumber, LeadingZero, OutOfRange}
 
@@ -16,6 +16,7 @@ file_of MaxDepth = model_file.LimitOf model_file.MaxDepth
 file_of KillFile = model_file.KillFile
 file_of PidsMax = model_file.LimitOf model_file.PidsMax
 file_of PidsCurrent = model_file.PidsCurrent
+file_of PidsPeak = model_file.PidsPeak
 file_of PidsEvents = model_file.PidsEvents
 file_of PidsEventsLocal = model_file.PidsEventsLocal
 

@@ -88,6 +88,7 @@ fn text_of<A: Allocator + Clone, M: Meter, B: Allocator + Clone, P: Allocator + 
                 File::MaxDescendants => limit_line(alloc, attr.limits.descendants)?,
                 File::MaxDepth => limit_line(alloc, attr.limits.depth)?,
                 File::PidsMax => limit_line(alloc, attr.limits.pids)?,
+                File::PidsPeak => number_line(alloc, attr.peak)?,
                 File::PidsEvents => events_line(alloc, attr.total)?,
                 File::PidsEventsLocal => events_line(alloc, attr.local)?,
                 _ => unreachable!(),

@@ -24,6 +24,8 @@ pub enum File {
     PidsMax,
     /// `pids.current`: how many processes are in the group and below it. The root has none.
     PidsCurrent,
+    /// `pids.peak`: the most processes that have been in the group and below it at once. The root has none.
+    PidsPeak,
     /// `pids.events`: how many forks its `pids.max`, or one below it, has refused. The root has none.
     PidsEvents,
     /// `pids.events.local`: how many forks its own `pids.max` has refused. The root has none.
@@ -31,7 +33,7 @@ pub enum File {
 }
 
 /// All interface files.
-const FILES: [File; 10] = [
+const FILES: [File; 11] = [
     File::Procs,
     File::Events,
     File::Stat,
@@ -40,6 +42,7 @@ const FILES: [File; 10] = [
     File::KillFile,
     File::PidsMax,
     File::PidsCurrent,
+    File::PidsPeak,
     File::PidsEvents,
     File::PidsEventsLocal,
 ];
@@ -78,6 +81,7 @@ impl File {
             File::KillFile => b"cgroup.kill",
             File::PidsMax => b"pids.max",
             File::PidsCurrent => b"pids.current",
+            File::PidsPeak => b"pids.peak",
             File::PidsEvents => b"pids.events",
             File::PidsEventsLocal => b"pids.events.local",
         }
@@ -90,7 +94,8 @@ impl File {
         match self {
             File::Procs | File::Stat | File::MaxDescendants | File::MaxDepth => true,
             File::Events | File::KillFile => false,
-            File::PidsMax | File::PidsCurrent | File::PidsEvents | File::PidsEventsLocal => false,
+            File::PidsMax | File::PidsCurrent | File::PidsPeak => false,
+            File::PidsEvents | File::PidsEventsLocal => false,
         }
     }
 
@@ -109,7 +114,8 @@ impl File {
             File::Procs | File::KillFile => true,
             File::MaxDescendants | File::MaxDepth | File::PidsMax => true,
             File::Events | File::Stat => false,
-            File::PidsCurrent | File::PidsEvents | File::PidsEventsLocal => false,
+            File::PidsCurrent | File::PidsPeak => false,
+            File::PidsEvents | File::PidsEventsLocal => false,
         }
     }
 }

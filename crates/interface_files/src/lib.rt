@@ -1,6 +1,6 @@
 //! The interface files of the groups: their names, the values that are written to them, and their texts.
 //!
-//! - There are ten files (`File`). Every group has `cgroup.procs`, `cgroup.stat`, `cgroup.max.descendants` and
+//! - There are eleven files (`File`). Every group has `cgroup.procs`, `cgroup.stat`, `cgroup.max.descendants` and
 //!   `cgroup.max.depth`; every group but the root has the others too. All but `cgroup.kill` are read. A pid is written to
 //!   `cgroup.procs`, `1` to `cgroup.kill`, and a limit to the three files of limits.
 //! - A value is decimal digits without a leading zero, with blanks, tabs, line feeds and carriage returns dropped at both

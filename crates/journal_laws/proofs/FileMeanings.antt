@@ -4,7 +4,7 @@ use Rattle.flat_model.specs.File as model_file
 use Rattle.flat_model.specs.Values as model_values
 use Rattle.interface_files.specs.Meaning.{file_of, value_fault_of}
 use Rattle.interface_files.specs.declared.file.File.{File}
-use Rattle.interface_files.specs.declared.file.File.TheVariants.{Procs, Events, Stat, MaxDescendants, MaxDepth, KillFile, PidsMax, PidsCurrent, PidsEvents, PidsEventsLocal}
+use Rattle.interface_files.specs.declared.file.File.TheVariants.{Procs, Events, Stat, MaxDescendants, MaxDepth, KillFile, PidsMax, PidsCurrent, PidsPeak, PidsEvents, PidsEventsLocal}
 use Rattle.interface_files.specs.declared.fault.ValueFault.{ValueFault}
 use Rattle.interface_files.specs.declared.fault.ValueFault.TheVariants.{Empty, NotANumber, LeadingZero, OutOfRange}
 
@@ -17,6 +17,7 @@ file_for (model_file.LimitOf model_file.MaxDescendants) = (MaxDescendants, refl)
 file_for (model_file.LimitOf model_file.MaxDepth) = (MaxDepth, refl)
 file_for model_file.KillFile = (KillFile, refl)
 file_for model_file.PidsCurrent = (PidsCurrent, refl)
+file_for model_file.PidsPeak = (PidsPeak, refl)
 file_for model_file.PidsEvents = (PidsEvents, refl)
 file_for model_file.PidsEventsLocal = (PidsEventsLocal, refl)
 

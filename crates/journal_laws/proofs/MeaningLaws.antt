@@ -38,6 +38,7 @@ file_meant (model_file.LimitOf model_file.MaxDescendants) = (file.MaxDescendants
 file_meant (model_file.LimitOf model_file.MaxDepth) = (file.MaxDepth, refl)
 file_meant model_file.KillFile = (file.KillFile, refl)
 file_meant model_file.PidsCurrent = (file.PidsCurrent, refl)
+file_meant model_file.PidsPeak = (file.PidsPeak, refl)
 file_meant model_file.PidsEvents = (file.PidsEvents, refl)
 file_meant model_file.PidsEventsLocal = (file.PidsEventsLocal, refl)
 

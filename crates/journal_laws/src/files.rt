@@ -40,6 +40,7 @@ ghost use Rattle.interface_files.specs.declared.file.File.TheVariants.{
   KillFile,
   PidsMax,
   PidsCurrent,
+  PidsPeak,
   PidsEvents,
   PidsEventsLocal,
 };
@@ -57,6 +58,7 @@ pub fn files_are_the_models()
         × (file_name (file_of KillFile) ≡ codes "cgroup.kill")
         × (file_name (file_of PidsMax) ≡ codes "pids.max")
         × (file_name (file_of PidsCurrent) ≡ codes "pids.current")
+        × (file_name (file_of PidsPeak) ≡ codes "pids.peak")
         × (file_name (file_of PidsEvents) ≡ codes "pids.events")
         × (file_name (file_of PidsEventsLocal) ≡ codes "pids.events.local") }
     ensures root { (f : File) → on_root (file_of f) ≡ true

@@ -120,7 +120,8 @@ pub fn history_begins_at_the_start()
 {}
 
 /// Each group counts its own members and what its children count, and no other process; it is
-/// populated exactly where some process has its home in it or below it.
+/// populated exactly where some process has its home in it or below it. No group but the root counts
+/// more than its peak.
 pub fn counts_are_kept()
     ensures whole { (slots : ℕ) (old new : Machine) (c : model.Command) (g : Path)
         → KeepsHistory slots old c new
@@ -132,6 +133,9 @@ pub fn counts_are_kept()
     ensures populated { (slots : ℕ) (old new : Machine) (c : model.Command) (g : Path)
         → KeepsHistory slots old c new → (populated new.state g ≡ true)
         ↔ ((pid : ℕ) × (at : Path) × (get new.state.home pid ≡ Some at) × (at_or_below at g ≡ true)) }
+    ensures peak { (slots : ℕ) (old new : Machine) (c : model.Command) (g : Path) (x : Attr)
+        → KeepsHistory slots old c new → g ≢ [] → get new.state.groups g ≡ Some x
+        → current new.state g ≤ x.peak }
 {}
 
 /// Where everything was undone, the start is left and as many commands are told as were recorded.
@@ -212,10 +216,10 @@ pub fn journals_are_histories()
 pub fn records_can_be_taken_back()
     ensures made { (slots : ℕ) (m : Machine) (p : Path) → IsReady slots m.state (Made p)
         → (tick slots m (model.RemoveGroup p)).1 ≡ model.Done }
-    ensures forked { (slots : ℕ) (m : Machine) (pid : ℕ) → IsReady slots m.state (Forked pid)
-        → (tick slots m (model.Exit pid)).1 ≡ model.Done }
-    ensures moved { (slots : ℕ) (m : Machine) (pid : ℕ) (p : Path)
-        → IsReady slots m.state (Moved pid p) → (tick slots m (model.Move p pid)).1 ≡ model.Done }
+    ensures forked { (slots : ℕ) (m : Machine) (pid : ℕ) (peaks : List ℕ)
+        → IsReady slots m.state (Forked pid peaks) → (tick slots m (model.Exit pid)).1 ≡ model.Done }
+    ensures moved { (slots : ℕ) (m : Machine) (pid : ℕ) (p : Path) (peaks : List ℕ)
+        → IsReady slots m.state (Moved pid p peaks) → (tick slots m (model.Move p pid)).1 ≡ model.Done }
     ensures limited { (slots : ℕ) (m : Machine) (p : Path) (file : LimitFile) (value : Limit)
         → IsReady slots m.state (Limited p file value)
         → (tick slots m (model.SetLimit p file value)).1 ≡ model.Done }

@@ -21,7 +21,7 @@ ghost use Rattle.flat_model.specs.Inverse.{back, place_all};
 ghost use Rattle.flat_model.specs.Path.{Path};
 ghost use Rattle.flat_model.specs.Replies.{refusal_text, reply_bytes};
 ghost use Rattle.flat_model.specs.State.{State};
-ghost use Rattle.flat_model.specs.Step.{after, after_refusal};
+ghost use Rattle.flat_model.specs.Step.{after, after_refusal, home_of, set_peaks};
 ghost use Rattle.group_tree.specs.declared.attr.Attr.{Attr};
 ghost use Rattle.group_tree.specs.declared.attr.Limit.{Limit};
 ghost use Rattle.group_tree.specs.declared.attr.Limit.TheVariants as limit;
@@ -116,22 +116,25 @@ pub fn replies_by_their_answers()
     ensures memory { option_map (reply_bytes 7) (reply_of {A = Global} reply.OutOfMemory) ≡ None }
 {}
 
-/// What each record gives back: a group that was made goes, a process that was made ends, a process
-/// that was moved moves back, and a limit is set as it was; a removed group, a process that has
-/// ended and those that were killed stand where they stood, and a fork is no longer counted.
+/// What each record gives back: a group that was made goes, a process that was made ends, one that
+/// was moved stands where it stood, and both give the peaks along the group that they leave back; a
+/// limit is set as it was; a removed group, a process that has ended and those that were killed
+/// stand where they stood, and a fork is no longer counted.
 pub fn records_by_what_they_give_back()
     ensures made { (s : State) (p : Path)
         → back (inverse_of {A = Global} (kept.Made p)) s ≡ after s (model.RemoveGroup p) }
     ensures removed { (s : State) (p : Path) (x : Attr)
         → back (inverse_of {A = Global} (kept.Removed p x)) s
         ≡ record s { groups = insert s.groups p (group_of x) } }
-    ensures forked { (s : State) (pid : ℕ)
-        → back (inverse_of {A = Global} (kept.Forked pid)) s ≡ after s (model.Exit pid) }
+    ensures forked { (s : State) (pid : ℕ) (peaks : List ℕ)
+        → back (inverse_of {A = Global} (kept.Forked pid peaks)) s
+        ≡ set_peaks (home_of s pid) peaks (after s (model.Exit pid)) }
     ensures exited { (s : State) (pid : ℕ) (p : Path)
         → back (inverse_of {A = Global} (kept.Exited pid p)) s
         ≡ record s { home = insert s.home pid p } }
-    ensures moved { (s : State) (pid : ℕ) (p : Path)
-        → back (inverse_of {A = Global} (kept.Moved pid p)) s ≡ after s (model.Move p pid) }
+    ensures moved { (s : State) (pid : ℕ) (p : Path) (peaks : List ℕ)
+        → back (inverse_of {A = Global} (kept.Moved pid p peaks)) s
+        ≡ set_peaks (home_of s pid) peaks (record s { home = insert s.home pid p }) }
     ensures limited { (s : State) (p : Path) (f : LimitFile) (value : Limit)
         → back (inverse_of {A = Global} (kept.Limited p f value)) s
         ≡ after s (model.SetLimit p (limit_file_of f) (limit_of value)) }

@@ -3,4 +3,5 @@ pub mod Table
 pub mod Lists
 pub mod Recount
 pub mod Events
+pub mod Peaks
 pub mod Answers

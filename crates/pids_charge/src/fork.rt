@@ -1,13 +1,13 @@
 //! The making of processes, the forks that a limit refuses, and what takes the count of a refusal back.
 
-ghost use Rattle.std.specs.Prelude.{◌≡◌, ◌≢◌, ℕ, ◌<◌, ◌≤◌, true, Some, None, IfSome, IfErr, OnOk, OnErr, IsSome, MatchOption, length, take};
+ghost use Rattle.std.specs.Prelude.{◌≡◌, ◌≢◌, ℕ, ◌<◌, ◌≤◌, true, Some, None, IfSome, IfOk, IfErr, OnOk, OnErr, IsSome, MatchOption, length, take};
 ghost use Rattle.std.specs.FinMap as fin;
 ghost use Rattle.std.specs.Ordering.{nat_cmp};
 ghost use Rattle.flat_model.specs.Path.{Path};
 ghost use Rattle.flat_model.specs.Command.{Fork, OverPidsMax};
 ghost use Rattle.flat_model.specs.Counts.{has_process};
 ghost use Rattle.flat_model.specs.Inverse.{back, Counted};
-ghost use Rattle.flat_model.specs.Step.{refusal, after, after_refusal, home_of, at_each, count_up, count_down};
+ghost use Rattle.flat_model.specs.Step.{refusal, after, after_refusal, home_of, peaks_upward, at_each, count_up, count_down};
 ghost use Rattle.group_tree.specs.Refusals.{HasRoomForRefusals};
 ghost use Rattle.pids_charge.specs.Answers.{Does, refusal_of, names_in};
 ghost use Rattle.pids_charge.specs.Events.{full_by, longest, flat_of, HasRoomForEvents, HasEvents};
@@ -16,6 +16,7 @@ ghost use Rattle.pids_charge.specs.Recount.{SlotsBelow, SameSlots};
 use crate::charges::Charges;
 use crate::fault::ChargeFault;
 use crate::meter::Meter;
+use crate::peaks::{Peaks, room_for_peaks};
 use crate::pid::Pid;
 use group_path::GroupPath;
 use group_tree::{Attr, GroupTree, Limit};
@@ -115,20 +116,25 @@ impl<A: Allocator + Clone, M: Meter> Charges<A, M> {
         None
     }
 
-    /// Makes a process that `fork` would not refuse, in the group of its parent, charged at the leaf of `who`. Costs one
-    /// descent of the tree.
+    /// Makes a process that `fork` would not refuse, in the group of its parent, charged at the leaf of `who`, and raises the
+    /// peaks of that group and of those above it but the root. The peaks that they had are answered, from the group upward.
+    /// Costs two descents of the tree, and a third where a peak rises.
     ///
     /// # Errors
     ///
     /// `OutOfMemory`; nothing has changed then.
-    pub fn make_process(&mut self, who: u8, parent: Pid, child: Pid) -> Result<(), ChargeFault>
+    pub fn make_process(&mut self, who: u8, parent: Pid, child: Pid) -> Result<Peaks<A>, ChargeFault>
         requires { refusal M.SLOTS self.old (Fork parent child) ≡ None }
         ensures made { OnOk result (self.new ≡ after self.old (Fork parent child)) }
+        ensures peaks { IfOk result (λ peaks. peaks ≡ peaks_upward self.old (home_of self.old parent)) }
         ensures memory { IfErr result (λ f. f ≡ ChargeFault.OutOfMemory) }
         ensures kept { OnErr result (self.new ≡ self.old) }
     {
         let Some(process) = self.processes.get(&parent) else {
             unreachable!()
+        };
+        let Ok(mut earlier) = room_for_peaks(&self.alloc, &process.home) else {
+            return Err(ChargeFault::OutOfMemory);
         };
         let Ok(alloc) = self.alloc.clone() else {
             return Err(ChargeFault::OutOfMemory);
@@ -136,7 +142,11 @@ impl<A: Allocator + Clone, M: Meter> Charges<A, M> {
         let Ok(home) = process.home.copy(alloc) else {
             return Err(ChargeFault::OutOfMemory);
         };
-        self.settle_in(who, child, home)
+        if let Err(fault) = self.settle_in(who, child, home) {
+            return Err(fault);
+        }
+        self.raise_peaks(child, earlier.as_mut_slice());
+        Ok(Peaks::of(earlier))
     }
 
     /// Counts a fork that the group at the first `n` names of the parent's path refuses: one more in the local total of that
@@ -155,20 +165,23 @@ impl<A: Allocator + Clone, M: Meter> Charges<A, M> {
         count_refusal(&mut self.tree, &process.home, n);
     }
 
-    /// Makes a process in the group of its parent, charged at the leaf of `who`. Costs two descents of the tree: one asks the
-    /// limits, all up to the root, and one charges, or counts the refusal.
+    /// Makes a process in the group of its parent, charged at the leaf of `who`, and raises the peaks of that group and of
+    /// those above it but the root. The peaks that they had are answered, from the group upward. Costs three descents of the
+    /// tree, and a fourth where a peak rises: one asks the limits, all up to the root, one charges, and one sees the peaks. A
+    /// refusal costs two: the second counts it.
     ///
     /// # Errors
     ///
     /// The first that holds, in this order: `NoProcess` of the parent, `PidInUse` of the child, `PidsMax`, `OutOfMemory`.
     /// `PidsMax(n)` names the nearest group, from the parent's upward, whose `pids.max` one process more would exceed, by
     /// the first n names of the parent's path. It counts the refused fork: one more in the local total of that group, and
-    /// in the totals of it and of the groups above it but the root. Nothing else has changed then, and nothing at all
-    /// after the other three.
-    pub fn fork(&mut self, who: u8, parent: Pid, child: Pid) -> Result<(), ChargeFault>
+    /// in the totals of it and of the groups above it but the root. Nothing else has changed then, no peak either, and
+    /// nothing at all after the other three.
+    pub fn fork(&mut self, who: u8, parent: Pid, child: Pid) -> Result<Peaks<A>, ChargeFault>
         requires { HasRoomForEvents self.old }
         ensures state { Does M.SLOTS self.old (Fork parent child) (home_of self.old parent) result self.new }
         ensures inside { IfErr result (λ f. names_in f ≤ length (home_of self.old parent)) }
+        ensures peaks { IfOk result (λ peaks. peaks ≡ peaks_upward self.old (home_of self.old parent)) }
     {
         match self.refuses_fork(parent, child) {
             None => self.make_process(who, parent, child),

@@ -8,12 +8,16 @@
 //! - A fork is refused where one process more would exceed the `pids.max` of a group at or above the parent's. The nearest
 //!   such group is named, and its event totals rise: the local total of that group, and the total of it and of each group
 //!   above it but the root. Moves, and limits set below what there is, are never blocked.
+//! - The peak of a group beside the root is the most processes that were at or below it at once. A fork and a move raise the
+//!   peaks along the path that the process comes to, once it stands there; a refused fork raises none, and nothing lowers
+//!   one but `set_peaks`. Both answer the peaks that were there.
 //! - Refusals come in a fixed order, want of memory last, and change nothing but those totals.
 //! - Beside each command stands what takes it back without asking any limit: `restore` for a removal, `place` for an exit,
-//!   `place_all` for a kill, `uncount` for a refused fork. A move and a limit are taken back by themselves.
+//!   `place_all` for a kill, `uncount` for a refused fork, `rehome` for a move; and `set_peaks` for what a fork or a move
+//!   raised. A limit is taken back by itself. None of them raises a peak.
 //! - `refuses_mkdir`, `refuses_rmdir` and `refuses_fork` only decide. What a call does once it has decided stands beside it, for
 //!   a caller that asks for memory of its own in between: `make_group`, `take_group`, `make_process`, `count_fork`.
-//! - `exit`, `count_fork`, `uncount`, `rmdir`, `set_limit`, the readers and what only decides take no memory. The table of free
+//! - `exit`, `set_peaks`, `count_fork`, `uncount`, `rmdir`, `set_limit`, the readers and what only decides take no memory. The table of free
 //!   slots is made whole by `new`.
 //! - A walk along a path goes down the tree once, so that a fork, an exit and a move cost
 //!   O(log processes + depth · log children) comparisons; a path has at most 32 names.
@@ -23,7 +27,7 @@
 //! Not promised: which slot a group gets, and in which stripe of a meter an amount stands.
 //!
 //! `specs/Recount.antt` says what ties meter, tree and table, `specs/Answers.antt` what a call that is a command answers
-//! and leaves, `specs/Events.antt` what a limit refuses and what is counted.
+//! and leaves, `specs/Events.antt` what a limit refuses and what is counted, `specs/Peaks.antt` what peaks rise to.
 #![tactic(auto)]
 
 mod charges;
@@ -38,6 +42,7 @@ mod lost;
 mod meter;
 mod migrate;
 mod mkdir;
+mod peaks;
 mod pid;
 mod place;
 mod plain;
@@ -51,6 +56,8 @@ pub use fault::ChargeFault;
 pub use gate::{Gate, OpenGate};
 pub use lost::{Lost, LostList};
 pub use meter::{HELD_MAX, Meter};
+pub use migrate::Shifted;
+pub use peaks::Peaks;
 pub use pid::{PID_MAX, Pid};
 pub use plain::PlainMeter;
 pub use snzi_core::Token;

@@ -1,23 +1,36 @@
-//! The moves of processes. A move is taken back by a move to the old group.
+//! The moves of processes, and what takes one back.
 
-ghost use Rattle.std.specs.Prelude.{◌≡◌, ◌≤◌, length, IfOk, IfErr};
+ghost use Rattle.std.specs.Prelude.{◌≡◌, ◌≤◌, true, length, IsSome, IfOk, IfErr, OnOk, OnErr};
+ghost use Rattle.std.specs.FinMap as fin;
 ghost use Rattle.flat_model.specs.Command.{Move};
-ghost use Rattle.flat_model.specs.Step.{home_of};
+ghost use Rattle.flat_model.specs.Counts.{has_process};
+ghost use Rattle.flat_model.specs.Inverse.{back, Exited};
+ghost use Rattle.flat_model.specs.Step.{home_of, peaks_upward};
 ghost use Rattle.pids_charge.specs.Answers.{Does, names_in};
 
 use crate::charges::Charges;
 use crate::fault::ChargeFault;
 use crate::meter::Meter;
+use crate::peaks::{Peaks, room_for_peaks};
 use crate::pid::Pid;
 use crate::process::Process;
 use crate::walk::{charge_along, uncharge_along};
 use group_path::GroupPath;
 use std::alloc::Allocator;
 
+/// What a move left behind: the group that the process was in, and the peaks that the groups along its new path had.
+#[derive(Drop)]
+pub struct Shifted<A: Allocator + Clone> {
+    pub path: GroupPath<A>,
+    pub peaks: Peaks<A>,
+}
+
 impl<A: Allocator + Clone, M: Meter> Charges<A, M> {
-    /// Moves a process to the group, where it is charged at the leaf of `who`. Its old group is answered: the path that the
-    /// table had. No limit is asked. Costs three descents of the tree: one sees that the group is there, one takes the
-    /// charges along the old path, and one makes those along the new.
+    /// Moves a process to the group, where it is charged at the leaf of `who`, and raises the peaks of the group and of those
+    /// above it but the root, once it is there. Its old group is answered, the path that the table had, and the peaks that
+    /// the groups along the new path had. No limit is asked. Costs four descents of the tree, and a fifth where a peak rises:
+    /// one sees that the group is there, one takes the charges along the old path, one makes those along the new, and one
+    /// sees the peaks.
     ///
     /// # Errors
     ///
@@ -27,10 +40,11 @@ impl<A: Allocator + Clone, M: Meter> Charges<A, M> {
         who: u8,
         pid: Pid,
         path: &GroupPath<B>,
-    ) -> Result<GroupPath<A>, ChargeFault>
+    ) -> Result<Shifted<A>, ChargeFault>
         ensures state { Does M.SLOTS self.old (Move path.now pid) path.now result self.new }
         ensures inside { IfErr result (λ f. names_in f ≤ length path.now) }
-        ensures old_home { IfOk result (λ home. home ≡ home_of self.old pid) }
+        ensures old_home { IfOk result (λ shifted. shifted.path ≡ home_of self.old pid) }
+        ensures peaks { IfOk result (λ shifted. shifted.peaks ≡ peaks_upward self.old path.now) }
     {
         if self.tree.find(path).is_none() {
             return Err(ChargeFault::NoGroup(path.depth()));
@@ -38,6 +52,40 @@ impl<A: Allocator + Clone, M: Meter> Charges<A, M> {
         if !self.processes.contains_key(&pid) {
             return Err(ChargeFault::NoProcess(pid));
         }
+        let Ok(mut earlier) = room_for_peaks(&self.alloc, path) else {
+            return Err(ChargeFault::OutOfMemory);
+        };
+        match self.rehome(who, pid, path) {
+            Err(fault) => Err(fault),
+            Ok(old) => {
+                self.raise_peaks(pid, earlier.as_mut_slice());
+                Ok(Shifted {
+                    path: old,
+                    peaks: Peaks::of(earlier),
+                })
+            }
+        }
+    }
+
+    /// Puts a process into another group, charged at the leaf of `who`, and raises no peak: with `set_peaks` it takes a move
+    /// back. Its old group is answered, the path that the table had. No limit is asked. Costs two descents of the tree.
+    ///
+    /// # Errors
+    ///
+    /// `OutOfMemory`; nothing has changed then.
+    pub fn rehome<B: Allocator + Clone>(
+        &mut self,
+        who: u8,
+        pid: Pid,
+        path: &GroupPath<B>,
+    ) -> Result<GroupPath<A>, ChargeFault>
+        requires group { IsSome (fin.get self.old.groups path.now) }
+        requires process { has_process self.old pid ≡ true }
+        ensures placed { OnOk result (self.new ≡ back (Exited pid path.now) self.old) }
+        ensures old_home { IfOk result (λ home. home ≡ home_of self.old pid) }
+        ensures memory { IfErr result (λ f. f ≡ ChargeFault.OutOfMemory) }
+        ensures kept { OnErr result (self.new ≡ self.old) }
+    {
         let Ok(alloc) = self.alloc.clone() else {
             return Err(ChargeFault::OutOfMemory);
         };

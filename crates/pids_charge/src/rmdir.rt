@@ -85,7 +85,7 @@ impl<A: Allocator + Clone, M: Meter> Charges<A, M> {
         Ok(self.take_group(path))
     }
 
-    /// Puts a group back with its limits and event totals, on any free slot: the slot in `attr` binds nothing. No limit
+    /// Puts a group back with its limits, event totals and peak, on any free slot: the slot in `attr` binds nothing. No limit
     /// of the groups above it is asked. Costs one descent of the tree.
     ///
     /// # Errors

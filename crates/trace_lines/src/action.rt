@@ -52,8 +52,10 @@ fn write_value(file: File, value: &[u8]) -> Result<Action, TextFault>
             Ok(()) => Ok(Action::Kill),
             Err(_) => Err(TextFault::Value),
         },
-        File::Events | File::Stat | File::PidsCurrent | File::PidsEvents | File::PidsEventsLocal =>
-            Err(TextFault::Direction),
+        File::Events | File::Stat => Err(TextFault::Direction),
+        File::PidsCurrent | File::PidsPeak | File::PidsEvents | File::PidsEventsLocal => {
+            Err(TextFault::Direction)
+        }
     }
 }
 

@@ -1,5 +1,5 @@
 -- A record that a step left can be taken back.
-use Rattle.std.proofs.Common.{◌≡◌, ℕ, ◌-◌, ◌<◌, ◌≤◌, Bool, true, false, cond, not, ◌&&◌, ◌||◌, List, [], ◌∷◌, Option, Some, None, refl, sym, ap, subst, ◌∙◌, is_some, arith, ltb}
+use Rattle.std.proofs.Common.{◌≡◌, ℕ, ◌-◌, ◌<◌, ◌≤◌, Bool, true, false, cond, not, ◌&&◌, ◌||◌, List, [], ◌∷◌, length, Option, Some, None, refl, sym, ap, subst, ◌∙◌, is_some, arith, ltb}
 use Rattle.std.proofs.lemmas.Bool.Decides.{nat_tests}
 use Rattle.std.specs.declared.cmp.Ordering.{Ordering}
 use Rattle.std.specs.Prelude.{option_map, unwrap_or, count_by}
@@ -14,7 +14,7 @@ use Rattle.flat_model.specs.Command as model
 use Rattle.flat_model.specs.File.{LimitFile, is_pids_max}
 use Rattle.flat_model.specs.Inverse.{Inverse, back, inverse, inverse_of_refusal}
 use Rattle.flat_model.specs.Refuse.{refuse}
-use Rattle.flat_model.specs.Step.{refusal, after, after_refusal, with_limit, limit_at, attr_of, home_of, count_up, counts_for}
+use Rattle.flat_model.specs.Step.{refusal, after, after_refusal, with_limit, limit_at, attr_of, home_of, count_up, counts_for, raise_peak, raise_peaks, peaks_upward}
 use Rattle.flat_model.specs.WellFormed.{WellFormed}
 use Rattle.flat_model.proofs.PathLaws.{path_cmp-IsTotalOrder, path_cmp-IsAntisymmetric, strictly_below_is, same_path_is, same_path_itself, at_or_below_itself}
 use Rattle.flat_model.proofs.Maps.{get-own, get-each}
@@ -22,6 +22,7 @@ use Rattle.flat_model.proofs.Kept.{below_parent}
 use Rattle.flat_model.proofs.Counting.{populated_is}
 use Rattle.flat_model.proofs.Sums.{count_by-cons}
 use Rattle.flat_model.proofs.Limits.{fork_refused}
+use Rattle.flat_model.proofs.Peaks.{length-peaks_upward}
 use Rattle.flat_model.proofs.Refusing.{passed, beyond, affirmed, absent}
 use Rattle.pids_charge.specs.Events.{HasEvents}
 use Rattle.undo_journal.specs.Answer.{record_of, record_by, state_by}
@@ -144,6 +145,20 @@ limitable slots s p file value n g = λ i. refuse (n i) model.NoFile (refuse (no
 own_process : (t : State) (pid : ℕ) (p : Path) → is_some (get (insert t.home pid p) pid) ≡ true
 own_process t pid p = ap is_some (get-own nat_cmp_total nat_cmp-IsAntisymmetric t.home pid p)
 
+-- a process that comes to a group changes no group but its peak
+came_there : (f : Attr → Attr) (o : Option Attr) → is_some (option_map f o) ≡ is_some o
+came_there f None = refl
+came_there f (Some x) = refl
+
+group_after : (t : State) (pid : ℕ) (p q : Path) → is_group (raise_peaks p (record t { home = insert t.home pid p })) q ≡ is_group t q
+group_after t pid p q =
+    let f = raise_peak (record t { home = insert t.home pid p }) p in
+    ap is_some (get-each path_cmp-IsTotalOrder path_cmp-IsAntisymmetric f t.groups q) ∙ came_there (f q) (get t.groups q)
+
+-- and the peaks that its record keeps are one for each name of its group
+as_many_peaks : (t : State) (pid : ℕ) (p : Path) → length (peaks_upward t p) ≡ length (home_of (raise_peaks p (record t { home = insert t.home pid p })) pid)
+as_many_peaks t pid p = length-peaks_upward t p ∙ sym (ap (λ (o : Option Path). length (unwrap_or o [])) (get-own nat_cmp_total nat_cmp-IsAntisymmetric t.home pid p))
+
 -- ---- each accepted command leaves a record that is ready
 accepted_ready : (slots : ℕ) (t : State) → WellFormed slots t → (c : model.Command) → refusal slots t c ≡ None → ReadyBy slots (after t c) (inverse t c)
 accepted_ready slots t w (model.MakeGroup p) none = made_removable slots t w p (passed _ _ _ none)
@@ -151,10 +166,15 @@ accepted_ready slots t w (model.RemoveGroup p) none =
     let not_root = passed _ _ _ none in
     let there = affirmed _ (passed _ _ _ (beyond _ _ _ none)) in
     (absent _ (removed_gone slots t w p not_root there), removed_under slots t w p not_root there, removed_room slots t w p not_root there)
-accepted_ready slots t w (model.Fork from child) none = exitable slots (after t (model.Fork from child)) child (own_process t child (home_of t from))
+accepted_ready slots t w (model.Fork from child) none = (
+  exitable slots (after t (model.Fork from child)) child (own_process t child (home_of t from)),
+  as_many_peaks t child (home_of t from),
+)
 accepted_ready slots t w (model.Exit pid) none = (absent _ (exited_gone t pid), home_group slots t w pid (affirmed _ (passed _ _ _ none)))
-accepted_ready slots t w (model.Move p pid) none =
-    movable slots (after t (model.Move p pid)) (home_of t pid) pid (home_group slots t w pid (affirmed _ (passed _ _ _ (beyond _ _ _ none)))) (own_process t pid p)
+accepted_ready slots t w (model.Move p pid) none = (
+  movable slots (after t (model.Move p pid)) (home_of t pid) pid (group_after t pid p (home_of t pid) ∙ home_group slots t w pid (affirmed _ (passed _ _ _ (beyond _ _ _ none)))) (own_process t pid p),
+  as_many_peaks t pid p,
+)
 accepted_ready slots t w (model.SetLimit p file value) none =
     limitable slots (after t (model.SetLimit p file value)) p file (limit_at file (attr_of t p)) (passed _ _ _ none) (ap is_some (get-own path_cmp-IsTotalOrder path_cmp-IsAntisymmetric t.groups p (with_limit file value (attr_of t p))))
 accepted_ready slots t w (model.Kill g) none = killed_ready slots t w g

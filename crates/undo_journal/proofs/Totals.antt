@@ -8,7 +8,7 @@ use Rattle.flat_model.specs.State.{State, Attr, Limit, fresh, start}
 use Rattle.flat_model.specs.File.{LimitFile, PidsMax, MaxDescendants, MaxDepth}
 use Rattle.flat_model.specs.Command as model
 use Rattle.flat_model.specs.Inverse.{Inverse, back}
-use Rattle.flat_model.specs.Step.{refusal, after, after_refusal, attr_of, with_limit, count_up, counts_for}
+use Rattle.flat_model.specs.Step.{refusal, after, after_refusal, home_of, attr_of, with_limit, count_up, counts_for, at_each, raise_peak}
 use Rattle.flat_model.proofs.PathLaws.{path_cmp-IsTotalOrder, path_cmp-IsAntisymmetric}
 use Rattle.flat_model.proofs.Maps.{get-each}
 use Rattle.pids_charge.specs.Events.{HasRoomForEvents}
@@ -57,6 +57,14 @@ counted a q n (Some x) h attr e =
     let one = at_most_one (counts_for a q) in
     subst (λ (y : Attr). y.total ≤ suc n) (let same : count_up a q x ≡ attr = cc in same) (omega (arith, l, one))
 
+-- a process that comes raises no total
+raised : (t s : State) (n : ℕ) → AtMost s n → (a : Path) → AtMost (at_each (raise_peak t a) s) n
+raised t s n h a q attr is = by (get s.groups q) (h q) (sym (get-each path_cmp-IsTotalOrder path_cmp-IsAntisymmetric (raise_peak t a) s.groups q) ∙ is)
+  where
+    by : (o : Option Attr) → ((x : Attr) → o ≡ Some x → x.total ≤ n) → option_map (raise_peak t a q) o ≡ Some attr → attr.total ≤ n
+    by None f e = cc
+    by (Some x) f e = subst (λ (y : Attr). y.total ≤ n) (let same : raise_peak t a q x ≡ attr = cc in same) (f x refl)
+
 at_start : AtMost start 0
 at_start q attr is =
     elim (eq_by_cmp path_cmp q []) as (λ b. cond b (Some fresh) (get (empty {R = path_cmp}) q) ≡ Some attr → attr.total ≤ 0) [
@@ -67,9 +75,9 @@ at_start q attr is =
 accepted : (t : State) (n : ℕ) → AtMost t n → (c : model.Command) → AtMost (after t c) n
 accepted t n h (model.MakeGroup p) = put t n h p fresh (omega arith)
 accepted t n h (model.RemoveGroup p) = taken t n h p
-accepted t n h (model.Fork from child) = h
+accepted t n h (model.Fork from child) = raised (record t { home = insert t.home child (home_of t from) }) (record t { home = insert t.home child (home_of t from) }) n h (home_of t from)
 accepted t n h (model.Exit pid) = h
-accepted t n h (model.Move p pid) = h
+accepted t n h (model.Move p pid) = raised (record t { home = insert t.home pid p }) (record t { home = insert t.home pid p }) n h p
 accepted t n h (model.SetLimit p file value) =
     put t n h p (with_limit file value (attr_of t p)) (let l = own n (get t.groups p) (h p) in let e = limited file value (attr_of t p) in omega (arith, l, e))
 accepted t n h (model.Kill g) = h

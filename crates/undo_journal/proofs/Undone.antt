@@ -49,6 +49,7 @@ module _ (slots : ℕ) where
     all_undone = h.all_undone;
     counts = current_is slots new.state h.well_formed.0;
     populations = populated_is new.state;
+    peaks = h.well_formed.0.peaks;
   }
 
   -- ---- an answer, or want of memory

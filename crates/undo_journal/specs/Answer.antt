@@ -47,9 +47,9 @@ abbrev pub needs_no_memory : Option model_inverse.Inverse → Bool
 needs_no_memory None = false
 needs_no_memory (Some (model_inverse.Made p)) = true
 needs_no_memory (Some (model_inverse.Removed p attr)) = false
-needs_no_memory (Some (model_inverse.Forked pid)) = true
+needs_no_memory (Some (model_inverse.Forked pid peaks)) = true
 needs_no_memory (Some (model_inverse.Exited pid p)) = false
-needs_no_memory (Some (model_inverse.Moved pid p)) = false
+needs_no_memory (Some (model_inverse.Moved pid p peaks)) = false
 needs_no_memory (Some (model_inverse.Limited p file value)) = true
 needs_no_memory (Some (model_inverse.Counted a)) = true
 needs_no_memory (Some (model_inverse.Killed lost)) = false

@@ -1,6 +1,8 @@
 -- What each command that is answered promises of undoing and counting, and what the undoing of everything leaves.
-use Rattle.std.specs.Prelude.{◌≡◌, ℕ, ◌<◌, ◌+◌, ◌-◌, ◌↔◌, true, List, length, sum_by, Result, Ok, Err}
-use Rattle.flat_model.specs.Path.{Path}
+use Rattle.std.specs.Prelude.{◌≡◌, ℕ, ◌<◌, ◌≤◌, ◌+◌, ◌-◌, ◌↔◌, true, false, Some, List, length, sum_by, Result, Ok, Err}
+use Rattle.std.specs.FinMap.{get}
+use Rattle.flat_model.specs.Path.{Path, is_root}
+use Rattle.flat_model.specs.State.{Attr}
 use Rattle.flat_model.specs.Counts.{current, populated, members, children, IsInhabited}
 use Rattle.flat_model.specs.Command.{Command, Undo, Undone}
 use Rattle.flat_model.specs.Machine.{Machine, new_machine, tick, end_of, undos, TakesBackItsOwn}
@@ -25,6 +27,8 @@ pub record KeepsHistory (slots : ℕ) (old : Machine) (c : Command) (new : Machi
   pub counts : (g : Path) → current new.state g ≡ length (members new.state g) + sum_by (current new.state) (children new.state g)
   -- and a group is populated where some process is in it or below it
   pub populations : (g : Path) → (populated new.state g ≡ true) ↔ IsInhabited new.state g
+  -- and no group but the root counts more processes than its peak
+  pub peaks : (g : Path) (attr : Attr) → get new.state.groups g ≡ Some attr → is_root g ≡ false → current new.state g ≤ attr.peak
 
 -- everything is undone, and this is how many commands that was; or the newest of them are, so many, and the rest stands
 abbrev pub UndoesAll : {E : Type 0} → ℕ → Machine → Result ℕ (ℕ × E) → Machine → Type 0

@@ -1,11 +1,11 @@
 -- The machine that a state and a journal stand for, and what the journal says of the states before.
-use Rattle.std.specs.Prelude.{◌≡◌, ℕ, ◌≤◌, List, [], ◌∷◌, map, reverse, None, Some, IsSome, eqb}
+use Rattle.std.specs.Prelude.{◌≡◌, ℕ, ◌≤◌, List, [], ◌∷◌, map, length, reverse, None, Some, IsSome, eqb}
 use Rattle.std.specs.List.{All, IsDistinct}
 use Rattle.std.specs.FinMap.{get, len}
 use Rattle.flat_model.specs.Path.{parent}
 use Rattle.flat_model.specs.State.{State, start}
 use Rattle.flat_model.specs.Command as model
-use Rattle.flat_model.specs.Step.{refusal}
+use Rattle.flat_model.specs.Step.{refusal, home_of}
 use Rattle.flat_model.specs.Inverse as model_inverse
 use Rattle.flat_model.specs.Inverse.{back, past_of}
 use Rattle.flat_model.specs.Machine.{Machine}
@@ -43,12 +43,12 @@ abbrev pub IsReady : ℕ → State → model_inverse.Inverse → Type 0
 IsReady slots s (model_inverse.Made p) = refusal slots s (model.RemoveGroup p) ≡ None
 -- one that was removed has room under its parent
 IsReady slots s (model_inverse.Removed p attr) = (get s.groups p ≡ None) × IsSome (get s.groups (parent p)) × (len s.groups ≤ slots)
--- a process that was made can end
-IsReady slots s (model_inverse.Forked pid) = refusal slots s (model.Exit pid) ≡ None
+-- a process that was made can end, and there is a peak for each name of its group
+IsReady slots s (model_inverse.Forked pid peaks) = (refusal slots s (model.Exit pid) ≡ None) × (length peaks ≡ length (home_of s pid))
 -- one that has ended has left its number, and its group is there
 IsReady slots s (model_inverse.Exited pid p) = (get s.home pid ≡ None) × IsSome (get s.groups p)
--- one that was moved can be moved back
-IsReady slots s (model_inverse.Moved pid p) = refusal slots s (model.Move p pid) ≡ None
+-- one that was moved can be moved back, and there is a peak for each name of the group that it leaves
+IsReady slots s (model_inverse.Moved pid p peaks) = (refusal slots s (model.Move p pid) ≡ None) × (length peaks ≡ length (home_of s pid))
 -- the limit that stood can be set
 IsReady slots s (model_inverse.Limited p file value) = refusal slots s (model.SetLimit p file value) ≡ None
 -- a counted fork stands in the totals

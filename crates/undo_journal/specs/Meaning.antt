@@ -52,9 +52,9 @@ reply_of OutOfMemory = None
 abbrev pub inverse_of : {A : Type 0} → Inverse A → model_inverse.Inverse
 inverse_of (Made path) = model_inverse.Made path
 inverse_of (Removed path attr) = model_inverse.Removed path (group_of attr)
-inverse_of (Forked pid) = model_inverse.Forked pid
+inverse_of (Forked pid peaks) = model_inverse.Forked pid peaks
 inverse_of (Exited pid path) = model_inverse.Exited pid path
-inverse_of (Moved pid path) = model_inverse.Moved pid path
+inverse_of (Moved pid path peaks) = model_inverse.Moved pid path peaks
 inverse_of (Limited path file value) = model_inverse.Limited path (limit_file_of file) (limit_of value)
 inverse_of (Counted path) = model_inverse.Counted path
 inverse_of (Killed list) = model_inverse.Killed list

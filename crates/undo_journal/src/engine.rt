@@ -90,7 +90,7 @@ impl<A: Allocator + Clone, M: Meter> Engine<A, M> {
         // The engine goes where the machine goes, and answers what it answers.
         ensures answered { reply_of result ≢ None → Answers M.SLOTS self.old (command_of cmd.now) result self.new }
 
-        // What was recorded can be undone, one command or a whole run, and what is counted is there.
+        // What was recorded can be undone, one command or a whole run; what is counted is there, and no peak is below it.
         ensures headline { reply_of result ≢ None → KeepsHistory M.SLOTS self.old (command_of cmd.now) self.new }
 
         // Where memory was wanting, nothing has changed.

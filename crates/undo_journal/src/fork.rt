@@ -17,7 +17,7 @@ use crate::inverse::Inverse;
 use crate::journal::Entry;
 use crate::reply::{Refusal, Reply};
 use group_path::GroupPath;
-use pids_charge::{ChargeFault, Charges, Meter, Pid};
+use pids_charge::{ChargeFault, Charges, Meter, Peaks, Pid};
 use std::alloc::{AllocError, Allocator};
 
 impl<A: Allocator + Clone, M: Meter> Engine<A, M> {
@@ -40,10 +40,10 @@ impl<A: Allocator + Clone, M: Meter> Engine<A, M> {
     {
         self.journal.reserve(1)?;
         match self.charges.make_process(who, parent, child) {
-            Ok(()) => {
+            Ok(peaks) => {
                 self.journal.push(Entry {
                     command: Command::Fork { parent, child },
-                    inverse: Inverse::Forked { pid: child },
+                    inverse: Inverse::Forked { pid: child, peaks },
                 })?;
                 Ok(())
             }
@@ -90,18 +90,20 @@ impl<A: Allocator + Clone, M: Meter> Engine<A, M> {
     }
 }
 
-/// Takes out a process that was made.
+/// Takes out a process that was made, and sets the peaks along its group as they were.
 pub(crate) fn undo_fork<A: Allocator + Clone, M: Meter>(
     charges: &mut Charges<A, M>,
     who: u8,
     pid: Pid,
+    peaks: &Peaks<A>,
 )
-    requires { IsReady M.SLOTS charges.old (model_inverse.Forked pid) }
-    ensures { charges.new ≡ back (model_inverse.Forked pid) charges.old }
+    requires { IsReady M.SLOTS charges.old (model_inverse.Forked pid peaks.now) }
+    ensures { charges.new ≡ back (model_inverse.Forked pid peaks.now) charges.old }
 {
-    let Ok(_home) = charges.exit(who, pid) else {
+    let Ok(home) = charges.exit(who, pid) else {
         unreachable!()
     };
+    charges.set_peaks(&home, peaks.as_slice());
 }
 
 /// Counts a fork no longer that this group's limit refused.

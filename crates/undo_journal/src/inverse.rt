@@ -5,7 +5,7 @@ ghost use Rattle.undo_journal.specs.Meaning.{inverse_of};
 
 use group_path::GroupPath;
 use group_tree::{Attr, Limit, LimitFile};
-use pids_charge::{LostList, Pid};
+use pids_charge::{LostList, Peaks, Pid};
 use std::alloc::{AllocError, Allocator};
 
 /// What takes one recorded command back.
@@ -23,10 +23,12 @@ pub enum Inverse<A: Allocator + Clone> {
         /// What it had. The slot binds nothing.
         attr: Attr,
     },
-    /// A process was made: it goes.
+    /// A process was made: it goes, and the peaks along its group go back.
     Forked {
         /// The process.
         pid: Pid,
+        /// What the peaks of its group and of the groups above it were, from the group upward, the root left out.
+        peaks: Peaks<A>,
     },
     /// A process has ended: it is put back.
     Exited {
@@ -35,12 +37,15 @@ pub enum Inverse<A: Allocator + Clone> {
         /// The group that it was in.
         path: GroupPath<A>,
     },
-    /// A process was moved: it goes back.
+    /// A process was moved: it goes back, and so do the peaks along the group that it went to.
     Moved {
         /// The process.
         pid: Pid,
         /// The group that it was in.
         path: GroupPath<A>,
+        /// What the peaks of the group that it went to and of the groups above that were, from the group upward, the
+        /// root left out.
+        peaks: Peaks<A>,
     },
     /// A limit was set: it goes back.
     Limited {
@@ -64,7 +69,7 @@ pub enum Inverse<A: Allocator + Clone> {
 }
 
 impl<A: Allocator + Clone> Inverse<A> {
-    /// The same record in other memory, in time linear in its paths.
+    /// The same record in other memory, in time linear in its paths and peaks.
     ///
     /// # Errors
     ///
@@ -80,15 +85,23 @@ impl<A: Allocator + Clone> Inverse<A> {
                 path: path.copy(alloc)?,
                 attr: *attr,
             }),
-            Inverse::Forked { pid } => Ok(Inverse::Forked { pid: *pid }),
+            Inverse::Forked { pid, peaks } => Ok(Inverse::Forked {
+                pid: *pid,
+                peaks: peaks.copy(alloc)?,
+            }),
             Inverse::Exited { pid, path } => Ok(Inverse::Exited {
                 pid: *pid,
                 path: path.copy(alloc)?,
             }),
-            Inverse::Moved { pid, path } => Ok(Inverse::Moved {
-                pid: *pid,
-                path: path.copy(alloc)?,
-            }),
+            Inverse::Moved { pid, path, peaks } => {
+                let path = path.copy(alloc.clone()?)?;
+                let peaks = peaks.copy(alloc)?;
+                Ok(Inverse::Moved {
+                    pid: *pid,
+                    path,
+                    peaks,
+                })
+            }
             Inverse::Limited { path, file, value } => Ok(Inverse::Limited {
                 path: path.copy(alloc)?,
                 file: *file,

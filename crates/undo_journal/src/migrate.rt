@@ -17,7 +17,7 @@ use crate::inverse::Inverse;
 use crate::journal::Entry;
 use crate::reply::{Refusal, Reply};
 use group_path::GroupPath;
-use pids_charge::{Charges, Meter, Pid};
+use pids_charge::{Charges, Meter, Peaks, Pid, Shifted};
 use std::alloc::{AllocError, Allocator};
 
 impl<A: Allocator + Clone, M: Meter> Engine<A, M> {
@@ -38,7 +38,7 @@ impl<A: Allocator + Clone, M: Meter> Engine<A, M> {
         Ok(None)
     }
 
-    /// Moves a process that may go there, and records the group that it was in.
+    /// Moves a process that may go there, and records the group that it was in and the peaks along the one it goes to.
     fn write_home<B: Allocator + Clone>(
         &mut self,
         who: u8,
@@ -52,10 +52,10 @@ impl<A: Allocator + Clone, M: Meter> Engine<A, M> {
         let named = path.copy(self.alloc.clone()?)?;
         self.journal.reserve(1)?;
         match self.charges.migrate(who, pid, path) {
-            Ok(left) => {
+            Ok(Shifted { path, peaks }) => {
                 self.journal.push(Entry {
                     command: Command::Move { path: named, pid },
-                    inverse: Inverse::Moved { pid, path: left },
+                    inverse: Inverse::Moved { pid, path, peaks },
                 })?;
                 Ok(())
             }
@@ -80,19 +80,23 @@ impl<A: Allocator + Clone, M: Meter> Engine<A, M> {
     }
 }
 
-/// Moves a process back.
+/// Moves a process back, and sets the peaks along the group that it leaves as they were.
 pub(crate) fn undo_move<A: Allocator + Clone, M: Meter>(
     charges: &mut Charges<A, M>,
     who: u8,
     pid: Pid,
     path: &GroupPath<A>,
+    peaks: &Peaks<A>,
 ) -> Result<(), AllocError>
-    requires { IsReady M.SLOTS charges.old (model_inverse.Moved pid path.now) }
-    ensures ok { OnOk result (charges.new ≡ back (model_inverse.Moved pid path.now) charges.old) }
+    requires { IsReady M.SLOTS charges.old (model_inverse.Moved pid path.now peaks.now) }
+    ensures ok { OnOk result (charges.new ≡ back (model_inverse.Moved pid path.now peaks.now) charges.old) }
     ensures err { OnErr result (charges.new ≡ charges.old) }
 {
-    match charges.migrate(who, pid, path) {
-        Ok(_left) => Ok(()),
+    match charges.rehome(who, pid, path) {
+        Ok(left) => {
+            charges.set_peaks(&left, peaks.as_slice());
+            Ok(())
+        }
         Err(fault) => Err(want_of_memory(fault)),
     }
 }

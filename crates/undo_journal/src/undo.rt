@@ -43,12 +43,12 @@ fn take_back<A: Allocator + Clone, M: Meter, R: Threads + Wait + Sync>(
             Ok(())
         }
         Inverse::Removed { path, attr } => undo_rmdir(charges, path, *attr),
-        Inverse::Forked { pid } => {
-            undo_fork(charges, who, *pid);
+        Inverse::Forked { pid, peaks } => {
+            undo_fork(charges, who, *pid, peaks);
             Ok(())
         }
         Inverse::Exited { pid, path } => undo_exit(charges, who, *pid, path),
-        Inverse::Moved { pid, path } => undo_move(charges, who, *pid, path),
+        Inverse::Moved { pid, path, peaks } => undo_move(charges, who, *pid, path, peaks),
         Inverse::Limited { path, file, value } => {
             undo_limit(charges, path, *file, *value);
             Ok(())

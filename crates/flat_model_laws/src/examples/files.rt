@@ -27,6 +27,7 @@ ghost use Rattle.flat_model.specs.File.{
   LimitOf,
   KillFile,
   PidsCurrent,
+  PidsPeak,
   PidsEvents,
   PidsEventsLocal,
   file_name,
@@ -39,7 +40,7 @@ ghost use Rattle.flat_model.specs.Command.{Move, SetLimit, Kill, Show, NotReadab
 ghost use Rattle.flat_model.specs.Step.{refusal};
 ghost use Rattle.flat_model.specs.Trace.{read_line, Run, Fault, BadDirection};
 
-/// The ten files: the name, whether the root has it, whether it is read, whether it is written.
+/// The eleven files: the name, whether the root has it, whether it is read, whether it is written.
 pub fn table_of_files()
     ensures { map {B = List ℕ × Bool × Bool × Bool}
         (λ f. (file_name f, on_root f, readable f, writable f)) all_files
@@ -51,6 +52,7 @@ pub fn table_of_files()
         ∷ (codes "cgroup.kill", false, false, true)
         ∷ (codes "pids.max", false, true, true)
         ∷ (codes "pids.current", false, true, false)
+        ∷ (codes "pids.peak", false, true, false)
         ∷ (codes "pids.events", false, true, false)
         ∷ (codes "pids.events.local", false, true, false)
         ∷ [] }
@@ -69,6 +71,7 @@ pub fn lines_of_files()
         ∷ Fault BadDirection
         ∷ Fault BadDirection
         ∷ Fault BadDirection
+        ∷ Fault BadDirection
         ∷ [] }
     ensures shown { map (λ f. read_line (codes "cat /a " ++ file_name f)) all_files
         ≡ Run (Show (codes "a" ∷ []) Procs)
@@ -79,6 +82,7 @@ pub fn lines_of_files()
         ∷ Fault BadDirection
         ∷ Run (Show (codes "a" ∷ []) (LimitOf PidsMax))
         ∷ Run (Show (codes "a" ∷ []) PidsCurrent)
+        ∷ Run (Show (codes "a" ∷ []) PidsPeak)
         ∷ Run (Show (codes "a" ∷ []) PidsEvents)
         ∷ Run (Show (codes "a" ∷ []) PidsEventsLocal)
         ∷ [] }

@@ -270,3 +270,27 @@ pub fn files_of_the_root()
         ++ codes "9 refused nofile\n10 refused nofile\n11 refused nofile\n"
         ++ codes "12 refused nofile\n13 ok\n14 ok\n| 3\n" }
 {}
+
+/// A peak stays where processes exit and move away. Undos give back what a fork and a move raised,
+/// and the root has no peak.
+pub fn peak_outlives_an_exit()
+    ensures { answers 256 (codes "mkdir /a\ncat /a pids.peak\nwrite /a cgroup.procs 1\nfork 1 2\n"
+        ++ codes "cat /a pids.peak\nexit 2\ncat /a pids.peak\n"
+        ++ codes "write / cgroup.procs 1\ncat /a pids.current\ncat /a pids.peak\n"
+        ++ codes "undo\nundo\nundo\ncat /a pids.peak\ncat / pids.peak\n")
+        ≡ codes "1 ok\n2 ok\n| 0\n3 ok\n4 ok\n5 ok\n| 2\n6 ok\n7 ok\n| 2\n8 ok\n"
+        ++ codes "9 ok\n| 0\n10 ok\n| 2\n11 ok\n| write / cgroup.procs 1\n12 ok\n"
+        ++ codes "| exit 2\n13 ok\n| fork 1 2\n14 ok\n| 1\n15 refused nofile\n" }
+{}
+
+/// A fork that is refused raises no peak, at no group. The undo of the move gives back the peak of
+/// the group that the process came to, and nothing writes one.
+pub fn refused_fork_raises_no_peak()
+    ensures { answers 256 (codes "mkdir /a\nmkdir /a/b\nwrite /a pids.max 1\n"
+        ++ codes "write /a cgroup.procs 1\nwrite /a/b cgroup.procs 1\nfork 1 2\n"
+        ++ codes "cat /a pids.peak\ncat /a/b pids.peak\nundo\nundo\n"
+        ++ codes "cat /a/b pids.peak\nwrite /a pids.peak 0\n")
+        ≡ codes "1 ok\n2 ok\n3 ok\n4 ok\n5 ok\n6 refused pidsmax /a\n7 ok\n| 1\n"
+        ++ codes "8 ok\n| 1\n9 ok\n| fork 1 2\n10 ok\n| write /a/b cgroup.procs 1\n"
+        ++ codes "11 ok\n| 0\n12 refused direction\n" }
+{}

@@ -8,6 +8,7 @@ returns c = record {
   groups = one_group;
   local = λ a. refl;
   total = λ a. refl;
+  peak = λ a. refl;
   pids = λ a. refl;
   descendants = λ a. refl;
   depth = λ a. refl;

@@ -7,6 +7,7 @@ returns c = record {
   up = counted_up;
   down = counted_down;
   slot = λ g a q x. refl;
+  peak = λ g a q x. refl;
   greatest = up_to_the_greatest;
   all_up = all_up_is;
   all_down = all_down_is;
