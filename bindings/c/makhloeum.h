@@ -84,8 +84,8 @@ enum {
     MK_VALUE = 36
 };
 
-/* A buffer of so many bytes is never too small for the children of a group, nor for all groups. */
-enum { MK_CHILDREN_MAX = 256 * 256, MK_GROUPS_MAX = 2 + 256 * 4096 };
+/* A buffer of so many bytes is never too small for the children of a group. */
+enum { MK_CHILDREN_MAX = 256 * 256 };
 
 /* Makes an engine in a handle that has none: the root alone, and process 1 in it. MK_DONE, MK_OUT_OF_MEMORY, or
    MK_CLOSED where the handle has one. */
@@ -109,10 +109,6 @@ uint32_t mk_depth(mk_handle *h, size_t *depth);
    info->count names in info->len bytes. MK_REFUSED with MK_NO_GROUP where there is no such group, and MK_FAULT with
    MK_PATH where the text is no path; then nothing is written. */
 uint32_t mk_children(mk_handle *h, const uint8_t *path, size_t path_len, uint8_t *out, size_t out_size, mk_info *info);
-
-/* The paths of all groups, the root's "/" first, each group before those below it and these in the order of their names;
-   each ended by a zero byte: info->count paths in info->len bytes. */
-uint32_t mk_groups(mk_handle *h, uint8_t *out, size_t out_size, mk_info *info);
 
 /* Whether there is such a group: MK_DONE where there is, MK_REFUSED with MK_NO_GROUP where there is not, MK_FAULT with
    MK_PATH where the text is no path. */

@@ -1,4 +1,4 @@
-use Rattle.std.proofs.Common.{rules, sym, subst, ◌∙◌, IsSome}
+use Rattle.std.proofs.Common.{rules, sym, ◌∙◌}
 use Rattle.group_tree.proofs.Walk.{find_none, find_down}
 use Rattle.group_tree.proofs.Chains.{chain_here, chain_step, at_false, at_true, not_both}
 use Rattle.group_tree.proofs.InPlace.{pushes_below, refused_below, pushes_one, push_refused}
