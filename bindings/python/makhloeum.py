@@ -1,7 +1,7 @@
 """Makhloeum from Python: a hierarchy of process groups in memory, for tests of what reads and writes cgroup files.
 
-One file, over the shared library by ctypes. The library is looked for at MAKHLOEUM_LIBRARY, and else as libmakhloeum.so
-beside this file.
+One file, over the shared library by ctypes. The library is looked for at MAKHLOEUM_LIBRARY, then as libmakhloeum.so
+beside this file, and then in ../out, where bindings/build leaves it.
 
     from makhloeum import Busy, Hierarchy
 
@@ -187,8 +187,9 @@ class _Info(ctypes.Structure):
 
 
 def _load():
-    beside = os.path.join(os.path.dirname(os.path.abspath(__file__)), "libmakhloeum.so")
-    library = ctypes.CDLL(os.environ.get("MAKHLOEUM_LIBRARY", beside))
+    here = os.path.dirname(os.path.abspath(__file__))
+    beside, built = (os.path.join(here, *folders, "libmakhloeum.so") for folders in ((), ("..", "out")))
+    library = ctypes.CDLL(os.environ.get("MAKHLOEUM_LIBRARY") or (beside if os.path.exists(beside) else built))
     handle, info, size, text, buffer = (
         ctypes.POINTER(_Handle), ctypes.POINTER(_Info), ctypes.c_size_t, ctypes.c_char_p, ctypes.c_void_p)
     arguments = {
