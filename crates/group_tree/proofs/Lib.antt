@@ -3,6 +3,7 @@ mod Parents
 mod Places
 mod Children
 mod Walk
+mod NamesBelow
 mod ChildEdits
 mod Steps
 mod Inserted

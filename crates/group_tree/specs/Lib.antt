@@ -2,6 +2,7 @@ pub mod Groups
 pub mod Flat
 pub mod Limits
 pub mod Along
+pub mod ChildNames
 pub mod Refusals
 pub mod Peaks
 pub mod Node

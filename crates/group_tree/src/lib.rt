@@ -12,6 +12,7 @@
 //! - What the groups along a path have comes one after another in one descent (`along`), and the event totals of those
 //!   groups are counted up and down in one (`count_refusal`, `uncount_refusal`), and their peaks set in one (`set_peaks`).
 //!   None of these takes memory.
+//! - The names of the groups one name below a group come one after another in order (`child_names`). It takes no memory.
 //! - The calls that end in `_at` do the same at the first n names of a path, and copy nothing.
 //! - A path may lie in other memory than the tree. What a group has is given and taken by value; its slot is the
 //!   caller's, and the tree asks nothing of it: two groups may have the same. A change of a limit keeps it. Nor does the
@@ -27,6 +28,7 @@
 mod along;
 mod attr;
 mod chain;
+mod child_names;
 mod copy;
 mod events;
 mod fault;
@@ -40,6 +42,7 @@ mod tree;
 
 pub use along::Along;
 pub use attr::{Attr, Limit, LimitFile, Limits};
+pub use child_names::ChildNames;
 pub use fault::TreeFault;
 pub use limits::MetLimit;
 pub use tree::GroupTree;

@@ -7,6 +7,7 @@ ghost use Rattle.flat_model.specs.Path.{Path, at_or_below, upward};
 ghost use Rattle.flat_model.specs.Step.{limit_met, first_refusal};
 ghost use Rattle.group_tree.specs.Flat.{CountsAsFlat};
 ghost use Rattle.group_tree.specs.Along.{along_of};
+ghost use Rattle.group_tree.specs.ChildNames.{NamesChildren};
 ghost use Rattle.group_tree.specs.Refusals.{Counts};
 ghost use Rattle.group_tree.specs.Peaks.{SetsPeaks};
 ghost use Rattle.group_tree.specs.Limits.{without_processes, refusal_along, names_of};
@@ -14,6 +15,7 @@ ghost use Rattle.group_tree.specs.Groups.{IsClosed, Inserts, Sets, Removes, only
 
 use crate::along::Along;
 use crate::attr::Attr;
+use crate::child_names::ChildNames;
 use crate::events::Change;
 use crate::fault::TreeFault;
 use crate::limits::MetLimit;
@@ -86,6 +88,17 @@ impl<A: Allocator> GroupTree<A> {
         ensures { result ≡ along_of self.now path.now }
     {
         Along::of(&self.root, path.names())
+    }
+
+    /// The names of the groups one name below the one at the path, in the order of their bytes; None where there is no such
+    /// group. It goes down once, as `find` does, and takes no memory.
+    pub fn child_names<B: Allocator + Clone>(
+        &self,
+        path: &GroupPath<B>,
+    ) -> Option<ChildNames<'_, A>>
+        ensures { NamesChildren self.now path.now result }
+    {
+        self.root.child_names(path.names())
     }
 
     /// Counts one fork more that the group at the first `n` names of the path refused, which is not the root: in its local

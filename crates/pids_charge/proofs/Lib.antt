@@ -4,6 +4,7 @@ mod Entries
 mod Listing
 mod Listed
 mod Charged
+mod ChildrenTold
 mod Copied
 mod Downward
 mod Gathers

@@ -30,9 +30,9 @@ use std::thread::Threads;
 
 // What a kill takes: processes, and their charges.
 #[derive(Drop)]
-struct Gathered<A: Allocator + Clone> {
-    lost: Vec<Lost<A>, A>,
-    tokens: Vec<Token, A>,
+pub(crate) struct Gathered<A: Allocator + Clone> {
+    pub(crate) lost: Vec<Lost<A>, A>,
+    pub(crate) tokens: Vec<Token, A>,
 }
 
 // The process with its path copied, and a token for each of its charges.
@@ -58,7 +58,7 @@ fn gather_one<M: Meter, T: Allocator, A: Allocator + Clone>(
 }
 
 // Those at or below the path, pids rising.
-fn gather<M: Meter, T: Allocator, A: Allocator + Clone, B: Allocator + Clone>(
+pub(crate) fn gather<M: Meter, T: Allocator, A: Allocator + Clone, B: Allocator + Clone>(
     tree: &GroupTree<T>,
     processes: &BTreeMap<Pid, Process<A>, A>,
     alloc: &A,
@@ -84,7 +84,7 @@ fn gather<M: Meter, T: Allocator, A: Allocator + Clone, B: Allocator + Clone>(
 }
 
 // Takes out those at or below the path.
-fn leave<A: Allocator + Clone, B: Allocator + Clone>(
+pub(crate) fn leave<A: Allocator + Clone, B: Allocator + Clone>(
     processes: &mut BTreeMap<Pid, Process<A>, A>,
     path: &GroupPath<B>,
 )

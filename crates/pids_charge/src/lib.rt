@@ -21,6 +21,9 @@
 //!   slots is made whole by `new`.
 //! - A walk along a path goes down the tree once, so that a fork, an exit and a move cost
 //!   O(log processes + depth · log children) comparisons; a path has at most 32 names.
+//! - `settle_alone` is the settlement of any meter on the calling thread, and `kill_alone` and `place_all_alone` are `kill` and
+//!   `place_all` over it: they ask for no runtime.
+//! - `child_names` gives the names of the groups one name below a group, in order.
 //! - Any meter serves that meets the law of `Meter`. `PlainMeter` keeps plain numbers, for one thread.
 //! - `copy_plain` gives the same groups and processes in other memory, over a `PlainMeter`.
 //!
@@ -30,7 +33,9 @@
 //! and leaves, `specs/Events.antt` what a limit refuses and what is counted, `specs/Peaks.antt` what peaks rise to.
 #![tactic(auto)]
 
+mod alone;
 mod charges;
+mod children;
 mod copy;
 mod exit;
 mod fault;
@@ -51,6 +56,7 @@ mod readers;
 mod rmdir;
 mod walk;
 
+pub use alone::settle_alone;
 pub use charges::Charges;
 pub use fault::ChargeFault;
 pub use gate::{Gate, OpenGate};

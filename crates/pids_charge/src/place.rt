@@ -27,7 +27,7 @@ use std::sync::Wait;
 use std::thread::Threads;
 
 // A token for each charge of the listed processes.
-fn tokens_of<M: Meter, T: Allocator, A: Allocator + Clone, B: Allocator + Clone>(
+pub(crate) fn tokens_of<M: Meter, T: Allocator, A: Allocator + Clone, B: Allocator + Clone>(
     tree: &GroupTree<T>,
     alloc: A,
     list: &[Lost<B>],
@@ -100,7 +100,7 @@ fn take_out<A: Allocator + Clone, B: Allocator + Clone>(
 }
 
 // All of them, or none.
-fn place_each<A: Allocator + Clone, B: Allocator + Clone>(
+pub(crate) fn place_each<A: Allocator + Clone, B: Allocator + Clone>(
     processes: &mut BTreeMap<Pid, Process<A>, A>,
     alloc: &A,
     list: &[Lost<B>],

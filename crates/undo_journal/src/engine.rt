@@ -45,7 +45,7 @@ impl<A: Allocator + Clone, M: Meter> Model for Engine<A, M> {
 }
 
 /// The reply, or want of memory.
-fn or_out_of_memory<A: Allocator + Clone>(answer: Result<Reply<A>, AllocError>) -> Reply<A>
+pub(crate) fn or_out_of_memory<A: Allocator + Clone>(answer: Result<Reply<A>, AllocError>) -> Reply<A>
     ensures ok { IfOk answer (λ reply. result ≡ reply) }
     ensures err { OnErr answer (reply_of result ≡ None) }
 {
@@ -184,18 +184,9 @@ impl<A: Allocator + Clone, M: Meter> Engine<A, M> {
         ensures certain { command_of cmd.now ≡ model.Undo → undoes_without_memory M.SLOTS self.old.past ≡ true → reply_of result ≢ None }
     {
         match cmd {
-            Command::MakeGroup(path) => or_out_of_memory(self.make_group(path)),
-            Command::RemoveGroup(path) => or_out_of_memory(self.remove_group(path)),
-            Command::Fork { parent, child } => or_out_of_memory(self.fork(who, *parent, *child)),
-            Command::Exit(pid) => or_out_of_memory(self.exit(who, *pid)),
-            Command::Move { path, pid } => or_out_of_memory(self.move_process(who, path, *pid)),
-            Command::SetLimit { path, file, value } => {
-                or_out_of_memory(self.set_limit(path, *file, *value))
-            }
             Command::Kill(path) => or_out_of_memory(self.kill(rt, gate, who, path)),
-            Command::Show { path, file } => or_out_of_memory(self.show(path, *file)),
-            Command::Locate(pid) => or_out_of_memory(self.locate(*pid)),
             Command::Undo => or_out_of_memory(self.take_newest_back(rt, gate, who)),
+            _ => self.answer_alone(who, cmd),
         }
     }
 

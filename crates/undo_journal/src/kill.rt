@@ -24,7 +24,7 @@ use std::thread::Threads;
 
 impl<A: Allocator + Clone, M: Meter> Engine<A, M> {
     /// Why the group may not be killed, if it may not.
-    fn refuses_kill<B: Allocator + Clone>(
+    pub(crate) fn refuses_kill<B: Allocator + Clone>(
         &self,
         path: &GroupPath<B>,
     ) -> Result<Option<Refusal<A>>, AllocError>

@@ -15,6 +15,7 @@
 //! - `undo_all` takes back everything, newest first, or as much as there is memory for, and says how many commands that was.
 //! - A kill, and a kill that is taken back, give all their charges to the meter at once, and may wait for the threads that
 //!   do a part of them. No other command waits. The session's number `who` picks where its charges stand in the meter.
+//! - `apply_alone` and `undo_alone` answer on the calling thread: they ask for no runtime, and nothing waits.
 //! - What `apply_gated` adds is that each part passes a gate of the caller's at its start; no clause speaks of the gate.
 //! - Commands, refusals and replies over different allocators are compared by `is`: true exactly where they mean the same.
 //! - Groups, processes and their counts are those of `Charges`: no command but a kill goes over all processes. There are
@@ -31,6 +32,7 @@
 //! What these definitions say is stated as laws in `journal_laws`.
 #![tactic(auto)]
 
+mod alone;
 mod bytes;
 mod cat;
 mod command;

@@ -9,16 +9,11 @@ ghost use Rattle.undo_journal.specs.Answer.{Answers, needs_no_memory, undoes_wit
 ghost use Rattle.undo_journal.specs.Headline.{UndoesAll};
 ghost use Rattle.undo_journal.specs.History.{IsReady};
 
+use crate::alone::take_back_alone;
 use crate::engine::Engine;
-use crate::exit::undo_exit;
-use crate::fork::{undo_counted, undo_fork};
 use crate::inverse::Inverse;
 use crate::kill::undo_kill;
-use crate::limit::undo_limit;
-use crate::migrate::undo_move;
-use crate::mkdir::undo_mkdir;
 use crate::reply::Reply;
-use crate::rmdir::undo_rmdir;
 use pids_charge::{Charges, Gate, Meter, OpenGate};
 use std::alloc::{AllocError, Allocator};
 use std::sync::Wait;
@@ -38,26 +33,8 @@ fn take_back<A: Allocator + Clone, M: Meter, R: Threads + Wait + Sync>(
     ensures certain { needs_no_memory (Some (inverse_of inverse.now)) ≡ true → IsOk result }
 {
     match inverse {
-        Inverse::Made { path } => {
-            undo_mkdir(charges, path);
-            Ok(())
-        }
-        Inverse::Removed { path, attr } => undo_rmdir(charges, path, *attr),
-        Inverse::Forked { pid, peaks } => {
-            undo_fork(charges, who, *pid, peaks);
-            Ok(())
-        }
-        Inverse::Exited { pid, path } => undo_exit(charges, who, *pid, path),
-        Inverse::Moved { pid, path, peaks } => undo_move(charges, who, *pid, path, peaks),
-        Inverse::Limited { path, file, value } => {
-            undo_limit(charges, path, *file, *value);
-            Ok(())
-        }
-        Inverse::Counted { path } => {
-            undo_counted(charges, path);
-            Ok(())
-        }
         Inverse::Killed { list } => undo_kill(charges, rt, gate, who, list),
+        _ => take_back_alone(charges, who, inverse),
     }
 }
 

@@ -1,0 +1,3 @@
+module makhloeum
+
+go 1.18

@@ -1,0 +1,118 @@
+-- What the calls of C answer and leave. A handle holds an engine, or none.
+use Rattle.std.specs.Prelude.{◌≡◌, ℕ, cond, nat_eq, nat_lt, List, Option, None, Some, length, Result}
+use Rattle.flat_model.specs.Machine.{new_machine}
+use Rattle.flat_model.specs.Path.{Path}
+use Rattle.flat_model.specs.PathText.{PathFault}
+use Rattle.flat_model.specs.Trace.{Line}
+use Rattle.line_engine.specs.declared.answer.Answer.{Answer}
+use Rattle.line_engine.specs.declared.answer.Answer.TheVariants.{Skipped, Answered, TooSmall, OutOfMemory}
+use Rattle.line_engine.specs.declared.listing.Listing.{Listing}
+use Rattle.line_engine.specs.declared.listing.Listing.TheVariants as listing
+use Rattle.line_engine.specs.declared.listing.Found.{Found}
+use Rattle.line_engine.specs.declared.listing.Found.TheVariants as found
+use Rattle.line_engine.specs.declared.engine.LineEngine.{LineEngine}
+use Rattle.line_engine.specs.Answers.{AnswersLine}
+use Rattle.line_engine.specs.Listings.{TellsChildren, TellsGroup}
+use Rattle.c_library.specs.declared.info.Info.{Info}
+
+-- what a call says beside its status
+abbrev pub told : ℕ → ℕ → ℕ → Info
+told len count code = record { len = len; count = count; code = code }
+
+-- 0 for done, 1 for refused, 2 for a line that is no command
+abbrev pub status_of_code : ℕ → ℕ
+status_of_code code = cond (nat_eq code 0) 0 (cond (nat_lt code 32) 1 2)
+
+-- ---- a line
+
+abbrev pub status_of : Answer → ℕ
+status_of Skipped = 5
+status_of (Answered len code) = status_of_code code
+status_of TooSmall = 3
+status_of OutOfMemory = 4
+
+abbrev pub info_of : Answer → Info
+info_of Skipped = told 0 0 0
+info_of (Answered len code) = told len 0 code
+info_of TooSmall = told 0 0 0
+info_of OutOfMemory = told 0 0 0
+
+-- the n-th line was answered so by the engine e, and left the handle with an engine
+pub record AnsweredAt (e : LineEngine) (n : ℕ) (line : Line) (out : List ℕ) (status : ℕ) (info : Info) (new : Option LineEngine) : Type 0 where
+  pub engine : LineEngine
+  pub answer : Answer
+  pub new_is : new ≡ Some engine
+  pub answers : AnswersLine e.engine n line out answer engine.engine
+  pub status_is : status ≡ status_of answer
+  pub info_is : info ≡ info_of answer
+
+abbrev pub AnswersAt : Option LineEngine → ℕ → Line → List ℕ → ℕ → Info → Option LineEngine → Type 0
+AnswersAt None n line out status info new = (status ≡ 6) × (info ≡ told 0 0 0) × (new ≡ None)
+AnswersAt (Some e) n line out status info new = AnsweredAt e n line out status info new
+
+-- ---- the engine of a handle
+
+-- a handle that had none has a new one, unless memory was wanting; one that had one stays
+abbrev pub IsOpened : Option LineEngine → ℕ → Option LineEngine → Type 0
+IsOpened (Some e) status new = (status ≡ 6) × (new ≡ Some e)
+IsOpened None status None = status ≡ 4
+IsOpened None status (Some e) = (status ≡ 0) × (e.engine ≡ new_machine)
+
+abbrev pub IsClosed : Option LineEngine → ℕ → Option LineEngine → Type 0
+IsClosed None status new = (status ≡ 6) × (new ≡ None)
+IsClosed (Some e) status new = (status ≡ 0) × (new ≡ None)
+
+abbrev pub DepthAt : Option LineEngine → ℕ → ℕ → Option LineEngine → Type 0
+DepthAt None status depth new = (status ≡ 6) × (depth ≡ 0) × (new ≡ None)
+DepthAt (Some e) status depth new = (status ≡ 0) × (depth ≡ length e.engine.past) × (new ≡ Some e)
+
+-- ---- groups
+
+abbrev pub listing_status : Listing → ℕ
+listing_status (listing.Listed len count) = 0
+listing_status listing.NoGroup = 1
+listing_status listing.BadPath = 2
+listing_status listing.TooSmall = 3
+listing_status listing.OutOfMemory = 4
+
+abbrev pub listing_info : Listing → Info
+listing_info (listing.Listed len count) = told len count 0
+listing_info listing.NoGroup = told 0 0 2
+listing_info listing.BadPath = told 0 0 33
+listing_info listing.TooSmall = told 0 0 0
+listing_info listing.OutOfMemory = told 0 0 0
+
+-- the children of the group at the path are told so, and the engine stays
+pub record ListedAt (e : LineEngine) (path : Result Path PathFault) (out : List ℕ) (status : ℕ) (info : Info) (new : Option LineEngine) : Type 0 where
+  pub answer : Listing
+  pub new_is : new ≡ Some e
+  pub tells : TellsChildren e.engine.state path out answer
+  pub status_is : status ≡ listing_status answer
+  pub info_is : info ≡ listing_info answer
+
+abbrev pub ListsAt : Option LineEngine → Result Path PathFault → List ℕ → ℕ → Info → Option LineEngine → Type 0
+ListsAt None path out status info new = (status ≡ 6) × (info ≡ told 0 0 0) × (new ≡ None)
+ListsAt (Some e) path out status info new = ListedAt e path out status info new
+
+abbrev pub found_status : Found → ℕ
+found_status found.There = 0
+found_status found.NoGroup = 1
+found_status found.BadPath = 2
+found_status found.OutOfMemory = 4
+
+abbrev pub found_info : Found → Info
+found_info found.There = told 0 0 0
+found_info found.NoGroup = told 0 0 2
+found_info found.BadPath = told 0 0 33
+found_info found.OutOfMemory = told 0 0 0
+
+pub record FoundAt (e : LineEngine) (path : Result Path PathFault) (status : ℕ) (info : Info) (new : Option LineEngine) : Type 0 where
+  pub answer : Found
+  pub new_is : new ≡ Some e
+  pub tells : TellsGroup e.engine.state path answer
+  pub status_is : status ≡ found_status answer
+  pub info_is : info ≡ found_info answer
+
+abbrev pub FindsAt : Option LineEngine → Result Path PathFault → ℕ → Info → Option LineEngine → Type 0
+FindsAt None path status info new = (status ≡ 6) × (info ≡ told 0 0 0) × (new ≡ None)
+FindsAt (Some e) path status info new = FoundAt e path status info new

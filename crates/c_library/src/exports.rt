@@ -1,0 +1,232 @@
+//! What C calls. Each call takes the engine out of its handle and puts it back.
+
+ghost use Rattle.std.specs.Prelude.{◌≡◌, codes};
+ghost use Rattle.flat_model.specs.PathText.{read_path};
+ghost use Rattle.flat_model.specs.Trace.{read_line};
+ghost use Rattle.c_library.specs.Status.{IsOpened, IsClosed, AnswersAt, DepthAt, ListsAt, FindsAt, told, status_of, status_of_code, info_of, listing_status, listing_info, found_status, found_info};
+
+use crate::handle::Handle;
+use crate::info::Info;
+use line_engine::{Answer, Found, LineEngine, Listing};
+use std::alloc::Global;
+
+const DONE: u32 = 0;
+
+const REFUSED: u32 = 1;
+
+const FAULT: u32 = 2;
+
+const TOO_SMALL: u32 = 3;
+
+const OUT_OF_MEMORY: u32 = 4;
+
+const SKIPPED: u32 = 5;
+
+const CLOSED: u32 = 6;
+
+const NO_GROUP: u32 = 2;
+
+const FIRST_FAULT: u32 = 32;
+
+const BAD_PATH: u32 = 33;
+
+fn told(len: usize, count: usize, code: u32) -> Info
+    ensures { result ≡ told len count code }
+{
+    Info { len, count, code }
+}
+
+fn status_of_code(code: u32) -> u32
+    ensures { result ≡ status_of_code code }
+{
+    if code == 0 {
+        return DONE;
+    }
+    if code < FIRST_FAULT { REFUSED } else { FAULT }
+}
+
+fn status_of(answer: Answer) -> u32
+    ensures { result ≡ status_of answer }
+{
+    match answer {
+        Answer::Skipped => SKIPPED,
+        Answer::Answered { len: _, code } => status_of_code(code),
+        Answer::TooSmall => TOO_SMALL,
+        Answer::OutOfMemory => OUT_OF_MEMORY,
+    }
+}
+
+fn info_of(answer: Answer) -> Info
+    ensures { result ≡ info_of answer }
+{
+    match answer {
+        Answer::Answered { len, code } => told(len, 0, code),
+        Answer::Skipped | Answer::TooSmall | Answer::OutOfMemory => told(0, 0, 0),
+    }
+}
+
+fn listing_status(listing: Listing) -> u32
+    ensures { result ≡ listing_status listing }
+{
+    match listing {
+        Listing::Listed { len: _, count: _ } => DONE,
+        Listing::NoGroup => REFUSED,
+        Listing::BadPath => FAULT,
+        Listing::TooSmall => TOO_SMALL,
+        Listing::OutOfMemory => OUT_OF_MEMORY,
+    }
+}
+
+fn listing_info(listing: Listing) -> Info
+    ensures { result ≡ listing_info listing }
+{
+    match listing {
+        Listing::Listed { len, count } => told(len, count, 0),
+        Listing::NoGroup => told(0, 0, NO_GROUP),
+        Listing::BadPath => told(0, 0, BAD_PATH),
+        Listing::TooSmall | Listing::OutOfMemory => told(0, 0, 0),
+    }
+}
+
+fn found_status(found: Found) -> u32
+    ensures { result ≡ found_status found }
+{
+    match found {
+        Found::There => DONE,
+        Found::NoGroup => REFUSED,
+        Found::BadPath => FAULT,
+        Found::OutOfMemory => OUT_OF_MEMORY,
+    }
+}
+
+fn found_info(found: Found) -> Info
+    ensures { result ≡ found_info found }
+{
+    match found {
+        Found::NoGroup => told(0, 0, NO_GROUP),
+        Found::BadPath => told(0, 0, BAD_PATH),
+        Found::There | Found::OutOfMemory => told(0, 0, 0),
+    }
+}
+
+/// Makes an engine in a handle that has none.
+#[unsafe(no_mangle)]
+pub extern "C" fn mk_open(alloc: Global, h: &mut Handle) -> u32
+    ensures { IsOpened h.old.seal.held result h.new.seal.held }
+{
+    if let Some(engine) = h.take(alloc) {
+        h.put(alloc, engine);
+        return CLOSED;
+    }
+    let Ok(engine) = LineEngine::new(alloc) else {
+        return OUT_OF_MEMORY;
+    };
+    let Ok(engine) = Box::new(alloc, engine) else {
+        return OUT_OF_MEMORY;
+    };
+    h.put(alloc, engine);
+    DONE
+}
+
+/// Frees the engine, if there is one.
+#[unsafe(no_mangle)]
+pub extern "C" fn mk_close(alloc: Global, h: &mut Handle) -> u32
+    ensures { IsClosed h.old.seal.held result h.new.seal.held }
+{
+    match h.take(alloc) {
+        Some(_engine) => DONE,
+        None => CLOSED,
+    }
+}
+
+/// Answers one line of a trace.
+#[unsafe(no_mangle)]
+pub extern "C" fn mk_line(
+    alloc: Global,
+    h: &mut Handle,
+    number: u64,
+    line: &[u8],
+    out: &mut [u8],
+    info: &mut Info,
+) -> u32
+    ensures { AnswersAt h.old.seal.held number (read_line line.now) out.new result info.new h.new.seal.held }
+{
+    let Some(engine) = h.take(alloc) else {
+        *info = told(0, 0, 0);
+        return CLOSED;
+    };
+    let mut engine = engine;
+    let answer = engine.answer(alloc, number, line, out);
+    h.put(alloc, engine);
+    *info = info_of(answer);
+    status_of(answer)
+}
+
+/// Takes the newest recorded command back.
+#[unsafe(no_mangle)]
+pub extern "C" fn mk_undo(
+    alloc: Global,
+    h: &mut Handle,
+    number: u64,
+    out: &mut [u8],
+    info: &mut Info,
+) -> u32
+    ensures { AnswersAt h.old.seal.held number (read_line (codes "undo")) out.new result info.new h.new.seal.held }
+{
+    mk_line(alloc, h, number, b"undo", out, info)
+}
+
+/// How many recorded commands can be taken back.
+#[unsafe(no_mangle)]
+pub extern "C" fn mk_depth(alloc: Global, h: &mut Handle, depth: &mut usize) -> u32
+    ensures { DepthAt h.old.seal.held result depth.new h.new.seal.held }
+{
+    let Some(engine) = h.take(alloc) else {
+        *depth = 0;
+        return CLOSED;
+    };
+    *depth = engine.depth();
+    h.put(alloc, engine);
+    DONE
+}
+
+/// The names of the groups one name below a group.
+#[unsafe(no_mangle)]
+pub extern "C" fn mk_children(
+    alloc: Global,
+    h: &mut Handle,
+    path: &[u8],
+    out: &mut [u8],
+    info: &mut Info,
+) -> u32
+    ensures { ListsAt h.old.seal.held (read_path path.now) out.new result info.new h.new.seal.held }
+{
+    let Some(engine) = h.take(alloc) else {
+        *info = told(0, 0, 0);
+        return CLOSED;
+    };
+    let listing = engine.children(alloc, path, out);
+    h.put(alloc, engine);
+    *info = listing_info(listing);
+    listing_status(listing)
+}
+
+/// Whether there is such a group.
+#[unsafe(no_mangle)]
+pub extern "C" fn mk_has_group(
+    alloc: Global,
+    h: &mut Handle,
+    path: &[u8],
+    info: &mut Info,
+) -> u32
+    ensures { FindsAt h.old.seal.held (read_path path.now) result info.new h.new.seal.held }
+{
+    let Some(engine) = h.take(alloc) else {
+        *info = told(0, 0, 0);
+        return CLOSED;
+    };
+    let found = engine.has_group(alloc, path);
+    h.put(alloc, engine);
+    *info = found_info(found);
+    found_status(found)
+}

@@ -1,0 +1,52 @@
+-- What is told of groups.
+use Rattle.std.specs.Prelude.{◌≡◌, ℕ, ◌<◌, true, false, List, [], ◌∷◌, ◌++◌, map, flat_map, length, take, Result, Ok, Err}
+use Rattle.std.specs.Result.{IsOk, IsErr}
+use Rattle.flat_model.specs.Path.{Name, Path}
+use Rattle.flat_model.specs.PathText.{PathFault}
+use Rattle.flat_model.specs.State.{State}
+use Rattle.flat_model.specs.Counts.{is_group, children}
+use Rattle.group_tree.specs.ChildNames.{last_name}
+use Rattle.line_engine.specs.declared.listing.Listing.{Listing}
+use Rattle.line_engine.specs.declared.listing.Listing.TheVariants as listing
+use Rattle.line_engine.specs.declared.listing.Found.{Found}
+use Rattle.line_engine.specs.declared.listing.Found.TheVariants as found
+use Rattle.line_engine.specs.declared.listing.Unread.{Unread}
+use Rattle.line_engine.specs.declared.listing.Unread.TheVariants as unread
+
+-- each name with a zero byte behind it
+abbrev pub names_bytes : List Name → List ℕ
+names_bytes names = flat_map (λ name. name ++ 0 ∷ []) names
+
+-- the names of the groups one name below p, in order
+abbrev pub names_below : State → Path → List Name
+names_below s p = map last_name (children s p)
+
+-- the path that the grammar gives; else it gives none, or memory was wanting for it
+abbrev pub ReadsPath : Result Path Unread → Result Path PathFault → Type 0
+ReadsPath (Ok path) m = m ≡ Ok path
+ReadsPath (Err unread.BadPath) m = IsErr m
+ReadsPath (Err unread.OutOfMemory) m = IsOk m
+
+-- the first len bytes of the buffer are the names of the children of the group, of which there are so many; or there is no
+-- such group; or they need more than the buffer has
+abbrev pub TellsChildrenAt : State → Path → List ℕ → Listing → Type 0
+TellsChildrenAt s p out (listing.Listed len count) = (is_group s p ≡ true) × (take len out ≡ names_bytes (names_below s p)) × (count ≡ length (children s p))
+TellsChildrenAt s p out listing.NoGroup = is_group s p ≡ false
+TellsChildrenAt s p out listing.BadPath = ⊥
+TellsChildrenAt s p out listing.TooSmall = (is_group s p ≡ true) × (length out < length (names_bytes (names_below s p)))
+TellsChildrenAt s p out listing.OutOfMemory = Unit {0}
+
+-- the same of the group that the text names, where it is a path
+abbrev pub TellsChildren : State → Result Path PathFault → List ℕ → Listing → Type 0
+TellsChildren s (Ok p) out a = TellsChildrenAt s p out a
+TellsChildren s (Err f) out a = a ≡ listing.BadPath
+
+abbrev pub TellsGroupAt : State → Path → Found → Type 0
+TellsGroupAt s p found.There = is_group s p ≡ true
+TellsGroupAt s p found.NoGroup = is_group s p ≡ false
+TellsGroupAt s p found.BadPath = ⊥
+TellsGroupAt s p found.OutOfMemory = Unit {0}
+
+abbrev pub TellsGroup : State → Result Path PathFault → Found → Type 0
+TellsGroup s (Ok p) a = TellsGroupAt s p a
+TellsGroup s (Err f) a = a ≡ found.BadPath

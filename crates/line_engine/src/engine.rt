@@ -1,0 +1,73 @@
+//! The engine.
+
+ghost use Rattle.std.specs.Prelude.{◌≡◌, IfOk, length};
+ghost use Rattle.flat_model.specs.Machine.{new_machine};
+ghost use Rattle.flat_model.specs.Trace.{read_line};
+ghost use Rattle.trace_lines.specs.Meaning.{text_fault_of};
+ghost use Rattle.line_engine.specs.Answers.{AnswersFault, AnswersLine};
+
+use crate::answer::{Answer, code_of_fault};
+use crate::writing::put_out;
+use pids_charge::PlainMeter;
+use std::alloc::{AllocError, Global};
+use trace_lines::{Line, TextFault, parse_line, put_fault};
+use undo_journal::Engine;
+
+/// An engine that answers line by line.
+#[derive(Drop)]
+pub struct LineEngine {
+    /// The groups, the processes and the journal.
+    pub engine: Engine<Global, PlainMeter<Global>>,
+}
+
+/// The answer to a line that is no command.
+fn answer_fault(alloc: Global, number: u64, fault: TextFault, out: &mut [u8]) -> Answer
+    ensures { AnswersFault number (text_fault_of fault) out.new result }
+{
+    let mut bytes = Vec::new(alloc);
+    let Ok(()) = put_fault(&mut bytes, number, fault) else {
+        return Answer::OutOfMemory;
+    };
+    match put_out(out, bytes.as_slice()) {
+        Some(len) => Answer::Answered {
+            len,
+            code: code_of_fault(fault),
+        },
+        None => Answer::TooSmall,
+    }
+}
+
+impl LineEngine {
+    /// The root alone, and process 1 in it.
+    ///
+    /// # Errors
+    ///
+    /// `AllocError` where memory was wanting.
+    pub fn new(alloc: Global) -> Result<LineEngine, AllocError>
+        ensures { IfOk result (λ e. e.engine ≡ new_machine) }
+    {
+        let meter = PlainMeter::new(alloc)?;
+        let engine = Engine::new(alloc, meter)?;
+        Ok(LineEngine { engine })
+    }
+
+    /// Answers one line, given without its line feed, as the `number`-th of a trace, into the buffer's start. Costs what the
+    /// command costs, and is linear in the line and the answer.
+    pub fn answer(&mut self, alloc: Global, number: u64, text: &[u8], out: &mut [u8]) -> Answer
+        ensures { AnswersLine self.old.engine number (read_line text.now) out.new result self.new.engine }
+    {
+        match parse_line(alloc, text) {
+            Err(_) => Answer::OutOfMemory,
+            Ok(Line::Skip) => Answer::Skipped,
+            Ok(Line::Fault(fault)) => answer_fault(alloc, number, fault, out),
+            Ok(Line::Run(command)) => self.run(alloc, number, &command, out),
+        }
+    }
+
+    /// How many recorded commands can be taken back.
+    pub fn depth(&self) -> usize
+        ensures { result ≡ length self.now.engine.past }
+    {
+        self.engine.depth()
+    }
+}

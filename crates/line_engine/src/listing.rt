@@ -1,0 +1,130 @@
+//! What is told of groups.
+
+ghost use Rattle.std.specs.Prelude.{◌≡◌, IfOk, length};
+ghost use Rattle.flat_model.specs.PathText.{read_path};
+ghost use Rattle.line_engine.specs.Listings.{ReadsPath, TellsChildren, TellsChildrenAt, TellsGroup, names_bytes};
+
+use crate::engine::LineEngine;
+use crate::writing::put_out;
+use group_path::{GroupPath, PathFault};
+use group_tree::ChildNames;
+use std::alloc::{AllocError, Global};
+
+/// The names of a group's children, or why there are none.
+#[derive(Clone, Copy, Debug, PartialEq, Eq)]
+pub enum Listing {
+    /// They stand in the buffer.
+    Listed {
+        /// How many bytes of the buffer they are.
+        len: usize,
+        /// How many names these are.
+        count: usize,
+    },
+    /// There is no such group.
+    NoGroup,
+    /// The text is no path.
+    BadPath,
+    /// The buffer is too small.
+    TooSmall,
+    /// There is no memory for it.
+    OutOfMemory,
+}
+
+/// Whether there is such a group.
+#[derive(Clone, Copy, Debug, PartialEq, Eq)]
+pub enum Found {
+    /// There is.
+    There,
+    /// There is none.
+    NoGroup,
+    /// The text is no path.
+    BadPath,
+    /// There is no memory for the path.
+    OutOfMemory,
+}
+
+/// Why no path was read.
+#[derive(Clone, Copy, PartialEq, Eq)]
+pub(crate) enum Unread {
+    /// The text is no path.
+    BadPath,
+    /// There was no memory for it.
+    OutOfMemory,
+}
+
+fn read(alloc: Global, text: &[u8]) -> Result<GroupPath<Global>, Unread>
+    ensures { ReadsPath result (read_path text.now) }
+{
+    match GroupPath::read(alloc, text) {
+        Ok(path) => Ok(path),
+        Err(PathFault::OutOfMemory) => Err(Unread::OutOfMemory),
+        Err(_) => Err(Unread::BadPath),
+    }
+}
+
+// Each name with a zero byte behind it, and how many there are. Want of memory also stands for 2^64 names or more.
+fn gather(
+    alloc: Global,
+    names: ChildNames<'_, Global>,
+) -> Result<(Vec<u8>, usize), AllocError>
+    ensures bytes { IfOk result (λ r. r.0.items ≡ names_bytes names.entry) }
+    ensures count { IfOk result (λ r. r.1 ≡ length names.entry) }
+{
+    let mut bytes = Vec::new(alloc);
+    let mut count = 0usize;
+    for name in names {
+        if count == usize::MAX {
+            return Err(AllocError);
+        }
+        bytes.extend_from_slice(name)?;
+        bytes.push(0)?;
+        count += 1;
+    }
+    Ok((bytes, count))
+}
+
+impl LineEngine {
+    fn children_at(&self, alloc: Global, path: &GroupPath<Global>, out: &mut [u8]) -> Listing
+        ensures { TellsChildrenAt self.now.engine.state path.now out.new result }
+    {
+        let Some(names) = self.engine.charges().child_names(path) else {
+            return Listing::NoGroup;
+        };
+        let Ok((bytes, count)) = gather(alloc, names) else {
+            return Listing::OutOfMemory;
+        };
+        match put_out(out, bytes.as_slice()) {
+            Some(len) => Listing::Listed { len, count },
+            None => Listing::TooSmall,
+        }
+    }
+
+    /// Puts the names of the groups one name below the one at the path into the buffer's start, in the order of their bytes,
+    /// each with a zero byte behind it.
+    pub fn children(&self, alloc: Global, path: &[u8], out: &mut [u8]) -> Listing
+        ensures { TellsChildren self.now.engine.state (read_path path.now) out.new result }
+    {
+        match read(alloc, path) {
+            Ok(path) => self.children_at(alloc, &path, out),
+            Err(Unread::BadPath) => Listing::BadPath,
+            Err(Unread::OutOfMemory) => Listing::OutOfMemory,
+        }
+    }
+
+    /// Whether there is such a group.
+    pub fn has_group(&self, alloc: Global, path: &[u8]) -> Found
+        ensures { TellsGroup self.now.engine.state (read_path path.now) result }
+    {
+        match read(alloc, path) {
+            Ok(path) => {
+                if self.engine.charges().attr(&path).is_some() {
+                    Found::There
+                } else {
+                    Found::NoGroup
+                }
+            }
+            Err(Unread::BadPath) => Found::BadPath,
+            Err(Unread::OutOfMemory) => Found::OutOfMemory,
+        }
+    }
+}

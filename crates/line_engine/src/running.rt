@@ -1,0 +1,163 @@
+//! A command with its answer: told, or else nothing has changed.
+
+ghost use Rattle.std.specs.Prelude.{◌≡◌, ◌≤◌, true, cond, ◌&&◌, not, IfOk, IfSome, Some, is_some, length, option_map};
+ghost use Rattle.flat_model.specs.Command as model;
+ghost use Rattle.flat_model.specs.Machine.{tick};
+ghost use Rattle.flat_model.specs.Replies.{reply_bytes};
+ghost use Rattle.undo_journal.specs.Answer.{undoes_without_memory};
+ghost use Rattle.undo_journal.specs.Meaning.{command_of, reply_of};
+ghost use Rattle.line_engine.specs.Answers.{slots, AnswersRun, is_told};
+ghost use Rattle.line_engine.specs.Ready.{AnswersReply, ready_reply, is_loud, is_counted_reply};
+
+use crate::answer::{Answer, code_of_reply};
+use crate::engine::LineEngine;
+use crate::writing::put_out;
+use std::alloc::{AllocError, Global};
+use trace_lines::put_reply;
+use undo_journal::{Command, Refusal, Reply};
+
+/// The bytes of a reply.
+fn bytes_of(alloc: Global, number: u64, reply: &Reply<Global>) -> Result<Vec<u8>, AllocError>
+    ensures { IfOk result (λ bytes. Some bytes.items ≡ option_map (reply_bytes number) (reply_of reply.now)) }
+{
+    let mut bytes = Vec::new(alloc);
+    put_reply(alloc, &mut bytes, number, reply)?;
+    Ok(bytes)
+}
+
+/// Whether memory was not wanting.
+fn is_answered(reply: &Reply<Global>) -> bool
+    ensures { result ≡ is_some (reply_of reply.now) }
+{
+    match reply {
+        Reply::OutOfMemory => false,
+        _ => true,
+    }
+}
+
+/// Whether the reply is one that an accepted change brings.
+fn is_loud_reply(reply: &Reply<Global>) -> bool
+    ensures { IfSome (reply_of reply.now) (λ r. result ≡ is_loud r) }
+{
+    matches!(reply, Reply::Done | Reply::Undone(_))
+}
+
+/// Whether the reply is a refusal that was counted.
+fn is_counted(reply: &Reply<Global>) -> bool
+    ensures { IfSome (reply_of reply.now) (λ r. result ≡ is_counted_reply r) }
+{
+    matches!(reply, Reply::Refused(Refusal::PidsMax(_)))
+}
+
+fn is_told(answer: Answer) -> bool
+    ensures { result ≡ is_told answer }
+{
+    matches!(answer, Answer::Answered { len: _, code: _ })
+}
+
+/// The answer to a command that has this reply; `ready` is its bytes if it is one that an accepted change brings.
+fn answer_reply(
+    alloc: Global,
+    number: u64,
+    reply: &Reply<Global>,
+    ready: &[u8],
+    out: &mut [u8],
+) -> Answer
+    requires { length ready.now ≤ length out.old }
+    ensures { IfSome (reply_of reply.now) (λ r. (is_loud r ≡ true → ready.now ≡ reply_bytes number r) → AnswersReply number r out.new result) }
+{
+    if is_loud_reply(reply) {
+        return match put_out(out, ready) {
+            Some(len) => Answer::Answered {
+                len,
+                code: code_of_reply(reply),
+            },
+            None => Answer::TooSmall,
+        };
+    }
+    let Ok(bytes) = bytes_of(alloc, number, reply) else {
+        return Answer::OutOfMemory;
+    };
+    match put_out(out, bytes.as_slice()) {
+        Some(len) => Answer::Answered {
+            len,
+            code: code_of_reply(reply),
+        },
+        None => Answer::TooSmall,
+    }
+}
+
+impl LineEngine {
+    /// What the engine answers where the command changes it and is not refused.
+    fn expected(
+        &self,
+        alloc: Global,
+        command: &Command<Global>,
+    ) -> Result<Reply<Global>, AllocError>
+        ensures { IfOk result (λ reply. reply_of reply ≡ Some (ready_reply self.now.engine (command_of command.now))) }
+    {
+        match command {
+            Command::Undo => match self.engine.newest_command() {
+                Some(newest) => {
+                    let copy = newest.copy(alloc)?;
+                    Ok(Reply::Undone(copy))
+                }
+                None => Ok(Reply::NothingToUndo),
+            },
+            _ => Ok(Reply::Done),
+        }
+    }
+
+    /// The bytes that answer the command where it changes the engine and is not refused.
+    fn ready(
+        &self,
+        alloc: Global,
+        number: u64,
+        command: &Command<Global>,
+    ) -> Result<Vec<u8>, AllocError>
+        ensures { IfOk result (λ bytes. bytes.items ≡ reply_bytes number (ready_reply self.now.engine (command_of command.now))) }
+    {
+        let reply = self.expected(alloc, command)?;
+        bytes_of(alloc, number, &reply)
+    }
+
+    /// Takes a counted refusal back where it is not told. This asks for no memory.
+    fn take_untold_back(&mut self, reply: &Reply<Global>, answer: Answer)
+        requires { IfSome (reply_of reply.now) (λ r. is_counted_reply r ≡ true → undoes_without_memory slots self.old.engine.past ≡ true) }
+        ensures { IfSome (reply_of reply.now) (λ r. self.new.engine ≡ cond (is_counted_reply r && not (is_told answer)) (tick slots self.old.engine model.Undo).0 self.old.engine) }
+    {
+        if !is_counted(reply) {
+            return;
+        }
+        if is_told(answer) {
+            return;
+        }
+        let _undone = self.engine.undo_alone(0);
+    }
+
+    /// Answers one command.
+    pub(crate) fn run(
+        &mut self,
+        alloc: Global,
+        number: u64,
+        command: &Command<Global>,
+        out: &mut [u8],
+    ) -> Answer
+        ensures { AnswersRun self.old.engine number (command_of command.now) out.new result self.new.engine }
+    {
+        let Ok(ready) = self.ready(alloc, number, command) else {
+            return Answer::OutOfMemory;
+        };
+        if out.len() < ready.len() {
+            return Answer::TooSmall;
+        }
+        let reply = self.engine.apply_alone(0, command);
+        let answered = is_answered(&reply);
+        if !answered {
+            return Answer::OutOfMemory;
+        }
+        let answer = answer_reply(alloc, number, &reply, ready.as_slice(), out);
+        self.take_untold_back(&reply, answer);
+        answer
+    }
+}
