@@ -7,7 +7,6 @@
 //!
 //! - `receipts`: a worked log of three entries, and each way of altering its receipts.
 //! - `halting`: a halted desk.
-//! - `racing`: a desk closed or halted while a session runs a command, and a session dropped before its turn.
 //! - `threads`: sessions in threads of their own, in contention and by turns.
 //! - `waking`: eight sessions that sleep for their turns.
 //! - `memory`: one allocation refused at a time.
@@ -20,8 +19,6 @@ mod calls;
 mod halting;
 #[cfg(test)]
 mod memory;
-#[cfg(test)]
-mod racing;
 #[cfg(test)]
 mod receipts;
 #[cfg(test)]
