@@ -129,7 +129,7 @@ static void adopt_children(pid_t pid)
 		long child = strtol(at, &end, 10);
 		if (end == at)
 			break;
-		if (is_known((pid_t)child) || child <= PROCESS_ONE || child >= PIDS)
+		if (is_known((pid_t)child) || child <= PROCESS_ONE || child >= PIDS || child == getpid())
 			continue;
 		/* a fork that pids.max refuses is counted once: the child is real all the same, and remembered */
 		if (remember((pid_t)child) == 0)

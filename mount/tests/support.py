@@ -106,7 +106,8 @@ class Mount:
             return subprocess.run(CGREPLAY, stdin=trace, stdout=subprocess.PIPE).stdout == answers.read()
 
     def end(self, replayed=True):
-        self.unmount()
+        # the process that tells inotify may still be at it
+        step("fusermount3 -u takes it away", until(lambda: self.unmount() == 0 or self.process.poll() is not None))
         same("the process ends with the mount", self.ended(), 0)
         same("it says nothing", self.words(), "")
         if replayed:
