@@ -172,10 +172,10 @@ void real_note(const char *group)
 	const char *paths;
 	size_t count, size;
 	noted_count = 0;
-	if (way == NUMBERS || engine_groups(&paths, &count))
+	if (way == NUMBERS || engine_groups(group, &paths, &count))
 		return;
 	for (; count--; paths += strlen(paths) + 1) {
-		if (!is_at_or_below(paths, group) || engine_look("cat %s cgroup.procs", paths))
+		if (engine_look("cat %s cgroup.procs", paths))
 			continue;
 		const char *text = engine_text(&size), *end = text + size;
 		while (text < end) {

@@ -168,6 +168,5 @@ def control():
 
 
 for test in (listing, values, groups, opened, shell, extra, control):
-    print(test.__name__)
     test()
 finish()

@@ -258,7 +258,6 @@ if sys.argv[1:2] == ["inside"]:
     {t.__name__: t for t in INSIDE}[sys.argv[2]]()
     finish()
 for test in INSIDE:
-    print(test.__name__)
     trace, answers = (os.path.join(tempfile.mkdtemp(), n) for n in ("trace", "answers"))
     ran = subprocess.run([PROGRAM, "run", "--trace", trace, "--answers", answers, sys.executable, ME, "inside", test.__name__],
                          timeout=120, stderr=subprocess.PIPE)
@@ -267,6 +266,5 @@ for test in INSIDE:
         step("cgreplay gives the same answers (%d lines)" % sum(1 for _ in open(trace)),
              subprocess.run(CGREPLAY, stdin=lines, stdout=subprocess.PIPE).stdout == wanted.read())
 for test in (statuses, ends, refused_here):
-    print(test.__name__)
     test()
 finish()

@@ -127,6 +127,5 @@ def background():
 for test, args in ((dying_clients, ()), (full_device, ()), (full_in_between, ()), (unmounted_while_open, ()),
                    (ended_while_open, (signal.SIGTERM, "SIGTERM")), (ended_while_open, (signal.SIGKILL, "SIGKILL")),
                    (killed_under_load, ()), (bad_lines, ()), (background, ())):
-    print(test.__name__)
     test(*args)
 finish()

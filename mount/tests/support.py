@@ -1,4 +1,4 @@
-"""A mount of its own for each test, and one line on each step."""
+"""A mount of its own for each test; what failed is printed, and with STEPS=1 every step."""
 import ctypes
 import errno
 import os
@@ -11,10 +11,13 @@ import time
 PROGRAM = os.environ["MAKHLOEUM"]
 CGREPLAY = os.environ["CGREPLAY"].split()
 failed = []
+steps = []
 
 
 def step(name, right, told=""):
-    print("  %-58s %s" % (name, "ok" if right else "FAILED %s" % (told,)), flush=True)
+    steps.append(name)
+    if os.environ.get("STEPS") or not right:
+        print("  %-58s %s" % (name, "ok" if right else "FAILED %s" % (told,)), flush=True)
     if not right:
         failed.append(name)
 
@@ -24,6 +27,7 @@ def same(name, got, wanted):
 
 
 def finish():
+    print("  %d steps, %d failed" % (len(steps), len(failed)))
     sys.exit(1 if failed else 0)
 
 
