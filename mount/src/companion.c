@@ -51,6 +51,16 @@ static void serve(int from, const char *mountpoint, bool unmount)
 		take_away(mountpoint);
 }
 
+/* Whoever waits for the end of what the program says does not wait for this process. */
+static void let_go(void)
+{
+	int null = open("/dev/null", O_RDWR);
+	for (int fd = 0; fd < 3 && null >= 0; fd++)
+		dup2(null, fd);
+	if (null > 2)
+		close(null);
+}
+
 int companion_start(const char *mountpoint, bool unmount)
 {
 	int ends[2];
@@ -63,6 +73,7 @@ int companion_start(const char *mountpoint, bool unmount)
 			_exit(0);
 		close(ends[1]);
 		setsid();
+		let_go();
 		signal(SIGTERM, SIG_IGN);
 		signal(SIGINT, SIG_IGN);
 		serve(ends[0], mountpoint, unmount);

@@ -24,7 +24,7 @@ struct buffer {
 	char *at;
 	size_t size, room;
 };
-static struct buffer answer, text, standing, names;
+static struct buffer answer, text, standing, names, paths;
 
 static bool make_room(struct buffer *b, size_t room)
 {
@@ -52,7 +52,7 @@ bool engine_start(int trace, int answers)
 void engine_end(void)
 {
 	mk_close(&engine);
-	struct buffer *all[] = { &answer, &text, &standing, &names };
+	struct buffer *all[] = { &answer, &text, &standing, &names, &paths };
 	for (size_t i = 0; i < sizeof all / sizeof *all; i++)
 		free(all[i]->at);
 	if (trace_to >= 0)
@@ -239,15 +239,38 @@ int engine_children(const char *path, const char **found, size_t *count)
 	return status == MK_DONE ? 0 : status == MK_OUT_OF_MEMORY ? -ENOMEM : -ENOENT;
 }
 
-int engine_groups(const char **found, size_t *count)
+static bool add_path(const char *group, const char *name)
 {
-	mk_info info;
-	if (!make_room(&names, MK_GROUPS_MAX))
+	bool root = group[0] == '/' && group[1] == 0;
+	size_t size = (root ? 0 : strlen(group)) + 1 + strlen(name) + 1, at = (size_t)(group - paths.at);
+	if (!make_room(&paths, paths.size + size))
+		return false;
+	group = paths.at + at;
+	snprintf(paths.at + paths.size, size, "%s/%s", root ? "" : group, name);
+	paths.size += size;
+	return true;
+}
+
+int engine_groups(const char *top, const char **found, size_t *count)
+{
+	size_t all = strlen(top) + 1;
+	*count = 0;
+	if (!make_room(&paths, all))
 		return -ENOMEM;
-	uint32_t status = mk_groups(&engine, (uint8_t *)names.at, names.room, &info);
-	*found = names.at;
-	*count = info.count;
-	return status == MK_DONE ? 0 : -ENOMEM;
+	memcpy(paths.at, top, all);
+	paths.size = all;
+	for (size_t at = 0; at < paths.size; at += strlen(paths.at + at) + 1, ++*count) {
+		const char *children;
+		size_t below;
+		int fault = engine_children(paths.at + at, &children, &below);
+		if (fault)
+			return fault;
+		for (; below--; children += strlen(children) + 1)
+			if (!add_path(paths.at + at, children))
+				return -ENOMEM;
+	}
+	*found = paths.at;
+	return 0;
 }
 
 size_t engine_depth(void)

@@ -26,8 +26,8 @@ const char *engine_text(size_t *size);
 int engine_has_group(const char *path);
 /* The names below a group, each ended by a zero byte. 0, or -ENOENT. */
 int engine_children(const char *path, const char **names, size_t *count);
-/* The paths of all groups, likewise. */
-int engine_groups(const char **paths, size_t *count);
+/* The paths of a group and of all below it, likewise. */
+int engine_groups(const char *top, const char **paths, size_t *count);
 size_t engine_depth(void);
 
 /* The recorded commands that stand, oldest first, as a trace; and the newest of them. */

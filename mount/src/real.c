@@ -129,7 +129,7 @@ static void adopt_children(pid_t pid)
 		long child = strtol(at, &end, 10);
 		if (end == at)
 			break;
-		if (is_known((pid_t)child) || child <= PROCESS_ONE || child >= PIDS)
+		if (is_known((pid_t)child) || child <= PROCESS_ONE || child >= PIDS || child == getpid())
 			continue;
 		/* a fork that pids.max refuses is counted once: the child is real all the same, and remembered */
 		if (remember((pid_t)child) == 0)
@@ -172,10 +172,10 @@ void real_note(const char *group)
 	const char *paths;
 	size_t count, size;
 	noted_count = 0;
-	if (way == NUMBERS || engine_groups(&paths, &count))
+	if (way == NUMBERS || engine_groups(group, &paths, &count))
 		return;
 	for (; count--; paths += strlen(paths) + 1) {
-		if (!is_at_or_below(paths, group) || engine_look("cat %s cgroup.procs", paths))
+		if (engine_look("cat %s cgroup.procs", paths))
 			continue;
 		const char *text = engine_text(&size), *end = text + size;
 		while (text < end) {

@@ -1,0 +1,270 @@
+"""What a program under `makhloeum run` sees; this file is also that program (program.py inside NAME)."""
+import ctypes
+import errno
+import os
+import signal
+import struct
+import subprocess
+import sys
+import tempfile
+import threading
+import time
+
+from support import CGREPLAY, PROGRAM, error_of, finish, libc, read, same, step, until, write
+
+AT = "/sys/fs/cgroup"
+ME = os.path.realpath(__file__)
+
+
+def into(group, pid=0):
+    write(AT + group + "/cgroup.procs", b"%d\n" % pid)
+
+
+def fork_error():
+    """Forks a child that ends at once; the name of the errno, or its wait status."""
+    try:
+        pid = os.fork()
+    except OSError as e:
+        return errno.errorcode[e.errno]
+    if pid == 0:
+        os._exit(0)
+    return os.waitpid(pid, 0)[1]
+
+
+# ---------------------------------------------------------------- inside
+
+def looks():
+    buffer = ctypes.create_string_buffer(256)
+    libc.statfs(AT.encode(), buffer)
+    same("statfs tells a cgroup2 file system", struct.unpack("l", buffer.raw[:8])[0], 0x63677270)
+    fd = os.open(AT, os.O_RDONLY)
+    libc.fstatfs(fd, buffer)
+    same("so does fstatfs", struct.unpack("l", buffer.raw[:8])[0], 0x63677270)
+    libc.statfs(b"/proc", buffer)
+    same("another file system is what it is", struct.unpack("l", buffer.raw[:8])[0], 0x9FA0)
+    lines = [x.split() for x in open("/proc/self/mounts") if "cgroup" in x]
+    same("the mount table has one", [x[:3] for x in lines], [["cgroup2", AT, "cgroup2"]])
+    lines = [x for x in open("/proc/self/mountinfo") if "cgroup" in x]
+    step("so has mountinfo", len(lines) == 1 and lines[0].endswith(" - cgroup2 cgroup2 rw\n"))
+    same("/proc/self/cgroup", open("/proc/self/cgroup").read(), "0::/\n")
+    os.mkdir(AT + "/a")
+    into("/a")
+    same("in another group", open("/proc/self/cgroup").read(), "0::/a\n")
+    same("by number", open("/proc/%d/cgroup" % os.getpid()).read(), "0::/a\n")
+    directory = os.open("/proc/%d" % os.getpid(), os.O_RDONLY)
+    same("from its directory", os.read(os.open("cgroup", os.O_RDONLY, dir_fd=directory), 99), b"0::/a\n")
+    same("by its thread", open("/proc/thread-self/cgroup").read(), "0::/a\n")
+    step("of another process", open("/proc/1/cgroup").read() == "0::/\n")
+    same("a file of that name elsewhere", error_of(open, "/proc/self/net/cgroup"), "ENOENT")
+    step("the constants are there", read(AT + "/cgroup.controllers") == b"pids\n")
+
+
+def forks():
+    os.mkdir(AT + "/a")
+    into("/a")
+    me = b"%d\n" % os.getpid()
+    same("the writer of 0", read(AT + "/a/cgroup.procs"), me)
+    child = os.fork()
+    if child == 0:
+        time.sleep(60)
+    same("a child is there when fork returns", read(AT + "/a/pids.current"), b"2\n")
+    os.kill(child, signal.SIGKILL)
+    os.waitpid(child, 0)
+    same("and gone when wait returns", read(AT + "/a/cgroup.procs"), me)
+    thread = threading.Thread(target=time.sleep, args=(0.2,))
+    thread.start()
+    same("a thread is no process", read(AT + "/a/pids.current"), b"1\n")
+    thread.join()
+    write(AT + "/a/pids.max", b"1\n")
+    same("fork beyond pids.max", fork_error(), "EAGAIN")
+    same("spawn beyond pids.max", error_of(os.posix_spawn, "/bin/true", ["true"], {}), "EAGAIN")
+    same("both were counted", read(AT + "/a/pids.events"), b"max 2\n")
+    write(AT + "/a/pids.max", b"2\n")
+    same("fork within it", fork_error(), 0)
+    wrong = []
+    for _ in range(200):
+        if fork_error() != 0 or read(AT + "/a/pids.current") != b"1\n":
+            wrong.append(1)
+    same("two hundred forks, each gone when waited for", wrong, [])
+    os.mkdir(AT + "/a/b")
+    write(AT + "/a/pids.max", b"max\n")
+    into("/a/b")
+    write(AT + "/a/pids.max", b"8\n")
+    got = [fork_in_thread() for _ in range(3)]
+    same("threads that fork at once stay below the limit", [g for g in got if g > 8], [])
+
+
+def fork_in_thread():
+    """The greatest pids.current while twelve threads fork children that stay for a moment."""
+    most, lock = [0], threading.Lock()
+
+    def one():
+        p = None
+        try:
+            p = subprocess.Popen(["sleep", "0.1"])
+        except OSError:
+            pass
+        with lock:
+            most[0] = max(most[0], int(read(AT + "/a/pids.current")))
+        if p:
+            p.wait()
+
+    threads = [threading.Thread(target=one) for _ in range(12)]
+    for t in threads:
+        t.start()
+    for t in threads:
+        t.join()
+    return most[0]
+
+
+def kills():
+    os.makedirs(AT + "/a/b")
+    child = os.fork()
+    if child == 0:
+        into("/a/b")
+        while True:  # forks as fast as it can while it is killed
+            if os.fork() == 0:
+                time.sleep(60)
+                os._exit(0)
+            time.sleep(0.001)
+    until(lambda: int(read(AT + "/a/pids.current")) > 5)
+    pids = read(AT + "/a/b/cgroup.procs").split()
+    write(AT + "/a/cgroup.kill", b"1\n")
+    same("a kill ends the parent", os.waitpid(child, 0)[1], signal.SIGKILL)
+    step("and its %d children" % (len(pids) - 1), until(lambda: not any(alive(int(p)) for p in pids)))
+    same("nobody is left", (read(AT + "/a/pids.current"), read(AT + "/a/cgroup.events")), (b"0\n", b"populated 0\nfrozen 0\n"))
+    same("the groups can go", (error_of(os.rmdir, AT + "/a/b"), error_of(os.rmdir, AT + "/a")), ("ok", "ok"))
+
+
+def alive(pid):
+    try:
+        return open("/proc/%d/stat" % pid).read().rpartition(")")[2].split()[0] not in "ZX"
+    except OSError:
+        return False
+
+
+def clones():
+    """clone3 into a group, as new service managers and Go do it."""
+    os.mkdir(AT + "/c")
+    fd = os.open(AT + "/c", os.O_RDONLY)
+    args = (ctypes.c_uint64 * 11)(0x200000000, 0, 0, 0, signal.SIGCHLD, 0, 0, 0, 0, 0, fd)
+    pid = libc.syscall(435, args, 88)
+    if pid == 0:
+        libc.sleep(60)
+        libc._exit(0)
+    same("the child is born in the group", read(AT + "/c/cgroup.procs"), b"%d\n" % pid)
+    same("the arguments are as they were", args[0], 0x200000000)
+    write(AT + "/c/pids.max", b"1\n")
+    same("another beyond its pids.max", (libc.syscall(435, args, 88), ctypes.get_errno()), (-1, errno.EAGAIN))
+    os.kill(pid, signal.SIGKILL)
+    os.waitpid(pid, 0)
+    same("the group is empty", read(AT + "/c/pids.current"), b"0\n")
+
+
+def stops():
+    """Job control goes on under the supervisor."""
+    child = subprocess.Popen(["sleep", "60"])
+    child.send_signal(signal.SIGSTOP)
+    same("a stop is seen by the parent", os.waitpid(child.pid, os.WUNTRACED)[1] & 0xFF, 0x7F)
+    child.send_signal(signal.SIGCONT)
+    child.send_signal(signal.SIGTERM)
+    same("then a signal", child.wait(), -signal.SIGTERM)
+
+
+def taken_back():
+    """All that this process and the hierarchy did is undone, one by one, under its feet."""
+    os.mkdir(AT + "/a")
+    into("/a")
+    for _ in range(20):
+        fork_error()
+    trace = read(AT + "/.makhloeum/trace").splitlines(True)
+    wrong = []
+    while trace:
+        if read(AT + "/.makhloeum/newest") != trace.pop():
+            wrong.append(len(trace))
+        write(AT + "/.makhloeum/undo", b"\n")
+    same("each undo takes the newest back", wrong, [])
+    same("the start", (read(AT + "/cgroup.procs"), read(AT + "/.makhloeum/depth"), os.path.exists(AT + "/a")), (b"1\n", b"0\n", False))
+    same("a program goes on", fork_error(), 0)
+
+
+# ---------------------------------------------------------------- outside
+
+def run(*words, **more):
+    return subprocess.run([PROGRAM, "run", *words], stdout=subprocess.PIPE, stderr=subprocess.PIPE, timeout=60, **more)
+
+
+def statuses():
+    same("a status", run("sh", "-c", "exit 7").returncode, 7)
+    same("a signal", run("sh", "-c", "kill -9 $$").returncode, 137)
+    same("a program that is not there", run("/nowhere").returncode, 127)
+    same("one that cannot be executed", run("/etc/passwd").returncode, 126)
+    same("what it says", run("--", "echo", "x").stdout, b"x\n")
+    same("who it is", run("id", "-u").stdout, b"%d\n" % os.getuid())
+    same("with --root", run("--root", "id", "-u").stdout, b"0\n")
+    started = time.monotonic()
+    left = run("sh", "-c", "sleep 61 & exec setsid sleep 62 & true")
+    same("what it leaves behind", left.returncode, 0)
+    step("ends with it", time.monotonic() - started < 10 and not running("sleep 61") and not running("sleep 62"))
+
+
+def running(command):
+    return subprocess.run(["pgrep", "-u", str(os.getuid()), "-f", "^" + command], stdout=-3).returncode == 0
+
+
+def ends():
+    """The supervisor or the server dies: nothing is left."""
+    for which in ("supervisor", "server"):
+        p = subprocess.Popen([PROGRAM, "run", "sh", "-c", "sleep 63; sleep 64"], stderr=subprocess.DEVNULL)
+        until(lambda: running("sleep 63"))
+        pids = [p.pid] if which == "supervisor" else [c for c in children(p.pid) if name_of(c) == "makhloeum"]
+        os.kill(pids[0], signal.SIGKILL)
+        status = p.wait(10)
+        same("the %s is killed" % which, status, -9 if which == "supervisor" else 137)
+        step("its program goes with it", until(lambda: not running("sleep 63")))
+        step("and so does every other process", until(lambda: not running("[^ ]*makhloeum run sh"), 8))
+    p = subprocess.Popen([PROGRAM, "run", "sleep", "65"])
+    until(lambda: running("sleep 65"))
+    p.terminate()
+    same("SIGTERM is passed on", p.wait(10), 143)
+
+
+def children(pid):
+    return [int(x) for x in open("/proc/%d/task/%d/children" % (pid, pid)).read().split()]
+
+
+def name_of(pid):
+    return open("/proc/%d/comm" % pid).read().strip()
+
+
+def refused_here():
+    """Machines that do not allow it: one sentence, and status 2."""
+    deny = {
+        "user namespaces": "echo 0 > /proc/sys/user/max_user_namespaces",
+        "FUSE": "mount --bind /dev/null /dev/fuse",
+    }
+    for what, how in deny.items():
+        ran = subprocess.run(["unshare", "-Urm", "sh", "-c", how + ' && exec "$0" run true', PROGRAM], stderr=subprocess.PIPE, timeout=20)
+        same("without %s" % what, (ran.returncode, ran.stderr.count(b"\n")), (2, 1))
+        step("it is named", ("does not allow " + what).encode() in ran.stderr, ran.stderr)
+    # a leak is looked for by ptrace, which is what is not to be had here
+    ran = run("--", PROGRAM, "run", "true", env=dict(os.environ, ASAN_OPTIONS="detect_leaks=0"))
+    same("where the program is traced already", (ran.returncode, ran.stderr.count(b"\n")), (2, 1))
+    step("it is named", b"does not allow a process to be traced" in ran.stderr, ran.stderr)
+
+
+INSIDE = (looks, forks, kills, clones, stops, taken_back)
+if sys.argv[1:2] == ["inside"]:
+    {t.__name__: t for t in INSIDE}[sys.argv[2]]()
+    finish()
+for test in INSIDE:
+    trace, answers = (os.path.join(tempfile.mkdtemp(), n) for n in ("trace", "answers"))
+    ran = subprocess.run([PROGRAM, "run", "--trace", trace, "--answers", answers, sys.executable, ME, "inside", test.__name__],
+                         timeout=120, stderr=subprocess.PIPE)
+    same("its status", (ran.returncode, ran.stderr), (0, b""))
+    with open(trace) as lines, open(answers, "rb") as wanted:
+        step("cgreplay gives the same answers (%d lines)" % sum(1 for _ in open(trace)),
+             subprocess.run(CGREPLAY, stdin=lines, stdout=subprocess.PIPE).stdout == wanted.read())
+for test in (statuses, ends, refused_here):
+    test()
+finish()

@@ -1,0 +1,131 @@
+"""Clients that die, full devices, and mounts that go while they are used."""
+import os
+import random
+import signal
+import subprocess
+import sys
+import threading
+import time
+
+from support import Mount, error_of, finish, read, same, step, until, write
+
+CLIENT = """import os, sys
+at = sys.argv[1]
+while True:
+    for f, v in (("a/pids.max", b"5"), ("a/pids.max", b"max"), ("a/cgroup.procs", b"1"), ("cgroup.procs", b"1")):
+        fd = os.open(at + "/" + f, os.O_WRONLY | os.O_TRUNC)
+        os.write(fd, v)
+        os.read(os.open(at + "/a/cgroup.events", 0), 99)
+        os.close(fd)
+"""
+
+
+def dying_clients():
+    m = Mount()
+    os.mkdir(m.path("a"))
+    dice = random.Random(1)
+    clients = [subprocess.Popen([sys.executable, "-c", CLIENT, m.at]) for _ in range(10)]
+    for _ in range(40):
+        time.sleep(0.02)
+        i = dice.randrange(10)
+        clients[i].kill()
+        clients[i].wait()
+        clients[i] = subprocess.Popen([sys.executable, "-c", CLIENT, m.at])
+    for c in clients:
+        c.kill()
+        c.wait()
+    step("forty clients were killed, and the mount answers", read(m.path("a", "cgroup.stat")).startswith(b"nr_descendants 0\n"))
+    m.end()
+
+
+def full_device():
+    m = Mount(trace="/dev/full")
+    same("a mkdir whose line cannot be kept", error_of(os.mkdir, m.path("a")), "ENOSPC")
+    same("nor a read's", error_of(read, m.path("cgroup.procs")), "ENOSPC")
+    step("neither was done", not os.path.exists(m.path("a")) and read(m.control("depth")) == b"0\n")
+    m.end(replayed=False)
+
+
+def full_in_between():
+    m = Mount(limit=(600, 600))
+    errors = [error_of(os.mkdir, m.path("group%d" % i)) for i in range(100)]
+    made = errors.count("ok")
+    step("of 100 groups %d had room in the trace" % made, 5 < made < 100 and set(errors) == {"ok", "EFBIG"})
+    same("so many are there", sum(n.startswith("group") for n in os.listdir(m.at)), made)
+    same("the trace ends with a whole line", open(m.trace).read()[-1:], "\n")
+    m.end()
+
+
+def unmounted_while_open():
+    m = Mount()
+    os.mkdir(m.path("a"))
+    fd = os.open(m.path("a", "pids.max"), os.O_RDWR)
+    step("an unmount while a file is open is refused", m.unmount() != 0)
+    same("a lazy one is not", m.unmount("-z"), 0)
+    same("the file goes on", (os.write(fd, b"5\n"), os.pread(fd, 9, 0)), (2, b"5\n"))
+    os.close(fd)
+    same("its close ends the process", m.ended(), 0)
+    step("cgreplay gives the same answers", m.replay())
+
+
+def ended_while_open(how, name):
+    m = Mount()
+    os.mkdir(m.path("a"))
+    fd = os.open(m.path("a", "pids.max"), os.O_RDWR)
+    m.process.send_signal(how)
+    m.ended()
+    step("%s ends it, and the mount is gone" % name, until(lambda: error_of(os.listdir, m.at) == "ok" and not os.path.ismount(m.at)))
+    step("an open file tells an error", error_of(os.pread, fd, 9, 0) in ("ENOTCONN", "ECONNABORTED"))
+    error_of(os.close, fd)
+
+
+def killed_under_load():
+    m = Mount()
+    errors = []
+
+    def client(n):
+        try:
+            while True:
+                os.mkdir(m.path("c%d" % n))
+                read(m.path("c%d" % n, "pids.current"))
+                os.rmdir(m.path("c%d" % n))
+        except OSError as e:
+            errors.append(e)
+
+    clients = [threading.Thread(target=client, args=(n,), daemon=True) for n in range(10)]
+    for c in clients:
+        c.start()
+    time.sleep(0.3)
+    m.process.kill()
+    for c in clients:
+        c.join(10)
+    step("ten clients of a killed mount all come back with an error", len(errors) == 10)
+    step("and the mount is gone", until(lambda: not os.path.ismount(m.at)))
+
+
+def bad_lines():
+    program = os.environ["MAKHLOEUM"]
+    for words in ([], ["mount"], ["run"], ["mount", "--bogus", "/tmp"], ["mount", "/nowhere/at/all"], ["mount", "/tmp", "x"], ["run", "--adopt", "true"]):
+        ran = subprocess.run([program, *words], stderr=subprocess.PIPE, timeout=10)
+        same("makhloeum %s" % " ".join(words), (ran.returncode, ran.stderr.count(b"\n")), (2, 1))
+    same("--help", subprocess.run([program, "--help"], stdout=subprocess.PIPE).returncode, 0)
+
+
+def background():
+    m = Mount()
+    m.end()
+    home = os.environ.get("TMPDIR", "/tmp")
+    at = os.path.join(home, "background")
+    os.makedirs(at, exist_ok=True)
+    ran = subprocess.run([os.environ["MAKHLOEUM"], "mount", at], stdout=subprocess.PIPE, timeout=10)
+    same("mount returns once it is there", (ran.returncode, os.path.ismount(at)), (0, True))
+    os.mkdir(at + "/a")
+    step("fusermount3 -u takes it away", until(lambda: subprocess.run(["fusermount3", "-u", at], stderr=-3).returncode == 0))
+    os.rmdir(at)
+
+
+for test, args in ((dying_clients, ()), (full_device, ()), (full_in_between, ()), (unmounted_while_open, ()),
+                   (ended_while_open, (signal.SIGTERM, "SIGTERM")), (ended_while_open, (signal.SIGKILL, "SIGKILL")),
+                   (killed_under_load, ()), (bad_lines, ()), (background, ())):
+    test(*args)
+finish()

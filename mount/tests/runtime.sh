@@ -1,0 +1,47 @@
+#!/bin/sh
+# runtime.sh runc|crun: the life of a container, under `makhloeum run`; then all of it is taken back.
+here=$(dirname "$(readlink -f "$0")")
+rt=$1
+w=$(mktemp -d) || exit 1
+. "$here/steps.sh"
+g=/sys/fs/cgroup/box
+mkdir -p "$w/b/rootfs/bin" "$w/b/rootfs/proc" "$w/b/rootfs/sys" "$w/b/rootfs/dev" "$w/b/rootfs/tmp" "$w/root"
+cp "$(command -v busybox)" "$w/b/rootfs/bin/busybox"
+for x in sh sleep cat ls true; do ln -s busybox "$w/b/rootfs/bin/$x"; done
+(cd "$w/b" && "$rt" spec --rootless)
+python3 - "$w/b/config.json" <<'END'
+import json, sys
+c = json.load(open(sys.argv[1]))
+c["process"].update(terminal=False, args=["/bin/sh", "-c", "sleep 40 & sleep 40 & wait"], env=["PATH=/bin"])
+c["linux"].update(cgroupsPath="/box", resources={"pids": {"limit": 12}})
+c["mounts"] = [m for m in c["mounts"] if m["type"] != "cgroup"]  # it would show the machine's own hierarchy
+json.dump(c, open(sys.argv[1], "w"))
+END
+R="$rt --root $w/root"
+[ "$rt" = crun ] && R="$R --cgroup-manager=cgroupfs"
+
+step "create" $R create --bundle "$w/b" c1
+says "one process, and a limit of twelve" "1 12" sh -c "echo \$(cat $g/pids.current $g/pids.max)"
+step "start" $R start c1
+soon "three processes" grep -qx 3 $g/pids.current
+step "state: running" sh -c "$R state c1 | grep -q '\"running\"'"
+step "ps lists cgroup.procs" sh -c "for p in \$(cat $g/cgroup.procs); do $R ps c1 | grep -qw \$p || exit 1; done"
+step "update --pids-limit 9" $R update --pids-limit 9 c1
+says "pids.max" 9 cat $g/pids.max
+[ "$rt" = runc ] && step "events --stats: current 3, limit 9" sh -c "$R events --stats c1 | grep -q '\"pids\":{\"current\":3,\"limit\":9}'"
+step "exec true" $R exec c1 /bin/true
+says "exec cat /proc/self/cgroup" 0::/box $R exec c1 /bin/cat /proc/self/cgroup
+step "exec ls /sys/fs/cgroup" $R exec c1 /bin/ls /sys/fs/cgroup
+refused "exec that forks beyond the limit" "temporarily unavailable" $R exec c1 /bin/sh -c 'for i in 1 2 3 4 5 6 7 8 9; do sleep 1 & done; wait'
+step "the refused fork is counted" sh -c "! grep -qx 'max 0' $g/pids.events"
+soon "three processes again" grep -qx 3 $g/pids.current
+refused "pause: cgroup.freeze is a constant" "not supported" $R pause c1
+step "state: still running" sh -c "$R state c1 | grep -q '\"running\"'"
+step "kill --all KILL" $R kill --all c1 KILL
+soon "populated 0" grep -qx "populated 0" $g/cgroup.events
+step "state: stopped" sh -c "$R state c1 | grep -q '\"stopped\"'"
+step "delete" $R delete c1
+step "the group is gone" test ! -e $g
+step "the whole life taken back, newest first" python3 "$here/taken_back.py"
+chmod -R u+rwx "$w"; rm -rf "$w"
+[ $bad = 0 ]

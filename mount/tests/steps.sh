@@ -1,0 +1,25 @@
+# Steps of a life, each printed with what became of it. Sourced; $w is a folder of its own.
+bad=0
+step() { # NAME COMMAND..
+	name=$1; shift
+	timeout 20 "$@" > "$w/out" 2>&1 < /dev/null
+	rc=$?
+	if [ $rc = 0 ]; then
+		printf '  %-58s ok\n' "$name"
+	else
+		printf '  %-58s FAILED %s: %s\n' "$name" "$rc" "$(tail -n 3 "$w/out" | tr '\n' '~')"
+		bad=$((bad + 1))
+	fi
+}
+refused() { # NAME WORDS COMMAND..: the command fails, and says these words
+	name=$1; words=$2; shift 2
+	step "$name" sh -c 'w=$1; shift; if "$@" > "$0" 2>&1; then exit 1; fi; cat "$0"; grep -q "$w" "$0"' "$w/said" "$words" "$@"
+}
+says() { # NAME TEXT COMMAND..: exactly that on standard output
+	name=$1; text=$2; shift 2
+	step "$name" sh -c 'text=$1; shift; got=$("$@") && echo "$got" && [ "$got" = "$text" ]' sh "$text" "$@"
+}
+soon() { # NAME COMMAND..: it succeeds within five seconds
+	name=$1; shift
+	step "$name" sh -c 'i=0; until "$@"; do i=$((i + 1)); [ $i -lt 50 ] || exit 1; sleep 0.1; done' sh "$@"
+}

@@ -1,0 +1,122 @@
+"""A mount of its own for each test; what failed is printed, and with STEPS=1 every step."""
+import ctypes
+import errno
+import os
+import shutil
+import subprocess
+import sys
+import tempfile
+import time
+
+PROGRAM = os.environ["MAKHLOEUM"]
+CGREPLAY = os.environ["CGREPLAY"].split()
+failed = []
+steps = []
+
+
+def step(name, right, told=""):
+    steps.append(name)
+    if os.environ.get("STEPS") or not right:
+        print("  %-58s %s" % (name, "ok" if right else "FAILED %s" % (told,)), flush=True)
+    if not right:
+        failed.append(name)
+
+
+def same(name, got, wanted):
+    step(name, got == wanted, "%r, not %r" % (got, wanted))
+
+
+def finish():
+    print("  %d steps, %d failed" % (len(steps), len(failed)))
+    sys.exit(1 if failed else 0)
+
+
+def until(what, seconds=5.0):
+    """Whether it becomes true in time."""
+    end = time.monotonic() + seconds
+    while time.monotonic() < end:
+        if what():
+            return True
+        time.sleep(0.01)
+    return False
+
+
+def error_of(call, *args):
+    """The name of the errno with which a call fails, or "ok"."""
+    try:
+        call(*args)
+    except OSError as e:
+        return errno.errorcode[e.errno]
+    return "ok"
+
+
+def read(path):
+    """One read from the start, as bytes."""
+    fd = os.open(path, os.O_RDONLY)
+    try:
+        return os.read(fd, 1 << 20)
+    finally:
+        os.close(fd)
+
+
+def write(path, value):
+    """One write to a file that is opened with truncation, as a shell does it."""
+    fd = os.open(path, os.O_WRONLY | os.O_TRUNC)
+    try:
+        os.write(fd, value)
+    finally:
+        os.close(fd)
+
+
+class Mount:
+    def __init__(self, *options, limit=None, trace=None):
+        self.home = tempfile.mkdtemp()
+        self.at = os.path.join(self.home, "at")
+        self.trace = trace or os.path.join(self.home, "trace")
+        self.answers = os.path.join(self.home, "answers")
+        self.said = open(os.path.join(self.home, "said"), "w+")
+        os.mkdir(self.at)
+        before = (lambda: __import__("resource").setrlimit(__import__("resource").RLIMIT_FSIZE, limit)) if limit else None
+        self.process = subprocess.Popen(
+            [PROGRAM, "mount", self.at, "--foreground", "--trace", self.trace, "--answers", self.answers, *options],
+            stderr=self.said, preexec_fn=before)
+        if not until(lambda: self.process.poll() is not None or os.path.ismount(self.at)) or not os.path.ismount(self.at):
+            raise SystemExit("no mount: %s" % self.words())
+
+    def words(self):
+        self.said.seek(0)
+        return self.said.read()
+
+    def path(self, *names):
+        return os.path.join(self.at, *names)
+
+    def control(self, name):
+        return self.path(".makhloeum", name)
+
+    def unmount(self, *options):
+        return subprocess.run(["fusermount3", "-u", *options, self.at], stderr=subprocess.DEVNULL).returncode
+
+    def ended(self):
+        """The status of its process, or None where it does not end in time."""
+        try:
+            return self.process.wait(10)
+        except subprocess.TimeoutExpired:
+            self.process.kill()
+            return None
+
+    def replay(self):
+        """Whether cgreplay answers the trace in the same bytes."""
+        with open(self.trace) as trace, open(self.answers, "rb") as answers:
+            return subprocess.run(CGREPLAY, stdin=trace, stdout=subprocess.PIPE).stdout == answers.read()
+
+    def end(self, replayed=True):
+        # the process that tells inotify may still be at it
+        step("fusermount3 -u takes it away", until(lambda: self.unmount() == 0 or self.process.poll() is not None))
+        same("the process ends with the mount", self.ended(), 0)
+        same("it says nothing", self.words(), "")
+        if replayed:
+            step("cgreplay gives the same answers (%d lines)" % sum(1 for _ in open(self.trace)), self.replay())
+        shutil.rmtree(self.home)
+
+
+libc = ctypes.CDLL(None, use_errno=True)
