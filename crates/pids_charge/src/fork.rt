@@ -142,11 +142,13 @@ impl<A: Allocator + Clone, M: Meter> Charges<A, M> {
         let Ok(home) = process.home.copy(alloc) else {
             return Err(ChargeFault::OutOfMemory);
         };
-        if let Err(fault) = self.settle_in(who, child, home) {
-            return Err(fault);
+        match self.settle_in(who, child, home) {
+            Err(fault) => Err(fault),
+            Ok(()) => {
+                self.raise_peaks(child, earlier.as_mut_slice());
+                Ok(Peaks::of(earlier))
+            }
         }
-        self.raise_peaks(child, earlier.as_mut_slice());
-        Ok(Peaks::of(earlier))
     }
 
     /// Counts a fork that the group at the first `n` names of the parent's path refuses: one more in the local total of that
