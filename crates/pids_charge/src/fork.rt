@@ -123,7 +123,12 @@ impl<A: Allocator + Clone, M: Meter> Charges<A, M> {
     /// # Errors
     ///
     /// `OutOfMemory`; nothing has changed then.
-    pub fn make_process(&mut self, who: u8, parent: Pid, child: Pid) -> Result<Peaks<A>, ChargeFault>
+    pub fn make_process(
+        &mut self,
+        who: u8,
+        parent: Pid,
+        child: Pid,
+    ) -> Result<Peaks<A>, ChargeFault>
         requires { refusal M.SLOTS self.old (Fork parent child) ≡ None }
         ensures made { OnOk result (self.new ≡ after self.old (Fork parent child)) }
         ensures peaks { IfOk result (λ peaks. peaks ≡ peaks_upward self.old (home_of self.old parent)) }

@@ -1,4 +1,4 @@
-use Rattle.std.proofs.Common.{◌≡◌, length, is_some, option_copied, sym, ap, ◌∙◌, subst}
+use Rattle.std.proofs.Common.{length, is_some, option_copied, sym, ap, ◌∙◌, subst}
 use Rattle.std.proofs.lemmas.Bool.{false≢true}
 use Rattle.flat_model.specs.State.{State}
 use Rattle.flat_model.specs.Step.{raise_peak, raise_peaks, peaks_upward}
