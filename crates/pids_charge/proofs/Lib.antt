@@ -19,6 +19,8 @@ mod Limited
 mod Exited
 mod Walked
 mod Totals
+mod PeaksRaised
+mod PeaksNoted
 mod Forked
 mod Removals
 mod Empty
