@@ -1,7 +1,9 @@
 /* Plays a trace from standard input line by line and prints the answers; with `bench` it measures calls instead. */
 #include "makhloeum.h"
 #include <stdio.h>
+#include <stdlib.h>
 #include <string.h>
+#include <sys/types.h>
 #include <time.h>
 
 static uint8_t out[1 << 20];
@@ -34,16 +36,20 @@ static int bench(void) {
 }
 
 static int play(void) {
-    char line[16384];
+    char *line = NULL;
+    size_t room = 0;
     uint64_t number = 1;
-    while (fgets(line, sizeof line, stdin)) {
-        uint32_t status = mk_line(&h, number, (const uint8_t *)line, strcspn(line, "\n"), out, sizeof out, &info);
+    int failed = 0;
+    for (ssize_t read; failed == 0 && (read = getline(&line, &room, stdin)) > 0;) {
+        size_t len = (size_t)read - (line[read - 1] == '\n');
+        uint32_t status = mk_line(&h, number, (const uint8_t *)line, len, out, sizeof out, &info);
         if (status == MK_SKIPPED) continue;
-        if (status > MK_FAULT) return 5;
+        if (status > MK_FAULT) failed = 5;
         fwrite(out, 1, info.len, stdout);
         number++;
     }
-    return 0;
+    free(line);
+    return failed;
 }
 
 int main(int argc, char **argv) {

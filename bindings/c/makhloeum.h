@@ -12,7 +12,7 @@
  *     mk_close(&h);
  *
  * - A handle is for one thread at a time. Two calls on one handle never overlap: put a lock round them, or keep the handle
- *   on one thread. Two handles share nothing.
+ *   on one thread. Two handles share nothing. No proof speaks of a handle that goes from one thread to another.
  * - No call starts a thread, takes a lock or waits. None is for a signal handler.
  * - Memory is the program's malloc, realloc and free. Where one of them gives none, the call answers
  *   MK_OUT_OF_MEMORY, and nothing has changed but perhaps bytes of the caller's buffer.

@@ -84,7 +84,8 @@ func (r *Refused) Errno() syscall.Errno { return syscall.Errno(C.mk_errno(C.uint
 // Unwrap lets errors.Is find the errno, and with it fs.ErrExist and fs.ErrNotExist.
 func (r *Refused) Unwrap() error { return r.Errno() }
 
-// Hierarchy is a hierarchy of groups: at first the root alone, and process 1 in it. It is for one goroutine at a time.
+// Hierarchy is a hierarchy of groups: at first the root alone, and process 1 in it. It is for one goroutine at a time; put a
+// lock round it where several use it.
 type Hierarchy struct {
 	handle C.mk_handle
 	info   C.mk_info

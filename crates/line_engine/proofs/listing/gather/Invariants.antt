@@ -6,6 +6,6 @@ abbrev pub invariant-loop-name : goal.invariant-loop-name
 invariant-loop-name l = record {
   can : goal.iterator-loop-name.can_next l.name-iterator;
   finite : goal.iterator-loop-name.is_finite l.name-iterator;
-  bytes : l.bytes.items ++ names_bytes l.name-iterator ≡ names_bytes l.names;
-  count : l.count + length l.name-iterator ≡ length l.names;
+  bytes : l.bytes.items ++ names_bytes l.name-iterator ≡ names_bytes l.fn.names;
+  count : l.count + length l.name-iterator ≡ length l.fn.names;
 }
