@@ -25,12 +25,15 @@
 //!   `place_all` over it: they ask for no runtime.
 //! - `child_names` gives the names of the groups one name below a group, in order.
 //! - Any meter serves that meets the law of `Meter`. `PlainMeter` keeps plain numbers, for one thread.
+//! - A kill, and what takes it back, give a meter all their charges at once, to be settled in 2 to 8 parts (`part_count`,
+//!   `last_run`); how many there are makes no difference to what is left.
 //! - `copy_plain` gives the same groups and processes in other memory, over a `PlainMeter`.
 //!
 //! Not promised: which slot a group gets, and in which stripe of a meter an amount stands.
 //!
 //! `specs/Recount.antt` says what ties meter, tree and table, `specs/Answers.antt` what a call that is a command answers
-//! and leaves, `specs/Events.antt` what a limit refuses and what is counted, `specs/Peaks.antt` what peaks rise to.
+//! and leaves, `specs/Events.antt` what a limit refuses and what is counted, `specs/Peaks.antt` what peaks rise to,
+//! `specs/Parts.antt` what a settlement leaves in so many parts.
 #![tactic(auto)]
 
 mod alone;
@@ -47,6 +50,7 @@ mod lost;
 mod meter;
 mod migrate;
 mod mkdir;
+mod parts;
 mod peaks;
 mod pid;
 mod place;
@@ -63,7 +67,8 @@ pub use gate::{Gate, OpenGate};
 pub use lost::{Lost, LostList};
 pub use meter::{HELD_MAX, Meter};
 pub use migrate::Shifted;
+pub use parts::{last_run, part_count};
 pub use peaks::Peaks;
 pub use pid::{PID_MAX, Pid};
-pub use plain::PlainMeter;
+pub use plain::{LEAVES, PlainMeter, SLOTS};
 pub use snzi_core::Token;
