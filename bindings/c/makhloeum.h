@@ -85,7 +85,7 @@ enum {
 };
 
 /* A buffer of so many bytes is never too small for the children of a group. */
-enum { MK_CHILDREN_MAX = 256 * 256 };
+enum { MK_CHILDREN_MAX = 1024 * 256 };
 
 /* Makes an engine in a handle that has none: the root alone, and process 1 in it. MK_DONE, MK_OUT_OF_MEMORY, or
    MK_CLOSED where the handle has one. */
