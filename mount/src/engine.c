@@ -189,7 +189,7 @@ static int ask_and_keep(void)
 	return error_of(status, code);
 }
 
-static bool set_line(const char *format, va_list words)
+__attribute__((format(printf, 1, 0))) static bool set_line(const char *format, va_list words)
 {
 	int n = vsnprintf(line, sizeof line - 2, format, words);
 	line_size = n > 0 ? (size_t)n : 0;

@@ -13,6 +13,7 @@ struct look {
 	bool marked;       /* statfs carries a mark by which the supervisor knows this file system */
 	uid_t uid;
 	gid_t gid;
+	struct timespec born; /* every time that it tells */
 };
 extern struct look look;
 extern const struct fuse_operations operations;

@@ -52,13 +52,13 @@ static pid_t status_number(pid_t pid, const char *key)
 	return found;
 }
 
-/* The process here whose number there, where the thread is, is this. */
+/* The process here that has this number, or a thread with it, where the asking thread is. */
 static pid_t seen_from(pid_t thread, pid_t number)
 {
 	struct dirent *entry;
 	pid_t found = -1;
 	if (same_namespace(thread, getpid()))
-		return number;
+		return status_number(number, "Tgid:");
 	DIR *all = opendir("/proc");
 	while (all && found < 0 && (entry = readdir(all))) {
 		pid_t pid = (pid_t)atoi(entry->d_name);

@@ -12,6 +12,7 @@
 #include <stdlib.h>
 #include <string.h>
 #include <sys/wait.h>
+#include <time.h>
 #include <unistd.h>
 
 void say(const char *format, ...)
@@ -51,6 +52,7 @@ bool serve_prepare(const struct wishes *wishes)
 		return false;
 	}
 	look = (struct look){ .show_control = wishes->control, .uid = getuid(), .gid = getgid() };
+	clock_gettime(CLOCK_REALTIME, &look.born);
 	signal(SIGPIPE, SIG_IGN);
 	signal(SIGXFSZ, SIG_IGN);
 	return true;

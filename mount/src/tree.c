@@ -7,21 +7,17 @@
 #include <errno.h>
 #include <stdio.h>
 #include <string.h>
-#include <time.h>
 
 struct look look;
 
 static void set_stat(struct stat *st, mode_t mode, nlink_t links)
 {
-	static struct timespec born;
-	if (born.tv_sec == 0)
-		clock_gettime(CLOCK_REALTIME, &born);
 	memset(st, 0, sizeof *st);
 	st->st_mode = mode;
 	st->st_nlink = links;
 	st->st_uid = look.uid;
 	st->st_gid = look.gid;
-	st->st_atim = st->st_mtim = st->st_ctim = born;
+	st->st_atim = st->st_mtim = st->st_ctim = look.born;
 }
 
 static int control_getattr(const char *path, struct stat *st)
