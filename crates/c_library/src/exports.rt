@@ -213,12 +213,7 @@ pub extern "C" fn mk_children(
 
 /// Whether there is such a group.
 #[unsafe(no_mangle)]
-pub extern "C" fn mk_has_group(
-    alloc: Global,
-    h: &mut Handle,
-    path: &[u8],
-    info: &mut Info,
-) -> u32
+pub extern "C" fn mk_has_group(alloc: Global, h: &mut Handle, path: &[u8], info: &mut Info) -> u32
     ensures { FindsAt h.old.seal.held (read_path path.now) result info.new h.new.seal.held }
 {
     let Some(engine) = h.take(alloc) else {

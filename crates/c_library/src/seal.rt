@@ -4,9 +4,9 @@ ghost use Rattle.line_engine.specs.declared.engine.LineEngine.{LineEngine};
 ghost use Rattle.c_library.specs.Sealed.{held_coded, seal_owns};
 
 use crate::parts::Parts;
+use line_engine::LineEngine;
 use std::alloc::Global;
 use std::marker::Model;
-use line_engine::LineEngine;
 
 /// An engine's box, or none.
 #[repr(C)]

@@ -89,12 +89,7 @@ impl<A: Allocator + Clone, M: Meter> Charges<A, M> {
         ) else {
             return Err(ChargeFault::OutOfMemory);
         };
-        settle_alone(
-            &mut self.meter,
-            who % M::LEAVES,
-            tokens.as_slice(),
-            &[],
-        );
+        settle_alone(&mut self.meter, who % M::LEAVES, tokens.as_slice(), &[]);
         leave(&mut self.processes, path);
         Ok(LostList::of(lost))
     }

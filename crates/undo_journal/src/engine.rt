@@ -45,7 +45,9 @@ impl<A: Allocator + Clone, M: Meter> Model for Engine<A, M> {
 }
 
 /// The reply, or want of memory.
-pub(crate) fn or_out_of_memory<A: Allocator + Clone>(answer: Result<Reply<A>, AllocError>) -> Reply<A>
+pub(crate) fn or_out_of_memory<A: Allocator + Clone>(
+    answer: Result<Reply<A>, AllocError>,
+) -> Reply<A>
     ensures ok { IfOk answer (λ reply. result ≡ reply) }
     ensures err { OnErr answer (reply_of result ≡ None) }
 {
