@@ -48,6 +48,7 @@ pub use device::{DeviceFault, Sink, Source};
 pub use fault::ReplayFault;
 pub use input::TRACE_MAX;
 pub use memory::{MemorySink, MemorySource};
+pub use output::write_whole;
 pub use pids_charge::{Gate, OpenGate};
 pub use program::{ProgramFault, exit_status, run_program};
 pub use rehearsal::rehearse_trace;

@@ -1,0 +1,26 @@
+//! Answers each line of a trace before it reads the next: commands on standard input, their replies
+//! on standard output.
+//!
+//! All that the program does and leaves stands at `run_program` of `shell_main`, and its statuses
+//! at `exit_status`; a fault's message is its text.
+#![tactic(auto)]
+
+use replay_main::{StreamSink, StreamSource, collect_arguments};
+use shell_main::{ProgramFault, exit_status, run_program};
+use std::alloc::Global;
+use std::process::ExitCode;
+use std::{env, io};
+
+fn main(rt: HostRuntime) -> ExitCode {
+    let alloc: Global = rt.alloc();
+    let mut reader = StreamSource::new(rt.reader());
+    let mut writer = StreamSink::new(io::writer(&rt));
+    let outcome = match collect_arguments(alloc, env::args(&rt)) {
+        Ok(args) => run_program(&rt, alloc, args.as_slice(), &mut reader, &mut writer),
+        Err(fault) => Err(ProgramFault::Line(fault)),
+    };
+    if let Err(fault) = outcome {
+        let _ = eprintln!(rt; "cgshell: {fault}");
+    }
+    ExitCode::from(exit_status(outcome))
+}

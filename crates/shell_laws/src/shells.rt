@@ -1,0 +1,67 @@
+//! What a shell leaves, beside what a replay leaves, where the devices tell their bytes.
+
+ghost use Rattle.std.specs.Prelude.{
+  ◌≡◌,
+  ◌≤◌,
+  ◌↔◌,
+  ◌++◌,
+  ℕ,
+  Bool,
+  true,
+  false,
+  List,
+  [],
+  Option,
+  Some,
+  Result,
+  Ok,
+  Err,
+  codes,
+  length,
+};
+ghost use Rattle.flat_model.specs.Replies.{answers};
+ghost use Rattle.sessions.specs.Meaning.{slots};
+ghost use Rattle.replay_main.specs.declared.trace.Summary.{Summary};
+ghost use Rattle.replay_main.specs.Replayed.{Replayed};
+ghost use Rattle.shell_main.specs.declared.fault.ShellFault.{ShellFault};
+ghost use Rattle.shell_main.specs.declared.fault.ShellFault.TheVariants as fault;
+ghost use Rattle.shell_main.specs.Shelled.{Shelled};
+ghost use Rattle.shell_main.specs.WholeLines.{HasNoFeed, ends_line};
+
+/// Of a source that a replay reads whole, a shell that is not ended by a fault leaves exactly what
+/// the replay leaves.
+pub fn what_a_replay_says()
+    ensures { (left : List ℕ) (rest before after : Option (List ℕ)) (read_failed write_failed flushed : Bool) (summary : Summary)
+        → length left ≤ 16777216
+        → Shelled (Some left) rest read_failed before after write_failed flushed (Ok summary)
+        ↔ Replayed (Some left) read_failed before after write_failed flushed (Ok summary) }
+{}
+
+/// Whatever a shell answers, what it wrote is a prefix of the answers to all that the source had.
+pub fn a_prefix_of_all_answers()
+    ensures { (left before : List ℕ) (rest after : Option (List ℕ)) (read_failed write_failed flushed : Bool) (r : Result Summary ShellFault)
+        → Shelled (Some left) rest read_failed (Some before) after write_failed flushed r
+        → (front more : List ℕ) × (front ++ more ≡ answers slots left) × (after ≡ Some (before ++ front)) }
+{}
+
+/// The answers to whole lines come first in the answers to them and whatever follows.
+pub fn whole_lines_come_first()
+    ensures { (lines more : List ℕ) → ends_line lines ≡ true
+        → (rest : List ℕ) × (answers slots (lines ++ more) ≡ answers slots lines ++ rest) }
+{}
+
+/// At a failed read exactly the answers to the whole lines that were read are out.
+pub fn what_is_out_at_a_failed_read()
+    ensures { (left rest before : List ℕ) (after : Option (List ℕ)) (read_failed write_failed flushed : Bool)
+        → Shelled (Some left) (Some rest) read_failed (Some before) after write_failed flushed (Err fault.Read)
+        → (lines line : List ℕ) × (left ≡ (lines ++ line) ++ rest) × (ends_line lines ≡ true)
+        × HasNoFeed line × (after ≡ Some (before ++ answers slots lines)) × (flushed ≡ true) }
+{}
+
+/// Text of whole lines, by example.
+pub fn whole_lines()
+    ensures nothing { ends_line [] ≡ true }
+    ensures two { ends_line (codes "undo\nundo\n") ≡ true }
+    ensures blank { ends_line (codes "\n") ≡ true }
+    ensures unended { ends_line (codes "undo\nundo") ≡ false }
+{}

@@ -1,0 +1,32 @@
+-- Where a talk stands: the machine and the two numbers, from line to line.
+use Rattle.std.specs.Prelude.{ℕ, ◌+◌, List}
+use Rattle.std.specs.List.{count_by}
+use Rattle.flat_model.specs.Command.{Reply}
+use Rattle.flat_model.specs.Machine.{Machine, new_machine, end_of, replies}
+use Rattle.flat_model.specs.Replies.{command_count, commands_in, is_fault, is_refused, out}
+use Rattle.flat_model.specs.Trace.{Line}
+use Rattle.sessions.specs.Meaning.{slots}
+
+-- where a talk stands: the machine, how many lines had a number, and how many of these were refused
+pub record Point : Type 0 where
+  pub machine : Machine
+  pub commands : ℕ
+  pub refused : ℕ
+
+abbrev pub start_point : Point
+start_point = record { machine = new_machine; commands = 0; refused = 0 }
+
+abbrev pub replies_on : Point → List Line → List Reply
+replies_on p lines = replies slots p.machine (commands_in lines)
+
+-- what is answered to these lines from here on
+abbrev pub answers_on : Point → List Line → List ℕ
+answers_on p lines = out (p.commands + 1) lines (replies_on p lines)
+
+-- where the talk stands behind these lines
+abbrev pub point_after : Point → List Line → Point
+point_after p lines = record {
+  machine = end_of slots p.machine (commands_in lines);
+  commands = p.commands + command_count lines;
+  refused = p.refused + (count_by is_fault lines + count_by is_refused (replies_on p lines));
+}

@@ -1,0 +1,18 @@
+-- Texts of whole lines, and a line that has not ended.
+use Rattle.std.specs.Prelude.{◌≡◌, ◌≤◌, ℕ, Bool, true, false, List, [], ◌∷◌, length}
+use Rattle.std.specs.List.{All}
+use Rattle.flat_model.specs.Trace.{is_line_feed, lines_in, trace_max}
+
+-- the text is empty, or its last byte is a line feed
+abbrev pub ends_line : List ℕ → Bool
+ends_line [] = true
+ends_line (b ∷ []) = is_line_feed b
+ends_line (b ∷ c ∷ bytes) = ends_line (c ∷ bytes)
+
+-- none of the bytes is a line feed
+abbrev pub HasNoFeed : List ℕ → Type 0
+HasNoFeed bytes = All (λ b. is_line_feed b ≡ false) bytes
+
+-- no line has more bytes than a whole trace may have
+abbrev pub HasShortLines : List ℕ → Type 0
+HasShortLines text = All (λ line. length line ≤ trace_max) (lines_in text)

@@ -1,0 +1,29 @@
+//! The next bytes, once nothing is owed.
+
+ghost use Rattle.std.specs.Prelude.{◌≡◌, ◌≤◌, ℕ, List, Option, true, length, is_err, if◌then◌else◌, IfOk};
+ghost use Rattle.std.specs.Io.KnownBytes.{ReadConsumes};
+ghost use Rattle.shell_main.specs.Shelled.{NothingOwed};
+
+use replay_main::{DeviceFault, Sink, Source};
+
+/// Reads the next bytes, where exactly the whole lines that were read are answered, and the answers
+/// are out. It looks at nothing but the reader: the writer, and the line that has not ended, are
+/// here for the promise.
+pub(crate) fn next_chunk<S: Source, W: Sink>(
+    reader: &mut S,
+    writer: &W,
+    line: &[u8],
+    buf: &mut [u8],
+) -> Result<usize, DeviceFault>
+    ghost start: { Option (List ℕ) × Option (List ℕ) }
+    requires { (lines : List ℕ) × NothingOwed start.0 (S.left reader.old) start.1 (W.taken writer.now)
+        (W.is_failed writer.now) (W.is_flushed writer.now) lines line.now }
+    ensures bound { IfOk result (λ n. n ≤ length buf.new) }
+    ensures bytes { ReadConsumes (S.left reader.old) (S.left reader.new) result buf.new }
+    ensures mark { S.is_failed reader.new
+        ≡ (if is_err result then true else S.is_failed reader.old) }
+{
+    let _ = writer;
+    let _ = line;
+    reader.read(buf)
+}

@@ -1,0 +1,200 @@
+//! Devices for the tests: some wait for an answer, some fail.
+
+ghost use Rattle.std.specs.Prelude.{◌≡◌, ◌≤◌, None, false, length};
+
+use replay_main::{DeviceFault, Sink, Source};
+use std::alloc::Global;
+use std::sync::atomic::{AtomicU64, Ordering};
+
+/// Copies a text into the front of a buffer, as far as there is room, and tells how many bytes.
+fn fill(buf: &mut [u8], text: &[u8]) -> usize
+    ensures { result ≤ length buf.new }
+{
+    let count = buf.len().min(text.len());
+    buf[..count].copy_from_slice(&text[..count]);
+    count
+}
+
+/// Asks, and asks on only once all that it is to be told so far is flushed. Where it is not, the
+/// read fails.
+#[derive(Drop)]
+pub(crate) struct Asker<'a> {
+    rows: &'a [(&'a str, &'a str)],
+    at: usize,
+    wanted: u64,
+    flushed: &'a AtomicU64,
+    is_failed: bool,
+}
+
+impl<'a> Asker<'a> {
+    /// Asks the first text of each row, and then waits for the second.
+    pub(crate) fn new(rows: &'a [(&'a str, &'a str)], flushed: &'a AtomicU64) -> Asker<'a>
+        ensures { result.is_failed ≡ false }
+    {
+        Asker {
+            rows,
+            at: 0,
+            wanted: 0,
+            flushed,
+            is_failed: false,
+        }
+    }
+}
+
+impl<'a> Source for Asker<'a> {
+    ghost left = { λ s. None };
+
+    ghost is_failed = { λ s. s.is_failed };
+
+    fn read(&mut self, buf: &mut [u8]) -> Result<usize, DeviceFault> {
+        if self.flushed.load(Ordering::SeqCst) != self.wanted {
+            self.is_failed = true;
+            return Err(DeviceFault);
+        }
+        match self.rows.get(self.at) {
+            Some((asked, told)) => {
+                self.at = self.at.saturating_add(1);
+                self.wanted = self.wanted.saturating_add(told.len() as u64);
+                Ok(fill(buf, asked.as_bytes()))
+            }
+            None => Ok(0),
+        }
+    }
+}
+
+/// Takes three bytes at a time, and tells at each flush how many were taken.
+#[derive(Drop)]
+pub(crate) struct Listener<'a> {
+    bytes: Vec<u8>,
+    flushed: &'a AtomicU64,
+    is_failed: bool,
+    is_flushed: bool,
+}
+
+impl<'a> Listener<'a> {
+    pub(crate) fn new(alloc: Global, flushed: &'a AtomicU64) -> Listener<'a>
+        ensures { result.is_failed ≡ false }
+    {
+        Listener {
+            bytes: Vec::new(alloc),
+            flushed,
+            is_failed: false,
+            is_flushed: false,
+        }
+    }
+
+    /// The bytes that were taken.
+    pub(crate) fn bytes(&self) -> &[u8] {
+        self.bytes.as_slice()
+    }
+}
+
+impl<'a> Sink for Listener<'a> {
+    ghost taken = { λ s. None };
+
+    ghost is_failed = { λ s. s.is_failed };
+
+    ghost is_flushed = { λ s. s.is_flushed };
+
+    fn write(&mut self, bytes: &[u8]) -> Result<usize, DeviceFault> {
+        self.is_flushed = false;
+        let count = bytes.len().min(3);
+        if count == 0 || self.bytes.extend_from_slice(&bytes[..count]).is_err() {
+            self.is_failed = true;
+            return Err(DeviceFault);
+        }
+        Ok(count)
+    }
+
+    fn flush(&mut self) -> Result<(), DeviceFault> {
+        self.flushed
+            .store(self.bytes.len() as u64, Ordering::SeqCst);
+        self.is_flushed = true;
+        Ok(())
+    }
+}
+
+/// Gives a text in pieces of so many bytes, and then ends, or fails.
+#[derive(Drop)]
+pub(crate) struct Pieces<'a> {
+    pub(crate) rest: &'a [u8],
+    pub(crate) size: usize,
+    pub(crate) fails: bool,
+    pub(crate) is_failed: bool,
+}
+
+impl<'a> Source for Pieces<'a> {
+    ghost left = { λ s. None };
+
+    ghost is_failed = { λ s. s.is_failed };
+
+    fn read(&mut self, buf: &mut [u8]) -> Result<usize, DeviceFault> {
+        if self.rest.is_empty() && self.fails {
+            self.is_failed = true;
+            return Err(DeviceFault);
+        }
+        let (piece, _) = self.rest.split_at(self.size.min(self.rest.len()));
+        let count = fill(buf, piece);
+        self.rest = &self.rest[count.min(self.rest.len())..];
+        Ok(count)
+    }
+}
+
+/// Takes so many bytes, two at a time, and fails at the next, or at the flush behind so many.
+#[derive(Drop)]
+pub(crate) struct Narrow {
+    bytes: Vec<u8>,
+    room: usize,
+    flushes: usize,
+    is_failed: bool,
+    is_flushed: bool,
+}
+
+impl Narrow {
+    /// Has room for so many bytes, and for so many flushes.
+    pub(crate) fn new(alloc: Global, room: usize, flushes: usize) -> Narrow
+        ensures { result.is_failed ≡ false }
+    {
+        Narrow {
+            bytes: Vec::new(alloc),
+            room,
+            flushes,
+            is_failed: false,
+            is_flushed: false,
+        }
+    }
+
+    /// The bytes that were taken.
+    pub(crate) fn bytes(&self) -> &[u8] {
+        self.bytes.as_slice()
+    }
+}
+
+impl Sink for Narrow {
+    ghost taken = { λ s. None };
+
+    ghost is_failed = { λ s. s.is_failed };
+
+    ghost is_flushed = { λ s. s.is_flushed };
+
+    fn write(&mut self, bytes: &[u8]) -> Result<usize, DeviceFault> {
+        self.is_flushed = false;
+        let count = bytes.len().min(2).min(self.room);
+        if count == 0 || self.bytes.extend_from_slice(&bytes[..count]).is_err() {
+            self.is_failed = true;
+            return Err(DeviceFault);
+        }
+        self.room -= count;
+        Ok(count)
+    }
+
+    fn flush(&mut self) -> Result<(), DeviceFault> {
+        if self.flushes == 0 {
+            self.is_failed = true;
+            return Err(DeviceFault);
+        }
+        self.flushes -= 1;
+        self.is_flushed = true;
+        Ok(())
+    }
+}
