@@ -1,6 +1,6 @@
 //! Trees that are copied into an arena.
 
-use crate::tree::{path, sample};
+use crate::calls::{path, sample};
 use bumpalo::{Bump, ResetError};
 use std::mem;
 use std::test::Fail;

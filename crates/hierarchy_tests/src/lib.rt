@@ -7,6 +7,7 @@
 //!
 //! - `paths`: texts with their faults, and each public call of `GroupPath`.
 //! - `path_memory`: paths in a small heap, with each growth refused.
+//! - `calls`: a tree of five groups, and the calls of a table.
 //! - `tree`: each public call of `GroupTree`, in tables of calls, and the refusals in their order.
 //! - `limits`: the limits of a group, and the first that a new one meets.
 //! - `wide_and_deep`: as many siblings as there are slots, and a group of as many names as a path may have.
@@ -16,6 +17,8 @@
 
 #[cfg(test)]
 mod arena;
+#[cfg(test)]
+mod calls;
 #[cfg(test)]
 mod limits;
 #[cfg(test)]

@@ -1,6 +1,6 @@
 //! The limits that a group has, and the first that a new group meets.
 
-use crate::tree::{Call, first_other_of_sample};
+use crate::calls::{Call, first_other_of_sample};
 use group_tree::{Attr, Limit, LimitFile, Limits};
 use std::test::Fail;
 

@@ -1,6 +1,6 @@
 //! A tree in a small heap: what a refused growth leaves.
 
-use crate::tree::{Call, answer, attr, path};
+use crate::calls::{Call, answer, attr, path};
 use crate::wide_and_deep::{deep, is_rising, nest};
 use group_tree::{GroupTree, TreeFault};
 use linked_list_allocator::LocalHeap;

@@ -2,7 +2,7 @@
 
 use crate::limits::limited;
 use crate::paths::names_of_letters;
-use crate::tree::{Call, attr, path};
+use crate::calls::{Call, attr, path};
 use crate::tree_memory::{LONG, call, is_found};
 use group_path::GroupPath;
 use group_tree::{GroupTree, Limit, MetLimit, TreeFault};

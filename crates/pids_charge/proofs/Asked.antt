@@ -12,6 +12,7 @@ use Rattle.std.specs.Ordering.{eq_by_cmp}
 use Rattle.flat_model.proofs.PathLaws.{path_cmp-IsTotalOrder, path_cmp-IsAntisymmetric}
 use Rattle.group_tree.specs.declared.fault.TreeFault.{TreeFault}
 use Rattle.flat_model.specs.Counts.{is_group, has_process}
+use Rattle.flat_model.specs.Inverse.{back, Exited}
 use Rattle.flat_model.specs.Command.{Kill, Move, MakeGroup, Refusal, NoGroup, NoProcess, Exists, NoSlot}
 use Rattle.std.proofs.lemmas.Bool.Decides.{nat_tests}
 use Rattle.flat_model.specs.Step.{refusal, after, blocked_make, limit_met, first_refusal}
@@ -92,12 +93,12 @@ module _ {A : Type 0} (s : State) (tree : Groups) (es : List (Row A)) (v : state
   pub process-is : IsStrictlySortedBy nat_cmp (keys_of es) → (k : ℕ) → has_process s k ≡ is_some (lookup (is_at (nat_cmp k)) es)
   process-is sorted k = ap is_some (home-is sorted k) ∙ mapped (λ p. p.home) (lookup (is_at (nat_cmp k)) es)
 
-  pub moved-is : IsStrictlySortedBy nat_cmp (keys_of es) → (k : ℕ) (x : Process A) (fs : List (Row A)) (q : Path) → fs ≡ insert_entry nat_cmp es k x → x.home ≡ q → state_of tree fs ≡ after s (Move q k)
+  pub moved-is : IsStrictlySortedBy nat_cmp (keys_of es) → (k : ℕ) (x : Process A) (fs : List (Row A)) (q : Path) → fs ≡ insert_entry nat_cmp es k x → x.home ≡ q → state_of tree fs ≡ back (Exited k q) s
   moved-is sorted k x fs q e same =
       ap (state_of tree) e
       ∙ (λ i. record { groups = (state_of tree es).groups; home = put_home k x es (to_sorted es sorted) i })
-      ∙ ap (λ r. after (state_of tree es) (Move r k)) same
-      ∙ ap (λ (t : State). after t (Move q k)) v
+      ∙ ap (λ r. back (Exited k r) (state_of tree es)) same
+      ∙ ap (λ (t : State). back (Exited k q) t) v
 
 pub found_there : (o : Option (Bor Attr)) (m : Option Attr) (b : Bool) → option_copied o ≡ m → is_some o ≡ not b → b ≡ false → IsSome m
 found_there None m true e h f = cc

@@ -18,6 +18,7 @@ mod Limited
 mod Exited
 mod Walked
 mod Totals
+mod PeaksRaised
 mod Forked
 mod Removals
 mod Empty

@@ -1,4 +1,4 @@
--- Event totals changed in the tree, as the flat state counts them.
+-- Groups changed in the tree, as the flat state changes them: event totals, and peaks.
 use Rattle.std.proofs.Common.{◌≡◌, ℕ, ◌+◌, ◌-◌, Bool, true, false, cond, Option, Some, None, option_map, is_some, refl, sym, ap, ◌∙◌, arith}
 use Rattle.std.specs.FinMap as fin
 use Rattle.std.specs.Ordering.{nat_cmp}
@@ -13,7 +13,7 @@ use Rattle.group_tree.specs.Flat.{group_of}
 use Rattle.group_tree.specs.Groups.{Groups, slot_of, IsClosed}
 use Rattle.group_tree.specs.Refusals.{counted_by, Counts}
 use Rattle.group_tree.specs.declared.attr.Attr.{Attr}
-use Rattle.group_tree.proofs.Refused.{len-counts, some_stays}
+use Rattle.group_tree.proofs.Changed.{len-changes, some_stays}
 use Rattle.pids_charge.specs.Events.{flat_of}
 use Rattle.pids_charge.specs.Recount.{SameSlots}
 
@@ -31,28 +31,36 @@ up_each a q attr = λ i. record (group_of attr) { local = one_up (same_path q a)
 pub down_each : (a q : Path) (attr : Attr) → group_of (counted_by (λ n. n - 1) a q attr) ≡ count_down a q (group_of attr)
 down_each a q attr = λ i. record (group_of attr) { local = one_down (same_path q a) attr.local i; total = one_down (counts_for a q) attr.total i }
 
+-- the groups of the tree changed one by one, as f changes them there and F in the flat state
+module _ (f : Path → Attr → Attr) (old new : Groups) (changes : (q : Path) → fin.get new q ≡ option_map (f q) (fin.get old q)) where
+  pub flat_changed : (F : Path → flat.Attr → flat.Attr) → ((q : Path) (attr : Attr) → fin.get old q ≡ Some attr → group_of (f q attr) ≡ F q (group_of attr)) → (home : fin.FinMap nat_cmp Path) → flat_of new home ≡ at_each F (flat_of old home)
+  flat_changed F each home = λ i. record { groups = groups i; home = home }
+    where
+      as_flat : (q : Path) (o : Option Attr) → ((attr : Attr) → o ≡ Some attr → group_of (f q attr) ≡ F q (group_of attr)) → option_map group_of (option_map (f q) o) ≡ option_map (F q) (option_map group_of o)
+      as_flat q None h = refl
+      as_flat q (Some attr) h = ap Some (h attr refl)
+
+      groups : map_values group_of new ≡ (at_each F (flat_of old home)).groups
+      groups = fin.same_map path_cmp-IsTotalOrder path_cmp-IsAntisymmetric _ _ (λ q.
+          get-map_values group_of new q ∙ ap (option_map group_of) (changes q) ∙ as_flat q (fin.get old q) (each q)
+          ∙ ap (option_map (F q)) (sym (get-map_values group_of old q))
+          ∙ sym (get-each path_cmp-IsTotalOrder path_cmp-IsAntisymmetric F (map_values group_of old) q))
+
+  pub slots_changed : ((q : Path) (attr : Attr) → (f q attr).slot ≡ attr.slot) → IsClosed new → SameSlots old new
+  slots_changed stays closed = record {
+    closed = closed;
+    size = len-changes f old new changes;
+    there = λ q. ap is_some (changes q) ∙ some_stays (f q) (fin.get old q);
+    slots = λ q. ap slot_of (changes q) ∙ slot_stays q (fin.get old q);
+  }
+    where
+      slot_stays : (q : Path) (o : Option Attr) → slot_of (option_map (f q) o) ≡ slot_of o
+      slot_stays q None = refl
+      slot_stays q (Some attr) = stays q attr
+
 module _ (g : ℕ → ℕ) (old new : Groups) (a : Path) (counts : Counts g old new a) where
   pub flat-counts : (F : Path → Path → flat.Attr → flat.Attr) → ((a q : Path) (attr : Attr) → group_of (counted_by g a q attr) ≡ F a q (group_of attr)) → (home : fin.FinMap nat_cmp Path) → flat_of new home ≡ at_each (F a) (flat_of old home)
-  flat-counts F each home = λ i. record { groups = groups i; home = home }
-    where
-      as_flat : (q : Path) (o : Option Attr) → option_map group_of (option_map (counted_by g a q) o) ≡ option_map (F a q) (option_map group_of o)
-      as_flat q None = refl
-      as_flat q (Some attr) = ap Some (each a q attr)
-
-      groups : map_values group_of new ≡ (at_each (F a) (flat_of old home)).groups
-      groups = fin.same_map path_cmp-IsTotalOrder path_cmp-IsAntisymmetric _ _ (λ q.
-          get-map_values group_of new q ∙ ap (option_map group_of) (counts q) ∙ as_flat q (fin.get old q)
-          ∙ ap (option_map (F a q)) (sym (get-map_values group_of old q))
-          ∙ sym (get-each path_cmp-IsTotalOrder path_cmp-IsAntisymmetric (F a) (map_values group_of old) q))
-
-  slot_stays : (q : Path) (o : Option Attr) → slot_of (option_map (counted_by g a q) o) ≡ slot_of o
-  slot_stays q None = refl
-  slot_stays q (Some attr) = refl
+  flat-counts F each = flat_changed (counted_by g a) old new counts (F a) (λ q attr e. each a q attr)
 
   pub same_slots : IsClosed new → SameSlots old new
-  same_slots closed = record {
-    closed = closed;
-    size = len-counts g old new a counts;
-    there = λ q. ap is_some (counts q) ∙ some_stays g a q (fin.get old q);
-    slots = λ q. ap slot_of (counts q) ∙ slot_stays q (fin.get old q);
-  }
+  same_slots = slots_changed (counted_by g a) old new counts (λ q attr. refl)

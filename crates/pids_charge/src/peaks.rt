@@ -1,6 +1,6 @@
 //! The peaks of groups: raised along a path as a process comes, and set again.
 
-ghost use Rattle.std.specs.Prelude.{◌≡◌, ℕ, ◌≤◌, false, true, length, IfOk, IsSome, option_map};
+ghost use Rattle.std.specs.Prelude.{◌≡◌, ℕ, ◌<◌, ◌≤◌, false, true, length, get_or, IfOk, IsSome, option_map};
 ghost use Rattle.std.specs.FinMap as fin;
 ghost use Rattle.std.specs.Ordering.{nat_cmp};
 ghost use Rattle.flat_model.specs.Path.{Path};
@@ -89,7 +89,7 @@ fn note_peaks<T: Allocator, M: Meter, A: Allocator + Clone>(
     requires many_raised { length raised.old ≡ length path.now }
     ensures earlier { AreUpward peak_of tree.now path.now earlier.new }
     ensures raised { AreUpward (reached_of M.LEAVES (M.content meter.old)) tree.now path.now raised.new }
-    ensures rises { result ≡ false → raised.new ≡ earlier.new }
+    ensures rises { result ≡ false → (k : ℕ) → k < length path.now → get_or raised.new k 0 ≡ get_or earlier.new k 0 }
     ensures content { M.content meter.new ≡ M.content meter.old }
     ensures held { M.held meter.new ≡ M.held meter.old }
 {

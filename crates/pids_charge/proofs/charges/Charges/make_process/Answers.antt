@@ -21,7 +21,3 @@ settle_in-requires-clause-group g c =
     subst (λ (q : Path). IsSome (fin.get c.args.self.now.groups q)) (sym c.in-Ok-copy.ensures)
     (subst (λ (t : State). IsSome (fin.get t.groups c.in-Some.process.now.home)) c.self.view_is there)
 
-pub returns-clause-made : goal.returns-clause-made
-returns-clause-made g c =
-    let at_home = home_at _ _ _ _ _ c.self.invariant.recounted c.args.self.now c.self.view_is c.args.parent c.in-Some.process.now (sym c.get.ensures.value ∙ ap option_copied c.in-Some.is) in
-    renamed c.settle_in.result c.settle_in.new.self _ _ (ap (λ (q : Path). back (Exited c.args.child q) c.args.self.now) (c.in-Ok-copy.ensures ∙ sym at_home)) c.settle_in.ensures.placed

@@ -21,7 +21,7 @@ pub invariant_of-self-2 : goal.invariant_of-self-2
 invariant_of-self-2 g c =
     let h = c.self.invariant.has_slots in
     let free : List ℕ = c.self.inside.free.items in
-    let x : Attr = record { limits = c.args.attr.limits; local = c.args.attr.local; total = c.args.attr.total; slot = c.index-slot.result.now } in
+    let x : Attr = record { limits = c.args.attr.limits; local = c.args.attr.local; total = c.args.attr.total; peak = c.args.attr.peak; slot = c.index-slot.result.now } in
     let done = inserted c.self.inside.tree c.insert-made.new.self c.args.path.now x c.insert-made.result c.insert-made.ensures (sym c.is_err.ensures.value ∙ c.if-is_err.false) in
     let pos : 0 < length free = omega (arith, h.whole, len-is c.self.inside.tree c.self.inside.processes.entries c.args.self.now c.self.view_is, c.requires.slot) in
     let many : c.len-last.result ≡ length free = omega (arith, c.len-last.ensures) in
@@ -40,6 +40,6 @@ invariant_of-self-2 g c =
 
 pub returns-clause-restored : goal.returns-clause-restored
 returns-clause-restored g c =
-    let x : Attr = record { limits = c.args.attr.limits; local = c.args.attr.local; total = c.args.attr.total; slot = c.index-slot.result.now } in
+    let x : Attr = record { limits = c.args.attr.limits; local = c.args.attr.local; total = c.args.attr.total; peak = c.args.attr.peak; slot = c.index-slot.result.now } in
     let done = inserted c.self.inside.tree c.insert-made.new.self c.args.path.now x c.insert-made.result c.insert-made.ensures (sym c.is_err.ensures.value ∙ c.if-is_err.false) in
     written-is c.args.self.now c.self.inside.tree c.self.inside.processes.entries c.self.view_is c.insert-made.new.self c.args.path.now x done.1

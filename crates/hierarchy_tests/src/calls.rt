@@ -1,0 +1,283 @@
+//! A tree of five groups, and tables of calls on it, each with what it answers.
+
+use group_path::GroupPath;
+use group_tree::{Attr, GroupTree, Limit, LimitFile, Limits, MetLimit, TreeFault};
+use std::alloc::{AllocError, Allocator, Global};
+use std::test::Fail;
+
+/// Attributes that tell one group from another by their slot.
+pub(crate) fn attr(slot: u16) -> Attr {
+    Attr {
+        limits: Limits {
+            pids: Limit::At(7),
+            descendants: Limit::Unlimited,
+            depth: Limit::At(u32::MAX),
+        },
+        local: 3,
+        total: 5,
+        peak: 9,
+        slot,
+    }
+}
+
+pub(crate) fn path(alloc: Global, text: &str) -> Result<GroupPath<Global>, Fail> {
+    Ok(GroupPath::read(alloc, text.as_bytes())?)
+}
+
+/// `/a`, `/a/b`, `/a/b/c`, `/a/d`, `/e`, made out of their order, with the slots 1 to 5; quiet ones have no limits and no
+/// events.
+pub(crate) fn sample(alloc: Global, is_quiet: bool) -> Result<GroupTree<Global>, Fail> {
+    let mut tree = GroupTree::new(alloc, with(is_quiet, 0))?;
+    for (text, slot) in [
+        ("/e", 5),
+        ("/a", 1),
+        ("/a/d", 4),
+        ("/a/b", 2),
+        ("/a/b/c", 3),
+    ] {
+        let path = path(alloc, text)?;
+        tree.insert(&path, with(is_quiet, slot))?;
+    }
+    Ok(tree)
+}
+
+fn with(is_quiet: bool, slot: u16) -> Attr {
+    if is_quiet {
+        Attr::new(slot)
+    } else {
+        attr(slot)
+    }
+}
+
+/// A call on a tree by a path, or by so many of its first names.
+#[derive(Clone, Copy)]
+pub(crate) enum Call {
+    /// Answers the slot, where the rest is as `attr` has it.
+    Find,
+    FindAt(usize),
+    /// How many groups are below it.
+    Below,
+    BelowAt(usize),
+    /// How many groups there are beside the root.
+    All,
+    /// The slots upward, as the digits of a number.
+    Chain,
+    /// The slots downward, as the digits of a number.
+    Along,
+    /// The local total and the total of each group from the root to here, as the digits of a number.
+    Events,
+    /// The peak of each group from the root to here, as the digits of a number.
+    Peaks,
+    /// `attr` of this slot; answers 1.
+    Set(u16),
+    SetAt(usize, u16),
+    /// Another limit in a file; answers 1.
+    Limit(LimitFile, Limit),
+    /// Answers the slot.
+    Insert(u16),
+    /// Answers the slot, where the rest is as `attr` has it.
+    Remove,
+    /// The limit that is met for a new group: 0 for none, and else the number of names of its group's path, with 10 for
+    /// a limit on descendants and 20 for one on depth.
+    Met(usize),
+    /// Counts a refused fork, or takes that back; answers 1.
+    Refuse(usize),
+    Unrefuse(usize),
+    /// Sets the first so many of the peaks 1, 2, 3 and 4, where there are as many names; answers 1.
+    SetPeaks(usize),
+}
+
+/// A path, a call by it, and what is answered; `NoGroup` also where a call answers that with None or false.
+pub(crate) type Row<'a> = (&'a str, Call, Result<u64, TreeFault>);
+
+fn slot_of(attr_there: Attr) -> Result<u64, TreeFault> {
+    if attr_there == attr(attr_there.slot) {
+        Ok(u64::from(attr_there.slot))
+    } else {
+        Err(TreeFault::OutOfMemory)
+    }
+}
+
+fn found(attr: Option<&Attr>) -> Result<u64, TreeFault> {
+    match attr {
+        Some(attr) => slot_of(*attr),
+        None => Err(TreeFault::NoGroup),
+    }
+}
+
+fn counted(count: Option<u64>) -> Result<u64, TreeFault> {
+    match count {
+        Some(count) => Ok(count),
+        None => Err(TreeFault::NoGroup),
+    }
+}
+
+fn done(is_done: bool) -> Result<u64, TreeFault> {
+    if is_done {
+        Ok(1)
+    } else {
+        Err(TreeFault::NoGroup)
+    }
+}
+
+fn digits(slots: &[u16]) -> u64 {
+    let mut number = 0u64;
+    for slot in slots {
+        number = number.saturating_mul(10).saturating_add(u64::from(*slot));
+    }
+    number
+}
+
+fn chain<A: Allocator>(tree: &GroupTree<A>, path: &GroupPath<Global>) -> Result<u64, TreeFault> {
+    match tree.chain(path) {
+        Ok(Some(slots)) => Ok(digits(&slots)),
+        Ok(None) => Err(TreeFault::NoGroup),
+        Err(AllocError) => Err(TreeFault::OutOfMemory),
+    }
+}
+
+fn along<A: Allocator>(tree: &GroupTree<A>, path: &GroupPath<Global>) -> u64 {
+    let mut number = 0u64;
+    for attr in tree.along(path) {
+        number = number
+            .saturating_mul(10)
+            .saturating_add(u64::from(attr.slot));
+    }
+    number
+}
+
+fn two_digits(attr: &Attr) -> u64 {
+    attr.local.saturating_mul(10).saturating_add(attr.total)
+}
+
+fn events<A: Allocator>(tree: &GroupTree<A>, path: &GroupPath<Global>) -> u64 {
+    let mut number = match tree.find_at(path, 0) {
+        Some(root) => two_digits(root),
+        None => u64::MAX,
+    };
+    for attr in tree.along(path) {
+        number = number.saturating_mul(100).saturating_add(two_digits(attr));
+    }
+    number
+}
+
+fn peaks<A: Allocator>(tree: &GroupTree<A>, path: &GroupPath<Global>) -> u64 {
+    let mut number = match tree.find_at(path, 0) {
+        Some(root) => root.peak,
+        None => u64::MAX,
+    };
+    for attr in tree.along(path) {
+        number = number.saturating_mul(10).saturating_add(attr.peak);
+    }
+    number
+}
+
+fn set_peaks<A: Allocator>(tree: &mut GroupTree<A>, path: &GroupPath<Global>, n: usize) -> bool {
+    let peaks = [1, 2, 3, 4];
+    let peaks = &peaks[..n.min(4)];
+    if peaks.len() != path.depth() {
+        return false;
+    }
+    tree.set_peaks(path, peaks);
+    true
+}
+
+fn limit<A: Allocator>(
+    tree: &mut GroupTree<A>,
+    path: &GroupPath<Global>,
+    file: LimitFile,
+    limit: Limit,
+) -> bool {
+    match tree.find(path).copied() {
+        Some(attr) => tree.set(path, attr.with_limit(file, limit)),
+        None => false,
+    }
+}
+
+fn met(limit: Option<MetLimit>) -> u64 {
+    match limit {
+        None => 0,
+        Some(MetLimit::Descendants(n)) => (n as u64).saturating_add(10),
+        Some(MetLimit::Depth(n)) => (n as u64).saturating_add(20),
+    }
+}
+
+fn change_refusals<A: Allocator>(
+    tree: &mut GroupTree<A>,
+    path: &GroupPath<Global>,
+    n: usize,
+    is_up: bool,
+) -> bool {
+    if n == 0 || n > path.depth() {
+        return false;
+    }
+    if is_up {
+        tree.count_refusal(path, n);
+    } else {
+        tree.uncount_refusal(path, n);
+    }
+    true
+}
+
+/// What the call answers.
+pub(crate) fn answer<A: Allocator + Clone>(
+    tree: &mut GroupTree<A>,
+    path: &GroupPath<Global>,
+    call: Call,
+) -> Result<u64, TreeFault> {
+    let depth = path.depth();
+    match call {
+        Call::Find => found(tree.find(path)),
+        Call::FindAt(n) => found(tree.find_at(path, n.min(depth))),
+        Call::Below => counted(tree.descendants(path)),
+        Call::BelowAt(n) => counted(tree.descendants_at(path, n.min(depth))),
+        Call::All => Ok(tree.groups_beside_root()),
+        Call::Chain => chain(tree, path),
+        Call::Along => Ok(along(tree, path)),
+        Call::Events => Ok(events(tree, path)),
+        Call::Peaks => Ok(peaks(tree, path)),
+        Call::Set(slot) => done(tree.set(path, attr(slot))),
+        Call::SetAt(n, slot) => done(tree.set_at(path, n.min(depth), attr(slot))),
+        Call::Limit(file, value) => done(limit(tree, path, file, value)),
+        Call::Insert(slot) => match tree.insert(path, attr(slot)) {
+            Ok(()) => Ok(u64::from(slot)),
+            Err(fault) => Err(fault),
+        },
+        Call::Remove => match tree.remove(path) {
+            Ok(attr) => slot_of(attr),
+            Err(fault) => Err(fault),
+        },
+        Call::Met(n) => Ok(met(tree.met_limit(path, n.min(depth)))),
+        Call::Refuse(n) => done(change_refusals(tree, path, n, true)),
+        Call::Unrefuse(n) => done(change_refusals(tree, path, n, false)),
+        Call::SetPeaks(n) => done(set_peaks(tree, path, n)),
+    }
+}
+
+/// Makes the calls one after another; the place of the first that is answered otherwise than its row has it.
+pub(crate) fn first_other<A: Allocator + Clone>(
+    alloc: Global,
+    tree: &mut GroupTree<A>,
+    rows: &[Row<'_>],
+) -> Result<Option<usize>, Fail> {
+    tree.known();
+    let mut at = 0usize;
+    for (text, call, wanted) in rows {
+        let path = path(alloc, text)?;
+        if answer(tree, &path, *call) != *wanted {
+            return Ok(Some(at));
+        }
+        at = at.saturating_add(1);
+    }
+    Ok(None)
+}
+
+/// The same on a new sample.
+pub(crate) fn first_other_of_sample(
+    alloc: Global,
+    is_quiet: bool,
+    rows: &[Row<'_>],
+) -> Result<Option<usize>, Fail> {
+    let mut tree = sample(alloc, is_quiet)?;
+    first_other(alloc, &mut tree, rows)
+}

@@ -1,0 +1,121 @@
+-- Peaks along a path, as they are and as they rise.
+use Rattle.std.proofs.Common.{◌≡◌, ℕ, ◌+◌, ◌-◌, ◌<◌, ◌≤◌, true, false, cond, List, [], length, get_or, take, Option, is_some, Some, None, IsSome, option_map, refl, sym, ap, ◌∙◌, arith}
+use Rattle.std.specs.Prelude.{max, unwrap_or}
+use Rattle.std.proofs.lemmas.Grind.{same_number_lists, get_or_default_zero}
+use Rattle.std.specs.FinMap as fin
+use Rattle.std.specs.Ordering.{nat_cmp}
+use Rattle.std.specs.Cmp.{nat_cmp_total}
+use Rattle.flat_model.specs.Path.{Path, at_or_below, is_root}
+use Rattle.flat_model.specs.State as flat
+use Rattle.flat_model.specs.State.{State, fresh}
+use Rattle.flat_model.specs.Counts.{current, has_process}
+use Rattle.flat_model.specs.Step.{counts_for, home_of, raise_peak, raise_peaks, peaks_upward}
+use Rattle.flat_model.proofs.MapValues.{get-map_values}
+use Rattle.flat_model.proofs.Maps.{get-own}
+use Rattle.flat_model.proofs.PathLaws.{at_or_below_take, at_or_below_length}
+use Rattle.flat_model.proofs.Peaks.{both_by, named, peak_upward, length-peaks_upward}
+use Rattle.group_tree.specs.Flat.{group_of}
+use Rattle.group_tree.specs.Groups.{Groups, slot_of}
+use Rattle.group_tree.specs.Peaks.{peaked_by}
+use Rattle.group_tree.specs.declared.attr.Attr.{Attr}
+use Rattle.pids_charge.specs.Content.{Content, over_leaves}
+use Rattle.pids_charge.specs.Lists.{Row}
+use Rattle.pids_charge.specs.Peaks.{peak_of, reached_of, raised_by, AreUpward}
+use Rattle.pids_charge.specs.Recount.{Recounted, HasSlots, state_of}
+use Rattle.pids_charge.proofs.Counted.{current-is}
+
+-- ---- one group of the way
+
+-- what such a list has of a group that counts what happens in p
+module _ (f : Option Attr → ℕ) (tree : Groups) (p : Path) (ns : List ℕ) (up : AreUpward f tree p ns) where
+  place : (q : Path) → counts_for p q ≡ true → length p - length q < length p
+  place q c =
+      let two = both_by (is_root q) (at_or_below p q) c in
+      let long = named q two.0 in
+      let short = at_or_below_length p q two.1 in
+      omega (arith, long, short)
+
+  up_at : (q : Path) → counts_for p q ≡ true → get_or ns (length p - length q) 0 ≡ f (fin.get tree q)
+  up_at q c =
+      let two = both_by (is_root q) (at_or_below p q) c in
+      let short = at_or_below_length p q two.1 in
+      let same : length p - (length p - length q) ≡ length q = omega arith in
+      up.each (length p - length q) (place q c) ∙ ap (λ (a : Path). f (fin.get tree a)) (ap (λ n. take n p) same ∙ sym (at_or_below_take p q two.1))
+
+  up_or : (q : Path) (d : ℕ) → counts_for p q ≡ true → get_or ns (length p - length q) d ≡ f (fin.get tree q)
+  up_or q d c = get_or_default_zero ns (length p - length q) d (let h = place q c in let l = up.many in omega (arith, h, l)) ∙ up_at q c
+
+module _ (leaves : ℕ) (content : Content) (tree : Groups) (p : Path) (raised : List ℕ) (up : AreUpward (reached_of leaves content) tree p raised) where
+  set_to : (q : Path) (o : Option Attr) → fin.get tree q ≡ o → option_map (peaked_by p raised q) o ≡ option_map (raised_by leaves content p q) o
+  set_to q None e = refl
+  set_to q (Some x) e =
+      elim (counts_for p q) as (λ b. counts_for p q ≡ b → ◌≡◌ {A = Option Attr} (Some (record x { peak = cond b (get_or raised (length p - length q) x.peak) x.peak })) (Some (record x { peak = cond b (max x.peak (over_leaves leaves (content x.slot))) x.peak }))) [
+        | true ↦ λ c. ap (λ (n : ℕ). Some (record x { peak = n })) (up_or (reached_of leaves content) tree p raised up q x.peak c ∙ ap (reached_of leaves content) e)
+        | false ↦ λ c. refl
+      ] refl
+
+  -- where some peak rises, those that rise are set
+  pub raised_set : (new : Groups) → ((q : Path) → fin.get new q ≡ option_map (peaked_by p raised q) (fin.get tree q)) → (q : Path) → fin.get new q ≡ option_map (raised_by leaves content p q) (fin.get tree q)
+  raised_set new set q = set q ∙ set_to q (fin.get tree q) refl
+
+  module _ (earlier : List ℕ) (was : AreUpward peak_of tree p earlier) (none : (k : ℕ) → k < length p → get_or raised k 0 ≡ get_or earlier k 0) where
+    stays : (q : Path) (o : Option Attr) → fin.get tree q ≡ o → o ≡ option_map (raised_by leaves content p q) o
+    stays q None e = refl
+    stays q (Some x) e =
+        elim (counts_for p q) as (λ b. counts_for p q ≡ b → ◌≡◌ {A = Option Attr} (Some x) (Some (record x { peak = cond b (max x.peak (over_leaves leaves (content x.slot))) x.peak }))) [
+          | true ↦ λ c. ap (λ (n : ℕ). Some (record x { peak = n }))
+              (ap peak_of (sym e) ∙ sym (up_at peak_of tree p earlier was q c) ∙ sym (none (length p - length q) (place peak_of tree p earlier was q c))
+              ∙ up_at (reached_of leaves content) tree p raised up q c ∙ ap (reached_of leaves content) e)
+          | false ↦ λ c. refl
+        ] refl
+
+    -- where none rises, all stay
+    pub raised_none : (q : Path) → fin.get tree q ≡ option_map (raised_by leaves content p q) (fin.get tree q)
+    raised_none q = stays q (fin.get tree q) refl
+
+-- ---- the same in the flat state
+
+module _ {A : Type 0} (tree : Groups) (es : List (Row A)) (s : State) (v : state_of tree es ≡ s) where
+  peak_there : (q : Path) (o : Option Attr) → (unwrap_or (option_map group_of o) fresh).peak ≡ peak_of o
+  peak_there q None = refl
+  peak_there q (Some x) = refl
+
+  peak_is : (q : Path) → (unwrap_or (fin.get s.groups q) fresh).peak ≡ peak_of (fin.get tree q)
+  peak_is q =
+      ap (λ (t : State). (unwrap_or (fin.get t.groups q) fresh).peak) (sym v)
+      ∙ ap (λ (o : Option flat.Attr). (unwrap_or o fresh).peak) (get-map_values group_of tree q) ∙ peak_there q (fin.get tree q)
+
+  -- the peaks that were noted are those of the state
+  pub noted : (p : Path) (ns : List ℕ) → AreUpward peak_of tree p ns → ns ≡ peaks_upward s p
+  noted p ns up = same_number_lists ns (peaks_upward s p) (up.many ∙ sym (length-peaks_upward s p)) (λ k h.
+      let l = up.many in
+      let inside : k < length p = omega (arith, h, l) in
+      up.each k inside ∙ sym (peak_is (take (length p - k) p)) ∙ sym (peak_upward s p k 0 inside))
+
+module _ {A : Type 0} (slots leaves : ℕ) (tree : Groups) (es : List (Row A)) (content : Content) (held : ℕ) (d : Recounted leaves tree es content held) (free : List ℕ) (h : HasSlots slots tree free) (prefixes : (p q : Path) → IsSome (fin.get tree p) → at_or_below p q ≡ true → IsSome (fin.get tree q)) where
+  -- what the meter holds at a group is its count
+  pub raised-is : (p q : Path) (attr : Attr) → fin.get tree q ≡ Some attr → group_of (raised_by leaves content p q attr) ≡ raise_peak (state_of tree es) p q (group_of attr)
+  raised-is p q attr e =
+      elim (counts_for p q) as (λ b. counts_for p q ≡ b → ◌≡◌ {A = flat.Attr} (record (group_of attr) { peak = cond b (max attr.peak (over_leaves leaves (content attr.slot))) attr.peak }) (record (group_of attr) { peak = cond b (max attr.peak (current (state_of tree es) q)) attr.peak })) [
+        | true ↦ λ c.
+            let two = both_by (is_root q) (at_or_below p q) c in
+            let count : over_leaves leaves (content attr.slot) ≡ current (state_of tree es) q =
+            ap (λ (o : Option Attr). over_leaves leaves (content (slot_of o))) (sym e) ∙ current-is slots leaves tree es content held d free h prefixes q (named q two.0) (rw e refl) in
+            ap (λ (n : ℕ). record (group_of attr) { peak = max attr.peak n }) count
+        | false ↦ λ c. refl
+      ] refl
+
+-- ---- a process that has come to a group
+
+module _ (s t : State) (pid : ℕ) (q p : Path) (come : t ≡ record s { home = fin.insert s.home pid q }) (same : q ≡ p) where
+  pub home_come : home_of t pid ≡ p
+  home_come = ap (λ (u : State). home_of u pid) come ∙ ap (λ (o : Option Path). unwrap_or o []) (get-own nat_cmp_total fin.nat_cmp-IsAntisymmetric s.home pid q) ∙ same
+
+  pub is_come : has_process t pid ≡ true
+  is_come = ap (λ (u : State). has_process u pid) come ∙ ap is_some (get-own nat_cmp_total fin.nat_cmp-IsAntisymmetric s.home pid q)
+
+  pub raised_come : raise_peaks (home_of t pid) t ≡ raise_peaks p (record s { home = fin.insert s.home pid p })
+  raised_come = (λ i. raise_peaks (home_come i) (come i)) ∙ ap (λ (x : Path). raise_peaks p (record s { home = fin.insert s.home pid x })) same
+
+  pub peaks_come : peaks_upward t (home_of t pid) ≡ peaks_upward s p
+  peaks_come = (λ i. peaks_upward (come i) (home_come i))
