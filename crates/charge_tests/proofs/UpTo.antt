@@ -1,5 +1,5 @@
 -- How far the event totals get with each call.
-use Rattle.std.proofs.Common.{◌≡◌, ℕ, ◌+◌, ◌-◌, ◌<◌, ◌≤◌, Bool, true, false, cond, [], ◌∷◌, Option, Some, None, Result, Ok, Err, length, is_some, eqb, refl, sym, ap, subst, ◌∙◌, arith}
+use Rattle.std.proofs.Common.{◌≡◌, ℕ, ◌+◌, ◌-◌, ◌<◌, ◌≤◌, Bool, true, false, cond, List, [], ◌∷◌, Option, Some, None, Result, Ok, Err, length, is_some, eqb, refl, sym, ap, subst, ◌∙◌, arith}
 use Rattle.std.specs.Prelude.{option_map, unwrap_or, OnOk, OnErr}
 use Rattle.std.specs.List.{IsDistinct}
 use Rattle.std.specs.Ordering.{eq_by_cmp}
@@ -11,7 +11,7 @@ use Rattle.flat_model.specs.Command as model
 use Rattle.flat_model.specs.Command.{Command, Refusal}
 use Rattle.flat_model.specs.Events.{HasEventsUpTo}
 use Rattle.flat_model.specs.Inverse.{back, Counted, Removed}
-use Rattle.flat_model.specs.Step.{after, after_refusal, with_limit, count_up, count_down, counts_for}
+use Rattle.flat_model.specs.Step.{after, after_refusal, home_of, with_limit, at_each, count_up, count_down, counts_for, raise_peak, raise_peaks, set_peak, set_peaks}
 use Rattle.flat_model.proofs.PathLaws.{path_cmp-IsTotalOrder, path_cmp-IsAntisymmetric, at_or_below_take, at_or_below_length}
 use Rattle.flat_model.proofs.Maps.{get-each}
 use Rattle.flat_model.proofs.Reachable.{only_root}
@@ -45,13 +45,24 @@ up_removed n s p h q attr there =
       | false ↦ λ e. h q attr e
     ] (sym (get-remove path_cmp-IsTotalOrder s.groups p q) ∙ there)
 
+-- each group changed, with its event totals as they were
+up_each : (n : ℕ) (s : State) (f : Path → Attr → Attr) → ((q : Path) (x : Attr) → IsUpTo n x → IsUpTo n (f q x)) → HasEventsUpTo n s → HasEventsUpTo n (at_each f s)
+up_each n s f keeps h q attr there = by (get s.groups q) (h q) (sym (get-each path_cmp-IsTotalOrder path_cmp-IsAntisymmetric f s.groups q) ∙ there)
+  where
+    by : (o : Option Attr) → ((x : Attr) → o ≡ Some x → IsUpTo n x) → option_map (f q) o ≡ Some attr → IsUpTo n attr
+    by None up e = cc
+    by (Some x) up e = subst (IsUpTo n) (let same : f q x ≡ attr = cc in same) (keeps q x (up x refl))
+
+up_come : (n : ℕ) (s : State) (pid : ℕ) (a : Path) → HasEventsUpTo n s → HasEventsUpTo n (raise_peaks a (record s { home = insert s.home pid a }))
+up_come n s pid a h = up_each n (record s { home = insert s.home pid a }) (raise_peak (record s { home = insert s.home pid a }) a) (λ q x up. up) h
+
 -- an accepted command raises none
 up_after : (n : ℕ) (s : State) (c : Command) → HasEventsUpTo n s → HasEventsUpTo n (after s c)
 up_after n s (model.MakeGroup p) h = up_put n s p fresh h (omega arith, omega arith)
 up_after n s (model.RemoveGroup p) h = up_removed n s p h
-up_after n s (model.Fork from child) h = h
+up_after n s (model.Fork from child) h = up_come n s child (home_of s from) h
 up_after n s (model.Exit pid) h = h
-up_after n s (model.Move p pid) h = h
+up_after n s (model.Move p pid) h = up_come n s pid p h
 up_after n s (model.SetLimit p file value) h = up_put n s p _ h (up_limit n file value _ (up_own n (get s.groups p) (h p)))
 up_after n s (model.Kill g) h = h
 up_after n s (model.Show p file) h = h
@@ -91,6 +102,10 @@ up_refused n s model.NotReadable h = up_more n s h
 up_fault : (n : ℕ) (s : State) (o : Option Refusal) → HasEventsUpTo n s → HasEventsUpTo (n + 1) (after_fault s o)
 up_fault n s None h = up_more n s h
 up_fault n s (Some r) h = up_refused n s r h
+
+-- peaks that are set
+pub up_set : (n : ℕ) (s new : State) (a : Path) (peaks : List ℕ) → HasEventsUpTo n s → new ≡ set_peaks a peaks s → HasEventsUpTo (n + 1) new
+up_set n s new a peaks h e = subst (HasEventsUpTo (n + 1)) (sym e) (up_more n (set_peaks a peaks s) (up_each n s (set_peak a peaks) (λ q x up. up) h))
 
 -- a call that is a command
 pub up_does : {X : Type 0} (slots n : ℕ) (s : State) (c : Command) (p : Path) (r : Result X ChargeFault) (new : State) → HasEventsUpTo n s → Does slots s c p r new → HasEventsUpTo (n + 1) new

@@ -5,6 +5,7 @@ ghost use Rattle.std.specs.FinMap as fin;
 ghost use Rattle.flat_model.specs.Events.{HasEventsUpTo};
 ghost use Rattle.pids_charge.specs.Events.{HasRoomForEvents};
 
+use crate::answers::{Answer, done, flag, move_answered, number, path_answered, peaks_answered};
 use group_path::GroupPath;
 use group_tree::{Attr, Limit, LimitFile};
 use pids_charge::{ChargeFault, Charges, Lost, Meter, OpenGate, Pid, PlainMeter};
@@ -28,30 +29,18 @@ pub(crate) enum Call {
     Exit(u32),
     Kill(&'static str),
     Uncount(&'static str),
+    /// A move without its peaks.
+    Rehome(u32, &'static str),
+    SetPeaks(&'static str, &'static [u64]),
     Place(u32, &'static str),
     PlaceAll(u32, &'static str),
     Attr(&'static str),
+    Peak(&'static str),
     Current(&'static str),
     Populated(&'static str),
     Descendants(&'static str),
     Members(&'static str),
     Home(u32),
-}
-
-/// What it answers.
-#[derive(Clone, Copy, PartialEq, Eq)]
-pub(crate) enum Answer {
-    Done,
-    /// So many bytes has the path that is answered.
-    Path(usize),
-    Old(Limit),
-    Refused(ChargeFault),
-    /// The local total and the total.
-    Totals(u64, u64),
-    Number(u64),
-    Flag(bool),
-    /// There is nothing to answer, or the call may not be made now.
-    Nothing,
 }
 
 fn path(alloc: Global, text: &str) -> Result<GroupPath<Global>, Fail> {
@@ -65,20 +54,6 @@ fn pid(number: u32) -> Pid {
             Some(pid) => pid,
             None => unreachable!(),
         },
-    }
-}
-
-fn done(made: Result<(), ChargeFault>) -> Answer {
-    match made {
-        Ok(()) => Answer::Done,
-        Err(fault) => Answer::Refused(fault),
-    }
-}
-
-fn path_answered(left: Result<GroupPath<Global>, ChargeFault>) -> Answer {
-    match left {
-        Ok(path) => Answer::Path(path.text().len()),
-        Err(fault) => Answer::Refused(fault),
     }
 }
 
@@ -147,14 +122,14 @@ fn set(charges: &mut Plain, path: &GroupPath<Global>, file: LimitFile, limit: Li
 fn migrate(charges: &mut Plain, who: u32, path: &GroupPath<Global>) -> Answer
     ensures up { (n : ℕ) → HasEventsUpTo n charges.old → HasEventsUpTo (n + 1) charges.new }
 {
-    path_answered(charges.migrate(0, pid(who), path))
+    move_answered(charges.migrate(0, pid(who), path))
 }
 
 fn fork(charges: &mut Plain, parent: u32, child: u32) -> Answer
     requires { HasRoomForEvents charges.old }
     ensures up { (n : ℕ) → HasEventsUpTo n charges.old → HasEventsUpTo (n + 1) charges.new }
 {
-    done(charges.fork(0, pid(parent), pid(child)))
+    peaks_answered(charges.fork(0, pid(parent), pid(child)))
 }
 
 fn exit(charges: &mut Plain, who: u32) -> Answer
@@ -215,23 +190,36 @@ fn place_all<R: Threads + Wait + Sync>(
     done(charges.place_all(rt, &OpenGate, 0, &[Lost { pid, path }]))
 }
 
+fn rehome(charges: &mut Plain, who: u32, path: &GroupPath<Global>) -> Answer
+    ensures up { (n : ℕ) → HasEventsUpTo n charges.old → HasEventsUpTo (n + 1) charges.new }
+{
+    let pid = pid(who);
+    if charges.attr(path).is_none() || charges.home(pid).is_none() {
+        return Answer::Nothing;
+    }
+    path_answered(charges.rehome(0, pid, path))
+}
+
+fn set_peaks(charges: &mut Plain, path: &GroupPath<Global>, peaks: &[u64]) -> Answer
+    ensures up { (n : ℕ) → HasEventsUpTo n charges.old → HasEventsUpTo (n + 1) charges.new }
+{
+    if peaks.len() != path.depth() {
+        return Answer::Nothing;
+    }
+    charges.set_peaks(path, peaks);
+    Answer::Done
+}
+
+fn peak(charges: &Plain, path: &GroupPath<Global>) -> Answer {
+    match charges.attr(path) {
+        Some(attr) => Answer::Number(attr.peak),
+        None => Answer::Nothing,
+    }
+}
+
 fn attr(charges: &Plain, path: &GroupPath<Global>) -> Answer {
     match charges.attr(path) {
         Some(attr) => Answer::Totals(attr.local, attr.total),
-        None => Answer::Nothing,
-    }
-}
-
-fn number(n: Option<u64>) -> Answer {
-    match n {
-        Some(n) => Answer::Number(n),
-        None => Answer::Nothing,
-    }
-}
-
-fn flag(is: Option<bool>) -> Answer {
-    match is {
-        Some(is) => Answer::Flag(is),
         None => Answer::Nothing,
     }
 }
@@ -297,6 +285,14 @@ fn make_call<R: Threads + Wait + Sync>(
             let path = path(alloc, text)?;
             Ok(uncount(charges, &path))
         }
+        Call::Rehome(who, text) => {
+            let path = path(alloc, text)?;
+            Ok(rehome(charges, who, &path))
+        }
+        Call::SetPeaks(text, peaks) => {
+            let path = path(alloc, text)?;
+            Ok(set_peaks(charges, &path, peaks))
+        }
         Call::Place(who, text) => {
             let path = path(alloc, text)?;
             Ok(place(charges, who, &path))
@@ -308,6 +304,10 @@ fn make_call<R: Threads + Wait + Sync>(
         Call::Attr(text) => {
             let path = path(alloc, text)?;
             Ok(attr(charges, &path))
+        }
+        Call::Peak(text) => {
+            let path = path(alloc, text)?;
+            Ok(peak(charges, &path))
         }
         Call::Current(text) => {
             let path = path(alloc, text)?;

@@ -1,6 +1,7 @@
 //! Sequences of calls on `Charges`, with the answers of the rules.
 
-use crate::calls::{Answer, Call, first_wrong};
+use crate::answers::Answer;
+use crate::calls::{Call, first_wrong};
 use group_tree::{Limit, LimitFile};
 use pids_charge::ChargeFault;
 use std::test::Fail;
@@ -15,8 +16,8 @@ fn a_blocked_fork(rt: HostRuntime) -> Result<(), Fail> {
             Call::Set("/a", LimitFile::PidsMax, Limit::At(1)),
             Answer::Old(Limit::Unlimited),
         ),
-        // Its old group is the root, `/`.
-        (Call::Move(1, "/a/b"), Answer::Path(1)),
+        // Its old group is the root, `/`, and the peaks along the new path were 0 and 0.
+        (Call::Move(1, "/a/b"), Answer::Moved(1, 1_00)),
         (Call::Fork(1, 2), Answer::Refused(ChargeFault::PidsMax(1))),
         (Call::Attr("/a"), Answer::Totals(1, 1)),
         (Call::Attr("/a/b"), Answer::Totals(0, 0)),
@@ -48,19 +49,19 @@ fn a_limit_below_what_there_is(rt: HostRuntime) -> Result<(), Fail> {
     let rows = [
         (Call::Make("/a"), Answer::Done),
         (Call::Make("/a/b"), Answer::Done),
-        (Call::Fork(1, 2), Answer::Done),
-        (Call::Fork(2, 3), Answer::Done),
+        (Call::Fork(1, 2), Answer::Peaks(1)),
+        (Call::Fork(2, 3), Answer::Peaks(1)),
         (
             Call::Set("/a/b", LimitFile::PidsMax, Limit::At(1)),
             Answer::Old(Limit::Unlimited),
         ),
-        (Call::Move(1, "/a/b"), Answer::Path(1)),
-        (Call::Move(2, "/a/b"), Answer::Path(1)),
+        (Call::Move(1, "/a/b"), Answer::Moved(1, 1_00)),
+        (Call::Move(2, "/a/b"), Answer::Moved(1, 1_11)),
         (
             Call::Set("/a", LimitFile::PidsMax, Limit::At(0)),
             Answer::Old(Limit::Unlimited),
         ),
-        (Call::Move(3, "/a/b"), Answer::Path(1)),
+        (Call::Move(3, "/a/b"), Answer::Moved(1, 1_22)),
         (Call::Current("/a"), Answer::Number(3)),
         (Call::Fork(3, 4), Answer::Refused(ChargeFault::PidsMax(2))),
         (Call::Attr("/a/b"), Answer::Totals(1, 1)),
@@ -73,7 +74,7 @@ fn a_limit_below_what_there_is(rt: HostRuntime) -> Result<(), Fail> {
         (Call::Fork(3, 4), Answer::Refused(ChargeFault::PidsMax(1))),
         (Call::Attr("/a/b"), Answer::Totals(1, 1)),
         (Call::Attr("/a"), Answer::Totals(1, 2)),
-        (Call::Move(3, "/a"), Answer::Path(4)),
+        (Call::Move(3, "/a"), Answer::Moved(4, 1_3)),
         (Call::Current("/a/b"), Answer::Number(2)),
     ];
     assert!(rt; first_wrong(&rt, rt.alloc(), &rows)? == None);
@@ -89,10 +90,10 @@ fn ends_and_returns(rt: HostRuntime) -> Result<(), Fail> {
         (Call::Make("/a/b"), Answer::Refused(ChargeFault::Exists)),
         (Call::Make("/x/y"), Answer::Refused(ChargeFault::NoGroup(1))),
         (Call::Populated("/a"), Answer::Flag(false)),
-        (Call::Fork(1, 2), Answer::Done),
-        (Call::Fork(1, 3), Answer::Done),
-        (Call::Move(2, "/a"), Answer::Path(1)),
-        (Call::Move(3, "/a/b"), Answer::Path(1)),
+        (Call::Fork(1, 2), Answer::Peaks(1)),
+        (Call::Fork(1, 3), Answer::Peaks(1)),
+        (Call::Move(2, "/a"), Answer::Moved(1, 1_0)),
+        (Call::Move(3, "/a/b"), Answer::Moved(1, 1_01)),
         (Call::Populated("/a/b"), Answer::Flag(true)),
         (Call::Populated("/"), Answer::Nothing),
         (Call::Members("/a"), Answer::Number(1)),
@@ -134,8 +135,8 @@ fn a_group_put_back(rt: HostRuntime) -> Result<(), Fail> {
             Call::Set("/a/b", LimitFile::MaxDepth, Limit::At(7)),
             Answer::Old(Limit::Unlimited),
         ),
-        (Call::Fork(1, 2), Answer::Done),
-        (Call::Move(2, "/a/b"), Answer::Path(1)),
+        (Call::Fork(1, 2), Answer::Peaks(1)),
+        (Call::Move(2, "/a/b"), Answer::Moved(1, 1_00)),
         (Call::Fork(2, 3), Answer::Refused(ChargeFault::PidsMax(2))),
         (Call::Exit(2), Answer::Path(4)),
         (Call::Restore("/a/c"), Answer::Nothing),
@@ -144,8 +145,8 @@ fn a_group_put_back(rt: HostRuntime) -> Result<(), Fail> {
         (Call::Attr("/a"), Answer::Totals(0, 1)),
         // It takes a slot, and has a process.
         (Call::Make("/c"), Answer::Done),
-        (Call::Fork(1, 4), Answer::Done),
-        (Call::Move(4, "/c"), Answer::Path(1)),
+        (Call::Fork(1, 4), Answer::Peaks(1)),
+        (Call::Move(4, "/c"), Answer::Moved(1, 1_0)),
         (
             Call::Set("/a", LimitFile::MaxDescendants, Limit::At(0)),
             Answer::Old(Limit::Unlimited),
@@ -159,7 +160,7 @@ fn a_group_put_back(rt: HostRuntime) -> Result<(), Fail> {
         (Call::Attr("/a/b"), Answer::Totals(1, 1)),
         (Call::Attr("/a"), Answer::Totals(0, 1)),
         (Call::Current("/a/b"), Answer::Number(0)),
-        (Call::Move(1, "/a/b"), Answer::Path(1)),
+        (Call::Move(1, "/a/b"), Answer::Moved(1, 1_11)),
         (Call::Current("/a/b"), Answer::Number(1)),
         (Call::Current("/c"), Answer::Number(1)),
         (Call::Fork(1, 2), Answer::Refused(ChargeFault::PidsMax(2))),

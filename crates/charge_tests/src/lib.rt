@@ -6,9 +6,12 @@
 //! - `stripes`: adds and takes in several stripes, past 2^64.
 //! - `pids`: the numbers of processes.
 //! - `forks`: a fork decided, and then made; `made_and_taken`: a new group and a removal likewise.
-//! - `commands`: sequences of calls on `Charges` over a plain meter; `calls` makes them.
+//! - `commands`, `peaks`: sequences of calls on `Charges` over a plain meter; `calls` makes them, and `answers` has what they
+//!   answer.
 #![tactic(auto)]
 
+#[cfg(test)]
+mod answers;
 #[cfg(test)]
 mod calls;
 #[cfg(test)]
@@ -17,6 +20,8 @@ mod commands;
 mod forks;
 #[cfg(test)]
 mod made_and_taken;
+#[cfg(test)]
+mod peaks;
 #[cfg(test)]
 mod pids;
 #[cfg(test)]

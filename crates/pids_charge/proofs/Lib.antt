@@ -19,6 +19,7 @@ mod Exited
 mod Walked
 mod Totals
 mod PeaksRaised
+mod PeaksNoted
 mod Forked
 mod Removals
 mod Empty

@@ -1,9 +1,9 @@
 -- Peaks along a path, as they are and as they rise.
-use Rattle.std.proofs.Common.{◌≡◌, ℕ, ◌+◌, ◌-◌, ◌<◌, ◌≤◌, true, false, cond, List, [], length, get_or, take, Option, is_some, Some, None, IsSome, option_map, refl, sym, ap, ◌∙◌, arith}
+use Rattle.std.proofs.Common.{◌≡◌, ℕ, ◌-◌, ◌<◌, true, false, cond, List, [], ◌++◌, length, get_or, take, drop, Option, is_some, Some, None, IsSome, option_map, refl, sym, ap, ◌∙◌, arith}
 use Rattle.std.specs.Prelude.{max, unwrap_or}
+use Rattle.std.proofs.Math.Seq.{take-append_seam}
 use Rattle.std.proofs.lemmas.Grind.{same_number_lists, get_or_default_zero}
 use Rattle.std.specs.FinMap as fin
-use Rattle.std.specs.Ordering.{nat_cmp}
 use Rattle.std.specs.Cmp.{nat_cmp_total}
 use Rattle.flat_model.specs.Path.{Path, at_or_below, is_root}
 use Rattle.flat_model.specs.State as flat
@@ -119,3 +119,7 @@ module _ (s t : State) (pid : ℕ) (q p : Path) (come : t ≡ record s { home = 
 
   pub peaks_come : peaks_upward t (home_of t pid) ≡ peaks_upward s p
   peaks_come = (λ i. peaks_upward (come i) (home_come i))
+
+-- a slice that was lent whole stands in the list whole
+pub lent_whole : (ns new : List ℕ) (n : ℕ) → n ≡ length new → take n (new ++ drop (length new) ns) ≡ new
+lent_whole ns new n e = ap (λ k. take k (new ++ drop (length new) ns)) e ∙ take-append_seam new (drop (length new) ns)

@@ -123,7 +123,12 @@ impl<A: Allocator + Clone, M: Meter> Charges<A, M> {
     /// # Errors
     ///
     /// `OutOfMemory`; nothing has changed then.
-    pub fn make_process(&mut self, who: u8, parent: Pid, child: Pid) -> Result<Peaks<A>, ChargeFault>
+    pub fn make_process(
+        &mut self,
+        who: u8,
+        parent: Pid,
+        child: Pid,
+    ) -> Result<Peaks<A>, ChargeFault>
         requires { refusal M.SLOTS self.old (Fork parent child) ≡ None }
         ensures made { OnOk result (self.new ≡ after self.old (Fork parent child)) }
         ensures peaks { IfOk result (λ peaks. peaks ≡ peaks_upward self.old (home_of self.old parent)) }
@@ -142,11 +147,13 @@ impl<A: Allocator + Clone, M: Meter> Charges<A, M> {
         let Ok(home) = process.home.copy(alloc) else {
             return Err(ChargeFault::OutOfMemory);
         };
-        if let Err(fault) = self.settle_in(who, child, home) {
-            return Err(fault);
+        match self.settle_in(who, child, home) {
+            Err(fault) => Err(fault),
+            Ok(()) => {
+                self.raise_peaks(child, earlier.as_mut_slice());
+                Ok(Peaks::of(earlier))
+            }
         }
-        self.raise_peaks(child, earlier.as_mut_slice());
-        Ok(Peaks::of(earlier))
     }
 
     /// Counts a fork that the group at the first `n` names of the parent's path refuses: one more in the local total of that

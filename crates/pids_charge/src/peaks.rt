@@ -128,9 +128,11 @@ fn raise_along<T: Allocator, M: Meter, A: Allocator + Clone>(
 {
     let mut table = [0; 32];
     let raised = &mut table[..path.depth()];
-    if note_peaks(tree, meter, path, earlier, raised) {
-        tree.set_peaks(path, raised);
+    tree.known();
+    if !note_peaks(tree, meter, path, earlier, raised) {
+        return;
     }
+    tree.set_peaks(path, raised);
     tree.known();
 }
 

@@ -1,0 +1,85 @@
+//! Peaks: what raises them, what leaves them, and what sets them.
+
+use crate::answers::Answer;
+use crate::calls::{Call, first_wrong};
+use group_tree::{Limit, LimitFile};
+use pids_charge::ChargeFault;
+use std::test::Fail;
+
+/// A fork and a move raise the peaks of the group and of each above it. A refused fork raises none, also where a group below
+/// the limiting one is not full; an exit and a kill lower none.
+#[test]
+fn raised_and_kept(rt: HostRuntime) -> Result<(), Fail> {
+    let rows = [
+        (Call::Make("/a"), Answer::Done),
+        (Call::Make("/a/b"), Answer::Done),
+        (Call::Make("/a/b/c"), Answer::Done),
+        (Call::Peak("/a/b/c"), Answer::Number(0)),
+        (Call::Move(1, "/a/b/c"), Answer::Moved(1, 1_000)),
+        (Call::Fork(1, 2), Answer::Peaks(1_111)),
+        (Call::Peak("/a/b/c"), Answer::Number(2)),
+        (Call::Peak("/a/b"), Answer::Number(2)),
+        (Call::Peak("/a"), Answer::Number(2)),
+        (Call::Peak("/"), Answer::Number(0)),
+        (
+            Call::Set("/a/b", LimitFile::PidsMax, Limit::At(2)),
+            Answer::Old(Limit::Unlimited),
+        ),
+        (Call::Fork(1, 3), Answer::Refused(ChargeFault::PidsMax(2))),
+        (Call::Peak("/a/b/c"), Answer::Number(2)),
+        (Call::Peak("/a/b"), Answer::Number(2)),
+        (Call::Peak("/a"), Answer::Number(2)),
+        (Call::Exit(2), Answer::Path(6)),
+        (Call::Peak("/a/b/c"), Answer::Number(2)),
+        // One more is as many as there were.
+        (Call::Fork(1, 3), Answer::Peaks(1_222)),
+        (Call::Peak("/a"), Answer::Number(2)),
+        (Call::Make("/a/d"), Answer::Done),
+        // On its way it leaves `/a`, which counts it before and after.
+        (Call::Move(3, "/a/d"), Answer::Moved(6, 1_02)),
+        (Call::Peak("/a/d"), Answer::Number(1)),
+        (Call::Peak("/a"), Answer::Number(2)),
+        (Call::Move(3, "/a/d"), Answer::Moved(4, 1_12)),
+        (Call::Kill("/a"), Answer::Number(2)),
+        (Call::Peak("/a/d"), Answer::Number(1)),
+        (Call::Peak("/a/b/c"), Answer::Number(2)),
+        (Call::Remove("/a/b/c"), Answer::Done),
+        (Call::Restore("/a/b/c"), Answer::Done),
+        (Call::Peak("/a/b/c"), Answer::Number(2)),
+    ];
+    assert!(rt; first_wrong(&rt, rt.alloc(), &rows)? == None);
+    Ok(())
+}
+
+/// What takes a command back raises no peak. The next fork raises it to what there is then.
+#[test]
+fn put_back(rt: HostRuntime) -> Result<(), Fail> {
+    let rows = [
+        (Call::Make("/a"), Answer::Done),
+        (Call::Make("/a/b"), Answer::Done),
+        (Call::Place(5, "/a/b"), Answer::Done),
+        (Call::PlaceAll(6, "/a/b"), Answer::Done),
+        (Call::Rehome(1, "/a/b"), Answer::Path(1)),
+        (Call::Rehome(7, "/a/b"), Answer::Nothing),
+        (Call::Rehome(1, "/x"), Answer::Nothing),
+        (Call::Current("/a"), Answer::Number(3)),
+        (Call::Peak("/a/b"), Answer::Number(0)),
+        (Call::Peak("/a"), Answer::Number(0)),
+        (Call::Fork(1, 2), Answer::Peaks(1_00)),
+        (Call::Peak("/a/b"), Answer::Number(4)),
+        (Call::Peak("/a"), Answer::Number(4)),
+        (Call::Exit(2), Answer::Path(4)),
+        (Call::SetPeaks("/a/b", &[3, 5]), Answer::Done),
+        (Call::Peak("/a/b"), Answer::Number(3)),
+        (Call::Peak("/a"), Answer::Number(5)),
+        (Call::SetPeaks("/", &[]), Answer::Done),
+        (Call::SetPeaks("/a", &[]), Answer::Nothing),
+        (Call::SetPeaks("/a", &[6]), Answer::Done),
+        (Call::Peak("/a/b"), Answer::Number(3)),
+        (Call::Fork(1, 2), Answer::Peaks(1_36)),
+        (Call::Peak("/a/b"), Answer::Number(4)),
+        (Call::Peak("/a"), Answer::Number(6)),
+    ];
+    assert!(rt; first_wrong(&rt, rt.alloc(), &rows)? == None);
+    Ok(())
+}
