@@ -238,7 +238,7 @@ fn newest_record(rt: HostRuntime) -> Result<(), Fail> {
     assert!(rt; engine.newest_command().is_none());
     let made = answer(&rt, rt.alloc(), &mut engine, "fork 1 2")?;
     assert!(rt; made.as_slice() == b"ok".as_slice());
-    assert!(rt; matches!(engine.newest(), Some(Inverse::Forked { pid }) if pid.get() == 2));
+    assert!(rt; matches!(engine.newest(), Some(Inverse::Forked { pid, .. }) if pid.get() == 2));
     assert!(rt; matches!(engine.newest_command(), Some(Command::Fork { .. })));
     let undone = engine.undo(&rt, 0);
     let undone = said(rt.alloc(), &undone)?;

@@ -57,7 +57,7 @@ pub(crate) const EVERY_FILE: (&str, &str) = (
 );
 
 /// Each trace with its answers, as in `traces`: a semicolon stands for a line feed.
-pub(crate) const FILE_TRACES: [(&str, &str); 24] = [
+pub(crate) const FILE_TRACES: [(&str, &str); 28] = [
     // A fork that its own group's limit refuses, and what it has counted taken back.
     (
         "mkdir /a;write /a pids.max 1;write /a cgroup.procs 1;fork 1 2;\
@@ -244,5 +244,37 @@ pub(crate) const FILE_TRACES: [(&str, &str); 24] = [
          cat / cgroup.stat",
         "1 ok;2 ok;3 ok;4 ok;5 refused depth /;6 ok;| rmdir /a/b;7 ok;| nr_descendants 2;\
          | nr_dying_descendants 0",
+    ),
+    // A peak outlives an exit and a move away; undos give back what a fork and a move raised.
+    (
+        "mkdir /a;cat /a pids.peak;write /a cgroup.procs 1;fork 1 2;cat /a pids.peak;exit 2;\
+         cat /a pids.peak;write / cgroup.procs 1;cat /a pids.current;cat /a pids.peak;undo;\
+         undo;undo;cat /a pids.peak;cat / pids.peak",
+        "1 ok;2 ok;| 0;3 ok;4 ok;5 ok;| 2;6 ok;7 ok;| 2;8 ok;9 ok;| 0;10 ok;| 2;11 ok;\
+         | write / cgroup.procs 1;12 ok;| exit 2;13 ok;| fork 1 2;14 ok;| 1;15 refused nofile",
+    ),
+    // A refused fork raises no peak, and no peak is written.
+    (
+        "mkdir /a;mkdir /a/b;write /a pids.max 1;write /a cgroup.procs 1;write /a/b cgroup.procs 1;\
+         fork 1 2;cat /a pids.peak;cat /a/b pids.peak;undo;undo;cat /a/b pids.peak;\
+         write /a pids.peak 0",
+        "1 ok;2 ok;3 ok;4 ok;5 ok;6 refused pidsmax /a;7 ok;| 1;8 ok;| 1;9 ok;| fork 1 2;10 ok;\
+         | write /a/b cgroup.procs 1;11 ok;| 0;12 refused direction",
+    ),
+    // A move raises no group that both places lie in.
+    (
+        "mkdir /a;mkdir /a/b;mkdir /a/c;write /a/b cgroup.procs 1;write /a/c cgroup.procs 1;\
+         cat /a pids.peak;cat /a/b pids.peak;cat /a/c pids.peak;undo;cat /a/c pids.peak;\
+         cat /a pids.peak;undo;cat /a pids.peak",
+        "1 ok;2 ok;3 ok;4 ok;5 ok;6 ok;| 1;7 ok;| 1;8 ok;| 1;9 ok;| write /a/c cgroup.procs 1;\
+         10 ok;| 0;11 ok;| 1;12 ok;| write /a/b cgroup.procs 1;13 ok;| 0",
+    ),
+    // A peak outlives a kill, goes with its group, and comes back with it.
+    (
+        "mkdir /a;write /a cgroup.procs 1;fork 1 2;write /a cgroup.kill 1;cat /a pids.peak;\
+         rmdir /a;mkdir /a;cat /a pids.peak;undo;undo;cat /a pids.peak;undo;cat /a pids.current;\
+         undo;cat /a pids.peak",
+        "1 ok;2 ok;3 ok;4 ok;5 ok;| 2;6 ok;7 ok;8 ok;| 0;9 ok;| mkdir /a;10 ok;| rmdir /a;11 ok;\
+         | 2;12 ok;| write /a cgroup.kill 1;13 ok;| 2;14 ok;| fork 1 2;15 ok;| 1",
     ),
 ];

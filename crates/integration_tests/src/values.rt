@@ -8,7 +8,7 @@ use std::alloc::{AllocError, Global};
 use std::test::Fail;
 
 /// Each name, its file, whether the root has it, whether it is read, and whether it is written.
-const NAMES: [(&str, File, [bool; 3]); 10] = [
+const NAMES: [(&str, File, [bool; 3]); 11] = [
     ("cgroup.procs", File::Procs, [true, true, true]),
     ("cgroup.events", File::Events, [false, true, false]),
     ("cgroup.stat", File::Stat, [true, true, false]),
@@ -21,6 +21,7 @@ const NAMES: [(&str, File, [bool; 3]); 10] = [
     ("cgroup.kill", File::KillFile, [false, false, true]),
     ("pids.max", File::PidsMax, [false, true, true]),
     ("pids.current", File::PidsCurrent, [false, true, false]),
+    ("pids.peak", File::PidsPeak, [false, true, false]),
     ("pids.events", File::PidsEvents, [false, true, false]),
     (
         "pids.events.local",

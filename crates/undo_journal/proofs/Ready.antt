@@ -1,6 +1,5 @@
 -- A record that a step left can be taken back.
-use Rattle.std.proofs.Common.{◌≡◌, ℕ, ◌-◌, ◌<◌, ◌≤◌, Bool, true, false, cond, not, ◌&&◌, ◌||◌, List, [], ◌∷◌, length, Option, Some, None, refl, sym, ap, subst, ◌∙◌, is_some, arith, ltb}
-use Rattle.std.proofs.lemmas.Bool.Decides.{nat_tests}
+use Rattle.std.proofs.Common.{◌≡◌, ℕ, ◌-◌, ◌<◌, ◌≤◌, Bool, true, false, cond, not, ◌&&◌, ◌||◌, List, [], ◌∷◌, length, Option, Some, None, refl, sym, ap, subst, ◌∙◌, is_some, arith}
 use Rattle.std.specs.declared.cmp.Ordering.{Ordering}
 use Rattle.std.specs.Prelude.{option_map, unwrap_or, count_by}
 use Rattle.std.specs.List.{list_any}
@@ -9,7 +8,7 @@ use Rattle.std.specs.Ordering.{eq_by_cmp}
 use Rattle.std.specs.FinMap.{get, len, keys, values, insert, remove, nat_cmp-IsAntisymmetric, get-insert, get-remove, len-remove, contains_key-keys}
 use Rattle.flat_model.specs.Path.{Path, path_cmp, strictly_below, same_path, is_root, parent, at_or_below}
 use Rattle.flat_model.specs.State.{State, Attr, Limit, fresh}
-use Rattle.flat_model.specs.Counts.{is_group, has_process, current, populated}
+use Rattle.flat_model.specs.Counts.{is_group, has_process, current}
 use Rattle.flat_model.specs.Command as model
 use Rattle.flat_model.specs.File.{LimitFile, is_pids_max}
 use Rattle.flat_model.specs.Inverse.{Inverse, back, inverse, inverse_of_refusal}
@@ -19,7 +18,7 @@ use Rattle.flat_model.specs.WellFormed.{WellFormed}
 use Rattle.flat_model.proofs.PathLaws.{path_cmp-IsTotalOrder, path_cmp-IsAntisymmetric, strictly_below_is, same_path_is, same_path_itself, at_or_below_itself}
 use Rattle.flat_model.proofs.Maps.{get-own, get-each}
 use Rattle.flat_model.proofs.Kept.{below_parent}
-use Rattle.flat_model.proofs.Counting.{populated_is}
+use Rattle.flat_model.proofs.Counting.{nobody_without_group}
 use Rattle.flat_model.proofs.Sums.{count_by-cons}
 use Rattle.flat_model.proofs.Limits.{fork_refused}
 use Rattle.flat_model.proofs.Peaks.{length-peaks_upward}
@@ -90,12 +89,7 @@ module _ (slots : ℕ) (t : State) (w : WellFormed slots t) (p : Path) (gone : i
   no_children = no_key {R = path_cmp} path_cmp-IsTotalOrder (λ q. strictly_below q p) (keys made.groups) (λ q e. made_leaf q (contains_key-keys made.groups q ∙ e))
 
   nobody : current t p ≡ 0
-  nobody = zero_of (current t p) (not_true (populated t p) (λ e.
-      let at = (populated_is t p).0 e in
-      let f : true ≡ false = sym (w.homes at.pid at.at at.home) ∙ none_under at.at at.below in cc))
-    where
-      zero_of : (n : ℕ) → ltb 0 n ≡ false → n ≡ 0
-      zero_of n e = grind (arith, nat_tests)
+  nobody = nobody_without_group slots t p w gone
 
   no_processes : list_any (λ q. same_path q p) (values t.home) ≡ false
   no_processes = none_counted (λ q. at_or_below q p) (λ q. same_path q p) (λ q e. ap (λ x. at_or_below x p) ((same_path_is q p).0 e) ∙ at_or_below_itself p) (values t.home) nobody

@@ -32,7 +32,7 @@ impl<A: Allocator + Clone, M: Meter> Engine<A, M> {
         home.copy(self.alloc.clone()?)
     }
 
-    /// Makes a process that may be made, in the group of its parent, and records it.
+    /// Makes a process that may be made, in the group of its parent, and records it with the peaks along that group.
     fn make_process(&mut self, who: u8, parent: Pid, child: Pid) -> Result<(), AllocError>
         requires { refusal M.SLOTS self.old.state (model.Fork parent child) ≡ None }
         ensures ok { OnOk result (self.new ≡ recorded self.old (model.Fork parent child) (after self.old.state (model.Fork parent child))) }

@@ -17,7 +17,7 @@ use crate::inverse::Inverse;
 use crate::journal::Entry;
 use crate::reply::{Refusal, Reply};
 use group_path::GroupPath;
-use pids_charge::{Charges, Meter, Peaks, Pid, Shifted};
+use pids_charge::{Charges, Meter, Peaks, Pid};
 use std::alloc::{AllocError, Allocator};
 
 impl<A: Allocator + Clone, M: Meter> Engine<A, M> {
@@ -52,10 +52,14 @@ impl<A: Allocator + Clone, M: Meter> Engine<A, M> {
         let named = path.copy(self.alloc.clone()?)?;
         self.journal.reserve(1)?;
         match self.charges.migrate(who, pid, path) {
-            Ok(Shifted { path, peaks }) => {
+            Ok(left) => {
                 self.journal.push(Entry {
                     command: Command::Move { path: named, pid },
-                    inverse: Inverse::Moved { pid, path, peaks },
+                    inverse: Inverse::Moved {
+                        pid,
+                        path: left.path,
+                        peaks: left.peaks,
+                    },
                 })?;
                 Ok(())
             }

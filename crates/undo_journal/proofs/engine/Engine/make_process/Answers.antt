@@ -2,7 +2,7 @@ use Rattle.std.proofs.Common.{◌≡◌, [], ◌∷◌, ◌++◌, subst, sym, �
 use Rattle.flat_model.specs.Command as model
 use Rattle.flat_model.specs.Inverse as model_inverse
 use Rattle.flat_model.specs.Machine.{Machine, recorded}
-use Rattle.flat_model.specs.Step.{after, refusal}
+use Rattle.flat_model.specs.Step.{after, refusal, home_of, peaks_upward}
 use Rattle.undo_journal.specs.History.{machine_of, journal_entry}
 use Rattle.undo_journal.specs.declared.journal.Entry.{Entry}
 use Rattle.undo_journal.specs.declared.command.Command.TheVariants.{Fork}
@@ -14,16 +14,16 @@ abbrev command : (g : _) (c : goal.In_ok-push-in-Ok g) → model.Command
 command g c = model.Fork c.args.parent c.args.child
 
 abbrev inverse : (g : _) (c : goal.In_ok-push-in-Ok g) → model_inverse.Inverse
-inverse g c = model_inverse.Forked c.args.child
+inverse g c = model_inverse.Forked c.args.child (peaks_upward c.self.inside.charges (home_of c.self.inside.charges c.args.parent))
 
 abbrev entry : (g : _) (c : goal.In_ok-push-in-Ok g) → Entry g.row.A.Denot
-entry g c = record { command = Fork c.args.parent c.args.child; inverse = Forked c.args.child }
+entry g c = record { command = Fork c.args.parent c.args.child; inverse = Forked c.args.child c.in-Ok.peaks }
 
 journal_is : (g : _) (c : goal.In_ok-push-in-Ok g) → c.push.new.self.items ≡ c.self.inside.journal.items ++ entry g c ∷ []
 journal_is g c = c.in_ok-push-in-Ok.ensures.items ∙ ap (λ js. js ++ entry g c ∷ []) c.reserve.ensures.items
 
 entry_is : (g : _) (c : goal.In_ok-push-in-Ok g) → ◌≡◌ {A = model.Command × model_inverse.Inverse} (journal_entry (entry g c)) (command g c, inverse g c)
-entry_is g c = refl
+entry_is g c = λ i. (model.Fork c.args.parent c.args.child, model_inverse.Forked c.args.child ((rw c.in-Ok.is at c.make_process.ensures.peaks) i))
 
 none : (g : _) (c : goal.In_ok-push-in-Ok g) → refusal g.M.Meter.SLOTS c.self.inside.charges (command g c) ≡ None
 none g c = subst (λ (m : Machine). refusal g.M.Meter.SLOTS m.state (command g c) ≡ None) (sym c.self.view_is) c.requires

@@ -2,7 +2,7 @@ use Rattle.std.proofs.Common.{◌≡◌, [], ◌∷◌, ◌++◌, subst, sym, �
 use Rattle.flat_model.specs.Command as model
 use Rattle.flat_model.specs.Inverse as model_inverse
 use Rattle.flat_model.specs.Machine.{Machine, recorded}
-use Rattle.flat_model.specs.Step.{after, refusal, home_of}
+use Rattle.flat_model.specs.Step.{after, refusal, home_of, peaks_upward}
 use Rattle.undo_journal.specs.History.{machine_of, journal_entry}
 use Rattle.undo_journal.specs.declared.journal.Entry.{Entry}
 use Rattle.undo_journal.specs.declared.command.Command.TheVariants.{Move}
@@ -14,16 +14,16 @@ abbrev command : (g : _) (c : goal.In_ok-push-in-Ok g) → model.Command
 command g c = model.Move c.args.path.now c.args.pid
 
 abbrev inverse : (g : _) (c : goal.In_ok-push-in-Ok g) → model_inverse.Inverse
-inverse g c = model_inverse.Moved c.args.pid (home_of c.self.inside.charges c.args.pid)
+inverse g c = model_inverse.Moved c.args.pid (home_of c.self.inside.charges c.args.pid) (peaks_upward c.self.inside.charges c.args.path.now)
 
 abbrev entry : (g : _) (c : goal.In_ok-push-in-Ok g) → Entry g.row.A.Denot
-entry g c = record { command = Move c.in_ok-named.named c.args.pid; inverse = Moved c.args.pid c.in-Ok.left }
+entry g c = record { command = Move c.in_ok-named.named c.args.pid; inverse = Moved c.args.pid c.in-Ok.left.path c.in-Ok.left.peaks }
 
 journal_is : (g : _) (c : goal.In_ok-push-in-Ok g) → c.push.new.self.items ≡ c.self.inside.journal.items ++ entry g c ∷ []
 journal_is g c = c.in_ok-push-in-Ok.ensures.items ∙ ap (λ js. js ++ entry g c ∷ []) c.reserve.ensures.items
 
 entry_is : (g : _) (c : goal.In_ok-push-in-Ok g) → ◌≡◌ {A = model.Command × model_inverse.Inverse} (journal_entry (entry g c)) (command g c, inverse g c)
-entry_is g c = λ i. (model.Move (c.in_ok-named.ensures i) c.args.pid, model_inverse.Moved c.args.pid ((rw c.in-Ok.is at c.migrate.ensures.old_home) i))
+entry_is g c = λ i. (model.Move (c.in_ok-named.ensures i) c.args.pid, model_inverse.Moved c.args.pid ((rw c.in-Ok.is at c.migrate.ensures.old_home) i) ((rw c.in-Ok.is at c.migrate.ensures.peaks) i))
 
 none : (g : _) (c : goal.In_ok-push-in-Ok g) → refusal g.M.Meter.SLOTS c.self.inside.charges (command g c) ≡ None
 none g c = subst (λ (m : Machine). refusal g.M.Meter.SLOTS m.state (command g c) ≡ None) (sym c.self.view_is) c.requires
