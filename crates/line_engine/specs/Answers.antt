@@ -4,6 +4,7 @@ use Rattle.flat_model.specs.Command.{Command}
 use Rattle.flat_model.specs.Machine.{Machine, tick}
 use Rattle.flat_model.specs.Replies.{reply_bytes, fault_bytes}
 use Rattle.flat_model.specs.Trace.{TextFault, Line, Skip, Run, Fault}
+use Rattle.pids_charge.specs.declared.plain.TheConstants.{SLOTS}
 use Rattle.undo_journal.specs.Headline.{KeepsHistory}
 use Rattle.line_engine.specs.Codes.{reply_code, fault_code}
 use Rattle.line_engine.specs.declared.answer.Answer.{Answer}
@@ -11,7 +12,7 @@ use Rattle.line_engine.specs.declared.answer.Answer.TheVariants.{Skipped, Answer
 
 -- as many groups beside the root as a plain meter has slots
 abbrev pub slots : ℕ
-slots = 256
+slots = SLOTS
 
 abbrev pub is_told : Answer → Bool
 is_told Skipped = false
