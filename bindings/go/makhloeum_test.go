@@ -144,7 +144,7 @@ func TestLongAnswers(t *testing.T) {
 func TestNoSlot(t *testing.T) {
 	h := open(t)
 	var want []string
-	for i := 0; i < 256; i++ {
+	for i := 0; i < 1024; i++ {
 		name := fmt.Sprint("g", i)
 		do(t, h, "mkdir /"+name)
 		want = append(want, name)

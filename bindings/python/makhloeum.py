@@ -68,7 +68,7 @@ class Depth(Refused):
 
 
 class NoSlot(Refused):
-    """There are as many groups as there may be (256 beside the root). The kernel has no such limit."""
+    """There are as many groups as there may be (1,024 beside the root). The kernel has no such limit."""
 
     code, number = 5, errno.ENOSPC
 

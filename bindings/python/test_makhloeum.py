@@ -68,13 +68,13 @@ def test_a_refusal(h, line, reply, number, kind):
 
 
 def test_no_more_groups_than_slots(h):
-    for number in range(256):
+    for number in range(1024):
         h.mkdir(f"/g{number}")
     with pytest.raises(makhloeum.NoSlot) as refused:
         h.mkdir("/one-more")
     assert refused.value.errno == errno.ENOSPC
-    assert h.children("/") == sorted(f"g{number}" for number in range(256))
-    assert len(h.groups()) == 257
+    assert h.children("/") == sorted(f"g{number}" for number in range(1024))
+    assert len(h.groups()) == 1025
 
 
 def test_a_counted_fork_is_taken_back(h):
