@@ -19,14 +19,14 @@ pub path_smaller : (at node : ℕ) → OnPath node at → at ≤ node
 path_smaller at node here = omega arith
 path_smaller at node (below node' apart rest) = let l = path_smaller at (halved node') rest in omega arith
 
-less_deep : (at node : ℕ) → OnPath node at → node < 15 → depth at ≤ depth node
-less_deep at node here low = omega arith
-less_deep at node (below node' apart rest) low = dite (ℕ_discrete node' 0)
+less_deep : (at node : ℕ) → OnPath node at → depth at ≤ depth node
+less_deep at node here = omega arith
+less_deep at node (below node' apart rest) = dite (ℕ_discrete node' 0)
     (λ z. absurd (apart (ap halved z ∙ sym z)))
-    (λ nz. let l = less_deep at (halved node') rest (omega arith) in let e = depth_up node' (omega arith) low in omega arith)
+    (λ nz. let l = less_deep at (halved node') rest in let e = depth_up node' (omega arith) in omega arith)
 
-pub path_higher : (at node : ℕ) → OnPath node at → node < 15 → at ≢ node → depth at < depth node
-path_higher at node here low ne = absurd (ne refl)
-path_higher at node (below node' apart rest) low ne = dite (ℕ_discrete node' 0)
+pub path_higher : (at node : ℕ) → OnPath node at → at ≢ node → depth at < depth node
+path_higher at node here ne = absurd (ne refl)
+path_higher at node (below node' apart rest) ne = dite (ℕ_discrete node' 0)
     (λ z. absurd (apart (ap halved z ∙ sym z)))
-    (λ nz. let l = less_deep at (halved node') rest (omega arith) in let e = depth_up node' (omega arith) low in omega arith)
+    (λ nz. let l = less_deep at (halved node') rest in let e = depth_up node' (omega arith) in omega arith)

@@ -1,5 +1,6 @@
 mod Told
 mod Counted
 mod Deeper
+mod Rows
 mod NoEvent
 mod LawfulRuns

@@ -1,14 +1,13 @@
 -- Paths in a slot, and depths on them.
-use Rattle.std.proofs.Common.{◌≡◌, ◌≢◌, ℕ, suc, ◌+◌, ◌-◌, ◌/◌, ◌<◌, ◌≤◌, sym, refl, ap, ◌∙◌, subst, arith, lt-ltb, le-ltb, cond, Bool}
-use Rattle.std.specs.Prelude.{nat_lt}
+use Rattle.std.proofs.Common.{◌≡◌, ◌≢◌, ℕ, zero, suc, ◌+◌, ◌<◌, ◌≤◌, sym, refl, ap, ◌∙◌, subst, arith}
 use mathlib.Core.Logic.{dite}
-use native.Mathlib.Decide.{ℕ_discrete, dec_le}
+use native.Mathlib.Decide.{ℕ_discrete}
 use Rattle.snzi_core.specs.declared.holding.Holding.{Holding}
 use Rattle.snzi_core.specs.Holding.{tokens_at}
 use Rattle.snzi_core.specs.Shape.{parent, IsShape, node_word}
 use Rattle.snzi_core.specs.Balance.{AtOrBelow, here, below, Covers}
 use Rattle.snzi_core.proofs.Shapes.{in_slot, from_slot}
-use Rattle.snzi_tree.specs.Depths.{halved, OnPath, depth, triangle}
+use Rattle.snzi_tree.specs.Depths.{halved, OnPath, depth, depth_within, triangle}
 use Rattle.snzi_tree.specs.Contents.{HasIn}
 
 -- paths in a slot
@@ -34,32 +33,27 @@ module _ (w l : ℕ) (shape : IsShape w (w + l)) (slot : ℕ) (h : Holding) (roo
       let r = in_slot w (w + l) shape slot c.0 (subst (λ x. AtOrBelow (parent w (w + l)) x c.0) is c.1) in
       (r.0, r.1, subst (λ j. 0 < tokens_at j h) r.2 c.2)
 
+-- no more than the number of a node is needed to say how deep it stands
+depth_same : (n m k : ℕ) → k ≤ n → k ≤ m → depth_within n k ≡ depth_within m k
+depth_same zero zero k a b = refl
+depth_same zero (suc m) zero a b = refl
+depth_same zero (suc m) (suc k) a b = absurd (omega (arith, a))
+depth_same (suc n) zero zero a b = refl
+depth_same (suc n) zero (suc k) a b = absurd (omega (arith, b))
+depth_same (suc n) (suc m) zero a b = refl
+depth_same (suc n) (suc m) (suc k) a b = ap suc (depth_same n m (halved (suc k)) (omega (arith, a)) (omega (arith, b)))
+
 -- a node stands one deeper than its parent
-at_root : (k : ℕ) → k < 1 → depth k ≡ 0
-at_root k h = ap (λ (t : Bool). cond t 0 (cond (nat_lt k 3) 1 (cond (nat_lt k 7) 2 3))) (lt-ltb k 1 h)
-
-one_down : (k : ℕ) → 1 ≤ k → k < 3 → depth k ≡ 1
-one_down k a b = ap (λ (t : Bool). cond t 0 (cond (nat_lt k 3) 1 (cond (nat_lt k 7) 2 3))) (le-ltb k 1 a) ∙ ap (λ (t : Bool). cond t 1 (cond (nat_lt k 7) 2 3)) (lt-ltb k 3 b)
-
-two_down : (k : ℕ) → 3 ≤ k → k < 7 → depth k ≡ 2
-two_down k a b = ap (λ (t : Bool). cond t 0 (cond (nat_lt k 3) 1 (cond (nat_lt k 7) 2 3))) (le-ltb k 1 (omega arith)) ∙ ap (λ (t : Bool). cond t 1 (cond (nat_lt k 7) 2 3)) (le-ltb k 3 a) ∙ ap (λ (t : Bool). cond t 2 3) (lt-ltb k 7 b)
-
-three_down : (k : ℕ) → 7 ≤ k → depth k ≡ 3
-three_down k a = ap (λ (t : Bool). cond t 0 (cond (nat_lt k 3) 1 (cond (nat_lt k 7) 2 3))) (le-ltb k 1 (omega arith)) ∙ ap (λ (t : Bool). cond t 1 (cond (nat_lt k 7) 2 3)) (le-ltb k 3 (omega arith)) ∙ ap (λ (t : Bool). cond t 2 3) (le-ltb k 7 a)
-
-pub depth_up : (k : ℕ) → 0 < k → k < 15 → depth k ≡ suc (depth ((k - 1) / 2))
-depth_up k a b = dite (dec_le 7 k)
-    (λ h. three_down k h ∙ ap suc (sym (two_down ((k - 1) / 2) (omega arith) (omega arith))))
-    (λ n. dite (dec_le 3 k)
-    (λ h. two_down k h (omega arith) ∙ ap suc (sym (one_down ((k - 1) / 2) (omega arith) (omega arith))))
-    (λ m. one_down k a (omega arith) ∙ ap suc (sym (at_root ((k - 1) / 2) (omega arith)))))
+pub depth_up : (k : ℕ) → 0 < k → depth k ≡ suc (depth (halved k))
+depth_up zero pos = absurd (omega (arith, pos))
+depth_up (suc k) pos = ap suc (depth_same k (halved (suc k)) (halved (suc k)) (omega arith) (omega arith))
 
 -- the steps down from a root to a node of this depth
 abbrev pub down_steps : ℕ → ℕ
 down_steps d = d + triangle d
 
-pub down_next : (k at : ℕ) → halved k ≡ at → 0 < k → k < 15 → down_steps (depth k) ≡ down_steps (depth at) + (depth k + 1)
-down_next k at is pos low = deeper (depth k) (depth at) (depth_up k pos low ∙ ap (λ (x : ℕ). suc (depth x)) is)
+pub down_next : (k at : ℕ) → halved k ≡ at → 0 < k → down_steps (depth k) ≡ down_steps (depth at) + (depth k + 1)
+down_next k at is pos = deeper (depth k) (depth at) (depth_up k pos ∙ ap (λ (x : ℕ). suc (depth x)) is)
   where
     one : (d : ℕ) → down_steps (suc d) ≡ down_steps d + (suc d + 1)
     one d = omega arith

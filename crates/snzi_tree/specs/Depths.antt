@@ -1,5 +1,5 @@
 -- How deep a node stands, and how many steps a call may take.
-use Rattle.std.specs.Prelude.{ℕ, zero, suc, ◌+◌, ◌-◌, ◌*◌, ◌/◌, cond, nat_lt}
+use Rattle.std.specs.Prelude.{ℕ, zero, suc, ◌+◌, ◌-◌, ◌*◌, ◌/◌}
 use Rattle.snzi_core.specs.Balance.{AtOrBelow}
 
 -- the parent's number in a slot
@@ -10,9 +10,15 @@ halved k = (k - 1) / 2
 abbrev pub OnPath : ℕ → ℕ → Type 0
 OnPath node at = AtOrBelow halved at node
 
--- how deep a node of at most 15 stands
+-- how deep a node stands, if it is not deeper than n
+abbrev pub depth_within : ℕ → ℕ → ℕ
+depth_within zero k = 0
+depth_within (suc n) zero = 0
+depth_within (suc n) (suc k) = suc (depth_within n (halved (suc k)))
+
+-- how deep a node stands: a root 0 deep, and every other node one deeper than its parent
 abbrev pub depth : ℕ → ℕ
-depth k = cond (nat_lt k 1) 0 (cond (nat_lt k 3) 1 (cond (nat_lt k 7) 2 3))
+depth k = depth_within k k
 
 -- how deep a leaf of w nodes stands
 abbrev pub leaf_depth : ℕ → ℕ → ℕ

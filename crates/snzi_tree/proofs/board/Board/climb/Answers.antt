@@ -29,6 +29,6 @@ up-preserved g c =
     let some : 0 < c.up.at = omega (arith, nz) in
     let n = i.place in
     let e = c.try_fast.ensures in
-    let d = depth_up c.up.at some (omega (arith, n, c.requires.place.1, c.args.self.now.shape.3)) in
+    let d = depth_up c.up.at some in
     let t = i.steps in
     record { steps = omega (arith, d, t, e.steps); counts = let u = i.counts in omega (arith, u, e.counts); place = omega (arith, n); hand = (e.hand.0 ∙ i.hand.0, e.hand.1 ∙ i.hand.1); path = path_up c.up.at c.args.node i.path some; same = e.lost c.if-try_fast.false ∙ i.same }

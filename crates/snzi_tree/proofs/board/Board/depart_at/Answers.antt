@@ -28,7 +28,7 @@ up-preserved g c =
     let m = subst (λ (q : ℕ). holds c.leave.new.hand ≡ gain (lose h c.node-word.result) q) child.0 passed.1 in
     let apart : p ≢ c.node-word.result = λ e. child.1 (child.0 ∙ e) in
     let inside = c.up.invariant.place in
-    let d = depth_up c.up.at inner (omega (arith, inside, c.args.self.now.shape.3)) in
+    let d = depth_up c.up.at inner in
     let t = c.up.invariant.steps in
     let e = c.leave.ensures.steps in
     record {

@@ -5,6 +5,7 @@ use Rattle.snzi_core.specs.Shape.{node_word}
 use Rattle.snzi_tree.specs.Depths.{halved}
 use Rattle.snzi_tree.specs.Hands.{holds}
 use Rattle.snzi_tree.proofs.OneToken.{moves_used, moves_back, back_has}
+use Rattle.snzi_tree.proofs.Paths.{depth_up}
 use Rattle.snzi_tree.proofs.board.Board.descend.Goals as goal
 
 pub depart_at-requires : goal.depart_at-requires
@@ -41,3 +42,10 @@ returns-else-child_add-clause-token g c =
     let h = holds c.args.hand.now in
     let k = holds c.child_add.new.hand in
     subst (λ (j : ℕ). Moves p j h k) e.place.0 (moves_used h k c.node-word.result p apart c.requires.token (subst (λ (q : ℕ). k ≡ lose (gain h c.node-word.result) q) child.0 (c.child_add.ensures.used c.if-child_add.false)))
+
+pub returns-then-child_add-clause-steps : goal.returns-then-child_add-clause-steps
+returns-then-child_add-clause-steps g c =
+    let d = depth_up c.args.node c.requires.place.1 in
+    let a = c.child_add.ensures.steps in
+    let b = c.depart_at.ensures.steps in
+    omega (arith, d, a, b)
