@@ -6,8 +6,8 @@ ghost use Rattle.pids_charge.specs.Content.{IsEmpty};
 
 use crate::charges::{charge, uncharge};
 use crate::parts::settle_parts;
-use crate::shape::{GROUPS, NODES, PARTS, ROW};
-use pids_charge::{Gate, Meter, Token};
+use crate::shape::{GROUPS, NODES, ROW};
+use pids_charge::{Gate, Meter, Token, part_count};
 use snzi_tree::{Board, Hand};
 use std::alloc::{AllocError, Global};
 use std::marker::Model;
@@ -34,7 +34,7 @@ impl Model for BoardMeter {
 }
 
 impl BoardMeter {
-    /// An empty meter. Takes memory for the board's words, 2,816 of them; an error only where that
+    /// An empty meter. Takes memory for the board's words, 23,552 of them; an error only where that
     /// is refused.
     ///
     /// # Errors
@@ -88,13 +88,14 @@ impl Meter for BoardMeter {
         leaving: &[Token],
         arriving: &[Token],
     ) {
+        let parts = part_count(leaving, arriving);
         let main = &mut self.main;
         settle_parts(
             rt,
             &self.board,
             main,
             &gate,
-            PARTS,
+            parts,
             stripe,
             leaving,
             arriving,

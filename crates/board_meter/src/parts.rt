@@ -1,31 +1,19 @@
 //! A settlement in parts, one inside the other, each by a thread and a hand of its own.
-ghost use Rattle.std.specs.Prelude.{◌≡◌, ℕ, ◌+◌, ◌-◌, ◌/◌, ◌<◌, ◌≤◌, length};
+ghost use Rattle.std.specs.Prelude.{◌-◌, ◌<◌, ◌≤◌};
 ghost use Rattle.snzi_tree.specs.Contents.{AtLeaves};
 ghost use Rattle.snzi_tree.specs.Hands.{IsHandOf, holds, SameHand};
-ghost use Rattle.pids_charge.specs.Content.{tokens_at, IsWithin};
 ghost use Rattle.board_meter.specs.Held.{CanSettle, HasRoomFor, Settled};
 
 use crate::hands::{hand_out, take_back};
 use crate::part::do_part;
-use pids_charge::{Gate, Token};
+use pids_charge::{Gate, Token, last_run};
 use snzi_tree::{Board, Hand};
 use std::thread::{Threads, join_mut};
 
-// The first of `runs` runs but the last, and the last. Runs differ in length by at most one, the
-// longer ones first.
-fn cut(tokens: &[Token], runs: u8) -> (&[Token], &[Token])
-    requires { 0 < runs }
-    ensures tokens { (s j : ℕ) → tokens_at result.0.now s j + tokens_at result.1.now s j ≡ tokens_at tokens.now s j }
-    ensures place { (g l : ℕ) → IsWithin g l tokens.now → IsWithin g l result.0.now × IsWithin g l result.1.now }
-    ensures len { length result.0.now + length result.1.now ≡ length tokens.now }
-    ensures last { length result.1.now ≡ length tokens.now / runs }
-{
-    tokens.split_at(tokens.len() - tokens.len() / usize::from(runs))
-}
-
 /// The parts from 1 to `parts`, and part 1 where that is 0. The last of them is done by a thread of
-/// its own with a hand of its own, the others are nested in this one. A part for which no thread can
-/// be had is done by this one.
+/// its own with a hand of its own; beside it the others are done, in the same way, before it is
+/// joined. Part 1 is done here, with main. Where no thread can be had, the thread that should have
+/// started it does its part as well.
 pub(crate) fn settle_parts<R: Threads, A: Gate, const G: usize, const W: usize, const L: usize>(
     rt: &R,
     board: &Board<G, W, L>,
@@ -48,8 +36,8 @@ pub(crate) fn settle_parts<R: Threads, A: Gate, const G: usize, const W: usize, 
         do_part(board, main, gate, 1, stripe, leaving, arriving);
         return;
     }
-    let (rest_leaving, last_leaving) = cut(leaving, parts);
-    let (rest_arriving, last_arriving) = cut(arriving, parts);
+    let (rest_leaving, last_leaving) = last_run(leaving, parts);
+    let (rest_arriving, last_arriving) = last_run(arriving, parts);
     let mut helper = hand_out(board, main, last_leaving);
     let theirs = &mut helper;
     let mut last = move ||

@@ -1,13 +1,12 @@
-//! How large a meter's board is, and in how many parts a settlement is done.
+//! How large a meter's board is.
+
+use pids_charge::{LEAVES, SLOTS};
 
 /// Slots of the board.
-pub(crate) const GROUPS: usize = 256;
+pub(crate) const GROUPS: usize = SLOTS;
 
 /// Nodes of a slot.
-pub(crate) const NODES: usize = 7;
+pub(crate) const NODES: usize = 15;
 
 /// Leaves of a slot, and as many stripes.
-pub(crate) const ROW: usize = 4;
-
-/// Parts of a settlement.
-pub(crate) const PARTS: u8 = 2;
+pub(crate) const ROW: usize = LEAVES;

@@ -1,13 +1,12 @@
 //! Both meters over charges drawn by a generator of numbers.
 ghost use Rattle.std.specs.Prelude.{[], ◌≡◌, ℕ, ◌<◌, ◌≤◌};
 ghost use Rattle.snzi_core.specs.Holding.{held};
-ghost use Rattle.snzi_tree.specs.Contents.{content_of};
 ghost use Rattle.pids_charge.specs.Table.{table_at, table_held};
-ghost use Rattle.board_tests.specs.Tokens.{Holds};
+ghost use Rattle.board_tests.specs.Tokens.{Holds, board_content};
 
 use crate::swap::{Way, fits, swap};
 use board_meter::BoardMeter;
-use pids_charge::{Meter, PlainMeter, Token};
+use pids_charge::{Meter, PlainMeter, SLOTS, Token};
 use std::alloc::{AllocError, Global};
 use std::test::Fail;
 use std::thread::Threads;
@@ -28,7 +27,7 @@ fn drawn(alloc: Global, from: u64) -> Result<Vec<Token>, AllocError> {
     for _ in 0..(from >> 58) {
         number = next(number);
         let slot = (number >> 61) as u16;
-        let leaf = ((number >> 59) & 3) as u8;
+        let leaf = ((number >> 58) & 7) as u8;
         tokens.push(Token { slot, leaf })?;
     }
     Ok(tokens)
@@ -58,7 +57,7 @@ fn rounds_alike<R: Threads>(
     board: &mut BoardMeter,
 ) -> Result<u32, AllocError>
     requires plain { Holds [] (table_at plain.old) (table_held plain.old) }
-    requires board { Holds [] (content_of 7 4 board.old) (held board.old) }
+    requires board { Holds [] (board_content board.old) (held board.old) }
 {
     let mut before = Vec::new(alloc);
     let mut number = 1;
@@ -75,11 +74,11 @@ fn rounds_alike<R: Threads>(
         } else {
             Way::Settlement
         };
-        let stripe = (round % 4) as u8;
+        let stripe = (round % 8) as u8;
         swap(rt, plain, way, stripe, leaving, arriving);
         swap(rt, board, way, stripe, leaving, arriving);
         before = tokens;
-        if !alike(plain, board, 256) {
+        if !alike(plain, board, SLOTS as u16) {
             return Ok(round);
         }
     }

@@ -1,53 +1,81 @@
-//! A gate at which two parts of a settlement wait for each other.
+//! A gate at which the parts of a settlement wait for one another.
 
 use pids_charge::Gate;
 use std::sync::atomic::{AtomicBool, Ordering};
 
-/// A part reads the other's flag as often at most.
+/// A part reads another's flag as often at most.
 const TURNS: u32 = 100_000_000;
 
-/// A gate at which each of two parts sets its flag and waits for the other's, for a bounded time.
+/// The most parts of a settlement.
+const MOST: usize = 8;
+
+/// A gate at which each of so many parts sets its flag and waits for those of all the others, for a
+/// bounded time.
 #[derive(Drop)]
 pub(crate) struct Meeting {
-    first: AtomicBool,
-    second: AtomicBool,
+    flags: [AtomicBool; MOST],
+    parts: usize,
     missed: AtomicBool,
 }
 
 impl Meeting {
-    /// No part has come yet.
-    pub(crate) fn new() -> Meeting {
+    /// So many parts are to come, and none has.
+    pub(crate) fn new(parts: usize) -> Meeting {
         Meeting {
-            first: AtomicBool::new(false),
-            second: AtomicBool::new(false),
+            flags: [
+                AtomicBool::new(false),
+                AtomicBool::new(false),
+                AtomicBool::new(false),
+                AtomicBool::new(false),
+                AtomicBool::new(false),
+                AtomicBool::new(false),
+                AtomicBool::new(false),
+                AtomicBool::new(false),
+            ],
+            parts: parts.min(MOST),
             missed: AtomicBool::new(false),
         }
     }
 
-    // Sets one flag and reads another until it is set.
-    fn meet(&self, own: &AtomicBool, other: &AtomicBool) {
-        own.store(true, Ordering::SeqCst);
+    // Whether the part at this place has come.
+    fn has_come(&self, at: usize) -> bool {
+        at < MOST && self.flags[at].load(Ordering::SeqCst)
+    }
+
+    // Waits for the part at this place, and says whether it came.
+    fn sees(&self, at: usize) -> bool {
         for _turn in 0..TURNS {
-            if other.load(Ordering::SeqCst) {
-                return;
+            if self.has_come(at) {
+                return true;
             }
         }
         self.missed.store(true, Ordering::SeqCst);
+        false
     }
 
-    /// Whether both parts came, and neither missed the other.
+    /// Whether all parts came and no other, and none missed another.
     pub(crate) fn met(&self) -> bool {
-        let both = self.first.load(Ordering::SeqCst) && self.second.load(Ordering::SeqCst);
-        both && !self.missed.load(Ordering::SeqCst)
+        let mut met = !self.missed.load(Ordering::SeqCst);
+        for at in 0..MOST {
+            let is_right = self.has_come(at) == (at < self.parts);
+            met = met & is_right;
+        }
+        met
     }
 }
 
 impl Gate for Meeting {
     fn pass(&self, part: u8) {
-        if part == 1 {
-            self.meet(&self.first, &self.second);
-        } else {
-            self.meet(&self.second, &self.first);
+        let at = usize::from(part.saturating_sub(1));
+        if at >= MOST {
+            self.missed.store(true, Ordering::SeqCst);
+            return;
+        }
+        self.flags[at].store(true, Ordering::SeqCst);
+        for other in 0..self.parts {
+            if !self.sees(other) {
+                return;
+            }
         }
     }
 }

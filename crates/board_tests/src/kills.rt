@@ -1,10 +1,13 @@
-//! A kill, and its undo, are each done by two threads.
+//! A kill, and its undo, are each done by eight threads.
 
 use crate::gate::Meeting;
 use crate::replies::{Issued, answers};
 use board_meter::BoardMeter;
 use pids_charge::OpenGate;
+use std::alloc::Global;
+use std::sync::Wait;
 use std::test::Fail;
+use std::thread::Threads;
 use undo_journal::Engine;
 
 // Processes 2 to 6 in a group and in two groups below it.
@@ -46,27 +49,38 @@ const ANSWERS: [&[u8]; 3] = [
 5 ok\n| populated 1\n| frozen 0\n6 ok\n| 0::/k/a\n7 ok\n| 5\n",
 ];
 
+// How often the kill is done and undone, by a new engine each time.
+const RUNS: u32 = 5;
+
+// Whether the eight parts of the kill met, and the eight of its undo, and all was answered so.
+fn is_done_by_eight<R: Threads + Wait + Sync>(rt: &R, alloc: Global) -> Result<bool, Fail> {
+    let mut engine = Engine::new(alloc, BoardMeter::new(alloc)?)?;
+    let before = answers(rt, alloc, &OpenGate, &mut engine, &BEFORE)?;
+    let gate = Meeting::new(8);
+    let killed = answers(rt, alloc, &gate, &mut engine, &KILL)?;
+    let other = Meeting::new(8);
+    let undone = answers(rt, alloc, &other, &mut engine, &UNDO)?;
+    let answered = [before.as_slice(), killed.as_slice(), undone.as_slice()] == ANSWERS;
+    Ok(answered & gate.met() & other.met())
+}
+
+/// The five processes are charged nine times, and so a kill of them has eight parts.
 #[test]
 fn the_parts_of_a_kill_meet(rt: HostRuntime) -> Result<(), Fail> {
-    let mut engine = Engine::new(rt.alloc(), BoardMeter::new(rt.alloc())?)?;
-    let before = answers(&rt, rt.alloc(), &OpenGate, &mut engine, &BEFORE)?;
-    let gate = Meeting::new();
-    let killed = answers(&rt, rt.alloc(), &gate, &mut engine, &KILL)?;
-    let other = Meeting::new();
-    let undone = answers(&rt, rt.alloc(), &other, &mut engine, &UNDO)?;
-    assert!(rt; [before.as_slice(), killed.as_slice(), undone.as_slice()] == ANSWERS);
-    assert!(rt; gate.met() & other.met());
+    for run in 0..RUNS {
+        assert!(rt; is_done_by_eight(&rt, rt.alloc())?, "{run}");
+    }
     Ok(())
 }
 
-/// A kill of an empty group passes the gate as well.
+/// A kill of an empty group passes the gate as well, in two parts.
 #[test]
 fn a_kill_of_nobody(rt: HostRuntime) -> Result<(), Fail> {
     let mut engine = Engine::new(rt.alloc(), BoardMeter::new(rt.alloc())?)?;
-    let gate = Meeting::new();
+    let gate = Meeting::new(2);
     let lines = [(0, "mkdir /k"), (0, "write /k cgroup.kill 1")];
     let killed = answers(&rt, rt.alloc(), &gate, &mut engine, &lines)?;
-    let other = Meeting::new();
+    let other = Meeting::new(2);
     let undone = answers(&rt, rt.alloc(), &other, &mut engine, &[(0, "undo")])?;
     assert!(rt; killed.as_slice() == b"1 ok\n2 ok\n".as_slice());
     assert!(rt; undone.as_slice() == b"1 ok\n| write /k cgroup.kill 1\n".as_slice());

@@ -7,7 +7,7 @@
 //! answers that were written by hand.
 //!
 //! - `drawn`: both meters over charges drawn by a generator of numbers.
-//! - `gate`: a gate at which the two parts of a settlement wait for each other.
+//! - `gate`: a gate at which the parts of a settlement wait for one another.
 //! - `kills`: a kill and its undo at such a gate.
 //! - `meeting`: settlements at such a gate.
 //! - `meters`: a plain meter and one over a board, side by side, on a table of calls.

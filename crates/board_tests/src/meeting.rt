@@ -1,17 +1,17 @@
-//! The two parts of a settlement run beside each other.
+//! The parts of a settlement run beside one another.
 ghost use Rattle.std.specs.Prelude.{◌≡◌, ◌≤◌, length};
 ghost use Rattle.pids_charge.specs.Content.{IsWithin};
 
 use crate::gate::Meeting;
 use crate::swap::{counts, fits};
 use board_meter::BoardMeter;
-use pids_charge::{Meter, Token};
+use pids_charge::{LEAVES, Meter, SLOTS, Token};
 use std::alloc::{AllocError, Global};
 use std::test::Fail;
 use std::thread::Threads;
 
 // What a settlement there and one back show: whether the parts met in both, and what there is at
-// slots 0, 1 and 255 after the first and after the second.
+// slots 0 and 1 and at the last after the first and after the second.
 #[derive(Clone, Copy, PartialEq, Eq)]
 struct Seen {
     met: [bool; 2],
@@ -20,15 +20,20 @@ struct Seen {
 }
 
 // A new meter; the tokens come by one settlement and go by another, each through a gate of its own.
-fn there_and_back<R: Threads>(rt: &R, alloc: Global, tokens: &[Token]) -> Result<Seen, AllocError>
-    requires within { IsWithin 256 4 tokens.now }
+fn there_and_back<R: Threads>(
+    rt: &R,
+    alloc: Global,
+    parts: usize,
+    tokens: &[Token],
+) -> Result<Seen, AllocError>
+    requires within { IsWithin SLOTS LEAVES tokens.now }
     requires few { length tokens.now ≤ 1000 }
 {
     let mut meter = BoardMeter::new(alloc)?;
-    let one = Meeting::new();
+    let one = Meeting::new(parts);
     meter.settle(rt, &one, 0, &[], tokens);
     let there = counts(&mut meter);
-    let other = Meeting::new();
+    let other = Meeting::new(parts);
     meter.settle(rt, &other, 1, tokens, &[]);
     let back = counts(&mut meter);
     Ok(Seen {
@@ -48,25 +53,29 @@ const TOKENS: [Token; 9] = [
     Token { slot: 1, leaf: 1 },
     Token { slot: 0, leaf: 2 },
     Token { slot: 1, leaf: 3 },
-    Token { slot: 0, leaf: 0 },
-    Token { slot: 1, leaf: 1 },
-    Token { slot: 0, leaf: 2 },
-    Token { slot: 1, leaf: 3 },
+    Token { slot: 0, leaf: 4 },
+    Token { slot: 1, leaf: 5 },
+    Token { slot: 0, leaf: 6 },
+    Token { slot: 1, leaf: 7 },
     Token { slot: 0, leaf: 0 },
 ];
 
-// With no token, and with one, a part or both have nothing to do and pass the gate all the same.
+// Of no token, or one, there are two parts; a part or both have nothing to do, and pass the gate all
+// the same. Of nine there are eight.
 #[test]
-fn the_two_parts_meet(rt: HostRuntime) -> Result<(), Fail> {
-    for (number, there) in [
-        (0, [0, 0, 0]),
-        (1, [1, 0, 0]),
-        (2, [1, 1, 0]),
-        (9, [5, 4, 0]),
+fn the_parts_meet(rt: HostRuntime) -> Result<(), Fail> {
+    for (number, parts, there) in [
+        (0, 2, [0, 0, 0]),
+        (1, 2, [1, 0, 0]),
+        (2, 2, [1, 1, 0]),
+        (3, 3, [2, 1, 0]),
+        (5, 5, [3, 2, 0]),
+        (8, 8, [4, 4, 0]),
+        (9, 8, [5, 4, 0]),
     ] {
         let tokens = first(&TOKENS, number);
         assert!(rt; fits(tokens));
-        let seen = there_and_back(&rt, rt.alloc(), tokens)?;
+        let seen = there_and_back(&rt, rt.alloc(), parts, tokens)?;
         let wanted = Seen {
             met: [true, true],
             there,

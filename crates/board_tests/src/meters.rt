@@ -1,19 +1,18 @@
 //! A plain meter and one over a board, side by side.
 ghost use Rattle.std.specs.Prelude.{[], ◌≡◌, ◌<◌};
 ghost use Rattle.snzi_core.specs.Holding.{held};
-ghost use Rattle.snzi_tree.specs.Contents.{content_of};
 ghost use Rattle.pids_charge.specs.Table.{table_at, table_held};
-ghost use Rattle.board_tests.specs.Tokens.{Holds};
+ghost use Rattle.board_tests.specs.Tokens.{Holds, board_content};
 
-use crate::swap::{Way, counts, fits, swap};
+use crate::swap::{LAST, Way, counts, fits, swap};
 use board_meter::BoardMeter;
-use pids_charge::{Meter, PlainMeter, Token};
+use pids_charge::{LEAVES, Meter, PlainMeter, Token};
 use std::alloc::Global;
 use std::test::Fail;
 use std::thread::Threads;
 
 // A step of both meters: the charges of the row before go and those of this one come, in this way,
-// and the numbers at slots 0, 1 and 255 are then these.
+// and the numbers at slots 0 and 1 and at the last are then these.
 #[derive(Clone, Copy)]
 struct Row<'t> {
     way: Way,
@@ -22,18 +21,22 @@ struct Row<'t> {
     counts: [u64; 3],
 }
 
-// Whether there is one at slots 0, 1 and 255.
+// Whether there is one at slots 0 and 1 and at the last.
 fn flags<M: Meter>(meter: &mut M) -> [bool; 3]
-    requires { 255 < M.SLOTS }
+    requires { LAST < M.SLOTS }
     ensures content { M.content meter.new ≡ M.content meter.old }
     ensures held { M.held meter.new ≡ M.held meter.old }
 {
-    [meter.populated(0), meter.populated(1), meter.populated(255)]
+    [
+        meter.populated(0),
+        meter.populated(1),
+        meter.populated(LAST),
+    ]
 }
 
 // Whether the meter answers these numbers, and that there is one where a number is positive.
 fn answers<M: Meter>(meter: &mut M, wanted: [u64; 3]) -> bool
-    requires { 255 < M.SLOTS }
+    requires { LAST < M.SLOTS }
     ensures content { M.content meter.new ≡ M.content meter.old }
     ensures held { M.held meter.new ≡ M.held meter.old }
 {
@@ -51,12 +54,12 @@ fn rows_answered<R: Threads>(
     rows: &[Row],
 ) -> usize
     requires plain { Holds [] (table_at plain.old) (table_held plain.old) }
-    requires board { Holds [] (content_of 7 4 board.old) (held board.old) }
+    requires board { Holds [] (board_content board.old) (held board.old) }
 {
     let mut before: &[Token] = &[];
     let mut answered = 0;
     for row in rows {
-        if !fits(row.tokens) || row.stripe >= 4 {
+        if !fits(row.tokens) || usize::from(row.stripe) >= LEAVES {
             return answered;
         }
         swap(rt, plain, row.way, row.stripe, before, row.tokens);
@@ -89,8 +92,8 @@ fn both_meters_answer_alike(rt: HostRuntime) -> Result<(), Fail> {
         },
         Row {
             way: Way::Calls,
-            stripe: 3,
-            tokens: &[at(0, 0), at(0, 3), at(255, 3)],
+            stripe: 7,
+            tokens: &[at(0, 0), at(0, 3), at(LAST, 7)],
             counts: [2, 0, 1],
         },
         Row {
@@ -108,7 +111,7 @@ fn both_meters_answer_alike(rt: HostRuntime) -> Result<(), Fail> {
         Row {
             way: Way::Calls,
             stripe: 1,
-            tokens: &[at(255, 0), at(1, 0), at(255, 0), at(254, 0)],
+            tokens: &[at(LAST, 0), at(1, 0), at(LAST, 0), at(LAST - 1, 0)],
             counts: [0, 1, 2],
         },
         Row {
@@ -121,7 +124,7 @@ fn both_meters_answer_alike(rt: HostRuntime) -> Result<(), Fail> {
                 at(0, 2),
                 at(1, 3),
                 at(1, 3),
-                at(255, 0),
+                at(LAST, 0),
             ],
             counts: [4, 2, 1],
         },

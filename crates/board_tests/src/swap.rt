@@ -3,15 +3,19 @@ ghost use Rattle.std.specs.Prelude.{◌≡◌, ℕ, ◌+◌, ◌<◌, ◌≤◌,
 ghost use Rattle.pids_charge.specs.Content.{tokens_at, IsWithin};
 ghost use Rattle.board_tests.specs.Tokens.{Holds};
 
-use pids_charge::{HELD_MAX, Meter, OpenGate, Token};
+use pids_charge::{HELD_MAX, LEAVES, Meter, OpenGate, SLOTS, Token};
 use std::thread::Threads;
 
-/// Whether the tokens are at slots below 256 and leaves below 4, and a thousand at most.
+/// The last slot of both meters.
+pub(crate) const LAST: u16 = SLOTS as u16 - 1;
+
+/// Whether the tokens are at slots and leaves of both meters, and a thousand at most.
 pub(crate) fn fits(tokens: &[Token]) -> bool
-    ensures within { IsTrue result → IsWithin 256 4 tokens.now }
+    ensures within { IsTrue result → IsWithin SLOTS LEAVES tokens.now }
     ensures few { IsTrue result → length tokens.now ≤ 1000 }
 {
-    tokens.len() <= 1000 && tokens.iter().all(|t| t.slot < 256 && t.leaf < 4)
+    tokens.len() <= 1000
+        && tokens.iter().all(|t| usize::from(t.slot) < SLOTS && usize::from(t.leaf) < LEAVES)
 }
 
 // Each charge goes by a call of its own.
@@ -70,11 +74,11 @@ pub(crate) fn swap<R: Threads, M: Meter>(
     }
 }
 
-/// The numbers at slots 0, 1 and 255.
+/// The numbers at slots 0 and 1 and at the last.
 pub(crate) fn counts<M: Meter>(meter: &mut M) -> [u64; 3]
-    requires { 255 < M.SLOTS }
+    requires { LAST < M.SLOTS }
     ensures content { M.content meter.new ≡ M.content meter.old }
     ensures held { M.held meter.new ≡ M.held meter.old }
 {
-    [meter.current(0), meter.current(1), meter.current(255)]
+    [meter.current(0), meter.current(1), meter.current(LAST)]
 }

@@ -7,7 +7,7 @@ ghost use Rattle.pids_charge.specs.Events.{HasRoomForEvents};
 
 use group_path::GroupPath;
 use group_tree::{Attr, Limit, LimitFile};
-use pids_charge::{ChargeFault, Charges, Lost, Meter, OpenGate, Pid, PlainMeter};
+use pids_charge::{ChargeFault, Charges, Lost, Meter, OpenGate, Pid, PlainMeter, SLOTS};
 use std::alloc::Global;
 use std::sync::Wait;
 use std::test::Fail;
@@ -102,7 +102,7 @@ fn remove(charges: &mut Plain, removed: &mut Option<Attr>, path: &GroupPath<Glob
 
 /// Whether there is a free slot.
 fn has_room(alloc: Global, charges: &Plain) -> Result<bool, Fail>
-    ensures { IfOk result (λ is. IsTrue is → fin.len charges.now.groups ≤ 256) }
+    ensures { IfOk result (λ is. IsTrue is → fin.len charges.now.groups ≤ SLOTS) }
 {
     let root = GroupPath::root(alloc)?;
     match charges.descendants(&root) {

@@ -2,7 +2,7 @@
 
 use group_path::GroupPath;
 use interface_files::File;
-use pids_charge::{Meter, OpenGate, PlainMeter};
+use pids_charge::{Meter, OpenGate, PlainMeter, SLOTS};
 use replay_main::{Line, parse_line};
 use std::alloc::{AllocError, Allocator, Global};
 use std::sync::Wait;
@@ -246,9 +246,6 @@ fn newest_record(rt: HostRuntime) -> Result<(), Fail> {
     assert!(rt; engine.newest().is_none());
     Ok(())
 }
-
-/// How many groups a plain meter has room for, beside the root.
-const SLOTS: usize = 256;
 
 #[test]
 fn slots(rt: HostRuntime) -> Result<(), Fail> {

@@ -198,7 +198,7 @@ const ROWS: [(&str, &str, bool); 38] = [
 
 #[test]
 fn each_growth_of_a_command_refused(rt: HostRuntime) -> Result<(), Fail> {
-    let heap = LocalHeap::new(rt.alloc(), 8192)?;
+    let heap = LocalHeap::new(rt.alloc(), 10_240)?;
     let mut engine = Engine::new(&heap, PlainMeter::new(rt.alloc())?)?;
     for (line, wanted, grows) in ROWS {
         let (answer, is_refused) = first_answer(&rt, rt.alloc(), &heap, &mut engine, line)?;
@@ -224,7 +224,7 @@ fn undone_in<R: Threads + Wait + Sync>(
     alloc: Global,
     room: usize,
 ) -> Result<Option<usize>, Fail> {
-    let heap = LocalHeap::new(alloc, 8192)?;
+    let heap = LocalHeap::new(alloc, 10_240)?;
     let mut engine = Engine::new(&heap, PlainMeter::new(alloc)?)?;
     for line in ENDED {
         answer(rt, alloc, &mut engine, line)?;
@@ -302,12 +302,12 @@ fn is_made_in(alloc: Global, size: usize) -> Result<bool, AllocError> {
 #[test]
 fn engine_in_a_small_heap(rt: HostRuntime) -> Result<(), Fail> {
     let mut sizes_refused = 0;
-    for step in 2..100usize {
+    for step in 2..250usize {
         if is_made_in(rt.alloc(), step * 16)? {
             break;
         }
         sizes_refused = step;
     }
-    assert!(rt; 1 < sizes_refused && sizes_refused < 99);
+    assert!(rt; 1 < sizes_refused && sizes_refused < 249);
     Ok(())
 }

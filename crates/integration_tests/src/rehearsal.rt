@@ -146,7 +146,7 @@ fn sample<R: Threads + Wait + Sync>(
 #[test]
 fn ten_commands(rt: HostRuntime) -> Result<(), Fail> {
     let mut engine = sample(&rt, rt.alloc(), &BEFORE)?;
-    let heap = LocalHeap::new(rt.alloc(), 1 << 18)?;
+    let heap = LocalHeap::new(rt.alloc(), 1 << 20)?;
     let arena = Bump::new(&heap);
     let cmds = commands(rt.alloc(), &TEN)?;
     let replies = engine.rehearse(&rt, rt.alloc(), &arena, cmds.as_slice())?;

@@ -279,27 +279,30 @@ fn without_last_line_feed(rt: HostRuntime) -> Result<(), Fail> {
     Ok(())
 }
 
-/// The lines `mkdir /g0` to `mkdir /g256`, an undo, and `mkdir /g256` again.
+/// How many groups there may be beside the root.
+const GROUPS: usize = 1_024;
+
+/// The lines `mkdir /g0` to `mkdir /g1024`, an undo, and `mkdir /g1024` again.
 fn many_groups(alloc: Global) -> Result<String, AllocError> {
     let mut trace = String::new(alloc);
-    for n in 0..257 {
+    for n in 0..=GROUPS {
         trace.push_str(format!(in alloc; "mkdir /g{n}\n")?.as_str())?;
     }
-    trace.push_str("undo\nmkdir /g256\n")?;
+    trace.push_str("undo\nmkdir /g1024\n")?;
     Ok(trace)
 }
 
 #[test]
-fn the_257th_group(rt: HostRuntime) -> Result<(), Fail> {
+fn one_group_too_many(rt: HostRuntime) -> Result<(), Fail> {
     let trace = many_groups(rt.alloc())?;
     let mut answers = String::new(rt.alloc());
-    for n in 1..257 {
+    for n in 1..=GROUPS {
         answers.push_str(format!(in rt.alloc(); "{n} ok\n")?.as_str())?;
     }
-    answers.push_str("257 refused noslot\n258 ok\n| mkdir /g255\n259 ok\n")?;
+    answers.push_str("1025 refused noslot\n1026 ok\n| mkdir /g1023\n1027 ok\n")?;
     let (summary, writer) = replayed(&rt, rt.alloc(), trace.as_str().as_bytes())?;
     assert_eq!(rt; writer.bytes(), answers.as_str().as_bytes());
-    assert_eq!(rt; (summary.commands, summary.refused), (259, 1));
+    assert_eq!(rt; (summary.commands, summary.refused), (1027, 1));
     Ok(())
 }
 

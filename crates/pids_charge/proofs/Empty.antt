@@ -5,6 +5,7 @@ use Rattle.std.specs.Prelude.{slice_index}
 use Rattle.std.specs.List.{slice_index_or}
 use Rattle.pids_charge.specs.Content.{IsEmpty}
 use Rattle.pids_charge.specs.Table.{table_at, table_held}
+use Rattle.pids_charge.specs.declared.plain.TheConstants.{SLOTS, LEAVES}
 
 zero_at : (n j : ℕ) → slice_index (replicate n 0) j ≡ 0
 zero_at zero j = get_or_past {X = ℕ} [] j 0 (omega arith)
@@ -16,8 +17,8 @@ row_at s zero r j e = ap (λ x. slice_index x j) (get_or_past {X = List ℕ} [] 
 row_at zero (suc n) r j e = e
 row_at (suc s) (suc n) r j e = row_at s n r j e
 
-pub empty_table : (rows : List (List ℕ)) → rows ≡ replicate 256 (replicate 4 0) → IsEmpty (table_at rows) (table_held rows)
+pub empty_table : (rows : List (List ℕ)) → rows ≡ replicate SLOTS (replicate LEAVES 0) → IsEmpty (table_at rows) (table_held rows)
 empty_table rows is = record {
-  nothing = λ s j. ap (λ r. table_at r s j) is ∙ row_at s 256 (replicate 4 0) j (zero_at 4 j);
+  nothing = λ s j. ap (λ r. table_at r s j) is ∙ row_at s SLOTS (replicate LEAVES 0) j (zero_at LEAVES j);
   none = ap table_held is;
 }

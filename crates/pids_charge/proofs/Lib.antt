@@ -1,5 +1,6 @@
 mod Below
 mod Tokens
+pub mod InParts
 mod Entries
 mod Listing
 mod Listed

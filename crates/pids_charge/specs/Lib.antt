@@ -1,4 +1,5 @@
 pub mod Content
+pub mod Parts
 pub mod Table
 pub mod Lists
 pub mod Recount

@@ -18,12 +18,15 @@
 //! - A walk along a path goes down the tree once, so that a fork, an exit and a move cost
 //!   O(log processes + depth · log children) comparisons; a path has at most 32 names.
 //! - Any meter serves that meets the law of `Meter`. `PlainMeter` keeps plain numbers, for one thread.
+//! - A kill, and what takes it back, give a meter all their charges at once, to be settled in 2 to 8 parts (`part_count`,
+//!   `last_run`); how many there are makes no difference to what is left.
 //! - `copy_plain` gives the same groups and processes in other memory, over a `PlainMeter`.
 //!
 //! Not promised: which slot a group gets, and in which stripe of a meter an amount stands.
 //!
 //! `specs/Recount.antt` says what ties meter, tree and table, `specs/Answers.antt` what a call that is a command answers
-//! and leaves, `specs/Events.antt` what a limit refuses and what is counted.
+//! and leaves, `specs/Events.antt` what a limit refuses and what is counted, `specs/Parts.antt` what a settlement leaves in so
+//! many parts.
 #![tactic(auto)]
 
 mod charges;
@@ -38,6 +41,7 @@ mod lost;
 mod meter;
 mod migrate;
 mod mkdir;
+mod parts;
 mod pid;
 mod place;
 mod plain;
@@ -51,6 +55,7 @@ pub use fault::ChargeFault;
 pub use gate::{Gate, OpenGate};
 pub use lost::{Lost, LostList};
 pub use meter::{HELD_MAX, Meter};
+pub use parts::{last_run, part_count};
 pub use pid::{PID_MAX, Pid};
-pub use plain::PlainMeter;
+pub use plain::{LEAVES, PlainMeter, SLOTS};
 pub use snzi_core::Token;

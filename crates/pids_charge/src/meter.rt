@@ -2,6 +2,7 @@
 
 ghost use Rattle.std.specs.Prelude.{◌≡◌, ℕ, ◌+◌, ◌-◌, ◌^◌, ◌<◌, ◌≤◌, ◌↔◌, IsTrue, length, List};
 ghost use Rattle.pids_charge.specs.Content.{Content, one_at, tokens_at, over_leaves, IsWithin};
+ghost use Rattle.pids_charge.specs.Parts.{in_parts};
 
 use crate::gate::Gate;
 use snzi_core::Token;
@@ -60,8 +61,9 @@ pub trait Meter {
         ensures content { content self.new ≡ content self.old }
         ensures held { held self.new ≡ held self.old };
 
-    /// The leaving charges go and the arriving ones come, in parts, each of which passes the gate at its start. It refuses
-    /// nothing, and may wait for the threads that do a part.
+    /// The leaving charges go and the arriving ones come, in the parts of `part_count`: each does one run of each list
+    /// (`last_run`), leaving ones first, and passes the gate at its start, also where its runs are empty. What is left is what
+    /// any number of parts would leave. It refuses nothing, and may wait for the threads that do a part.
     fn settle<R: Threads>(
         &mut self,
         rt: &R,
@@ -76,6 +78,7 @@ pub trait Meter {
         requires charged { (s j : ℕ) → tokens_at leaving.now s j ≤ content self.old s j }
         requires room { held self.old + length arriving.now ≤ HELD_MAX }
         ensures content { (s j : ℕ) → content self.new s j + tokens_at leaving.now s j ≡ content self.old s j + tokens_at arriving.now s j }
+        ensures parts { (helpers s j : ℕ) → content self.new s j ≡ in_parts helpers leaving.now arriving.now (content self.old) s j }
         ensures held { held self.new + length leaving.now ≡ held self.old + length arriving.now };
 
     ghost slots_positive: { 1 ≤ SLOTS };

@@ -1,22 +1,29 @@
 //! A meter of plain numbers, for one thread.
 
 ghost use Rattle.std.specs.Prelude.{◌≡◌, ℕ, ◌+◌, ◌-◌, ◌%◌, ◌^◌, ◌<◌, ◌≤◌, ◌↔◌, IsTrue, IfOk, List, length, sum, slice_index, slice_set, replicate};
-ghost use Rattle.pids_charge.specs.Content.{IsEmpty};
+ghost use Rattle.pids_charge.specs.Content.{IsEmpty, IsWithin, tokens_at};
 ghost use Rattle.pids_charge.specs.Table.{table_at, table_held};
 
 use crate::gate::Gate;
-use crate::meter::Meter;
+use crate::meter::{HELD_MAX, Meter};
+use crate::parts::{last_run, part_count};
 use snzi_core::Token;
 use std::alloc::{AllocError, Allocator};
 use std::marker::Model;
 use std::thread::Threads;
 use striped_adder::Stripes;
 
+/// How many slots there are.
+pub const SLOTS: usize = 1024;
+
+/// How many leaves a slot has, and as many stripes.
+pub const LEAVES: usize = 8;
+
 // The numbers at the leaves of one slot, and the stripes that add up to them.
 #[derive(Drop)]
 struct Row {
-    leaves: [u64; 4],
-    stripes: Stripes<4>,
+    leaves: [u64; LEAVES],
+    stripes: Stripes<LEAVES>,
 }
 
 impl Model for Row {
@@ -31,16 +38,16 @@ impl Model for Row {
 
 impl Row {
     fn new() -> Row
-        ensures { result ≡ replicate 4 0 }
+        ensures { result ≡ replicate LEAVES 0 }
     {
         Row {
-            leaves: [0; 4],
+            leaves: [0; LEAVES],
             stripes: Stripes::new(),
         }
     }
 
     fn charge(&mut self, leaf: u8)
-        requires leaf { leaf < 4 }
+        requires leaf { leaf < LEAVES }
         requires room { sum self.old < 2 ^ 41 }
         ensures { self.new ≡ slice_set self.old leaf (slice_index self.old leaf + 1) }
     {
@@ -49,8 +56,8 @@ impl Row {
     }
 
     fn uncharge(&mut self, leaf: u8, stripe: u8)
-        requires leaf { leaf < 4 }
-        requires stripe { stripe < 4 }
+        requires leaf { leaf < LEAVES }
+        requires stripe { stripe < LEAVES }
         requires charged { 0 < slice_index self.old leaf }
         ensures { self.new ≡ slice_set self.old leaf (slice_index self.old leaf - 1) }
     {
@@ -72,7 +79,7 @@ impl Row {
     }
 }
 
-/// A meter of plain numbers: for each of 256 slots, a number for each of 4 leaves, and 4 stripes that add up to them.
+/// A meter of plain numbers: for each of 1,024 slots, a number for each of 8 leaves, and 8 stripes that add up to them.
 #[derive(Drop)]
 pub struct PlainMeter<A: Allocator> {
     rows: Vec<Row, A>,
@@ -97,28 +104,82 @@ impl<A: Allocator> PlainMeter<A> {
     ///
     /// `AllocError` where memory was wanting.
     pub fn new(alloc: A) -> Result<PlainMeter<A>, AllocError>
-        ensures zeros { IfOk result (λ m. m ≡ replicate 256 (replicate 4 0)) }
+        ensures zeros { IfOk result (λ m. m ≡ replicate SLOTS (replicate LEAVES 0)) }
         ensures empty { IfOk result (λ m. IsEmpty (table_at m) (table_held m)) }
     {
-        let mut rows = Vec::with_capacity(alloc, 256)?;
-        for _slot in 0..256u16 {
+        let mut rows = Vec::with_capacity(alloc, SLOTS)?;
+        for _slot in 0..SLOTS {
             rows.push(Row::new())?;
         }
         Ok(PlainMeter { rows })
     }
 }
 
-impl<A: Allocator> Meter for PlainMeter<A> {
-    const SLOTS: u16 = 256;
+impl<A: Allocator> PlainMeter<A> {
+    // Passes the gate; then the leaving charges go before the arriving ones come.
+    fn do_part(
+        &mut self,
+        gate: &(dyn Gate + Sync),
+        part: u8,
+        stripe: u8,
+        leaving: &[Token],
+        arriving: &[Token],
+    )
+        requires part { (1 ≤ part) × (part ≤ 24) }
+        requires place { IsWithin SLOTS LEAVES leaving.now × IsWithin SLOTS LEAVES arriving.now × (stripe < LEAVES) }
+        requires charged { (s j : ℕ) → tokens_at leaving.now s j ≤ table_at self.old s j }
+        requires room { table_held self.old + length arriving.now ≤ HELD_MAX }
+        ensures content { (s j : ℕ) → table_at self.new s j + tokens_at leaving.now s j ≡ table_at self.old s j + tokens_at arriving.now s j }
+        ensures held { table_held self.new + length leaving.now ≡ table_held self.old + length arriving.now }
+    {
+        gate.pass(part);
+        for token in leaving {
+            self.uncharge(token.slot, token.leaf, stripe);
+        }
+        for token in arriving {
+            self.charge(token.slot, token.leaf);
+        }
+    }
 
-    const LEAVES: u8 = 4;
+    // The parts from 1 to `parts`, one after another, and part 1 where that is 0.
+    fn settle_parts(
+        &mut self,
+        gate: &(dyn Gate + Sync),
+        parts: u8,
+        stripe: u8,
+        leaving: &[Token],
+        arriving: &[Token],
+    )
+        requires few { parts ≤ 24 }
+        requires place { IsWithin SLOTS LEAVES leaving.now × IsWithin SLOTS LEAVES arriving.now × (stripe < LEAVES) }
+        requires charged { (s j : ℕ) → tokens_at leaving.now s j ≤ table_at self.old s j }
+        requires room { table_held self.old + length arriving.now ≤ HELD_MAX }
+        ensures content { (s j : ℕ) → table_at self.new s j + tokens_at leaving.now s j ≡ table_at self.old s j + tokens_at arriving.now s j }
+        ensures held { table_held self.new + length leaving.now ≡ table_held self.old + length arriving.now }
+    {
+        if parts <= 1 {
+            self.do_part(gate, 1, stripe, leaving, arriving);
+            return;
+        }
+        let (rest_leaving, last_leaving) = last_run(leaving, parts);
+        let (rest_arriving, last_arriving) = last_run(arriving, parts);
+        self.settle_parts(gate, parts - 1, stripe, rest_leaving, rest_arriving);
+        self.do_part(gate, parts, stripe, last_leaving, last_arriving);
+    }
+}
+
+impl<A: Allocator> Meter for PlainMeter<A> {
+    const SLOTS: u16 = SLOTS as u16;
+
+    const LEAVES: u8 = LEAVES as u8;
 
     ghost use Rattle.pids_charge.specs.Table.{table_at, table_held};
+    ghost use Rattle.pids_charge.specs.declared.plain.TheConstants.{SLOTS, LEAVES};
     ghost use Rattle.std.proofs.Common.{rules};
 
-    ghost SLOTS = { 256 };
+    ghost SLOTS = { SLOTS };
 
-    ghost LEAVES = { 4 };
+    ghost LEAVES = { LEAVES };
 
     ghost content = { table_at };
 
@@ -150,14 +211,8 @@ impl<A: Allocator> Meter for PlainMeter<A> {
         leaving: &[Token],
         arriving: &[Token],
     ) {
-        gate.pass(1);
-        for token in leaving {
-            self.uncharge(token.slot, token.leaf, stripe);
-        }
-        gate.pass(2);
-        for token in arriving {
-            self.charge(token.slot, token.leaf);
-        }
+        let parts = part_count(leaving, arriving);
+        self.settle_parts(gate, parts, stripe, leaving, arriving);
     }
 
     ghost slots_positive = { Prim.search rules };

@@ -6,7 +6,7 @@
 //!
 //! - What a line says, and the bytes of its answer, are those of `trace_lines`. Its public names
 //!   are given on from here.
-//! - The answers are `answers` of `flat_model`: those of its machine from its start, with 256 groups
+//! - The answers are `answers` of `flat_model`: those of its machine from its start, with 1,024 groups
 //!   at most beside the root, whatever the number of workers is. So are the two numbers of the
 //!   `Summary`.
 //! - Up to eight workers do the work in three phases: lines become commands, the commands are run at

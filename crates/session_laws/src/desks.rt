@@ -34,6 +34,7 @@ ghost use Rattle.undo_journal.specs.Answer.{Answers};
 ghost use Rattle.undo_journal.specs.declared.reply.Reply.{Reply};
 ghost use Rattle.undo_journal.specs.declared.reply.Reply.TheVariants as reply;
 ghost use Rattle.undo_journal.specs.Meaning.{reply_of};
+ghost use Rattle.pids_charge.specs.declared.plain.TheConstants.{SLOTS};
 ghost use Rattle.sessions.specs.declared.book.Book.{Book};
 ghost use Rattle.sessions.specs.declared.hall.Hall.{Hall};
 ghost use Rattle.sessions.specs.declared.fault.CloseFault.{CloseFault};
@@ -144,9 +145,9 @@ pub fn first_faults_of_three()
         ∷ session 1 (receipt 1 b ∷ []) ∷ []) (fault.Stranger 0) }
 {}
 
-/// There are 256 slots under a desk.
+/// A desk has as many slots as a plain meter, so a rehearsal is answered as a desk would answer.
 pub fn slots_of_a_desk()
-    ensures { slots ≡ 256 }
+    ensures { slots ≡ SLOTS }
 {}
 
 /// The answer in an entry or a receipt is the reply that was given.
@@ -160,7 +161,7 @@ pub fn answers_that_are_kept()
 /// same.
 pub fn answers_for_log_and_receipt()
     ensures both { (old new : Machine) (c : model.Command) (r q : Reply Global)
-        → AnswersTwice old c r q new ↔ (Answers 256 old c r new × Answers 256 old c q new) }
+        → AnswersTwice old c r q new ↔ (Answers slots old c r new × Answers slots old c q new) }
     ensures same { (old new : Machine) (c : model.Command) (r q : Reply Global)
         → AnswersTwice old c r q new → reply_of r ≡ reply_of q }
 {}

@@ -47,6 +47,7 @@ ghost use Rattle.replay_main.specs.declared.fault.ReplayFault.{ReplayFault};
 ghost use Rattle.replay_main.specs.declared.fault.ReplayFault.TheVariants as fault;
 ghost use Rattle.replay_main.specs.declared.program.ProgramFault.TheVariants as program;
 ghost use Rattle.replay_main.specs.declared.trace.Summary.{Summary};
+ghost use Rattle.sessions.specs.Meaning.{slots};
 ghost use Rattle.replay_main.specs.Asks.{
   Asks,
   Collects,
@@ -68,18 +69,18 @@ ghost use Rattle.replay_main.specs.Replayed.{EndsWork, IsAnswered, Replayed};
 pub fn answers_that_are_told()
     ensures exactly { (left before : List ℕ) (after : Option (List ℕ)) (read_failed write_failed flushed : Bool) (summary : Summary)
         → Replayed (Some left) read_failed (Some before) after write_failed flushed (Ok summary)
-        ↔ ((length left ≤ 16777216) × (after ≡ Some (before ++ answers 256 left))
+        ↔ ((length left ≤ 16777216) × (after ≡ Some (before ++ answers slots left))
         × (summary.commands ≡ command_count (read_trace left))
-        × (summary.refused ≡ refused_count 256 (read_trace left))
+        × (summary.refused ≡ refused_count slots (read_trace left))
         × (read_failed ≡ false) × (write_failed ≡ false) × (flushed ≡ true)) }
     ensures once { (left before : List ℕ) (after again : Option (List ℕ)) (read_failed write_failed flushed : Bool) (summary other : Summary)
         → Replayed (Some left) read_failed (Some before) after write_failed flushed (Ok summary)
         → Replayed (Some left) read_failed (Some before) again write_failed flushed (Ok other)
         → (after ≡ again) × (summary ≡ other) }
     ensures bytes { (trace bytes : List ℕ) (summary : Summary)
-        → IsAnswered trace bytes summary ↔ ((bytes ≡ answers 256 trace)
+        → IsAnswered trace bytes summary ↔ ((bytes ≡ answers slots trace)
         × (summary.commands ≡ command_count (read_trace trace))
-        × (summary.refused ≡ refused_count 256 (read_trace trace))) }
+        × (summary.refused ≡ refused_count slots (read_trace trace))) }
 {}
 
 /// A replay of three lines into a sink that has one byte.
@@ -96,7 +97,7 @@ pub fn replays_that_ended()
     ensures write { (left before : List ℕ) (after : Option (List ℕ)) (read_failed write_failed flushed : Bool)
         → Replayed (Some left) read_failed (Some before) after write_failed flushed (Err fault.Write)
         ↔ ((length left ≤ 16777216)
-        × ((front rest : List ℕ) × (front ++ rest ≡ answers 256 left)
+        × ((front rest : List ℕ) × (front ++ rest ≡ answers slots left)
         × (after ≡ Some (before ++ front)))
         × (read_failed ≡ false) × (write_failed ≡ true)) }
     ensures read { (left before after : Option (List ℕ)) (read_failed write_failed flushed : Bool)

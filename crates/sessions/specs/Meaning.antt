@@ -1,12 +1,13 @@
 -- What entries, receipts and logs of this crate mean in the model.
 use Rattle.std.specs.Prelude.{ℕ, Option, Some, None}
 use Rattle.flat_model.specs.Command as model
+use Rattle.pids_charge.specs.declared.plain.TheConstants.{SLOTS}
 use Rattle.undo_journal.specs.declared.reply.Reply.{Reply}
 use Rattle.undo_journal.specs.Meaning.{reply_of}
 
 -- as many groups beside the root as the meter under a desk has slots
 abbrev pub slots : ℕ
-slots = 256
+slots = SLOTS
 
 abbrev pub known : Option model.Reply → model.Reply
 known (Some r) = r

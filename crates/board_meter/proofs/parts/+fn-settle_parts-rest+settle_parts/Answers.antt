@@ -7,8 +7,8 @@ use Rattle.board_meter.proofs.parts.+fn-settle_parts-rest+settle_parts.Goals as 
 
 pub join_mut-requires-after_bounds : goal.join_mut-requires-after_bounds
 join_mut-requires-after_bounds g t c κs within =
-    let go = c.cut.ensures in
-    let come = c.cut-2.ensures in
+    let go = c.last_run.ensures in
+    let come = c.last_run-2.ensures in
     let can = c.requires.can in
     let leaving = go.place g.row.G g.row.L can.leaving_within in
     let arriving = come.place g.row.G g.row.L can.arriving_within in
@@ -82,7 +82,7 @@ pub returns-clause-settled : goal.returns-clause-settled
 returns-clause-settled g t c =
     let w = g.row.W in
     let l = g.row.L in
-    let go = c.cut.ensures in
-    let come = c.cut-2.ensures in
+    let go = c.last_run.ensures in
+    let come = c.last_run-2.ensures in
     let e = c.hand_out-helper.ensures in
     settled_both w l c.args.leaving.now _ _ c.args.arriving.now _ _ (holds c.args.main.now) _ _ _ _ (holds c.take_back.new.main) go.tokens go.len come.tokens come.len e.cut c.take_back.ensures.together (Prim.search rules) (Prim.search rules)

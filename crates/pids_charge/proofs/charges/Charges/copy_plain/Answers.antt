@@ -7,6 +7,7 @@ use Rattle.pids_charge.specs.Content.{Content}
 use Rattle.pids_charge.specs.Lists.{Row}
 use Rattle.pids_charge.specs.Recount.{IsPlaced, SlotsBelow, HasSlots, Recounted, state_of}
 use Rattle.pids_charge.specs.Table.{table_at, table_held}
+use Rattle.pids_charge.specs.declared.plain.TheConstants.{SLOTS, LEAVES}
 use Rattle.pids_charge.proofs.Charged.{held_small}
 use Rattle.pids_charge.proofs.Copied.{same_state, recounted}
 use Rattle.pids_charge.proofs.charges.Charges.copy_plain.Goals as goal
@@ -18,7 +19,7 @@ copy_each-requires-clause-homes g c =
 
 pub copy_each-requires-clause-slots : goal.copy_each-requires-clause-slots
 copy_each-requires-clause-slots g c =
-    subst (SlotsBelow 256) (sym c.in_ok-tree.ensures) (subst (λ (n : ℕ). SlotsBelow n c.self.inside.tree) c.requires c.self.invariant.has_slots.below)
+    subst (SlotsBelow SLOTS) (sym c.in_ok-tree.ensures) (subst (λ (n : ℕ). SlotsBelow n c.self.inside.tree) c.requires c.self.invariant.has_slots.below)
 
 pub copy_each-requires-clause-room : goal.copy_each-requires-clause-room
 copy_each-requires-clause-room g c =
@@ -33,12 +34,12 @@ invariant_of-result g c =
     let content2 : Content = table_at c.copy_each.new.meter in
     let held2 : ℕ = table_held c.copy_each.new.meter in
     record {
-      has_slots = subst (λ (t : Groups). HasSlots 256 t c.in_ok-free.free.items) (sym c.in_ok-tree.ensures)
-          (subst (λ (free : List ℕ). HasSlots 256 c.self.inside.tree free) (sym c.in_ok-free.ensures.items)
+      has_slots = subst (λ (t : Groups). HasSlots SLOTS t c.in_ok-free.free.items) (sym c.in_ok-tree.ensures)
+          (subst (λ (free : List ℕ). HasSlots SLOTS c.self.inside.tree free) (sym c.in_ok-free.ensures.items)
           (subst (λ (n : ℕ). HasSlots n c.self.inside.tree c.self.inside.free.items) c.requires c.self.invariant.has_slots));
       room = omega (arith, c.requires, c.SLOTS.ensures, c.in_ok-free.ensures.room);
-      recounted = subst (λ (rows : List (Row g.row.B.Denot)). Recounted 4 tree rows content2 held2) (sym c.in_ok-processes.ensures.rows)
-          (recounted g.row.B.Denot 4 g.M.Meter.LEAVES tree es content2 content held2 held
+      recounted = subst (λ (rows : List (Row g.row.B.Denot)). Recounted LEAVES tree rows content2 held2) (sym c.in_ok-processes.ensures.rows)
+          (recounted g.row.B.Denot LEAVES g.M.Meter.LEAVES tree es content2 content held2 held
           (subst (λ (t : Groups). Recounted g.M.Meter.LEAVES t es content held) (sym c.in_ok-tree.ensures) c.self.invariant.recounted) (omega arith)
           (λ s j. omega (arith, c.in_ok-processes.ensures.content s j, c.in_ok-meter.ensures.empty.nothing s j))
           (omega (arith, c.in_ok-processes.ensures.held, c.in_ok-meter.ensures.empty.none)));
@@ -47,5 +48,5 @@ invariant_of-result g c =
 pub returns : goal.returns
 returns g c =
     ap (state_of c.in_ok-tree.tree) c.in_ok-processes.ensures.rows
-    ∙ same_state g.row.B.Denot 4 c.in_ok-tree.tree c.self.inside.processes.entries
+    ∙ same_state g.row.B.Denot LEAVES c.in_ok-tree.tree c.self.inside.processes.entries
     ∙ ap (λ (t : Groups). state_of t c.self.inside.processes.entries) c.in_ok-tree.ensures ∙ c.self.view_is

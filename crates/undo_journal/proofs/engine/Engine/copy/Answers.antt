@@ -1,6 +1,7 @@
 use Rattle.std.proofs.Common.{◌≡◌, ℕ, map, ◌∙◌, subst}
 use Rattle.undo_journal.specs.History.{journal_entry, records, IsHistory}
 use Rattle.undo_journal.proofs.Copies.{same_machine, same_history}
+use Rattle.pids_charge.specs.declared.plain.TheConstants.{SLOTS}
 use Rattle.undo_journal.proofs.engine.Engine.copy.Goals as goal
 
 entries : (g : _) (c : goal.In_ok-journal g) → map journal_entry c.in_ok-journal.journal.items ≡ map journal_entry c.self.inside.journal.items
@@ -8,7 +9,7 @@ entries g c = rw c.as_slice.ensures.value at c.in_ok-journal.ensures
 
 pub invariant_of-result : goal.invariant_of-result
 invariant_of-result g c =
-    same_history c.self.inside.charges c.in_ok-charges.charges c.self.inside.journal.items c.in_ok-journal.journal.items c.in_ok-charges.ensures (entries g c) 256
+    same_history c.self.inside.charges c.in_ok-charges.charges c.self.inside.journal.items c.in_ok-journal.journal.items c.in_ok-charges.ensures (entries g c) SLOTS
     (subst (λ (n : ℕ). IsHistory n c.self.inside.charges (records c.self.inside.journal.items)) c.requires c.self.invariant)
 
 pub returns : goal.returns

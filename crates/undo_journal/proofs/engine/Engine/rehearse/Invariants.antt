@@ -1,10 +1,11 @@
 use Rattle.std.proofs.Common.{◌≡◌, ◌++◌, Some, map, drop}
 use Rattle.flat_model.specs.Machine.{replies}
 use Rattle.undo_journal.specs.Meaning.{command_of, reply_of}
+use Rattle.pids_charge.specs.declared.plain.TheConstants.{SLOTS}
 use Rattle.undo_journal.proofs.engine.Engine.rehearse.Given as goal
 
 -- what was said, and what the copy will say to the commands that are left, make up the whole
 abbrev pub invariant-loop-cmd : goal.invariant-loop-cmd
 invariant-loop-cmd g l =
-    map reply_of l.said.items ++ map Some (replies 256 l.copy (map command_of (drop l.cmd-index l.cmds)))
-    ≡ map Some (replies 256 l.self (map command_of l.cmds))
+    map reply_of l.said.items ++ map Some (replies SLOTS l.copy (map command_of (drop l.cmd-index l.cmds)))
+    ≡ map Some (replies SLOTS l.self (map command_of l.cmds))

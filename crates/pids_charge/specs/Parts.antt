@@ -1,0 +1,26 @@
+-- A settlement in parts: each list of tokens is cut in as many runs, and a part does one run of each.
+use Rattle.std.specs.Prelude.{ℕ, zero, suc, ◌+◌, ◌-◌, ◌/◌, min, max, List, length, take, drop}
+use Rattle.snzi_core.specs.declared.event.Token.{Token}
+use Rattle.pids_charge.specs.Content.{Content, tokens_at}
+
+-- in how many parts so many tokens are settled
+abbrev pub parts_for : ℕ → ℕ
+parts_for tokens = max 2 (min 8 tokens)
+
+-- of n runs that differ in length by at most one, the longer first: all but the last, and the last
+abbrev pub but_last_run : ℕ → List Token → List Token
+but_last_run n ts = take (length ts - length ts / n) ts
+
+abbrev pub the_last_run : ℕ → List Token → List Token
+the_last_run n ts = drop (length ts - length ts / n) ts
+
+-- the leaving tokens go and the arriving ones come
+abbrev pub in_one_part : List Token → List Token → Content → Content
+in_one_part leaving arriving at s j = at s j - tokens_at leaving s j + tokens_at arriving s j
+
+-- the same in one part more than there are helpers, each after those before it
+abbrev pub in_parts : ℕ → List Token → List Token → Content → Content
+in_parts zero leaving arriving at = in_one_part leaving arriving at
+in_parts (suc n) leaving arriving at =
+    in_one_part (the_last_run (n + 2) leaving) (the_last_run (n + 2) arriving)
+    (in_parts n (but_last_run (n + 2) leaving) (but_last_run (n + 2) arriving) at)
