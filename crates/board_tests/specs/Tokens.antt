@@ -1,7 +1,14 @@
 -- What a meter holds, as a list of tokens.
-use Rattle.std.specs.Prelude.{◌≡◌, ℕ, List, length}
+use Rattle.std.specs.Prelude.{◌≡◌, ℕ, ◌+◌, ◌-◌, List, length}
 use Rattle.snzi_core.specs.declared.event.Token.{Token}
+use Rattle.snzi_core.specs.declared.holding.Holding.{Holding}
+use Rattle.snzi_tree.specs.Contents.{content_of}
 use Rattle.pids_charge.specs.Content.{Content, tokens_at}
+use Rattle.pids_charge.specs.declared.plain.TheConstants.{LEAVES}
+
+-- the content of a meter over a board, whose trees have one node less than twice as many as leaves
+abbrev pub board_content : Holding → Content
+board_content h = content_of (LEAVES + LEAVES - 1) LEAVES h
 
 -- the charges are one for each of the tokens
 pub record Holds (tokens : List Token) (at : Content) (count : ℕ) : Type 0 where

@@ -1,10 +1,8 @@
 //! Both meters over charges drawn by a generator of numbers.
 ghost use Rattle.std.specs.Prelude.{[], ◌≡◌, ℕ, ◌<◌, ◌≤◌};
 ghost use Rattle.snzi_core.specs.Holding.{held};
-ghost use Rattle.snzi_tree.specs.Contents.{content_of};
 ghost use Rattle.pids_charge.specs.Table.{table_at, table_held};
-ghost use Rattle.board_meter.specs.declared.shape.TheConstants.{NODES, ROW};
-ghost use Rattle.board_tests.specs.Tokens.{Holds};
+ghost use Rattle.board_tests.specs.Tokens.{Holds, board_content};
 
 use crate::swap::{Way, fits, swap};
 use board_meter::BoardMeter;
@@ -59,7 +57,7 @@ fn rounds_alike<R: Threads>(
     board: &mut BoardMeter,
 ) -> Result<u32, AllocError>
     requires plain { Holds [] (table_at plain.old) (table_held plain.old) }
-    requires board { Holds [] (content_of NODES ROW board.old) (held board.old) }
+    requires board { Holds [] (board_content board.old) (held board.old) }
 {
     let mut before = Vec::new(alloc);
     let mut number = 1;

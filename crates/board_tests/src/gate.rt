@@ -42,14 +42,15 @@ impl Meeting {
         at < MOST && self.flags[at].load(Ordering::SeqCst)
     }
 
-    // Waits for the part at this place.
-    fn wait_for(&self, at: usize) {
+    // Waits for the part at this place, and says whether it came.
+    fn sees(&self, at: usize) -> bool {
         for _turn in 0..TURNS {
             if self.has_come(at) {
-                return;
+                return true;
             }
         }
         self.missed.store(true, Ordering::SeqCst);
+        false
     }
 
     /// Whether all parts came and no other, and none missed another.
@@ -72,7 +73,9 @@ impl Gate for Meeting {
         }
         self.flags[at].store(true, Ordering::SeqCst);
         for other in 0..self.parts {
-            self.wait_for(other);
+            if !self.sees(other) {
+                return;
+            }
         }
     }
 }

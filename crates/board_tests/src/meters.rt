@@ -1,10 +1,8 @@
 //! A plain meter and one over a board, side by side.
 ghost use Rattle.std.specs.Prelude.{[], ◌≡◌, ◌<◌};
 ghost use Rattle.snzi_core.specs.Holding.{held};
-ghost use Rattle.snzi_tree.specs.Contents.{content_of};
 ghost use Rattle.pids_charge.specs.Table.{table_at, table_held};
-ghost use Rattle.board_meter.specs.declared.shape.TheConstants.{NODES, ROW};
-ghost use Rattle.board_tests.specs.Tokens.{Holds};
+ghost use Rattle.board_tests.specs.Tokens.{Holds, board_content};
 
 use crate::swap::{LAST, Way, counts, fits, swap};
 use board_meter::BoardMeter;
@@ -56,7 +54,7 @@ fn rows_answered<R: Threads>(
     rows: &[Row],
 ) -> usize
     requires plain { Holds [] (table_at plain.old) (table_held plain.old) }
-    requires board { Holds [] (content_of NODES ROW board.old) (held board.old) }
+    requires board { Holds [] (board_content board.old) (held board.old) }
 {
     let mut before: &[Token] = &[];
     let mut answered = 0;

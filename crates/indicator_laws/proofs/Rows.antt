@@ -2,10 +2,10 @@
 use Rattle.std.proofs.Common.{◌≡◌, ℕ, zero, suc, ◌+◌, ◌-◌, ◌*◌, ◌/◌, ◌^◌, ◌<◌, ◌≤◌, refl, ap, ◌∙◌, subst, arith}
 use Rattle.std.proofs.Math.Nat.{pow-suc, mul-suc, suc-mul}
 use Rattle.std.proofs.lemmas.Nat.{pow_pos}
-use Rattle.snzi_tree.specs.Depths.{halved, depth, leaf_depth, triangle}
+use Rattle.snzi_tree.specs.Depths.{halved, depth, leaf_depth, triangle, arrive_steps, depart_steps}
 use Rattle.snzi_tree.proofs.Paths.{depth_up}
 
-one_more : (n : ℕ) → suc n ≡ n + 1
+pub one_more : (n : ℕ) → suc n ≡ n + 1
 one_more n = omega arith
 
 -- the row d of a tree has the nodes from 2^d - 1 to 2^(d + 1) - 2
@@ -45,3 +45,7 @@ arrive_bound d = doubled (triangle d) d (d * (d + 1)) (triangle_twice d)
 
 pub triangle_next : (d : ℕ) → triangle (d + 1) ≡ triangle d + (d + 1)
 triangle_next d = subst (λ (n : ℕ). triangle n ≡ triangle d + (d + 1)) (one_more d) refl
+
+-- what the depth of a leaf says of steps
+pub steps_at : (w leaf d : ℕ) → leaf_depth w leaf ≡ d → (leaf_depth w leaf ≡ d) × (arrive_steps (leaf_depth w leaf) ≡ arrive_steps d) × (depart_steps (leaf_depth w leaf) ≡ depart_steps d)
+steps_at w leaf d e = (e, ap (λ (n : ℕ). arrive_steps n) e, ap (λ (n : ℕ). depart_steps n) e)
