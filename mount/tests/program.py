@@ -197,6 +197,7 @@ def run(*words, **more):
 def statuses():
     same("a status", run("sh", "-c", "exit 7").returncode, 7)
     same("a signal", run("sh", "-c", "kill -9 $$").returncode, 137)
+    same("a signal of the terminal", run("sh", "-c", "kill -QUIT $$").returncode, 131)
     same("a program that is not there", run("/nowhere").returncode, 127)
     same("one that cannot be executed", run("/etc/passwd").returncode, 126)
     same("what it says", run("--", "echo", "x").stdout, b"x\n")
