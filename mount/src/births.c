@@ -127,6 +127,21 @@ static void begin_first(void)
 	}
 }
 
+bool births_is_fork(const struct __ptrace_syscall_info *call)
+{
+	switch (call->seccomp.nr) {
+	case SYS_clone:
+	case SYS_clone3:
+#ifdef SYS_fork
+	case SYS_fork:
+	case SYS_vfork:
+#endif
+		return true;
+	default:
+		return false;
+	}
+}
+
 void births_ask(pid_t thread, const struct __ptrace_syscall_info *call)
 {
 	struct clone_args args = { 0 };

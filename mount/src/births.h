@@ -7,6 +7,7 @@
 #include <sys/types.h>
 
 void births_first(pid_t program);
+bool births_is_fork(const struct __ptrace_syscall_info *call);
 /* A thread stands before a fork or a clone. */
 void births_ask(pid_t thread, const struct __ptrace_syscall_info *call);
 /* It stands behind it, with a child or a thread. */

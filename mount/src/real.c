@@ -2,6 +2,7 @@
 #include "engine.h"
 #include "place.h"
 #include "watch.h"
+#include <dirent.h>
 #include <errno.h>
 #include <signal.h>
 #include <stdio.h>
@@ -115,26 +116,39 @@ static void die(pid_t pid)
 		watch_above(group);
 }
 
+static void adopt_child(pid_t parent, long child)
+{
+	if (child <= PROCESS_ONE || child >= PIDS || is_known((pid_t)child) || child == getpid())
+		return;
+	/* a fork that pids.max refuses is counted once: the child is real all the same, and remembered */
+	if (remember((pid_t)child) == 0)
+		engine_line("fork %d %ld", parent, child);
+}
+
+/* The children of each thread. */
 static void adopt_children(pid_t pid)
 {
-	char path[64], text[4096];
-	snprintf(path, sizeof path, "/proc/%d/task/%d/children", pid, pid);
-	FILE *f = fopen(path, "re");
-	if (!f)
-		return;
-	size_t n = fread(text, 1, sizeof text - 1, f);
-	fclose(f);
-	text[n] = 0;
-	for (char *at = text, *end; ; at = end) {
-		long child = strtol(at, &end, 10);
-		if (end == at)
-			break;
-		if (is_known((pid_t)child) || child <= PROCESS_ONE || child >= PIDS || child == getpid())
+	char path[320], text[4096];
+	struct dirent *thread;
+	snprintf(path, sizeof path, "/proc/%d/task", pid);
+	DIR *threads = opendir(path);
+	while (threads && (thread = readdir(threads))) {
+		snprintf(path, sizeof path, "/proc/%d/task/%s/children", pid, thread->d_name);
+		FILE *f = thread->d_name[0] == '.' ? NULL : fopen(path, "re");
+		if (!f)
 			continue;
-		/* a fork that pids.max refuses is counted once: the child is real all the same, and remembered */
-		if (remember((pid_t)child) == 0)
-			engine_line("fork %d %ld", pid, child);
+		size_t n = fread(text, 1, sizeof text - 1, f);
+		fclose(f);
+		text[n] = 0;
+		for (char *at = text, *end;; at = end) {
+			long child = strtol(at, &end, 10);
+			if (end == at)
+				break;
+			adopt_child(pid, child);
+		}
 	}
+	if (threads)
+		closedir(threads);
 }
 
 void real_sweep(void)

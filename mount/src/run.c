@@ -75,6 +75,7 @@ static void become(char **program, int control, const sigset_t *signals)
 	if (read(control, &go, 1) != 1)
 		_exit(1);
 	sigprocmask(SIG_SETMASK, signals, NULL);
+	signal(SIGQUIT, SIG_DFL);
 	signal(SIGPIPE, SIG_DFL);
 	signal(SIGXFSZ, SIG_DFL);
 	int listener = filter_install();

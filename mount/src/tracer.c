@@ -7,6 +7,7 @@
 #include <linux/magic.h>
 #include <signal.h>
 #include <stddef.h>
+#include <stdlib.h>
 #include <string.h>
 #include <sys/ptrace.h>
 #include <sys/statfs.h>
@@ -42,26 +43,26 @@ static struct asked {
 	struct asked *next;
 	pid_t thread;
 	unsigned long at;
-} *asked, slots[64];
+} *asked;
 
 static bool expect_statfs(pid_t thread, unsigned long at)
 {
-	for (size_t i = 0; i < sizeof slots / sizeof *slots; i++)
-		if (slots[i].thread == 0) {
-			slots[i] = (struct asked){ asked, thread, at };
-			asked = &slots[i];
-			return true;
-		}
-	return false;
+	struct asked *a = malloc(sizeof *a);
+	if (!a)
+		return false;
+	*a = (struct asked){ asked, thread, at };
+	asked = a;
+	return true;
 }
 
 static unsigned long take_statfs(pid_t thread)
 {
 	for (struct asked **a = &asked; *a; a = &(*a)->next)
 		if ((*a)->thread == thread) {
-			unsigned long at = (*a)->at;
-			(*a)->thread = 0;
-			*a = (*a)->next;
+			struct asked *found = *a;
+			unsigned long at = found->at;
+			*a = found->next;
+			free(found);
 			return at;
 		}
 	return 0;
@@ -92,7 +93,10 @@ static void on_call(pid_t thread)
 		ptrace(stops ? PTRACE_SYSCALL : PTRACE_CONT, thread, 0, 0);
 		return;
 	}
-	births_ask(thread, &call);
+	if (births_is_fork(&call))
+		births_ask(thread, &call);
+	else /* of a filter that the program made for a tracer of its own */
+		ptrace(PTRACE_CONT, thread, 0, 0);
 }
 
 static void on_result(pid_t thread)

@@ -20,15 +20,26 @@ static void set_stat(struct stat *st, mode_t mode, nlink_t links)
 	st->st_atim = st->st_mtim = st->st_ctim = look.born;
 }
 
+static int count_bytes(void *to, const char *text, size_t size)
+{
+	(void)text;
+	((struct stat *)to)->st_size = (off_t)size;
+	return 0;
+}
+
 static int control_getattr(const char *path, struct stat *st)
 {
 	int file = control_find(path);
 	if (file == -ENOENT)
 		return -ENOENT;
-	if (file < 0)
+	if (file < 0) {
 		set_stat(st, S_IFDIR | 0755, 2);
-	else
-		set_stat(st, S_IFREG | control_mode(file), 1);
+		return 0;
+	}
+	set_stat(st, S_IFREG | control_mode(file), 1);
+	engine_lock();
+	control_read(file, count_bytes, st);
+	engine_unlock();
 	return 0;
 }
 
@@ -43,6 +54,18 @@ static int group_getattr(const char *path, struct stat *st)
 	return 0;
 }
 
+/* A file is as long as its text: sendfile and splice give no more than that of a file of FUSE. */
+static size_t text_size(const struct place *place)
+{
+	size_t size = 0;
+	if (place->file->constant)
+		return strlen(place->file->constant);
+	real_sweep();
+	if (place->file->readable && engine_look("cat %s %s", place->group, place->file->name) == 0)
+		engine_text(&size);
+	return size;
+}
+
 static int getattr(const char *path, struct stat *st)
 {
 	struct place place;
@@ -54,6 +77,7 @@ static int getattr(const char *path, struct stat *st)
 	if (engine_has_group(place.group))
 		return -ENOENT;
 	set_stat(st, S_IFREG | file_mode(place.file), 1);
+	st->st_size = (off_t)text_size(&place);
 	if (place.file->notified)
 		watch_seen(place.group, place.file);
 	return 0;

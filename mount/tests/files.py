@@ -118,6 +118,22 @@ def opened():
     m.end()
 
 
+def sent():
+    """sendfile, by which some clients read."""
+    m = Mount()
+    os.mkdir(m.path("a"))
+    for name, text in (("a/pids.max", b"max\n"), ("cgroup.procs", b"1\n"), ("cgroup.stat", b"nr_descendants 1\nnr_dying_descendants 0\n"),
+                       (".makhloeum/newest", b"mkdir /a\n")):
+        same("the size of " + name, os.stat(m.path(name)).st_size, len(text))
+        file, (out, into) = os.open(m.path(name), os.O_RDONLY), os.pipe()
+        same("sendfile of " + name, (os.sendfile(into, file, None, 1 << 20), os.read(out, 100)), (len(text), text))
+        for fd in (file, out, into):
+            os.close(fd)
+    write(m.path("a/pids.max"), b"1000\n")
+    same("its size then", os.stat(m.path("a/pids.max")).st_size, 5)
+    m.end()
+
+
 def shell():
     m = Mount()
     script = """mkdir a a/b; echo 3 > a/pids.max; echo 1 > a/cgroup.procs; cat a/pids.max a/cgroup.procs a/pids.current
@@ -167,6 +183,6 @@ def control():
     m.end()
 
 
-for test in (listing, values, groups, opened, shell, extra, control):
+for test in (listing, values, groups, opened, sent, shell, extra, control):
     test()
 finish()

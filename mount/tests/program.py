@@ -191,12 +191,13 @@ def taken_back():
 # ---------------------------------------------------------------- outside
 
 def run(*words, **more):
-    return subprocess.run([PROGRAM, "run", *words], stdout=subprocess.PIPE, stderr=subprocess.PIPE, timeout=60, **more)
+    return subprocess.run([PROGRAM, "run", *words], stdout=subprocess.PIPE, stderr=subprocess.PIPE, timeout=60, close_fds=False, **more)
 
 
 def statuses():
     same("a status", run("sh", "-c", "exit 7").returncode, 7)
     same("a signal", run("sh", "-c", "kill -9 $$").returncode, 137)
+    same("a signal of the terminal", run("sh", "-c", "kill -QUIT $$").returncode, 131)
     same("a program that is not there", run("/nowhere").returncode, 127)
     same("one that cannot be executed", run("/etc/passwd").returncode, 126)
     same("what it says", run("--", "echo", "x").stdout, b"x\n")
@@ -237,6 +238,16 @@ def name_of(pid):
     return open("/proc/%d/comm" % pid).read().strip()
 
 
+def listen():
+    """Takes a seccomp listener that is told nothing: a process has one at most."""
+    allow = struct.pack("HBBI", 6, 0, 0, 0x7FFF0000)
+    code = ctypes.create_string_buffer(allow)
+    program = ctypes.create_string_buffer(struct.pack("HxxxxxxP", 1, ctypes.addressof(code)))
+    libc.prctl(38, 1, 0, 0, 0)
+    listener = libc.syscall({"x86_64": 317, "aarch64": 277}[os.uname().machine], 1, 8, program)
+    os.set_inheritable(listener, True)
+
+
 def refused_here():
     """Machines that do not allow it: one sentence, and status 2."""
     deny = {
@@ -247,6 +258,9 @@ def refused_here():
         ran = subprocess.run(["unshare", "-Urm", "sh", "-c", how + ' && exec "$0" run true', PROGRAM], stderr=subprocess.PIPE, timeout=20)
         same("without %s" % what, (ran.returncode, ran.stderr.count(b"\n")), (2, 1))
         step("it is named", ("does not allow " + what).encode() in ran.stderr, ran.stderr)
+    ran = run("true", preexec_fn=listen)
+    same("without seccomp notification", (ran.returncode, ran.stderr.count(b"\n")), (2, 1))
+    step("it is named", b"does not allow seccomp notification" in ran.stderr, ran.stderr)
     # a leak is looked for by ptrace, which is what is not to be had here
     ran = run("--", PROGRAM, "run", "true", env=dict(os.environ, ASAN_OPTIONS="detect_leaks=0"))
     same("where the program is traced already", (ran.returncode, ran.stderr.count(b"\n")), (2, 1))

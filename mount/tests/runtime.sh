@@ -39,7 +39,7 @@ refused "pause: cgroup.freeze is a constant" "not supported" $R pause c1
 step "state: still running" sh -c "$R state c1 | grep -q '\"running\"'"
 step "kill --all KILL" $R kill --all c1 KILL
 soon "populated 0" grep -qx "populated 0" $g/cgroup.events
-step "state: stopped" sh -c "$R state c1 | grep -q '\"stopped\"'"
+soon "state: stopped" sh -c "$R state c1 | grep -q '\"stopped\"'"
 step "delete" $R delete c1
 step "the group is gone" test ! -e $g
 step "the whole life taken back, newest first" python3 "$here/taken_back.py"
