@@ -11,6 +11,7 @@ static const struct file files[] = {
 	{ "cgroup.kill",            false, false, A_ONE,         false, NULL, NULL },
 	{ "pids.max",               false, true,  A_PIDS_LIMIT,  false, NULL, NULL },
 	{ "pids.current",           false, true,  NOTHING,       false, NULL, NULL },
+	{ "pids.peak",              false, true,  NOTHING,       false, NULL, NULL },
 	{ "pids.events",            false, true,  NOTHING,       true,  NULL, NULL },
 	{ "pids.events.local",      false, true,  NOTHING,       true,  NULL, NULL },
 	/* Constants. The pids controller is on in every group, a group is always a domain, and nothing is ever frozen. */

@@ -6,7 +6,8 @@ import subprocess
 from support import Mount, error_of, finish, read, same, step, write
 
 ROOT = ["cgroup.max.depth", "cgroup.max.descendants", "cgroup.procs", "cgroup.stat"]
-GROUP = sorted(ROOT + ["cgroup.events", "cgroup.kill", "pids.max", "pids.current", "pids.events", "pids.events.local"])
+GROUP = sorted(ROOT + ["cgroup.events", "cgroup.kill", "pids.max", "pids.current", "pids.peak", "pids.events",
+                       "pids.events.local"])
 CONSTANTS = {"cgroup.controllers": b"pids\n", "cgroup.subtree_control": b"pids\n", "cgroup.type": b"domain\n",
              "cgroup.freeze": b"0\n", "cpu.stat": b"usage_usec 0\nuser_usec 0\nsystem_usec 0\n"}
 FRESH = {"cgroup.procs": b"", "cgroup.events": b"populated 0\nfrozen 0\n",
@@ -40,13 +41,11 @@ def listing():
     m = Mount()
     os.mkdir(m.path("a"))
     same("the files of the root", sorted(os.listdir(m.at)), sorted(ROOT + ["a"]))
-    there = set(os.listdir(m.path("a"))) - {"pids.peak"}
-    same("the files of a group", sorted(there), GROUP)
+    same("the files of a group", sorted(os.listdir(m.path("a"))), GROUP)
     modes = {n: stat.S_IMODE(os.stat(m.path("a", n)).st_mode) for n in ("pids.max", "pids.current", "cgroup.kill")}
     same("their modes", modes, {"pids.max": 0o644, "pids.current": 0o444, "cgroup.kill": 0o200})
     for name, text in FRESH.items():
-        if name in os.listdir(m.path("a")):
-            same("a new group's " + name, read(m.path("a", name)), text)
+        same("a new group's " + name, read(m.path("a", name)), text)
     same("a new root's cgroup.procs", read(m.path("cgroup.procs")), b"1\n")
     same("links of a directory", os.stat(m.at).st_nlink, 3)
     same("pids.max of the root", error_of(read, m.path("pids.max")), "ENOENT")
