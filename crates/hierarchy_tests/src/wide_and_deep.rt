@@ -1,8 +1,8 @@
 //! As many siblings as there are slots, and groups below one another as deep as a path may go.
 
+use crate::calls::{Call, attr, path};
 use crate::limits::limited;
 use crate::paths::names_of_letters;
-use crate::calls::{Call, attr, path};
 use crate::tree_memory::{LONG, call, is_found};
 use group_path::GroupPath;
 use group_tree::{GroupTree, Limit, MetLimit, TreeFault};

@@ -101,7 +101,9 @@ fn first_other<R: Threads + Wait + Sync>(
         let bytes = lines(alloc, trace)?;
         let answers = lines(alloc, answers)?;
         for end in 0..=bytes.len() {
-            if let Some(text) = bytes.as_slice().get(..end) && !is_cut(rt, alloc, text, answers.as_slice())? {
+            if let Some(text) = bytes.as_slice().get(..end)
+                && !is_cut(rt, alloc, text, answers.as_slice())?
+            {
                 return Ok(Some(*trace));
             }
         }
@@ -197,7 +199,13 @@ fn first_byte<R: Threads + Wait + Sync>(
 
 #[test]
 fn each_byte(rt: HostRuntime) -> Result<(), Fail> {
-    assert_eq!(rt; first_byte(&rt, rt.alloc(), b"", b"", answer_to_byte)?, None);
-    assert_eq!(rt; first_byte(&rt, rt.alloc(), b"mkdir /a", b"\n", answer_to_name)?, None);
+    assert_eq!(rt;
+        first_byte(&rt, rt.alloc(), b"", b"", answer_to_byte)?,
+        None
+    );
+    assert_eq!(rt;
+        first_byte(&rt, rt.alloc(), b"mkdir /a", b"\n", answer_to_name)?,
+        None
+    );
     Ok(())
 }

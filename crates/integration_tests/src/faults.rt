@@ -128,7 +128,12 @@ enum Way {
     Rehearsal,
 }
 
-const WAYS: [Way; 4] = [Way::Replay(1), Way::Replay(2), Way::Replay(8), Way::Rehearsal];
+const WAYS: [Way; 4] = [
+    Way::Replay(1),
+    Way::Replay(2),
+    Way::Replay(8),
+    Way::Rehearsal,
+];
 
 fn answered<R: Threads + Wait + Sync, S: Source, W: Sink>(
     rt: &R,

@@ -1,7 +1,9 @@
 //! Traces and their answers, over devices in memory.
 
 use crate::file_traces::FILE_TRACES;
-use replay_main::{LINE_MAX, MemorySink, MemorySource, ReplayFault, Summary, rehearse_trace, replay};
+use replay_main::{
+    LINE_MAX, MemorySink, MemorySource, ReplayFault, Summary, rehearse_trace, replay,
+};
 use std::alloc::{AllocError, Global};
 use std::sync::Wait;
 use std::test::Fail;
