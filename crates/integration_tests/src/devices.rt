@@ -32,36 +32,19 @@ impl Source for Repeated {
     }
 }
 
-/// Gives its bytes, at most so many at a time, and ends or fails behind them.
+/// Gives its bytes, and fails at the end.
 #[derive(Drop)]
 pub(crate) struct Torn<'a> {
     rest: &'a [u8],
-    step: usize,
-    ends: bool,
     is_failed: bool,
 }
 
 impl<'a> Torn<'a> {
-    /// Fails behind its bytes.
-    pub(crate) fn new(rest: &'a [u8], step: usize) -> Torn<'a>
+    pub(crate) fn new(rest: &'a [u8]) -> Torn<'a>
         ensures { result.is_failed ≡ false }
     {
         Torn {
             rest,
-            step,
-            ends: false,
-            is_failed: false,
-        }
-    }
-
-    /// Ends behind its bytes.
-    pub(crate) fn whole(rest: &'a [u8], step: usize) -> Torn<'a>
-        ensures { result.is_failed ≡ false }
-    {
-        Torn {
-            rest,
-            step,
-            ends: true,
             is_failed: false,
         }
     }
@@ -73,10 +56,7 @@ impl<'a> Source for Torn<'a> {
     ghost is_failed = { λ s. s.is_failed };
 
     fn read(&mut self, buf: &mut [u8]) -> Result<usize, DeviceFault> {
-        let count = buf.len().min(self.rest.len()).min(self.step);
-        if count == 0 && self.ends {
-            return Ok(0);
-        }
+        let count = buf.len().min(self.rest.len());
         if count == 0 {
             self.is_failed = true;
             return Err(DeviceFault);
@@ -91,21 +71,16 @@ impl<'a> Source for Torn<'a> {
 /// What a narrow sink does where it has no room, and at a flush.
 #[derive(Clone, Copy)]
 pub(crate) struct Manners {
-    /// The bytes that are taken at a time.
-    pub(crate) step: usize,
     /// A write without room takes none, where it would fail.
     pub(crate) takes_none: bool,
     /// A flush fails.
     pub(crate) flush_fails: bool,
 }
 
-/// How many bytes a narrow sink holds.
-const HELD: usize = 2_048;
-
-/// Takes some bytes at a time into an array, as many as there is room for.
+/// Takes three bytes at a time into an array, as many as there is room for.
 #[derive(Drop)]
 pub(crate) struct Narrow {
-    bytes: [u8; HELD],
+    bytes: [u8; 128],
     len: usize,
     room: usize,
     manners: Manners,
@@ -118,7 +93,7 @@ impl Narrow {
         ensures { result.is_failed ≡ false }
     {
         Narrow {
-            bytes: [0; HELD],
+            bytes: [0; 128],
             len: 0,
             room,
             manners,
@@ -129,7 +104,7 @@ impl Narrow {
 
     /// The bytes that were taken.
     pub(crate) fn bytes(&self) -> &[u8] {
-        &self.bytes[..self.len.min(HELD)]
+        &self.bytes[..self.len.min(128)]
     }
 }
 
@@ -149,9 +124,8 @@ impl Sink for Narrow {
 
     fn write(&mut self, bytes: &[u8]) -> Result<usize, DeviceFault> {
         self.is_flushed = false;
-        let start = self.len.min(HELD);
-        let wanted = bytes.len().min(self.manners.step);
-        let count = wanted.min(self.room).min(HELD - start);
+        let start = self.len.min(128);
+        let count = bytes.len().min(3).min(self.room).min(128 - start);
         put(&mut self.bytes, start, &bytes[..count]);
         self.room -= count;
         self.len = start + count;

@@ -1,15 +1,10 @@
 //! Faults of a replay, by devices that fail or end.
 
 use crate::devices::{Manners, Narrow, Repeated, Stuck, Torn};
-use crate::traces::{LINE_ENDS, UNDONE_MOVE, lines, rehearsed, replayed};
+use crate::traces::{rehearsed, replayed};
 use replay_main::{
-    MemorySink, MemorySource, ReplayFault, Sink, Source, StreamSink, StreamSource, Summary,
-    TRACE_MAX, rehearse_trace, replay,
+    MemorySink, MemorySource, ReplayFault, StreamSink, StreamSource, Summary, TRACE_MAX, replay,
 };
-use std::alloc::{AllocError, Global};
-use std::sync::Wait;
-use std::test::Fail;
-use std::thread::Threads;
 
 pub(crate) const TRACE: &[u8] =
     b"mkdir /a\nfork 1 2\nwrite /a cgroup.procs 2\ncat /a pids.current\nundo\ncat /a pids.current\n";
@@ -46,7 +41,7 @@ fn long_traces(rt: HostRuntime) {
 #[test]
 fn a_failing_read(rt: HostRuntime) {
     for trace in [b"".as_slice(), TRACE] {
-        let mut reader = Torn::new(trace, usize::MAX);
+        let mut reader = Torn::new(trace);
         let mut writer = MemorySink::new(rt.alloc());
         let answer = replay(&rt, rt.alloc(), &mut reader, &mut writer, 1);
         assert!(rt; answer == Err(ReplayFault::Read));
@@ -71,7 +66,6 @@ fn a_failing_write(rt: HostRuntime) {
         let mut writer = Narrow::new(
             room,
             Manners {
-                step: 3,
                 takes_none,
                 flush_fails,
             },
@@ -89,7 +83,6 @@ fn a_flush_of_nothing(rt: HostRuntime) {
     let mut writer = Narrow::new(
         0,
         Manners {
-            step: 3,
             takes_none: false,
             flush_fails: true,
         },
@@ -119,110 +112,6 @@ fn a_writer_whose_flush_fails(rt: HostRuntime) {
     let mut writer = StreamSink::new(Stuck);
     let answer = replay(&rt, rt.alloc(), &mut reader, &mut writer, 1);
     assert!(rt; answer == Err(ReplayFault::Write));
-}
-
-/// How a trace is answered: by a replay with so many workers, or by a rehearsal.
-#[derive(Clone, Copy)]
-enum Way {
-    Replay(u8),
-    Rehearsal,
-}
-
-const WAYS: [Way; 4] = [
-    Way::Replay(1),
-    Way::Replay(2),
-    Way::Replay(8),
-    Way::Rehearsal,
-];
-
-fn answered<R: Threads + Wait + Sync, S: Source, W: Sink>(
-    rt: &R,
-    alloc: Global,
-    reader: &mut S,
-    writer: &mut W,
-    way: Way,
-) -> Result<Summary, ReplayFault> {
-    match way {
-        Way::Replay(workers) => replay(rt, alloc, reader, writer, workers),
-        Way::Rehearsal => rehearse_trace(rt, alloc, reader, writer),
-    }
-}
-
-/// The first read, of one byte each, that is answered otherwise where it fails.
-fn first_read<R: Threads + Wait + Sync>(
-    rt: &R,
-    alloc: Global,
-    trace: &[u8],
-    way: Way,
-) -> Option<usize> {
-    for count in 0..=trace.len() {
-        let mut reader = Torn::new(trace.get(..count).unwrap_or(trace), 1);
-        let mut writer = MemorySink::new(alloc);
-        let answer = answered(rt, alloc, &mut reader, &mut writer, way);
-        if answer != Err(ReplayFault::Read) || !writer.bytes().is_empty() {
-            return Some(count);
-        }
-    }
-    None
-}
-
-/// The first write, of one byte each, that is answered otherwise where it fails; the one behind the last
-/// does not.
-fn first_write<R: Threads + Wait + Sync>(
-    rt: &R,
-    alloc: Global,
-    trace: &[u8],
-    answers: &[u8],
-    way: Way,
-) -> Option<usize> {
-    for room in 0..=answers.len() {
-        let mut reader = Torn::whole(trace, 1);
-        let mut writer = Narrow::new(
-            room,
-            Manners {
-                step: 1,
-                takes_none: false,
-                flush_fails: false,
-            },
-        );
-        let answer = answered(rt, alloc, &mut reader, &mut writer, way);
-        let is_right = if room < answers.len() {
-            answer == Err(ReplayFault::Write)
-        } else {
-            answer.is_ok()
-        };
-        if !is_right || Some(writer.bytes()) != answers.get(..room) {
-            return Some(room);
-        }
-    }
-    None
-}
-
-/// The first trace of which a read or a write that fails is answered otherwise.
-fn first_other<R: Threads + Wait + Sync>(
-    rt: &R,
-    alloc: Global,
-    rows: &[(&'static str, &'static str)],
-) -> Result<Option<&'static str>, AllocError> {
-    for (trace, answers) in rows {
-        let bytes = lines(alloc, trace)?;
-        let wanted = lines(alloc, answers)?;
-        for way in WAYS {
-            let read = first_read(rt, alloc, bytes.as_slice(), way);
-            let write = first_write(rt, alloc, bytes.as_slice(), wanted.as_slice(), way);
-            if read.is_some() || write.is_some() {
-                return Ok(Some(*trace));
-            }
-        }
-    }
-    Ok(None)
-}
-
-#[test]
-fn each_read_and_each_write_fails(rt: HostRuntime) -> Result<(), Fail> {
-    let rows = [UNDONE_MOVE, LINE_ENDS];
-    assert_eq!(rt; first_other(&rt, rt.alloc(), &rows)?, None);
-    Ok(())
 }
 
 /// With any one allocation refused, either all is answered or nothing is written.

@@ -4,9 +4,9 @@
 //!
 //! - `traces`: traces with their answers, by a replay and by a rehearsal, as tables of texts; long lines and long answers.
 //!   Those of files, kills and `where` stand in `file_traces`.
-//! - `cuts`: each of those traces cut after each byte, and bytes that no line begins with.
+//! - `cuts`: lines that are cut, and each byte alone and in a name.
 //! - `values`: the names of files, the values that are written to them, and texts of limits.
-//! - `faults`: a replay over devices that fail or end, which stand in `devices`: each read and each write in turn.
+//! - `faults`: a replay over devices that fail or end, which stand in `devices`.
 //! - `arguments`: the command line, what the program does by it, its statuses and messages.
 //! - `command_lines`: words that stand twice, `--workers=3` and `--`; a bad line reads nothing.
 #![tactic(auto)]
