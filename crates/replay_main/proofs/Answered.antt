@@ -30,7 +30,7 @@ shorter [] = omega arith
 shorter (piece ∷ []) = shorter_by piece (length piece == 0)
 shorter (piece ∷ next ∷ parts) = let rest = shorter (next ∷ parts) in omega (arith, rest)
 
-few_lines : (trace : List ℕ) → length trace ≤ trace_max → length (read_trace trace) ≤ trace_max + 1
+pub few_lines : (trace : List ℕ) → length trace ≤ trace_max → length (read_trace trace) ≤ trace_max + 1
 few_lines trace short =
     let a = shorter (slice_split is_line_feed trace) in
     let b = length-slice_split is_line_feed trace in

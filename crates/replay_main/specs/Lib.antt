@@ -1,5 +1,6 @@
 pub mod Device
 pub mod Replayed
+pub mod Points
 pub mod Rehearsed
 pub mod Asks
 pub mod Program

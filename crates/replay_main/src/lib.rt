@@ -9,8 +9,9 @@
 //! - The answers are `answers` of `flat_model`: those of its machine from its start, with 1,024 groups
 //!   at most beside the root, whatever the number of workers is. So are the two numbers of the
 //!   `Summary`.
-//! - Up to eight workers do the work in three phases: lines become commands, the commands are run at
-//!   a desk by a session for each worker, and their replies become bytes.
+//! - One worker answers line by line, in one pass (`Talk`). Two to eight workers do the work in three
+//!   phases: lines become commands, the commands are run at a desk by a session for each worker, and
+//!   their replies become bytes.
 //! - A fault of a replay says what failed. After each but `Write` nothing was written; after
 //!   `Write` a prefix of the answers was. A trace of more than `TRACE_MAX` bytes is too long. Want
 //!   of memory is no answer: it ends the replay.
@@ -39,6 +40,7 @@ mod reading;
 mod rehearsal;
 mod runs;
 mod streams;
+mod talk;
 mod texts;
 mod trace;
 mod turns;
@@ -53,5 +55,6 @@ pub use pids_charge::{Gate, OpenGate};
 pub use program::{ProgramFault, exit_status, run_program};
 pub use rehearsal::rehearse_trace;
 pub use streams::{StreamSink, StreamSource};
+pub use talk::Talk;
 pub use trace::{Summary, replay, replay_gated};
 pub use trace_lines::{LINE_MAX, Line, TextFault, parse_line};

@@ -1,12 +1,14 @@
 //! A trace, from its bytes to the bytes of its answers.
 
-ghost use Rattle.std.specs.Prelude.{◌≡◌, ◌≤◌, length, false, IfOk, IfErr};
+ghost use Rattle.std.specs.Prelude.{◌≡◌, ◌≢◌, ◌≤◌, length, false, Err, IfOk, IfErr};
 ghost use Rattle.flat_model.specs.Trace.{trace_max};
+ghost use Rattle.replay_main.specs.declared.fault.ReplayFault.TheVariants.{Close};
 ghost use Rattle.replay_main.specs.Replayed.{EndsWork, IsAnswered, Replayed};
 
 use crate::input::read_whole;
 use crate::output::write_whole;
 use crate::reading::{count_faults, read_script};
+use crate::talk::answer_in_one_pass;
 use crate::texts::{answers_of, count_refused};
 use crate::turns::run_commands;
 use crate::{ReplayFault, Sink, Source};
@@ -43,7 +45,17 @@ fn answer<R: Threads + Wait + Sync, G: Gate>(
     requires trace { length trace.now ≤ trace_max }
     ensures ok { IfOk result (λ a. IsAnswered trace.now a.bytes.items a.summary) }
     ensures fault { IfErr result EndsWork }
+    ensures never_close { workers ≡ 1 → result ≢ Err Close }
 {
+    if workers == 1 {
+        gate.pass(1);
+        gate.pass(2);
+        gate.pass(3);
+        return match answer_in_one_pass(alloc, trace) {
+            Ok(answered) => Ok(answered),
+            Err(_) => Err(ReplayFault::OutOfMemory),
+        };
+    }
     let Ok(script) = read_script(rt, alloc, gate, workers, trace) else {
         return Err(ReplayFault::OutOfMemory);
     };
@@ -66,16 +78,17 @@ fn answer<R: Threads + Wait + Sync, G: Gate>(
 /// what the engine takes for each command, it takes time and memory linear in the trace and its
 /// answers.
 ///
-/// The work is done in three phases by as many workers, each in a thread of its own where one can
-/// be had, the caller being one of them: the lines are read; the commands are run at a desk, the
-/// i-th by session i mod `workers` at turn i; the replies become bytes. The answers are the same for
-/// every number of workers.
+/// One worker answers line by line in one pass on the calling thread, and starts no thread. Two to eight
+/// do the work in three phases, each in a thread of its own where one can be had, the caller being
+/// one of them: the lines are read; the commands are run at a desk, the i-th by session i mod
+/// `workers` at turn i; the replies become bytes. The answers are the same for every number of
+/// workers.
 ///
 /// # Errors
 ///
-/// `Read` where a read failed; `InputTooLong` past `TRACE_MAX` bytes; `OutOfMemory`; `Close` where
-/// the desk was not closed or its log has not the commands of the trace. In all these nothing was
-/// written. `Write` where a write or the flush failed or a write took no bytes; then a prefix of the
+/// `Read` where a read failed; `InputTooLong` past `TRACE_MAX` bytes; `OutOfMemory`; `Close`, from two
+/// workers on, where the desk was not closed or its log has not the commands of the trace. In all
+/// these nothing was written. `Write` where a write or the flush failed or a write took no bytes; then a prefix of the
 /// answers was written.
 pub fn replay<R: Threads + Wait + Sync, S: Source, W: Sink>(
     rt: &R,
@@ -87,15 +100,17 @@ pub fn replay<R: Threads + Wait + Sync, S: Source, W: Sink>(
     requires workers { (1 ≤ workers) × (workers ≤ 8) }
     requires reader { S.is_failed reader.old ≡ false }
     requires writer { W.is_failed writer.old ≡ false }
-    ensures { Replayed (S.left reader.old) (S.is_failed reader.new)
+    ensures replayed { Replayed (S.left reader.old) (S.is_failed reader.new)
         (W.taken writer.old) (W.taken writer.new) (W.is_failed writer.new) (W.is_flushed writer.new)
         result }
+    ensures never_close { workers ≡ 1 → result ≢ Err Close }
 {
     replay_gated(rt, alloc, &OpenGate, reader, writer, workers)
 }
 
 /// The same, with a gate: at the start of phase p, counted from 0, the thread that does the work of
-/// worker w, counted from 0, passes part `p * workers + w + 1`. It may wait for the gate.
+/// worker w, counted from 0, passes part `p * workers + w + 1`; one worker passes parts 1, 2 and 3
+/// before its pass. It may wait for the gate.
 ///
 /// # Errors
 ///
@@ -111,9 +126,10 @@ pub fn replay_gated<R: Threads + Wait + Sync, S: Source, W: Sink>(
     requires workers { (1 ≤ workers) × (workers ≤ 8) }
     requires reader { S.is_failed reader.old ≡ false }
     requires writer { W.is_failed writer.old ≡ false }
-    ensures { Replayed (S.left reader.old) (S.is_failed reader.new)
+    ensures replayed { Replayed (S.left reader.old) (S.is_failed reader.new)
         (W.taken writer.old) (W.taken writer.new) (W.is_failed writer.new) (W.is_flushed writer.new)
         result }
+    ensures never_close { workers ≡ 1 → result ≢ Err Close }
 {
     let trace = read_whole(alloc, reader)?;
     let answered = answer(rt, alloc, &gate, trace.as_slice(), workers)?;

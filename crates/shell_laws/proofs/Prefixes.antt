@@ -8,10 +8,10 @@ use Rattle.replay_main.specs.Device.{TakesFront}
 use Rattle.shell_main.specs.declared.fault.ShellFault.{ShellFault}
 use Rattle.shell_main.specs.declared.fault.ShellFault.TheVariants.{Read, Write, InputTooLong, OutOfMemory}
 use Rattle.shell_main.specs.Shelled.{Shelled}
-use Rattle.shell_main.specs.Points.{answers_on, point_after, start_point}
+use Rattle.replay_main.specs.Points.{answers_on, point_after, start_point}
 use Rattle.shell_main.specs.WholeLines.{ends_line}
 use Rattle.shell_main.proofs.LineCuts.{trace_cut}
-use Rattle.shell_main.proofs.PointCuts.{answers_on_cut}
+use Rattle.replay_main.proofs.PointCuts.{answers_on_cut}
 
 pub answers_cut : (lines more : List ℕ) → ends_line lines ≡ true → answers slots (lines ++ more) ≡ answers slots lines ++ answers_on (point_after start_point (read_trace lines)) (read_trace more)
 answers_cut lines more e = ap (answers_on start_point) (trace_cut lines more e) ∙ answers_on_cut start_point (read_trace lines) (read_trace more)

@@ -1,5 +1,4 @@
 pub mod LineCuts
-pub mod PointCuts
 pub mod Feeds
 pub mod Standing
 pub mod Ends

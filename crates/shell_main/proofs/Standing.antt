@@ -6,11 +6,11 @@ use Rattle.flat_model.specs.Replies.{answers}
 use Rattle.flat_model.specs.Trace.{is_line_feed, read_line, read_trace, trace_max}
 use Rattle.sessions.specs.Meaning.{slots}
 use Rattle.replay_main.specs.Device.{TakesFront}
-use Rattle.shell_main.specs.Points.{Point, answers_on, point_after, start_point}
+use Rattle.replay_main.specs.Points.{Point, answers_on, point_after, start_point}
 use Rattle.shell_main.specs.Talks.{Says, Stands}
 use Rattle.shell_main.specs.WholeLines.{HasNoFeed}
 use Rattle.shell_main.proofs.LineCuts.{HasOneMore, ends_more, with_feed}
-use Rattle.shell_main.proofs.PointCuts.{answers_on_cut, point_cut}
+use Rattle.replay_main.proofs.PointCuts.{answers_on_cut, point_cut}
 
 -- ---- bytes
 

@@ -7,6 +7,7 @@ use Rattle.sessions.specs.Meaning.{slots}
 use Rattle.replay_main.specs.declared.trace.Summary.{Summary}
 use Rattle.replay_main.specs.Device.{IsInput, TakesFront}
 use Rattle.replay_main.specs.Replayed.{IsSummary}
+use Rattle.replay_main.specs.Points.{number_max}
 use Rattle.shell_main.specs.declared.fault.ShellFault.{ShellFault}
 use Rattle.shell_main.specs.declared.fault.ShellFault.TheVariants.{Read, Write, InputTooLong, OutOfMemory}
 use Rattle.shell_main.specs.WholeLines.{HasNoFeed, HasShortLines, ends_line}
@@ -15,10 +16,6 @@ use Rattle.shell_main.specs.WholeLines.{HasNoFeed, HasShortLines, ends_line}
 abbrev pub BeginsWith : Option (List ℕ) → List ℕ → Type 0
 BeginsWith None front = Unit {0}
 BeginsWith (Some bytes) front = (rest : List ℕ) × (bytes ≡ front ++ rest)
-
--- the greatest number of a line
-abbrev pub number_max : ℕ
-number_max = 2 ^ 64 - 1
 
 -- Nothing is owed: these whole lines, and behind them a line that has not ended, are all that was read of a source that had `left`, and exactly the answers to the whole lines were written, and are out.
 pub record NothingOwed (left rest before after : Option (List ℕ)) (failed flushed : Bool) (lines line : List ℕ) : Type 0 where

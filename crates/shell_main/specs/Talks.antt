@@ -4,24 +4,14 @@ use Rattle.std.specs.Io.KnownBytes.{Consumes}
 use Rattle.flat_model.specs.Replies.{answers}
 use Rattle.flat_model.specs.Trace.{Line, read_trace, trace_max}
 use Rattle.sessions.specs.Meaning.{slots}
-use Rattle.replay_main.specs.declared.trace.Summary.{Summary}
 use Rattle.replay_main.specs.Device.{TakesFront}
 use Rattle.shell_main.specs.declared.fault.ShellFault.{ShellFault}
 use Rattle.shell_main.specs.declared.fault.ShellFault.TheVariants.{Read, Write, InputTooLong, OutOfMemory}
-use Rattle.shell_main.specs.declared.talk.Talk.{Talk}
-use Rattle.shell_main.specs.Points.{Point, answers_on, point_after, start_point}
-use Rattle.shell_main.specs.Shelled.{Shelled, number_max}
+use Rattle.replay_main.specs.Points.{Point, answers_on, number_max, point_after, start_point, summary_of}
+use Rattle.shell_main.specs.Shelled.{Shelled}
 use Rattle.shell_main.specs.WholeLines.{HasNoFeed, HasShortLines, ends_line}
 
-abbrev pub point_of : Talk → Point
-point_of talk = record { machine = talk.engine; commands = talk.summary.commands; refused = talk.summary.refused }
-
 -- ---- one line
-
--- one line is answered by these bytes
-pub record IsSaid (old : Point) (line : Line) (bytes : List ℕ) (new : Point) : Type 0 where
-  pub bytes_are : bytes ≡ answers_on old (line ∷ [])
-  pub point : new ≡ point_after old (line ∷ [])
 
 -- one line is answered, and the answer is out; else a prefix of it was written, or nothing
 abbrev pub Says : Point → Line → Option (List ℕ) → Bool → Option (List ℕ) → Bool → Bool → Result (Unit {0}) ShellFault → Point → Type 0
@@ -52,9 +42,6 @@ pub record Stands (start left before taken : Option (List ℕ)) (failed flushed 
   pub written : TakesFront before (answers slots lines) [] taken
   pub good : failed ≡ false
   pub is_out : flushed ≡ true
-
-abbrev pub summary_of : Point → Summary
-summary_of p = record { commands = p.commands; refused = p.refused }
 
 -- what one read leaves: false where there may be more to read, and else what a shell leaves
 abbrev pub Serves : Option (List ℕ) → Option (List ℕ) → Bool → Option (List ℕ) → Option (List ℕ) → Bool → Bool → Result Bool ShellFault → Point → List ℕ → Type 0

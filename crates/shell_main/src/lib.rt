@@ -26,7 +26,6 @@ mod fault;
 mod program;
 mod reading;
 mod serving;
-mod talk;
 
 pub use fault::ShellFault;
 pub use program::{ProgramFault, exit_status, run_program};

@@ -4,12 +4,11 @@ ghost use Rattle.std.specs.Prelude.{◌≡◌, ◌<◌, ◌≤◌, ◌++◌, ℕ
 ghost use Rattle.std.specs.List.{position};
 ghost use Rattle.flat_model.specs.Trace.{is_line_feed, read_line, trace_max};
 ghost use Rattle.shell_main.specs.Shelled.{Shelled};
-ghost use Rattle.shell_main.specs.Talks.{Keeps, Says, Serves, Stands, point_of};
+ghost use Rattle.shell_main.specs.Talks.{Keeps, Says, Serves, Stands};
 
 use crate::ShellFault;
 use crate::reading::next_chunk;
-use crate::talk::Talk;
-use replay_main::{Sink, Source, Summary, TRACE_MAX, write_whole};
+use replay_main::{Sink, Source, Summary, TRACE_MAX, Talk, write_whole};
 use std::alloc::Global;
 use std::sync::Wait;
 use std::thread::Threads;
@@ -59,14 +58,14 @@ fn serve<R: Threads + Wait + Sync, S: Source, W: Sink>(
     ghost start: { Option (List ℕ) × Option (List ℕ) }
     requires good { S.is_failed reader.old ≡ false }
     requires stands { (lines : List ℕ) × Stands start.0 (S.left reader.old) start.1 (W.taken writer.old)
-        (W.is_failed writer.old) (W.is_flushed writer.old) (point_of talk.old) lines [] [] }
+        (W.is_failed writer.old) (W.is_flushed writer.old) talk.old lines [] [] }
     ensures { Shelled start.0 (S.left reader.new) (S.is_failed reader.new) start.1 (W.taken writer.new)
         (W.is_failed writer.new) (W.is_flushed writer.new) result }
 {
     let mut line = Vec::new(alloc);
     for _ in rt.forever() {
         if serve_read(rt, alloc, reader, writer, talk, &mut line)? {
-            return Ok(talk.summary);
+            return Ok(talk.summary());
         }
     }
     unreachable!()
@@ -85,10 +84,10 @@ fn serve_read<R: Threads + Wait + Sync, S: Source, W: Sink>(
     ghost start: { Option (List ℕ) × Option (List ℕ) }
     requires good { S.is_failed reader.old ≡ false }
     requires stands { (lines : List ℕ) × Stands start.0 (S.left reader.old) start.1 (W.taken writer.old)
-        (W.is_failed writer.old) (W.is_flushed writer.old) (point_of talk.old) lines line.old.items [] }
+        (W.is_failed writer.old) (W.is_flushed writer.old) talk.old lines line.old.items [] }
     ensures good { OnOk result (S.is_failed reader.new ≡ false) }
     ensures serves { Serves start.0 (S.left reader.new) (S.is_failed reader.new) start.1 (W.taken writer.new)
-        (W.is_failed writer.new) (W.is_flushed writer.new) result (point_of talk.new) line.new.items }
+        (W.is_failed writer.new) (W.is_flushed writer.new) result talk.new line.new.items }
 {
     let mut buf = [0u8; 4096];
     let Ok(count) = next_chunk(reader, writer, line.as_slice(), &mut buf) else {
@@ -141,14 +140,15 @@ fn say<R: Threads + Wait + Sync, W: Sink>(
     line: &[u8],
 ) -> Result<(), ShellFault>
     requires { W.is_failed writer.old ≡ false }
-    ensures { Says (point_of talk.old) (read_line line.now) (W.taken writer.old) (W.is_flushed writer.old)
+    ensures { Says talk.old (read_line line.now) (W.taken writer.old) (W.is_flushed writer.old)
         (W.taken writer.new) (W.is_failed writer.new) (W.is_flushed writer.new) result
-        (point_of talk.new) }
+        talk.new }
 {
-    if talk.summary.commands == u64::MAX {
+    if talk.summary().commands == u64::MAX {
         return Err(ShellFault::InputTooLong);
     }
-    let Ok(answer) = talk.answer(rt, alloc, line) else {
+    let mut answer = Vec::new(alloc);
+    let Ok(()) = talk.put_answer(alloc, line, &mut answer) else {
         return Err(ShellFault::OutOfMemory);
     };
     match write_whole(writer, answer.as_slice()) {

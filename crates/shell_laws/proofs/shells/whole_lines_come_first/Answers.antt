@@ -1,5 +1,5 @@
 use Rattle.flat_model.specs.Trace.{read_trace}
-use Rattle.shell_main.specs.Points.{answers_on, point_after, start_point}
+use Rattle.replay_main.specs.Points.{answers_on, point_after, start_point}
 use Rattle.shell_laws.proofs.Prefixes.{answers_cut}
 use Rattle.shell_laws.proofs.shells.whole_lines_come_first.Goals as goal
 

@@ -1,6 +1,5 @@
 use Rattle.std.proofs.Common.{◌∙◌, [], sym, rules}
 use Rattle.shell_main.specs.Shelled.{Shelled}
-use Rattle.shell_main.specs.Talks.{point_of}
 use Rattle.shell_main.proofs.Ends.{after_flush, flushed_by, unflushed}
 use Rattle.shell_main.proofs.Standing.{at_start}
 use Rattle.shell_main.proofs.serving.shell.Goals as goal
@@ -27,7 +26,7 @@ serve-requires-sync-R g c κs within =
               (
                 [],
                 at_start (g.S.Source.left c.args.reader.now) (g.W.Sink.taken c.write_whole.new.sink) (g.W.Sink.is_failed c.write_whole.new.sink) (g.W.Sink.is_flushed c.write_whole.new.sink)
-                    (point_of c.in-Ok.talk) c.in-Ok.ensures flushed.0 flushed.1,
+                    c.in-Ok.talk c.in-Ok.ensures flushed.0 flushed.1,
               ),
             ),
           ),

@@ -7,7 +7,7 @@ use Rattle.flat_model.specs.Machine.{Machine, end_of, replies, tick}
 use Rattle.flat_model.specs.Replies.{command_count, commands_in, fault_bytes, is_fault, is_numbered, is_refused, out, reply_bytes}
 use Rattle.flat_model.specs.Trace.{Line, Skip, Run, Fault}
 use Rattle.sessions.specs.Meaning.{slots}
-use Rattle.shell_main.specs.Points.{Point, answers_on, point_after, replies_on}
+use Rattle.replay_main.specs.Points.{Point, answers_on, point_after, replies_on}
 
 answers_cut : (n : ℕ) (m : Machine) (a b : List Line)
     → out n (a ++ b) (replies slots m (commands_in (a ++ b))) ≡ out n a (replies slots m (commands_in a)) ++ out (n + command_count a) b (replies slots (end_of slots m (commands_in a)) (commands_in b))

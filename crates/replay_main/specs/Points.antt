@@ -1,11 +1,12 @@
--- Where a talk stands: the machine and the two numbers, from line to line.
-use Rattle.std.specs.Prelude.{ℕ, ◌+◌, List}
+-- Where a talk stands: the machine and the two numbers, from line to line; and what one line leaves.
+use Rattle.std.specs.Prelude.{◌≡◌, ℕ, ◌+◌, ◌-◌, ◌^◌, List, [], ◌∷◌, ◌++◌}
 use Rattle.std.specs.List.{count_by}
 use Rattle.flat_model.specs.Command.{Reply}
 use Rattle.flat_model.specs.Machine.{Machine, new_machine, end_of, replies}
 use Rattle.flat_model.specs.Replies.{command_count, commands_in, is_fault, is_refused, out}
 use Rattle.flat_model.specs.Trace.{Line}
 use Rattle.sessions.specs.Meaning.{slots}
+use Rattle.replay_main.specs.declared.trace.Summary.{Summary}
 
 -- where a talk stands: the machine, how many lines had a number, and how many of these were refused
 pub record Point : Type 0 where
@@ -30,3 +31,15 @@ point_after p lines = record {
   commands = p.commands + command_count lines;
   refused = p.refused + (count_by is_fault lines + count_by is_refused (replies_on p lines));
 }
+
+-- the greatest number of a line
+abbrev pub number_max : ℕ
+number_max = 2 ^ 64 - 1
+
+-- one line is answered by bytes that are appended
+pub record IsSaid (old : Point) (line : Line) (before after : List ℕ) (new : Point) : Type 0 where
+  pub bytes_are : after ≡ before ++ answers_on old (line ∷ [])
+  pub point : new ≡ point_after old (line ∷ [])
+
+abbrev pub summary_of : Point → Summary
+summary_of p = record { commands = p.commands; refused = p.refused }

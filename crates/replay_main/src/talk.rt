@@ -1,0 +1,134 @@
+//! A talk: the engine, and the two numbers of the lines that were answered.
+
+ghost use Rattle.std.specs.Prelude.{◌≡◌, ◌+◌, ◌<◌, ◌≤◌, ◌^◌, length, IfOk, OnOk, if◌then◌else◌};
+ghost use Rattle.flat_model.specs.Trace.{Fault, Run, read_line, trace_max};
+ghost use Rattle.trace_lines.specs.Meaning.{text_fault_of};
+ghost use Rattle.undo_journal.specs.Meaning.{command_of};
+ghost use Rattle.replay_main.specs.Points.{IsSaid, number_max, start_point, summary_of};
+ghost use Rattle.replay_main.specs.Replayed.{IsAnswered};
+
+use crate::Summary;
+use crate::trace::Answered;
+use pids_charge::PlainMeter;
+use std::alloc::{AllocError, Global};
+use std::marker::Model;
+use trace_lines::{Line, Lines, TextFault, is_refused, parse_line, put_fault, put_reply};
+use undo_journal::{Command, Engine};
+
+/// The engine after the lines that were answered, and their two numbers. It starts no thread, takes no lock and waits
+/// for nobody.
+#[derive(Drop)]
+pub struct Talk {
+    engine: Engine<Global, PlainMeter<Global>>,
+    summary: Summary,
+}
+
+impl Model for Talk {
+    ghost use Rattle.std.specs.Prelude.{◌≤◌};
+    ghost use Rattle.std.specs.Coded.{codes};
+    ghost use Rattle.flat_model.specs.Codes.{state_code};
+    ghost use Rattle.replay_main.specs.Points.{Point};
+
+    ghost Value = { Point };
+
+    ghost coded = { Prim.hlevel (codes, state_code) };
+
+    ghost view = { λ t. record { machine = t.engine; commands = t.summary.commands; refused = t.summary.refused } };
+
+    ghost invariant = { λ t. t.summary.refused ≤ t.summary.commands };
+}
+
+impl Talk {
+    /// Before the first line.
+    ///
+    /// # Errors
+    ///
+    /// `AllocError` where an allocation was refused.
+    pub fn new(alloc: Global) -> Result<Talk, AllocError>
+        ensures { IfOk result (λ talk. talk ≡ start_point) }
+    {
+        Ok(Talk {
+            engine: Engine::new(alloc, PlainMeter::new(alloc)?)?,
+            summary: Summary {
+                commands: 0,
+                refused: 0,
+            },
+        })
+    }
+
+    /// How many lines had a number, and how many of these were answered `refused`.
+    pub fn summary(&self) -> Summary
+        ensures { result ≡ summary_of self.now }
+    {
+        self.summary
+    }
+
+    /// Answers one line, given without its line feed: the answer is appended, and nothing where the line has no number.
+    /// Costs what the command costs, and is linear in the line and the answer.
+    ///
+    /// # Errors
+    ///
+    /// `AllocError` where an allocation was refused. Then the line may have been run, and a part of its answer
+    /// appended: nothing more is to be asked.
+    pub fn put_answer(&mut self, alloc: Global, line: &[u8], bytes: &mut Vec<u8>) -> Result<(), AllocError>
+        requires { self.old.commands < number_max }
+        ensures { OnOk result (IsSaid self.old (read_line line.now) bytes.old.items bytes.new.items self.new) }
+    {
+        match parse_line(alloc, line)? {
+            Line::Skip => Ok(()),
+            Line::Fault(fault) => self.refuse(fault, bytes),
+            Line::Run(command) => self.run(alloc, &command, bytes),
+        }
+    }
+
+    /// Answers a line that is no command.
+    fn refuse(&mut self, fault: TextFault, bytes: &mut Vec<u8>) -> Result<(), AllocError>
+        requires { self.old.commands < number_max }
+        ensures { OnOk result (IsSaid self.old (Fault (text_fault_of fault)) bytes.old.items bytes.new.items self.new) }
+    {
+        put_fault(bytes, self.summary.commands + 1, fault)?;
+        count(&mut self.summary, true);
+        Ok(())
+    }
+
+    /// Answers a command.
+    fn run(&mut self, alloc: Global, command: &Command<Global>, bytes: &mut Vec<u8>) -> Result<(), AllocError>
+        requires { self.old.commands < number_max }
+        ensures { OnOk result (IsSaid self.old (Run (command_of command.now)) bytes.old.items bytes.new.items self.new) }
+    {
+        let reply = self.engine.apply_alone(0, command);
+        put_reply(alloc, bytes, self.summary.commands + 1, &reply)?;
+        count(&mut self.summary, is_refused(&reply));
+        Ok(())
+    }
+}
+
+/// Counts one line that has a number.
+fn count(summary: &mut Summary, is_refused: bool)
+    requires few { summary.old.commands < number_max }
+    requires counted { summary.old.refused ≤ summary.old.commands }
+    ensures commands { summary.new.commands ≡ summary.old.commands + 1 }
+    ensures refused { summary.new.refused
+        ≡ summary.old.refused + (if is_refused then 1 else 0) }
+{
+    summary.commands += 1;
+    if is_refused {
+        summary.refused += 1;
+    }
+}
+
+/// Answers each line of a trace in one pass over it.
+pub(crate) fn answer_in_one_pass(alloc: Global, trace: &[u8]) -> Result<Answered, AllocError>
+    requires { length trace.now ≤ trace_max }
+    ensures { IfOk result (λ a. IsAnswered trace.now a.bytes.items a.summary) }
+{
+    let mut talk = Talk::new(alloc)?;
+    let mut bytes = Vec::new(alloc);
+    for line in Lines::of(trace) {
+        talk.put_answer(alloc, line, &mut bytes)?;
+    }
+    Ok(Answered {
+        bytes,
+        summary: talk.summary(),
+    })
+}
