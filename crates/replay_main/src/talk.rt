@@ -70,7 +70,12 @@ impl Talk {
     ///
     /// `AllocError` where an allocation was refused. Then the line may have been run, and a part of its answer
     /// appended: nothing more is to be asked.
-    pub fn put_answer(&mut self, alloc: Global, line: &[u8], bytes: &mut Vec<u8>) -> Result<(), AllocError>
+    pub fn put_answer(
+        &mut self,
+        alloc: Global,
+        line: &[u8],
+        bytes: &mut Vec<u8>,
+    ) -> Result<(), AllocError>
         requires { self.old.commands < number_max }
         ensures { OnOk result (IsSaid self.old (read_line line.now) bytes.old.items bytes.new.items self.new) }
     {
@@ -92,7 +97,12 @@ impl Talk {
     }
 
     /// Answers a command.
-    fn run(&mut self, alloc: Global, command: &Command<Global>, bytes: &mut Vec<u8>) -> Result<(), AllocError>
+    fn run(
+        &mut self,
+        alloc: Global,
+        command: &Command<Global>,
+        bytes: &mut Vec<u8>,
+    ) -> Result<(), AllocError>
         requires { self.old.commands < number_max }
         ensures { OnOk result (IsSaid self.old (Run (command_of command.now)) bytes.old.items bytes.new.items self.new) }
     {

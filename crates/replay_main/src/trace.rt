@@ -47,15 +47,31 @@ fn answer<R: Threads + Wait + Sync, G: Gate>(
     ensures fault { IfErr result EndsWork }
     ensures never_close { workers ≡ 1 → result ≢ Err Close }
 {
-    if workers == 1 {
-        gate.pass(1);
-        gate.pass(2);
-        gate.pass(3);
-        return match answer_in_one_pass(alloc, trace) {
-            Ok(answered) => Ok(answered),
-            Err(_) => Err(ReplayFault::OutOfMemory),
-        };
+    if workers > 1 {
+        return answer_at_a_desk(rt, alloc, gate, trace, workers);
     }
+    gate.pass(1);
+    gate.pass(2);
+    gate.pass(3);
+    match answer_in_one_pass(alloc, trace) {
+        Ok(answered) => Ok(answered),
+        Err(_) => Err(ReplayFault::OutOfMemory),
+    }
+}
+
+/// Answers each line of a trace, by as many sessions at a desk as workers.
+fn answer_at_a_desk<R: Threads + Wait + Sync, G: Gate>(
+    rt: &R,
+    alloc: Global,
+    gate: &G,
+    trace: &[u8],
+    workers: u8,
+) -> Result<Answered, ReplayFault>
+    requires workers { (1 ≤ workers) × (workers ≤ 8) }
+    requires trace { length trace.now ≤ trace_max }
+    ensures ok { IfOk result (λ a. IsAnswered trace.now a.bytes.items a.summary) }
+    ensures fault { IfErr result EndsWork }
+{
     let Ok(script) = read_script(rt, alloc, gate, workers, trace) else {
         return Err(ReplayFault::OutOfMemory);
     };

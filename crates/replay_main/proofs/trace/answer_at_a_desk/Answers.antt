@@ -7,7 +7,7 @@ use Rattle.undo_journal.specs.Meaning.{command_of}
 use Rattle.sessions.specs.Meaning.{slots}
 use Rattle.replay_main.specs.Script.{answers_from, place_of}
 use Rattle.replay_main.proofs.Answered.{few_places, is_answered}
-use Rattle.replay_main.proofs.trace.answer.Goals as goal
+use Rattle.replay_main.proofs.trace.answer_at_a_desk.Goals as goal
 
 pub answers_of-requires-clause-few : goal.answers_of-requires-clause-few
 answers_of-requires-clause-few g c κs within =
