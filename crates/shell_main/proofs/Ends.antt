@@ -13,10 +13,10 @@ use Rattle.replay_main.specs.Device.{IsInput, TakesFront, WholeWrite}
 use Rattle.replay_main.specs.Replayed.{IsSummary}
 use Rattle.shell_main.specs.declared.fault.ShellFault.{ShellFault}
 use Rattle.shell_main.specs.declared.fault.ShellFault.TheVariants.{Read, Write, InputTooLong, OutOfMemory}
-use Rattle.shell_main.specs.Shelled.{BeginsWith, IsBroken, IsServed, IsStopped, IsTooLong, NothingOwed, Shelled}
+use Rattle.shell_main.specs.Shelled.{BeginsWith, IsServed, IsStopped, NothingOwed, Shelled}
 use Rattle.replay_main.specs.Points.{Point, number_max, point_after, start_point, summary_of}
 use Rattle.shell_main.specs.Talks.{Keeps, Says, Serves, Stands}
-use Rattle.shell_main.specs.WholeLines.{HasNoFeed, HasShortLines, ends_line}
+use Rattle.shell_main.specs.WholeLines.{HasNoFeed, ends_line}
 use Rattle.shell_main.proofs.LineCuts.{HasOneMore, ends_more, with_feed, without_feed}
 use Rattle.shell_main.proofs.Standing.{both_written, came, point_more, written_more}
 

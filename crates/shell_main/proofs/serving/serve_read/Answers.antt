@@ -1,10 +1,10 @@
-use Rattle.std.proofs.Common.{◌≡◌, ◌∙◌, ◌+◌, ◌-◌, ◌++◌, ◌∷◌, ◌==◌, [], ℕ, List, Bool, false, Ok, Err, length, take, drop, sym, ap, subst, arith, append-nil, rules, ◌<◌}
+use Rattle.std.proofs.Common.{◌≡◌, ◌∙◌, ◌+◌, ◌-◌, ◌++◌, ◌∷◌, ◌==◌, [], ℕ, List, false, Ok, Err, length, take, drop, sym, subst, append-nil, rules, ◌<◌}
 use Rattle.std.proofs.lemmas.List.{take_rest}
 use Rattle.flat_model.specs.Trace.{read_line}
 use Rattle.shell_main.specs.Talks.{Says, Stands}
 use Rattle.shell_main.proofs.Ends.{at_end, feed_ended, handed_on, keep_ended, last_ended, last_served}
 use Rattle.shell_main.proofs.Feeds.{at_feed, no_feed}
-use Rattle.shell_main.proofs.Standing.{came, kept, said}
+use Rattle.shell_main.proofs.Standing.{kept, said}
 use Rattle.shell_main.proofs.serving.serve_read.Goals as goal
 
 -- ---- at the end of the source

@@ -1,4 +1,4 @@
-use Rattle.std.proofs.Common.{◌≡◌, false, ℕ, List, length}
+use Rattle.std.proofs.Common.{ℕ, List, length}
 use Rattle.shell_main.specs.Talks.{Stands}
 use Rattle.shell_main.proofs.serving.serve_read.Given as goal
 

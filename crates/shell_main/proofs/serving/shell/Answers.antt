@@ -1,5 +1,4 @@
 use Rattle.std.proofs.Common.{◌∙◌, [], sym, rules}
-use Rattle.shell_main.specs.Shelled.{Shelled}
 use Rattle.shell_main.proofs.Ends.{after_flush, flushed_by, unflushed}
 use Rattle.shell_main.proofs.Standing.{at_start}
 use Rattle.shell_main.proofs.serving.shell.Goals as goal
