@@ -11,7 +11,7 @@ use std::thread;
 /// How often a call polls whether its turn has come, before it sleeps.
 const LOOKS: u32 = 100;
 
-/// The hall behind its lock, and for each session a sign at which it sleeps.
+/// The hall behind its lock, and for each session the condition variable on which it sleeps.
 #[derive(Drop)]
 pub(crate) struct Shared {
     pub(crate) hall: Mutex<Hall>,
