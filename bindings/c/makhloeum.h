@@ -49,10 +49,10 @@ typedef struct {
 /* The status of a call. */
 enum {
     MK_DONE = 0,          /* answered */
-    MK_REFUSED = 1,       /* answered `refused`. Nothing has changed but for MK_PIDS_MAX, which counts events and is recorded */
+    MK_REFUSED = 1,       /* answered `refused`. Only MK_PIDS_MAX changes anything: event totals; it is recorded */
     MK_FAULT = 2,         /* the text is no command, or no path; nothing has changed */
     MK_TOO_SMALL = 3,     /* the buffer is too small; nothing has changed */
-    MK_OUT_OF_MEMORY = 4, /* memory is wanting; nothing has changed */
+    MK_OUT_OF_MEMORY = 4, /* out of memory; nothing has changed */
     MK_SKIPPED = 5,       /* a comment, or a line without words: it has no answer; nothing has changed */
     MK_CLOSED = 6         /* the handle has no engine (for mk_open: it has one); nothing has changed */
 };

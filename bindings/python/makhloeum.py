@@ -218,7 +218,7 @@ class Hierarchy:
     """A hierarchy of groups: at first the root alone, and process 1 in it.
 
     A context manager: its end frees the engine. Paths are texts as '/' and '/a/b', pids numbers. Each call raises a
-    `Refused` where the command is refused, `MemoryError` where memory is wanting, and `ValueError` once it is closed.
+    `Refused` where the command is refused, `MemoryError` when out of memory, and `ValueError` once it is closed.
     """
 
     def __init__(self):

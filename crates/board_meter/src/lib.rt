@@ -12,9 +12,9 @@
 //!   as many runs, which differ by at most one, the longer first. Part 1 does the first runs with main on the calling thread;
 //!   each other part is done by a thread of its own, with a hand that is split off main with the part's leaving tokens and
 //!   joined before `settle` returns. All hands are split off, and all threads started, before the first is joined. Within a
-//!   part the leaving ones go first. All parts pass the gate at their start, also where a run is empty. Where no thread can be
-//!   had, the thread that should have started it does the part; the content that is left is the same, for however many parts
-//!   and threads.
+//!   part the leaving ones go first. Each part first calls the test hook, also where a run is empty. Where no thread can be
+//!   had, the thread that should have started it does the part; the content that is left is the same, for however many
+//!   parts and threads.
 //!
 //! What is not promised: that a thread was had, and in which stripe an amount stands.
 //!

@@ -49,7 +49,7 @@ fn charge_all<const G: usize, const W: usize, const L: usize>(
     }
 }
 
-/// Passes the gate; then the leaving charges go before the arriving ones come.
+/// Calls the test hook; then the leaving charges go before the arriving ones come.
 pub(crate) fn do_part<const G: usize, const W: usize, const L: usize, A: Gate>(
     board: &Board<G, W, L>,
     hand: &mut Hand,

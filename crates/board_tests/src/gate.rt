@@ -1,15 +1,15 @@
-//! A gate at which the parts of a settlement wait for one another.
+//! A barrier at which the parts of a settlement wait for one another.
 
 use pids_charge::Gate;
 use std::sync::atomic::{AtomicBool, Ordering};
 
-/// A part reads another's flag as often at most.
+/// A part polls another's flag as often at most.
 const TURNS: u32 = 100_000_000;
 
 /// The most parts of a settlement.
 const MOST: usize = 8;
 
-/// A gate at which each of so many parts sets its flag and waits for those of all the others, for a
+/// A barrier at which each of so many parts sets its flag and waits for those of all the others, for a
 /// bounded time.
 #[derive(Drop)]
 pub(crate) struct Meeting {

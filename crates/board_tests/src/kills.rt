@@ -73,7 +73,7 @@ fn the_parts_of_a_kill_meet(rt: HostRuntime) -> Result<(), Fail> {
     Ok(())
 }
 
-/// A kill of an empty group passes the gate as well, in two parts.
+/// A kill of an empty group passes the barrier as well, in two parts.
 #[test]
 fn a_kill_of_nobody(rt: HostRuntime) -> Result<(), Fail> {
     let mut engine = Engine::new(rt.alloc(), BoardMeter::new(rt.alloc())?)?;

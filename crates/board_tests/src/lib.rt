@@ -7,9 +7,9 @@
 //! answers that were written by hand.
 //!
 //! - `drawn`: both meters over charges drawn by a generator of numbers.
-//! - `gate`: a gate at which the parts of a settlement wait for one another.
-//! - `kills`: a kill and its undo at such a gate.
-//! - `meeting`: settlements at such a gate.
+//! - `gate`: a barrier at which the parts of a settlement wait for one another.
+//! - `kills`: a kill and its undo at such a barrier.
+//! - `meeting`: settlements at such a barrier.
 //! - `meters`: a plain meter and one over a board, side by side, on a table of calls.
 //! - `replies`: what an engine answers to lines.
 //! - `swap`: what both meters do: the charges of one list go, and those of another come.

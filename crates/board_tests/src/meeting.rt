@@ -19,7 +19,7 @@ struct Seen {
     back: [u64; 3],
 }
 
-// A new meter; the tokens come by one settlement and go by another, each through a gate of its own.
+// A new meter; the tokens come by one settlement and go by another, each with a barrier of its own.
 fn there_and_back<R: Threads>(
     rt: &R,
     alloc: Global,
@@ -60,7 +60,7 @@ const TOKENS: [Token; 9] = [
     Token { slot: 0, leaf: 0 },
 ];
 
-// Of no token, or one, there are two parts; a part or both have nothing to do, and pass the gate all
+// Of no token, or one, there are two parts; a part or both have nothing to do, and pass the barrier all
 // the same. Of nine there are eight.
 #[test]
 fn the_parts_meet(rt: HostRuntime) -> Result<(), Fail> {

@@ -16,7 +16,7 @@ pub(crate) fn command(alloc: Global, line: &str) -> Result<Command<Global>, Fail
     }
 }
 
-/// Puts the answer to line `number`, issued by the user `who`, behind the bytes.
+/// Appends the answer to line `number`, issued by the user `who`, to the bytes.
 pub(crate) fn put_answer<R: Threads + Wait + Sync, M: Meter>(
     rt: &R,
     alloc: Global,
@@ -36,7 +36,7 @@ pub(crate) fn put_answer<R: Threads + Wait + Sync, M: Meter>(
 /// A line, and the number of the user who issues it.
 pub(crate) type Issued = (u8, &'static str);
 
-/// The answers to these lines, which pass the gate, numbered from 1.
+/// The answers to these lines, with this test hook, numbered from 1.
 pub(crate) fn answers<R: Threads + Wait + Sync, M: Meter>(
     rt: &R,
     alloc: Global,

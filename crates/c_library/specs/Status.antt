@@ -52,7 +52,7 @@ AnswersAt (Some e) n line out status info new = AnsweredAt e n line out status i
 
 -- ---- the engine of a handle
 
--- a handle that had none has a new one, unless memory was wanting; one that had one stays
+-- a handle that had none has a new one, unless out of memory; one that had one stays
 abbrev pub IsOpened : Option LineEngine → ℕ → Option LineEngine → Type 0
 IsOpened (Some e) status new = (status ≡ 6) × (new ≡ Some e)
 IsOpened None status None = status ≡ 4

@@ -1,5 +1,5 @@
-//! Calls that are answered where there is memory. A made-up want of memory would pass every contract, so it is looked
-//! for where a wrong reason could hide behind it.
+//! Calls that are answered where there is memory. A made-up `OutOfMemory` would pass every contract, so tests
+//! ask where a wrong reason could hide behind it.
 
 use crate::engine::{answer, command, said};
 use pids_charge::PlainMeter;

@@ -1,4 +1,4 @@
-//! Each growth that a command asks for, refused in turn.
+//! Each allocation that a command asks for, refused in turn.
 
 use crate::engine::{answer, command, said};
 use linked_list_allocator::LocalHeap;
@@ -83,8 +83,8 @@ fn answer_in<'a, R: Threads + Wait + Sync>(
     }
 }
 
-/// The first answer that is not want of memory, as the room grows by a block at a time; and
-/// whether memory was wanting before it. Each time that it was, what can be seen of the engine
+/// The first answer that is not out of memory, as the room grows by a block at a time; and
+/// whether one before it was. Each time that it was, what can be seen of the engine
 /// stayed.
 fn first_answer<'a, R: Threads + Wait + Sync>(
     rt: &R,
@@ -217,8 +217,8 @@ const ENDED: [&str; 5] = [
     "fork 1 3",
 ];
 
-/// What `undo_all` answers with that many blocks of sixteen bytes left in the heap. Where memory was
-/// wanting, the newest fork alone is undone, and with memory the other records are.
+/// What `undo_all` answers with that many blocks of sixteen bytes left in the heap. When out of
+/// memory, the newest fork alone is undone, and with memory the other records are.
 fn undone_in<R: Threads + Wait + Sync>(
     rt: &R,
     alloc: Global,
@@ -273,7 +273,7 @@ fn seen_of<R: Threads + Wait + Sync>(
     seen(rt, alloc, &mut engine)
 }
 
-/// Each growth that `undo_all` asks for refused in turn, as the room grows by a block at a time.
+/// Each allocation that `undo_all` asks for refused in turn, as the room grows by a block at a time.
 #[test]
 fn each_growth_of_undoing_all_refused(rt: HostRuntime) -> Result<(), Fail> {
     let mut refusals = 0usize;

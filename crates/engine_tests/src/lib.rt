@@ -4,7 +4,7 @@
 //!
 //! - `engine`: commands, their texts, and what the engine keeps of them.
 //! - `engine_memory`: each allocation that a command asks for, refused in turn.
-//! - `ample_memory`: answers where there is memory, in the cases where a wrong reason could hide behind a want of it.
+//! - `ample_memory`: answers where there is memory, in the cases where a wrong reason could hide behind `OutOfMemory`.
 //! - `rehearsal`: rehearsals in an arena.
 #![tactic(auto)]
 

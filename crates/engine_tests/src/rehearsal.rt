@@ -43,7 +43,7 @@ const RECORDED: [(&str, &str); 11] = [
     ("rmdir /b", "ok"),
 ];
 
-/// All of them taken back, with looks in between.
+/// All of them taken back, with files read in between.
 const TAKEN_BACK: [(&str, &str); 16] = [
     ("undo", "rmdir /b"),
     ("undo", "write /b cgroup.kill 1"),
@@ -189,7 +189,7 @@ fn processes_of_groups_rehearsed(rt: HostRuntime) -> Result<(), Fail> {
     rehearsed_and_applied(&rt, rt.alloc(), &HOUSED, &COUNTED)
 }
 
-/// An arena that may not grow refuses the rehearsal, and is empty again.
+/// An arena whose allocations are refused refuses the rehearsal, and is empty again.
 #[test]
 fn arena_without_room(rt: HostRuntime) -> Result<(), Fail> {
     let mut engine = sample(&rt, rt.alloc(), &BEFORE)?;

@@ -184,7 +184,7 @@ path_text_spelled : (names : List Name) (b : ℕ) (xs : List ℕ) → spelled na
 path_text_spelled [] b xs e = cc
 path_text_spelled (n ∷ names) b xs e = refl
 
--- ---- the two laws
+-- ---- a text has no fault exactly where it is a path's
 
 pub record Sound (text : List ℕ) : Type 0 where
   pub text_is : text ≡ path_text (names_in text)

@@ -31,7 +31,7 @@ IsEntry n log h = (h.session < n) × (slice_get log h.receipt.number ≡ Some (e
 abbrev pub InOrder : Handed → Handed → Type 0
 InOrder earlier later = (earlier.receipt.number ≢ later.receipt.number) × (earlier.list ≡ later.list → earlier.receipt.number < later.receipt.number)
 
--- so far as they go, the receipts are entries of the log, none twice, rising within a list
+-- so far as they go, the receipts are entries of the log, none twice, ascending within a list
 pub record AreSound (n : ℕ) (log : List Entry) (hs : List Handed) : Type 0 where
   pub entries : All (IsEntry n log) hs
   pub order : AllPairs InOrder hs

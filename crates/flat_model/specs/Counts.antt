@@ -29,7 +29,7 @@ pub record IsInhabited (s : State) (g : Path) : Type 0 where
 abbrev pub descendant_count : State → Path → ℕ
 descendant_count s g = count_by (λ p. strictly_below p g) (keys s.groups)
 
--- `cgroup.procs`: the processes of g itself, rising
+-- `cgroup.procs`: the processes of g itself, ascending
 abbrev pub members : State → Path → List ℕ
 members s g = map (λ e. e.0) (filter (λ e. same_path e.1 g) (entries s.home))
 

@@ -22,7 +22,7 @@ pub data Inverse : Type 0 where
   Limited : Path → LimitFile → Limit → Inverse
   -- a fork refused by this group's `pids.max`
   Counted : Path → Inverse
-  -- each process with the home that it had, rising
+  -- each process with the home that it had, ascending
   Killed : List (ℕ × Path) → Inverse
 
 -- each listed process at its listed home
@@ -41,7 +41,7 @@ back (Limited p file value) s = set_limit p file value s
 back (Counted a) s = at_each (count_down a) s
 back (Killed lost) s = record s { home = place_all lost s.home }
 
--- the processes at or below g with their homes, rising
+-- the processes at or below g with their homes, ascending
 abbrev pub lost : State → Path → List (ℕ × Path)
 lost s g = entries (retain_keys s.home (lives_in s g))
 

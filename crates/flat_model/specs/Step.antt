@@ -98,7 +98,7 @@ lives_in s g pid = is_within g (get s.home pid)
 abbrev pub at_each : (Path → Attr → Attr) → State → State
 at_each f s = record s { groups = from_entries (map (λ e. (e.0, f e.0 e.1)) (entries s.groups)) }
 
--- whether p counts what happens in a, events and processes: p is a or a group above it, but not the root
+-- whether p counts the processes and refused forks of a: p is a or a group above it, but not the root
 abbrev pub counts_for : Path → Path → Bool
 counts_for a p = not (is_root p) && at_or_below a p
 

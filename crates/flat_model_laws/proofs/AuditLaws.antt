@@ -306,7 +306,7 @@ entries-each n log ss i e lt = found (handed ss) i e.sound.entries (e.each i lt)
         let P : ℕ → Type 0 = λ k. slice_get log k ≡ Some (entry_of x.session x.receipt) in
         (c.0, x, in_hs, get_or_default (h ∷ hs) c.0 x h in_hs, (same, is.0, subst P same is.1))
 
--- ---- rising within each list
+-- ---- ascending within each list
 
 pub rises : (p s : ℕ) (rs : List Receipt) → AllPairs InOrder (list_of p s rs) → IsStrictlyIncreasing (map (λ r. r.number) rs)
 rises p s [] order k lt = absurd (omega (arith, lt))

@@ -1,4 +1,4 @@
-//! What an audit's definition says. Each function says a law in its contract and does nothing.
+//! What an audit's definition says. Each function is proof only: its contract is a law.
 
 ghost use Rattle.std.specs.Prelude.{
   ◌≡◌,
@@ -50,7 +50,7 @@ pub fn fault_is_found()
         → AreEntries n log ss ⊎ ((f : ReceiptFault) × FirstFault n log ss f) }
 {}
 
-/// Then each entry has one receipt, which is its own, and the numbers rise within each session's
+/// Then each entry has one receipt, which is its own, and the numbers ascend within each session's
 /// list.
 pub fn entries_once()
     ensures once { (n : ℕ) (log : List Entry) (ss : List Session) (i : ℕ) → AreEntries n log ss

@@ -1,6 +1,6 @@
 //! The laws of the definitions in `flat_model`, and examples that are computed from them.
 //!
-//! Each function does nothing. It says a law in its contract, so that a check of this crate proves
+//! Each function is proof only: its contract is a law, so that a check of this crate proves
 //! it, of any state, path, text, log or number of slots unless the law says which.
 //!
 //! - `paths`, `texts`: paths are ordered and read back, and so is each word, line and trace.

@@ -100,7 +100,7 @@ pub fn events_are_bounded()
 {}
 
 /// The past is what undos give back, each state in turn: it is well formed where each of those is,
-/// its events are bounded where those of each are by what is still recorded then, and a run takes
+/// its event totals are bounded where those of each are by what is still recorded then, and a run takes
 /// back its own records alone where none of its commands leaves fewer than there were.
 pub fn past_is_given_back()
     ensures well_formed { (slots : ℕ) (m : Machine) → MachineWellFormed slots m

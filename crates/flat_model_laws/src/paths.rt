@@ -1,4 +1,4 @@
-//! The laws of paths and of their texts. Each function says its law and does nothing.
+//! The laws of paths and of their texts. Each function is proof only: its contract is a law.
 
 ghost use Rattle.std.specs.Prelude.{
   ◌≡◌,

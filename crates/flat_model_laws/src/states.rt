@@ -76,7 +76,7 @@ pub fn counts_are_exact()
 {}
 
 /// At the start there is the root alone, without limits, and process 1 in it. A new group has no
-/// limits, no events and no peak, and leaves all else as it was.
+/// limits, event totals of 0 and no peak, and leaves all else as it was.
 pub fn new_groups_are_bare()
     ensures root { get start.groups []
         ≡ Some (record {
@@ -140,7 +140,7 @@ pub fn limits_are_exact()
 
 /// What a well-formed state promises: each group above a group is there, each process is in a group
 /// that shows it, a group is refused for want of a slot only when each slot has one, no group
-/// counts more events of its own than in all, and none but the root counts more processes than its
+/// counts more refused forks of its own than in all, and none but the root counts more processes than its
 /// peak.
 pub fn well_formed_is_closed()
     ensures groups { (slots : ℕ) (s : State) (p q : Path) → WellFormed slots s

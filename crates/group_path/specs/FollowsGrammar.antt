@@ -1,4 +1,4 @@
--- What a call answers for what the grammar gives: the same, and want of memory only in place of a path.
+-- What a call answers for what the grammar gives: the same, and out of memory only in place of a path.
 use Rattle.std.specs.Prelude.{◌≡◌, Option, Some, None, Result, Ok, Err, MatchResult}
 use Rattle.flat_model.specs.Path.{Path}
 use Rattle.flat_model.specs.PathText as grammar

@@ -64,8 +64,8 @@ impl<A: Allocator + Clone> GroupPath<A> {
         Ok(GroupPath { text })
     }
 
-    /// Tells callers that every path is one of the grammar, with its bounds on names, on their bytes and on the text. It
-    /// does nothing.
+    /// Tells callers that every path is one of the grammar, with its bounds on names, on their bytes and on the text.
+    /// It is proof only.
     pub fn known(&self)
         ensures { IsPath self.now }
     {
@@ -134,7 +134,7 @@ impl<A: Allocator + Clone> GroupPath<A> {
     ///
     /// # Errors
     ///
-    /// `AllocError` where memory was wanting.
+    /// `AllocError` when out of memory.
     pub fn parent<B: Allocator + Clone>(&self, alloc: B) -> Result<Option<GroupPath<B>>, AllocError>
         ensures root { is_root self.now ≡ true → result ≡ Ok None }
         ensures group { IfOk result (λ p. p ≡ (if is_root self.now then None else Some (parent self.now))) }
@@ -153,9 +153,9 @@ impl<A: Allocator + Clone> GroupPath<A> {
     ///
     /// # Errors
     ///
-    /// `AllocError` where memory was wanting; a text of at most `INLINE_MAX` bytes takes none.
+    /// `AllocError` when out of memory; a text of at most `INLINE_MAX` bytes takes none.
     pub fn copy<B: Allocator + Clone>(&self, alloc: B) -> Result<GroupPath<B>, AllocError>
-        // It is the same path, and memory can only be wanting for a text that does not lie in the value.
+        // It is the same path, and only a text that does not lie in the value can be out of memory.
         ensures { MatchResult result (λ p. p ≡ self.now) (λ _. INLINE_MAX < length (path_text self.now)) }
     {
         let text = InlineBytes::copy_of(alloc, self.text.as_slice())?;

@@ -1,4 +1,4 @@
--- A chain that has room is pushed with no growth.
+-- A chain that has room is pushed with no allocation.
 use Rattle.std.proofs.Common.{◌≡◌, ℕ, ◌+◌, Bool, true, false, ◌∷◌, length, Result, Ok, Err, ap, refl, ◌∙◌, arith}
 use Rattle.smallvec.specs.SmallVec.{SmallVec, small_vec_len, HasRoomFor}
 use Rattle.flat_model.specs.Path.{Name, Path}
@@ -21,7 +21,7 @@ pushes_below old mid names n p b c e h =
 not_ok : false ≡ true → ⊥
 not_ok h = cc
 
--- a refused growth: there was no room
+-- a refused allocation: there was no room
 pub refused_below : {E F : Type 0} (old mid : SmallVec ℕ) (names : Path) (n : Name) (p : Path) (x : E) (r : Result Bool F) → names ≡ n ∷ p → PushesInPlace {E = E} old mid (length p) (Err x) → PushesInPlace {E = F} old mid (length names) r
 refused_below old mid names n p x r e h =
     let l = one_name names n p e in

@@ -16,7 +16,7 @@ at_most_two Less = omega arith
 at_most_two Equal = omega arith
 at_most_two Greater = omega arith
 
--- the comparisons with a name rise along names that rise
+-- the comparisons with a name ascend along ascending names
 rises : (a b n : Name) → name_cmp a b ≡ Less → ordering_index (name_cmp a n) ≤ ordering_index (name_cmp b n)
 rises a b n h =
     elim (name_cmp b n) as (λ r. name_cmp b n ≡ r → ordering_index (name_cmp a n) ≤ ordering_index r) [

@@ -41,7 +41,7 @@ abbrev pub AllAbove : Name → List Branch → Type 0
 AllAbove name [] = Unit {0}
 AllAbove name (kid ∷ kids) = (name_cmp name kid.name ≡ Less) × AllAbove name kids
 
--- the names strictly rise
+-- the names strictly ascend
 abbrev pub HasRisingNames : List Branch → Type 0
 HasRisingNames [] = Unit {0}
 HasRisingNames (kid ∷ kids) = AllAbove kid.name kids × HasRisingNames kids

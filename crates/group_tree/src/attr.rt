@@ -52,7 +52,7 @@ impl Attr {
     ghost use Rattle.flat_model.specs.Step.{limit_at, with_limit};
     ghost use Rattle.group_tree.specs.Flat.{group_of, limit_of, limit_file_of};
 
-    /// What a group has as it is made: no limits, no events and no peak, its processes counted at the slot.
+    /// What a group has as it is made: no limits, event totals of 0 and no peak, its processes counted at the slot.
     pub fn new(slot: u16) -> Attr
         ensures group { group_of result ≡ fresh }
         ensures slot { result.slot ≡ slot }

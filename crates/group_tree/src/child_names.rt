@@ -9,7 +9,7 @@ use group_path::Names;
 use std::alloc::Allocator;
 use std::marker::Model;
 
-/// The names of the groups one name below a group, rising in the order of their bytes. Each costs one step, and no memory.
+/// The names of the groups one name below a group, ascending by their bytes. Each costs one step, and no memory.
 #[derive(Drop)]
 pub struct ChildNames<'a, A: Allocator> {
     /// The groups whose names are still to be given.

@@ -12,9 +12,9 @@ use std::alloc::Allocator;
 /// How an event total changes.
 #[derive(Clone, Copy)]
 pub(crate) enum Change {
-    /// One event more.
+    /// One more.
     Raise,
-    /// One event less.
+    /// One less.
     Lower,
 }
 

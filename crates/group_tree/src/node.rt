@@ -21,7 +21,7 @@ pub struct Node<A: Allocator> {
     pub(crate) attr: Attr,
     /// How many groups are below it, modulo 2^64.
     pub(crate) descendants: u64,
-    /// The groups one name below it, their names rising.
+    /// The groups one name below it, their names ascending.
     pub(crate) children: Vec<Node<A>, A>,
 }
 

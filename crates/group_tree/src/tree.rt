@@ -209,7 +209,7 @@ impl<A: Allocator> GroupTree<A> {
     }
 
     /// Tells callers that the tree has the root and the parent of each group, and that what stands below a group is what
-    /// stands below it in the flat state of `map_values group_of`. It does nothing.
+    /// stands below it in the flat state of `map_values group_of`. It is proof only.
     pub fn known(&self)
         ensures closed { IsClosed self.now }
         ensures prefixes { (p q : Path) → IsSome (fin.get self.now p) → at_or_below p q ≡ true → IsSome (fin.get self.now q) }
@@ -222,7 +222,7 @@ impl<A: Allocator> GroupTree<A> {
     ///
     /// # Errors
     ///
-    /// `AllocError` where memory was wanting; what was copied is dropped then.
+    /// `AllocError` when out of memory; what was copied is dropped then.
     pub fn copy<B: Allocator + Clone + Drop>(&self, alloc: B) -> Result<GroupTree<B>, AllocError>
         ensures { IfOk result (λ t. t ≡ self.now) }
     {
@@ -236,7 +236,7 @@ impl<A: Allocator + Clone> GroupTree<A> {
     ///
     /// # Errors
     ///
-    /// `AllocError` where memory was wanting.
+    /// `AllocError` when out of memory.
     pub fn new(alloc: A, root: Attr) -> Result<GroupTree<A>, AllocError>
         ensures { IfOk result (λ t. t ≡ only_root root) }
     {

@@ -1,4 +1,4 @@
--- Each fault of the grammar has its own fault of the code, and none is want of memory.
+-- Each fault of the grammar has its own fault of the code, and none is out of memory.
 use Rattle.std.proofs.Common.{◌≡◌, ◌≢◌, ◌↔◌, Option, Some, None, Result, Ok, Err, IsOk, refl, sym, ap, ◌∙◌}
 use Rattle.flat_model.specs.Path.{Path}
 use Rattle.flat_model.specs.PathText as grammar

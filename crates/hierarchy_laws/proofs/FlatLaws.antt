@@ -25,7 +25,7 @@ use Rattle.group_tree.specs.Refusals.{Counts, HasRoomForRefusals, counted_by}
 use Rattle.group_tree.specs.Peaks.{SetsPeaks, peaked_by}
 use Rattle.group_tree.specs.Limits.{refusal_along, names_of, without_processes}
 
--- an event total after one event more, and after one less
+-- an event total after one refused fork more, and after one less
 abbrev raised : ℕ → ℕ
 raised n = min (n + 1) (2 ^ 64 - 1)
 

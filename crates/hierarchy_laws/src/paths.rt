@@ -9,7 +9,7 @@ ghost use Rattle.group_path.specs.declared.fault.PathFault.TheVariants.{NotRoote
 ghost use Rattle.group_path.specs.FollowsGrammar.{FollowsGrammar, fault_of, checked};
 
 /// What an answer says of the grammar: a path is the grammar's own, a fault of the grammar is that fault and no other,
-/// and want of memory stands only in place of a path.
+/// and out of memory stands only in place of a path.
 pub fn answers_follow_the_grammar()
     ensures found { (p : Path) (g : Result Path grammar.PathFault) → FollowsGrammar (Ok p) g ↔ (g ≡ Ok p) }
     ensures fault { (f : grammar.PathFault) (g : Result Path grammar.PathFault) → FollowsGrammar (Err (fault_of f)) g ↔ (g ≡ Err f) }

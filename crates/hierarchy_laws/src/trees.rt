@@ -23,7 +23,7 @@ ghost use Rattle.group_tree.specs.Peaks.{SetsPeaks, peaked_by};
 ghost use Rattle.group_tree.specs.Limits.{refusal_along, names_of, without_processes};
 
 /// What a new group answers, by what the tree had: one fault where there is such a group, one where there is none to put
-/// it in, and else only want of memory. Each fault leaves the tree as it was.
+/// it in, and else only out of memory. Each fault leaves the tree as it was.
 pub fn faults_of_a_new_group()
     ensures exists { (old new : Groups) (p : Path) (attr : Attr) (r : Result (Unit {0}) TreeFault) → IsSome (get old p) → Inserts old new p attr r ↔ ((r ≡ Err Exists) × (new ≡ old)) }
     ensures no_parent { (old new : Groups) (p : Path) (attr : Attr) (r : Result (Unit {0}) TreeFault) → get old p ≡ None → get old (parent p) ≡ None → Inserts old new p attr r ↔ ((r ≡ Err NoParent) × (new ≡ old)) }

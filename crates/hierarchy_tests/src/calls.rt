@@ -24,8 +24,8 @@ pub(crate) fn path(alloc: Global, text: &str) -> Result<GroupPath<Global>, Fail>
     Ok(GroupPath::read(alloc, text.as_bytes())?)
 }
 
-/// `/a`, `/a/b`, `/a/b/c`, `/a/d`, `/e`, made out of their order, with the slots 1 to 5; quiet ones have no limits and no
-/// events.
+/// `/a`, `/a/b`, `/a/b/c`, `/a/d`, `/e`, made out of their order, with the slots 1 to 5; quiet ones have no limits
+/// and event totals of 0.
 pub(crate) fn sample(alloc: Global, is_quiet: bool) -> Result<GroupTree<Global>, Fail> {
     let mut tree = GroupTree::new(alloc, with(is_quiet, 0))?;
     for (text, slot) in [

@@ -29,7 +29,7 @@ fn is_changed(file: LimitFile, pids: u32, descendants: u32, depth: u32) -> bool 
         == (limited(9, wanted), Limit::At(1), Limit::Unlimited)
 }
 
-/// A new group has no limits and no events; a limit that is changed leaves the other two, the events and the slot.
+/// A new group has no limits and event totals of 0; a limit that is changed leaves the other two, totals and slot.
 #[test]
 fn changes_limits(rt: HostRuntime) {
     assert_eq!(rt; Attr::new(9), limited(9, [Limit::Unlimited; 3]));

@@ -1,4 +1,4 @@
-//! Paths in a small heap: what a refused growth leaves.
+//! Paths in a small heap: what a refused allocation leaves.
 
 use crate::paths::{has_child, has_parent, names_of_letters};
 use group_path::{GroupPath, PathFault};
@@ -32,7 +32,7 @@ fn over_a_small_heap(rt: HostRuntime) -> Result<(), Fail> {
     Ok(())
 }
 
-/// Whether a full heap refuses, for want of memory, a read of the text, and a child, a parent and a copy of the path, and
+/// Whether a full heap refuses, as out of memory, a read of the text, and a child, a parent and a copy of the path, and
 /// a read and a child whose texts have faults of their own for those.
 fn refuses_each(heap: &LocalHeap, text: &[u8], first: &GroupPath<&LocalHeap>) -> bool {
     let want = Some(PathFault::OutOfMemory);
@@ -57,7 +57,7 @@ fn is_refused(alloc: Global, heap: &LocalHeap, text: &[u8]) -> Result<bool, Fail
     Ok((is_refused, again.is_same(&copy)) == (true, true))
 }
 
-/// Each growth is refused where the heap is full, and nothing else changes. Want of memory is the last fault.
+/// Each allocation is refused where the heap is full, and nothing else changes. Out of memory is the last fault.
 #[test]
 fn growth_refused(rt: HostRuntime) -> Result<(), Fail> {
     let heap = LocalHeap::new(rt.alloc(), 256)?;

@@ -1,4 +1,4 @@
-//! A tree in a small heap: what a refused growth leaves.
+//! A tree in a small heap: what a refused allocation leaves.
 
 use crate::calls::{Call, answer, attr, path};
 use crate::wide_and_deep::{deep, is_rising, nest};
@@ -63,7 +63,7 @@ fn has_first<A: Allocator + Clone>(
     )
 }
 
-/// Makes groups from number 0 on until a growth is refused or there are `most`; how many were made.
+/// Makes groups from number 0 on until an allocation is refused or there are `most`; how many were made.
 fn filled<'a>(
     alloc: Global,
     heap: &'a LocalHeap,
@@ -99,7 +99,7 @@ fn made_in(alloc: Global, size: usize, stem: &str, most: u16) -> Result<Option<u
     }
 }
 
-/// In 1,024 bytes a growth is refused before the thousandth group.
+/// In 1,024 bytes an allocation is refused before the thousandth group.
 #[test]
 fn in_1024_bytes(rt: HostRuntime) -> Result<(), Fail> {
     for stem in [SHORT, LONG] {
@@ -151,7 +151,7 @@ fn in_65536_bytes(rt: HostRuntime) -> Result<(), Fail> {
     Ok(())
 }
 
-/// A heap of each size in steps of eight bytes refuses the growths of the first inserts one after another: that of
+/// A heap of each size in steps of eight bytes refuses the allocations of the first inserts one by one: that of
 /// the name, then that of the list of children, whose new node is given back. A name takes fewer than 64 bytes, so what
 /// is refused in a larger heap before the first group is there is the list.
 #[test]

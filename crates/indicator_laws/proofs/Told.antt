@@ -12,7 +12,7 @@ pub runs_one : (k a b : State) (es : List Event) → Runs k es a → Runs k es b
 runs_one k a b [] r s = r ∙ sym s
 runs_one k a b (e ∷ es) r s = runs_one (after k e) a b es r.1 s.1
 
--- where the event is lawful, it is refused for want of memory alone
+-- where the event is lawful, it is refused when out of memory alone
 memory : (k : State) (e : Event) (u : Unlawful) → refusal k e ≡ None → Refuses u k e → u ≡ OutOfMemory
 memory k e NoHand n r = cc
 memory k e NoToken n r = cc

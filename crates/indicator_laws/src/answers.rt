@@ -16,7 +16,7 @@ ghost use Rattle.snzi_core.specs.Effect.{Refuses, Runs, Stops, after, is_split};
 ghost use Rattle.indicator_laws.specs.Cores.{core, at, token, full, crowded, filled, roomy, main_with};
 
 /// An answer says one thing only. The refusal that an event meets is answered, and no other; where
-/// it meets none, want of memory alone may be answered, and only of a split, which alone makes a
+/// it meets none, out of memory alone may be answered, and only of a split, which alone makes a
 /// hand.
 pub fn refusals_are_told_apart()
     ensures told { (k : State) (e : Event) (u : Unlawful) → refusal k e ≡ Some u → Refuses u k e }
@@ -90,7 +90,7 @@ pub fn splits_are_refused_in_order()
 {}
 
 /// A list of events comes to one core. Where it stops at a place, the core and the refusal are the
-/// only ones; a list whose events are all lawful stops for want of memory alone.
+/// only ones; a list whose events are all lawful stops when out of memory alone.
 pub fn lists_are_told_apart()
     ensures runs { (k a b : State) (es : List Event) → Runs k es a → Runs k es b → a ≡ b }
     ensures stops { (k a b : State) (es : List Event) (i : ℕ) (u v : Unlawful) → Stops k es i u a

@@ -1,7 +1,7 @@
 //! The laws of the definitions in `snzi_core` and `snzi_tree`, and examples that are computed from
 //! them.
 //!
-//! Each function does nothing. It says a law in its contract, so that a check of this crate proves
+//! Each function is proof only: its contract is a law, so that a check of this crate proves
 //! it, of any core, board, hand or list unless the law says which.
 //!
 //! - `answers`: what each answer of the core says, which refusal an event meets first, and what a

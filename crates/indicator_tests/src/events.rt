@@ -1,4 +1,4 @@
-//! Worked rows of events, the cap on helpers, growths refused in turn, and the memory of a spent hand.
+//! Worked rows of events, the cap on helpers, allocations refused in turn, and the memory of a spent hand.
 ghost use Rattle.std.specs.Prelude.{◌≡◌};
 
 use linked_list_allocator::LocalHeap;

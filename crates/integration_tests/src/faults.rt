@@ -126,7 +126,7 @@ fn a_refused_allocation(rt: HostRuntime) {
     }
 }
 
-/// With any one allocation refused, all is answered, or want of memory is: a fault, or a sink's.
+/// With any one allocation refused, all is answered, or out of memory is: a fault, or a sink's.
 #[test]
 fn a_refused_allocation_of_a_rehearsal(rt: HostRuntime) {
     match rehearsed(&rt, rt.alloc(), TRACE) {

@@ -1,4 +1,4 @@
--- What a text of a file, or of `/proc/PID/cgroup`, is. The first refusal is answered, want of memory last.
+-- What a text of a file, or of `/proc/PID/cgroup`, is. The first refusal is answered, out of memory last.
 use Rattle.std.specs.Prelude.{◌≡◌, ℕ, Some, None, Result, Ok, Err}
 use Rattle.std.specs.declared.vec.Vec.{Vec}
 use Rattle.flat_model.specs.Path.{Path}

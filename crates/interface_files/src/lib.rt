@@ -8,8 +8,8 @@
 //!   other words are no numbers. Of several faults the first in the order of `ValueFault` is told, and a number is out of
 //!   its range however many digits it has.
 //! - `render` gives the text of a file, and `render_home` that of `/proc/PID/cgroup`. Every line ends with one line feed.
-//!   Neither changes anything. Refusals come first, in a fixed order; want of memory comes last, and is answered only
-//!   where a growth was refused.
+//!   Neither changes anything. Refusals come first, in a fixed order; out of memory comes last, and is answered only
+//!   where an allocation was refused.
 //! - A number or a flag costs one descent of the tree, however many groups and processes there are, and a home one
 //!   look-up. `cgroup.procs` costs a walk over all processes. A text is built once, in one buffer.
 //! - The names and the readers of values take no memory.

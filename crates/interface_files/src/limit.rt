@@ -87,7 +87,7 @@ pub fn limit_file_name(file: LimitFile) -> &'static [u8]
 ///
 /// # Errors
 ///
-/// `AllocError` where memory was wanting.
+/// `AllocError` when out of memory.
 pub fn limit_text<B: Allocator>(alloc: B, limit: Limit) -> Result<Vec<u8, B>, AllocError>
     ensures { IfOk result (λ text. text.items ≡ limit_text (limit_of limit)) }
 {

@@ -84,7 +84,7 @@ pub fn readings_are_the_models()
 {}
 
 /// An answer to a file says one thing only: the text that the model has, where it refuses nothing,
-/// or the model's refusal, by a fault of its own. Want of memory aside, one answer fits.
+/// or the model's refusal, by a fault of its own. Out of memory aside, one answer fits.
 pub fn faults_are_told_apart()
     ensures text { (slots : ℕ) (s : State) (p : Path) (file : model_file.File) (text : Vec ℕ ℕ)
         → Shows slots s p file (Ok text) → model.Text text.items ≡ accepted s (model.Show p file) }
@@ -120,7 +120,7 @@ pub fn homes_are_told_apart()
         × ¬ (ShowsHome {B = ℕ} slots s pid (Err NoFile)) }
 {}
 
-/// Memory is wanting last: only where the model refuses nothing, and there always possible.
+/// Out of memory comes last: only where the model refuses nothing, and there always possible.
 pub fn memory_is_wanting_last()
     ensures shown { (slots : ℕ) (s : State) (p : Path) (file : model_file.File)
         → Shows {B = ℕ} slots s p file (Err OutOfMemory) ↔ refusal slots s (model.Show p file) ≡ None }

@@ -77,7 +77,7 @@ ghost use Rattle.undo_journal.specs.History.{IsHistory, IsReady, machine_of, rec
 ghost use Rattle.undo_journal.specs.Meaning.{command_of, inverse_of, reply_of};
 
 /// An answer is one: the machine goes to one machine only, and there is one reply, which is never
-/// want of memory.
+/// out of memory.
 pub fn answers_are_one()
     ensures exactly { (slots : ℕ) (old new : Machine) (c : model.Command) (r : Reply Global)
         → Answers slots old c r new ↔ ((new ≡ (tick slots old c).0)
@@ -139,7 +139,7 @@ pub fn counts_are_kept()
 {}
 
 /// Where everything was undone, the start is left and as many commands are told as were recorded.
-/// Where memory was wanting, fewer are told; the others stand as they stood, and the state is the
+/// When out of memory, fewer are told; the others stand as they stood, and the state is the
 /// one before the last that was undone.
 pub fn everything_undone()
     ensures all { (slots n : ℕ) (old new : Machine)

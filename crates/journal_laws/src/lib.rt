@@ -1,5 +1,5 @@
-//! What the definitions say that stand between the model and an engine. Each function says a law in its
-//! contract and does nothing.
+//! What the definitions say that stand between the model and an engine. Each function is proof only: its
+//! contract is a law.
 //!
 //! - `files`: the files of a group, the readings of values, and what `render` and `render_home` answer, by
 //!   the definitions of `interface_files` (`specs/Meaning.antt`, `specs/Shown.antt`).

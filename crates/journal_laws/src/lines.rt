@@ -1,4 +1,4 @@
-//! What each answer of `trace_lines` says is one thing of the model, and where memory may be wanting.
+//! What each answer of `trace_lines` says is one thing of the model, and which may be out of memory.
 
 ghost use Rattle.std.specs.Prelude.{◌≡◌, ◌≢◌, ℕ, ◌↔◌, ◌⊎◌, List, [], ◌∷◌, codes, Option, Some, None, Ok, Err, length};
 ghost use Rattle.std.specs.declared.alloc.AllocError.{AllocError};
@@ -33,7 +33,7 @@ pub fn lines_are_told_apart()
         → (t : trace.TextFault) × (m ≡ trace.Fault t) × (text_fault_of f ≡ t) }
 {}
 
-/// Want of memory is answered only of a line that runs a command with a path, and may be of each.
+/// Out of memory is answered only of a line that runs a command with a path, and may be of each.
 pub fn memory_is_wanting_for_paths()
     ensures only { (e : AllocError) (m : trace.Line) → Says (Err e) m → (p : Path)
         × ((m ≡ trace.Run (model.MakeGroup p)) ⊎ (m ≡ trace.Run (model.RemoveGroup p))
@@ -49,7 +49,7 @@ pub fn memory_is_wanting_for_paths()
         × Says (Err e) (trace.Run (model.Kill p)) × Says (Err e) (trace.Run (model.Show p shown)) }
 {}
 
-/// No memory is wanting for a fork, an exit, a look-up of a process and an undo, nor for a line that
+/// Never out of memory are a fork, an exit, a look-up of a process and an undo, nor is a line that
 /// is refused or says nothing.
 pub fn some_have_no_path()
     ensures commands { (e : AllocError) (m n : ℕ) → ¬ (Says (Err e) (trace.Run (model.Fork m n)))
@@ -88,7 +88,7 @@ pub fn words_are_counted()
         × (the_two ws ≡ None ↔ length ws ≢ 2) × (the_three ws ≡ None ↔ length ws ≢ 3) }
 {}
 
-/// A reply adds one text behind the bytes, and none where memory was wanting.
+/// A reply appends one text to the bytes, and none when out of memory.
 pub fn replies_are_told_apart()
     ensures one { (old a b : List ℕ) (n : ℕ) (r : Option model.Reply) → AddsReply old n r a
         → AddsReply old n r b → a ≡ b }

@@ -101,7 +101,7 @@ pub fn refusals_by_their_words()
         ≡ codes "direction" }
 {}
 
-/// The answer to the seventh command by each reply. Want of memory has none.
+/// The answer to the seventh command by each reply. Out of memory has none.
 pub fn replies_by_their_answers()
     ensures done { option_map (reply_bytes 7) (reply_of {A = Global} reply.Done)
         ≡ Some (codes "7 ok\n") }

@@ -21,7 +21,7 @@ names_bytes names = flat_map (λ name. name ++ 0 ∷ []) names
 abbrev pub names_below : State → Path → List Name
 names_below s p = map last_name (children s p)
 
--- the path that the grammar gives; else it gives none, or memory was wanting for it
+-- the path that the grammar gives; else it gives none, or was out of memory
 abbrev pub ReadsPath : Result Path Unread → Result Path PathFault → Type 0
 ReadsPath (Ok path) m = m ≡ Ok path
 ReadsPath (Err unread.BadPath) m = IsErr m

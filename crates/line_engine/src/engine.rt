@@ -42,7 +42,7 @@ impl LineEngine {
     ///
     /// # Errors
     ///
-    /// `AllocError` where memory was wanting.
+    /// `AllocError` when out of memory.
     pub fn new(alloc: Global) -> Result<LineEngine, AllocError>
         ensures { IfOk result (λ e. e.engine ≡ new_machine) }
     {

@@ -3,7 +3,7 @@
 //! - A `LineEngine` is an engine over plain numbers: the groups, the processes and the journal. `answer` reads one line and
 //!   answers it as a replay does, with the number that the caller gives. It starts no thread, takes no lock and waits for
 //!   nobody.
-//! - Where the buffer is too small for the answer, or memory is wanting, nothing has changed. The answer that a change
+//! - Where the buffer is too small for the answer, or when out of memory, nothing has changed. The answer that a change
 //!   brings is made before the command runs; a refused fork that was counted and cannot be told is taken back, which asks
 //!   for no memory.
 //! - Beside the answer stands a code: 0, or which refusal or fault it is. `docs/FORMATS.md` has the codes.

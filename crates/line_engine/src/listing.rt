@@ -62,7 +62,7 @@ fn read(alloc: Global, text: &[u8]) -> Result<GroupPath<Global>, Unread>
     }
 }
 
-// Each name with a zero byte behind it, and how many there are. Want of memory also stands for 2^64 names or more.
+// Each name with a zero byte behind it, and how many there are. Out of memory also stands for 2^64 names or more.
 fn gather(alloc: Global, names: ChildNames<'_, Global>) -> Result<(Vec<u8>, usize), AllocError>
     ensures bytes { IfOk result (λ r. r.0.items ≡ names_bytes names.entry) }
     ensures count { IfOk result (λ r. r.1 ≡ length names.entry) }

@@ -25,7 +25,7 @@ fn bytes_of(alloc: Global, number: u64, reply: &Reply<Global>) -> Result<Vec<u8>
     Ok(bytes)
 }
 
-/// Whether memory was not wanting.
+/// Whether the reply is not out of memory.
 fn is_answered(reply: &Reply<Global>) -> bool
     ensures { result ≡ is_some (reply_of reply.now) }
 {

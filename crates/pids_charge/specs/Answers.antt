@@ -8,7 +8,7 @@ use Rattle.flat_model.specs.Step.{refusal, after, after_refusal}
 use Rattle.pids_charge.specs.declared.fault.ChargeFault.{ChargeFault}
 use Rattle.pids_charge.specs.declared.fault.ChargeFault.TheVariants.{Exists, NoGroup, Descendants, Depth, NoSlot, RootFixed, HasChildren, HasProcesses, NoProcess, PidInUse, PidsMax, OutOfMemory, NoFile}
 
--- the refusal that a fault is, where its numbers count names of p; want of memory is none
+-- the refusal that a fault is, where its numbers count names of p; out of memory is none
 abbrev pub refusal_of : Path → ChargeFault → Option Refusal
 refusal_of p Exists = Some model.Exists
 refusal_of p (NoGroup n) = Some (model.NoGroup (take n p))
@@ -24,7 +24,7 @@ refusal_of p (PidsMax n) = Some (model.OverPidsMax (take n p))
 refusal_of p OutOfMemory = None
 refusal_of p NoFile = Some model.NoFile
 
--- a refusal leaves what it leaves; want of memory leaves all
+-- a refusal leaves what it leaves; out of memory leaves all
 abbrev pub after_fault : State → Option Refusal → State
 after_fault s None = s
 after_fault s (Some r) = after_refusal s r

@@ -1,4 +1,4 @@
--- Forks that limits refuse: which group refuses, and the events that are counted.
+-- Forks that limits refuse: which group refuses, and the event totals that count it.
 use Rattle.std.specs.Prelude.{ℕ, zero, suc, ◌+◌, ◌-◌, ◌^◌, ◌<◌, ◌≡◌, Bool, true, false, cond, Option, Some, None, take, IsSome}
 use Rattle.std.specs.FinMap as fin
 use Rattle.std.specs.Ordering.{nat_cmp}

@@ -45,8 +45,8 @@ fn charge_each<M: Meter>(meter: &mut M, arriving: &[Token])
     }
 }
 
-/// What `settle` of a meter does, on the calling thread: the leaving charges go and the arriving ones come. It passes no
-/// gate, refuses nothing and waits for nobody.
+/// What `settle` of a meter does, on the calling thread: the leaving charges go and the arriving ones come. It calls no
+/// test hook, refuses nothing and waits for nobody.
 pub fn settle_alone<M: Meter>(meter: &mut M, stripe: u8, leaving: &[Token], arriving: &[Token])
     requires leaving_within { IsWithin M.SLOTS M.LEAVES leaving.now }
     requires arriving_within { IsWithin M.SLOTS M.LEAVES arriving.now }

@@ -59,7 +59,7 @@ impl<A: Allocator + Clone, M: Meter + Drop> Charges<A, M> {
     ///
     /// # Errors
     ///
-    /// `AllocError` where memory was wanting; the meter is dropped then.
+    /// `AllocError` when out of memory; the meter is dropped then.
     pub fn new(alloc: A, meter: M) -> Result<Charges<A, M>, AllocError>
         requires { IsEmpty (M.content meter) (M.held meter) }
         ensures { IfOk result (λ c. c ≡ start) }

@@ -1,15 +1,15 @@
-//! Points that a part of a settlement passes.
+//! A test hook that each part of a settlement calls.
 
 ghost use Rattle.std.specs.Prelude.{◌≤◌};
 
-/// Called by the thread that does a part, at its start. The parts are numbered from 1. A gate may keep the thread waiting.
+/// Called by the thread that does a part, at its start. The parts are numbered from 1. It may keep the thread waiting.
 pub trait Gate: Sync {
     fn pass(&self, part: u8)
         requires from_one { 1 ≤ part }
         requires to_the_last { part ≤ 24 };
 }
 
-/// A gate that lets each part through at once.
+/// A test hook that lets each part through at once.
 #[derive(Clone, Copy, Drop)]
 pub struct OpenGate;
 

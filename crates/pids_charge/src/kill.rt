@@ -57,7 +57,7 @@ fn gather_one<M: Meter, T: Allocator, A: Allocator + Clone>(
     Ok(())
 }
 
-// Those at or below the path, pids rising.
+// Those at or below the path, pids ascending.
 pub(crate) fn gather<M: Meter, T: Allocator, A: Allocator + Clone, B: Allocator + Clone>(
     tree: &GroupTree<T>,
     processes: &BTreeMap<Pid, Process<A>, A>,
@@ -95,7 +95,7 @@ pub(crate) fn leave<A: Allocator + Clone, B: Allocator + Clone>(
 }
 
 impl<A: Allocator + Clone, M: Meter> Charges<A, M> {
-    /// Takes all processes at or below the group out, each with its path; pids rise. It goes over all processes, and gives
+    /// Takes all processes at or below the group out, each with its path; pids ascend. It goes over all processes, and gives
     /// all charges to the meter at once. It may wait for the threads that do a part of the charges.
     ///
     /// # Errors

@@ -11,7 +11,7 @@
 //! - The peak of a group beside the root is the most processes that were at or below it at once. A fork and a move raise the
 //!   peaks along the path that the process comes to, once it stands there; a refused fork raises none, and nothing lowers
 //!   one but `set_peaks`. Both answer the peaks that were there.
-//! - Refusals come in a fixed order, want of memory last, and change nothing but those totals.
+//! - Refusals come in a fixed order, out of memory last, and change nothing but those totals.
 //! - Beside each command stands what takes it back without asking any limit: `restore` for a removal, `place` for an exit,
 //!   `place_all` for a kill, `uncount` for a refused fork, `rehome` for a move; and `set_peaks` for what a fork or a move
 //!   raised. A limit is taken back by itself. None of them raises a peak.

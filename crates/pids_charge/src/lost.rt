@@ -15,7 +15,7 @@ pub struct Lost<A: Allocator + Clone> {
     pub path: GroupPath<A>,
 }
 
-/// The processes that a kill took, pids rising; seen as pairs of a pid and a path.
+/// The processes that a kill took, pids ascending; seen as pairs of a pid and a path.
 #[derive(Drop)]
 pub struct LostList<A: Allocator + Clone> {
     items: Vec<Lost<A>, A>,
@@ -79,7 +79,7 @@ impl<A: Allocator + Clone> LostList<A> {
     ///
     /// # Errors
     ///
-    /// `AllocError` where memory was wanting.
+    /// `AllocError` when out of memory.
     pub fn copy<B: Allocator + Clone>(&self, alloc: B) -> Result<LostList<B>, AllocError>
         ensures { IfOk result (λ l. l ≡ self.now) }
     {

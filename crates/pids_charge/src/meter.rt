@@ -62,8 +62,8 @@ pub trait Meter {
         ensures held { held self.new ≡ held self.old };
 
     /// The leaving charges go and the arriving ones come, in the parts of `part_count`: each does one run of each list
-    /// (`last_run`), leaving ones first, and passes the gate at its start, also where its runs are empty. What is left is what
-    /// any number of parts would leave. It refuses nothing, and may wait for the threads that do a part.
+    /// (`last_run`), leaving ones first; before that it calls the test hook, also where its runs are empty. What is left is
+    /// what any number of parts would leave. It refuses nothing, and may wait for the threads that do a part.
     fn settle<R: Threads>(
         &mut self,
         rt: &R,

@@ -35,8 +35,8 @@ impl<A: Allocator + Clone, M: Meter> Charges<A, M> {
         }
     }
 
-    /// Makes a group that `mkdir` would not refuse, with no limits and no events, on a free slot. Costs one descent of the
-    /// tree.
+    /// Makes a group that `mkdir` would not refuse, with no limits and event totals of 0, on a free slot. Costs one
+    /// descent of the tree.
     ///
     /// # Errors
     ///
@@ -53,8 +53,8 @@ impl<A: Allocator + Clone, M: Meter> Charges<A, M> {
         self.restore(path, Attr::new(0))
     }
 
-    /// Makes a group under one that is there, with no limits and no events, on a free slot. Costs four descents of the tree
-    /// at the most: all limits above it are asked in one.
+    /// Makes a group under one that is there, with no limits and event totals of 0, on a free slot. Costs four descents
+    /// of the tree at the most: all limits above it are asked in one.
     ///
     /// # Errors
     ///

@@ -55,7 +55,7 @@ impl<A: Allocator + Clone> Peaks<A> {
     ///
     /// # Errors
     ///
-    /// `AllocError` where memory was wanting.
+    /// `AllocError` when out of memory.
     pub fn copy<B: Allocator + Clone>(&self, alloc: B) -> Result<Peaks<B>, AllocError>
         ensures { IfOk result (λ p. p ≡ self.now) }
     {

@@ -102,7 +102,7 @@ impl<A: Allocator> PlainMeter<A> {
     ///
     /// # Errors
     ///
-    /// `AllocError` where memory was wanting.
+    /// `AllocError` when out of memory.
     pub fn new(alloc: A) -> Result<PlainMeter<A>, AllocError>
         ensures zeros { IfOk result (λ m. m ≡ replicate SLOTS (replicate LEAVES 0)) }
         ensures empty { IfOk result (λ m. IsEmpty (table_at m) (table_held m)) }
@@ -116,7 +116,7 @@ impl<A: Allocator> PlainMeter<A> {
 }
 
 impl<A: Allocator> PlainMeter<A> {
-    // Passes the gate; then the leaving charges go before the arriving ones come.
+    // Calls the test hook; then the leaving charges go before the arriving ones come.
     fn do_part(
         &mut self,
         gate: &(dyn Gate + Sync),

@@ -62,7 +62,7 @@ impl<A: Allocator + Clone, M: Meter> Charges<A, M> {
         }
     }
 
-    /// The processes of the group itself, rising; None where there is no such group. It goes over all processes.
+    /// The processes of the group itself, ascending; None where there is no such group. It goes over all processes.
     ///
     /// # Errors
     ///

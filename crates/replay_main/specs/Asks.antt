@@ -73,7 +73,7 @@ IsAskedBy k (Ok (Help text)) = k ≡ kind.DisplayHelp
 IsAskedBy k (Err Bad) = (k ≢ kind.DisplayHelp) × (k ≢ kind.OutOfMemory)
 IsAskedBy k (Err OutOfMemory) = Unit {0}
 
--- the arguments that came; where they did not, memory was wanting or one is no text
+-- the arguments that came; where they did not, out of memory or one is no text
 abbrev pub Collects : Result (IntoIter (String Global) Global) Error → Result (Vec (String Global) Global) LineFault → Type 0
 Collects (Ok args) (Ok v) = Drains into_iter_steps args v.items
 Collects (Ok args) (Err Bad) = ⊥

@@ -12,7 +12,7 @@ answers_at n (None ∷ places) [] = []
 answers_at n (None ∷ places) (None ∷ rs) = []
 answers_at n (None ∷ places) (Some r ∷ rs) = reply_bytes n r ++ answers_at (n + 1) places rs
 
--- a reply that is `refused`; want of memory is none
+-- a reply that is `refused`; out of memory is none
 abbrev pub is_refusal : Option Reply → Bool
 is_refusal None = false
 is_refusal (Some r) = is_refused r

@@ -42,7 +42,7 @@ pub enum LineFault {
 ///
 /// # Errors
 ///
-/// `Bad` where the words are no such line; `OutOfMemory` where memory was wanting.
+/// `Bad` where the words are no such line; `OutOfMemory` when out of memory.
 pub fn command_line(alloc: Global, words: &[&str]) -> Result<Ask, LineFault>
     ensures { Asks (map (λ word. word.now) words.now) result }
 {

@@ -48,7 +48,7 @@ pub trait Sink {
         ensures none { IfOk result (λ n. n ≡ 0 → is_failed self.new ≡ true) }
         ensures unflushed { is_flushed self.new ≡ false };
 
-    /// Sees that all that was taken is out.
+    /// Flushes: all that was taken is out.
     fn flush(&mut self) -> Result<(), DeviceFault>
         ensures bytes { Keeps (taken self.old) (taken self.new) }
         ensures mark { is_failed self.new ≡ (if is_err result then true else is_failed self.old) }

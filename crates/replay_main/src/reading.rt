@@ -91,7 +91,7 @@ fn read_run(alloc: Global, lines: &[&[u8]]) -> Result<Script, AllocError>
     Ok(script)
 }
 
-/// Puts what a line says behind the script.
+/// Appends what a line says to the script.
 fn add(script: &mut Script, line: Line) -> Result<(), AllocError>
     ensures commands { OnOk result (map command_of script.new.commands.items
         ≡ map command_of script.old.commands.items ++ command_in (trace_line_of line)) }
@@ -109,7 +109,7 @@ fn add(script: &mut Script, line: Line) -> Result<(), AllocError>
     Ok(())
 }
 
-/// These scripts, one behind the other.
+/// These scripts, one after the other.
 fn join(alloc: Global, scripts: Vec<Script>) -> Result<Script, AllocError>
     ensures commands { IfOk result (λ script. map command_of script.commands.items
         ≡ flat_map (λ s. map command_of s.commands.items) scripts.items) }

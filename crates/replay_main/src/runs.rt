@@ -103,7 +103,7 @@ pub(crate) fn behind<T>(items: &[T], n: usize) -> &[T]
     &items[n.min(items.len())..]
 }
 
-/// Puts these items behind the others, which are few or none.
+/// Appends these items to the others, which are few or none.
 pub(crate) fn put_behind<T: Drop>(all: &mut Vec<T>, more: Vec<T>) -> Result<(), AllocError>
     ensures { OnOk result (all.new.items ≡ all.old.items ++ more.items) }
 {

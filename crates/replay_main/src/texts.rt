@@ -97,7 +97,7 @@ fn answer(
     Ok(bytes)
 }
 
-/// Puts the answer to the command of an entry behind the bytes.
+/// Appends the answer to the command of an entry to the bytes.
 fn put_text(
     alloc: Global,
     bytes: &mut Vec<u8>,
@@ -110,7 +110,7 @@ fn put_text(
     put_reply(alloc, bytes, number, &entry.reply)
 }
 
-/// These texts, one behind the other.
+/// These texts, one after the other.
 fn join(alloc: Global, texts: Vec<Vec<u8>>) -> Result<Vec<u8>, AllocError>
     ensures { IfOk result (λ v. v.items ≡ flat_map (λ text. text.items) texts.items) }
 {

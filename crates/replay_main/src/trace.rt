@@ -124,9 +124,9 @@ pub fn replay<R: Threads + Wait + Sync, S: Source, W: Sink>(
     replay_gated(rt, alloc, &OpenGate, reader, writer, workers)
 }
 
-/// The same, with a gate: at the start of phase p, counted from 0, the thread that does the work of
+/// The same, with a test hook: at the start of phase p, counted from 0, the thread that does the work of
 /// worker w, counted from 0, passes part `p * workers + w + 1`; one worker passes parts 1, 2 and 3
-/// before its pass. It may wait for the gate.
+/// before its pass. The hook may keep it waiting.
 ///
 /// # Errors
 ///

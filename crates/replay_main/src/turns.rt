@@ -76,7 +76,7 @@ fn open_desk(alloc: Global, workers: u8) -> Result<(Desk, Vec<Session>), AllocEr
 }
 
 /// Has each session run its commands: command i is run by session i mod their number, at turn i.
-/// Want of memory in any of them is an error.
+/// Out of memory in any of them is an error.
 fn serve<R: Threads + Wait + Sync, G: Gate>(
     rt: &R,
     alloc: Global,
@@ -181,7 +181,7 @@ fn work_for_many<R: Threads + Wait + Sync, G: Gate>(
     }
 }
 
-/// Runs a command at its turn. False where the desk is halted, as it is once memory was wanting.
+/// Runs a command at its turn. False where the desk is halted, as it is once out of memory.
 fn run_one<R: Threads + Wait + Sync>(
     rt: &R,
     session: &mut Session,

@@ -117,8 +117,8 @@ pub fn turns_that_passed()
     ensures others { (turn : ℕ) (e : RunFault) → NamesNoTurn e → IsLate turn e }
 {}
 
-/// Of the faults but want of memory one at most is the first, and none is where the receipts are
-/// the log's entries. Where they are not, there is one. Want of memory may be told of any receipts.
+/// Of the faults but out of memory one at most is the first, and none is where the receipts are
+/// the log's entries. Where they are not, there is one. Out of memory may be told of any receipts.
 pub fn first_faults()
     ensures one { (n : ℕ) (log : List Entry) (ss : List Session) (f g : CloseFault)
         → f ≢ fault.OutOfMemory → g ≢ fault.OutOfMemory

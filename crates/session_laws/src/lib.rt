@@ -1,6 +1,6 @@
 //! Laws of sessions and of replays: what their definitions say, in the words of the subject.
 //!
-//! Each function does nothing. It says in its contract what holds of definitions that the contracts
+//! Each function is proof only: its contract says what holds of definitions that the contracts
 //! of `sessions` and `replay_main` cite, for every value or of a worked one; the definitions stand
 //! in the `specs/` of these two crates and in `flat_model`.
 //!

@@ -255,7 +255,7 @@ pub fn words_that_ask()
 {}
 
 /// Words that ask for a run ask for that run alone: they are no bad line and call for no help, and
-/// the number of workers is from 1 to 8. Want of memory may be told of any words.
+/// the number of workers is from 1 to 8. Out of memory may be told of any words.
 pub fn words_ask_for_one_run()
     ensures exactly { (words : List Text) (workers : ℕ) (rehearse : Bool)
         → Asks words (Ok (ask.Run workers rehearse))
@@ -275,7 +275,7 @@ pub fn words_ask_for_one_run()
     ensures memory { (words : List Text) → Asks words (Err line.OutOfMemory) }
 {}
 
-/// An error is a call for help or makes a bad line, never both, and want of memory is no bad line.
+/// An error is a call for help or makes a bad line, never both, and out of memory is no bad line.
 pub fn errors_that_ask()
     ensures no_run { (k : ErrorKind) (workers : ℕ) (rehearse : Bool)
         → IsAskedBy k (Ok (ask.Run workers rehearse)) → ⊥ }

@@ -9,7 +9,7 @@ use std::test::Fail;
 use std::thread::Threads;
 use undo_journal::{Command, Reply};
 
-/// Runs the command, and once more where memory was wanting: that left no receipt.
+/// Runs the command, and once more when out of memory: that left no receipt.
 fn done<R: Abort + Threads + Wait + Sync>(
     rt: &R,
     session: &mut Session,
@@ -31,7 +31,7 @@ fn done<R: Abort + Threads + Wait + Sync>(
     Ok(())
 }
 
-/// Hands the session in, and once more where memory was wanting. The log has so many entries.
+/// Hands the session in, and once more when out of memory. The log has so many entries.
 fn closed<R: Abort + Wait>(
     rt: &R,
     alloc: Global,
@@ -59,7 +59,7 @@ fn closed<R: Abort + Wait>(
     Ok(())
 }
 
-/// With any one allocation refused, each call is answered, or says that memory was wanting and is answered when it is asked
+/// With any one allocation refused, each call is answered, or says out of memory and is answered when it is asked
 /// again.
 #[test]
 fn a_refused_allocation(rt: HostRuntime) -> Result<(), Fail> {

@@ -31,7 +31,7 @@ longer_legal : (slots : ℕ) (log : List Entry) (engine : Machine) (e : Entry) �
 longer_legal slots log engine e legal at answered =
     rw (map-append (λ (x : Entry). x.command) log (e ∷ []), map-append (λ (x : Entry). x.reply) log (e ∷ []), replies-snoc slots new_machine (commands log) e.command, legal, ← at, answered) refl
 
--- an entry is put behind the log when the machine has answered it
+-- an entry is appended to the log when the machine has answered it
 pub longer : (slots : ℕ) (log items : List Entry) (engine next : Machine) (e : Entry) → items ≡ log ++ e ∷ [] → IsLegal slots log → engine ≡ log_end slots log
     → next ≡ (tick slots engine e.command).0 → e.reply ≡ (tick slots engine e.command).1 → Kept slots next items
 longer slots log items engine next e same legal at goes answered =

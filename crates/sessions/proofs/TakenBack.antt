@@ -63,7 +63,7 @@ certain slots m c no_undo =
     let P : Machine × Reply → Type 0 = λ o. o.1 ≢ Done → length m.past < length o.0.past → undoes_without_memory slots o.0.past ≡ true in
     subst P (sym t) (counted slots m c (refusal slots m.state c) refl)
 
--- ---- both, of an answer that may be want of memory
+-- ---- both, of an answer that may be out of memory
 
 pub left : (slots : ℕ) (old new : Machine) (c : Command) (answer : Option Reply) → is_undo c ≡ false
     → (answer ≡ None → new ≡ old) → (answer ≢ None → new ≡ (tick slots old c).0) → length new.past ≤ length old.past → new ≡ old

@@ -7,7 +7,7 @@ use Rattle.sessions.specs.Meaning.{slots}
 use Rattle.sessions.specs.declared.fault.CloseFault.{CloseFault}
 use Rattle.sessions.specs.declared.fault.CloseFault.TheVariants.{Stranger, Mismatch, Missing, OutOfMemory}
 
--- it is the first fault of the receipts in their order, or memory was wanting
+-- it is the first fault of the receipts in their order, or out of memory
 abbrev pub IsFirstFault : ℕ → List Entry → List Session → CloseFault → Type 0
 IsFirstFault n log sessions (Stranger k) = FirstFault n log sessions (model.Stranger k)
 IsFirstFault n log sessions (Mismatch i) = FirstFault n log sessions (model.Mismatch i)

@@ -13,6 +13,6 @@ abbrev pub known : Option model.Reply → model.Reply
 known (Some r) = r
 known None = model.NothingToUndo
 
--- the machine's reply. An entry and a receipt have one, and never want of memory
+-- the machine's reply. An entry and a receipt have one, and are never out of memory
 abbrev pub answer_of : {A : Type 0} → Reply A → model.Reply
 answer_of reply = known (reply_of reply)

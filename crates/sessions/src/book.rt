@@ -36,7 +36,7 @@ impl Book {
         Ok(Book { alloc, engine, log })
     }
 
-    /// Runs a command, logs it, and gives its receipt. The log's growth is had before it runs.
+    /// Runs a command, logs it, and gives its receipt. The log's entry is reserved before it runs.
     pub(crate) fn record<R: Threads + Wait + Sync, B: Allocator + Clone>(
         &mut self,
         rt: &R,

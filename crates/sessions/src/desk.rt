@@ -32,7 +32,7 @@ impl Desk {
     ///
     /// # Errors
     ///
-    /// `AllocError` where memory was wanting.
+    /// `AllocError` when out of memory.
     pub fn new(alloc: Global, n: u8) -> Result<Desk, AllocError>
         requires { (1 ≤ n) × (n ≤ 8) }
         ensures { IfOk result (λ d. d.sessions ≡ n) }

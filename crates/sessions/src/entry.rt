@@ -4,7 +4,7 @@ use std::alloc::Global;
 use std::marker::Model;
 use undo_journal::{Command, Reply};
 
-/// One line of the log: who ran what, and what the machine answered. That is never want of memory.
+/// One line of the log: who ran what, and what the machine answered. That is never out of memory.
 #[derive(Drop)]
 pub struct Entry {
     /// The number of the session.
@@ -40,7 +40,7 @@ pub struct Receipt {
     pub number: u64,
     /// What was run.
     pub command: Command<Global>,
-    /// What it was answered, which is never want of memory.
+    /// What it was answered, which is never out of memory.
     pub reply: Reply<Global>,
 }
 

@@ -17,7 +17,7 @@ pub enum RunFault {
     Halted,
 }
 
-/// Why receipts are not the entries of a log. Want of memory comes first; then the first receipt in
+/// Why receipts are not the entries of a log. Out of memory comes first; then the first receipt in
 /// the given order that is a stranger or differs; and last what is missing.
 #[derive(Clone, Copy, Debug, Drop, Error, PartialEq, Eq)]
 pub enum CloseFault {

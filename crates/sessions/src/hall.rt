@@ -63,7 +63,7 @@ impl Hall {
         }
     }
 
-    /// The sessions whose sleepers have to look again.
+    /// The sessions whose sleepers have to wake.
     pub(crate) fn take_due(&mut self) -> [bool; 8]
         ensures { IsBut self.old self.new }
     {
@@ -79,7 +79,7 @@ impl Hall {
     }
 
     /// Takes the book out, where these receipts are its log. Without a book, which is so only once
-    /// the desk was closed, it answers as if memory were wanting.
+    /// the desk was closed, it answers as when out of memory.
     pub(crate) fn take_book(
         &mut self,
         alloc: Global,

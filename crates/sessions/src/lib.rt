@@ -7,8 +7,8 @@
 //! - `run` runs a command as soon as no other runs one. `run_at` waits for its turn: until the log
 //!   has so many entries. The log's entry and the session's receipt have the same number.
 //! - What is refused by the hierarchy is a reply, logged as any other. A `RunFault` is not: then
-//!   nothing was logged or changed. Room for entry and receipt is had before the engine is asked, so
-//!   want of memory leaves everything.
+//!   nothing was logged or changed. Entry and receipt are reserved before the engine is asked, so out
+//!   of memory leaves everything.
 //! - `undo` takes back the newest recorded command, whichever session issued it.
 //! - `halt` stops all sessions. `close` ends the desk, where the receipts handed in are the log's
 //!   entries, each once: then the log is legal (the machine, run over its commands, gives its

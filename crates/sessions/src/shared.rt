@@ -8,10 +8,10 @@ use std::sync::atomic::{AtomicU64, Ordering};
 use std::sync::{Condvar, Mutex, MutexGuard, Wait};
 use std::thread;
 
-/// How often a call looks whether its turn has come, before it sleeps.
+/// How often a call polls whether its turn has come, before it sleeps.
 const LOOKS: u32 = 100;
 
-/// The hall behind its lock, and for each session a sign at which it sleeps.
+/// The hall behind its lock, and for each session the condition variable on which it sleeps.
 #[derive(Drop)]
 pub(crate) struct Shared {
     pub(crate) hall: Mutex<Hall>,
@@ -39,7 +39,7 @@ impl Shared {
         }
     }
 
-    /// Waits for the turn: looks for a while, and then sleeps.
+    /// Waits for the turn: polls for a while, and then sleeps.
     pub(crate) fn wait_for<R: Wait>(&self, rt: &R, session: u8, turn: u64) -> MutexGuard<'_, Hall>
         ensures { ¬ IsEarly (mutex_guard_value result) turn }
     {
@@ -57,7 +57,7 @@ impl Shared {
         }
     }
 
-    /// Lets the hall go, and wakes those whose turn has come.
+    /// Unlocks the hall, and wakes those whose turn has come.
     pub(crate) fn leave(&self, guard: MutexGuard<'_, Hall>) {
         let mut guard = guard;
         self.reached.store(guard.reached(), Ordering::SeqCst);

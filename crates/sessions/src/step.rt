@@ -15,7 +15,7 @@ use std::sync::Wait;
 use std::thread::Threads;
 use undo_journal::{Command, Reply};
 
-/// Answers a command of a session. Where memory was wanting, the engine is as it was.
+/// Answers a command of a session. When out of memory, the engine is as it was.
 pub(crate) fn answer_twice<R: Threads + Wait + Sync, B: Allocator + Clone>(
     rt: &R,
     alloc: Global,

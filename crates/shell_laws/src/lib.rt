@@ -1,6 +1,6 @@
 //! Laws of the shell: what its definitions say, in the words of the subject.
 //!
-//! Each function does nothing. It says in its contract what holds of the definitions that the
+//! Each function is proof only: its contract says what holds of the definitions that the
 //! contracts of `shell_main` cite, for every value or of a worked one.
 //!
 //! - `shells`: that a shell says what a replay says, and a prefix of it after a fault; what is out

@@ -99,7 +99,7 @@ is_stopped start left before taken read_failed failed flushed now lines line pen
   is_out = s.is_out;
 }
 
--- the line got too long, or memory was wanting for it
+-- the line got too long, or out of memory for it
 pub keep_ended : (fault : ShellFault) (start left before taken : Option (List ℕ)) (read_failed failed flushed : Bool) (now : Point) (lines line piece more line2 : List ℕ)
     → Stands start left before taken failed flushed now lines line (piece ++ more) → HasNoFeed piece → read_failed ≡ false → Keeps line piece (Err fault) line2
     → Shelled start left read_failed before taken failed flushed (Err fault)
@@ -121,7 +121,7 @@ keep_ended InputTooLong start left before taken read_failed failed flushed now l
       ),
     )
 
--- a line was not answered: no number was left, or memory was wanting, or a part of its answer may have been written
+-- a line was not answered: no number was left, or out of memory, or a part of its answer may have been written
 say_ended : (fault : ShellFault) (start left before taken after : Option (List ℕ)) (read_failed failed failed2 flushed flushed2 : Bool) (now new : Point) (lines line more text : List ℕ)
     → Stands start left before taken failed flushed now lines line more → HasOneMore lines line text → ((ends_line text ≡ true) ⊎ IsInput start text) × BeginsWith start text → read_failed ≡ false
     → Says now (read_line line) taken flushed after failed2 flushed2 (Err fault) new → Shelled start left read_failed before after failed2 flushed2 (Err fault)

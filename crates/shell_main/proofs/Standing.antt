@@ -90,7 +90,7 @@ came start left later before taken failed flushed now lines line bytes s c = rec
   is_out = s.is_out;
 }
 
--- a piece without a line feed was put behind the line
+-- a piece without a line feed was appended to the line
 pub kept : (start left before taken : Option (List ℕ)) (failed flushed : Bool) (now : Point) (lines line piece more line2 : List ℕ)
     → Stands start left before taken failed flushed now lines line (piece ++ more) → HasNoFeed piece → (line2 ≡ line ++ piece) × (length line2 ≤ trace_max)
     → Stands start left before taken failed flushed now lines line2 more

@@ -21,7 +21,7 @@ Says old line before was_flushed after failed flushed (Err InputTooLong) new = (
 Says old line before was_flushed after failed flushed (Err OutOfMemory) new = (after ≡ before) × (failed ≡ false) × (flushed ≡ was_flushed)
 Says old line before was_flushed after failed flushed (Err Read) new = ⊥
 
--- bytes are put behind a line, unless it gets too long or memory is wanting
+-- bytes are appended to a line, unless it gets too long or out of memory
 abbrev pub Keeps : List ℕ → List ℕ → Result (Unit {0}) ShellFault → List ℕ → Type 0
 Keeps old bytes (Ok u) new = (new ≡ old ++ bytes) × (length new ≤ trace_max)
 Keeps old bytes (Err InputTooLong) new = trace_max < length (old ++ bytes)

@@ -10,7 +10,7 @@
 //!   and they are out (`NothingOwed`).
 //! - A fault of a shell says what failed. After each but `Write` exactly the answers to whole lines
 //!   were written; after `Write` a prefix of the answers was. A line of more than `TRACE_MAX` bytes
-//!   is too long, and want of memory ends the shell.
+//!   is too long, and out of memory ends the shell.
 //! - `run_program` does what the program's arguments ask for: a shell, or the help text.
 //!   `exit_status` says how the program ends; a fault's message is its text.
 //! - It keeps no log and no earlier lines: beside the engine with its journal only the bytes of the

@@ -117,7 +117,7 @@ fn line_end(bytes: &[u8]) -> Option<usize>
     bytes.iter().position(|byte| *byte == b'\n')
 }
 
-/// Puts these bytes behind the line that has not ended.
+/// Appends these bytes to the line that has not ended.
 fn keep(line: &mut Vec<u8>, bytes: &[u8]) -> Result<(), ShellFault>
     requires { length line.old.items ≤ trace_max }
     ensures { Keeps line.old.items bytes.now result line.new.items }
@@ -131,7 +131,7 @@ fn keep(line: &mut Vec<u8>, bytes: &[u8]) -> Result<(), ShellFault>
     }
 }
 
-/// Answers one line, and sees that the answer is out.
+/// Answers one line, and flushes the answer.
 fn say<R: Threads + Wait + Sync, W: Sink>(
     rt: &R,
     alloc: Global,

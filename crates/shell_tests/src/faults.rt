@@ -1,4 +1,4 @@
-//! Faults of a shell, by devices that fail, and by want of memory.
+//! Faults of a shell, by devices that fail, and when out of memory.
 
 use crate::devices::{Narrow, Pieces};
 use replay_main::{MemorySink, MemorySource, Summary};

@@ -74,7 +74,7 @@ is_split (StripeAdd hand slot stripe n) = false
 is_split (Split share) = true
 is_split (Join helper) = false
 
--- the event is refused so: want of memory is met by a lawful split alone
+-- the event is refused so: out of memory is met by a lawful split alone
 abbrev pub Refuses : Unlawful → State → Event → Type 0
 Refuses NoHand k e = refusal k e ≡ Some NoHand
 Refuses NoToken k e = refusal k e ≡ Some NoToken

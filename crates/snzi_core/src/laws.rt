@@ -1,4 +1,4 @@
-//! The laws of words and hands, each the contract of a function that does nothing.
+//! The laws of words and hands, each the contract of a function that is proof only.
 //!
 //! They speak of lists of words by flat number and of lists of hands as plain data
 //! (`specs/Laws.antt`), so that a rule over atomic words can use them as they stand.

@@ -15,7 +15,7 @@
 //!   that are not zero, and each stripe is the hands' amounts there, modulo 2^64;
 //! - so `query`, which reads one word and no hand, tells whether some hand has a token at the node
 //!   or below it, and `sum` is what all hands have in the slot's stripes;
-//! - want of memory is answered by `new` and by a split alone, and leaves everything.
+//! - out of memory is answered by `new` and by a split alone, and leaves everything.
 //!
 //! What is not promised: a retry loop, a version number or the half value of the published tree;
 //! anything about threads. A hand's number binds nothing outside the core.

@@ -35,7 +35,7 @@ impl<A: Allocator + Clone> Core<A> {
     ///
     /// # Errors
     ///
-    /// `AllocError` where memory was wanting.
+    /// `AllocError` when out of memory.
     pub fn new(alloc: A, slots: u16, nodes: u8) -> Result<Core<A>, AllocError>
         requires slots { 1 ≤ slots }
         requires nodes { (nodes ≡ 1) ⊎ (nodes ≡ 3) ⊎ (nodes ≡ 7) ⊎ (nodes ≡ 15) }

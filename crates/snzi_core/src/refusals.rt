@@ -1,4 +1,4 @@
-//! Which refusal an event meets first, want of memory aside.
+//! Which refusal an event meets first, out of memory aside.
 ghost use Rattle.std.specs.Prelude.{◌≡◌};
 ghost use Rattle.snzi_core.specs.Lawful.{refuses_split, refuses_stripe_add, refusal};
 ghost use Rattle.snzi_core.specs.Kept.{IsCore};

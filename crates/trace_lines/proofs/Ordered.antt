@@ -1,4 +1,4 @@
--- A fault of the path, then one of the action, and want of memory last.
+-- A fault of the path, then one of the action, and out of memory last.
 use Rattle.std.proofs.Common.{◌≡◌, true, [], ◌∷◌, refl, ap, sym, ◌∙◌, subst, Result, Ok, Err}
 use Rattle.std.specs.Result.{IsOk}
 use Rattle.std.specs.declared.alloc.Global.{Global}

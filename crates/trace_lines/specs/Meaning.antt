@@ -26,7 +26,7 @@ trace_line_of Skip = trace.Skip
 trace_line_of (Run command) = trace.Run (command_of command)
 trace_line_of (Fault fault) = trace.Fault (text_fault_of fault)
 
--- ---- where memory may be wanting
+-- ---- what may be out of memory
 
 abbrev pub has_path : model.Command → Bool
 has_path (model.MakeGroup p) = true
@@ -52,19 +52,19 @@ runs_at_path (trace.Fault f) = false
 
 -- ---- what is read
 
--- the path or the fault that the model has; memory may be wanting in place of a path
+-- the path or the fault that the model has; out of memory only in place of a path
 abbrev pub ReadsPath : Result model_path.Path Unread → Result model_path.Path trace.TextFault → Type 0
 ReadsPath (Ok path) m = m ≡ Ok path
 ReadsPath (Err (unread.Fault fault)) m = m ≡ Err (text_fault_of fault)
 ReadsPath (Err unread.OutOfMemory) m = IsOk m
 
--- the command or the fault that the model has; memory may be wanting in place of a command that has a path
+-- the command or the fault that the model has; out of memory only in place of a command that has a path
 abbrev pub ReadsCommand : {A : Type 0} → Result (Command A) Unread → Result model.Command trace.TextFault → Type 0
 ReadsCommand (Ok command) m = m ≡ Ok (command_of command)
 ReadsCommand (Err (unread.Fault fault)) m = m ≡ Err (text_fault_of fault)
 ReadsCommand (Err unread.OutOfMemory) m = is_at_path m ≡ true
 
--- the line that the model has; memory may be wanting in place of a command that has a path
+-- the line that the model has; out of memory only in place of a command that has a path
 abbrev pub Says : Result Line AllocError → trace.Line → Type 0
 Says (Ok line) m = trace_line_of line ≡ m
 Says (Err e) m = runs_at_path m ≡ true

@@ -24,7 +24,7 @@ ghost use Rattle.trace_lines.specs.declared.line.Line.TheVariants as lines;
 ghost use Rattle.trace_lines.specs.Action.{command_at, ReadsAction};
 ghost use Rattle.trace_lines.specs.Meaning.{text_fault_of, Says, ReadsPath, ReadsCommand};
 
-/// A path that was read is the model's, and so is a fault; memory is wanting only where the model
+/// A path that was read is the model's, and so is a fault; out of memory comes only where the model
 /// has a path.
 pub fn paths_are_told_apart()
     ensures read { (p : Path) (m : Result Path trace.TextFault) → ReadsPath (Ok p) m ↔ m ≡ Ok p }
@@ -35,7 +35,7 @@ pub fn paths_are_told_apart()
         × ¬ (ReadsPath (Err unread.OutOfMemory) (Err t)) }
 {}
 
-/// A command that was read is the model's, and so is a fault; memory is wanting just where it may be
+/// A command that was read is the model's, and so is a fault; out of memory comes just where it may be
 /// for the line that runs the command.
 pub fn commands_are_told_apart()
     ensures read { (c : Command Global) (m : Result model.Command trace.TextFault)
@@ -60,7 +60,7 @@ pub fn actions_are_commands()
         ≡ model.SetLimit p model_file.MaxDepth (model_state.At 5)) }
 {}
 
-/// A fault of the path comes before one of the action, and want of memory for the path comes last;
+/// A fault of the path comes before one of the action, and out of memory for the path comes last;
 /// a command is the action at the path.
 pub fn faults_come_in_order()
     ensures path { (f : TextFault) (action : Result Action TextFault) (r : Result (Command Global) Unread)

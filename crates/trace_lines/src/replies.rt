@@ -14,7 +14,7 @@ use itoa::Buffer;
 use std::alloc::{AllocError, Global};
 use undo_journal::{Refusal, Reply};
 
-/// Puts the number's decimal digits behind the bytes.
+/// Appends the number's decimal digits to the bytes.
 fn put_number(bytes: &mut Vec<u8>, number: u64) -> Result<(), AllocError>
     ensures { OnOk result (bytes.new.items ≡ bytes.old.items ++ decimal number) }
 {
@@ -22,7 +22,7 @@ fn put_number(bytes: &mut Vec<u8>, number: u64) -> Result<(), AllocError>
     bytes.extend_from_slice(digits.format(number).as_bytes())
 }
 
-/// Puts `N ok` behind the bytes, and a line feed.
+/// Appends `N ok` and a line feed to the bytes.
 fn put_ok(bytes: &mut Vec<u8>, number: u64) -> Result<(), AllocError>
     ensures { OnOk result (bytes.new.items ≡ bytes.old.items ++ ok_line number) }
 {
@@ -30,7 +30,7 @@ fn put_ok(bytes: &mut Vec<u8>, number: u64) -> Result<(), AllocError>
     bytes.extend_from_slice(b" ok\n")
 }
 
-/// Puts a line of an answer's text behind the bytes.
+/// Appends a line of an answer's text to the bytes.
 fn put_bar_line(bytes: &mut Vec<u8>, text: &[u8]) -> Result<(), AllocError>
     ensures { OnOk result (bytes.new.items ≡ bytes.old.items ++ bar_line text.now) }
 {
@@ -39,7 +39,7 @@ fn put_bar_line(bytes: &mut Vec<u8>, text: &[u8]) -> Result<(), AllocError>
     bytes.extend_from_slice(b"\n")
 }
 
-/// Puts each line of a text behind the bytes.
+/// Appends each line of a text to the bytes.
 fn put_bar_lines(bytes: &mut Vec<u8>, text: &[u8]) -> Result<(), AllocError>
     ensures { OnOk result
         (bytes.new.items ≡ bytes.old.items ++ flat_map bar_line (lines_in text.now)) }
@@ -50,7 +50,7 @@ fn put_bar_lines(bytes: &mut Vec<u8>, text: &[u8]) -> Result<(), AllocError>
     Ok(())
 }
 
-/// Puts the words of a refusal behind the bytes.
+/// Appends the words of a refusal to the bytes.
 fn put_refusal(bytes: &mut Vec<u8>, refusal: &Refusal<Global>) -> Result<(), AllocError>
     ensures { OnOk result
         (bytes.new.items ≡ bytes.old.items ++ refusal_text (refusal_of refusal.now)) }
@@ -103,7 +103,7 @@ fn fault_word(fault: TextFault) -> &'static [u8]
     }
 }
 
-/// Puts `N refused ` behind the bytes.
+/// Appends `N refused ` to the bytes.
 fn put_refused(bytes: &mut Vec<u8>, number: u64) -> Result<(), AllocError>
     ensures { OnOk result
         (bytes.new.items ≡ bytes.old.items ++ (decimal number ++ codes " refused ")) }
@@ -112,11 +112,11 @@ fn put_refused(bytes: &mut Vec<u8>, number: u64) -> Result<(), AllocError>
     bytes.extend_from_slice(b" refused ")
 }
 
-/// Puts the answer to a line that is no command behind the bytes.
+/// Appends the answer to a line that is no command to the bytes.
 ///
 /// # Errors
 ///
-/// `AllocError` where memory was wanting; a part of the answer may stand behind the bytes then.
+/// `AllocError` when out of memory; a part of the answer may be appended then.
 pub fn put_fault(bytes: &mut Vec<u8>, number: u64, fault: TextFault) -> Result<(), AllocError>
     ensures { OnOk result
         (bytes.new.items ≡ bytes.old.items ++ fault_bytes number (text_fault_of fault)) }
@@ -126,11 +126,11 @@ pub fn put_fault(bytes: &mut Vec<u8>, number: u64, fault: TextFault) -> Result<(
     bytes.extend_from_slice(b"\n")
 }
 
-/// Puts the answer to a command behind the bytes.
+/// Appends the answer to a command to the bytes.
 ///
 /// # Errors
 ///
-/// `AllocError` where memory was wanting, here or for the reply itself; a part of the answer may stand behind the bytes
+/// `AllocError` when out of memory, here or for the reply itself; a part of the answer may be appended
 /// then.
 pub fn put_reply(
     alloc: Global,
@@ -164,7 +164,7 @@ pub fn put_reply(
     }
 }
 
-/// Whether the answer is `refused`. Want of memory is not.
+/// Whether the answer is `refused`. Out of memory is not.
 pub fn is_refused(reply: &Reply<Global>) -> bool
     ensures refused { IfSome (reply_of reply.now) (λ r. result ≡ is_refused r) }
     ensures no_memory { reply_of reply.now ≡ None → result ≡ false }

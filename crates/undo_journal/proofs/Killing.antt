@@ -27,7 +27,7 @@ second : (a b : Bool) → T (a && b) → T b
 second true b p = p
 second false b p = absurd p
 
--- ---- rows whose numbers rise
+-- ---- rows whose numbers ascend
 
 -- each is found
 found_each : (rs : List (ℕ × Path)) → T (is_sorted nat_cmp rs) → All (λ e. find nat_cmp e.0 rs ≡ Some e.1) rs

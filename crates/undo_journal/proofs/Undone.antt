@@ -52,7 +52,7 @@ module _ (slots : ℕ) where
     peaks = h.well_formed.0.peaks;
   }
 
-  -- ---- an answer, or want of memory
+  -- ---- an answer, or out of memory
 
   pub answered_by : {A E : Type 0} (old new : Machine) (c : model.Command) (r : Result (Reply A) E) (reply : Reply A) → IfOk r (λ x. reply ≡ x) → OnErr r (reply_of reply ≡ None) → IfOk r (λ x. Answers slots old c x new) → reply_of reply ≢ None → Answers slots old c reply new
   answered_by old new c (Ok x) reply is err h n = subst (λ y. Answers slots old c y new) (sym is) h

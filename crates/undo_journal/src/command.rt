@@ -103,7 +103,7 @@ impl<A: Allocator + Clone> Command<A> {
     ///
     /// # Errors
     ///
-    /// `AllocError` where memory was wanting.
+    /// `AllocError` when out of memory.
     pub fn copy<B: Allocator + Clone>(&self, alloc: B) -> Result<Command<B>, AllocError>
         ensures { IfOk result (λ c. command_of c ≡ command_of self.now) }
     {
@@ -140,7 +140,7 @@ impl<A: Allocator + Clone> Command<A> {
     ///
     /// # Errors
     ///
-    /// `AllocError` where memory was wanting.
+    /// `AllocError` when out of memory.
     pub fn text<B: Allocator + Clone>(&self, alloc: B) -> Result<Vec<u8, B>, AllocError>
         ensures { IfOk result (λ text. text.items ≡ command_text (command_of self.now)) }
     {

@@ -44,7 +44,7 @@ impl<A: Allocator + Clone, M: Meter> Model for Engine<A, M> {
     ghost invariant = { λ e. IsHistory M.SLOTS e.charges (records e.journal.items) };
 }
 
-/// The reply, or want of memory.
+/// The reply, or out of memory.
 pub(crate) fn or_out_of_memory<A: Allocator + Clone>(
     answer: Result<Reply<A>, AllocError>,
 ) -> Reply<A>
@@ -62,7 +62,7 @@ impl<A: Allocator + Clone, M: Meter + Drop> Engine<A, M> {
     ///
     /// # Errors
     ///
-    /// `AllocError` where memory was wanting; the meter is dropped then.
+    /// `AllocError` when out of memory; the meter is dropped then.
     pub fn new(alloc: A, meter: M) -> Result<Engine<A, M>, AllocError>
         requires { IsEmpty (M.content meter) (M.held meter) }
         ensures { IfOk result (λ e. e ≡ new_machine) }
@@ -95,7 +95,7 @@ impl<A: Allocator + Clone, M: Meter> Engine<A, M> {
         // What was recorded can be undone, one command or a whole run; what is counted is there, and no peak is below it.
         ensures headline { reply_of result ≢ None → KeepsHistory M.SLOTS self.old (command_of cmd.now) self.new }
 
-        // Where memory was wanting, nothing has changed.
+        // When out of memory, nothing has changed.
         ensures refused { reply_of result ≡ None → self.new ≡ self.old }
 
         // To take back a group or a process that was made, a limit that was set, or a fork that was counted, no memory
@@ -105,8 +105,8 @@ impl<A: Allocator + Clone, M: Meter> Engine<A, M> {
         self.apply_gated(rt, &OpenGate, who, cmd)
     }
 
-    /// `apply`, where each part of the charges of a kill, or of a kill that is taken back, passes the gate at its start. The
-    /// gate may keep it waiting.
+    /// `apply`, where each part of the charges of a kill, or of a kill that is taken back, calls the test hook at its
+    /// start. The hook may keep it waiting.
     pub fn apply_gated<R: Threads + Wait + Sync, B: Allocator + Clone>(
         &mut self,
         rt: &R,
@@ -206,7 +206,7 @@ impl<A: Allocator + Clone, M: Meter> Engine<A, M> {
         self.charges.home(pid).is_some()
     }
 
-    /// Tells `apply`, `undo` and `undo_all` what every engine keeps. It does nothing.
+    /// Tells `apply`, `undo` and `undo_all` what every engine keeps. It is proof only.
     pub(crate) fn known(&self)
         ensures { IsReached M.SLOTS self.now }
     {

@@ -50,7 +50,7 @@ pub(crate) fn refusal_at<A: Allocator + Clone, B: Allocator + Clone>(
     }
 }
 
-/// The want of memory that a fault is.
+/// The fault as out of memory.
 pub(crate) fn want_of_memory(fault: ChargeFault) -> AllocError
     requires { fault ≡ ChargeFault.OutOfMemory }
 {

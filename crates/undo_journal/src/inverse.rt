@@ -63,7 +63,7 @@ pub enum Inverse<A: Allocator + Clone> {
     },
     /// The processes of a group and of the groups below it were ended: each is put back into its own group.
     Killed {
-        /// The processes with their groups, pids rising.
+        /// The processes with their groups, pids ascending.
         list: LostList<A>,
     },
 }
@@ -73,7 +73,7 @@ impl<A: Allocator + Clone> Inverse<A> {
     ///
     /// # Errors
     ///
-    /// `AllocError` where memory was wanting.
+    /// `AllocError` when out of memory.
     pub fn copy<B: Allocator + Clone>(&self, alloc: B) -> Result<Inverse<B>, AllocError>
         ensures { IfOk result (λ i. inverse_of i ≡ inverse_of self.now) }
     {

@@ -8,7 +8,7 @@
 //! - An accepted command that changes the state is recorded, and so is a fork that a `pids.max` refused, which raises
 //!   event totals. Any other refused command, one that only shows, and an undo are not.
 //! - `undo` takes back the newest recorded command, whoever issued it, and checks nothing.
-//! - A refusal names its cause and leaves everything but those totals. So does want of memory, which comes last:
+//! - A refusal names its cause and leaves everything but those totals. So does out of memory, which comes last:
 //!   the memory of a record is asked for once it is decided what the command does, and before anything is changed.
 //! - The journal keeps a command and a small record each, and no state. It has no bound of its own, and is not kept on
 //!   a disk.
@@ -16,12 +16,12 @@
 //! - A kill, and a kill that is taken back, give all their charges to the meter at once, and may wait for the threads that
 //!   do a part of them. No other command waits. The session's number `who` picks where its charges stand in the meter.
 //! - `apply_alone` and `undo_alone` answer on the calling thread: they ask for no runtime, and nothing waits.
-//! - What `apply_gated` adds is that each part passes a gate of the caller's at its start; no clause speaks of the gate.
+//! - What `apply_gated` adds is that each part first calls a test hook of the caller's; no clause speaks of it.
 //! - Commands, refusals and replies over different allocators are compared by `is`: true exactly where they mean the same.
 //! - Groups, processes and their counts are those of `Charges`: no command but a kill goes over all processes. There are
 //!   as many groups beside the root as the meter has slots.
 //! - Undo gives a removed group back with its limits and event totals. Only for a removal, an end, a move or a kill taken
-//!   back is memory asked for; where it is wanting, state and journal stay.
+//!   back is memory asked for; when out of it, state and journal stay.
 //! - `rehearse` tells what a list of commands would be answered, undos of the journal among them: it runs them on a copy of
 //!   the engine in an arena of the caller's. The engine itself is only read.
 //!

@@ -55,7 +55,7 @@ impl<A: Allocator + Clone, M: Meter> Engine<A, M> {
         })
     }
 
-    /// Answers one command, with the reply in other memory; want of memory is an `Err`.
+    /// Answers one command, with the reply in other memory; out of memory is an `Err`.
     fn answer_in<R: Threads + Wait + Sync, B: Allocator + Clone, C: Allocator + Clone>(
         &mut self,
         rt: &R,

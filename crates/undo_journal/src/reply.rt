@@ -84,7 +84,7 @@ impl<A: Allocator + Clone> Reply<A> {
     ///
     /// # Errors
     ///
-    /// `AllocError` where memory was wanting.
+    /// `AllocError` when out of memory.
     pub fn copy<B: Allocator + Clone>(&self, alloc: B) -> Result<Reply<B>, AllocError>
         ensures { IfOk result (λ r. reply_of r ≡ reply_of self.now) }
     {

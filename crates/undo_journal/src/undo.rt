@@ -74,7 +74,7 @@ impl<A: Allocator + Clone, M: Meter> Engine<A, M> {
     ///
     /// # Errors
     ///
-    /// Where memory is wanting, with the number of commands that were taken back until then. The rest stands, and can be
+    /// When out of memory, with the number of commands that were taken back until then. The rest stands, and can be
     /// taken back later.
     pub fn undo_all<R: Threads + Wait + Sync>(
         &mut self,

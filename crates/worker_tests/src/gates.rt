@@ -1,9 +1,9 @@
-//! A gate at which the three parts of each of three phases have to meet.
+//! A barrier at which the three parts of each of three phases have to meet.
 
 use replay_main::Gate;
 use std::sync::atomic::{AtomicBool, AtomicU64, Ordering};
 
-/// How often a part looks for another before it is a miss.
+/// How often a part polls for another before it is a miss.
 const TURNS: u64 = 100_000_000;
 
 /// A flag for each part, and how many of the others a part has missed.

@@ -4,8 +4,8 @@
 //! memory, and that three workers are three threads in each phase, which meet.
 //!
 //! - `replays`: a trace with a kill and its undo by 1, 2, 3 and 8 workers, by a rehearsal, and
-//!   behind a gate.
-//! - `gates`: a gate at which all parts of a phase have to meet.
+//!   with a barrier.
+//! - `gates`: a barrier at which all parts of a phase have to meet.
 //! - `messages`: what is said of a line that is no command.
 #![tactic(auto)]
 

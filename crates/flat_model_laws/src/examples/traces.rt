@@ -50,7 +50,7 @@ pub fn fork_counted_at_the_limit()
         ++ codes "| max 1\n7 ok\n| fork 1 2\n8 ok\n| max 0\n9 ok\n| max 0\n" }
 {}
 
-/// The event is counted locally at the group whose limit is met, above the process's own, and in
+/// The refused fork is counted locally at the group whose limit is met, above the process's own, and in
 /// totals from there upward.
 pub fn fork_counted_at_an_ancestor()
     ensures { answers 256 (codes "mkdir /a\nmkdir /a/b\nwrite /a pids.max 1\n"
@@ -237,7 +237,7 @@ pub fn totals_up_to_the_top()
         ++ codes "| max 0\n" }
 {}
 
-/// A new group has no limits and no events, whatever its parent has, and is one descendant more of
+/// A new group has no limits and event totals of 0, whatever its parent has, and is one descendant more of
 /// each group above it.
 pub fn new_group()
     ensures { answers 256 (codes "mkdir /a\nwrite /a pids.max 1\nwrite /a cgroup.max.depth 9\n"

@@ -40,7 +40,7 @@ ghost use Rattle.replay_main.specs.Script.{
 
 /// The answers by places and replies are those of the model, where each command has its reply. So
 /// are the answers by replies that are at hand, as far as there are any; behind a command for which
-/// memory was wanting nothing is answered.
+/// the workers were out of memory nothing is answered.
 pub fn answers_of_scripts()
     ensures model { (slots : ℕ) (lines : List trace.Line)
         → answers_from 1 (places_in lines) (line_replies slots lines) ≡ answers_to slots lines }
