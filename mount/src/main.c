@@ -1,8 +1,10 @@
 /* makhloeum mount, makhloeum run: the command line. */
 #include "run.h"
 #include "serve.h"
+#include <fcntl.h>
 #include <stdio.h>
 #include <string.h>
+#include <unistd.h>
 
 static const char help[] =
 	"makhloeum mount DIR [--trace FILE] [--answers FILE] [--extra] [--adopt] [--control] [--foreground]\n"
@@ -27,6 +29,18 @@ static const char help[] =
 	"\n"
 	"The status of run is that of PROGRAM (128 and the signal where one ended it). It is 2 on a bad command line and where\n"
 	"the machine does not allow what is needed, which one sentence then names.\n";
+
+/* A standard stream that is closed is /dev/null: else the next file that is opened has its number. */
+static bool have_streams(void)
+{
+	int fd;
+	do
+		fd = open("/dev/null", O_RDWR);
+	while (fd >= 0 && fd <= STDERR_FILENO);
+	if (fd >= 0)
+		close(fd);
+	return fd >= 0;
+}
 
 static int bad(void)
 {
@@ -61,6 +75,8 @@ static int read_options(int argc, char **argv, int at, struct wishes *w)
 int main(int argc, char **argv)
 {
 	struct wishes w = { 0 };
+	if (!have_streams())
+		return 1;
 	if (argc == 2 && (strcmp(argv[1], "--help") == 0 || strcmp(argv[1], "-h") == 0))
 		return fputs(help, stdout) < 0 || fflush(stdout) ? 1 : 0;
 	if (argc < 3)

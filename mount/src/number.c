@@ -66,8 +66,8 @@ static int say_max(char said[SAID_MAX])
 	return 0;
 }
 
-/* cgroup.max.depth, cgroup.max.descendants: the greatest int is no limit */
-static int count_said(const char *text, char said[SAID_MAX])
+/* A limit: `max`, or a number from 0 to `largest`. A number outside this range has the errno `beyond`. */
+static int limit_said(const char *text, long long largest, int beyond, char said[SAID_MAX])
 {
 	long long n;
 	if (strcmp(text, "max") == 0)
@@ -75,20 +75,10 @@ static int count_said(const char *text, char said[SAID_MAX])
 	int fault = read_number(text, &n);
 	if (fault)
 		return fault;
-	if (n < 0 || n > INT_MAX)
-		return -ERANGE;
+	if (n < 0 || n > largest)
+		return -beyond;
+	/* the greatest int is no limit */
 	return n == INT_MAX ? say_max(said) : say(said, n);
-}
-
-static int pids_limit_said(const char *text, char said[SAID_MAX])
-{
-	long long n;
-	if (strcmp(text, "max") == 0)
-		return say_max(said);
-	int fault = read_number(text, &n);
-	if (fault)
-		return fault;
-	return n < 0 || n > pids_limit_max ? -EINVAL : say(said, n);
 }
 
 static int pid_said(const char *text, char said[SAID_MAX])
@@ -124,9 +114,9 @@ int value_said(enum value kind, const char *data, size_t size, char said[SAID_MA
 	case A_PID:
 		return pid_said(from, said);
 	case A_COUNT:
-		return count_said(from, said);
+		return limit_said(from, INT_MAX, ERANGE, said);
 	case A_PIDS_LIMIT:
-		return pids_limit_said(from, said);
+		return limit_said(from, pids_limit_max, EINVAL, said);
 	case A_ONE:
 		return one_said(from, said);
 	default:

@@ -184,7 +184,8 @@ int tree_rmdir(const char *path)
 	return fault;
 }
 
-int tree_chmod(const char *path, mode_t mode, struct fuse_file_info *fi)
+/* Keeps a mode and an owner; what has all bits set stays as it was. */
+static int set_owner(const char *path, mode_t mode, uid_t uid, gid_t gid, struct fuse_file_info *fi)
 {
 	struct stat st;
 	char of_open[PATH_MAX_SAID + 32];
@@ -192,21 +193,8 @@ int tree_chmod(const char *path, mode_t mode, struct fuse_file_info *fi)
 	int fault = path ? tree_getattr(path, &st, fi) : -ENOENT;
 	if (fault || control_has(path))
 		return fault ? fault : -EPERM;
-	st.st_mode = mode;
-	engine_lock();
-	fault = owner_set(path, &st);
-	engine_unlock();
-	return fault;
-}
-
-int tree_chown(const char *path, uid_t uid, gid_t gid, struct fuse_file_info *fi)
-{
-	struct stat st;
-	char of_open[PATH_MAX_SAID + 32];
-	path = path_of(path, fi, of_open, sizeof of_open);
-	int fault = path ? tree_getattr(path, &st, fi) : -ENOENT;
-	if (fault || control_has(path))
-		return fault ? fault : -EPERM;
+	if (mode != (mode_t)-1)
+		st.st_mode = mode;
 	if (uid != (uid_t)-1)
 		st.st_uid = uid;
 	if (gid != (gid_t)-1)
@@ -215,4 +203,14 @@ int tree_chown(const char *path, uid_t uid, gid_t gid, struct fuse_file_info *fi
 	fault = owner_set(path, &st);
 	engine_unlock();
 	return fault;
+}
+
+int tree_chmod(const char *path, mode_t mode, struct fuse_file_info *fi)
+{
+	return set_owner(path, mode, (uid_t)-1, (gid_t)-1, fi);
+}
+
+int tree_chown(const char *path, uid_t uid, gid_t gid, struct fuse_file_info *fi)
+{
+	return set_owner(path, (mode_t)-1, uid, gid, fi);
 }

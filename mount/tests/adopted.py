@@ -3,7 +3,7 @@ import os
 import signal
 import subprocess
 
-from support import Mount, error_of, finish, read, same, step, until, write
+from support import PATIENCE, Mount, error_of, finish, read, same, step, until, write
 
 m = Mount("--adopt")
 os.mkdir(m.path("a"))
@@ -17,7 +17,7 @@ pids = [int(p) for p in read(m.path("a", "cgroup.procs")).split()]
 os.kill(pids[1] if pids[1] != child.pid else pids[0], signal.SIGKILL)
 step("a death is seen", until(lambda: read(m.path("a", "pids.current")) == b"2\n"))
 write(m.path("a", "cgroup.kill"), b"1\n")
-same("a kill is real", child.wait(10), -signal.SIGKILL)
+same("a kill is real", child.wait(PATIENCE), -signal.SIGKILL)
 same("nobody is left", read(m.path("a", "cgroup.events")), b"populated 0\nfrozen 0\n")
 same("rmdir then", error_of(os.rmdir, m.path("a")), "ok")
 os.mkdir(m.path("b"))

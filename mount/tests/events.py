@@ -4,7 +4,7 @@ import select
 import struct
 import time
 
-from support import Mount, error_of, finish, libc, read, same, step, until, write
+from support import PATIENCE, Mount, error_of, finish, libc, read, same, step, until, write
 
 IN_MODIFY = 0x2
 
@@ -15,26 +15,41 @@ class Watch:
         self.names = {libc.inotify_add_watch(self.fd, p.encode(), 0xFFF): p for p in paths}
         self.take()
 
-    def take(self):
+    def read(self):
         """The files that were modified, and every other kind of event that came."""
-        time.sleep(0.15)
         try:
             data = os.read(self.fd, 65536)
         except BlockingIOError:
-            return set(), set()
-        modified, others = set(), set()
+            return
         while data:
             number, mask, _, size = struct.unpack("iIII", data[:16])
             if mask & IN_MODIFY:
-                modified.add(self.names[number])
+                self.modified.add(self.names[number])
             if mask & ~IN_MODIFY:
-                others.add(hex(mask))
+                self.others.add(hex(mask))
             data = data[16 + size:]
-        return modified, others
+
+    def take(self, *wanted):
+        """What came since the last time, once the wanted files are among it, or did not come."""
+        self.modified, self.others = set(), set()
+
+        def came():
+            self.read()
+            return self.modified.issuperset(wanted)
+
+        until(came)
+        time.sleep(0.15)
+        self.read()
+        return self.modified, self.others
+
+
+def tells(what, watch, *wanted):
+    """These files were modified, and nothing else came."""
+    same(what, watch.take(*wanted), (set(wanted), set()))
 
 
 def told(poller):
-    return [mask & (select.POLLPRI | select.POLLERR) for _, mask in poller.poll(3000)]
+    return [mask & (select.POLLPRI | select.POLLERR) for _, mask in poller.poll(1000 * PATIENCE)]
 
 
 m = Mount()
@@ -61,24 +76,25 @@ same("the kill is taken back", told(poller), [select.POLLPRI | select.POLLERR])
 os.close(fd)
 
 watch = Watch(a, b)
-same("nothing at first", watch.take(), (set(), set()))
+tells("nothing at first", watch)
 write(m.control("exit"), b"2\n")
-same("one of two exits", watch.take(), (set(), set()))
+tells("one of two exits", watch)
 write(m.control("exit"), b"3\n")
-same("the last exits: the group and the one above", watch.take(), ({a, b}, set()))
+tells("the last exits: the group and the one above", watch, a, b)
 write(m.control("fork"), b"1 4\n")
 write(m.path("a", "cgroup.procs"), b"4\n")
-same("one comes to the group above alone", watch.take(), ({a}, set()))
+tells("one comes to the group above alone", watch, a)
 write(m.path("a", "b", "cgroup.procs"), b"4\n")
-same("it moves below", watch.take(), ({b}, set()))
+tells("it moves below", watch, b)
 write(m.path("cgroup.procs"), b"4\n")
-same("it leaves", watch.take(), ({a, b}, set()))
+tells("it leaves", watch, a, b)
 write(m.path("a", "cgroup.procs"), b"4\n")
-watch.take()
+watch.take(a)
 write(m.path("a", "pids.max"), b"1\n")
-events = Watch(m.path("a", "pids.events"), m.path("a", "pids.events.local"))
+both = m.path("a", "pids.events"), m.path("a", "pids.events.local")
+events = Watch(*both)
 same("a refused fork", error_of(write, m.control("fork"), b"4 5\n"), "EAGAIN")
-same("is told by both files", len(events.take()[0]), 2)
+tells("is told by both files", events, *both)
 for _ in range(200):
     write(m.path("a", "b", "cgroup.procs"), b"4\n")
     write(m.path("a", "cgroup.procs"), b"4\n")

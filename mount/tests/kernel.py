@@ -3,6 +3,7 @@ directory, and its errno and its text are Linux's."""
 import glob
 import os
 import re
+import shutil
 
 from support import Mount, error_of, finish, read, same, step, write
 
@@ -85,8 +86,8 @@ for trace in sorted(glob.glob(os.path.join(HERE, "*", "*.trace"))):
         if not agrees(words, got, reply):
             wrong.append((words, got, reply))
     same(name, wrong[:3], [])
-    m.unmount()
-    m.ended()
+    same("%s: its mount is taken away" % name, (m.unmounted(), m.ended(), m.words()), (True, 0, ""))
     step("%s is replayed" % name, m.replay())
+    shutil.rmtree(m.home)
 print("  %d operations are Linux's, %d but for the bounds of names and groups" % (played, bounded))
 finish()

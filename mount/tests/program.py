@@ -10,7 +10,7 @@ import tempfile
 import threading
 import time
 
-from support import CGREPLAY, PROGRAM, error_of, finish, libc, read, same, step, until, write
+from support import CGREPLAY, PATIENCE, PROGRAM, error_of, finish, libc, read, same, step, until, write
 
 AT = "/sys/fs/cgroup"
 ME = os.path.realpath(__file__)
@@ -220,14 +220,14 @@ def ends():
         until(lambda: running("sleep 63"))
         pids = [p.pid] if which == "supervisor" else [c for c in children(p.pid) if name_of(c) == "makhloeum"]
         os.kill(pids[0], signal.SIGKILL)
-        status = p.wait(10)
+        status = p.wait(PATIENCE)
         same("the %s is killed" % which, status, -9 if which == "supervisor" else 137)
         step("its program goes with it", until(lambda: not running("sleep 63")))
-        step("and so does every other process", until(lambda: not running("[^ ]*makhloeum run sh"), 8))
+        step("and so does every other process", until(lambda: not running("[^ ]*makhloeum run sh")))
     p = subprocess.Popen([PROGRAM, "run", "sleep", "65"])
     until(lambda: running("sleep 65"))
     p.terminate()
-    same("SIGTERM is passed on", p.wait(10), 143)
+    same("SIGTERM is passed on", p.wait(PATIENCE), 143)
 
 
 def children(pid):

@@ -7,7 +7,7 @@ import sys
 import threading
 import time
 
-from support import Mount, error_of, finish, read, same, step, until, write
+from support import PATIENCE, Mount, error_of, finish, read, same, step, until, write
 
 CLIENT = """import os, sys
 at = sys.argv[1]
@@ -98,7 +98,7 @@ def killed_under_load():
     time.sleep(0.3)
     m.process.kill()
     for c in clients:
-        c.join(10)
+        c.join(PATIENCE)
     step("ten clients of a killed mount all come back with an error", len(errors) == 10)
     step("and the mount is gone", until(lambda: not os.path.ismount(m.at)))
 
@@ -111,21 +111,22 @@ def bad_lines():
     same("--help", subprocess.run([program, "--help"], stdout=subprocess.PIPE).returncode, 0)
 
 
-def background():
-    m = Mount()
-    m.end()
+def background(closed=""):
+    """Without --foreground; `closed` are the shell's words for standard streams that are not there."""
     home = os.environ.get("TMPDIR", "/tmp")
     at = os.path.join(home, "background")
     os.makedirs(at, exist_ok=True)
-    ran = subprocess.run([os.environ["MAKHLOEUM"], "mount", at], stdout=subprocess.PIPE, timeout=10)
-    same("mount returns once it is there", (ran.returncode, os.path.ismount(at)), (0, True))
+    ran = subprocess.run(["sh", "-c", '"$0" mount "$1" ' + closed, os.environ["MAKHLOEUM"], at], stdout=subprocess.PIPE, timeout=10)
+    same("mount %sreturns once it is there" % closed, (ran.returncode, os.path.ismount(at)), (0, True))
     os.mkdir(at + "/a")
+    same("and stays", (read(at + "/a/pids.current"), os.path.ismount(at)), (b"0\n", True))
     step("fusermount3 -u takes it away", until(lambda: subprocess.run(["fusermount3", "-u", at], stderr=-3).returncode == 0))
     os.rmdir(at)
 
 
 for test, args in ((dying_clients, ()), (full_device, ()), (full_in_between, ()), (unmounted_while_open, ()),
                    (ended_while_open, (signal.SIGTERM, "SIGTERM")), (ended_while_open, (signal.SIGKILL, "SIGKILL")),
-                   (killed_under_load, ()), (bad_lines, ()), (background, ())):
+                   (killed_under_load, ()), (bad_lines, ()), (background, ()), (background, ("<&- ",)), (background, (">&- ",)),
+                   (background, ("<&- >&- 2>&- ",))):
     test(*args)
 finish()

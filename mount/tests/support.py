@@ -31,7 +31,10 @@ def finish():
     sys.exit(1 if failed else 0)
 
 
-def until(what, seconds=5.0):
+PATIENCE = 20.0  # seconds: a busy machine takes long, and what becomes true at once costs nothing
+
+
+def until(what, seconds=PATIENCE):
     """Whether it becomes true in time."""
     end = time.monotonic() + seconds
     while time.monotonic() < end:
@@ -96,10 +99,14 @@ class Mount:
     def unmount(self, *options):
         return subprocess.run(["fusermount3", "-u", *options, self.at], stderr=subprocess.DEVNULL).returncode
 
+    def unmounted(self):
+        """Whether it can be taken away: for a moment it may be busy, since the process that tells inotify is still at it."""
+        return until(lambda: self.unmount() == 0 or self.process.poll() is not None)
+
     def ended(self):
         """The status of its process, or None where it does not end in time."""
         try:
-            return self.process.wait(10)
+            return self.process.wait(PATIENCE)
         except subprocess.TimeoutExpired:
             self.process.kill()
             return None
@@ -110,8 +117,7 @@ class Mount:
             return subprocess.run(CGREPLAY, stdin=trace, stdout=subprocess.PIPE).stdout == answers.read()
 
     def end(self, replayed=True):
-        # the process that tells inotify may still be at it
-        step("fusermount3 -u takes it away", until(lambda: self.unmount() == 0 or self.process.poll() is not None))
+        step("fusermount3 -u takes it away", self.unmounted())
         same("the process ends with the mount", self.ended(), 0)
         same("it says nothing", self.words(), "")
         if replayed:

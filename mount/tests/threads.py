@@ -3,7 +3,7 @@ import os
 import random
 import threading
 
-from support import Mount, error_of, finish, read, same, step, write
+from support import PATIENCE, Mount, error_of, finish, read, same, step, write
 
 ROUNDS = 300
 
@@ -54,7 +54,7 @@ for t in writers:
     t.join(120)
 stop.set()
 for t in readers:
-    t.join(10)
+    t.join(PATIENCE)
 step("nothing hangs", not any(t.is_alive() for t in writers + readers))
 same("each writer finds its own group as it left it", wrong[:3], [])
 same("nobody is left", read(m.path("cgroup.procs")), b"1\n")
