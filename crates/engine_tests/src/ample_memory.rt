@@ -1,13 +1,12 @@
 //! Calls that are answered where there is memory. A made-up `OutOfMemory` would pass every contract, so tests
 //! ask where a wrong reason could hide behind it.
 
-use crate::engine::{answer, command, said};
-use pids_charge::PlainMeter;
+use crate::engine::{Plain, all_undone, answer, plain};
+use crate::rehearsal::{all_answered, are_replies, commands};
 use std::alloc::Global;
 use std::sync::Wait;
 use std::test::Fail;
 use std::thread::Threads;
-use undo_journal::Engine;
 
 /// Lines and their answers. Limits stand below what an exit, a kill, a move and a removal give back.
 const ROWS: [(&str, &str); 26] = [
@@ -66,49 +65,68 @@ const AFTERWARDS: [(&str, &str); 8] = [
 fn is_rehearsed<R: Threads + Wait + Sync>(
     rt: &R,
     alloc: Global,
-    engine: &Engine<Global, PlainMeter<Global>>,
+    engine: &Plain,
     rows: &[(&str, &str)],
 ) -> Result<bool, Fail> {
-    let mut commands = Vec::new(alloc);
-    for (line, _) in rows {
-        commands.push(command(alloc, line)?)?;
-    }
+    let commands = commands(alloc, rows)?;
     let replies = engine.rehearse(rt, alloc, alloc, commands.as_slice())?;
-    for (reply, (_, wanted)) in replies.iter().zip(rows.iter()) {
-        if said(alloc, reply)?.as_slice() != wanted.as_bytes() {
-            return Ok(false);
-        }
-    }
-    Ok(replies.len() == rows.len())
+    Ok(are_replies(alloc, replies.as_slice(), rows)?)
+}
+
+/// Whether the fork of this process is done; its row is added to the list.
+fn is_forked<R: Threads + Wait + Sync>(
+    rt: &R,
+    alloc: Global,
+    engine: &mut Plain,
+    number: u32,
+    listed: &mut Vec<u8>,
+) -> Result<bool, Fail> {
+    let line = format!(in alloc; "fork 1 {number}")?;
+    let said = answer(rt, alloc, engine, line.as_str())?;
+    let row = format!(in alloc; "{number}\n")?;
+    listed.extend_from_slice(row.as_bytes())?;
+    Ok(said.as_slice() == b"ok".as_slice())
 }
 
 /// Whether a thousand forks, one of them that of process 65,536, are answered each; whether their group's text then
 /// has them all; and whether all are taken back at once.
-fn is_crowd_answered<R: Threads + Wait + Sync>(rt: &R, alloc: Global) -> Result<bool, Fail> {
-    let mut engine = Engine::new(alloc, PlainMeter::new(alloc)?)?;
+fn is_crowd_answered<R: Threads + Wait + Sync>(
+    rt: &R,
+    alloc: Global,
+    engine: &mut Plain,
+) -> Result<bool, Fail> {
     let mut listed = Vec::from_slice(alloc, b"1\n")?;
     for number in 65_036..66_036u32 {
-        let line = format!(in alloc; "fork 1 {number}")?;
-        if answer(rt, alloc, &mut engine, line.as_str())?.as_slice() != b"ok".as_slice() {
+        if !is_forked(rt, alloc, engine, number, &mut listed)? {
             return Ok(false);
         }
-        let row = format!(in alloc; "{number}\n")?;
-        listed.extend_from_slice(row.as_bytes())?;
     }
-    let text = answer(rt, alloc, &mut engine, "cat / cgroup.procs")?;
-    let undone = engine.undo_all(rt, 0);
-    Ok(text == listed && undone == Ok(1000))
+    let text = answer(rt, alloc, engine, "cat / cgroup.procs")?;
+    all_undone(rt, engine, 1000)?;
+    Ok(text == listed)
+}
+
+fn crowd_answered<R: Threads + Wait + Sync>(rt: &R, alloc: Global) -> Result<bool, Fail> {
+    let mut engine = plain(alloc)?;
+    is_crowd_answered(rt, alloc, &mut engine)
+}
+
+/// Whether the lines are answered as they should be, and what is rehearsed before and after them.
+fn are_answered<R: Threads + Wait + Sync>(
+    rt: &R,
+    alloc: Global,
+    engine: &mut Plain,
+) -> Result<bool, Fail> {
+    let is_start_right = is_rehearsed(rt, alloc, engine, &AT_THE_START)?;
+    all_answered(rt, alloc, engine, &ROWS)?;
+    let is_end_right = is_rehearsed(rt, alloc, engine, &AFTERWARDS)?;
+    Ok(is_start_right && is_end_right)
 }
 
 #[test]
 fn answered_where_there_is_memory(rt: HostRuntime) -> Result<(), Fail> {
-    let mut engine = Engine::new(rt.alloc(), PlainMeter::new(rt.alloc())?)?;
-    assert!(rt; is_rehearsed(&rt, rt.alloc(), &engine, &AT_THE_START)?);
-    for (line, wanted) in ROWS {
-        let answer = answer(&rt, rt.alloc(), &mut engine, line)?;
-        assert!(rt; answer.as_slice() == wanted.as_bytes(), "{line}");
-    }
-    assert!(rt; is_rehearsed(&rt, rt.alloc(), &engine, &AFTERWARDS)?);
-    assert!(rt; is_crowd_answered(&rt, rt.alloc())?);
+    assert!(rt; crowd_answered(&rt, rt.alloc())?);
+    let mut engine = plain(rt.alloc())?;
+    assert!(rt; are_answered(&rt, rt.alloc(), &mut engine)?);
     Ok(())
 }

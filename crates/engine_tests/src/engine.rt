@@ -70,6 +70,15 @@ pub(crate) fn said<A: Allocator + Clone>(
     }
 }
 
+/// An engine over a plain meter.
+pub(crate) type Plain = Engine<Global, PlainMeter<Global>>;
+
+/// A new engine.
+pub(crate) fn plain(alloc: Global) -> Result<Plain, Fail> {
+    let meter = PlainMeter::new(alloc)?;
+    Ok(Engine::new(alloc, meter)?)
+}
+
 /// What the engine answers to a line, said from a copy of the reply to a copy of the command.
 pub(crate) fn answer<R: Threads + Wait + Sync, A: Allocator + Clone, M: Meter>(
     rt: &R,
@@ -141,20 +150,20 @@ fn texts_of_commands(rt: HostRuntime) -> Result<(), Fail> {
 /// Lines, what the engine answers to each, and how many records it has then.
 type Row = (&'static str, &'static str, usize);
 
-/// The first line that is answered otherwise, or leaves another number of records.
-fn first_other<R: Threads + Wait + Sync, M: Meter>(
+/// Answers the lines, and fails with the first that is answered otherwise or leaves another number of records.
+fn all_answered<R: Threads + Wait + Sync>(
     rt: &R,
     alloc: Global,
-    engine: &mut Engine<Global, M>,
+    engine: &mut Plain,
     rows: &[Row],
-) -> Result<Option<&'static str>, Fail> {
+) -> Result<(), Fail> {
     for (line, wanted, depth) in rows {
         let said = answer(rt, alloc, engine, line)?;
-        if (said.as_slice(), engine.depth()) != (wanted.as_bytes(), *depth) {
-            return Ok(Some(*line));
+        if said.as_slice() != wanted.as_bytes() || engine.depth() != *depth {
+            return Err(Fail::new(line));
         }
     }
-    Ok(None)
+    Ok(())
 }
 
 /// A process is made, moved and moved back; all is undone and made again, and the process killed.
@@ -178,30 +187,47 @@ const LINES: [Row; 17] = [
     ("where 2", "noprocess 2", 4),
 ];
 
+/// What an engine of which everything was taken back answers.
+const START: [Row; 2] = [
+    ("cat / cgroup.procs", "1\n", 0),
+    (
+        "cat / cgroup.stat",
+        "nr_descendants 0\nnr_dying_descendants 0\n",
+        0,
+    ),
+];
+
+/// Takes back everything, and fails where that is another number of commands.
+pub(crate) fn all_undone<R: Threads + Wait + Sync>(
+    rt: &R,
+    engine: &mut Plain,
+    wanted: usize,
+) -> Result<(), Fail> {
+    match engine.undo_all(rt, 0) {
+        Ok(count) if count == wanted => Ok(()),
+        _ => Err(Fail::new("another number of commands was undone")),
+    }
+}
+
+fn traced<R: Threads + Wait + Sync>(rt: &R, alloc: Global, engine: &mut Plain) -> Result<(), Fail> {
+    all_answered(rt, alloc, engine, &LINES)?;
+    all_undone(rt, engine, 4)?;
+    all_answered(rt, alloc, engine, &START)?;
+    all_undone(rt, engine, 0)
+}
+
 /// Then everything is taken back at once.
 #[test]
 fn one_trace(rt: HostRuntime) -> Result<(), Fail> {
-    let mut engine = Engine::new(rt.alloc(), PlainMeter::new(rt.alloc())?)?;
-    assert_eq!(rt; first_other(&rt, rt.alloc(), &mut engine, &LINES)?, None);
-    assert_eq!(rt; engine.undo_all(&rt, 0), Ok(4));
-    let start = [
-        ("cat / cgroup.procs", "1\n", 0),
-        (
-            "cat / cgroup.stat",
-            "nr_descendants 0\nnr_dying_descendants 0\n",
-            0,
-        ),
-    ];
-    assert_eq!(rt; first_other(&rt, rt.alloc(), &mut engine, &start)?, None);
-    assert_eq!(rt; engine.undo_all(&rt, 0), Ok(0));
-    Ok(())
+    let mut engine = plain(rt.alloc())?;
+    traced(&rt, rt.alloc(), &mut engine)
 }
 
 /// What the engine answers to a reading of the file of the group at the path of this text.
 fn shown<R: Threads + Wait + Sync>(
     rt: &R,
     alloc: Global,
-    engine: &mut Engine<Global, PlainMeter<Global>>,
+    engine: &mut Plain,
     path: &str,
     file: File,
 ) -> Result<Vec<u8>, Fail> {
@@ -210,69 +236,153 @@ fn shown<R: Threads + Wait + Sync>(
     Ok(said(alloc, &reply)?)
 }
 
+/// A path, a file, and what a reading of it is answered.
+const READINGS: [(&str, File, &str); 7] = [
+    ("/", File::KillFile, "direction"),
+    ("/b", File::KillFile, "direction"),
+    ("/b", File::PidsMax, "nogroup /b"),
+    ("/b", File::Procs, "nogroup /b"),
+    ("/", File::PidsMax, "nofile"),
+    ("/", File::Events, "nofile"),
+    ("/", File::Procs, "1\n"),
+];
+
+fn all_shown<R: Threads + Wait + Sync>(
+    rt: &R,
+    alloc: Global,
+    engine: &mut Plain,
+) -> Result<(), Fail> {
+    for (path, file, wanted) in READINGS {
+        let said = shown(rt, alloc, engine, path, file)?;
+        if said.as_slice() != wanted.as_bytes() {
+            return Err(Fail::new(wanted));
+        }
+    }
+    Ok(())
+}
+
 /// That a file is not read comes before its group, and the group before what the root has not.
 #[test]
 fn refusals_of_a_reading(rt: HostRuntime) -> Result<(), Fail> {
-    let mut engine = Engine::new(rt.alloc(), PlainMeter::new(rt.alloc())?)?;
-    let rows = [
-        ("/", File::KillFile, "direction"),
-        ("/b", File::KillFile, "direction"),
-        ("/b", File::PidsMax, "nogroup /b"),
-        ("/b", File::Procs, "nogroup /b"),
-        ("/", File::PidsMax, "nofile"),
-        ("/", File::Events, "nofile"),
-        ("/", File::Procs, "1\n"),
-    ];
-    for (path, file, wanted) in rows {
-        let said = shown(&rt, rt.alloc(), &mut engine, path, file)?;
-        assert!(rt; said.as_slice() == wanted.as_bytes(), "{path}");
-    }
-    Ok(())
+    let mut engine = plain(rt.alloc())?;
+    all_shown(&rt, rt.alloc(), &mut engine)
+}
+
+/// Whether the newest record is of the fork of process 2.
+fn is_fork_newest(engine: &Plain) -> bool {
+    matches!(engine.newest(), Some(Inverse::Forked { pid, .. }) if pid.get() == 2)
+        && matches!(engine.newest_command(), Some(Command::Fork { .. }))
+}
+
+/// Whether the engine has no record.
+fn has_no_record(engine: &Plain) -> bool {
+    engine.newest().is_none() && engine.newest_command().is_none()
+}
+
+/// What the engine says of the newest command, which it takes back.
+fn undone<R: Threads + Wait + Sync>(
+    rt: &R,
+    alloc: Global,
+    engine: &mut Plain,
+) -> Result<Vec<u8>, AllocError> {
+    let undone = engine.undo(rt, 0);
+    said(alloc, &undone)
+}
+
+fn recorded<R: Threads + Wait + Sync>(
+    rt: &R,
+    alloc: Global,
+    engine: &mut Plain,
+) -> Result<bool, Fail> {
+    let was_empty = has_no_record(engine);
+    let made = answer(rt, alloc, engine, "fork 1 2")?;
+    let is_made = made.as_slice() == b"ok".as_slice() && is_fork_newest(engine);
+    let undone = undone(rt, alloc, engine)?;
+    let is_undone = undone.as_slice() == b"fork 1 2".as_slice() && has_no_record(engine);
+    Ok(was_empty && is_made && is_undone)
 }
 
 /// The newest record and its command, and the undo that takes it back.
 #[test]
 fn newest_record(rt: HostRuntime) -> Result<(), Fail> {
-    let mut engine = Engine::new(rt.alloc(), PlainMeter::new(rt.alloc())?)?;
-    assert!(rt; engine.newest().is_none());
-    assert!(rt; engine.newest_command().is_none());
-    let made = answer(&rt, rt.alloc(), &mut engine, "fork 1 2")?;
-    assert!(rt; made.as_slice() == b"ok".as_slice());
-    assert!(rt; matches!(engine.newest(), Some(Inverse::Forked { pid, .. }) if pid.get() == 2));
-    assert!(rt; matches!(engine.newest_command(), Some(Command::Fork { .. })));
-    let undone = engine.undo(&rt, 0);
-    let undone = said(rt.alloc(), &undone)?;
-    assert!(rt; undone.as_slice() == b"fork 1 2".as_slice());
-    assert!(rt; engine.newest().is_none());
+    let mut engine = plain(rt.alloc())?;
+    assert!(rt; recorded(&rt, rt.alloc(), &mut engine)?);
     Ok(())
+}
+
+/// Whether the group of this number is made, or refused where there are as many as there may be.
+fn is_slot_told<R: Threads + Wait + Sync>(
+    rt: &R,
+    alloc: Global,
+    engine: &mut Plain,
+    number: usize,
+) -> Result<bool, Fail> {
+    let line = format!(in alloc; "mkdir /g{number}")?;
+    let said = answer(rt, alloc, engine, line.as_str())?;
+    let wanted = if number < SLOTS { "ok" } else { "noslot" };
+    Ok(said.as_slice() == wanted.as_bytes())
+}
+
+fn all_slots_told<R: Threads + Wait + Sync>(
+    rt: &R,
+    alloc: Global,
+    engine: &mut Plain,
+) -> Result<bool, Fail> {
+    for number in 0..=SLOTS {
+        if !is_slot_told(rt, alloc, engine, number)? {
+            return Ok(false);
+        }
+    }
+    Ok(engine.depth() == SLOTS)
 }
 
 #[test]
 fn slots(rt: HostRuntime) -> Result<(), Fail> {
-    let mut engine = Engine::new(rt.alloc(), PlainMeter::new(rt.alloc())?)?;
-    for number in 0..=SLOTS {
-        let line = format!(in rt.alloc(); "mkdir /g{number}")?;
-        let said = answer(&rt, rt.alloc(), &mut engine, line.as_str())?;
-        let wanted = if number < SLOTS { "ok" } else { "noslot" };
-        assert!(rt; said.as_slice() == wanted.as_bytes(), "{number}");
-    }
-    assert_eq!(rt; engine.depth(), SLOTS);
+    let mut engine = plain(rt.alloc())?;
+    assert!(rt; all_slots_told(&rt, rt.alloc(), &mut engine)?);
     Ok(())
+}
+
+/// How often a command is applied, and taken back.
+const TIMES: u32 = 65_537;
+
+/// Whether the command is done each time, and so many are recorded.
+fn is_recorded<R: Threads + Wait + Sync>(
+    rt: &R,
+    engine: &mut Plain,
+    command: &Command<Global>,
+) -> bool {
+    let mut all = true;
+    for _ in 0..TIMES {
+        let reply = engine.apply(rt, 0, command);
+        all = all & matches!(reply, Reply::Done);
+    }
+    all & (engine.depth() == 65_537)
+}
+
+/// Whether a limit is taken back each time, and nothing is recorded then.
+fn is_taken_back<R: Threads + Wait + Sync>(rt: &R, engine: &mut Plain) -> bool {
+    let mut all = true;
+    for _ in 0..TIMES {
+        let undone = engine.undo(rt, 0);
+        all = all & matches!(undone, Reply::Undone(Command::SetLimit { .. }));
+    }
+    all & engine.newest().is_none()
+}
+
+fn journaled<R: Threads + Wait + Sync>(
+    rt: &R,
+    alloc: Global,
+    engine: &mut Plain,
+) -> Result<bool, Fail> {
+    let command = command(alloc, "write / cgroup.max.depth 7")?;
+    Ok(is_recorded(rt, engine, &command) && is_taken_back(rt, engine))
 }
 
 /// More than 65,536 commands are recorded, and each is taken back.
 #[test]
 fn long_journal(rt: HostRuntime) -> Result<(), Fail> {
-    let mut engine = Engine::new(rt.alloc(), PlainMeter::new(rt.alloc())?)?;
-    let command = command(rt.alloc(), "write / cgroup.max.depth 7")?;
-    for _ in 0..65_537u32 {
-        assert!(rt; matches!(engine.apply(&rt, 0, &command), Reply::Done));
-    }
-    assert_eq!(rt; engine.depth(), 65_537);
-    for _ in 0..65_537u32 {
-        let undone = engine.undo(&rt, 0);
-        assert!(rt; matches!(undone, Reply::Undone(Command::SetLimit { .. })));
-    }
-    assert!(rt; engine.newest().is_none());
+    let mut engine = plain(rt.alloc())?;
+    assert!(rt; journaled(&rt, rt.alloc(), &mut engine)?);
     Ok(())
 }

@@ -1,6 +1,6 @@
 //! Each allocation that a command asks for, refused in turn.
 
-use crate::engine::{answer, command, said};
+use crate::engine::{answer, command, plain, said};
 use linked_list_allocator::LocalHeap;
 use pids_charge::{Meter, PlainMeter};
 use std::alloc::{AllocError, Allocator, Global};
@@ -62,19 +62,38 @@ fn seen<R: Threads + Wait + Sync, A: Allocator + Clone, M: Meter>(
     Ok(text)
 }
 
+/// An engine over this heap, its meter apart.
+type InHeap<'a> = Engine<&'a LocalHeap, PlainMeter<Global>>;
+
+/// A new engine over this heap.
+fn in_heap(alloc: Global, heap: &LocalHeap) -> Result<InHeap<'_>, Fail> {
+    let meter = PlainMeter::new(alloc)?;
+    Ok(Engine::new(heap, meter)?)
+}
+
+/// All memory of the heap but that many blocks of sixteen bytes.
+fn filling_but<'a>(
+    alloc: Global,
+    heap: &'a LocalHeap,
+    room: usize,
+) -> Result<Vec<Vec<u8, &'a LocalHeap>>, AllocError> {
+    let mut blocks = filling(alloc, heap)?;
+    let left = blocks.len().saturating_sub(room);
+    blocks.truncate(left);
+    Ok(blocks)
+}
+
 /// The answer with that many blocks of sixteen bytes left in the heap.
 fn answer_in<'a, R: Threads + Wait + Sync>(
     rt: &R,
     alloc: Global,
     heap: &'a LocalHeap,
-    engine: &mut Engine<&'a LocalHeap, PlainMeter<Global>>,
+    engine: &mut InHeap<'a>,
     line: &str,
     room: usize,
 ) -> Result<Option<Vec<u8>>, Fail> {
     let command = command(alloc, line)?;
-    let mut blocks = filling(alloc, heap)?;
-    let left = blocks.len().saturating_sub(room);
-    blocks.truncate(left);
+    let blocks = filling_but(alloc, heap, room)?;
     let reply = engine.apply(rt, 0, &command);
     drop(blocks);
     match reply {
@@ -84,13 +103,13 @@ fn answer_in<'a, R: Threads + Wait + Sync>(
 }
 
 /// The first answer that is not out of memory, as the room grows by a block at a time; and
-/// whether one before it was. Each time that it was, what can be seen of the engine
+/// whether it was out of memory before. Each time that it was, what can be seen of the engine
 /// stayed.
 fn first_answer<'a, R: Threads + Wait + Sync>(
     rt: &R,
     alloc: Global,
     heap: &'a LocalHeap,
-    engine: &mut Engine<&'a LocalHeap, PlainMeter<Global>>,
+    engine: &mut InHeap<'a>,
     line: &str,
 ) -> Result<(Vec<u8>, bool), Fail> {
     let before = seen(rt, alloc, engine)?;
@@ -196,16 +215,26 @@ const ROWS: [(&str, &str, bool); 38] = [
     ("cat /aaaaaaaaaaaaaaaaaaaaaaaa pids.max", "max\n", true),
 ];
 
+fn each_refused<'a, R: Threads + Wait + Sync>(
+    rt: &R,
+    alloc: Global,
+    heap: &'a LocalHeap,
+    engine: &mut InHeap<'a>,
+) -> Result<(), Fail> {
+    for (line, wanted, grows) in ROWS {
+        let (answer, is_refused) = first_answer(rt, alloc, heap, engine, line)?;
+        if answer.as_slice() != wanted.as_bytes() || is_refused != grows {
+            return Err(Fail::new(line));
+        }
+    }
+    Ok(())
+}
+
 #[test]
 fn each_growth_of_a_command_refused(rt: HostRuntime) -> Result<(), Fail> {
     let heap = LocalHeap::new(rt.alloc(), 10_240)?;
-    let mut engine = Engine::new(&heap, PlainMeter::new(rt.alloc())?)?;
-    for (line, wanted, grows) in ROWS {
-        let (answer, is_refused) = first_answer(&rt, rt.alloc(), &heap, &mut engine, line)?;
-        assert!(rt; answer.as_slice() == wanted.as_bytes(), "{line}");
-        assert_eq!(rt; is_refused, grows, "{line}");
-    }
-    Ok(())
+    let mut engine = in_heap(rt.alloc(), &heap)?;
+    each_refused(&rt, rt.alloc(), &heap, &mut engine)
 }
 
 /// A process ends in a group of a long name, whose text takes more than the fork behind it gives back.
@@ -217,59 +246,81 @@ const ENDED: [&str; 5] = [
     "fork 1 3",
 ];
 
+/// What `undo_all` answers with that many blocks of sixteen bytes left in the heap, after the lines.
+fn undone_with<'a, R: Threads + Wait + Sync>(
+    rt: &R,
+    alloc: Global,
+    heap: &'a LocalHeap,
+    engine: &mut InHeap<'a>,
+    room: usize,
+) -> Result<Result<usize, (usize, AllocError)>, Fail> {
+    for line in ENDED {
+        answer(rt, alloc, engine, line)?;
+    }
+    let blocks = filling_but(alloc, heap, room)?;
+    let undone = engine.undo_all(rt, 0);
+    drop(blocks);
+    Ok(undone)
+}
+
 /// What `undo_all` answers with that many blocks of sixteen bytes left in the heap. When out of
 /// memory, the newest fork alone is undone, and with memory the other records are.
+fn undone_or_resumed<'a, R: Threads + Wait + Sync>(
+    rt: &R,
+    alloc: Global,
+    heap: &'a LocalHeap,
+    engine: &mut InHeap<'a>,
+    room: usize,
+) -> Result<Option<usize>, Fail> {
+    match undone_with(rt, alloc, heap, engine, room)? {
+        Ok(count) => Ok(Some(count)),
+        Err((1, AllocError)) if is_resumed(rt, alloc, engine)? => Ok(None),
+        Err(_) => Err(Fail::new("a refused growth left something else")),
+    }
+}
+
 fn undone_in<R: Threads + Wait + Sync>(
     rt: &R,
     alloc: Global,
     room: usize,
 ) -> Result<Option<usize>, Fail> {
     let heap = LocalHeap::new(alloc, 10_240)?;
-    let mut engine = Engine::new(&heap, PlainMeter::new(alloc)?)?;
-    for line in ENDED {
-        answer(rt, alloc, &mut engine, line)?;
-    }
-    let mut blocks = filling(alloc, &heap)?;
-    let left = blocks.len().saturating_sub(room);
-    blocks.truncate(left);
-    let undone = engine.undo_all(rt, 0);
-    drop(blocks);
-    match undone {
-        Ok(count) => Ok(Some(count)),
-        Err((1, AllocError)) if is_resumed(rt, alloc, &mut engine)? => Ok(None),
-        Err(_) => Err(Fail::new("a refused growth left something else")),
-    }
+    let mut engine = in_heap(alloc, &heap)?;
+    undone_or_resumed(rt, alloc, &heap, &mut engine, room)
+}
+
+/// Whether process 1 is alone, and the end of process 2 is the newest of four records.
+fn is_fork_alone_undone<'a, R: Threads + Wait + Sync>(
+    rt: &R,
+    alloc: Global,
+    engine: &mut InHeap<'a>,
+) -> Result<bool, Fail> {
+    let before = answer(rt, alloc, engine, "cat / cgroup.procs")?;
+    let newest = newest(alloc, engine)?;
+    Ok(
+        before.as_slice() == b"1\n".as_slice()
+            && engine.depth() == 4
+            && newest.as_slice() == b"exit 2".as_slice(),
+    )
 }
 
 /// Whether process 1 is alone, the end of process 2 is the newest of four records, and all are taken
 /// back then.
-fn is_resumed<R: Threads + Wait + Sync, A: Allocator + Clone, M: Meter>(
+fn is_resumed<'a, R: Threads + Wait + Sync>(
     rt: &R,
     alloc: Global,
-    engine: &mut Engine<A, M>,
+    engine: &mut InHeap<'a>,
 ) -> Result<bool, Fail> {
-    let before = answer(rt, alloc, engine, "cat / cgroup.procs")?;
-    let depth = engine.depth();
-    let newest = newest(alloc, engine)?;
+    let is_right = is_fork_alone_undone(rt, alloc, engine)?;
     let undone = engine.undo_all(rt, 0);
     let after = seen(rt, alloc, engine)?;
-    let start = Engine::new(alloc, PlainMeter::new(alloc)?)?;
-    let start = seen_of(rt, alloc, start)?;
-    if (before.as_slice(), depth, newest.as_slice())
-        != (b"1\n".as_slice(), 4, b"exit 2".as_slice())
-    {
-        return Ok(false);
-    }
-    Ok((undone, after) == (Ok(4), start))
+    let start = seen_at_the_start(rt, alloc)?;
+    Ok(is_right && undone == Ok(4) && after == start)
 }
 
-/// What can be seen of this engine.
-fn seen_of<R: Threads + Wait + Sync>(
-    rt: &R,
-    alloc: Global,
-    engine: Engine<Global, PlainMeter<Global>>,
-) -> Result<Vec<u8>, Fail> {
-    let mut engine = engine;
+/// What can be seen of a new engine.
+fn seen_at_the_start<R: Threads + Wait + Sync>(rt: &R, alloc: Global) -> Result<Vec<u8>, Fail> {
+    let mut engine = plain(alloc)?;
     seen(rt, alloc, &mut engine)
 }
 

@@ -1,15 +1,13 @@
 //! Rehearsals in an arena.
 
-use crate::engine::{answer, command, said};
+use crate::engine::{Plain, answer, command, plain, said};
 use bumpalo::Bump;
 use linked_list_allocator::LocalHeap;
-use pids_charge::{Meter, PlainMeter};
 use std::alloc::{AllocError, Global};
-use std::process::Abort;
 use std::sync::Wait;
 use std::test::Fail;
 use std::thread::Threads;
-use undo_journal::{Command, Engine, Reply};
+use undo_journal::{Command, Reply};
 
 /// What an engine has answered before it rehearses.
 const BEFORE: [(&str, &str); 2] = [("mkdir /a", "ok"), ("fork 1 2", "ok")];
@@ -88,7 +86,7 @@ const COUNTED: [(&str, &str); 10] = [
 ];
 
 /// The commands that the lines say.
-fn commands(alloc: Global, rows: &[(&str, &str)]) -> Result<Vec<Command<Global>>, Fail> {
+pub(crate) fn commands(alloc: Global, rows: &[(&str, &str)]) -> Result<Vec<Command<Global>>, Fail> {
     let mut commands = Vec::new(alloc);
     for (line, _) in rows {
         commands.push(command(alloc, line)?)?;
@@ -96,24 +94,24 @@ fn commands(alloc: Global, rows: &[(&str, &str)]) -> Result<Vec<Command<Global>>
     Ok(commands)
 }
 
-/// The first line that the engine answers otherwise.
-fn first_other<R: Threads + Wait + Sync, M: Meter>(
+/// Answers the lines, and fails with the first that is answered otherwise.
+pub(crate) fn all_answered<R: Threads + Wait + Sync>(
     rt: &R,
     alloc: Global,
-    engine: &mut Engine<Global, M>,
+    engine: &mut Plain,
     rows: &[(&'static str, &'static str)],
-) -> Result<Option<&'static str>, Fail> {
+) -> Result<(), Fail> {
     for (line, wanted) in rows {
         let said = answer(rt, alloc, engine, line)?;
         if said.as_slice() != wanted.as_bytes() {
-            return Ok(Some(*line));
+            return Err(Fail::new(line));
         }
     }
-    Ok(None)
+    Ok(())
 }
 
 /// Whether these are the replies beside the lines, and no others.
-fn are_replies(
+pub(crate) fn are_replies(
     alloc: Global,
     replies: &[Reply<Global>],
     rows: &[(&str, &str)],
@@ -126,81 +124,136 @@ fn are_replies(
     Ok(replies.len() == rows.len())
 }
 
-/// An engine that has answered these lines so.
-fn sample<R: Threads + Wait + Sync>(
+/// Fails where another number of commands is recorded.
+fn is_deep(engine: &Plain, depth: usize) -> Result<(), Fail> {
+    if engine.depth() == depth {
+        return Ok(());
+    }
+    Err(Fail::new("another number of commands is recorded"))
+}
+
+/// Whether the ten commands are rehearsed in an arena over this heap, which is empty again then.
+fn is_heap_emptied<R: Threads + Wait + Sync>(
     rt: &R,
     alloc: Global,
-    rows: &[(&'static str, &'static str)],
-) -> Result<Engine<Global, PlainMeter<Global>>, Fail> {
-    let mut engine = Engine::new(alloc, PlainMeter::new(alloc)?)?;
-    match first_other(rt, alloc, &mut engine, rows)? {
-        None => Ok(engine),
-        Some(line) => Err(Fail::new(line)),
-    }
+    heap: &LocalHeap,
+    engine: &Plain,
+) -> Result<bool, Fail> {
+    let commands = commands(alloc, &TEN)?;
+    let arena = Bump::new(heap);
+    let replies = engine.rehearse(rt, alloc, &arena, commands.as_slice())?;
+    let is_used = heap.used() > 0;
+    drop(arena);
+    let is_right = are_replies(alloc, replies.as_slice(), &TEN)?;
+    Ok(is_used && heap.used() == 0 && is_right)
+}
+
+/// What is left as it was by the rehearsal of the ten.
+const UNTOUCHED: [(&str, &str); 1] = [("cat /a pids.current", "0\n")];
+
+fn ten_rehearsed<R: Threads + Wait + Sync>(
+    rt: &R,
+    alloc: Global,
+    heap: &LocalHeap,
+    engine: &mut Plain,
+) -> Result<bool, Fail> {
+    all_answered(rt, alloc, engine, &BEFORE)?;
+    let is_emptied = is_heap_emptied(rt, alloc, heap, engine)?;
+    is_deep(engine, 2)?;
+    all_answered(rt, alloc, engine, &UNTOUCHED)?;
+    all_answered(rt, alloc, engine, &TEN)?;
+    Ok(is_emptied)
 }
 
 /// Undos of what stood before and of what is rehearsed. Then the engine is as it was, and the heap
 /// under the arena is empty; and `apply` answers as the rehearsal did.
 #[test]
 fn ten_commands(rt: HostRuntime) -> Result<(), Fail> {
-    let mut engine = sample(&rt, rt.alloc(), &BEFORE)?;
     let heap = LocalHeap::new(rt.alloc(), 1 << 20)?;
-    let arena = Bump::new(&heap);
-    let cmds = commands(rt.alloc(), &TEN)?;
-    let replies = engine.rehearse(&rt, rt.alloc(), &arena, cmds.as_slice())?;
-    assert!(rt; heap.used() > 0);
-    drop(arena);
-    assert_eq!(rt; heap.used(), 0);
-    assert!(rt; are_replies(rt.alloc(), replies.as_slice(), &TEN)?);
-    assert_eq!(rt; engine.depth(), 2);
-    let shown = [("cat /a pids.current", "0\n")];
-    assert_eq!(rt; first_other(&rt, rt.alloc(), &mut engine, &shown)?, None);
-    assert_eq!(rt; first_other(&rt, rt.alloc(), &mut engine, &TEN)?, None);
+    let mut engine = plain(rt.alloc())?;
+    assert!(rt; ten_rehearsed(&rt, rt.alloc(), &heap, &mut engine)?);
     Ok(())
+}
+
+/// Whether a rehearsal in an arena has these replies.
+fn is_rehearsed<R: Threads + Wait + Sync>(
+    rt: &R,
+    alloc: Global,
+    engine: &Plain,
+    rows: &[(&str, &str)],
+) -> Result<bool, Fail> {
+    let commands = commands(alloc, rows)?;
+    let arena = Bump::new(alloc);
+    let replies = engine.rehearse(rt, alloc, &arena, commands.as_slice())?;
+    Ok(are_replies(alloc, replies.as_slice(), rows)?)
 }
 
 /// After one list of lines another is rehearsed and answered so, and once more by `apply`: the
 /// rehearsal has left the engine as it was.
-fn rehearsed_and_applied<R: Abort + Threads + Wait + Sync>(
+fn rehearsed_and_applied<R: Threads + Wait + Sync>(
     rt: &R,
     alloc: Global,
+    engine: &mut Plain,
     before: &[(&'static str, &'static str)],
     rows: &[(&'static str, &'static str)],
-) -> Result<(), Fail> {
-    let mut engine = sample(rt, alloc, before)?;
-    let arena = Bump::new(alloc);
-    let cmds = commands(alloc, rows)?;
-    let replies = engine.rehearse(rt, alloc, &arena, cmds.as_slice())?;
-    assert!(rt; are_replies(alloc, replies.as_slice(), rows)?);
-    assert_eq!(rt; engine.depth(), before.len());
-    assert_eq!(rt; first_other(rt, alloc, &mut engine, rows)?, None);
-    Ok(())
+) -> Result<bool, Fail> {
+    all_answered(rt, alloc, engine, before)?;
+    let is_right = is_rehearsed(rt, alloc, engine, rows)?;
+    is_deep(engine, before.len())?;
+    all_answered(rt, alloc, engine, rows)?;
+    Ok(is_right)
 }
 
 /// A record of each kind is copied, and taken back on the copy.
 #[test]
 fn each_record_rehearsed(rt: HostRuntime) -> Result<(), Fail> {
-    rehearsed_and_applied(&rt, rt.alloc(), &RECORDED, &TAKEN_BACK)
+    let mut engine = plain(rt.alloc())?;
+    assert!(rt; rehearsed_and_applied(&rt, rt.alloc(), &mut engine, &RECORDED, &TAKEN_BACK)?);
+    Ok(())
 }
 
 /// Processes are copied with their groups and charges.
 #[test]
 fn processes_of_groups_rehearsed(rt: HostRuntime) -> Result<(), Fail> {
-    rehearsed_and_applied(&rt, rt.alloc(), &HOUSED, &COUNTED)
+    let mut engine = plain(rt.alloc())?;
+    assert!(rt; rehearsed_and_applied(&rt, rt.alloc(), &mut engine, &HOUSED, &COUNTED)?);
+    Ok(())
+}
+
+/// Whether a rehearsal in an arena that may not grow is refused, and the arena is empty again.
+fn is_arena_empty<R: Threads + Wait + Sync>(
+    rt: &R,
+    alloc: Global,
+    engine: &Plain,
+) -> Result<bool, Fail> {
+    let commands = commands(alloc, &TEN)?;
+    let mut arena = Bump::new(alloc);
+    arena.set_allocation_limit(Some(0));
+    let is_refused = engine
+        .rehearse(rt, alloc, &arena, commands.as_slice())
+        .is_err();
+    Ok(is_refused && arena.reset() == Ok(()))
+}
+
+/// What is left as it was by the refused rehearsal.
+const LEFT: [(&str, &str); 2] = [("cat /a pids.current", "0\n"), ("where 2", "0::/\n")];
+
+fn refused_and_left<R: Threads + Wait + Sync>(
+    rt: &R,
+    alloc: Global,
+    engine: &mut Plain,
+) -> Result<bool, Fail> {
+    all_answered(rt, alloc, engine, &BEFORE)?;
+    let is_empty = is_arena_empty(rt, alloc, engine)?;
+    is_deep(engine, 2)?;
+    all_answered(rt, alloc, engine, &LEFT)?;
+    Ok(is_empty)
 }
 
 /// An arena whose allocations are refused refuses the rehearsal, and is empty again.
 #[test]
 fn arena_without_room(rt: HostRuntime) -> Result<(), Fail> {
-    let mut engine = sample(&rt, rt.alloc(), &BEFORE)?;
-    let mut arena = Bump::new(rt.alloc());
-    arena.set_allocation_limit(Some(0));
-    let cmds = commands(rt.alloc(), &TEN)?;
-    let replies = engine.rehearse(&rt, rt.alloc(), &arena, cmds.as_slice());
-    assert!(rt; replies.is_err());
-    assert_eq!(rt; arena.reset(), Ok(()));
-    assert_eq!(rt; engine.depth(), 2);
-    let shown = [("cat /a pids.current", "0\n"), ("where 2", "0::/\n")];
-    assert_eq!(rt; first_other(&rt, rt.alloc(), &mut engine, &shown)?, None);
+    let mut engine = plain(rt.alloc())?;
+    assert!(rt; refused_and_left(&rt, rt.alloc(), &mut engine)?);
     Ok(())
 }
