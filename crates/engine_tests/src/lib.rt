@@ -6,6 +6,7 @@
 //! - `engine_memory`: each allocation that a command asks for, refused in turn.
 //! - `ample_memory`: answers where there is memory, in the cases where a wrong reason could hide behind `OutOfMemory`.
 //! - `rehearsal`: rehearsals in an arena.
+//! - `lines`: lines answered into a buffer.
 #![tactic(auto)]
 
 #[cfg(test)]
@@ -14,5 +15,7 @@ mod ample_memory;
 mod engine;
 #[cfg(test)]
 mod engine_memory;
+#[cfg(test)]
+mod lines;
 #[cfg(test)]
 mod rehearsal;

@@ -1,0 +1,4 @@
+pub mod Model
+pub mod Journal
+pub mod Desks
+pub mod Traces

@@ -1,0 +1,24 @@
+-- The definitions by which everything is measured.
+pub use Rattle.flat_model.specs.Path
+pub use Rattle.flat_model.specs.Refuse
+pub use Rattle.flat_model.specs.PathText
+pub use Rattle.flat_model.specs.State
+pub use Rattle.flat_model.specs.Counts
+pub use Rattle.flat_model.specs.File
+pub use Rattle.flat_model.specs.Command
+pub use Rattle.flat_model.specs.Step
+pub use Rattle.flat_model.specs.Inverse
+pub use Rattle.flat_model.specs.Values
+pub use Rattle.flat_model.specs.FileText
+pub use Rattle.flat_model.specs.CommandText
+pub use Rattle.flat_model.specs.Machine
+pub use Rattle.flat_model.specs.WellFormed
+pub use Rattle.flat_model.specs.Limiting
+pub use Rattle.flat_model.specs.Events
+pub use Rattle.flat_model.specs.Peaks
+pub use Rattle.flat_model.specs.Log
+pub use Rattle.flat_model.specs.Audit
+pub use Rattle.flat_model.specs.Trace
+pub use Rattle.flat_model.specs.Replies
+pub use Rattle.flat_model.specs.Codes
+pub use Rattle.flat_model.specs.Mapped

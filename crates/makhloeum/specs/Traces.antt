@@ -1,0 +1,6 @@
+-- What a line says, the bytes of an answer, and what a replay leaves of its devices.
+pub use Rattle.trace_lines.specs.Meaning
+pub use Rattle.trace_lines.specs.Replied
+pub use Rattle.replay_main.specs.Device
+pub use Rattle.replay_main.specs.Replayed
+pub use Rattle.replay_main.specs.Rehearsed

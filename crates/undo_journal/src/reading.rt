@@ -1,0 +1,55 @@
+//! Readings of the groups' charges. They are read through the engine, since a meter is lent for writing where it is read;
+//! nothing is changed, and nothing recorded.
+
+ghost use Rattle.std.specs.Prelude.{◌≡◌, ◌&&◌, not, is_some, IfSome};
+ghost use Rattle.flat_model.specs.Counts as flat;
+ghost use Rattle.flat_model.specs.Counts.{is_group};
+ghost use Rattle.flat_model.specs.Path.{is_root};
+ghost use Rattle.interface_files.specs.Meaning.{file_of};
+ghost use Rattle.interface_files.specs.Shown.{Shows};
+
+use crate::engine::Engine;
+use group_path::GroupPath;
+use interface_files::{File, ShowFault, render};
+use pids_charge::Meter;
+use std::alloc::Allocator;
+
+impl<A: Allocator + Clone, M: Meter> Engine<A, M> {
+    /// How many processes are at or below a group; None for the root and where there is no such group. Costs one descent
+    /// of the tree, and takes no memory.
+    pub fn current<B: Allocator + Clone>(&mut self, path: &GroupPath<B>) -> Option<u64>
+        ensures some { is_some result ≡ (not (is_root path.now) && is_group self.old.state path.now) }
+        ensures count { IfSome result (λ n. n ≡ flat.current self.old.state path.now) }
+        ensures kept { self.new ≡ self.old }
+    {
+        self.charges.current(path)
+    }
+
+    /// Whether there is a process at or below a group; None for the root and where there is no such group. Costs one
+    /// descent of the tree, and takes no memory.
+    pub fn populated<B: Allocator + Clone>(&mut self, path: &GroupPath<B>) -> Option<bool>
+        ensures some { is_some result ≡ (not (is_root path.now) && is_group self.old.state path.now) }
+        ensures told { IfSome result (λ b. b ≡ flat.populated self.old.state path.now) }
+        ensures kept { self.new ≡ self.old }
+    {
+        self.charges.populated(path)
+    }
+
+    /// The text of a file of the group at the path. `cgroup.procs` costs a walk over all processes, each other file one
+    /// descent of the tree, and a refusal two.
+    ///
+    /// # Errors
+    ///
+    /// `NotReadable` for `cgroup.kill`, then `NoGroup`, then `NoFile` for what the root has not, then `OutOfMemory`.
+    pub fn render<B: Allocator + Clone, P: Allocator + Clone>(
+        &mut self,
+        alloc: B,
+        path: &GroupPath<P>,
+        file: File,
+    ) -> Result<Vec<u8, B>, ShowFault>
+        ensures shown { Shows M.SLOTS self.old.state path.now (file_of file) result }
+        ensures kept { self.new ≡ self.old }
+    {
+        render(alloc, &mut self.charges, path, file)
+    }
+}
