@@ -18,6 +18,7 @@
 
 mod answer;
 mod engine;
+mod groups;
 mod listing;
 mod running;
 mod writing;
