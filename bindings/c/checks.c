@@ -16,6 +16,8 @@ static uint32_t children(const char *path, size_t size) {
     return mk_children(&h, (const uint8_t *)path, strlen(path), out, size, &info);
 }
 
+static uint32_t all_groups(size_t size) { return mk_groups(&h, out, size, &info); }
+
 static uint32_t has_group(const char *path) { return mk_has_group(&h, (const uint8_t *)path, strlen(path), &info); }
 
 static bool says(const char *text) { return info.len == strlen(text) && memcmp(out, text, info.len) == 0; }
@@ -37,6 +39,7 @@ static int closed_handles(void) {
     CHECK(ask("undo", sizeof out) == MK_CLOSED && info.len == 0 && info.code == 0);
     CHECK(mk_depth(&h, &depth) == MK_CLOSED && depth == 0);
     CHECK(children("/", sizeof out) == MK_CLOSED);
+    CHECK(all_groups(sizeof out) == MK_CLOSED && info.len == 0 && info.count == 0);
     CHECK(has_group("/") == MK_CLOSED);
     CHECK(mk_close(&h) == MK_CLOSED);
     CHECK(mk_open(&h) == MK_DONE);
@@ -100,6 +103,8 @@ static int groups(void) {
     CHECK(children("/b", 1) == MK_DONE && info.count == 0 && info.len == 0);
     CHECK(children("/c", sizeof out) == MK_REFUSED && info.code == MK_NO_GROUP && info.len == 0);
     CHECK(children("c", sizeof out) == MK_FAULT && info.code == MK_PATH);
+    CHECK(all_groups(sizeof out) == MK_DONE && names(7, "/\0/a\0/a/w\0/a/x\0/a/x/y\0/a/x-z\0/b", 32));
+    CHECK(all_groups(32) == MK_DONE && all_groups(31) == MK_TOO_SMALL && info.len == 0 && info.count == 0);
     CHECK(has_group("/a/x/y") == MK_DONE && info.code == 0);
     CHECK(has_group("/a/y") == MK_REFUSED && info.code == MK_NO_GROUP);
     CHECK(has_group("/a/") == MK_FAULT && info.code == MK_PATH);
@@ -112,6 +117,7 @@ static int to_the_end(void) {
     while (depth-- > 0) CHECK(mk_undo(&h, 1, out, sizeof out, &info) == MK_DONE);
     CHECK(mk_undo(&h, 1, out, sizeof out, &info) == MK_REFUSED && info.code == MK_NOTHING_TO_UNDO && says("1 refused nothing\n"));
     CHECK(children("/", sizeof out) == MK_DONE && info.count == 0);
+    CHECK(all_groups(sizeof out) == MK_DONE && names(1, "/", 2));
     CHECK(mk_close(&h) == MK_DONE && mk_close(&h) == MK_CLOSED);
     CHECK(mk_open(&h) == MK_DONE && mk_close(&h) == MK_DONE);
     return 0;

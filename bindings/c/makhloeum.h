@@ -87,6 +87,9 @@ enum {
 /* A buffer of so many bytes is never too small for the children of a group. */
 enum { MK_CHILDREN_MAX = 1024 * 256 };
 
+/* Nor is one of so many for all groups: a line with a path has 8,192 bytes at most. */
+enum { MK_GROUPS_MAX = 1025 * 8192 };
+
 /* Makes an engine in a handle that has none: the root alone, and process 1 in it. MK_DONE, MK_OUT_OF_MEMORY, or
    MK_CLOSED where the handle has one. */
 uint32_t mk_open(mk_handle *h);
@@ -109,6 +112,11 @@ uint32_t mk_depth(mk_handle *h, size_t *depth);
    info->count names in info->len bytes. MK_REFUSED with MK_NO_GROUP where there is no such group, and MK_FAULT with
    MK_PATH where the text is no path; then nothing is written. */
 uint32_t mk_children(mk_handle *h, const uint8_t *path, size_t path_len, uint8_t *out, size_t out_size, mk_info *info);
+
+/* The paths of all groups, the root's first, and behind each group's those of the groups below it, child by child in the
+   order of their names' bytes; each is ended by a zero byte: info->count paths in info->len bytes. Costs a descent for each
+   group. */
+uint32_t mk_groups(mk_handle *h, uint8_t *out, size_t out_size, mk_info *info);
 
 /* Whether there is such a group: MK_DONE where there is, MK_REFUSED with MK_NO_GROUP where there is not, MK_FAULT with
    MK_PATH where the text is no path. */

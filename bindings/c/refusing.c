@@ -28,7 +28,7 @@ static int refused;
 static uint32_t ask(const char *line) { return mk_line(&h, 1, (const uint8_t *)line, strlen(line), out, sizeof out, &info); }
 
 static const char *const files[] = {"cgroup.procs", "cgroup.events", "cgroup.stat", "cgroup.max.depth", "cgroup.max.descendants",
-                                    "pids.max", "pids.current", "pids.events", "pids.events.local"};
+                                    "pids.max", "pids.current", "pids.peak", "pids.events", "pids.events.local"};
 
 /* everything that is told of some groups, and the depth */
 static void tell(void) {
@@ -95,7 +95,16 @@ int main(void) {
         if (status != MK_OUT_OF_MEMORY || info.len != 0 || info.count != 0 || !is_kept()) return 5;
     }
     if (info.count != 1 || info.len != 2 || memcmp(out, "b", 2) != 0) return 6;
-    if (mk_close(&h) != MK_DONE) return 7;
+    for (long n = 0;; n++) {
+        left = n;
+        uint32_t status = mk_groups(&h, out, sizeof out, &info);
+        left = -1;
+        if (status == MK_DONE) break;
+        refused++;
+        if (status != MK_OUT_OF_MEMORY || info.len != 0 || info.count != 0 || !is_kept()) return 7;
+    }
+    if (info.count != 3 || info.len != 10 || memcmp(out, "/\0/a\0/a/b", 10) != 0) return 8;
+    if (mk_close(&h) != MK_DONE) return 9;
     printf("%d\n", refused);
     return 0;
 }

@@ -12,7 +12,7 @@ use Rattle.line_engine.specs.declared.listing.Found.{Found}
 use Rattle.line_engine.specs.declared.listing.Found.TheVariants as found
 use Rattle.line_engine.specs.declared.engine.LineEngine.{LineEngine}
 use Rattle.line_engine.specs.Answers.{AnswersLine}
-use Rattle.line_engine.specs.Listings.{TellsChildren, TellsGroup}
+use Rattle.line_engine.specs.Listings.{TellsChildren, TellsGroups, TellsGroup}
 use Rattle.c_library.specs.declared.info.Info.{Info}
 
 -- what a call says beside its status
@@ -93,6 +93,18 @@ pub record ListedAt (e : LineEngine) (path : Result Path PathFault) (out : List 
 abbrev pub ListsAt : Option LineEngine → Result Path PathFault → List ℕ → ℕ → Info → Option LineEngine → Type 0
 ListsAt None path out status info new = (status ≡ 6) × (info ≡ told 0 0 0) × (new ≡ None)
 ListsAt (Some e) path out status info new = ListedAt e path out status info new
+
+-- the groups that stand are told so, and the engine stays
+pub record GroupsListedAt (e : LineEngine) (out : List ℕ) (status : ℕ) (info : Info) (new : Option LineEngine) : Type 0 where
+  pub answer : Listing
+  pub new_is : new ≡ Some e
+  pub tells : TellsGroups e.engine.state out answer
+  pub status_is : status ≡ listing_status answer
+  pub info_is : info ≡ listing_info answer
+
+abbrev pub ListsGroupsAt : Option LineEngine → List ℕ → ℕ → Info → Option LineEngine → Type 0
+ListsGroupsAt None out status info new = (status ≡ 6) × (info ≡ told 0 0 0) × (new ≡ None)
+ListsGroupsAt (Some e) out status info new = GroupsListedAt e out status info new
 
 abbrev pub found_status : Found → ℕ
 found_status found.There = 0

@@ -3,7 +3,7 @@
 ghost use Rattle.std.specs.Prelude.{◌≡◌, codes};
 ghost use Rattle.flat_model.specs.PathText.{read_path};
 ghost use Rattle.flat_model.specs.Trace.{read_line};
-ghost use Rattle.c_library.specs.Status.{IsOpened, IsClosed, AnswersAt, DepthAt, ListsAt, FindsAt, told, status_of, status_of_code, info_of, listing_status, listing_info, found_status, found_info};
+ghost use Rattle.c_library.specs.Status.{IsOpened, IsClosed, AnswersAt, DepthAt, ListsAt, ListsGroupsAt, FindsAt, told, status_of, status_of_code, info_of, listing_status, listing_info, found_status, found_info};
 
 use crate::handle::Handle;
 use crate::info::Info;
@@ -206,6 +206,21 @@ pub extern "C" fn mk_children(
         return CLOSED;
     };
     let listing = engine.children(alloc, path, out);
+    h.put(alloc, engine);
+    *info = listing_info(listing);
+    listing_status(listing)
+}
+
+/// The paths of the groups that stand.
+#[unsafe(no_mangle)]
+pub extern "C" fn mk_groups(alloc: Global, h: &mut Handle, out: &mut [u8], info: &mut Info) -> u32
+    ensures { ListsGroupsAt h.old.seal.held out.new result info.new h.new.seal.held }
+{
+    let Some(engine) = h.take(alloc) else {
+        *info = told(0, 0, 0);
+        return CLOSED;
+    };
+    let listing = engine.groups(alloc, out);
     h.put(alloc, engine);
     *info = listing_info(listing);
     listing_status(listing)

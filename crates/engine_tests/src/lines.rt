@@ -82,6 +82,11 @@ fn groups_and_their_children(rt: HostRuntime) -> Result<(), Fail> {
     assert!(rt; small == Listing::TooSmall);
     assert!(rt; lines.children(rt.alloc(), b"/c", &mut []) == Listing::NoGroup);
     assert!(rt; lines.children(rt.alloc(), b"a", &mut []) == Listing::BadPath);
+    let mut paths = [0u8; 13];
+    let all = lines.groups(rt.alloc(), &mut paths);
+    assert!(rt; all == Listing::Listed { len: 13, count: 4 });
+    assert!(rt; paths == *b"/\0/a\0/a/c\0/b\0");
+    assert!(rt; lines.groups(rt.alloc(), &mut paths[..12]) == Listing::TooSmall);
     assert!(rt; lines.has_group(rt.alloc(), b"/a/c") == Found::There);
     assert!(rt; lines.has_group(rt.alloc(), b"/c") == Found::NoGroup);
     assert!(rt; lines.has_group(rt.alloc(), b"/a/") == Found::BadPath);

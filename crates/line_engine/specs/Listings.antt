@@ -1,8 +1,8 @@
 -- What is told of groups.
-use Rattle.std.specs.Prelude.{◌≡◌, ℕ, ◌<◌, true, false, List, [], ◌∷◌, ◌++◌, map, flat_map, length, take, Result, Ok, Err}
+use Rattle.std.specs.Prelude.{◌≡◌, ℕ, zero, suc, ◌<◌, true, false, List, [], ◌∷◌, ◌++◌, map, flat_map, length, take, Result, Ok, Err}
 use Rattle.std.specs.Result.{IsOk, IsErr}
 use Rattle.flat_model.specs.Path.{Name, Path}
-use Rattle.flat_model.specs.PathText.{PathFault}
+use Rattle.flat_model.specs.PathText.{PathFault, path_text}
 use Rattle.flat_model.specs.State.{State}
 use Rattle.flat_model.specs.Counts.{is_group, children}
 use Rattle.group_tree.specs.ChildNames.{last_name}
@@ -20,6 +20,19 @@ names_bytes names = flat_map (λ name. name ++ 0 ∷ []) names
 -- the names of the groups one name below p, in order
 abbrev pub names_below : State → Path → List Name
 names_below s p = map last_name (children s p)
+
+-- p, and behind it, child by child in order, the groups below it: so many levels of groups in all
+abbrev pub groups_from : State → ℕ → Path → List Path
+groups_from s zero p = []
+groups_from s (suc n) p = p ∷ flat_map (λ name. groups_from s n (p ++ name ∷ [])) (names_below s p)
+
+-- the groups that stand: a path has 32 names at most
+abbrev pub all_groups : State → List Path
+all_groups s = groups_from s 33 []
+
+-- each path with a zero byte behind it
+abbrev pub paths_bytes : List Path → List ℕ
+paths_bytes paths = flat_map (λ p. path_text p ++ 0 ∷ []) paths
 
 -- the path that the grammar gives; else it gives none, or was out of memory
 abbrev pub ReadsPath : Result Path Unread → Result Path PathFault → Type 0
@@ -50,3 +63,12 @@ TellsGroupAt s p found.OutOfMemory = Unit {0}
 abbrev pub TellsGroup : State → Result Path PathFault → Found → Type 0
 TellsGroup s (Ok p) a = TellsGroupAt s p a
 TellsGroup s (Err f) a = a ≡ found.BadPath
+
+-- the first len bytes of the buffer are the paths of the groups that stand, of which there are so many; or they need more
+-- than the buffer has
+abbrev pub TellsGroups : State → List ℕ → Listing → Type 0
+TellsGroups s out (listing.Listed len count) = (take len out ≡ paths_bytes (all_groups s)) × (count ≡ length (all_groups s))
+TellsGroups s out listing.NoGroup = ⊥
+TellsGroups s out listing.BadPath = ⊥
+TellsGroups s out listing.TooSmall = length out < length (paths_bytes (all_groups s))
+TellsGroups s out listing.OutOfMemory = Unit {0}

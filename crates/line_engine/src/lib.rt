@@ -8,7 +8,7 @@
 //!   for no memory.
 //! - Beside the answer stands a code: 0, or which refusal or fault it is. `docs/FORMATS.md` has the codes.
 //! - `children` puts the names of the groups one name below a group into a buffer, each with a zero byte behind it, and
-//!   `has_group` says whether there is such a group. Both only read.
+//!   `has_group` says whether there is such a group. `groups` puts the paths of all groups. All three only read.
 //!
 //! Not promised: what stands in the buffer where the answer is not told.
 //!
@@ -18,6 +18,7 @@
 
 mod answer;
 mod engine;
+mod groups;
 mod listing;
 mod running;
 mod writing;

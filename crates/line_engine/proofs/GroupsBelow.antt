@@ -1,0 +1,79 @@
+-- The groups below a group, name by name.
+use Rattle.std.proofs.Common.{◌≡◌, ◌≢◌, refl, ℕ, zero, suc, ◌+◌, ◌-◌, List, [], ◌∷◌, ◌++◌, length, flat_map, sym, ap, ◌∙◌, append_assoc, append-nil, length-append, arith}
+use Rattle.std.proofs.lemmas.Grind.{flat_map-append}
+use Rattle.flat_model.specs.Path.{Name, Path}
+use Rattle.flat_model.specs.PathText.{path_text}
+use Rattle.flat_model.specs.State.{State}
+use Rattle.line_engine.specs.Listings.{all_groups, names_below, groups_from, paths_bytes}
+
+-- the groups below p at these names, within n levels
+abbrev pub groups_under : State → ℕ → Path → List Name → List Path
+groups_under s n p names = flat_map (λ name. groups_from s n (p ++ name ∷ [])) names
+
+-- all of them, and p before them
+abbrev pub group_and_under : State → ℕ → Path → List Name → List Path
+group_and_under s n p names = p ∷ groups_under s n p names
+
+groups_from-levels : (s : State) (n : ℕ) (p : Path) → n ≢ 0 → group_and_under s (n - 1) p (names_below s p) ≡ groups_from s n p
+groups_from-levels s zero p some = absurd (some refl)
+groups_from-levels s (suc n) p some =
+    let e : suc n - 1 ≡ n = omega arith in
+    ap (λ m. group_and_under s m p (names_below s p)) e
+
+-- ---- p itself
+
+pub first_bytes : (old one two : List ℕ) (s : State) (n : ℕ) (p : Path) (names it : List Name) → one ≡ old ++ path_text p → two ≡ one ++ 0 ∷ [] → names ≡ names_below s p → it ≡ names
+    → two ++ paths_bytes (groups_under s n p it) ≡ old ++ paths_bytes (group_and_under s n p (names_below s p))
+first_bytes old one two s n p names it e f these i =
+    ap (λ t. t ++ paths_bytes (groups_under s n p it)) (f ∙ ap (λ t. t ++ 0 ∷ []) e ∙ append_assoc old (path_text p) (0 ∷ []))
+    ∙ append_assoc old (path_text p ++ 0 ∷ []) (paths_bytes (groups_under s n p it))
+    ∙ ap (λ ns. old ++ paths_bytes (group_and_under s n p ns)) (i ∙ these)
+
+pub first_count : (s : State) (n : ℕ) (p : Path) (names it : List Name) → names ≡ names_below s p → it ≡ names
+    → 1 + length (groups_under s n p it) ≡ length (group_and_under s n p (names_below s p))
+first_count s n p names it these i =
+    let e : length (groups_under s n p it) ≡ length (groups_under s n p (names_below s p)) = ap (λ ns. length (groups_under s n p ns)) (i ∙ these) in
+    omega (arith, e)
+
+-- ---- one name more
+
+pub more_bytes : (now new goal : List ℕ) (s : State) (n : ℕ) (p child : Path) (name : Name) (it rest : List Name) → it ≡ name ∷ rest → child ≡ p ++ name ∷ [] → new ≡ now ++ paths_bytes (groups_from s n child)
+    → now ++ paths_bytes (groups_under s n p it) ≡ goal → new ++ paths_bytes (groups_under s n p rest) ≡ goal
+more_bytes now new goal s n p child name it rest i c e was =
+    ap (λ t. t ++ paths_bytes (groups_under s n p rest)) (e ∙ ap (λ q. now ++ paths_bytes (groups_from s n q)) c)
+    ∙ append_assoc now (paths_bytes (groups_from s n (p ++ name ∷ []))) (paths_bytes (groups_under s n p rest))
+    ∙ ap (λ t. now ++ t) (sym (flat_map-append (λ p. path_text p ++ 0 ∷ []) (groups_from s n (p ++ name ∷ [])) (groups_under s n p rest)))
+    ∙ ap (λ ns. now ++ paths_bytes (groups_under s n p ns)) (sym i)
+    ∙ was
+
+pub more_count : (now below goal : ℕ) (s : State) (n : ℕ) (p child : Path) (name : Name) (it rest : List Name) → it ≡ name ∷ rest → child ≡ p ++ name ∷ [] → below ≡ length (groups_from s n child)
+    → now + length (groups_under s n p it) ≡ goal → (now + below) + length (groups_under s n p rest) ≡ goal
+more_count now below goal s n p child name it rest i c e was =
+    let b : below ≡ length (groups_from s n (p ++ name ∷ [])) = e ∙ ap (λ q. length (groups_from s n q)) c in
+    let u : length (groups_under s n p it) ≡ length (groups_from s n (p ++ name ∷ [])) + length (groups_under s n p rest) = ap (λ ns. length (groups_under s n p ns)) i ∙ length-append (groups_from s n (p ++ name ∷ [])) (groups_under s n p rest) in
+    omega (arith, b, u, was)
+
+-- ---- no name is left
+
+pub all_bytes : (old now : List ℕ) (s : State) (n : ℕ) (p : Path) (it : List Name) → n ≢ 0 → it ≡ []
+    → now ++ paths_bytes (groups_under s (n - 1) p it) ≡ old ++ paths_bytes (group_and_under s (n - 1) p (names_below s p)) → now ≡ old ++ paths_bytes (groups_from s n p)
+all_bytes old now s n p it some i was =
+    sym (append-nil now)
+    ∙ ap (λ ns. now ++ paths_bytes (groups_under s (n - 1) p ns)) (sym i)
+    ∙ was
+    ∙ ap (λ ps. old ++ paths_bytes ps) (groups_from-levels s n p some)
+
+pub all_count : (count : ℕ) (s : State) (n : ℕ) (p : Path) (it : List Name) → n ≢ 0 → it ≡ []
+    → count + length (groups_under s (n - 1) p it) ≡ length (group_and_under s (n - 1) p (names_below s p)) → count ≡ length (groups_from s n p)
+all_count count s n p it some i was =
+    let none : length (groups_under s (n - 1) p it) ≡ 0 = ap (λ ns. length (groups_under s (n - 1) p ns)) i in
+    omega (arith, none, was, ap (λ ps. length ps) (groups_from-levels s n p some))
+
+-- ---- from the root on
+
+pub told_groups : (s now : State) (root : Path) (old bytes shown : List ℕ) → old ≡ [] → now ≡ s → root ≡ [] → bytes ≡ old ++ paths_bytes (groups_from now 33 root) → shown ≡ bytes → shown ≡ paths_bytes (all_groups s)
+told_groups s now root old bytes shown o n r b e =
+    e ∙ b ∙ ap (λ t. t ++ paths_bytes (groups_from now 33 root)) o ∙ ap (λ u. paths_bytes (groups_from u 33 root)) n ∙ ap (λ q. paths_bytes (groups_from s 33 q)) r
+
+pub counted_groups : (s now : State) (root : Path) (count : ℕ) → now ≡ s → root ≡ [] → count ≡ length (groups_from now 33 root) → count ≡ length (all_groups s)
+counted_groups s now root count n r c = c ∙ ap (λ u. length (groups_from u 33 root)) n ∙ ap (λ q. length (groups_from s 33 q)) r
