@@ -14,7 +14,8 @@
 //!
 //! Every contract is that of the crate that an item comes from, and this crate adds none. What those contracts cite is
 //! passed on by `specs/`, in a module for each subject: `Model` has the definitions, and the others what ties the program
-//! to them. What the layers below offer one another (trees, slots, boards, hands, gates) is left out.
+//! to them. Whoever hands a session to a thread cites `session_send` of `proofs/`, as `example_desk` does. What the layers
+//! below offer one another (trees, slots, boards, hands, gates) is left out.
 #![tactic(auto)]
 
 pub use board_meter::BoardMeter;
