@@ -229,17 +229,22 @@ func (h *Hierarchy) Children(path string) ([]string, error) {
 
 // Groups gives the paths of the group and of all below it, each before those below it.
 func (h *Hierarchy) Groups(path string) ([]string, error) {
-	names, err := h.Children(path)
+	if path != "/" {
+		if _, err := h.Children(path); err != nil {
+			return nil, err
+		}
+	}
+	told, err := h.told(func() C.uint32_t {
+		return C.mk_groups(&h.handle, at(h.out), C.size_t(len(h.out)), &h.info)
+	})
 	if err != nil {
 		return nil, err
 	}
-	groups := []string{path}
-	for _, name := range names {
-		below, err := h.Groups(strings.TrimSuffix(path, "/") + "/" + name)
-		if err != nil {
-			return nil, err
+	var groups []string
+	for _, group := range strings.Split(strings.TrimSuffix(string(told), "\x00"), "\x00") {
+		if path == "/" || group == path || strings.HasPrefix(group, path+"/") {
+			groups = append(groups, group)
 		}
-		groups = append(groups, below...)
 	}
 	return groups, nil
 }

@@ -114,6 +114,12 @@ func TestGroups(t *testing.T) {
 	if groups, err := h.Groups("/"); err != nil || !reflect.DeepEqual(groups, []string{"/", "/a", "/a/x", "/a/x/z", "/a/y", "/b"}) {
 		t.Error(groups, err)
 	}
+	if groups, err := h.Groups("/a"); err != nil || !reflect.DeepEqual(groups, []string{"/a", "/a/x", "/a/x/z", "/a/y"}) {
+		t.Error(groups, err)
+	}
+	if _, err := h.Groups("/c"); !errors.Is(err, syscall.ENOENT) {
+		t.Error(err)
+	}
 	for path, want := range map[string]bool{"/": true, "/a/x": true, "/x": false} {
 		if there, err := h.HasGroup(path); err != nil || there != want {
 			t.Error(path, there, err)

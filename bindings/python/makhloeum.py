@@ -199,6 +199,7 @@ def _load():
         "mk_undo": [handle, ctypes.c_uint64, buffer, size, info],
         "mk_depth": [handle, ctypes.POINTER(ctypes.c_size_t)],
         "mk_children": [handle, text, size, buffer, size, info],
+        "mk_groups": [handle, buffer, size, info],
         "mk_has_group": [handle, text, size, info],
     }
     for name, types in arguments.items():
@@ -320,12 +321,12 @@ class Hierarchy:
 
     def groups(self, path="/"):
         """The paths of the group and of all below it, each before those below it."""
-        found, waiting = [], [path]
-        while waiting:
-            path = waiting.pop()
-            found.append(path)
-            waiting.extend(path.rstrip("/") + "/" + name for name in reversed(self.children(path)))
-        return found
+        top = _bytes(path).decode()
+        if top != "/":
+            self.children(top)  # refused as this call is
+        told = self._told(lambda: _library.mk_groups(self._at, self._out, self._size, self._said))
+        groups = told.decode().split("\0")[:-1]
+        return [group for group in groups if top == "/" or group == top or group.startswith(top + "/")]
 
     def has_group(self, path):
         """Whether there is such a group."""

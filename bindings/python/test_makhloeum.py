@@ -106,6 +106,12 @@ def test_groups(h):
     assert h.children("/a") == ["x", "y"]
     assert h.children("/b") == []
     assert h.groups() == ["/", "/a", "/a/x", "/a/x/z", "/a/y", "/b"]
+    assert h.groups("/a") == ["/a", "/a/x", "/a/x/z", "/a/y"]
+    assert h.groups("/a/x/z") == ["/a/x/z"]
+    with pytest.raises(makhloeum.NoGroup):
+        h.groups("/c")
+    with pytest.raises(makhloeum.BadPath):
+        h.groups("c")
     assert h.has_group("/a/x") and not h.has_group("/x")
     with pytest.raises(FileNotFoundError):
         h.children("/c")
@@ -130,7 +136,7 @@ def test_a_closed_hierarchy():
     h = Hierarchy()
     h.close()
     h.close()
-    for call in (lambda: h.mkdir("/a"), lambda: h.undo(), lambda: h.depth(), lambda: h.children("/"), lambda: h.has_group("/")):
+    for call in (lambda: h.mkdir("/a"), lambda: h.undo(), lambda: h.depth(), lambda: h.children("/"), lambda: h.groups(), lambda: h.has_group("/")):
         with pytest.raises(ValueError):
             call()
 
