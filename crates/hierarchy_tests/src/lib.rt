@@ -6,7 +6,7 @@
 //! and what may fail is done in one loop behind them, since a proof grows with the places at which a function may end.
 //!
 //! - `paths`: texts with their faults, and each public call of `GroupPath`.
-//! - `path_memory`: paths in a small heap, with each growth refused.
+//! - `path_memory`: paths in a small heap, with each allocation refused.
 //! - `calls`: a tree of five groups, and the calls of a table.
 //! - `tree`: each public call of `GroupTree`, in tables of calls, and the refusals in their order.
 //! - `limits`: the limits of a group, and the first that a new one meets.
