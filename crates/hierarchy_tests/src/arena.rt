@@ -1,9 +1,10 @@
 //! Trees that are copied into an arena.
 
-use crate::calls::{path, sample};
+use crate::calls::sample;
 use bumpalo::{Bump, ResetError};
 use std::mem;
 use std::test::Fail;
+use test_support::path;
 
 /// An arena is given up after the tree that was copied into it.
 #[test]

@@ -4,6 +4,7 @@ use group_path::GroupPath;
 use group_tree::{Attr, GroupTree, Limit, LimitFile, Limits, MetLimit, TreeFault};
 use std::alloc::{AllocError, Allocator, Global};
 use std::test::Fail;
+use test_support::path;
 
 /// Attributes that tell one group from another by their slot.
 pub(crate) fn attr(slot: u16) -> Attr {
@@ -18,10 +19,6 @@ pub(crate) fn attr(slot: u16) -> Attr {
         peak: 9,
         slot,
     }
-}
-
-pub(crate) fn path(alloc: Global, text: &str) -> Result<GroupPath<Global>, Fail> {
-    Ok(GroupPath::read(alloc, text.as_bytes())?)
 }
 
 /// `/a`, `/a/b`, `/a/b/c`, `/a/d`, `/e`, made out of their order, with the slots 1 to 5; quiet ones have no limits

@@ -5,6 +5,7 @@ use group_path::{GroupPath, PathFault};
 use linked_list_allocator::LocalHeap;
 use std::alloc::{AllocError, Global};
 use std::test::Fail;
+use test_support::{Tried, all_but};
 
 /// Whether two paths have the same names, and whether the first is at or below the second.
 fn compared(one: &GroupPath<&LocalHeap>, other: &GroupPath<Global>) -> (bool, bool) {
@@ -32,73 +33,178 @@ fn over_a_small_heap(rt: HostRuntime) -> Result<(), Fail> {
     Ok(())
 }
 
-/// Whether a full heap refuses, as out of memory, a read of the text, and a child, a parent and a copy of the path, and
-/// a read and a child whose texts have faults of their own for those.
-fn refuses_each(heap: &LocalHeap, text: &[u8], first: &GroupPath<&LocalHeap>) -> bool {
-    let want = Some(PathFault::OutOfMemory);
-    let dots = Some(PathFault::DotName);
-    (
-        GroupPath::read(heap, text).err(),
-        first.child(heap, b"c").err(),
-        GroupPath::read(heap, b"/..").err(),
-        first.child(heap, b"..").err(),
-        first.parent(heap).err(),
-        first.copy(heap).err(),
-    ) == (want, want, dots, dots, Some(AllocError), Some(AllocError))
+/// A call that makes a path over a heap, from one elsewhere.
+#[derive(Clone, Copy)]
+enum Call {
+    Root,
+    Read,
+    /// Of another text.
+    ReadOther(&'static [u8]),
+    Parent,
+    Child(&'static [u8]),
+    Copy,
 }
 
-/// Whether that is so where one path of the text fills the heap, which is as it was, and can be read once more after it.
-fn is_refused(alloc: Global, heap: &LocalHeap, text: &[u8]) -> Result<bool, Fail> {
-    let first = GroupPath::read(heap, text)?;
-    let copy = first.copy(alloc)?;
-    let is_refused = (refuses_each(heap, text, &first), first.text()) == (true, text);
-    drop(first);
-    let again = GroupPath::read(heap, text)?;
-    Ok((is_refused, again.is_same(&copy)) == (true, true))
+/// What a path that was asked for, or its fault, is beside the text or the fault that is wanted.
+fn compared_to(
+    made: Result<GroupPath<&LocalHeap>, PathFault>,
+    wanted: Result<&[u8], PathFault>,
+) -> Tried {
+    let is_wanted = match made {
+        Err(PathFault::OutOfMemory) => return Tried::Refused,
+        Err(fault) => wanted.err() == Some(fault),
+        Ok(path) => match wanted {
+            Ok(text) => path.text() == text,
+            Err(_) => false,
+        },
+    };
+    if is_wanted {
+        Tried::Answered
+    } else {
+        Tried::Other
+    }
 }
 
-/// Each allocation is refused where the heap is full, and nothing else changes. Out of memory is the last fault.
+/// Makes the path of that call over the heap.
+fn made<'a>(
+    heap: &'a LocalHeap,
+    path: &GroupPath<Global>,
+    call: Call,
+) -> Result<GroupPath<&'a LocalHeap>, PathFault> {
+    match call {
+        Call::Read => GroupPath::read(heap, path.text()),
+        Call::ReadOther(text) => GroupPath::read(heap, text),
+        Call::Child(name) => path.child(heap, name),
+        Call::Root => match GroupPath::root(heap) {
+            Ok(root) => Ok(root),
+            Err(AllocError) => Err(PathFault::OutOfMemory),
+        },
+        Call::Copy => match path.copy(heap) {
+            Ok(copy) => Ok(copy),
+            Err(AllocError) => Err(PathFault::OutOfMemory),
+        },
+        Call::Parent => match path.parent(heap) {
+            Ok(Some(parent)) => Ok(parent),
+            Ok(None) => Err(PathFault::NotRooted),
+            Err(AllocError) => Err(PathFault::OutOfMemory),
+        },
+    }
+}
+
+/// How many refusals there are before the call is answered as wanted, as the room grows by a block at a time. Each leaves the
+/// path as it was, and the heap.
+fn refusals(
+    alloc: Global,
+    heap: &LocalHeap,
+    text: &[u8],
+    call: Call,
+    wanted: Result<&[u8], PathFault>,
+) -> Result<usize, Fail> {
+    let path = GroupPath::read(alloc, text)?;
+    for room in 0..64usize {
+        let blocks = all_but(alloc, heap, room)?;
+        let full = heap.used();
+        let tried = compared_to(made(heap, &path, call), wanted);
+        let is_kept = (heap.used(), path.text()) == (full, text);
+        drop(blocks);
+        match tried {
+            Tried::Answered if is_kept => return Ok(room),
+            Tried::Refused if is_kept => (),
+            _ => return Err(Fail::new("a path is another than wanted")),
+        }
+    }
+    Err(Fail::new("there is no answer in 1,024 bytes"))
+}
+
+/// The text of 30 letters below the root, that below it, and that with a child `c`.
+fn long_texts(alloc: Global) -> Result<[Vec<u8>; 3], AllocError> {
+    let above = names_of_letters(alloc, 1, 30)?;
+    let text = names_of_letters(alloc, 2, 30)?;
+    let mut below = text.clone()?;
+    below.extend_from_slice(b"/c")?;
+    Ok([above, text, below])
+}
+
+/// The calls on the second of these texts, and whether they ask for memory. A fault of the text or of the name comes first.
+fn rows<'t>(
+    above: &'t [u8],
+    text: &'t [u8],
+    below: &'t [u8],
+) -> [(Call, Result<&'t [u8], PathFault>, bool); 7] {
+    [
+        (Call::Root, Ok(b"/"), false),
+        (Call::Read, Ok(text), true),
+        (Call::Parent, Ok(above), true),
+        (Call::Child(b"c"), Ok(below), true),
+        (Call::Child(b".."), Err(PathFault::DotName), false),
+        (Call::ReadOther(b"/.."), Err(PathFault::DotName), false),
+        (Call::Copy, Ok(text), true),
+    ]
+}
+
+/// Each allocation of a call on a path of 62 bytes refused.
 #[test]
-fn growth_refused(rt: HostRuntime) -> Result<(), Fail> {
-    let heap = LocalHeap::new(rt.alloc(), 256)?;
-    let text = names_of_letters(rt.alloc(), 2, 90)?;
-    assert!(rt; is_refused(rt.alloc(), &heap, &text)?);
+fn each_allocation_of_a_path_refused(rt: HostRuntime) -> Result<(), Fail> {
+    let heap = LocalHeap::new(rt.alloc(), 1024)?;
+    let [above, text, below] = long_texts(rt.alloc())?;
+    for (call, wanted, asks) in rows(&above, &text, &below) {
+        let refused = refusals(rt.alloc(), &heap, &text, call, wanted)?;
+        assert_eq!(rt; refused > 0, asks);
+    }
     Ok(())
 }
 
-/// Whether, where as many paths of the long text were taken as the heap has room for, the long text is refused, the short one
-/// is read and copied, and the root is made.
-fn takes_short_texts(
-    alloc: Global,
-    heap: &LocalHeap,
-    long: &[u8],
-    short: &[u8],
-) -> Result<bool, Fail> {
-    let mut held = Vec::new(alloc);
-    for _ in 0..64 {
-        if let Ok(path) = GroupPath::read(heap, long) {
-            held.push(path)?;
-        }
-    }
-    let path = GroupPath::read(alloc, short)?;
-    let copy = path.copy(heap)?;
-    let root = GroupPath::root(heap)?;
-    Ok(
-        (
-            GroupPath::read(heap, long).err(),
-            GroupPath::read(heap, short).err(),
-            copy.text(),
-            root.depth(),
-        ) == (Some(PathFault::OutOfMemory), None, short, 0),
-    )
-}
-
-/// A text of 23 bytes takes no memory, and one of 24 does; so takes the root none.
+/// Up to 23 bytes ask for none: of 24 bytes the parent alone is had in a full heap, of 23 all but the child, and of 21 all.
 #[test]
-fn short_texts_in_a_full_heap(rt: HostRuntime) -> Result<(), Fail> {
-    let heap = LocalHeap::new(rt.alloc(), 256)?;
-    let long = names_of_letters(rt.alloc(), 1, 23)?;
-    let short = names_of_letters(rt.alloc(), 1, 22)?;
-    assert!(rt; takes_short_texts(rt.alloc(), &heap, &long, &short)?);
+fn short_paths_in_a_full_heap(rt: HostRuntime) -> Result<(), Fail> {
+    let heap = LocalHeap::new(rt.alloc(), 1024)?;
+    let rows = [
+        (
+            b"/aaaaaaaaaaaaaaaaaaaaa/b".as_slice(),
+            Call::Read,
+            Ok(b"/aaaaaaaaaaaaaaaaaaaaa/b".as_slice()),
+            true,
+        ),
+        (
+            b"/aaaaaaaaaaaaaaaaaaaaa/b",
+            Call::Copy,
+            Ok(b"/aaaaaaaaaaaaaaaaaaaaa/b"),
+            true,
+        ),
+        (
+            b"/aaaaaaaaaaaaaaaaaaaaa/b",
+            Call::Parent,
+            Ok(b"/aaaaaaaaaaaaaaaaaaaaa"),
+            false,
+        ),
+        (
+            b"/aaaaaaaaaaaaaaaaaaaa/b",
+            Call::Read,
+            Ok(b"/aaaaaaaaaaaaaaaaaaaa/b"),
+            false,
+        ),
+        (
+            b"/aaaaaaaaaaaaaaaaaaaa/b",
+            Call::Copy,
+            Ok(b"/aaaaaaaaaaaaaaaaaaaa/b"),
+            false,
+        ),
+        (
+            b"/aaaaaaaaaaaaaaaaaaaa/b",
+            Call::Child(b"c"),
+            Ok(b"/aaaaaaaaaaaaaaaaaaaa/b/c"),
+            true,
+        ),
+        (
+            b"/aaaaaaaaaaaaaaaaaaaa",
+            Call::Child(b"c"),
+            Ok(b"/aaaaaaaaaaaaaaaaaaaa/c"),
+            false,
+        ),
+    ];
+    for (text, call, wanted, asks) in rows {
+        let refused = refusals(rt.alloc(), &heap, text, call, wanted)?;
+        assert_eq!(rt; refused > 0, asks, "{text:?}");
+    }
     Ok(())
 }

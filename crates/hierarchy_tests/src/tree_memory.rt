@@ -1,11 +1,12 @@
 //! A tree in a small heap: what a refused allocation leaves.
 
-use crate::calls::{Call, answer, attr, path};
+use crate::calls::{Call, answer, attr};
 use crate::wide_and_deep::{deep, is_rising, nest};
 use group_tree::{GroupTree, TreeFault};
 use linked_list_allocator::LocalHeap;
 use std::alloc::{AllocError, Allocator, Global};
 use std::test::Fail;
+use test_support::{Tried, all_but, path};
 
 /// Before its number a group's path has this: a name of 24 letters and more, which takes memory.
 pub(crate) const LONG: &str = "/ggggggggggggggggggggggg";
@@ -171,28 +172,53 @@ fn each_growth_of_an_insert_refused(rt: HostRuntime) -> Result<(), Fail> {
     Ok(())
 }
 
-/// Whether a copy of a tree of three groups is refused in the heap, takes nothing, and leaves its source.
-fn is_copy_refused(alloc: Global, heap: &LocalHeap) -> Result<bool, Fail> {
-    let mut tree = GroupTree::new(alloc, attr(9))?;
-    for number in 0..3u16 {
-        if call(alloc, &mut tree, LONG, number, Call::Insert(number))? != Ok(u64::from(number)) {
-            return Ok(false);
-        }
+/// What a copy into the heap of a tree of three groups comes to.
+fn copied(alloc: Global, tree: &GroupTree<Global>, heap: &LocalHeap) -> Result<Tried, Fail> {
+    let mut copy = match tree.copy(heap) {
+        Ok(copy) => copy,
+        Err(AllocError) => return Ok(Tried::Refused),
+    };
+    if has_first(alloc, &mut copy, LONG, 3)? {
+        Ok(Tried::Answered)
+    } else {
+        Ok(Tried::Other)
     }
-    let is_refused = tree.copy(heap).is_err();
-    Ok(
-        (
-            is_refused,
-            heap.used(),
-            has_first(alloc, &mut tree, LONG, 3)?,
-        ) == (true, 0, true),
-    )
 }
 
+/// How many refusals there are before the tree of three groups is copied, as the room grows by a block at a time. Each leaves
+/// the heap and the tree as they were.
+fn copies_refused(
+    alloc: Global,
+    tree: &mut GroupTree<Global>,
+    heap: &LocalHeap,
+) -> Result<usize, Fail> {
+    for room in 0..256usize {
+        let blocks = all_but(alloc, heap, room)?;
+        let full = heap.used();
+        let tried = copied(alloc, tree, heap)?;
+        let is_kept = heap.used() == full && has_first(alloc, tree, LONG, 3)?;
+        drop(blocks);
+        match tried {
+            Tried::Answered if is_kept => return Ok(room),
+            Tried::Refused if is_kept => (),
+            _ => return Err(Fail::new("a copy left something changed")),
+        }
+    }
+    Err(Fail::new("there is no copy in 4,096 bytes"))
+}
+
+/// Each allocation of a copy refused. Three names of 25 bytes take memory each, and so does the list of the groups: the last
+/// refusal came with room for what was asked for before it.
 #[test]
-fn copy_refused(rt: HostRuntime) -> Result<(), Fail> {
-    let heap = LocalHeap::new(rt.alloc(), 512)?;
-    assert!(rt; is_copy_refused(rt.alloc(), &heap)?);
+fn each_allocation_of_a_copy_refused(rt: HostRuntime) -> Result<(), Fail> {
+    let heap = LocalHeap::new(rt.alloc(), 4096)?;
+    let mut tree = GroupTree::new(rt.alloc(), attr(9))?;
+    for number in 0..3u16 {
+        let made = call(rt.alloc(), &mut tree, LONG, number, Call::Insert(number))?;
+        assert_eq!(rt; made, Ok(u64::from(number)));
+    }
+    let refused = copies_refused(rt.alloc(), &mut tree, &heap)?;
+    assert!(rt; refused > 75 / 16);
     Ok(())
 }
 

@@ -1,6 +1,6 @@
 //! As many siblings as there are slots, and groups below one another as deep as a path may go.
 
-use crate::calls::{Call, attr, path};
+use crate::calls::{Call, attr};
 use crate::limits::limited;
 use crate::paths::names_of_letters;
 use crate::tree_memory::{LONG, call, is_found};
@@ -8,6 +8,7 @@ use group_path::GroupPath;
 use group_tree::{GroupTree, Limit, MetLimit, TreeFault};
 use std::alloc::{AllocError, Allocator, Global};
 use std::test::Fail;
+use test_support::path;
 
 /// The path of so many names, `/x/x` and so on.
 pub(crate) fn deep(alloc: Global, depth: usize) -> Result<GroupPath<Global>, Fail> {

@@ -8,6 +8,7 @@
 //! - `events`: worked rows of events, the cap on helpers, allocations refused in turn, and the memory
 //!   of a spent hand.
 //! - `calls`: the board on one thread: steps, what a helper sees, large splits.
+//! - `refusals`: each allocation of a new core and of a replay refused in turn.
 //! - `threads`: the board on four threads.
 #![tactic(auto)]
 
@@ -15,5 +16,7 @@
 mod calls;
 #[cfg(test)]
 mod events;
+#[cfg(test)]
+mod refusals;
 #[cfg(test)]
 mod threads;

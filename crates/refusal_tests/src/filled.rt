@@ -1,0 +1,83 @@
+//! An engine that forks until its heap is full.
+
+use linked_list_allocator::LocalHeap;
+use pids_charge::PlainMeter;
+use std::alloc::{AllocError, Global};
+use std::sync::Wait;
+use std::test::Fail;
+use std::thread::Threads;
+use undo_journal::{Command, Engine, Pid, Refusal, Reply};
+
+/// An engine whose meter, groups, processes and records lie in one heap.
+type InHeap<'a> = Engine<&'a LocalHeap, PlainMeter<&'a LocalHeap>>;
+
+/// A meter does not fit in 1,024 bytes, and leaves them free.
+#[test]
+fn meter_in_1024_bytes(rt: HostRuntime) -> Result<(), Fail> {
+    let heap = LocalHeap::new(rt.alloc(), 1024)?;
+    let is_refused = PlainMeter::new(&heap).is_err();
+    assert_eq!(rt; (is_refused, heap.used()), (true, 0));
+    Ok(())
+}
+
+/// What process 1 is answered when it forks that process.
+fn fork<'a>(engine: &mut InHeap<'a>, child: Pid) -> Reply<&'a LocalHeap> {
+    match Pid::new(1) {
+        Some(parent) => engine.apply_alone(0, &Command::<Global>::Fork { parent, child }),
+        None => Reply::NothingToUndo,
+    }
+}
+
+/// Process 1 forks 2, 3 and so on, until it is out of memory: the process that was refused then.
+fn first_refused(engine: &mut InHeap<'_>) -> Option<Pid> {
+    for number in 2..262_146u32 {
+        let child = Pid::new(number)?;
+        match fork(engine, child) {
+            Reply::Done => (),
+            Reply::OutOfMemory => return Some(child),
+            _ => return None,
+        }
+    }
+    None
+}
+
+/// Whether the engine answers that there is no such process.
+fn is_absent(engine: &mut InHeap<'_>, pid: Pid) -> bool {
+    let reply = engine.apply_alone(0, &Command::<Global>::Locate(pid));
+    match &reply {
+        Reply::Refused(Refusal::NoProcess(other)) => *other == pid,
+        _ => false,
+    }
+}
+
+/// How many records there are once an engine in the heap is out of memory, whether the process that was refused is not there,
+/// how many records are undone, and that process.
+fn filled<R: Threads + Wait + Sync>(
+    rt: &R,
+    heap: &LocalHeap,
+) -> Result<(usize, bool, Result<usize, (usize, AllocError)>, Option<Pid>), AllocError> {
+    let mut engine = Engine::new(heap, PlainMeter::new(heap)?)?;
+    let refused = first_refused(&mut engine);
+    let depth = engine.depth();
+    let is_absent = match refused {
+        Some(pid) => is_absent(&mut engine, pid),
+        None => false,
+    };
+    let undone = engine.undo_all(rt, 0);
+    Ok((depth, is_absent, undone, refused))
+}
+
+/// Each fork before the refused one is recorded and can be undone; the refused one left neither a process nor a record.
+#[test]
+fn forks_until_out_of_memory(rt: HostRuntime) -> Result<(), Fail> {
+    let heap = LocalHeap::new(rt.alloc(), 262_144)?;
+    let (depth, is_absent, undone, refused) = filled(&rt, &heap)?;
+    let number = refused.map(|pid| pid.get() as usize);
+    assert!(rt; depth > 0);
+    assert_eq!(rt;
+        (is_absent, undone, number),
+        (true, Ok(depth), depth.checked_add(2))
+    );
+    assert_eq!(rt; heap.used(), 0);
+    Ok(())
+}
