@@ -12,4 +12,4 @@ mod paths;
 mod room;
 
 pub use paths::path;
-pub use room::{BLOCKS_MAX, BLOCK_SIZE, Tried, all_but};
+pub use room::{BLOCK_SIZE, BLOCKS_MAX, Tried, all_but};
