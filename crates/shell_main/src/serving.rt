@@ -16,7 +16,7 @@ use std::thread::Threads;
 /// Reads lines to the end of the source, and answers each before it reads on.
 ///
 /// Each answer is written and flushed at once; the writer is also flushed before the first read. It
-/// may wait for its devices, and as `Engine::apply` does. It keeps the engine with its journal, and
+/// may wait for its devices, and for nobody else. It keeps the engine with its journal, and
 /// of what was read only the line that has not ended. Beside what the engine takes for each
 /// command, it takes time linear in the line and its answer.
 ///
