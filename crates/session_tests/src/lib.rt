@@ -9,6 +9,7 @@
 //! - `halting`: a halted desk.
 //! - `threads`: sessions in threads of their own, in contention and by turns.
 //! - `waking`: eight sessions that sleep for their turns.
+//! - `racing`: a close beside a command, a halt beside a turn, and a session that is dropped between its turns.
 //! - `memory`: one allocation refused at a time.
 //! - `calls`: what the others are written with.
 #![tactic(auto)]
@@ -19,6 +20,8 @@ mod calls;
 mod halting;
 #[cfg(test)]
 mod memory;
+#[cfg(test)]
+mod racing;
 #[cfg(test)]
 mod receipts;
 #[cfg(test)]
