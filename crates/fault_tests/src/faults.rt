@@ -1,0 +1,154 @@
+//! Each read and each write that fails.
+
+use crate::devices::{Dripping, Endless, Narrow};
+use crate::traces::{EVERY_KIND, LINE_ENDS, UNDONE_MOVE, lines};
+use replay_main::{MemorySink, ReplayFault, Summary, TRACE_MAX, rehearse_trace, replay};
+use std::alloc::Global;
+use std::sync::Wait;
+use std::test::Fail;
+use std::thread::Threads;
+
+/// How a trace is answered.
+#[derive(Clone, Copy)]
+enum Way {
+    OneWorker,
+    TwoWorkers,
+    EightWorkers,
+    Rehearsal,
+}
+
+const WAYS: [Way; 4] = [
+    Way::OneWorker,
+    Way::TwoWorkers,
+    Way::EightWorkers,
+    Way::Rehearsal,
+];
+
+/// Answers a trace that comes byte by byte, and ends or fails, at a sink with so much room.
+fn answered<R: Threads + Wait + Sync>(
+    rt: &R,
+    alloc: Global,
+    way: Way,
+    trace: &[u8],
+    ends: bool,
+    room: usize,
+) -> (Result<Summary, ReplayFault>, Narrow) {
+    let mut source = Dripping::new(trace, ends);
+    let mut sink = Narrow::new(alloc, room);
+    let answer = match way {
+        Way::OneWorker => replay(rt, alloc, &mut source, &mut sink, 1),
+        Way::TwoWorkers => replay(rt, alloc, &mut source, &mut sink, 2),
+        Way::EightWorkers => replay(rt, alloc, &mut source, &mut sink, 8),
+        Way::Rehearsal => rehearse_trace(rt, alloc, &mut source, &mut sink),
+    };
+    (answer, sink)
+}
+
+/// The first read that is answered otherwise where it fails.
+fn first_read<R: Threads + Wait + Sync>(
+    rt: &R,
+    alloc: Global,
+    way: Way,
+    trace: &[u8],
+) -> Option<usize> {
+    for count in 0..=trace.len() {
+        let text = trace.get(..count).unwrap_or(trace);
+        let (answer, sink) = answered(rt, alloc, way, text, false, usize::MAX);
+        if answer != Err(ReplayFault::Read) || !sink.bytes().is_empty() {
+            return Some(count);
+        }
+    }
+    None
+}
+
+#[test]
+fn each_read_fails(rt: HostRuntime) -> Result<(), Fail> {
+    for (trace, _) in [UNDONE_MOVE, LINE_ENDS, EVERY_KIND] {
+        let trace = lines(rt.alloc(), trace)?;
+        for way in WAYS {
+            assert_eq!(rt; first_read(&rt, rt.alloc(), way, trace.as_slice()), None);
+        }
+    }
+    Ok(())
+}
+
+/// Whether a trace is answered by these bytes, as far as there is room; with room for all they are flushed.
+fn is_prefix<R: Threads + Wait + Sync>(
+    rt: &R,
+    alloc: Global,
+    way: Way,
+    trace: &[u8],
+    answers: &[u8],
+    room: usize,
+) -> bool {
+    let (answer, sink) = answered(rt, alloc, way, trace, true, room);
+    let is_whole = room >= answers.len();
+    let is_right = if is_whole {
+        answer.is_ok() && sink.is_flushed()
+    } else {
+        answer == Err(ReplayFault::Write) && !sink.is_flushed()
+    };
+    is_right && Some(sink.bytes()) == answers.get(..room)
+}
+
+/// The first write that is answered otherwise where it fails; behind the last none does.
+fn first_write<R: Threads + Wait + Sync>(
+    rt: &R,
+    alloc: Global,
+    way: Way,
+    trace: &[u8],
+    answers: &[u8],
+) -> Option<usize> {
+    for room in 0..=answers.len() {
+        if !is_prefix(rt, alloc, way, trace, answers, room) {
+            return Some(room);
+        }
+    }
+    None
+}
+
+#[test]
+fn each_write_fails(rt: HostRuntime) -> Result<(), Fail> {
+    for (trace, answers) in [UNDONE_MOVE, LINE_ENDS] {
+        let trace = lines(rt.alloc(), trace)?;
+        let answers = lines(rt.alloc(), answers)?;
+        for way in WAYS {
+            assert_eq!(rt;
+                first_write(&rt, rt.alloc(), way, trace.as_slice(), answers.as_slice()),
+                None
+            );
+        }
+    }
+    Ok(())
+}
+
+/// Of the long trace for one worker and for a rehearsal.
+#[test]
+fn each_write_of_many_fails(rt: HostRuntime) -> Result<(), Fail> {
+    let (trace, answers) = EVERY_KIND;
+    let trace = lines(rt.alloc(), trace)?;
+    let answers = lines(rt.alloc(), answers)?;
+    for way in [Way::OneWorker, Way::Rehearsal] {
+        assert_eq!(rt;
+            first_write(&rt, rt.alloc(), way, trace.as_slice(), answers.as_slice()),
+            None
+        );
+    }
+    Ok(())
+}
+
+/// Of a trace that is too long no more is read than the read that is past the limit.
+#[test]
+fn too_long_traces(rt: HostRuntime) {
+    for way in [Way::OneWorker, Way::Rehearsal] {
+        let mut source = Endless::new();
+        let mut sink = MemorySink::new(rt.alloc());
+        let answer = match way {
+            Way::Rehearsal => rehearse_trace(&rt, rt.alloc(), &mut source, &mut sink),
+            _ => replay(&rt, rt.alloc(), &mut source, &mut sink, 1),
+        };
+        assert!(rt; answer == Err(ReplayFault::InputTooLong));
+        assert!(rt; sink.bytes().is_empty());
+        assert!(rt; source.before() <= TRACE_MAX && source.given() > TRACE_MAX);
+    }
+}
