@@ -1,0 +1,163 @@
+//! Calls on charges, as rows of a table.
+
+use crate::answers::{
+    Answer, done, lost_answered, move_answered, path_answered, peaks_answered, refused,
+};
+use group_path::GroupPath;
+use group_tree::{Attr, Limit, LimitFile};
+use pids_charge::{Charges, Lost, OpenGate, Pid, PlainMeter};
+use std::alloc::{AllocError, Allocator, Global};
+use std::sync::Wait;
+use std::test::Fail;
+use std::thread::Threads;
+use test_support::path;
+
+/// Charges whose groups and processes lie in any memory, and their meter apart.
+pub(crate) type Apart<A> = Charges<A, PlainMeter<Global>>;
+
+/// A call on charges, made by who 0.
+#[derive(Clone, Copy)]
+pub(crate) enum Call {
+    Mkdir,
+    Rmdir,
+    /// With a limit on processes of 7.
+    Restore,
+    /// The first process forks the second, in two halves: decided, and then made.
+    Fork,
+    Exit,
+    Migrate,
+    /// A move without its peaks.
+    Rehome,
+    Kill,
+    KillAlone,
+    Place,
+    /// Of a list of one.
+    PlaceAll,
+    /// Likewise.
+    PlaceAllAlone,
+}
+
+/// A call with its path and its processes.
+#[derive(Drop)]
+pub(crate) struct Asked {
+    call: Call,
+    path: GroupPath<Global>,
+    first: Pid,
+    second: Pid,
+}
+
+fn pid(number: u32) -> Result<Pid, Fail> {
+    match Pid::new(number) {
+        Some(pid) => Ok(pid),
+        None => Err(Fail::new("no process has that number")),
+    }
+}
+
+/// The call at the path of this text, with the processes of these numbers.
+pub(crate) fn ask(
+    alloc: Global,
+    call: Call,
+    text: &str,
+    (first, second): (u32, u32),
+) -> Result<Asked, Fail> {
+    let first = pid(first)?;
+    let second = pid(second)?;
+    Ok(Asked {
+        call,
+        path: path(alloc, text)?,
+        first,
+        second,
+    })
+}
+
+fn rmdir<A: Allocator + Clone>(charges: &mut Apart<A>, path: &GroupPath<Global>) -> Answer {
+    match charges.rmdir(path) {
+        Ok(_attr) => Answer::Done,
+        Err(fault) => refused(fault),
+    }
+}
+
+fn restore<A: Allocator + Clone>(charges: &mut Apart<A>, path: &GroupPath<Global>) -> Answer {
+    let attr = Attr::new(0).with_limit(LimitFile::PidsMax, Limit::At(7));
+    match charges.refuses_mkdir(path) {
+        None => done(charges.restore(path, attr)),
+        Some(fault) => refused(fault),
+    }
+}
+
+fn fork<A: Allocator + Clone>(charges: &mut Apart<A>, parent: Pid, child: Pid) -> Answer {
+    match charges.refuses_fork(parent, child) {
+        None => peaks_answered(charges.make_process(0, parent, child)),
+        Some(fault) => refused(fault),
+    }
+}
+
+fn rehome<A: Allocator + Clone>(
+    charges: &mut Apart<A>,
+    pid: Pid,
+    path: &GroupPath<Global>,
+) -> Answer {
+    if charges.attr(path).is_none() || charges.home(pid).is_none() {
+        return Answer::Nothing;
+    }
+    path_answered(charges.rehome(0, pid, path))
+}
+
+fn place<A: Allocator + Clone>(
+    charges: &mut Apart<A>,
+    pid: Pid,
+    path: &GroupPath<Global>,
+) -> Answer {
+    if charges.attr(path).is_none() || charges.home(pid).is_some() {
+        return Answer::Nothing;
+    }
+    done(charges.place(0, pid, path))
+}
+
+fn place_all<R: Threads + Wait + Sync, A: Allocator + Clone>(
+    rt: &R,
+    charges: &mut Apart<A>,
+    pid: Pid,
+    path: GroupPath<Global>,
+) -> Answer {
+    if charges.attr(&path).is_none() || charges.home(pid).is_some() {
+        return Answer::Nothing;
+    }
+    done(charges.place_all(rt, &OpenGate, 0, &[Lost { pid, path }]))
+}
+
+fn place_all_alone<A: Allocator + Clone>(
+    charges: &mut Apart<A>,
+    pid: Pid,
+    path: GroupPath<Global>,
+) -> Answer {
+    if charges.attr(&path).is_none() || charges.home(pid).is_some() {
+        return Answer::Nothing;
+    }
+    done(charges.place_all_alone(0, &[Lost { pid, path }]))
+}
+
+/// Makes the call.
+pub(crate) fn answer<R: Threads + Wait + Sync, A: Allocator + Clone>(
+    rt: &R,
+    alloc: Global,
+    charges: &mut Apart<A>,
+    asked: &Asked,
+) -> Result<Answer, AllocError> {
+    let path = &asked.path;
+    let answer = match asked.call {
+        Call::Mkdir => done(charges.mkdir(path)),
+        Call::Rmdir => rmdir(charges, path),
+        Call::Restore => restore(charges, path),
+        Call::Fork => fork(charges, asked.first, asked.second),
+        Call::Exit => path_answered(charges.exit(0, asked.first)),
+        Call::Migrate => move_answered(charges.migrate(0, asked.first, path)),
+        Call::Rehome => rehome(charges, asked.first, path),
+        Call::Kill => lost_answered(charges.kill(rt, &OpenGate, 0, path)),
+        Call::KillAlone => lost_answered(charges.kill_alone(0, path)),
+        Call::Place => place(charges, asked.first, path),
+        Call::PlaceAll => place_all(rt, charges, asked.first, path.copy(alloc)?),
+        Call::PlaceAllAlone => place_all_alone(charges, asked.first, path.copy(alloc)?),
+    };
+    Ok(answer)
+}

@@ -1,0 +1,351 @@
+//! Charges in a small heap: each allocation of each call refused.
+
+use crate::answers::Answer;
+use crate::calls::{Apart, Asked, Call, answer, ask};
+use crate::seen::{A, B, C, look};
+use linked_list_allocator::LocalHeap;
+use pids_charge::{ChargeFault, Charges, PlainMeter};
+use std::alloc::{AllocError, Global};
+use std::sync::Wait;
+use std::test::Fail;
+use std::thread::Threads;
+use test_support::{BLOCK_SIZE, Tried, all_but};
+
+/// A call, its path and its processes, what it answers where there is memory, and whether it asks for memory.
+type Row = (Call, &'static str, (u32, u32), Answer, bool);
+
+/// What the answer is beside the wanted one.
+fn compared(answer: Answer, wanted: Answer) -> Tried {
+    if answer == Answer::Refused(ChargeFault::OutOfMemory) {
+        Tried::Refused
+    } else if answer == wanted {
+        Tried::Answered
+    } else {
+        Tried::Other
+    }
+}
+
+/// How many refusals there are before the call is answered as wanted, as the room grows by a block at a time. Each leaves
+/// the heap, and all that can be read of the charges, as it was.
+fn refusals<'a, R: Threads + Wait + Sync>(
+    rt: &R,
+    alloc: Global,
+    heap: &'a LocalHeap,
+    charges: &mut Apart<&'a LocalHeap>,
+    asked: &Asked,
+    wanted: Answer,
+) -> Result<usize, Fail> {
+    let before = look(alloc, charges)?;
+    let mut blocks = all_but(alloc, heap, 0)?;
+    for room in 0..256usize {
+        let full = heap.used();
+        match compared(answer(rt, alloc, charges, asked)?, wanted) {
+            Tried::Answered => return Ok(room),
+            Tried::Refused if heap.used() == full && look(alloc, charges)? == before => (),
+            _ => return Err(Fail::new("a call left something changed")),
+        }
+        drop(blocks.pop());
+    }
+    Err(Fail::new("there is no answer in 4,096 bytes"))
+}
+
+/// Whether the call is answered as wanted in ample memory too, and all that can be read is the same then.
+fn is_alike<'a, R: Threads + Wait + Sync>(
+    rt: &R,
+    alloc: Global,
+    charges: &mut Apart<&'a LocalHeap>,
+    ample: &mut Apart<Global>,
+    asked: &Asked,
+    wanted: Answer,
+) -> Result<bool, Fail> {
+    let answer = answer(rt, alloc, ample, asked)?;
+    Ok(answer == wanted && look(alloc, charges)? == look(alloc, ample)?)
+}
+
+/// Makes the calls in turn, each until it is answered; which row is the first that goes otherwise.
+fn first_wrong<'a, R: Threads + Wait + Sync>(
+    rt: &R,
+    alloc: Global,
+    heap: &'a LocalHeap,
+    charges: &mut Apart<&'a LocalHeap>,
+    ample: &mut Apart<Global>,
+    rows: &[Row],
+) -> Result<Option<usize>, Fail> {
+    for i in 0..rows.len() {
+        let (call, text, pids, wanted, asks) = rows[i];
+        let asked = ask(alloc, call, text, pids)?;
+        let refused = refusals(rt, alloc, heap, charges, &asked, wanted)?;
+        if (refused > 0) != asks || !is_alike(rt, alloc, charges, ample, &asked, wanted)? {
+            return Ok(Some(i));
+        }
+    }
+    Ok(None)
+}
+
+/// Makes the calls in turn on new charges in a heap and on others in ample memory.
+fn each_refused<R: Threads + Wait + Sync>(
+    rt: &R,
+    alloc: Global,
+    rows: &[Row],
+) -> Result<Option<usize>, Fail> {
+    let heap = LocalHeap::new(alloc, 32_768)?;
+    let mut ample = Charges::new(alloc, PlainMeter::new(alloc)?)?;
+    let mut charges = Charges::new(&heap, PlainMeter::new(alloc)?)?;
+    first_wrong(rt, alloc, &heap, &mut charges, &mut ample, rows)
+}
+
+/// How many refusals there are before new charges are made over the heap, each of which leaves it as it was.
+fn refused_anew(alloc: Global, heap: &LocalHeap) -> Result<usize, Fail> {
+    let mut blocks = all_but(alloc, heap, 0)?;
+    for room in 0..512usize {
+        let full = heap.used();
+        match Charges::new(heap, PlainMeter::new(alloc)?) {
+            Ok(_charges) => return Ok(room),
+            Err(AllocError) if heap.used() == full => (),
+            Err(AllocError) => return Err(Fail::new("new charges left something")),
+        }
+        drop(blocks.pop());
+    }
+    Err(Fail::new("there are no charges in 8,192 bytes"))
+}
+
+/// The table of free slots takes two bytes for each of 1,024: the last refusal came with room for it, or for the table of
+/// processes before it.
+#[test]
+fn new(rt: HostRuntime) -> Result<(), Fail> {
+    let heap = LocalHeap::new(rt.alloc(), 32_768)?;
+    let refused = refused_anew(rt.alloc(), &heap)?;
+    assert!(rt; refused > 1024 * 2 / BLOCK_SIZE);
+    Ok(())
+}
+
+#[test]
+fn mkdir(rt: HostRuntime) -> Result<(), Fail> {
+    let rows = [
+        (
+            Call::Mkdir,
+            B,
+            (1, 2),
+            Answer::Refused(ChargeFault::NoGroup(1)),
+            false,
+        ),
+        (Call::Mkdir, A, (1, 2), Answer::Done, true),
+        (Call::Mkdir, B, (1, 2), Answer::Done, true),
+        (
+            Call::Mkdir,
+            A,
+            (1, 2),
+            Answer::Refused(ChargeFault::Exists),
+            false,
+        ),
+        (Call::Mkdir, C, (1, 2), Answer::Done, true),
+    ];
+    assert_eq!(rt; each_refused(&rt, rt.alloc(), &rows)?, None);
+    Ok(())
+}
+
+/// A removal asks for none, nor does one that is refused.
+#[test]
+fn rmdir(rt: HostRuntime) -> Result<(), Fail> {
+    let rows = [
+        (Call::Mkdir, A, (1, 2), Answer::Done, true),
+        (Call::Mkdir, B, (1, 2), Answer::Done, true),
+        (Call::Migrate, B, (1, 2), Answer::Moved(1, 1_00), true),
+        (
+            Call::Rmdir,
+            "/",
+            (1, 2),
+            Answer::Refused(ChargeFault::RootFixed),
+            false,
+        ),
+        (
+            Call::Rmdir,
+            C,
+            (1, 2),
+            Answer::Refused(ChargeFault::NoGroup(1)),
+            false,
+        ),
+        (
+            Call::Rmdir,
+            A,
+            (1, 2),
+            Answer::Refused(ChargeFault::HasChildren),
+            false,
+        ),
+        (
+            Call::Rmdir,
+            B,
+            (1, 2),
+            Answer::Refused(ChargeFault::HasProcesses),
+            false,
+        ),
+        (Call::Exit, "/", (1, 2), Answer::Left(50), false),
+        (Call::Rmdir, B, (1, 2), Answer::Done, false),
+        (Call::Rmdir, A, (1, 2), Answer::Done, false),
+    ];
+    assert_eq!(rt; each_refused(&rt, rt.alloc(), &rows)?, None);
+    Ok(())
+}
+
+/// What takes a removal back.
+#[test]
+fn restore(rt: HostRuntime) -> Result<(), Fail> {
+    let rows = [
+        (Call::Mkdir, A, (1, 2), Answer::Done, true),
+        (Call::Mkdir, B, (1, 2), Answer::Done, true),
+        (Call::Rmdir, B, (1, 2), Answer::Done, false),
+        (Call::Restore, B, (1, 2), Answer::Done, true),
+        (Call::Restore, C, (1, 2), Answer::Done, true),
+    ];
+    assert_eq!(rt; each_refused(&rt, rt.alloc(), &rows)?, None);
+    Ok(())
+}
+
+/// The peaks and the path of the parent's group are asked for.
+#[test]
+fn make_process(rt: HostRuntime) -> Result<(), Fail> {
+    let rows = [
+        (Call::Mkdir, A, (1, 2), Answer::Done, true),
+        (Call::Mkdir, B, (1, 2), Answer::Done, true),
+        (Call::Fork, "/", (1, 2), Answer::Peaks(1), false),
+        (Call::Fork, "/", (3, 4), Answer::NoProcess(3), false),
+        (Call::Migrate, B, (2, 2), Answer::Moved(1, 1_00), true),
+        (Call::Fork, "/", (2, 3), Answer::Peaks(1_11), true),
+        (Call::Fork, "/", (3, 4), Answer::Peaks(1_22), true),
+        (Call::Fork, "/", (2, 5), Answer::Peaks(1_33), true),
+        (Call::Fork, "/", (2, 6), Answer::Peaks(1_44), true),
+        (Call::Fork, "/", (2, 7), Answer::Peaks(1_55), true),
+        (Call::Fork, "/", (2, 8), Answer::Peaks(1_66), true),
+        (Call::Fork, "/", (2, 9), Answer::Peaks(1_77), true),
+        (Call::Fork, "/", (2, 10), Answer::Peaks(1_88), true),
+        (Call::Migrate, A, (3, 2), Answer::Moved(50, 1_9), true),
+        (Call::Fork, "/", (3, 11), Answer::Peaks(1_9), true),
+    ];
+    assert_eq!(rt; each_refused(&rt, rt.alloc(), &rows)?, None);
+    Ok(())
+}
+
+#[test]
+fn migrate(rt: HostRuntime) -> Result<(), Fail> {
+    let rows = [
+        (Call::Mkdir, A, (1, 2), Answer::Done, true),
+        (Call::Mkdir, B, (1, 2), Answer::Done, true),
+        (Call::Mkdir, C, (1, 2), Answer::Done, true),
+        (Call::Migrate, B, (1, 2), Answer::Moved(1, 1_00), true),
+        (Call::Migrate, B, (1, 2), Answer::Moved(50, 1_11), true),
+        (Call::Migrate, C, (1, 2), Answer::Moved(50, 1_0), true),
+        (Call::Migrate, "/", (1, 2), Answer::Moved(25, 1), false),
+        (
+            Call::Migrate,
+            "/d",
+            (1, 2),
+            Answer::Refused(ChargeFault::NoGroup(1)),
+            false,
+        ),
+        (Call::Migrate, A, (2, 2), Answer::NoProcess(2), false),
+    ];
+    assert_eq!(rt; each_refused(&rt, rt.alloc(), &rows)?, None);
+    Ok(())
+}
+
+/// What takes a move back: it asks for a path, and for no peaks.
+#[test]
+fn rehome(rt: HostRuntime) -> Result<(), Fail> {
+    let rows = [
+        (Call::Mkdir, A, (1, 2), Answer::Done, true),
+        (Call::Mkdir, "/d", (1, 2), Answer::Done, false),
+        (Call::Rehome, A, (1, 2), Answer::Left(1), true),
+        (Call::Rehome, "/d", (1, 2), Answer::Left(25), false),
+    ];
+    assert_eq!(rt; each_refused(&rt, rt.alloc(), &rows)?, None);
+    Ok(())
+}
+
+/// An end asks for none; what takes it back does.
+#[test]
+fn exit_and_place(rt: HostRuntime) -> Result<(), Fail> {
+    let rows = [
+        (Call::Mkdir, A, (1, 2), Answer::Done, true),
+        (Call::Mkdir, B, (1, 2), Answer::Done, true),
+        (Call::Fork, "/", (1, 2), Answer::Peaks(1), false),
+        (Call::Migrate, B, (2, 2), Answer::Moved(1, 1_00), true),
+        (Call::Exit, "/", (2, 2), Answer::Left(50), false),
+        (Call::Exit, "/", (2, 2), Answer::NoProcess(2), false),
+        (Call::Place, B, (2, 2), Answer::Done, true),
+        (Call::Exit, "/", (1, 2), Answer::Left(1), false),
+        (Call::Place, A, (1, 2), Answer::Done, true),
+    ];
+    assert_eq!(rt; each_refused(&rt, rt.alloc(), &rows)?, None);
+    Ok(())
+}
+
+/// Three processes are taken at once. The kill of a group without processes asks for no memory.
+#[test]
+fn kill(rt: HostRuntime) -> Result<(), Fail> {
+    let rows = [
+        (Call::Mkdir, A, (1, 2), Answer::Done, true),
+        (Call::Mkdir, B, (1, 2), Answer::Done, true),
+        (Call::Migrate, B, (1, 2), Answer::Moved(1, 1_00), true),
+        (Call::Fork, "/", (1, 2), Answer::Peaks(1_11), true),
+        (Call::Fork, "/", (1, 3), Answer::Peaks(1_22), true),
+        (
+            Call::Kill,
+            "/",
+            (1, 2),
+            Answer::Refused(ChargeFault::NoFile),
+            false,
+        ),
+        (
+            Call::Kill,
+            C,
+            (1, 2),
+            Answer::Refused(ChargeFault::NoGroup(1)),
+            false,
+        ),
+        (Call::Kill, A, (1, 2), Answer::Lost(1_123), true),
+        (Call::Kill, A, (1, 2), Answer::Lost(1), false),
+    ];
+    assert_eq!(rt; each_refused(&rt, rt.alloc(), &rows)?, None);
+    Ok(())
+}
+
+#[test]
+fn kill_alone(rt: HostRuntime) -> Result<(), Fail> {
+    let rows = [
+        (Call::Mkdir, A, (1, 2), Answer::Done, true),
+        (Call::Migrate, A, (1, 2), Answer::Moved(1, 1_0), true),
+        (Call::Fork, "/", (1, 2), Answer::Peaks(1_1), true),
+        (Call::KillAlone, A, (1, 2), Answer::Lost(1_12), true),
+        (Call::KillAlone, A, (1, 2), Answer::Lost(1), false),
+    ];
+    assert_eq!(rt; each_refused(&rt, rt.alloc(), &rows)?, None);
+    Ok(())
+}
+
+/// What takes a kill back asks for a list of charges too, one for each group along the path.
+#[test]
+fn place_all(rt: HostRuntime) -> Result<(), Fail> {
+    let rows = [
+        (Call::Mkdir, A, (1, 2), Answer::Done, true),
+        (Call::Mkdir, B, (1, 2), Answer::Done, true),
+        (Call::PlaceAll, B, (2, 2), Answer::Done, true),
+        (Call::Kill, A, (1, 2), Answer::Lost(1_2), true),
+        (Call::PlaceAll, A, (2, 2), Answer::Done, true),
+        (Call::PlaceAll, A, (2, 2), Answer::Nothing, false),
+    ];
+    assert_eq!(rt; each_refused(&rt, rt.alloc(), &rows)?, None);
+    Ok(())
+}
+
+#[test]
+fn place_all_alone(rt: HostRuntime) -> Result<(), Fail> {
+    let rows = [
+        (Call::Mkdir, A, (1, 2), Answer::Done, true),
+        (Call::Mkdir, B, (1, 2), Answer::Done, true),
+        (Call::PlaceAllAlone, B, (2, 2), Answer::Done, true),
+        (Call::KillAlone, A, (1, 2), Answer::Lost(1_2), true),
+        (Call::PlaceAllAlone, A, (2, 2), Answer::Done, true),
+    ];
+    assert_eq!(rt; each_refused(&rt, rt.alloc(), &rows)?, None);
+    Ok(())
+}

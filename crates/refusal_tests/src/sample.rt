@@ -1,0 +1,43 @@
+//! Charges of three groups and five processes, to be copied and read.
+
+use crate::answers::Answer;
+use crate::calls::{Apart, Call, answer, ask};
+use crate::seen::{A, B, C};
+use std::alloc::Global;
+use std::sync::Wait;
+use std::test::Fail;
+use std::thread::Threads;
+
+/// The calls that make them, with their answers: process 1 is in the root, 2 in `A`, 3 to 5 are in `B`. `C` has a limit.
+const CALLS: [(Call, &str, (u32, u32), Answer); 11] = [
+    (Call::Mkdir, A, (1, 2), Answer::Done),
+    (Call::Mkdir, B, (1, 2), Answer::Done),
+    (Call::Mkdir, C, (1, 2), Answer::Done),
+    (Call::Rmdir, C, (1, 2), Answer::Done),
+    (Call::Restore, C, (1, 2), Answer::Done),
+    (Call::Fork, "/", (1, 2), Answer::Peaks(1)),
+    (Call::Fork, "/", (1, 3), Answer::Peaks(1)),
+    (Call::Migrate, A, (2, 2), Answer::Moved(1, 1_0)),
+    (Call::Migrate, B, (3, 2), Answer::Moved(1, 1_01)),
+    (Call::Fork, "/", (3, 4), Answer::Peaks(1_12)),
+    (Call::Fork, "/", (3, 5), Answer::Peaks(1_23)),
+];
+
+/// Makes them of new charges.
+///
+/// # Errors
+///
+/// `Fail` where a call is answered otherwise.
+pub(crate) fn make_sample<R: Threads + Wait + Sync>(
+    rt: &R,
+    alloc: Global,
+    charges: &mut Apart<Global>,
+) -> Result<(), Fail> {
+    for (call, text, pids, wanted) in CALLS {
+        let asked = ask(alloc, call, text, pids)?;
+        if answer(rt, alloc, charges, &asked)? != wanted {
+            return Err(Fail::new(text));
+        }
+    }
+    Ok(())
+}
