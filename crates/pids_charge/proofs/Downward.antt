@@ -1,6 +1,6 @@
 -- What the groups on the way along a group's path have, and the charges at their slots.
-use Rattle.std.proofs.Common.{◌≡◌, ℕ, zero, suc, ◌+◌, ◌<◌, ◌≤◌, true, List, [], ◌∷◌, ◌++◌, length, take, drop, get_or, Option, Some, None, IsSome, refl, sym, ap, ◌∙◌, subst, arith, add-one}
-use Rattle.std.proofs.lemmas.Bool.{eq-eqb}
+use Rattle.std.proofs.Common.{◌≡◌, ℕ, zero, suc, ◌+◌, ◌<◌, ◌≤◌, ◌&&◌, true, false, cond, eqb, List, [], ◌∷◌, ◌++◌, length, take, drop, get_or, Option, Some, None, IsSome, refl, sym, ap, ◌∙◌, subst, arith, add-one}
+use Rattle.std.proofs.lemmas.Bool.{eq-eqb, ne_eqb}
 use Rattle.std.proofs.lemmas.List.{length-take-le}
 use Rattle.std.proofs.lemmas.List.Elements.{All-nil, All-cons, All-head, All-tail}
 use Rattle.std.proofs.lemmas.List.Sums.{sum_by-append}
@@ -14,7 +14,7 @@ use Rattle.group_tree.specs.declared.attr.Attr.{Attr}
 use Rattle.group_tree.proofs.Downward.{down-cons}
 use Rattle.snzi_core.specs.declared.event.Token.{Token}
 use Rattle.pids_charge.specs.Content.{Content, one_at, tokens_at}
-use Rattle.pids_charge.specs.Recount.{slot_at, chain_at, charges_at, SlotsBelow}
+use Rattle.pids_charge.specs.Recount.{slot_at, chain_at, charges_at, SlotsApart, SlotsBelow}
 
 -- one charge with the leaf at each of these
 abbrev pub charges_in : List Attr → ℕ → Content
@@ -105,6 +105,21 @@ at-down f (n ∷ p) (suc k) a r all e =
     let next = at-down (λ q. f (n ∷ q)) p k a r (rest f n p all) (e ∙ ap (drop (suc k)) d.2) in
     (next.0, next.1 ∙ sym (ap (drop (suc (suc k))) d.2))
 
+-- no charge is at a slot that no group has from the place k of the way on
+none-down : (f : Read) (p : Path) (k slot leaf j : ℕ) → HasAll f p → ((m : ℕ) → k ≤ m → m < length p → eqb (slot_of (f (take (suc m) p))) slot ≡ false) → charges_in (drop k (down f p)) leaf slot j ≡ 0
+none-down f [] zero slot leaf j all h = refl
+none-down f [] (suc k) slot leaf j all h = refl
+none-down f (n ∷ p) zero slot leaf j all h =
+    let d = first f n p all in
+    let away : eqb d.0.slot slot ≡ false = ap (λ (o : Option Attr). eqb (slot_of o) slot) (sym d.1) ∙ h 0 (omega arith) (omega arith) in
+    let more = ap (λ attrs. charges_in attrs leaf slot j) d.2 in
+    let gone : one_at d.0.slot leaf slot j ≡ 0 = ap (λ b. cond (b && eqb leaf j) 1 0) away in
+    omega (arith, more, gone, none-down (λ q. f (n ∷ q)) p zero slot leaf j (rest f n p all) (λ m from below. h (suc m) (omega arith) (omega (arith, below))))
+none-down f (n ∷ p) (suc k) slot leaf j all h =
+    let d = first f n p all in
+    ap (λ attrs. charges_in (drop (suc k) attrs) leaf slot j) d.2
+    ∙ none-down (λ q. f (n ∷ q)) p k slot leaf j (rest f n p all) (λ m from below. h (suc m) (omega (arith, from)) (omega (arith, below)))
+
 chain_by-is : (tree : Groups) (p : Path) (leaf s j k : ℕ) → chain_by (fin.get tree) p k leaf s j ≡ chain_at tree p k leaf s j
 chain_by-is tree p leaf s j zero = refl
 chain_by-is tree p leaf s j (suc k) = ap (λ n. n + one_at (slot_at tree (take (suc k) p)) leaf s j) (chain_by-is tree p leaf s j k)
@@ -127,3 +142,15 @@ module _ (tree : Groups) (p : Path) (home : IsSome (fin.get tree p)) (prefixes :
 
   pub at-along : (n : ℕ) (a : Attr) (r : List Attr) → a ∷ r ≡ drop n (along_of tree p) → (fin.get tree (take (n + 1) p) ≡ Some a) × (r ≡ drop (n + 1) (along_of tree p))
   at-along n a r e = rw (add-one n) (at-down (fin.get tree) p n a r all_there e)
+
+  -- groups further down have other slots
+  pub none-behind : SlotsApart tree → (n : ℕ) (a : Attr) (r : List Attr) → a ∷ r ≡ drop n (along_of tree p) → (leaf j : ℕ) → charges_in r leaf a.slot j ≡ 0
+  none-behind apart n a r e leaf j =
+      let at = rw (add-one n) at (at-along n a r e) in
+      let other = λ (m : ℕ) (from : suc n ≤ m) (below : m < length p).
+      let long = length-take-le (suc m) p (omega (arith, below)) in
+      let short = length-take-le (suc n) p (omega (arith, from, below)) in
+      ne_eqb (slot_at tree (take (suc m) p)) a.slot (λ same.
+      let one = apart (take (suc m) p) (take (suc n) p) (omega (arith, long)) (omega (arith, short)) (all_there m below) (all_there n (omega (arith, from, below))) (same ∙ sym (ap slot_of at.0)) in
+      omega (arith, ap length one, long, short, from)) in
+      ap (λ (attrs : List Attr). charges_in attrs leaf a.slot j) at.1 ∙ none-down (fin.get tree) p (suc n) a.slot leaf j all_there other

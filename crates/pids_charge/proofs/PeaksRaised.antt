@@ -1,17 +1,15 @@
 -- Peaks along a path, as they are and as they rise.
-use Rattle.std.proofs.Common.{◌≡◌, ℕ, ◌-◌, ◌<◌, true, false, cond, List, [], ◌++◌, length, get_or, take, drop, Option, is_some, Some, None, IsSome, option_map, refl, sym, ap, ◌∙◌, arith}
+use Rattle.std.proofs.Common.{◌≡◌, ℕ, ◌-◌, ◌<◌, true, false, cond, List, ◌++◌, length, get_or, take, drop, Option, Some, None, IsSome, option_map, refl, sym, ap, ◌∙◌, arith}
 use Rattle.std.specs.Prelude.{max, unwrap_or}
 use Rattle.std.proofs.Math.Seq.{take-append_seam}
 use Rattle.std.proofs.lemmas.Grind.{same_number_lists, get_or_default_zero}
 use Rattle.std.specs.FinMap as fin
-use Rattle.std.specs.Cmp.{nat_cmp_total}
 use Rattle.flat_model.specs.Path.{Path, at_or_below, is_root}
 use Rattle.flat_model.specs.State as flat
 use Rattle.flat_model.specs.State.{State, fresh}
-use Rattle.flat_model.specs.Counts.{current, has_process}
-use Rattle.flat_model.specs.Step.{counts_for, home_of, raise_peak, raise_peaks, peaks_upward}
+use Rattle.flat_model.specs.Counts.{current}
+use Rattle.flat_model.specs.Step.{counts_for, raise_peak, raise_peaks, peaks_upward}
 use Rattle.flat_model.proofs.MapValues.{get-map_values}
-use Rattle.flat_model.proofs.Maps.{get-own}
 use Rattle.flat_model.proofs.PathLaws.{at_or_below_take, at_or_below_length}
 use Rattle.flat_model.proofs.Peaks.{both_by, named, peak_upward, length-peaks_upward}
 use Rattle.group_tree.specs.Flat.{group_of}
@@ -21,8 +19,10 @@ use Rattle.group_tree.specs.declared.attr.Attr.{Attr}
 use Rattle.pids_charge.specs.Content.{Content, over_leaves}
 use Rattle.pids_charge.specs.Lists.{Row}
 use Rattle.pids_charge.specs.Peaks.{peak_of, reached_of, raised_by, AreUpward}
-use Rattle.pids_charge.specs.Recount.{Recounted, HasSlots, state_of}
+use Rattle.pids_charge.specs.Recount.{Recounted, HasSlots, SameSlots, state_of}
+use Rattle.pids_charge.proofs.Changes.{charges_stay}
 use Rattle.pids_charge.proofs.Counted.{current-is}
+use Rattle.pids_charge.proofs.Totals.{flat_changed}
 
 -- ---- one group of the way
 
@@ -105,20 +105,25 @@ module _ {A : Type 0} (slots leaves : ℕ) (tree : Groups) (es : List (Row A)) (
         | false ↦ λ c. refl
       ] refl
 
--- ---- a process that has come to a group
+-- ---- the tree once peaks have risen
 
-module _ (s t : State) (pid : ℕ) (q p : Path) (come : t ≡ record s { home = fin.insert s.home pid q }) (same : q ≡ p) where
-  pub home_come : home_of t pid ≡ p
-  home_come = ap (λ (u : State). home_of u pid) come ∙ ap (λ (o : Option Path). unwrap_or o []) (get-own nat_cmp_total fin.nat_cmp-IsAntisymmetric s.home pid q) ∙ same
+module _ {A : Type 0} (slots leaves : ℕ) (tree new : Groups) (es : List (Row A)) (final content : Content) (held : ℕ) (d : Recounted leaves tree es final held) (same : SameSlots tree new) where
+  -- a meter that holds the same at each slot and leaf
+  pub raised_recounted : ((s j : ℕ) → content s j ≡ final s j) → Recounted leaves new es content held
+  raised_recounted alike =
+      let stays = charges_stay tree new same leaves es final held d in
+      record {
+        ordered = stays.ordered;
+        pids_below = stays.pids_below;
+        placed = stays.placed;
+        counted = λ s j. alike s j ∙ stays.counted s j;
+        held_is = stays.held_is;
+      }
 
-  pub is_come : has_process t pid ≡ true
-  is_come = ap (λ (u : State). has_process u pid) come ∙ ap is_some (get-own nat_cmp_total fin.nat_cmp-IsAntisymmetric s.home pid q)
-
-  pub raised_come : raise_peaks (home_of t pid) t ≡ raise_peaks p (record s { home = fin.insert s.home pid p })
-  raised_come = (λ i. raise_peaks (home_come i) (come i)) ∙ ap (λ (x : Path). raise_peaks p (record s { home = fin.insert s.home pid x })) same
-
-  pub peaks_come : peaks_upward t (home_of t pid) ≡ peaks_upward s p
-  peaks_come = (λ i. peaks_upward (come i) (home_come i))
+  pub raised_state : (free : List ℕ) → HasSlots slots tree free → ((p q : Path) → IsSome (fin.get tree p) → at_or_below p q ≡ true → IsSome (fin.get tree q)) → (p : Path) → ((q : Path) → fin.get new q ≡ option_map (raised_by leaves final p q) (fin.get tree q)) → state_of new es ≡ raise_peaks p (state_of tree es)
+  raised_state free h prefixes p raised =
+      let s : State = state_of tree es in
+      flat_changed (raised_by leaves final p) tree new raised (raise_peak s p) (raised-is slots leaves tree es final held d free h prefixes p) s.home
 
 -- a slice that was lent whole stands in the list whole
 pub lent_whole : (ns new : List ℕ) (n : ℕ) → n ≡ length new → take n (new ++ drop (length new) ns) ≡ new

@@ -31,6 +31,14 @@ charges_at tree p leaf = chain_at tree p (length p) leaf
 abbrev pub SlotsBelow : ℕ → Groups → Type 0
 SlotsBelow slots tree = (p : Path) → 0 < length p → IsSome (fin.get tree p) → slot_at tree p < slots
 
+-- groups beside the root have slots of their own
+abbrev pub SlotsApart : Groups → Type 0
+SlotsApart tree = (p q : Path) → 0 < length p → 0 < length q → IsSome (fin.get tree p) → IsSome (fin.get tree q) → slot_at tree p ≡ slot_at tree q → p ≡ q
+
+-- what a meter holds with the charges of one process more
+abbrev pub with_charges : Groups → Path → ℕ → Content → Content
+with_charges tree p leaf content s j = content s j + charges_at tree p leaf s j
+
 -- each slot below the number is free, once
 pub record AreAllFree (slots : ℕ) (free : List ℕ) : Type 0 where
   pub once : (s : ℕ) → count_by (eqb s) free ≤ 1
@@ -43,7 +51,7 @@ pub record HasSlots (slots : ℕ) (tree : Groups) (free : List ℕ) : Type 0 whe
   pub closed : IsClosed tree
   pub shallow : (p : Path) → IsSome (fin.get tree p) → length p ≤ 32
   pub below : SlotsBelow slots tree
-  pub apart : (p q : Path) → 0 < length p → 0 < length q → IsSome (fin.get tree p) → IsSome (fin.get tree q) → slot_at tree p ≡ slot_at tree q → p ≡ q
+  pub apart : SlotsApart tree
   pub once : (s : ℕ) → count_by (eqb s) free ≤ 1
   pub in_range : (s : ℕ) → slots ≤ s → count_by (eqb s) free ≡ 0
   pub unused : (p : Path) → 0 < length p → IsSome (fin.get tree p) → count_by (eqb (slot_at tree p)) free ≡ 0

@@ -118,7 +118,7 @@ impl<A: Allocator + Clone, M: Meter> Charges<A, M> {
 
     /// Makes a process that `fork` would not refuse, in the group of its parent, charged at the leaf of `who`, and raises the
     /// peaks of that group and of those above it but the root. The peaks that they had are answered, from the group upward.
-    /// Costs two descents of the tree, and a third where a peak rises.
+    /// Costs one descent of the tree, and a second where a peak rises.
     ///
     /// # Errors
     ///
@@ -147,12 +147,9 @@ impl<A: Allocator + Clone, M: Meter> Charges<A, M> {
         let Ok(home) = process.home.copy(alloc) else {
             return Err(ChargeFault::OutOfMemory);
         };
-        match self.settle_in(who, child, home) {
+        match self.come(who, child, home, earlier.as_mut_slice()) {
             Err(fault) => Err(fault),
-            Ok(()) => {
-                self.raise_peaks(child, earlier.as_mut_slice());
-                Ok(Peaks::of(earlier))
-            }
+            Ok(()) => Ok(Peaks::of(earlier)),
         }
     }
 
@@ -173,9 +170,9 @@ impl<A: Allocator + Clone, M: Meter> Charges<A, M> {
     }
 
     /// Makes a process in the group of its parent, charged at the leaf of `who`, and raises the peaks of that group and of
-    /// those above it but the root. The peaks that they had are answered, from the group upward. Costs three descents of the
-    /// tree, and a fourth where a peak rises: one asks the limits, all up to the root, one charges, and one sees the peaks. A
-    /// refusal costs two: the second counts it.
+    /// those above it but the root. The peaks that they had are answered, from the group upward. Costs two descents of the tree,
+    /// and a third where a peak rises: one asks the limits, all up to the root, and one charges and sees the peaks. A refusal
+    /// costs two: the second counts it.
     ///
     /// # Errors
     ///

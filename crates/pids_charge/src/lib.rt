@@ -39,6 +39,7 @@
 mod alone;
 mod charges;
 mod children;
+mod coming;
 mod copy;
 mod exit;
 mod fault;

@@ -28,9 +28,9 @@ pub struct Shifted<A: Allocator + Clone> {
 impl<A: Allocator + Clone, M: Meter> Charges<A, M> {
     /// Moves a process to the group, where it is charged at the leaf of `who`, and raises the peaks of the group and of those
     /// above it but the root, once it is there. Its old group is answered, the path that the table had, and the peaks that
-    /// the groups along the new path had. No limit is asked. Costs four descents of the tree, and a fifth where a peak rises:
-    /// one sees that the group is there, one takes the charges along the old path, one makes those along the new, and one
-    /// sees the peaks.
+    /// the groups along the new path had. No limit is asked. Costs three descents of the tree, and a fourth where a peak rises:
+    /// one sees that the group is there, one takes the charges along the old path, and one makes those along the new and sees
+    /// the peaks.
     ///
     /// # Errors
     ///
@@ -55,15 +55,12 @@ impl<A: Allocator + Clone, M: Meter> Charges<A, M> {
         let Ok(mut earlier) = room_for_peaks(&self.alloc, path) else {
             return Err(ChargeFault::OutOfMemory);
         };
-        match self.rehome(who, pid, path) {
+        match self.come_over(who, pid, path, earlier.as_mut_slice()) {
             Err(fault) => Err(fault),
-            Ok(old) => {
-                self.raise_peaks(pid, earlier.as_mut_slice());
-                Ok(Shifted {
-                    path: old,
-                    peaks: Peaks::of(earlier),
-                })
-            }
+            Ok(old) => Ok(Shifted {
+                path: old,
+                peaks: Peaks::of(earlier),
+            }),
         }
     }
 

@@ -1,19 +1,16 @@
 //! The peaks of groups: raised along a path as a process comes, and set again.
 
-ghost use Rattle.std.specs.Prelude.{◌≡◌, ℕ, ◌<◌, ◌≤◌, false, true, length, get_or, IfOk, IsSome, option_map};
+ghost use Rattle.std.specs.Prelude.{◌≡◌, ℕ, ◌+◌, ◌<◌, ◌≤◌, false, length, get_or, IfOk, IsSome, option_map};
 ghost use Rattle.std.specs.FinMap as fin;
 ghost use Rattle.std.specs.Ordering.{nat_cmp};
 ghost use Rattle.flat_model.specs.Path.{Path};
-ghost use Rattle.flat_model.specs.Counts.{has_process};
 ghost use Rattle.flat_model.specs.Step as flat;
-ghost use Rattle.flat_model.specs.Step.{home_of, raise_peaks, peaks_upward};
 ghost use Rattle.pids_charge.specs.Events.{flat_of};
 ghost use Rattle.pids_charge.specs.Peaks.{peak_of, reached_of, raised_by, AreUpward};
-ghost use Rattle.pids_charge.specs.Recount.{SlotsBelow, SameSlots};
+ghost use Rattle.pids_charge.specs.Recount.{SlotsApart, SlotsBelow, SameSlots, with_charges};
 
 use crate::charges::Charges;
-use crate::meter::Meter;
-use crate::pid::Pid;
+use crate::meter::{HELD_MAX, Meter};
 use group_path::GroupPath;
 use group_tree::GroupTree;
 use std::alloc::{AllocError, Allocator};
@@ -75,29 +72,35 @@ pub(crate) fn room_for_peaks<A: Allocator + Clone, B: Allocator + Clone>(
     Ok(vec![in alloc.clone()?; 0; path.depth()]?)
 }
 
-// Notes the peak of each group along the path, and the one that it rises to: no lower than its count. Whether one rises.
-fn note_peaks<T: Allocator, M: Meter, A: Allocator + Clone>(
+// One charge at each group along the path; notes the peak of each, and the one that it rises to: no lower than its count.
+// Whether one rises.
+fn charge_and_note<T: Allocator, M: Meter, A: Allocator + Clone>(
     tree: &GroupTree<T>,
     meter: &mut M,
     path: &GroupPath<A>,
+    leaf: u8,
     earlier: &mut [u64],
     raised: &mut [u64],
 ) -> bool
+    requires leaf_below { leaf < M.LEAVES }
     requires home { IsSome (fin.get tree.now path.now) }
     requires slots { SlotsBelow M.SLOTS tree.now }
+    requires apart { SlotsApart tree.now }
+    requires room { M.held meter.old + length path.now ≤ HELD_MAX }
     requires many_earlier { length earlier.old ≡ length path.now }
     requires many_raised { length raised.old ≡ length path.now }
+    ensures content { (s j : ℕ) → M.content meter.new s j ≡ with_charges tree.now path.now leaf (M.content meter.old) s j }
+    ensures held { M.held meter.new ≡ M.held meter.old + length path.now }
     ensures earlier { AreUpward peak_of tree.now path.now earlier.new }
-    ensures raised { AreUpward (reached_of M.LEAVES (M.content meter.old)) tree.now path.now raised.new }
+    ensures raised { AreUpward (reached_of M.LEAVES (with_charges tree.now path.now leaf (M.content meter.old))) tree.now path.now raised.new }
     ensures rises { result ≡ false → (k : ℕ) → k < length path.now → get_or raised.new k 0 ≡ get_or earlier.new k 0 }
-    ensures content { M.content meter.new ≡ M.content meter.old }
-    ensures held { M.held meter.new ≡ M.held meter.old }
 {
     tree.known();
     let mut rises = false;
-    let mut n = path.depth();
+    let mut n = earlier.len();
     for attr in tree.along(path) {
         n -= 1;
+        meter.charge(attr.slot, leaf);
         let count = meter.current(attr.slot);
         earlier[n] = attr.peak;
         raised[n] = attr.peak.max(count);
@@ -108,28 +111,32 @@ fn note_peaks<T: Allocator, M: Meter, A: Allocator + Clone>(
     rises
 }
 
-// Raises the peaks of the groups along the path to their counts, where they are lower. The peaks that they had are noted. It
-// goes down once, and once more where a peak rises.
-fn raise_along<T: Allocator, M: Meter, A: Allocator + Clone>(
+// One charge at each group along the path, whose peaks rise to their counts where they are lower. The peaks that they had are
+// noted. It goes down once, and once more where a peak rises.
+pub(crate) fn charge_and_raise<T: Allocator, M: Meter, A: Allocator + Clone>(
     tree: &mut GroupTree<T>,
     meter: &mut M,
     path: &GroupPath<A>,
+    leaf: u8,
     earlier: &mut [u64],
 )
+    requires leaf_below { leaf < M.LEAVES }
     requires home { IsSome (fin.get tree.old path.now) }
     requires slots { SlotsBelow M.SLOTS tree.old }
+    requires apart { SlotsApart tree.old }
+    requires room { M.held meter.old + length path.now ≤ HELD_MAX }
     requires shallow { length path.now ≤ 32 }
     requires many { length earlier.old ≡ length path.now }
-    ensures raised { (q : Path) → fin.get tree.new q ≡ option_map (raised_by M.LEAVES (M.content meter.old) path.now q) (fin.get tree.old q) }
+    ensures content { (s j : ℕ) → M.content meter.new s j ≡ with_charges tree.old path.now leaf (M.content meter.old) s j }
+    ensures held { M.held meter.new ≡ M.held meter.old + length path.now }
+    ensures raised { (q : Path) → fin.get tree.new q ≡ option_map (raised_by M.LEAVES (with_charges tree.old path.now leaf (M.content meter.old)) path.now q) (fin.get tree.old q) }
     ensures earlier { AreUpward peak_of tree.old path.now earlier.new }
     ensures slots { SameSlots tree.old tree.new }
-    ensures content { M.content meter.new ≡ M.content meter.old }
-    ensures held { M.held meter.new ≡ M.held meter.old }
 {
     let mut table = [0; 32];
-    let raised = &mut table[..path.depth()];
+    let raised = &mut table[..earlier.len()];
     tree.known();
-    if !note_peaks(tree, meter, path, earlier, raised) {
+    if !charge_and_note(tree, meter, path, leaf, earlier, raised) {
         return;
     }
     tree.set_peaks(path, raised);
@@ -151,21 +158,6 @@ fn set_along<T: Allocator, A: Allocator + Clone>(
 }
 
 impl<A: Allocator + Clone, M: Meter> Charges<A, M> {
-    // Raises the peaks of the group of a process that has come to it, and of the groups above it but the root. Where a peak
-    // is no lower than the group's count it stays. The peaks that they had are noted.
-    pub(crate) fn raise_peaks(&mut self, pid: Pid, earlier: &mut [u64])
-        requires process { has_process self.old pid ≡ true }
-        requires many { length earlier.old ≡ length (home_of self.old pid) }
-        ensures raised { self.new ≡ raise_peaks (home_of self.old pid) self.old }
-        ensures earlier { earlier.new ≡ peaks_upward self.old (home_of self.old pid) }
-    {
-        let Some(process) = self.processes.get(&pid) else {
-            unreachable!()
-        };
-        self.tree.known();
-        raise_along(&mut self.tree, &mut self.meter, &process.home, earlier);
-    }
-
     /// Sets the peaks of the group at the path and of the groups above it, the root left out: one for each name of the path,
     /// from the group upward. It asks nothing of the counts: a caller that gives no peak that is lower than its group's
     /// count leaves none so. It takes no memory, and costs one descent of the tree.
