@@ -1,21 +1,22 @@
-//! What calls on charges answer, as values that a table can hold.
+//! What calls on charges answer, as values that a table can hold, and whether an answer is the wanted one.
 
 use group_path::GroupPath;
-use pids_charge::{ChargeFault, LostList, Peaks, Shifted};
+use pids_charge::{ChargeFault, Lost, LostList, Peaks, Shifted};
 use std::alloc::Allocator;
+use test_support::Tried;
 
 /// What a call answers.
-#[derive(Clone, Copy, PartialEq, Eq)]
-pub(crate) enum Answer {
+#[derive(Clone, Copy)]
+pub(crate) enum Answer<'r> {
     Done,
-    /// The digits of the peaks that were there, from the group upward, behind a 1.
-    Peaks(u64),
-    /// So many bytes has the path of the old group, and the peaks that were there along the new one.
-    Moved(usize, u64),
-    /// So many bytes has the path of the old group.
+    /// The peaks that were there, from the group upward.
+    Peaks(&'r [u64]),
+    /// How many bytes the path of the old group has, and the peaks that were there along the new one.
+    Moved(usize, &'r [u64]),
+    /// How many bytes the path of the old group has.
     Left(usize),
-    /// The digits of the processes that were taken, behind a 1.
-    Lost(u64),
+    /// The processes that were taken, in order.
+    Lost(&'r [u32]),
     /// There is no process of that number.
     NoProcess(u32),
     Refused(ChargeFault),
@@ -23,65 +24,99 @@ pub(crate) enum Answer {
     Nothing,
 }
 
-pub(crate) fn refused(fault: ChargeFault) -> Answer {
+/// What a call came to that was answered, as wanted or not.
+pub(crate) fn tried(is_wanted: bool) -> Tried {
+    if is_wanted {
+        Tried::Answered
+    } else {
+        Tried::Other
+    }
+}
+
+pub(crate) fn refused(fault: ChargeFault, wanted: &Answer<'_>) -> Tried {
     match fault {
-        ChargeFault::NoProcess(pid) => Answer::NoProcess(pid.get()),
-        _ => Answer::Refused(fault),
+        ChargeFault::OutOfMemory => Tried::Refused,
+        ChargeFault::NoProcess(pid) => match wanted {
+            Answer::NoProcess(number) => tried(pid.get() == *number),
+            _ => Tried::Other,
+        },
+        _ => match wanted {
+            Answer::Refused(other) => tried(fault == *other),
+            _ => Tried::Other,
+        },
     }
 }
 
-pub(crate) fn done(made: Result<(), ChargeFault>) -> Answer {
+pub(crate) fn done(made: Result<(), ChargeFault>, wanted: &Answer<'_>) -> Tried {
     match made {
-        Ok(()) => Answer::Done,
-        Err(fault) => refused(fault),
+        Ok(()) => match wanted {
+            Answer::Done => Tried::Answered,
+            _ => Tried::Other,
+        },
+        Err(fault) => refused(fault, wanted),
     }
 }
 
-fn digits<A: Allocator + Clone>(peaks: &Peaks<A>) -> u64 {
-    let mut number = 1u64;
-    for peak in peaks.as_slice() {
-        number = number.saturating_mul(10).saturating_add(*peak);
-    }
-    number
-}
-
-pub(crate) fn peaks_answered<A: Allocator + Clone>(made: Result<Peaks<A>, ChargeFault>) -> Answer {
+pub(crate) fn peaks_answered<A: Allocator + Clone>(
+    made: Result<Peaks<A>, ChargeFault>,
+    wanted: &Answer<'_>,
+) -> Tried {
     match made {
-        Ok(peaks) => Answer::Peaks(digits(&peaks)),
-        Err(fault) => refused(fault),
+        Ok(peaks) => match wanted {
+            Answer::Peaks(list) => tried(peaks.as_slice() == *list),
+            _ => Tried::Other,
+        },
+        Err(fault) => refused(fault, wanted),
     }
 }
 
 pub(crate) fn move_answered<A: Allocator + Clone>(
     moved: Result<Shifted<A>, ChargeFault>,
-) -> Answer {
+    wanted: &Answer<'_>,
+) -> Tried {
     match moved {
-        Ok(moved) => Answer::Moved(moved.path.text().len(), digits(&moved.peaks)),
-        Err(fault) => refused(fault),
+        Ok(moved) => match wanted {
+            Answer::Moved(len, peaks) => {
+                tried(moved.path.text().len() == *len && moved.peaks.as_slice() == *peaks)
+            }
+            _ => Tried::Other,
+        },
+        Err(fault) => refused(fault, wanted),
     }
 }
 
 pub(crate) fn path_answered<A: Allocator + Clone>(
     left: Result<GroupPath<A>, ChargeFault>,
-) -> Answer {
+    wanted: &Answer<'_>,
+) -> Tried {
     match left {
-        Ok(path) => Answer::Left(path.text().len()),
-        Err(fault) => refused(fault),
+        Ok(path) => match wanted {
+            Answer::Left(len) => tried(path.text().len() == *len),
+            _ => Tried::Other,
+        },
+        Err(fault) => refused(fault, wanted),
     }
+}
+
+/// Whether these are the processes that were taken.
+fn are_lost<A: Allocator + Clone>(list: &[Lost<A>], numbers: &[u32]) -> bool {
+    for (lost, number) in list.iter().zip(numbers.iter()) {
+        if lost.pid.get() != *number {
+            return false;
+        }
+    }
+    list.len() == numbers.len()
 }
 
 pub(crate) fn lost_answered<A: Allocator + Clone>(
     taken: Result<LostList<A>, ChargeFault>,
-) -> Answer {
-    let list = match taken {
-        Ok(list) => list,
-        Err(fault) => return refused(fault),
-    };
-    let mut number = 1u64;
-    for lost in list.as_slice() {
-        number = number
-            .saturating_mul(10)
-            .saturating_add(u64::from(lost.pid.get()));
+    wanted: &Answer<'_>,
+) -> Tried {
+    match taken {
+        Ok(list) => match wanted {
+            Answer::Lost(numbers) => tried(are_lost(list.as_slice(), numbers)),
+            _ => Tried::Other,
+        },
+        Err(fault) => refused(fault, wanted),
     }
-    Answer::Lost(number)
 }

@@ -10,7 +10,7 @@ use std::alloc::{AllocError, Allocator, Global};
 use std::sync::Wait;
 use std::test::Fail;
 use std::thread::Threads;
-use test_support::path;
+use test_support::{Tried, path};
 
 /// Charges whose groups and processes lie in any memory, and their meter apart.
 pub(crate) type Apart<A> = Charges<A, PlainMeter<Global>>;
@@ -70,25 +70,46 @@ pub(crate) fn ask(
     })
 }
 
-fn rmdir<A: Allocator + Clone>(charges: &mut Apart<A>, path: &GroupPath<Global>) -> Answer {
-    match charges.rmdir(path) {
-        Ok(_attr) => Answer::Done,
-        Err(fault) => refused(fault),
+/// A call that may not be made.
+fn nothing(wanted: &Answer<'_>) -> Tried {
+    match wanted {
+        Answer::Nothing => Tried::Answered,
+        _ => Tried::Other,
     }
 }
 
-fn restore<A: Allocator + Clone>(charges: &mut Apart<A>, path: &GroupPath<Global>) -> Answer {
+fn rmdir<A: Allocator + Clone>(
+    charges: &mut Apart<A>,
+    path: &GroupPath<Global>,
+    wanted: &Answer<'_>,
+) -> Tried {
+    match charges.rmdir(path) {
+        Ok(_attr) => done(Ok(()), wanted),
+        Err(fault) => refused(fault, wanted),
+    }
+}
+
+fn restore<A: Allocator + Clone>(
+    charges: &mut Apart<A>,
+    path: &GroupPath<Global>,
+    wanted: &Answer<'_>,
+) -> Tried {
     let attr = Attr::new(0).with_limit(LimitFile::PidsMax, Limit::At(7));
     match charges.refuses_mkdir(path) {
-        None => done(charges.restore(path, attr)),
-        Some(fault) => refused(fault),
+        None => done(charges.restore(path, attr), wanted),
+        Some(fault) => refused(fault, wanted),
     }
 }
 
-fn fork<A: Allocator + Clone>(charges: &mut Apart<A>, parent: Pid, child: Pid) -> Answer {
+fn fork<A: Allocator + Clone>(
+    charges: &mut Apart<A>,
+    parent: Pid,
+    child: Pid,
+    wanted: &Answer<'_>,
+) -> Tried {
     match charges.refuses_fork(parent, child) {
-        None => peaks_answered(charges.make_process(0, parent, child)),
-        Some(fault) => refused(fault),
+        None => peaks_answered(charges.make_process(0, parent, child), wanted),
+        Some(fault) => refused(fault, wanted),
     }
 }
 
@@ -96,22 +117,24 @@ fn rehome<A: Allocator + Clone>(
     charges: &mut Apart<A>,
     pid: Pid,
     path: &GroupPath<Global>,
-) -> Answer {
+    wanted: &Answer<'_>,
+) -> Tried {
     if charges.attr(path).is_none() || charges.home(pid).is_none() {
-        return Answer::Nothing;
+        return nothing(wanted);
     }
-    path_answered(charges.rehome(0, pid, path))
+    path_answered(charges.rehome(0, pid, path), wanted)
 }
 
 fn place<A: Allocator + Clone>(
     charges: &mut Apart<A>,
     pid: Pid,
     path: &GroupPath<Global>,
-) -> Answer {
+    wanted: &Answer<'_>,
+) -> Tried {
     if charges.attr(path).is_none() || charges.home(pid).is_some() {
-        return Answer::Nothing;
+        return nothing(wanted);
     }
-    done(charges.place(0, pid, path))
+    done(charges.place(0, pid, path), wanted)
 }
 
 fn place_all<R: Threads + Wait + Sync, A: Allocator + Clone>(
@@ -119,45 +142,52 @@ fn place_all<R: Threads + Wait + Sync, A: Allocator + Clone>(
     charges: &mut Apart<A>,
     pid: Pid,
     path: GroupPath<Global>,
-) -> Answer {
+    wanted: &Answer<'_>,
+) -> Tried {
     if charges.attr(&path).is_none() || charges.home(pid).is_some() {
-        return Answer::Nothing;
+        return nothing(wanted);
     }
-    done(charges.place_all(rt, &OpenGate, 0, &[Lost { pid, path }]))
+    done(
+        charges.place_all(rt, &OpenGate, 0, &[Lost { pid, path }]),
+        wanted,
+    )
 }
 
 fn place_all_alone<A: Allocator + Clone>(
     charges: &mut Apart<A>,
     pid: Pid,
     path: GroupPath<Global>,
-) -> Answer {
+    wanted: &Answer<'_>,
+) -> Tried {
     if charges.attr(&path).is_none() || charges.home(pid).is_some() {
-        return Answer::Nothing;
+        return nothing(wanted);
     }
-    done(charges.place_all_alone(0, &[Lost { pid, path }]))
+    done(charges.place_all_alone(0, &[Lost { pid, path }]), wanted)
 }
 
-/// Makes the call.
+/// Makes the call, and tells what it came to beside the wanted answer.
 pub(crate) fn answer<R: Threads + Wait + Sync, A: Allocator + Clone>(
     rt: &R,
     alloc: Global,
     charges: &mut Apart<A>,
     asked: &Asked,
-) -> Result<Answer, AllocError> {
+    wanted: &Answer<'_>,
+) -> Result<Tried, AllocError> {
     let path = &asked.path;
-    let answer = match asked.call {
-        Call::Mkdir => done(charges.mkdir(path)),
-        Call::Rmdir => rmdir(charges, path),
-        Call::Restore => restore(charges, path),
-        Call::Fork => fork(charges, asked.first, asked.second),
-        Call::Exit => path_answered(charges.exit(0, asked.first)),
-        Call::Migrate => move_answered(charges.migrate(0, asked.first, path)),
-        Call::Rehome => rehome(charges, asked.first, path),
-        Call::Kill => lost_answered(charges.kill(rt, &OpenGate, 0, path)),
-        Call::KillAlone => lost_answered(charges.kill_alone(0, path)),
-        Call::Place => place(charges, asked.first, path),
-        Call::PlaceAll => place_all(rt, charges, asked.first, path.copy(alloc)?),
-        Call::PlaceAllAlone => place_all_alone(charges, asked.first, path.copy(alloc)?),
+    let (first, second) = (asked.first, asked.second);
+    let tried = match asked.call {
+        Call::Mkdir => done(charges.mkdir(path), wanted),
+        Call::Rmdir => rmdir(charges, path, wanted),
+        Call::Restore => restore(charges, path, wanted),
+        Call::Fork => fork(charges, first, second, wanted),
+        Call::Exit => path_answered(charges.exit(0, first), wanted),
+        Call::Migrate => move_answered(charges.migrate(0, first, path), wanted),
+        Call::Rehome => rehome(charges, first, path, wanted),
+        Call::Kill => lost_answered(charges.kill(rt, &OpenGate, 0, path), wanted),
+        Call::KillAlone => lost_answered(charges.kill_alone(0, path), wanted),
+        Call::Place => place(charges, first, path, wanted),
+        Call::PlaceAll => place_all(rt, charges, first, path.copy(alloc)?, wanted),
+        Call::PlaceAllAlone => place_all_alone(charges, first, path.copy(alloc)?, wanted),
     };
-    Ok(answer)
+    Ok(tried)
 }

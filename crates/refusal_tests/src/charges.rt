@@ -12,18 +12,7 @@ use std::thread::Threads;
 use test_support::{BLOCK_SIZE, Tried, all_but};
 
 /// A call, its path and its processes, what it answers where there is memory, and whether it asks for memory.
-type Row = (Call, &'static str, (u32, u32), Answer, bool);
-
-/// What the answer is beside the wanted one.
-fn compared(answer: Answer, wanted: Answer) -> Tried {
-    if answer == Answer::Refused(ChargeFault::OutOfMemory) {
-        Tried::Refused
-    } else if answer == wanted {
-        Tried::Answered
-    } else {
-        Tried::Other
-    }
-}
+type Row<'r> = (Call, &'r str, (u32, u32), Answer<'r>, bool);
 
 /// How many refusals there are before the call is answered as wanted, as the room grows by a block at a time. Each leaves
 /// the heap, and all that can be read of the charges, as it was.
@@ -33,13 +22,13 @@ fn refusals<'a, R: Threads + Wait + Sync>(
     heap: &'a LocalHeap,
     charges: &mut Apart<&'a LocalHeap>,
     asked: &Asked,
-    wanted: Answer,
+    wanted: &Answer<'_>,
 ) -> Result<usize, Fail> {
     let before = look(alloc, charges)?;
     let mut blocks = all_but(alloc, heap, 0)?;
     for room in 0..256usize {
         let full = heap.used();
-        match compared(answer(rt, alloc, charges, asked)?, wanted) {
+        match answer(rt, alloc, charges, asked, wanted)? {
             Tried::Answered => return Ok(room),
             Tried::Refused if heap.used() == full && look(alloc, charges)? == before => (),
             _ => return Err(Fail::new("a call left something changed")),
@@ -56,10 +45,10 @@ fn is_alike<'a, R: Threads + Wait + Sync>(
     charges: &mut Apart<&'a LocalHeap>,
     ample: &mut Apart<Global>,
     asked: &Asked,
-    wanted: Answer,
+    wanted: &Answer<'_>,
 ) -> Result<bool, Fail> {
-    let answer = answer(rt, alloc, ample, asked)?;
-    Ok(answer == wanted && look(alloc, charges)? == look(alloc, ample)?)
+    let answer = answer(rt, alloc, ample, asked, wanted)?;
+    Ok(answer == Tried::Answered && look(alloc, charges)? == look(alloc, ample)?)
 }
 
 /// Makes the calls in turn, each until it is answered; which row is the first that goes otherwise.
@@ -69,13 +58,13 @@ fn first_wrong<'a, R: Threads + Wait + Sync>(
     heap: &'a LocalHeap,
     charges: &mut Apart<&'a LocalHeap>,
     ample: &mut Apart<Global>,
-    rows: &[Row],
+    rows: &[Row<'_>],
 ) -> Result<Option<usize>, Fail> {
     for i in 0..rows.len() {
-        let (call, text, pids, wanted, asks) = rows[i];
-        let asked = ask(alloc, call, text, pids)?;
+        let (call, text, pids, wanted, asks) = &rows[i];
+        let asked = ask(alloc, *call, text, *pids)?;
         let refused = refusals(rt, alloc, heap, charges, &asked, wanted)?;
-        if (refused > 0) != asks || !is_alike(rt, alloc, charges, ample, &asked, wanted)? {
+        if (refused > 0) != *asks || !is_alike(rt, alloc, charges, ample, &asked, wanted)? {
             return Ok(Some(i));
         }
     }
@@ -86,7 +75,7 @@ fn first_wrong<'a, R: Threads + Wait + Sync>(
 fn each_refused<R: Threads + Wait + Sync>(
     rt: &R,
     alloc: Global,
-    rows: &[Row],
+    rows: &[Row<'_>],
 ) -> Result<Option<usize>, Fail> {
     let heap = LocalHeap::new(alloc, 32_768)?;
     let mut ample = Charges::new(alloc, PlainMeter::new(alloc)?)?;
@@ -150,7 +139,7 @@ fn rmdir(rt: HostRuntime) -> Result<(), Fail> {
     let rows = [
         (Call::Mkdir, A, (1, 2), Answer::Done, true),
         (Call::Mkdir, B, (1, 2), Answer::Done, true),
-        (Call::Migrate, B, (1, 2), Answer::Moved(1, 1_00), true),
+        (Call::Migrate, B, (1, 2), Answer::Moved(1, &[0, 0]), true),
         (
             Call::Rmdir,
             "/",
@@ -207,19 +196,19 @@ fn make_process(rt: HostRuntime) -> Result<(), Fail> {
     let rows = [
         (Call::Mkdir, A, (1, 2), Answer::Done, true),
         (Call::Mkdir, B, (1, 2), Answer::Done, true),
-        (Call::Fork, "/", (1, 2), Answer::Peaks(1), false),
+        (Call::Fork, "/", (1, 2), Answer::Peaks(&[]), false),
         (Call::Fork, "/", (3, 4), Answer::NoProcess(3), false),
-        (Call::Migrate, B, (2, 2), Answer::Moved(1, 1_00), true),
-        (Call::Fork, "/", (2, 3), Answer::Peaks(1_11), true),
-        (Call::Fork, "/", (3, 4), Answer::Peaks(1_22), true),
-        (Call::Fork, "/", (2, 5), Answer::Peaks(1_33), true),
-        (Call::Fork, "/", (2, 6), Answer::Peaks(1_44), true),
-        (Call::Fork, "/", (2, 7), Answer::Peaks(1_55), true),
-        (Call::Fork, "/", (2, 8), Answer::Peaks(1_66), true),
-        (Call::Fork, "/", (2, 9), Answer::Peaks(1_77), true),
-        (Call::Fork, "/", (2, 10), Answer::Peaks(1_88), true),
-        (Call::Migrate, A, (3, 2), Answer::Moved(50, 1_9), true),
-        (Call::Fork, "/", (3, 11), Answer::Peaks(1_9), true),
+        (Call::Migrate, B, (2, 2), Answer::Moved(1, &[0, 0]), true),
+        (Call::Fork, "/", (2, 3), Answer::Peaks(&[1, 1]), true),
+        (Call::Fork, "/", (3, 4), Answer::Peaks(&[2, 2]), true),
+        (Call::Fork, "/", (2, 5), Answer::Peaks(&[3, 3]), true),
+        (Call::Fork, "/", (2, 6), Answer::Peaks(&[4, 4]), true),
+        (Call::Fork, "/", (2, 7), Answer::Peaks(&[5, 5]), true),
+        (Call::Fork, "/", (2, 8), Answer::Peaks(&[6, 6]), true),
+        (Call::Fork, "/", (2, 9), Answer::Peaks(&[7, 7]), true),
+        (Call::Fork, "/", (2, 10), Answer::Peaks(&[8, 8]), true),
+        (Call::Migrate, A, (3, 2), Answer::Moved(50, &[9]), true),
+        (Call::Fork, "/", (3, 11), Answer::Peaks(&[9]), true),
     ];
     assert_eq!(rt; each_refused(&rt, rt.alloc(), &rows)?, None);
     Ok(())
@@ -231,10 +220,10 @@ fn migrate(rt: HostRuntime) -> Result<(), Fail> {
         (Call::Mkdir, A, (1, 2), Answer::Done, true),
         (Call::Mkdir, B, (1, 2), Answer::Done, true),
         (Call::Mkdir, C, (1, 2), Answer::Done, true),
-        (Call::Migrate, B, (1, 2), Answer::Moved(1, 1_00), true),
-        (Call::Migrate, B, (1, 2), Answer::Moved(50, 1_11), true),
-        (Call::Migrate, C, (1, 2), Answer::Moved(50, 1_0), true),
-        (Call::Migrate, "/", (1, 2), Answer::Moved(25, 1), false),
+        (Call::Migrate, B, (1, 2), Answer::Moved(1, &[0, 0]), true),
+        (Call::Migrate, B, (1, 2), Answer::Moved(50, &[1, 1]), true),
+        (Call::Migrate, C, (1, 2), Answer::Moved(50, &[0]), true),
+        (Call::Migrate, "/", (1, 2), Answer::Moved(25, &[]), false),
         (
             Call::Migrate,
             "/d",
@@ -267,8 +256,8 @@ fn exit_and_place(rt: HostRuntime) -> Result<(), Fail> {
     let rows = [
         (Call::Mkdir, A, (1, 2), Answer::Done, true),
         (Call::Mkdir, B, (1, 2), Answer::Done, true),
-        (Call::Fork, "/", (1, 2), Answer::Peaks(1), false),
-        (Call::Migrate, B, (2, 2), Answer::Moved(1, 1_00), true),
+        (Call::Fork, "/", (1, 2), Answer::Peaks(&[]), false),
+        (Call::Migrate, B, (2, 2), Answer::Moved(1, &[0, 0]), true),
         (Call::Exit, "/", (2, 2), Answer::Left(50), false),
         (Call::Exit, "/", (2, 2), Answer::NoProcess(2), false),
         (Call::Place, B, (2, 2), Answer::Done, true),
@@ -285,9 +274,9 @@ fn kill(rt: HostRuntime) -> Result<(), Fail> {
     let rows = [
         (Call::Mkdir, A, (1, 2), Answer::Done, true),
         (Call::Mkdir, B, (1, 2), Answer::Done, true),
-        (Call::Migrate, B, (1, 2), Answer::Moved(1, 1_00), true),
-        (Call::Fork, "/", (1, 2), Answer::Peaks(1_11), true),
-        (Call::Fork, "/", (1, 3), Answer::Peaks(1_22), true),
+        (Call::Migrate, B, (1, 2), Answer::Moved(1, &[0, 0]), true),
+        (Call::Fork, "/", (1, 2), Answer::Peaks(&[1, 1]), true),
+        (Call::Fork, "/", (1, 3), Answer::Peaks(&[2, 2]), true),
         (
             Call::Kill,
             "/",
@@ -302,8 +291,8 @@ fn kill(rt: HostRuntime) -> Result<(), Fail> {
             Answer::Refused(ChargeFault::NoGroup(1)),
             false,
         ),
-        (Call::Kill, A, (1, 2), Answer::Lost(1_123), true),
-        (Call::Kill, A, (1, 2), Answer::Lost(1), false),
+        (Call::Kill, A, (1, 2), Answer::Lost(&[1, 2, 3]), true),
+        (Call::Kill, A, (1, 2), Answer::Lost(&[]), false),
     ];
     assert_eq!(rt; each_refused(&rt, rt.alloc(), &rows)?, None);
     Ok(())
@@ -313,10 +302,10 @@ fn kill(rt: HostRuntime) -> Result<(), Fail> {
 fn kill_alone(rt: HostRuntime) -> Result<(), Fail> {
     let rows = [
         (Call::Mkdir, A, (1, 2), Answer::Done, true),
-        (Call::Migrate, A, (1, 2), Answer::Moved(1, 1_0), true),
-        (Call::Fork, "/", (1, 2), Answer::Peaks(1_1), true),
-        (Call::KillAlone, A, (1, 2), Answer::Lost(1_12), true),
-        (Call::KillAlone, A, (1, 2), Answer::Lost(1), false),
+        (Call::Migrate, A, (1, 2), Answer::Moved(1, &[0]), true),
+        (Call::Fork, "/", (1, 2), Answer::Peaks(&[1]), true),
+        (Call::KillAlone, A, (1, 2), Answer::Lost(&[1, 2]), true),
+        (Call::KillAlone, A, (1, 2), Answer::Lost(&[]), false),
     ];
     assert_eq!(rt; each_refused(&rt, rt.alloc(), &rows)?, None);
     Ok(())
@@ -329,7 +318,7 @@ fn place_all(rt: HostRuntime) -> Result<(), Fail> {
         (Call::Mkdir, A, (1, 2), Answer::Done, true),
         (Call::Mkdir, B, (1, 2), Answer::Done, true),
         (Call::PlaceAll, B, (2, 2), Answer::Done, true),
-        (Call::Kill, A, (1, 2), Answer::Lost(1_2), true),
+        (Call::Kill, A, (1, 2), Answer::Lost(&[2]), true),
         (Call::PlaceAll, A, (2, 2), Answer::Done, true),
         (Call::PlaceAll, A, (2, 2), Answer::Nothing, false),
     ];
@@ -343,7 +332,7 @@ fn place_all_alone(rt: HostRuntime) -> Result<(), Fail> {
         (Call::Mkdir, A, (1, 2), Answer::Done, true),
         (Call::Mkdir, B, (1, 2), Answer::Done, true),
         (Call::PlaceAllAlone, B, (2, 2), Answer::Done, true),
-        (Call::KillAlone, A, (1, 2), Answer::Lost(1_2), true),
+        (Call::KillAlone, A, (1, 2), Answer::Lost(&[2]), true),
         (Call::PlaceAllAlone, A, (2, 2), Answer::Done, true),
     ];
     assert_eq!(rt; each_refused(&rt, rt.alloc(), &rows)?, None);
