@@ -3,13 +3,13 @@ use Rattle.std.proofs.Common.{◌≡◌, ℕ, ◌+◌, ◌%◌, ◌^◌, List, l
 use Rattle.snzi_core.specs.declared.holding.Holding.{Holding}
 use Rattle.snzi_core.specs.declared.event.Token.{Token}
 use Rattle.snzi_core.specs.Holding.{one_back}
-use Rattle.pids_charge.specs.Content.{tokens_at}
+use Rattle.snzi_core.specs.Listed.{listed_at}
 use Rattle.board_meter.specs.Held.{excess, Settled, CutOff, PutTogether}
 use Rattle.board_meter.proofs.Roles.{one_back-one_out}
 
 pub settled_both : (w l : ℕ) (leaving rest_leaving last_leaving arriving rest_arriving last_arriving : List Token) (h m k m' k' z : Holding)
-    → ((s j : ℕ) → tokens_at rest_leaving s j + tokens_at last_leaving s j ≡ tokens_at leaving s j) → length rest_leaving + length last_leaving ≡ length leaving
-    → ((s j : ℕ) → tokens_at rest_arriving s j + tokens_at last_arriving s j ≡ tokens_at arriving s j) → length rest_arriving + length last_arriving ≡ length arriving
+    → ((s j : ℕ) → listed_at rest_leaving s j + listed_at last_leaving s j ≡ listed_at leaving s j) → length rest_leaving + length last_leaving ≡ length leaving
+    → ((s j : ℕ) → listed_at rest_arriving s j + listed_at last_arriving s j ≡ listed_at arriving s j) → length rest_arriving + length last_arriving ≡ length arriving
     → CutOff w l last_leaving h m k → PutTogether w l m' k' z → Settled w l rest_leaving rest_arriving m m' → Settled w l last_leaving last_arriving k k'
     → Settled w l leaving arriving h z
 settled_both w l leaving rl ll arriving ra la h m k m' k' z go fewer come more cut both rest last = record {

@@ -6,7 +6,7 @@ use Rattle.snzi_core.specs.declared.event.Token.{Token}
 use Rattle.snzi_core.specs.Caps.{token_cap, helper_cap}
 use Rattle.snzi_core.specs.Holding.{held, out, main_weight, one_out, one_back}
 use Rattle.snzi_tree.specs.Contents.{content_of, tokens_in, amount_in, AtLeaves}
-use Rattle.pids_charge.specs.Content.{tokens_at, IsWithin}
+use Rattle.snzi_core.specs.Listed.{IsWithin, listed_at}
 use Rattle.pids_charge.specs.declared.meter.TheConstants.{HELD_MAX}
 
 -- what the hand's amounts at a slot are less its tokens there, modulo 2^64
@@ -24,12 +24,12 @@ pub record CanSettle (g w l stripe : ℕ) (leaving arriving : List Token) (h : H
   pub leaving_within : IsWithin g l leaving
   pub arriving_within : IsWithin g l arriving
   pub stripe_below : stripe < l
-  pub charged : (s j : ℕ) → tokens_at leaving s j ≤ content_of w l h s j
+  pub charged : (s j : ℕ) → listed_at leaving s j ≤ content_of w l h s j
   pub room : held h + length arriving ≤ HELD_MAX
 
 -- the hand h with the arriving tokens in place of the leaving ones, and its amounts to match, is k
 pub record Settled (w l : ℕ) (leaving arriving : List Token) (h k : Holding) : Type 0 where
-  pub content : (s j : ℕ) → content_of w l k s j + tokens_at leaving s j ≡ content_of w l h s j + tokens_at arriving s j
+  pub content : (s j : ℕ) → content_of w l k s j + listed_at leaving s j ≡ content_of w l h s j + listed_at arriving s j
   pub held : held k + length leaving ≡ held h + length arriving
   pub in_step : InStep w l h k
 
@@ -39,8 +39,8 @@ HasRoomFor helpers h = (main_weight h.role ≡ 1) × (out h.role + helpers ≤ h
 
 -- the hand h is cut in two: k has the share, and m the rest
 pub record CutOff (w l : ℕ) (share : List Token) (h m k : Holding) : Type 0 where
-  pub given : (s j : ℕ) → content_of w l k s j ≡ tokens_at share s j
-  pub left : (s j : ℕ) → content_of w l m s j + tokens_at share s j ≡ content_of w l h s j
+  pub given : (s j : ℕ) → content_of w l k s j ≡ listed_at share s j
+  pub left : (s j : ℕ) → content_of w l m s j + listed_at share s j ≡ content_of w l h s j
   pub held_given : held k ≡ length share
   pub held_left : held m + length share ≡ held h
   pub excess : (s : ℕ) → (excess w l m s + excess w l k s) % 2 ^ 64 ≡ excess w l h s

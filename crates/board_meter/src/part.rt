@@ -3,7 +3,7 @@ ghost use Rattle.std.specs.Prelude.{◌≡◌, ℕ, ◌+◌, ◌<◌, ◌≤◌,
 ghost use Rattle.snzi_core.specs.Holding.{held};
 ghost use Rattle.snzi_tree.specs.Contents.{content_of};
 ghost use Rattle.snzi_tree.specs.Hands.{IsHandOf, holds, SameHand};
-ghost use Rattle.pids_charge.specs.Content.{tokens_at, IsWithin};
+ghost use Rattle.snzi_core.specs.Listed.{IsWithin, listed_at};
 ghost use Rattle.board_meter.specs.Held.{CanSettle, InStep, Settled};
 
 use crate::charges::{charge, uncharge};
@@ -19,9 +19,9 @@ fn uncharge_all<const G: usize, const W: usize, const L: usize>(
 )
     requires here { IsHandOf board.now hand.old }
     requires place { IsWithin G L leaving.now × (stripe < L) }
-    requires charged { (s j : ℕ) → tokens_at leaving.now s j ≤ content_of W L (holds hand.old) s j }
+    requires charged { (s j : ℕ) → listed_at leaving.now s j ≤ content_of W L (holds hand.old) s j }
     ensures hand { SameHand hand.old hand.new }
-    ensures content { (s j : ℕ) → content_of W L (holds hand.new) s j + tokens_at leaving.now s j ≡ content_of W L (holds hand.old) s j }
+    ensures content { (s j : ℕ) → content_of W L (holds hand.new) s j + listed_at leaving.now s j ≡ content_of W L (holds hand.old) s j }
     ensures held { held (holds hand.new) + length leaving.now ≡ held (holds hand.old) }
     ensures in_step { InStep W L (holds hand.old) (holds hand.new) }
 {
@@ -40,7 +40,7 @@ fn charge_all<const G: usize, const W: usize, const L: usize>(
     requires place { IsWithin G L arriving.now }
     requires room { held (holds hand.old) + length arriving.now ≤ HELD_MAX }
     ensures hand { SameHand hand.old hand.new }
-    ensures content { (s j : ℕ) → content_of W L (holds hand.new) s j ≡ content_of W L (holds hand.old) s j + tokens_at arriving.now s j }
+    ensures content { (s j : ℕ) → content_of W L (holds hand.new) s j ≡ content_of W L (holds hand.old) s j + listed_at arriving.now s j }
     ensures held { held (holds hand.new) ≡ held (holds hand.old) + length arriving.now }
     ensures in_step { InStep W L (holds hand.old) (holds hand.new) }
 {

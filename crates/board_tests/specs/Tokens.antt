@@ -3,7 +3,8 @@ use Rattle.std.specs.Prelude.{◌≡◌, ℕ, ◌+◌, ◌-◌, List, length}
 use Rattle.snzi_core.specs.declared.event.Token.{Token}
 use Rattle.snzi_core.specs.declared.holding.Holding.{Holding}
 use Rattle.snzi_tree.specs.Contents.{content_of}
-use Rattle.pids_charge.specs.Content.{Content, tokens_at}
+use Rattle.snzi_core.specs.Listed.{listed_at}
+use Rattle.pids_charge.specs.Content.{Content}
 use Rattle.pids_charge.specs.declared.plain.TheConstants.{LEAVES}
 
 -- the content of a meter over a board, whose trees have one node less than twice as many as leaves
@@ -12,5 +13,5 @@ board_content h = content_of (LEAVES + LEAVES - 1) LEAVES h
 
 -- the charges are one for each of the tokens
 pub record Holds (tokens : List Token) (at : Content) (count : ℕ) : Type 0 where
-  pub content : (s j : ℕ) → at s j ≡ tokens_at tokens s j
+  pub content : (s j : ℕ) → at s j ≡ listed_at tokens s j
   pub held : count ≡ length tokens

@@ -1,6 +1,6 @@
 //! A kill, and its undo, are each done by eight threads.
 
-use crate::gate::Meeting;
+use crate::barrier::Barrier;
 use crate::replies::{Issued, answers};
 use board_meter::BoardMeter;
 use pids_charge::OpenGate;
@@ -56,12 +56,12 @@ const RUNS: u32 = 5;
 fn is_done_by_eight<R: Threads + Wait + Sync>(rt: &R, alloc: Global) -> Result<bool, Fail> {
     let mut engine = Engine::new(alloc, BoardMeter::new(alloc)?)?;
     let before = answers(rt, alloc, &OpenGate, &mut engine, &BEFORE)?;
-    let gate = Meeting::new(8);
-    let killed = answers(rt, alloc, &gate, &mut engine, &KILL)?;
-    let other = Meeting::new(8);
+    let barrier = Barrier::new(8);
+    let killed = answers(rt, alloc, &barrier, &mut engine, &KILL)?;
+    let other = Barrier::new(8);
     let undone = answers(rt, alloc, &other, &mut engine, &UNDO)?;
     let answered = [before.as_slice(), killed.as_slice(), undone.as_slice()] == ANSWERS;
-    Ok(answered & gate.met() & other.met())
+    Ok(answered & barrier.met() & other.met())
 }
 
 /// The five processes are charged nine times, and so a kill of them has eight parts.
@@ -77,13 +77,13 @@ fn the_parts_of_a_kill_meet(rt: HostRuntime) -> Result<(), Fail> {
 #[test]
 fn a_kill_of_nobody(rt: HostRuntime) -> Result<(), Fail> {
     let mut engine = Engine::new(rt.alloc(), BoardMeter::new(rt.alloc())?)?;
-    let gate = Meeting::new(2);
+    let barrier = Barrier::new(2);
     let lines = [(0, "mkdir /k"), (0, "write /k cgroup.kill 1")];
-    let killed = answers(&rt, rt.alloc(), &gate, &mut engine, &lines)?;
-    let other = Meeting::new(2);
+    let killed = answers(&rt, rt.alloc(), &barrier, &mut engine, &lines)?;
+    let other = Barrier::new(2);
     let undone = answers(&rt, rt.alloc(), &other, &mut engine, &[(0, "undo")])?;
     assert!(rt; killed.as_slice() == b"1 ok\n2 ok\n".as_slice());
     assert!(rt; undone.as_slice() == b"1 ok\n| write /k cgroup.kill 1\n".as_slice());
-    assert!(rt; gate.met() & other.met());
+    assert!(rt; barrier.met() & other.met());
     Ok(())
 }

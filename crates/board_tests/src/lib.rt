@@ -6,8 +6,8 @@
 //! follows from the law of `Meter`; tables of calls and lines show it on the machine too, with
 //! answers that were written by hand.
 //!
+//! - `barrier`: where the parts of a settlement wait for one another.
 //! - `drawn`: both meters over charges drawn by a generator of numbers.
-//! - `gate`: a barrier at which the parts of a settlement wait for one another.
 //! - `kills`: a kill and its undo at such a barrier.
 //! - `meeting`: settlements at such a barrier.
 //! - `meters`: a plain meter and one over a board, side by side, on a table of calls.
@@ -17,9 +17,9 @@
 #![tactic(auto)]
 
 #[cfg(test)]
-mod drawn;
+mod barrier;
 #[cfg(test)]
-mod gate;
+mod drawn;
 #[cfg(test)]
 mod kills;
 #[cfg(test)]

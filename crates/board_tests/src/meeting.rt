@@ -1,8 +1,8 @@
 //! The parts of a settlement run beside one another.
 ghost use Rattle.std.specs.Prelude.{◌≡◌, ◌≤◌, length};
-ghost use Rattle.pids_charge.specs.Content.{IsWithin};
+ghost use Rattle.snzi_core.specs.Listed.{IsWithin};
 
-use crate::gate::Meeting;
+use crate::barrier::Barrier;
 use crate::swap::{counts, fits};
 use board_meter::BoardMeter;
 use pids_charge::{LEAVES, Meter, SLOTS, Token};
@@ -30,10 +30,10 @@ fn there_and_back<R: Threads>(
     requires few { length tokens.now ≤ 1000 }
 {
     let mut meter = BoardMeter::new(alloc)?;
-    let one = Meeting::new(parts);
+    let one = Barrier::new(parts);
     meter.settle(rt, &one, 0, &[], tokens);
     let there = counts(&mut meter);
-    let other = Meeting::new(parts);
+    let other = Barrier::new(parts);
     meter.settle(rt, &other, 1, tokens, &[]);
     let back = counts(&mut meter);
     Ok(Seen {

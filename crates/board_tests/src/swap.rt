@@ -1,6 +1,6 @@
 //! The charges of one list go and those of another come, by single calls or by a settlement.
 ghost use Rattle.std.specs.Prelude.{◌≡◌, ℕ, ◌+◌, ◌<◌, ◌≤◌, length, IsTrue};
-ghost use Rattle.pids_charge.specs.Content.{tokens_at, IsWithin};
+ghost use Rattle.snzi_core.specs.Listed.{IsWithin, listed_at};
 ghost use Rattle.board_tests.specs.Tokens.{Holds};
 
 use pids_charge::{HELD_MAX, LEAVES, Meter, OpenGate, SLOTS, Token};
@@ -22,8 +22,8 @@ pub(crate) fn fits(tokens: &[Token]) -> bool
 fn uncharge_each<M: Meter>(meter: &mut M, stripe: u8, leaving: &[Token])
     requires within { IsWithin M.SLOTS M.LEAVES leaving.now }
     requires stripe { stripe < M.LEAVES }
-    requires charged { (s j : ℕ) → tokens_at leaving.now s j ≤ M.content meter.old s j }
-    ensures content { (s j : ℕ) → M.content meter.new s j + tokens_at leaving.now s j ≡ M.content meter.old s j }
+    requires charged { (s j : ℕ) → listed_at leaving.now s j ≤ M.content meter.old s j }
+    ensures content { (s j : ℕ) → M.content meter.new s j + listed_at leaving.now s j ≡ M.content meter.old s j }
     ensures held { M.held meter.new + length leaving.now ≡ M.held meter.old }
 {
     for token in leaving {
@@ -35,7 +35,7 @@ fn uncharge_each<M: Meter>(meter: &mut M, stripe: u8, leaving: &[Token])
 fn charge_each<M: Meter>(meter: &mut M, arriving: &[Token])
     requires within { IsWithin M.SLOTS M.LEAVES arriving.now }
     requires room { M.held meter.old + length arriving.now ≤ HELD_MAX }
-    ensures content { (s j : ℕ) → M.content meter.new s j ≡ M.content meter.old s j + tokens_at arriving.now s j }
+    ensures content { (s j : ℕ) → M.content meter.new s j ≡ M.content meter.old s j + listed_at arriving.now s j }
     ensures held { M.held meter.new ≡ M.held meter.old + length arriving.now }
 {
     for token in arriving {

@@ -16,7 +16,7 @@ use Rattle.flat_model.proofs.PathLaws.{path_cmp-IsTotalOrder, path_cmp-IsAntisym
 use Rattle.flat_model.proofs.Maps.{get-each}
 use Rattle.flat_model.proofs.Reachable.{only_root}
 use Rattle.pids_charge.specs.Events.{HasEvents}
-use Rattle.pids_charge.specs.Answers.{Does, refusal_of, after_fault}
+use Rattle.pids_charge.specs.Answers.{Does, refusal_of_fault, after_fault}
 use Rattle.pids_charge.specs.declared.fault.ChargeFault.{ChargeFault}
 
 abbrev IsUpTo : ℕ → Attr → Type 0
@@ -110,7 +110,7 @@ up_set n s new a peaks h e = subst (HasEventsUpTo (n + 1)) (sym e) (up_more n (s
 -- a call that is a command
 pub up_does : {X : Type 0} (slots n : ℕ) (s : State) (c : Command) (p : Path) (r : Result X ChargeFault) (new : State) → HasEventsUpTo n s → Does slots s c p r new → HasEventsUpTo (n + 1) new
 up_does slots n s c p (Ok x) new h does = subst (HasEventsUpTo (n + 1)) (sym does.1) (up_more n (after s c) (up_after n s c h))
-up_does slots n s c p (Err f) new h does = subst (HasEventsUpTo (n + 1)) (sym does.1) (up_fault n s (refusal_of p f) h)
+up_does slots n s c p (Err f) new h does = subst (HasEventsUpTo (n + 1)) (sym does.1) (up_fault n s (refusal_of_fault p f) h)
 
 one_down : (n k : ℕ) (b : Bool) → k ≤ n → k - cond b 1 0 ≤ n
 one_down n k true h = omega arith

@@ -13,6 +13,7 @@ use std::alloc::Global;
 use std::sync::Wait;
 use std::test::Fail;
 use std::thread::Threads;
+use test_support::path;
 
 pub(crate) type Plain = Charges<Global, PlainMeter<Global>>;
 
@@ -41,10 +42,6 @@ pub(crate) enum Call {
     Descendants(&'static str),
     Members(&'static str),
     Home(u32),
-}
-
-fn path(alloc: Global, text: &str) -> Result<GroupPath<Global>, Fail> {
-    Ok(GroupPath::read(alloc, text.as_bytes())?)
 }
 
 fn pid(number: u32) -> Pid {

@@ -1,8 +1,9 @@
 //! Calls that are answered where there is memory. A made-up `OutOfMemory` would pass every contract, so tests
 //! ask where a wrong reason could hide behind it.
 
-use crate::engine::{Plain, all_undone, answer, plain};
+use crate::answers::{Plain, all_undone, answer};
 use crate::rehearsal::{all_answered, are_replies, commands};
+use crate::trials::{Trial, passes};
 use std::alloc::Global;
 use std::sync::Wait;
 use std::test::Fail;
@@ -90,7 +91,7 @@ fn is_forked<R: Threads + Wait + Sync>(
 
 /// Whether a thousand forks, one of them that of process 65,536, are answered each; whether their group's text then
 /// has them all; and whether all are taken back at once.
-fn is_crowd_answered<R: Threads + Wait + Sync>(
+pub(crate) fn is_crowd_answered<R: Threads + Wait + Sync>(
     rt: &R,
     alloc: Global,
     engine: &mut Plain,
@@ -106,13 +107,8 @@ fn is_crowd_answered<R: Threads + Wait + Sync>(
     Ok(text == listed)
 }
 
-fn crowd_answered<R: Threads + Wait + Sync>(rt: &R, alloc: Global) -> Result<bool, Fail> {
-    let mut engine = plain(alloc)?;
-    is_crowd_answered(rt, alloc, &mut engine)
-}
-
 /// Whether the lines are answered as they should be, and what is rehearsed before and after them.
-fn are_answered<R: Threads + Wait + Sync>(
+pub(crate) fn are_answered<R: Threads + Wait + Sync>(
     rt: &R,
     alloc: Global,
     engine: &mut Plain,
@@ -125,8 +121,7 @@ fn are_answered<R: Threads + Wait + Sync>(
 
 #[test]
 fn answered_where_there_is_memory(rt: HostRuntime) -> Result<(), Fail> {
-    assert!(rt; crowd_answered(&rt, rt.alloc())?);
-    let mut engine = plain(rt.alloc())?;
-    assert!(rt; are_answered(&rt, rt.alloc(), &mut engine)?);
+    assert!(rt; passes(&rt, rt.alloc(), Trial::Crowd)?);
+    assert!(rt; passes(&rt, rt.alloc(), Trial::Answers)?);
     Ok(())
 }

@@ -1,97 +1,15 @@
 //! Commands by their lines, what the engine answers, and what it keeps of them.
 
+use crate::answers::{Plain, all_undone, answer, command, said};
+use crate::trials::{Trial, passes};
 use group_path::GroupPath;
 use interface_files::File;
-use pids_charge::{Meter, OpenGate, PlainMeter, SLOTS};
-use std::alloc::{AllocError, Allocator, Global};
+use pids_charge::{OpenGate, Pid, SLOTS};
+use std::alloc::{AllocError, Global};
 use std::sync::Wait;
 use std::test::Fail;
 use std::thread::Threads;
-use trace_lines::{Line, parse_line};
-use undo_journal::{Bytes, Command, Engine, Inverse, Pid, Refusal, Reply};
-
-/// The command that a line says.
-pub(crate) fn command(alloc: Global, line: &str) -> Result<Command<Global>, Fail> {
-    match parse_line(alloc, line.as_bytes())? {
-        Line::Run(command) => Ok(command),
-        _ => Err(Fail::new("the line is no command")),
-    }
-}
-
-fn word_and_path<A: Allocator + Clone>(
-    alloc: Global,
-    word: &[u8],
-    path: &GroupPath<A>,
-) -> Result<Vec<u8>, AllocError> {
-    let mut text = Vec::from_slice(alloc, word)?;
-    text.extend_from_slice(path.text())?;
-    Ok(text)
-}
-
-fn word_and_pid(alloc: Global, word: &str, pid: Pid) -> Result<Vec<u8>, AllocError> {
-    let text = format!(in alloc; "{word}{}", pid.get())?;
-    Ok(text.into_bytes())
-}
-
-/// A refusal in the words of a replay.
-fn refused<A: Allocator + Clone>(
-    alloc: Global,
-    refusal: &Refusal<A>,
-) -> Result<Vec<u8>, AllocError> {
-    match refusal {
-        Refusal::Exists => Vec::from_slice(alloc, b"exists"),
-        Refusal::NoGroup(path) => word_and_path(alloc, b"nogroup ", path),
-        Refusal::Descendants(path) => word_and_path(alloc, b"descendants ", path),
-        Refusal::Depth(path) => word_and_path(alloc, b"depth ", path),
-        Refusal::NoSlot => Vec::from_slice(alloc, b"noslot"),
-        Refusal::RootFixed => Vec::from_slice(alloc, b"rootfixed"),
-        Refusal::HasChildren => Vec::from_slice(alloc, b"haschildren"),
-        Refusal::HasProcesses => Vec::from_slice(alloc, b"hasprocesses"),
-        Refusal::NoProcess(pid) => word_and_pid(alloc, "noprocess ", *pid),
-        Refusal::PidInUse(pid) => word_and_pid(alloc, "pidinuse ", *pid),
-        Refusal::PidsMax(path) => word_and_path(alloc, b"pidsmax ", path),
-        Refusal::NoFile => Vec::from_slice(alloc, b"nofile"),
-        Refusal::NotReadable => Vec::from_slice(alloc, b"direction"),
-    }
-}
-
-/// A reply in the words of a replay.
-pub(crate) fn said<A: Allocator + Clone>(
-    alloc: Global,
-    reply: &Reply<A>,
-) -> Result<Vec<u8>, AllocError> {
-    match reply {
-        Reply::Done => Vec::from_slice(alloc, b"ok"),
-        Reply::Text(bytes) => Vec::from_slice(alloc, bytes.as_slice()),
-        Reply::Undone(command) => command.text(alloc),
-        Reply::Refused(refusal) => refused(alloc, refusal),
-        Reply::NothingToUndo => Vec::from_slice(alloc, b"nothing"),
-        Reply::OutOfMemory => Vec::from_slice(alloc, b"out of memory"),
-    }
-}
-
-/// An engine over a plain meter.
-pub(crate) type Plain = Engine<Global, PlainMeter<Global>>;
-
-/// A new engine.
-pub(crate) fn plain(alloc: Global) -> Result<Plain, Fail> {
-    let meter = PlainMeter::new(alloc)?;
-    Ok(Engine::new(alloc, meter)?)
-}
-
-/// What the engine answers to a line, said from a copy of the reply to a copy of the command.
-pub(crate) fn answer<R: Threads + Wait + Sync, A: Allocator + Clone, M: Meter>(
-    rt: &R,
-    alloc: Global,
-    engine: &mut Engine<A, M>,
-    line: &str,
-) -> Result<Vec<u8>, Fail> {
-    let command = command(alloc, line)?;
-    let command = command.copy(alloc)?;
-    let reply = engine.apply(rt, 0, &command);
-    let reply = reply.copy(alloc)?;
-    Ok(said(alloc, &reply)?)
-}
+use undo_journal::{Bytes, Command, Inverse, Reply};
 
 #[test]
 fn numbers_of_processes(rt: HostRuntime) {
@@ -197,30 +115,23 @@ const START: [Row; 2] = [
     ),
 ];
 
-/// Takes back everything, and fails where that is another number of commands.
-pub(crate) fn all_undone<R: Threads + Wait + Sync>(
+pub(crate) fn traced<R: Threads + Wait + Sync>(
     rt: &R,
+    alloc: Global,
     engine: &mut Plain,
-    wanted: usize,
-) -> Result<(), Fail> {
-    match engine.undo_all(rt, 0) {
-        Ok(count) if count == wanted => Ok(()),
-        _ => Err(Fail::new("another number of commands was undone")),
-    }
-}
-
-fn traced<R: Threads + Wait + Sync>(rt: &R, alloc: Global, engine: &mut Plain) -> Result<(), Fail> {
+) -> Result<bool, Fail> {
     all_answered(rt, alloc, engine, &LINES)?;
     all_undone(rt, engine, 4)?;
     all_answered(rt, alloc, engine, &START)?;
-    all_undone(rt, engine, 0)
+    all_undone(rt, engine, 0)?;
+    Ok(true)
 }
 
 /// Then everything is taken back at once.
 #[test]
 fn one_trace(rt: HostRuntime) -> Result<(), Fail> {
-    let mut engine = plain(rt.alloc())?;
-    traced(&rt, rt.alloc(), &mut engine)
+    assert!(rt; passes(&rt, rt.alloc(), Trial::Trace)?);
+    Ok(())
 }
 
 /// What the engine answers to a reading of the file of the group at the path of this text.
@@ -247,25 +158,25 @@ const READINGS: [(&str, File, &str); 7] = [
     ("/", File::Procs, "1\n"),
 ];
 
-fn all_shown<R: Threads + Wait + Sync>(
+pub(crate) fn all_shown<R: Threads + Wait + Sync>(
     rt: &R,
     alloc: Global,
     engine: &mut Plain,
-) -> Result<(), Fail> {
+) -> Result<bool, Fail> {
     for (path, file, wanted) in READINGS {
         let said = shown(rt, alloc, engine, path, file)?;
         if said.as_slice() != wanted.as_bytes() {
             return Err(Fail::new(wanted));
         }
     }
-    Ok(())
+    Ok(true)
 }
 
 /// That a file is not read comes before its group, and the group before what the root has not.
 #[test]
 fn refusals_of_a_reading(rt: HostRuntime) -> Result<(), Fail> {
-    let mut engine = plain(rt.alloc())?;
-    all_shown(&rt, rt.alloc(), &mut engine)
+    assert!(rt; passes(&rt, rt.alloc(), Trial::Readings)?);
+    Ok(())
 }
 
 /// Whether the newest record is of the fork of process 2.
@@ -289,7 +200,7 @@ fn undone<R: Threads + Wait + Sync>(
     said(alloc, &undone)
 }
 
-fn recorded<R: Threads + Wait + Sync>(
+pub(crate) fn recorded<R: Threads + Wait + Sync>(
     rt: &R,
     alloc: Global,
     engine: &mut Plain,
@@ -305,8 +216,7 @@ fn recorded<R: Threads + Wait + Sync>(
 /// The newest record and its command, and the undo that takes it back.
 #[test]
 fn newest_record(rt: HostRuntime) -> Result<(), Fail> {
-    let mut engine = plain(rt.alloc())?;
-    assert!(rt; recorded(&rt, rt.alloc(), &mut engine)?);
+    assert!(rt; passes(&rt, rt.alloc(), Trial::Newest)?);
     Ok(())
 }
 
@@ -323,7 +233,7 @@ fn is_slot_told<R: Threads + Wait + Sync>(
     Ok(said.as_slice() == wanted.as_bytes())
 }
 
-fn all_slots_told<R: Threads + Wait + Sync>(
+pub(crate) fn all_slots_told<R: Threads + Wait + Sync>(
     rt: &R,
     alloc: Global,
     engine: &mut Plain,
@@ -338,8 +248,7 @@ fn all_slots_told<R: Threads + Wait + Sync>(
 
 #[test]
 fn slots(rt: HostRuntime) -> Result<(), Fail> {
-    let mut engine = plain(rt.alloc())?;
-    assert!(rt; all_slots_told(&rt, rt.alloc(), &mut engine)?);
+    assert!(rt; passes(&rt, rt.alloc(), Trial::Slots)?);
     Ok(())
 }
 
@@ -370,7 +279,7 @@ fn is_taken_back<R: Threads + Wait + Sync>(rt: &R, engine: &mut Plain) -> bool {
     all & engine.newest().is_none()
 }
 
-fn journaled<R: Threads + Wait + Sync>(
+pub(crate) fn journaled<R: Threads + Wait + Sync>(
     rt: &R,
     alloc: Global,
     engine: &mut Plain,
@@ -382,7 +291,6 @@ fn journaled<R: Threads + Wait + Sync>(
 /// More than 65,536 commands are recorded, and each is taken back.
 #[test]
 fn long_journal(rt: HostRuntime) -> Result<(), Fail> {
-    let mut engine = plain(rt.alloc())?;
-    assert!(rt; journaled(&rt, rt.alloc(), &mut engine)?);
+    assert!(rt; passes(&rt, rt.alloc(), Trial::Journal)?);
     Ok(())
 }

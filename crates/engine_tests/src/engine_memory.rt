@@ -1,28 +1,14 @@
 //! Each allocation that a command asks for, refused in turn.
 
-use crate::engine::{answer, command, plain, said};
+use crate::answers::{answer, command, plain, said};
 use linked_list_allocator::LocalHeap;
 use pids_charge::{Meter, PlainMeter};
 use std::alloc::{AllocError, Allocator, Global};
 use std::sync::Wait;
 use std::test::Fail;
 use std::thread::Threads;
-use undo_journal::{Engine, Reply};
-
-/// Blocks of sixteen bytes that take all memory of a heap, up to ten thousand.
-fn filling<'a>(
-    alloc: Global,
-    heap: &'a LocalHeap,
-) -> Result<Vec<Vec<u8, &'a LocalHeap>>, AllocError> {
-    let mut blocks = Vec::new(alloc);
-    for _ in 0..10_000 {
-        match Vec::with_capacity(heap, 16) {
-            Ok(block) => blocks.push(block)?,
-            Err(_) => break,
-        }
-    }
-    Ok(blocks)
-}
+use test_support::all_but;
+use undo_journal::{Command, Engine, Reply};
 
 /// The newest recorded command; no text where there is none.
 fn newest<A: Allocator + Clone, M: Meter>(
@@ -66,21 +52,33 @@ fn seen<R: Threads + Wait + Sync, A: Allocator + Clone, M: Meter>(
 type InHeap<'a> = Engine<&'a LocalHeap, PlainMeter<Global>>;
 
 /// A new engine over this heap.
-fn in_heap(alloc: Global, heap: &LocalHeap) -> Result<InHeap<'_>, Fail> {
+fn in_heap(alloc: Global, heap: &LocalHeap) -> Result<InHeap<'_>, AllocError> {
     let meter = PlainMeter::new(alloc)?;
-    Ok(Engine::new(heap, meter)?)
+    Engine::new(heap, meter)
 }
 
-/// All memory of the heap but that many blocks of sixteen bytes.
-fn filling_but<'a>(
+/// The reply with that many blocks of sixteen bytes left in the heap.
+fn reply_in<'a, R: Threads + Wait + Sync>(
+    rt: &R,
     alloc: Global,
     heap: &'a LocalHeap,
+    engine: &mut InHeap<'a>,
+    command: &Command<Global>,
     room: usize,
-) -> Result<Vec<Vec<u8, &'a LocalHeap>>, AllocError> {
-    let mut blocks = filling(alloc, heap)?;
-    let left = blocks.len().saturating_sub(room);
-    blocks.truncate(left);
-    Ok(blocks)
+) -> Result<Reply<&'a LocalHeap>, AllocError> {
+    let _blocks = all_but(alloc, heap, room)?;
+    Ok(engine.apply(rt, 0, command))
+}
+
+/// A reply in the words of a replay; None where it is out of memory.
+fn said_with_memory<A: Allocator + Clone>(
+    alloc: Global,
+    reply: &Reply<A>,
+) -> Result<Option<Vec<u8>>, AllocError> {
+    match reply {
+        Reply::OutOfMemory => Ok(None),
+        _ => Ok(Some(said(alloc, reply)?)),
+    }
 }
 
 /// The answer with that many blocks of sixteen bytes left in the heap.
@@ -93,13 +91,8 @@ fn answer_in<'a, R: Threads + Wait + Sync>(
     room: usize,
 ) -> Result<Option<Vec<u8>>, Fail> {
     let command = command(alloc, line)?;
-    let blocks = filling_but(alloc, heap, room)?;
-    let reply = engine.apply(rt, 0, &command);
-    drop(blocks);
-    match reply {
-        Reply::OutOfMemory => Ok(None),
-        reply => Ok(Some(said(alloc, &reply)?)),
-    }
+    let reply = reply_in(rt, alloc, heap, engine, &command, room)?;
+    Ok(said_with_memory(alloc, &reply)?)
 }
 
 /// The first answer that is not out of memory, as the room grows by a block at a time; and
@@ -119,7 +112,7 @@ fn first_answer<'a, R: Threads + Wait + Sync>(
         }
         let after = seen(rt, alloc, engine)?;
         if after != before {
-            return Err(Fail::new("a refused growth left something changed"));
+            return Err(Fail::new("a refused allocation left something changed"));
         }
     }
     Err(Fail::new("there is no answer in 1,600 bytes"))
@@ -220,21 +213,14 @@ fn each_refused<'a, R: Threads + Wait + Sync>(
     alloc: Global,
     heap: &'a LocalHeap,
     engine: &mut InHeap<'a>,
-) -> Result<(), Fail> {
-    for (line, wanted, grows) in ROWS {
+) -> Result<Option<usize>, Fail> {
+    for (line, wanted, allocates) in ROWS {
         let (answer, is_refused) = first_answer(rt, alloc, heap, engine, line)?;
-        if answer.as_slice() != wanted.as_bytes() || is_refused != grows {
+        if answer.as_slice() != wanted.as_bytes() || is_refused != allocates {
             return Err(Fail::new(line));
         }
     }
-    Ok(())
-}
-
-#[test]
-fn each_growth_of_a_command_refused(rt: HostRuntime) -> Result<(), Fail> {
-    let heap = LocalHeap::new(rt.alloc(), 10_240)?;
-    let mut engine = in_heap(rt.alloc(), &heap)?;
-    each_refused(&rt, rt.alloc(), &heap, &mut engine)
+    Ok(Some(ROWS.len()))
 }
 
 /// A process ends in a group of a long name, whose text takes more than the fork behind it gives back.
@@ -257,10 +243,8 @@ fn undone_with<'a, R: Threads + Wait + Sync>(
     for line in ENDED {
         answer(rt, alloc, engine, line)?;
     }
-    let blocks = filling_but(alloc, heap, room)?;
-    let undone = engine.undo_all(rt, 0);
-    drop(blocks);
-    Ok(undone)
+    let _blocks = all_but(alloc, heap, room)?;
+    Ok(engine.undo_all(rt, 0))
 }
 
 /// What `undo_all` answers with that many blocks of sixteen bytes left in the heap. When out of
@@ -275,18 +259,8 @@ fn undone_or_resumed<'a, R: Threads + Wait + Sync>(
     match undone_with(rt, alloc, heap, engine, room)? {
         Ok(count) => Ok(Some(count)),
         Err((1, AllocError)) if is_resumed(rt, alloc, engine)? => Ok(None),
-        Err(_) => Err(Fail::new("a refused growth left something else")),
+        Err(_) => Err(Fail::new("a refused allocation left something else")),
     }
-}
-
-fn undone_in<R: Threads + Wait + Sync>(
-    rt: &R,
-    alloc: Global,
-    room: usize,
-) -> Result<Option<usize>, Fail> {
-    let heap = LocalHeap::new(alloc, 10_240)?;
-    let mut engine = in_heap(alloc, &heap)?;
-    undone_or_resumed(rt, alloc, &heap, &mut engine, room)
 }
 
 /// Whether process 1 is alone, and the end of process 2 is the newest of four records.
@@ -324,13 +298,52 @@ fn seen_at_the_start<R: Threads + Wait + Sync>(rt: &R, alloc: Global) -> Result<
     seen(rt, alloc, &mut engine)
 }
 
+/// What is tried on a new engine over a heap of its own.
+#[derive(Clone, Copy)]
+enum Trial {
+    /// The rows above, each with each of its allocations refused.
+    Commands,
+    /// `undo_all` with that many blocks of sixteen bytes left.
+    Undos(usize),
+}
+
+fn tried_on<'a, R: Threads + Wait + Sync>(
+    rt: &R,
+    alloc: Global,
+    heap: &'a LocalHeap,
+    engine: &mut InHeap<'a>,
+    trial: Trial,
+) -> Result<Option<usize>, Fail> {
+    match trial {
+        Trial::Commands => each_refused(rt, alloc, heap, engine),
+        Trial::Undos(room) => undone_or_resumed(rt, alloc, heap, engine, room),
+    }
+}
+
+/// How many rows were answered, or commands undone; None where `undo_all` was refused and has left what it should.
+fn tried<R: Threads + Wait + Sync>(
+    rt: &R,
+    alloc: Global,
+    trial: Trial,
+) -> Result<Option<usize>, Fail> {
+    let heap = LocalHeap::new(alloc, 10_240)?;
+    let mut engine = in_heap(alloc, &heap)?;
+    tried_on(rt, alloc, &heap, &mut engine, trial)
+}
+
+#[test]
+fn each_allocation_of_a_command_refused(rt: HostRuntime) -> Result<(), Fail> {
+    assert_eq!(rt; tried(&rt, rt.alloc(), Trial::Commands)?, Some(38));
+    Ok(())
+}
+
 /// Each allocation that `undo_all` asks for refused in turn, as the room grows by a block at a time.
 #[test]
-fn each_growth_of_undoing_all_refused(rt: HostRuntime) -> Result<(), Fail> {
+fn each_allocation_of_undoing_all_refused(rt: HostRuntime) -> Result<(), Fail> {
     let mut refusals = 0usize;
     let mut undone = None;
     for room in 0..100usize {
-        undone = undone_in(&rt, rt.alloc(), room)?;
+        undone = tried(&rt, rt.alloc(), Trial::Undos(room))?;
         if undone.is_some() {
             break;
         }

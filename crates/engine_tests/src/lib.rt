@@ -2,6 +2,8 @@
 //! and worked examples whose answers were written by hand. What a contract says of every input is not tested here once
 //! more.
 //!
+//! - `answers`: what an engine answers to a line.
+//! - `trials`: what is tried on a new engine.
 //! - `engine`: commands, their texts, and what the engine keeps of them.
 //! - `engine_memory`: each allocation that a command asks for, refused in turn.
 //! - `ample_memory`: answers where there is memory, in the cases where a wrong reason could hide behind `OutOfMemory`.
@@ -12,6 +14,8 @@
 #[cfg(test)]
 mod ample_memory;
 #[cfg(test)]
+mod answers;
+#[cfg(test)]
 mod engine;
 #[cfg(test)]
 mod engine_memory;
@@ -19,3 +23,5 @@ mod engine_memory;
 mod lines;
 #[cfg(test)]
 mod rehearsal;
+#[cfg(test)]
+mod trials;

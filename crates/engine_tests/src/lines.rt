@@ -2,8 +2,11 @@
 //! The answers are written by hand.
 
 use line_engine::{Answer, Found, LineEngine, Listing};
-use std::alloc::Global;
+use std::alloc::{AllocError, Global};
 use std::test::Fail;
+
+/// The first line or call that is answered otherwise than it should be.
+type Other = Option<&'static str>;
 
 /// Lines with their answers and codes, numbered from 1: one of each kind of answer.
 const ROWS: [(&str, &str, u32); 11] = [
@@ -42,68 +45,158 @@ fn is_answered(alloc: Global, lines: &mut LineEngine, number: u64, row: (&str, &
     is_left && told == Answer::Answered { len, code } && &buffer[..len] == wanted.as_bytes()
 }
 
+fn other_kind(alloc: Global, lines: &mut LineEngine) -> Other {
+    for (number, row) in (1u64..12).zip(ROWS) {
+        if !is_answered(alloc, lines, number, row) {
+            return Some(row.0);
+        }
+    }
+    if lines.depth() == 4 {
+        None
+    } else {
+        Some("another number of records")
+    }
+}
+
+/// Lines that have no answer, and an undo behind them that finds nothing.
+fn other_than_skipped(alloc: Global, lines: &mut LineEngine) -> Other {
+    for line in ["", " \t", "# mkdir /a"] {
+        if lines.answer(alloc, 1, line.as_bytes(), &mut []) != Answer::Skipped {
+            return Some(line);
+        }
+    }
+    let nothing = lines.answer(alloc, 1, b"undo", &mut [0u8; 18]);
+    if nothing == (Answer::Answered { len: 18, code: 14 }) {
+        None
+    } else {
+        Some("undo")
+    }
+}
+
+/// A text, the size of a buffer, what is told of the children of the group at the text, and their names in the buffer.
+const CHILDREN: [(&str, usize, Listing, &[u8]); 4] = [
+    ("/", 4, Listing::Listed { len: 4, count: 2 }, b"a\0b\0"),
+    ("/", 3, Listing::TooSmall, b""),
+    ("/c", 0, Listing::NoGroup, b""),
+    ("a", 0, Listing::BadPath, b""),
+];
+
+/// The size of a buffer, what is told of all groups, and their paths in the buffer.
+const GROUPS: [(usize, Listing, &[u8]); 2] = [
+    (
+        13,
+        Listing::Listed { len: 13, count: 4 },
+        b"/\0/a\0/a/c\0/b\0",
+    ),
+    (12, Listing::TooSmall, b""),
+];
+
+/// A text, and whether there is a group at it.
+const FOUND: [(&str, Found); 3] = [
+    ("/a/c", Found::There),
+    ("/c", Found::NoGroup),
+    ("/a/", Found::BadPath),
+];
+
+fn are_children(alloc: Global, lines: &LineEngine, row: (&str, usize, Listing, &[u8])) -> bool {
+    let (path, size, wanted, names) = row;
+    let mut buffer = [0u8; 16];
+    let told = lines.children(alloc, path.as_bytes(), &mut buffer[..size.min(16)]);
+    told == wanted && &buffer[..names.len().min(16)] == names
+}
+
+fn are_groups(alloc: Global, lines: &LineEngine, row: (usize, Listing, &[u8])) -> bool {
+    let (size, wanted, paths) = row;
+    let mut buffer = [0u8; 16];
+    let told = lines.groups(alloc, &mut buffer[..size.min(16)]);
+    told == wanted && &buffer[..paths.len().min(16)] == paths
+}
+
+fn other_listing(alloc: Global, lines: &LineEngine) -> Other {
+    for row in CHILDREN {
+        if !are_children(alloc, lines, row) {
+            return Some(row.0);
+        }
+    }
+    for row in GROUPS {
+        if !are_groups(alloc, lines, row) {
+            return Some("all groups");
+        }
+    }
+    for (path, wanted) in FOUND {
+        if lines.has_group(alloc, path.as_bytes()) != wanted {
+            return Some(path);
+        }
+    }
+    None
+}
+
+fn other_group(alloc: Global, lines: &mut LineEngine) -> Other {
+    for line in ["mkdir /b", "mkdir /a", "mkdir /a/c"] {
+        let answer = lines.answer(alloc, 1, line.as_bytes(), &mut [0u8; 5]);
+        if answer != (Answer::Answered { len: 5, code: 0 }) {
+            return Some(line);
+        }
+    }
+    other_listing(alloc, lines)
+}
+
+fn other_than_refused(alloc: Global, lines: &mut LineEngine) -> Other {
+    let mut buffer = [0u8; 5];
+    let is_right = match lines.answer(alloc, 1, b"mkdir /a", &mut buffer) {
+        Answer::Answered { len, code } => {
+            len == 5 && code == 0 && buffer == *b"1 ok\n" && lines.depth() == 1
+        }
+        other => other == Answer::OutOfMemory && lines.depth() == 0,
+    };
+    if is_right { None } else { Some("mkdir /a") }
+}
+
+/// What is tried on a new engine.
+#[derive(Clone, Copy)]
+enum Trial {
+    Kinds,
+    WithoutWords,
+    Groups,
+    OneLine,
+}
+
+fn other_on(alloc: Global, lines: &mut LineEngine, trial: Trial) -> Other {
+    match trial {
+        Trial::Kinds => other_kind(alloc, lines),
+        Trial::WithoutWords => other_than_skipped(alloc, lines),
+        Trial::Groups => other_group(alloc, lines),
+        Trial::OneLine => other_than_refused(alloc, lines),
+    }
+}
+
+fn other(alloc: Global, trial: Trial) -> Result<Other, AllocError> {
+    let mut lines = LineEngine::new(alloc)?;
+    Ok(other_on(alloc, &mut lines, trial))
+}
+
 #[test]
 fn each_kind_of_answer(rt: HostRuntime) -> Result<(), Fail> {
-    let mut lines = LineEngine::new(rt.alloc())?;
-    for (number, row) in (1u64..12).zip(ROWS) {
-        assert!(rt;
-            is_answered(rt.alloc(), &mut lines, number, row),
-            "{number}"
-        );
-    }
-    assert!(rt; lines.depth() == 4);
+    assert_eq!(rt; other(rt.alloc(), Trial::Kinds)?, None);
     Ok(())
 }
 
 #[test]
 fn a_line_without_words(rt: HostRuntime) -> Result<(), Fail> {
-    let mut lines = LineEngine::new(rt.alloc())?;
-    for line in ["", " \t", "# mkdir /a"] {
-        let answer = lines.answer(rt.alloc(), 1, line.as_bytes(), &mut []);
-        assert!(rt; answer == Answer::Skipped, "{line}");
-    }
-    let nothing = lines.answer(rt.alloc(), 1, b"undo", &mut [0u8; 18]);
-    assert!(rt; nothing == Answer::Answered { len: 18, code: 14 });
+    assert_eq!(rt; other(rt.alloc(), Trial::WithoutWords)?, None);
     Ok(())
 }
 
 #[test]
 fn groups_and_their_children(rt: HostRuntime) -> Result<(), Fail> {
-    let mut lines = LineEngine::new(rt.alloc())?;
-    for line in ["mkdir /b", "mkdir /a", "mkdir /a/c"] {
-        let answer = lines.answer(rt.alloc(), 1, line.as_bytes(), &mut [0u8; 5]);
-        assert!(rt; answer == Answer::Answered { len: 5, code: 0 }, "{line}");
-    }
-    let mut names = [0u8; 4];
-    let listed = lines.children(rt.alloc(), b"/", &mut names);
-    assert!(rt; listed == Listing::Listed { len: 4, count: 2 });
-    assert!(rt; names == *b"a\0b\0");
-    let small = lines.children(rt.alloc(), b"/", &mut names[..3]);
-    assert!(rt; small == Listing::TooSmall);
-    assert!(rt; lines.children(rt.alloc(), b"/c", &mut []) == Listing::NoGroup);
-    assert!(rt; lines.children(rt.alloc(), b"a", &mut []) == Listing::BadPath);
-    let mut paths = [0u8; 13];
-    let all = lines.groups(rt.alloc(), &mut paths);
-    assert!(rt; all == Listing::Listed { len: 13, count: 4 });
-    assert!(rt; paths == *b"/\0/a\0/a/c\0/b\0");
-    assert!(rt; lines.groups(rt.alloc(), &mut paths[..12]) == Listing::TooSmall);
-    assert!(rt; lines.has_group(rt.alloc(), b"/a/c") == Found::There);
-    assert!(rt; lines.has_group(rt.alloc(), b"/c") == Found::NoGroup);
-    assert!(rt; lines.has_group(rt.alloc(), b"/a/") == Found::BadPath);
+    assert_eq!(rt; other(rt.alloc(), Trial::Groups)?, None);
     Ok(())
 }
 
 /// With any one allocation refused, a line is answered or nothing has changed.
 #[test]
 fn a_refused_allocation(rt: HostRuntime) {
-    let Ok(mut lines) = LineEngine::new(rt.alloc()) else {
-        return;
-    };
-    let mut buffer = [0u8; 5];
-    match lines.answer(rt.alloc(), 1, b"mkdir /a", &mut buffer) {
-        Answer::Answered { len, code } => {
-            assert!(rt; len == 5 && code == 0 && buffer == *b"1 ok\n" && lines.depth() == 1);
-        }
-        other => assert!(rt; other == Answer::OutOfMemory && lines.depth() == 0),
+    if let Ok(other) = other(rt.alloc(), Trial::OneLine) {
+        assert_eq!(rt; other, None);
     }
 }

@@ -1,6 +1,7 @@
 //! Rehearsals in an arena.
 
-use crate::engine::{Plain, answer, command, plain, said};
+use crate::answers::{Plain, answer, command, said};
+use crate::trials::{Trial, passes};
 use bumpalo::Bump;
 use linked_list_allocator::LocalHeap;
 use std::alloc::{AllocError, Global};
@@ -27,7 +28,7 @@ const TEN: [(&str, &str); 10] = [
 ];
 
 /// Commands of which each leaves a record of another kind.
-const RECORDED: [(&str, &str); 11] = [
+pub(crate) const RECORDED: [(&str, &str); 11] = [
     ("mkdir /a", "ok"),
     ("mkdir /b", "ok"),
     ("fork 1 2", "ok"),
@@ -42,7 +43,7 @@ const RECORDED: [(&str, &str); 11] = [
 ];
 
 /// All of them taken back, with files read in between.
-const TAKEN_BACK: [(&str, &str); 16] = [
+pub(crate) const TAKEN_BACK: [(&str, &str); 16] = [
     ("undo", "rmdir /b"),
     ("undo", "write /b cgroup.kill 1"),
     ("cat /b cgroup.procs", "4\n"),
@@ -62,7 +63,7 @@ const TAKEN_BACK: [(&str, &str); 16] = [
 ];
 
 /// Processes in a group and in one below it.
-const HOUSED: [(&str, &str); 6] = [
+pub(crate) const HOUSED: [(&str, &str); 6] = [
     ("mkdir /a", "ok"),
     ("mkdir /a/b", "ok"),
     ("fork 1 2", "ok"),
@@ -72,7 +73,7 @@ const HOUSED: [(&str, &str); 6] = [
 ];
 
 /// What is counted of them as they go.
-const COUNTED: [(&str, &str); 10] = [
+pub(crate) const COUNTED: [(&str, &str); 10] = [
     ("cat /a pids.current", "2\n"),
     ("cat /a/b pids.current", "1\n"),
     ("cat /a cgroup.procs", "2\n"),
@@ -132,6 +133,19 @@ fn is_deep(engine: &Plain, depth: usize) -> Result<(), Fail> {
     Err(Fail::new("another number of commands is recorded"))
 }
 
+/// The replies of a rehearsal in an arena over the heap, and how many bytes of the heap were used for it.
+fn rehearsed_in<R: Threads + Wait + Sync>(
+    rt: &R,
+    alloc: Global,
+    heap: &LocalHeap,
+    engine: &Plain,
+    commands: &[Command<Global>],
+) -> Result<(Vec<Reply<Global>>, usize), AllocError> {
+    let arena = Bump::new(heap);
+    let replies = engine.rehearse(rt, alloc, &arena, commands)?;
+    Ok((replies, heap.used()))
+}
+
 /// Whether the ten commands are rehearsed in an arena over this heap, which is empty again then.
 fn is_heap_emptied<R: Threads + Wait + Sync>(
     rt: &R,
@@ -140,25 +154,31 @@ fn is_heap_emptied<R: Threads + Wait + Sync>(
     engine: &Plain,
 ) -> Result<bool, Fail> {
     let commands = commands(alloc, &TEN)?;
-    let arena = Bump::new(heap);
-    let replies = engine.rehearse(rt, alloc, &arena, commands.as_slice())?;
-    let is_used = heap.used() > 0;
-    drop(arena);
-    let is_right = are_replies(alloc, replies.as_slice(), &TEN)?;
-    Ok(is_used && heap.used() == 0 && is_right)
+    let (replies, used) = rehearsed_in(rt, alloc, heap, engine, commands.as_slice())?;
+    let is_emptied = used > 0 && heap.used() == 0;
+    Ok(is_emptied && are_replies(alloc, replies.as_slice(), &TEN)?)
+}
+
+/// The same over a heap of its own.
+fn is_own_heap_emptied<R: Threads + Wait + Sync>(
+    rt: &R,
+    alloc: Global,
+    engine: &Plain,
+) -> Result<bool, Fail> {
+    let heap = LocalHeap::new(alloc, 1 << 20)?;
+    is_heap_emptied(rt, alloc, &heap, engine)
 }
 
 /// What is left as it was by the rehearsal of the ten.
 const UNTOUCHED: [(&str, &str); 1] = [("cat /a pids.current", "0\n")];
 
-fn ten_rehearsed<R: Threads + Wait + Sync>(
+pub(crate) fn ten_rehearsed<R: Threads + Wait + Sync>(
     rt: &R,
     alloc: Global,
-    heap: &LocalHeap,
     engine: &mut Plain,
 ) -> Result<bool, Fail> {
     all_answered(rt, alloc, engine, &BEFORE)?;
-    let is_emptied = is_heap_emptied(rt, alloc, heap, engine)?;
+    let is_emptied = is_own_heap_emptied(rt, alloc, engine)?;
     is_deep(engine, 2)?;
     all_answered(rt, alloc, engine, &UNTOUCHED)?;
     all_answered(rt, alloc, engine, &TEN)?;
@@ -169,9 +189,7 @@ fn ten_rehearsed<R: Threads + Wait + Sync>(
 /// under the arena is empty; and `apply` answers as the rehearsal did.
 #[test]
 fn ten_commands(rt: HostRuntime) -> Result<(), Fail> {
-    let heap = LocalHeap::new(rt.alloc(), 1 << 20)?;
-    let mut engine = plain(rt.alloc())?;
-    assert!(rt; ten_rehearsed(&rt, rt.alloc(), &heap, &mut engine)?);
+    assert!(rt; passes(&rt, rt.alloc(), Trial::Ten)?);
     Ok(())
 }
 
@@ -190,7 +208,7 @@ fn is_rehearsed<R: Threads + Wait + Sync>(
 
 /// After one list of lines another is rehearsed and answered so, and once more by `apply`: the
 /// rehearsal has left the engine as it was.
-fn rehearsed_and_applied<R: Threads + Wait + Sync>(
+pub(crate) fn rehearsed_and_applied<R: Threads + Wait + Sync>(
     rt: &R,
     alloc: Global,
     engine: &mut Plain,
@@ -207,16 +225,14 @@ fn rehearsed_and_applied<R: Threads + Wait + Sync>(
 /// A record of each kind is copied, and taken back on the copy.
 #[test]
 fn each_record_rehearsed(rt: HostRuntime) -> Result<(), Fail> {
-    let mut engine = plain(rt.alloc())?;
-    assert!(rt; rehearsed_and_applied(&rt, rt.alloc(), &mut engine, &RECORDED, &TAKEN_BACK)?);
+    assert!(rt; passes(&rt, rt.alloc(), Trial::Records)?);
     Ok(())
 }
 
 /// Processes are copied with their groups and charges.
 #[test]
 fn processes_of_groups_rehearsed(rt: HostRuntime) -> Result<(), Fail> {
-    let mut engine = plain(rt.alloc())?;
-    assert!(rt; rehearsed_and_applied(&rt, rt.alloc(), &mut engine, &HOUSED, &COUNTED)?);
+    assert!(rt; passes(&rt, rt.alloc(), Trial::Processes)?);
     Ok(())
 }
 
@@ -238,7 +254,7 @@ fn is_arena_empty<R: Threads + Wait + Sync>(
 /// What is left as it was by the refused rehearsal.
 const LEFT: [(&str, &str); 2] = [("cat /a pids.current", "0\n"), ("where 2", "0::/\n")];
 
-fn refused_and_left<R: Threads + Wait + Sync>(
+pub(crate) fn refused_and_left<R: Threads + Wait + Sync>(
     rt: &R,
     alloc: Global,
     engine: &mut Plain,
@@ -253,7 +269,6 @@ fn refused_and_left<R: Threads + Wait + Sync>(
 /// An arena whose allocations are refused refuses the rehearsal, and is empty again.
 #[test]
 fn arena_without_room(rt: HostRuntime) -> Result<(), Fail> {
-    let mut engine = plain(rt.alloc())?;
-    assert!(rt; refused_and_left(&rt, rt.alloc(), &mut engine)?);
+    assert!(rt; passes(&rt, rt.alloc(), Trial::Refused)?);
     Ok(())
 }

@@ -23,7 +23,7 @@ fn main(rt: HostRuntime) -> anyhow::Result<()> {
     let (one, two) = (desk.session(0)?, desk.session(1)?);
     let (one, two) = join(&rt, || forks(&rt, one, 100), || forks(&rt, two, 105));
     let Ok(mut closed) = desk.close(&rt, vec![in rt.alloc(); one, two]?) else {
-        bail!("the receipts are not the log's entries");
+        bail!("the desk was not closed");
     };
     let refused = closed
         .log

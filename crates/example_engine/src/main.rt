@@ -1,7 +1,6 @@
 //! An engine of one's own: commands by text and by call, a refusal, an undo, and a group that is read.
 #![tactic(auto)]
 
-use anyhow::bail;
 use makhloeum::{
     Command, Engine, File, GroupPath, Line, Pid, PlainMeter, Reply, parse_line, put_reply,
 };
@@ -11,8 +10,6 @@ use std::str::from_utf8;
 use std::sync::Wait;
 use std::thread::Threads;
 
-type Groups = Engine<Global, PlainMeter<Global>>;
-
 fn say<R: Print>(rt: &R, alloc: Global, number: u64, reply: &Reply<Global>) -> anyhow::Result<()> {
     let mut answer = Vec::new(alloc);
     put_reply(alloc, &mut answer, number, reply)?;
@@ -20,10 +17,10 @@ fn say<R: Print>(rt: &R, alloc: Global, number: u64, reply: &Reply<Global>) -> a
     Ok(())
 }
 
-fn by_text<R: Threads + Wait + Sync + Print>(
+fn tell<R: Threads + Wait + Sync + Print>(
     rt: &R,
     alloc: Global,
-    groups: &mut Groups,
+    groups: &mut Engine<Global, PlainMeter<Global>>,
 ) -> anyhow::Result<()> {
     let lines = [
         "mkdir /jobs",
@@ -31,36 +28,25 @@ fn by_text<R: Threads + Wait + Sync + Print>(
         "write /jobs cgroup.procs 1",
     ];
     for (number, line) in (1u64..4).zip(lines) {
-        let Line::Run(command) = parse_line(alloc, line.as_bytes())? else {
-            bail!("not a command: {line}");
-        };
-        say(rt, alloc, number, &groups.apply(rt, 0, &command))?;
+        if let Line::Run(command) = parse_line(alloc, line.as_bytes())? {
+            say(rt, alloc, number, &groups.apply(rt, 0, &command))?;
+        }
     }
-    Ok(())
-}
-
-fn by_call<R: Threads + Wait + Sync + Print>(
-    rt: &R,
-    alloc: Global,
-    groups: &mut Groups,
-) -> anyhow::Result<()> {
-    let (Some(parent), Some(child)) = (Pid::new(1), Pid::new(2)) else {
-        bail!("not a process number");
-    };
-    let fork: Command<Global> = Command::Fork { parent, child };
-    say(rt, alloc, 4, &groups.apply(rt, 0, &fork))?;
-    say(rt, alloc, 5, &groups.undo(rt, 0))
-}
-
-fn main(rt: HostRuntime) -> anyhow::Result<()> {
-    let alloc: Global = rt.alloc();
-    let mut groups = Engine::new(alloc, PlainMeter::new(alloc)?)?;
-    by_text(&rt, alloc, &mut groups)?;
-    by_call(&rt, alloc, &mut groups)?;
+    if let (Some(parent), Some(child)) = (Pid::new(1), Pid::new(2)) {
+        let fork: Command<Global> = Command::Fork { parent, child };
+        say(rt, alloc, 4, &groups.apply(rt, 0, &fork))?;
+    }
+    say(rt, alloc, 5, &groups.undo(rt, 0))?;
     let jobs = GroupPath::read(alloc, b"/jobs")?;
     let limit = groups.render(alloc, &jobs, File::PidsMax)?;
     print!(rt; "pids.max: {}", from_utf8(limit.as_slice())?)?;
     println!(rt; "pids.current: {:?}", groups.current(&jobs))?;
     println!(rt; "populated: {:?}", groups.populated(&jobs))?;
     Ok(())
+}
+
+fn main(rt: HostRuntime) -> anyhow::Result<()> {
+    let alloc: Global = rt.alloc();
+    let mut groups = Engine::new(alloc, PlainMeter::new(alloc)?)?;
+    tell(&rt, alloc, &mut groups)
 }

@@ -21,9 +21,9 @@ known_no_stranger n log hs h known in_log order (inr (inr (inl named))) = not_na
 known_no_stranger n log hs h known in_log order (inr (inr (inr b))) =
     let P : Handed → Type 0 = λ e. InOrder e h in
     let o : InOrder b.1 h = subst P b.3 (order b.0 b.1 b.2) in
-    let rises : b.1.receipt.number < h.receipt.number = o.1 b.4.0 in
+    let ascends : b.1.receipt.number < h.receipt.number = o.1 b.4.0 in
     let less : h.receipt.number < b.1.receipt.number = b.4.1 in
-    omega (arith, rises, less)
+    omega (arith, ascends, less)
 
 pub next_no_stranger : (n : ℕ) (log : List Entry) (hs : List Handed) (h : Handed) → IsNext n log hs h → IsStranger n log hs h → ⊥
 next_no_stranger n log hs h x s = known_no_stranger n log hs h x.entry.0 (slice_get_within log h.receipt.number (entry_of h.session h.receipt) x.entry.1) x.order s
@@ -308,9 +308,9 @@ entries-each n log ss i e lt = found (handed ss) i e.sound.entries (e.each i lt)
 
 -- ---- ascending within each list
 
-pub rises : (p s : ℕ) (rs : List Receipt) → AllPairs InOrder (list_of p s rs) → IsStrictlyIncreasing (map (λ r. r.number) rs)
-rises p s [] order k lt = absurd (omega (arith, lt))
-rises p s (r ∷ rs) order k lt =
+pub ascends : (p s : ℕ) (rs : List Receipt) → AllPairs InOrder (list_of p s rs) → IsStrictlyIncreasing (map (λ r. r.number) rs)
+ascends p s [] order k lt = absurd (omega (arith, lt))
+ascends p s (r ∷ rs) order k lt =
     let f : Receipt → Handed = λ x. hand p s x in
     let num : Receipt → ℕ = λ x. x.number in
     let all : List Receipt = r ∷ rs in
@@ -325,12 +325,12 @@ rises p s (r ∷ rs) order k lt =
     let b : get_or (map num all) (k + 1) 0 ≡ (get_or all (k + 1) r).number = get_or-map num all (k + 1) r 0 two in
     omega (arith, less, a, b)
 
-lists_rise : (p : ℕ) (ss : List Session) → AllPairs InOrder (handed_from p ss) → All (λ s. IsStrictlyIncreasing (map (λ r. r.number) s.receipts)) ss
-lists_rise p [] order = All-nil (λ (s : Session). IsStrictlyIncreasing (map (λ (r : Receipt). r.number) s.receipts))
-lists_rise p (s ∷ ss) order =
+lists_ascend : (p : ℕ) (ss : List Session) → AllPairs InOrder (handed_from p ss) → All (λ s. IsStrictlyIncreasing (map (λ r. r.number) s.receipts)) ss
+lists_ascend p [] order = All-nil (λ (s : Session). IsStrictlyIncreasing (map (λ (r : Receipt). r.number) s.receipts))
+lists_ascend p (s ∷ ss) order =
     All-cons (λ (s : Session). IsStrictlyIncreasing (map (λ (r : Receipt). r.number) s.receipts)) s ss
-    (rises p s.number s.receipts (pairs_front InOrder (list_of p s.number s.receipts) (handed_from (p + 1) ss) order))
-    (lists_rise (p + 1) ss (pairs_back InOrder (list_of p s.number s.receipts) (handed_from (p + 1) ss) order))
+    (ascends p s.number s.receipts (pairs_front InOrder (list_of p s.number s.receipts) (handed_from (p + 1) ss) order))
+    (lists_ascend (p + 1) ss (pairs_back InOrder (list_of p s.number s.receipts) (handed_from (p + 1) ss) order))
 
-pub entries-rise : (n : ℕ) (log : List Entry) (ss : List Session) → AreEntries n log ss → All (λ s. IsStrictlyIncreasing (map (λ r. r.number) s.receipts)) ss
-entries-rise n log ss e = lists_rise 0 ss e.sound.order
+pub entries-ascend : (n : ℕ) (log : List Entry) (ss : List Session) → AreEntries n log ss → All (λ s. IsStrictlyIncreasing (map (λ r. r.number) s.receipts)) ss
+entries-ascend n log ss e = lists_ascend 0 ss e.sound.order

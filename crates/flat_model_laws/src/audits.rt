@@ -59,7 +59,7 @@ pub fn entries_once()
         → i < length log
         → Any (λ h. (h.receipt.number ≡ i) × (h.session < n)
         × (slice_get log i ≡ Some (entry_of h.session h.receipt))) (handed ss) }
-    ensures rising { (n : ℕ) (log : List Entry) (ss : List Session) → AreEntries n log ss
+    ensures ascending { (n : ℕ) (log : List Entry) (ss : List Session) → AreEntries n log ss
         → All (λ s. IsStrictlyIncreasing (map (λ r. r.number) s.receipts)) ss }
 {}
 

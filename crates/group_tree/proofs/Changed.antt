@@ -13,7 +13,7 @@ use Rattle.flat_model.proofs.MapValues.{get-map_values, len-map_values}
 use Rattle.flat_model.proofs.PathLaws.{path_cmp-IsTotalOrder, path_cmp-IsAntisymmetric, name_cmp-IsAntisymmetric, same_name_itself}
 use Rattle.group_tree.specs.declared.attr.Attr.{Attr}
 use Rattle.group_tree.specs.Groups.{Groups, IsClosed}
-use Rattle.group_tree.specs.Node.{Branch, below, groups_of, HasRisingNames, IsNode, place_of, NodeSets}
+use Rattle.group_tree.specs.Node.{Branch, below, groups_of, HasAscendingNames, IsNode, place_of, NodeSets}
 use Rattle.group_tree.proofs.Children.{below_get, found, missing, get_root, get_child}
 use Rattle.group_tree.proofs.ChildEdits.{below_get_tied}
 use Rattle.group_tree.proofs.Counted.{len-node}
@@ -86,17 +86,17 @@ module _ (f inner : Path → Attr → Attr) (own : Attr → Attr) (n : Name) (al
 
   -- ---- the node
 
-  root_stays : (attr : Attr) (old new : List Branch) → HasRisingNames old → HasRisingNames new → fin.get (groups_of attr new) [] ≡ option_map (f []) (fin.get (groups_of attr old) [])
+  root_stays : (attr : Attr) (old new : List Branch) → HasAscendingNames old → HasAscendingNames new → fin.get (groups_of attr new) [] ≡ option_map (f []) (fin.get (groups_of attr old) [])
   root_stays attr old new h k = get_root attr new k ∙ ap Some (along.root attr) ∙ ap (option_map (f [])) (sym (get_root attr old h))
 
-  module _ (attr : Attr) (kids slice : List Branch) (i : ℕ) (h : HasRisingNames kids) (s : slice ≡ kids) where
+  module _ (attr : Attr) (kids slice : List Branch) (i : ℕ) (h : HasAscendingNames kids) (s : slice ≡ kids) where
     pub changes_at : (kid after : Branch) → Ok i ≡ place_of n slice → kid ≡ get_or kids i kid → after.name ≡ kid.name → ((q : Path) → fin.get after.groups q ≡ option_map (f (n ∷ q)) (fin.get kid.groups q)) → Changes f (groups_of attr kids) (groups_of attr (set kids i after))
-    changes_at kid after at item named now [] = root_stays attr kids (set kids i after) h (edited_at kids slice n i kid after h at s item named).rising
+    changes_at kid after at item named now [] = root_stays attr kids (set kids i after) h (edited_at kids slice n i kid after h at s item named).ascending
     changes_at kid after at item named now (m ∷ q) =
         let e = edited_at kids slice n i kid after h at s item named in
         let at_kid = found n kids i (ap (place_of n) (sym s) ∙ sym at) in
         let was : below_get kids n q ≡ fin.get kid.groups q = at_kid.has kid q ∙ ap (λ (b : Branch). fin.get b.groups q) (sym item) in
-        get_child attr (set kids i after) m q e.rising ∙ e.gives m q
+        get_child attr (set kids i after) m q e.ascending ∙ e.gives m q
         ∙ elim (name_cmp m n) as (λ r. name_cmp m n ≡ r → cond (is_eq r) (fin.get after.groups q) (below_get kids m q) ≡ option_map (f (m ∷ q)) (below_get kids m q)) [
           | Less ↦ λ t. kept (f (m ∷ q)) (along.elsewhere m q (ap is_eq t)) (below_get kids m q)
           | Equal ↦ λ t.
@@ -119,7 +119,7 @@ module _ (f inner : Path → Attr → Attr) (own : Attr → Attr) (n : Name) (al
         ∙ ap (option_map (f (m ∷ q))) (sym (get_child attr kids m q h))
 
 -- the same of a change that is read from the names, which are n and p
-module _ (F : Path → Path → Attr → Attr) (inner : Path → Attr → Attr) (own : Attr → Attr) (n : Name) (p names : Path) (e : names ≡ n ∷ p) (along : IsAlong (F (n ∷ p)) inner own n) (attr : Attr) (kids slice : List Branch) (i : ℕ) (h : HasRisingNames kids) (s : slice ≡ kids) (b : Branch) (nm : Name) (is : ◌≡◌ {A = Branch} (record { name = nm; groups = groups_of attr kids }) b) where
+module _ (F : Path → Path → Attr → Attr) (inner : Path → Attr → Attr) (own : Attr → Attr) (n : Name) (p names : Path) (e : names ≡ n ∷ p) (along : IsAlong (F (n ∷ p)) inner own n) (attr : Attr) (kids slice : List Branch) (i : ℕ) (h : HasAscendingNames kids) (s : slice ≡ kids) (b : Branch) (nm : Name) (is : ◌≡◌ {A = Branch} (record { name = nm; groups = groups_of attr kids }) b) where
   pub changes_down : (kid after : Branch) → Ok i ≡ place_of n slice → kid ≡ get_or kids i kid → after.name ≡ kid.name → ((q : Path) → fin.get after.groups q ≡ option_map (F (n ∷ p) (n ∷ q)) (fin.get kid.groups q)) → Changes (F names) b.groups (groups_of attr (set kids i after))
   changes_down kid after at item named now =
       subst (λ (x : Path). Changes (F x) b.groups (groups_of attr (set kids i after))) (sym e)
@@ -163,10 +163,10 @@ module _ (f : Path → Attr → Attr) (old new : Groups) (changes : Changes f ol
     parents = λ p h. there (parent p) (c.parents p (was p h));
   }
 
-pub changed_node : (f : Path → Attr → Attr) (attr : Attr) (kids new : List Branch) (d : ℕ) → IsNode kids d → HasRisingNames new → Changes f (groups_of attr kids) (groups_of attr new) → IsNode new d
-changed_node f attr kids new d node rising changes =
-    let x = len-node attr kids node.rising in
-    let y = len-node attr new rising in
+pub changed_node : (f : Path → Attr → Attr) (attr : Attr) (kids new : List Branch) (d : ℕ) → IsNode kids d → HasAscendingNames new → Changes f (groups_of attr kids) (groups_of attr new) → IsNode new d
+changed_node f attr kids new d node ascending changes =
+    let x = len-node attr kids node.ascending in
+    let y = len-node attr new ascending in
     let z = len-changes f (groups_of attr kids) (groups_of attr new) changes in
     let same : length (below kids) ≡ length (below new) = omega (arith, x, y, z) in
-    record { rising = rising; counted = node.counted ∙ ap (λ (k : ℕ). k % 2 ^ 64) same }
+    record { ascending = ascending; counted = node.counted ∙ ap (λ (k : ℕ). k % 2 ^ 64) same }

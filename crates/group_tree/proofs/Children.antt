@@ -6,7 +6,7 @@ use Rattle.std.specs.Cmp.Lexicographic.{nat_list_cmp_total}
 use Rattle.std.specs.FinMap as fin
 use Rattle.flat_model.specs.Path.{Name, Path, name_cmp, path_cmp}
 use Rattle.group_tree.specs.declared.attr.Attr.{Attr}
-use Rattle.group_tree.specs.Node.{Branch, GroupEntry, under, below, groups_of, AllAbove, HasRisingNames, place_of, place_by, one_on}
+use Rattle.group_tree.specs.Node.{Branch, GroupEntry, under, below, groups_of, AllAbove, HasAscendingNames, place_of, place_by, one_on}
 use Rattle.group_tree.specs.Sorted.{sorted_node}
 
 -- what the children have at a path that begins with a name
@@ -45,7 +45,7 @@ pub above_less : (n m : Name) (kids : List Branch) → name_cmp n m ≡ Less →
 above_less n m [] e h = tt
 above_less n m (k ∷ kids) e h = (nat_list_cmp_total.trans n m k.name e h.0, above_less n m kids e h.1)
 
-pub find_in_below : (n : Name) (p : Path) (kids : List Branch) → HasRisingNames kids → fin.find path_cmp (n ∷ p) (below kids) ≡ below_get kids n p
+pub find_in_below : (n : Name) (p : Path) (kids : List Branch) → HasAscendingNames kids → fin.find path_cmp (n ∷ p) (below kids) ≡ below_get kids n p
 find_in_below n p [] h = refl
 find_in_below n p (k ∷ kids) h =
     elim (name_cmp n k.name) as (λ r. name_cmp n k.name ≡ r → fin.find path_cmp (n ∷ p) (under k.name (fin.entries k.groups) ++ below kids) ≡ cond (is_eq r) (fin.get k.groups p) (below_get kids n p)) [
@@ -54,11 +54,11 @@ find_in_below n p (k ∷ kids) h =
       | Greater ↦ λ e. find_under_other n k.name p (fin.entries k.groups) (below kids) (ap is_eq e) ∙ find_in_below n p kids h.1
     ] refl
 
-pub get_root : (attr : Attr) (kids : List Branch) → HasRisingNames kids → fin.get (groups_of attr kids) [] ≡ Some attr
+pub get_root : (attr : Attr) (kids : List Branch) → HasAscendingNames kids → fin.get (groups_of attr kids) [] ≡ Some attr
 unfolding groups_of
 get_root attr kids h = fin.get-from_sorted path_cmp (([], attr) ∷ below kids) [] (sorted_node attr kids h)
 
-pub get_child : (attr : Attr) (kids : List Branch) (n : Name) (p : Path) → HasRisingNames kids → fin.get (groups_of attr kids) (n ∷ p) ≡ below_get kids n p
+pub get_child : (attr : Attr) (kids : List Branch) (n : Name) (p : Path) → HasAscendingNames kids → fin.get (groups_of attr kids) (n ∷ p) ≡ below_get kids n p
 unfolding groups_of
 get_child attr kids n p h = fin.get-from_sorted path_cmp (([], attr) ∷ below kids) (n ∷ p) (sorted_node attr kids h) ∙ find_in_below n p kids h
 
@@ -103,7 +103,7 @@ below_get_above n p [] h = refl
 below_get_above n p (k ∷ kids) h = ap (λ r. cond (is_eq r) (fin.get k.groups p) (below_get kids n p)) h.0 ∙ below_get_above n p kids h.1
 
 -- no child is called so
-pub missing : (n : Name) (kids : List Branch) (i : ℕ) (p : Path) → HasRisingNames kids → place_of n kids ≡ Err i → below_get kids n p ≡ None
+pub missing : (n : Name) (kids : List Branch) (i : ℕ) (p : Path) → HasAscendingNames kids → place_of n kids ≡ Err i → below_get kids n p ≡ None
 missing n [] i p h e = refl
 missing n (k ∷ kids) i p h e =
     elim (name_cmp n k.name) as (λ r. name_cmp n k.name ≡ r → place_by r (place_of n kids) ≡ Err i → cond (is_eq r) (fin.get k.groups p) (below_get kids n p) ≡ None) [

@@ -1,6 +1,6 @@
 -- How many groups are strictly below a path.
 use Rattle.std.proofs.Common.{◌≡◌, ℕ, ◌+◌, ◌^◌, ◌%◌, ◌<◌, ◌≤◌, Bool, true, false, cond, ◌&&◌, not, List, [], ◌∷◌, ◌++◌, map, length, get_or, refl, ap, sym, ◌∙◌, subst, arith, suc, Ok, Option, Some, None, IsSome}
-use Rattle.std.specs.Prelude.{count_by, MatchOption, IfSome}
+use Rattle.std.specs.Prelude.{count_by, MatchOption, IfSome, option_map}
 use Rattle.std.proofs.lemmas.List.{length-map}
 use Rattle.std.specs.declared.cmp.Ordering.{Ordering}
 use Rattle.std.specs.declared.cmp.Ordering.TheVariants.{Less, Equal, Greater}
@@ -11,7 +11,7 @@ use Rattle.flat_model.proofs.PathLaws.{name_cmp-IsTotalOrder}
 use Rattle.flat_model.proofs.Sums.{count_by-cons}
 use Rattle.group_tree.specs.declared.attr.Attr.{Attr}
 use Rattle.group_tree.specs.Groups.{Groups, descendant_count}
-use Rattle.group_tree.specs.Node.{Branch, GroupEntry, under, below, groups_of, AllAbove, HasRisingNames, IsNode, place_of, place_by, Counts}
+use Rattle.group_tree.specs.Node.{Branch, GroupEntry, under, below, groups_of, AllAbove, HasAscendingNames, IsNode, place_of, place_by, Counts}
 use Rattle.group_tree.specs.Sorted.{entries_of_node}
 use Rattle.group_tree.proofs.Children.{later_ok, above_tied}
 use Rattle.group_tree.proofs.Walk.{find_down}
@@ -39,7 +39,7 @@ count_all (k ∷ kids) = count_under k.name (fin.entries k.groups) (below kids) 
 one_less : (c d n : ℕ) → c ≡ 0 + d → d ≡ n → c ≡ n
 one_less c d n e f = omega arith
 
-pub count_here : (attr : Attr) (kids : List Branch) → HasRisingNames kids → descendant_count (groups_of attr kids) [] ≡ length (below kids)
+pub count_here : (attr : Attr) (kids : List Branch) → HasAscendingNames kids → descendant_count (groups_of attr kids) [] ≡ length (below kids)
 count_here attr kids h =
     ap (count_in []) (entries_of_node attr kids h) ∙ one_less _ _ _ (count_in-cons [] ([], attr) (below kids)) (count_all kids)
 
@@ -76,7 +76,7 @@ count_above : (n : Name) (p : Path) (kids : List Branch) → AllAbove n kids →
 count_above n p [] h = refl
 count_above n p (k ∷ kids) h = count_other n k.name p (fin.entries k.groups) (below kids) Greater (turned n k.name Less h.0) refl ∙ count_above n p kids h.1
 
-count_found : (n : Name) (p : Path) (kids : List Branch) (i : ℕ) (d : Branch) → HasRisingNames kids → place_of n kids ≡ Ok i → count_in (n ∷ p) (below kids) ≡ count_in p (fin.entries (get_or kids i d).groups)
+count_found : (n : Name) (p : Path) (kids : List Branch) (i : ℕ) (d : Branch) → HasAscendingNames kids → place_of n kids ≡ Ok i → count_in (n ∷ p) (below kids) ≡ count_in p (fin.entries (get_or kids i d).groups)
 count_found n p [] i d h e = cc
 count_found n p (k ∷ kids) i d h e =
     elim (name_cmp n k.name) as (λ r. name_cmp n k.name ≡ r → place_by r (place_of n kids) ≡ Ok i → count_in (n ∷ p) (under k.name (fin.entries k.groups) ++ below kids) ≡ count_in p (fin.entries (get_or (k ∷ kids) i d).groups)) [
@@ -93,7 +93,7 @@ count_found n p (k ∷ kids) i d h e =
           ∙ ap (λ (j : ℕ). count_in p (fin.entries (get_or (k ∷ kids) j d).groups)) (sym l.2)
     ] refl e
 
-pub count_down : (attr : Attr) (kids : List Branch) (n : Name) (p : Path) (i : ℕ) (d : Branch) → HasRisingNames kids → place_of n kids ≡ Ok i → descendant_count (groups_of attr kids) (n ∷ p) ≡ descendant_count (get_or kids i d).groups p
+pub count_down : (attr : Attr) (kids : List Branch) (n : Name) (p : Path) (i : ℕ) (d : Branch) → HasAscendingNames kids → place_of n kids ≡ Ok i → descendant_count (groups_of attr kids) (n ∷ p) ≡ descendant_count (get_or kids i d).groups p
 count_down attr kids n p i d h e =
     ap (count_in (n ∷ p)) (entries_of_node attr kids h) ∙ one_less _ _ _ (count_in-cons (n ∷ p) ([], attr) (below kids)) (count_found n p kids i d h e)
 
@@ -101,16 +101,16 @@ count_down attr kids n p i d h e =
 
 pub counts_here : (attr : Attr) (kids : List Branch) (b : Branch) (nm : Name) (names : Path) (k : ℕ) → ◌≡◌ {A = Branch} (record { name = nm; groups = groups_of attr kids }) b → IsNode kids k → names ≡ [] → Counts b.groups names (Some k)
 counts_here attr kids b nm names k is h e =
-    let root : IsSome (fin.get b.groups []) = root_is_some attr kids b nm is h.rising in
+    let root : IsSome (fin.get b.groups []) = root_is_some attr kids b nm is h.ascending in
     let number : k ≡ descendant_count b.groups [] % 2 ^ 64 =
-    h.counted ∙ ap (λ (x : ℕ). x % 2 ^ 64) (sym (count_here attr kids h.rising)) ∙ ap (λ (x : Branch). descendant_count x.groups [] % 2 ^ 64) is in
+    h.counted ∙ ap (λ (x : ℕ). x % 2 ^ 64) (sym (count_here attr kids h.ascending)) ∙ ap (λ (x : Branch). descendant_count x.groups [] % 2 ^ 64) is in
     subst (λ (x : Path). Counts b.groups x (Some k)) (sym e) (root, number)
 
 counts_by : (old kid : Groups) (names p : Path) (r : Option ℕ) → fin.get kid p ≡ fin.get old names → descendant_count old names ≡ descendant_count kid p → Counts kid p r → Counts old names r
 counts_by old kid names p None g e h = sym g ∙ h
 counts_by old kid names p (Some k) g e h = (subst IsSome g h.0, h.1 ∙ ap (λ (x : ℕ). x % 2 ^ 64) (sym e))
 
-pub counts_down : (attr : Attr) (kids slice : List Branch) (b kid : Branch) (nm : Name) (names : Path) (n : Name) (p : Path) (i : ℕ) (r : Option ℕ) → ◌≡◌ {A = Branch} (record { name = nm; groups = groups_of attr kids }) b → HasRisingNames kids → names ≡ n ∷ p → Ok i ≡ place_of n slice → slice ≡ kids → kid ≡ get_or kids i kid → Counts kid.groups p r → Counts b.groups names r
+pub counts_down : (attr : Attr) (kids slice : List Branch) (b kid : Branch) (nm : Name) (names : Path) (n : Name) (p : Path) (i : ℕ) (r : Option ℕ) → ◌≡◌ {A = Branch} (record { name = nm; groups = groups_of attr kids }) b → HasAscendingNames kids → names ≡ n ∷ p → Ok i ≡ place_of n slice → slice ≡ kids → kid ≡ get_or kids i kid → Counts kid.groups p r → Counts b.groups names r
 counts_down attr kids slice b kid nm names n p i r is h e at s item c =
     let place : place_of n kids ≡ Ok i = ap (place_of n) (sym s) ∙ sym at in
     let number : descendant_count b.groups names ≡ descendant_count kid.groups p =
@@ -148,3 +148,12 @@ exact_at m tree names p (Some k) is e h few =
     let long = length-map (fin.entries tree) (λ e. e.0) in
     let size = fin.len-entries tree in
     (counted_at m tree names p (Some k) is e h).1 ∙ small_mod (descendant_count tree p) (omega (arith, all, long, size, few))
+
+-- the same, where the number is a part of the answer
+pub counted_beside : {X : Type 0} (m tree : Groups) (names p : Path) (number : X → ℕ) (r : Option X) → m ≡ tree → names ≡ p → Counts m names (option_map number r) → IfSome r (λ x. number x ≡ descendant_count tree p % 2 ^ 64)
+counted_beside m tree names p number None is e h = tt
+counted_beside m tree names p number (Some x) is e h = (counted_at m tree names p (Some (number x)) is e h).1
+
+pub exact_beside : {X : Type 0} (m tree : Groups) (names p : Path) (number : X → ℕ) (r : Option X) → m ≡ tree → names ≡ p → Counts m names (option_map number r) → fin.len tree < 2 ^ 64 → IfSome r (λ x. number x ≡ descendant_count tree p)
+exact_beside m tree names p number None is e h few = tt
+exact_beside m tree names p number (Some x) is e h few = exact_at m tree names p (Some (number x)) is e h few

@@ -24,4 +24,5 @@ pub mod Prefixes
 mod Upward
 mod LimitsMet
 mod LimitsUpward
+mod Admitted
 mod InPlace

@@ -10,7 +10,7 @@ use Rattle.group_tree.specs.declared.limits.MetLimit.TheVariants.{Descendants, D
 use Rattle.group_tree.specs.Flat.{limit_of}
 use Rattle.group_tree.specs.Groups.{Groups, descendant_count}
 use Rattle.group_tree.specs.Limits.{met_here, first_met}
-use Rattle.group_tree.specs.Node.{Branch, groups_of, HasRisingNames, IsNode, place_of}
+use Rattle.group_tree.specs.Node.{Branch, groups_of, HasAscendingNames, IsNode, place_of}
 use Rattle.group_tree.proofs.Walk.{find_down, find_none}
 use Rattle.group_tree.proofs.Steps.{own_attr}
 use Rattle.group_tree.proofs.Descendants.{count_down, count_here}
@@ -24,7 +24,7 @@ kept m q = descendant_count m q % 2 ^ 64
 
 own_count : (attr : Attr) (kids : List Branch) (b : Branch) (nm : Name) (k : ℕ) → ◌≡◌ {A = Branch} (record { name = nm; groups = groups_of attr kids }) b → IsNode kids k → k ≡ kept b.groups []
 own_count attr kids b nm k is h =
-    h.counted ∙ ap (λ (x : ℕ). x % 2 ^ 64) (sym (count_here attr kids h.rising)) ∙ ap (λ (x : Branch). kept x.groups []) is
+    h.counted ∙ ap (λ (x : ℕ). x % 2 ^ 64) (sym (count_here attr kids h.ascending)) ∙ ap (λ (x : Branch). kept x.groups []) is
 
 -- by its two tests
 pub met_by : (attr : Attr) (kids : List Branch) (b : Branch) (nm : Name) (k levels n : ℕ) (s t : Bool) → ◌≡◌ {A = Branch} (record { name = nm; groups = groups_of attr kids }) b → IsNode kids k →
@@ -32,7 +32,7 @@ pub met_by : (attr : Attr) (kids : List Branch) (b : Branch) (nm : Name) (k leve
     cond s (Some (Descendants n)) (cond t (Some (Depth n)) None) ≡ met_here (fin.get b.groups []) (kept b.groups []) levels n
 met_by attr kids b nm k levels n s t is h e1 e2 =
     (λ i. cond (e1 i) (Some (Descendants n)) (cond (e2 i) (Some (Depth n)) None))
-    ∙ (λ i. met_here (own_attr attr kids b nm is h.rising i) (own_count attr kids b nm k is h i) levels n)
+    ∙ (λ i. met_here (own_attr attr kids b nm is h.ascending i) (own_count attr kids b nm k is h i) levels n)
 
 -- ---- the way down
 
@@ -51,14 +51,14 @@ levels_of above n names x p e is =
     let k = ap length is in
     omega (arith, e, k)
 
-pub met_missing : (attr : Attr) (kids slice : List Branch) (b : Branch) (nm : Name) (names : Path) (x : Name) (p : Path) (i above n : ℕ) (r : Option MetLimit) → ◌≡◌ {A = Branch} (record { name = nm; groups = groups_of attr kids }) b → HasRisingNames kids →
+pub met_missing : (attr : Attr) (kids slice : List Branch) (b : Branch) (nm : Name) (names : Path) (x : Name) (p : Path) (i above n : ℕ) (r : Option MetLimit) → ◌≡◌ {A = Branch} (record { name = nm; groups = groups_of attr kids }) b → HasAscendingNames kids →
     names ≡ x ∷ p → Err i ≡ place_of x slice → slice ≡ kids → above ≡ n + length names → r ≡ met_here (fin.get b.groups []) (kept b.groups []) (above - n) n → r ≡ first_met (fin.get b.groups) (kept b.groups) names n
 met_missing attr kids slice b nm names x p i above n r is h e at s far met =
     let none = first_none (λ q. fin.get b.groups (x ∷ q)) (λ q. kept b.groups (x ∷ q)) p (n + 1) (λ q. sym (find_none attr kids slice b nm (x ∷ q) x q i is h refl at s)) in
     met ∙ (λ j. option_or (sym none j) (met_here (fin.get b.groups []) (kept b.groups []) (levels_of above n names x p far e j) n))
     ∙ sym (first_met-below (fin.get b.groups) (kept b.groups) x p n) ∙ ap (λ q. first_met (fin.get b.groups) (kept b.groups) q n) (sym e)
 
-pub met_below : (attr : Attr) (kids slice : List Branch) (b kid : Branch) (nm : Name) (names : Path) (x : Name) (p : Path) (i above n : ℕ) (below here : Option MetLimit) → ◌≡◌ {A = Branch} (record { name = nm; groups = groups_of attr kids }) b → HasRisingNames kids →
+pub met_below : (attr : Attr) (kids slice : List Branch) (b kid : Branch) (nm : Name) (names : Path) (x : Name) (p : Path) (i above n : ℕ) (below here : Option MetLimit) → ◌≡◌ {A = Branch} (record { name = nm; groups = groups_of attr kids }) b → HasAscendingNames kids →
     names ≡ x ∷ p → Ok i ≡ place_of x slice → slice ≡ kids → kid ≡ get_or kids i kid → above ≡ n + length names →
     below ≡ first_met (fin.get kid.groups) (kept kid.groups) p (n + 1) → here ≡ met_here (fin.get b.groups []) (kept b.groups []) (above - n) n → option_or below here ≡ first_met (fin.get b.groups) (kept b.groups) names n
 met_below attr kids slice b kid nm names x p i above n below here is h e at s item far met own =

@@ -11,7 +11,7 @@ use Rattle.std.specs.FinMap as fin
 use Rattle.std.specs.FinMap.Entries.{is_sorted, below_all}
 use Rattle.flat_model.specs.Path.{Name, Path, name_cmp, path_cmp, parent, same_path, same_name}
 use Rattle.group_tree.specs.declared.attr.Attr.{Attr}
-use Rattle.group_tree.specs.Node.{Branch, GroupEntry, under, below, groups_of, AllAbove, HasRisingNames, place_of, place_by}
+use Rattle.group_tree.specs.Node.{Branch, GroupEntry, under, below, groups_of, AllAbove, HasAscendingNames, place_of, place_by}
 use Rattle.group_tree.specs.Sorted.{entries_of_node}
 use Rattle.group_tree.specs.ChildNames.{last_name, is_child, child_names, NamesChildren, names_of_groups}
 use Rattle.group_tree.proofs.Children.{above_tied, later_ok}
@@ -114,7 +114,7 @@ names_above m g (k ∷ kids) h =
     ∙ ap (λ (xs : List Name). xs ++ names_in (below kids) (m ∷ g)) (names_other k.name m g (fin.entries k.groups) (turned k.name m Less h.0))
     ∙ names_above m g kids h.1
 
-names_at : (m : Name) (g : Path) (kids : List Branch) (i : ℕ) (d : Branch) → HasRisingNames kids → place_of m kids ≡ Ok i → names_in (below kids) (m ∷ g) ≡ child_names (fin.keys (get_or kids i d).groups) g
+names_at : (m : Name) (g : Path) (kids : List Branch) (i : ℕ) (d : Branch) → HasAscendingNames kids → place_of m kids ≡ Ok i → names_in (below kids) (m ∷ g) ≡ child_names (fin.keys (get_or kids i d).groups) g
 names_at m g [] i d h e = cc
 names_at m g (k ∷ kids) i d h e =
     elim (name_cmp m k.name) as (λ r. name_cmp m k.name ≡ r → place_by r (place_of m kids) ≡ Ok i → names_in (below (k ∷ kids)) (m ∷ g) ≡ child_names (fin.keys (get_or (k ∷ kids) i d).groups) g) [
@@ -140,25 +140,25 @@ names_at m g (k ∷ kids) i d h e =
 
 -- ---- as an answer at a return needs it
 
-names_of_node : (attr : Attr) (kids : List Branch) (b : Branch) (nm : Name) (g : Path) → ◌≡◌ {A = Branch} (record { name = nm; groups = groups_of attr kids }) b → HasRisingNames kids → child_names (fin.keys b.groups) g ≡ names_in (below kids) g
-names_of_node attr kids b nm g is rising =
+names_of_node : (attr : Attr) (kids : List Branch) (b : Branch) (nm : Name) (g : Path) → ◌≡◌ {A = Branch} (record { name = nm; groups = groups_of attr kids }) b → HasAscendingNames kids → child_names (fin.keys b.groups) g ≡ names_in (below kids) g
+names_of_node attr kids b nm g is ascending =
     ap (λ (c : Branch). child_names (fin.keys c.groups) g) (sym is)
-    ∙ ap (λ (es : List GroupEntry). names_in es g) (entries_of_node attr kids rising)
+    ∙ ap (λ (es : List GroupEntry). names_in es g) (entries_of_node attr kids ascending)
 
-pub names_here : (attr : Attr) (kids slice : List Branch) (b : Branch) (nm : Name) (names : Path) (r : List Name) → ◌≡◌ {A = Branch} (record { name = nm; groups = groups_of attr kids }) b → HasRisingNames kids → names ≡ [] → slice ≡ kids → r ≡ names_of_groups slice → NamesChildren b.groups names (Some r)
-names_here attr kids slice b nm names r is rising e s from = (
-  subst IsSome (find_here attr kids b nm names is rising e) refl,
-  from ∙ ap names_of_groups s ∙ sym (names_below kids) ∙ sym (names_of_node attr kids b nm [] is rising) ∙ ap (child_names (fin.keys b.groups)) (sym e),
+pub names_here : (attr : Attr) (kids slice : List Branch) (b : Branch) (nm : Name) (names : Path) (r : List Name) → ◌≡◌ {A = Branch} (record { name = nm; groups = groups_of attr kids }) b → HasAscendingNames kids → names ≡ [] → slice ≡ kids → r ≡ names_of_groups slice → NamesChildren b.groups names (Some r)
+names_here attr kids slice b nm names r is ascending e s from = (
+  subst IsSome (find_here attr kids b nm names is ascending e) refl,
+  from ∙ ap names_of_groups s ∙ sym (names_below kids) ∙ sym (names_of_node attr kids b nm [] is ascending) ∙ ap (child_names (fin.keys b.groups)) (sym e),
 )
 
-pub names_down : (attr : Attr) (kids slice : List Branch) (b kid : Branch) (nm : Name) (names : Path) (n : Name) (p : Path) (i : ℕ) (r : Option (List Name)) → ◌≡◌ {A = Branch} (record { name = nm; groups = groups_of attr kids }) b → HasRisingNames kids → names ≡ n ∷ p → Ok i ≡ place_of n slice → slice ≡ kids → kid ≡ get_or kids i kid → NamesChildren kid.groups p r → NamesChildren b.groups names r
-names_down attr kids slice b kid nm names n p i None is rising e at s item h =
-    sym (find_down attr kids slice b kid nm names n p i is rising e at s item) ∙ h
-names_down attr kids slice b kid nm names n p i (Some r) is rising e at s item h = (
-  subst IsSome (find_down attr kids slice b kid nm names n p i is rising e at s item) h.0,
+pub names_down : (attr : Attr) (kids slice : List Branch) (b kid : Branch) (nm : Name) (names : Path) (n : Name) (p : Path) (i : ℕ) (r : Option (List Name)) → ◌≡◌ {A = Branch} (record { name = nm; groups = groups_of attr kids }) b → HasAscendingNames kids → names ≡ n ∷ p → Ok i ≡ place_of n slice → slice ≡ kids → kid ≡ get_or kids i kid → NamesChildren kid.groups p r → NamesChildren b.groups names r
+names_down attr kids slice b kid nm names n p i None is ascending e at s item h =
+    sym (find_down attr kids slice b kid nm names n p i is ascending e at s item) ∙ h
+names_down attr kids slice b kid nm names n p i (Some r) is ascending e at s item h = (
+  subst IsSome (find_down attr kids slice b kid nm names n p i is ascending e at s item) h.0,
   h.1
       ∙ ap (λ (k : Branch). child_names (fin.keys k.groups) p) item
-      ∙ sym (names_at n p kids i kid rising (ap (place_of n) (sym s) ∙ sym at))
-      ∙ sym (names_of_node attr kids b nm (n ∷ p) is rising)
+      ∙ sym (names_at n p kids i kid ascending (ap (place_of n) (sym s) ∙ sym at))
+      ∙ sym (names_of_node attr kids b nm (n ∷ p) is ascending)
       ∙ ap (child_names (fin.keys b.groups)) (sym e),
 )

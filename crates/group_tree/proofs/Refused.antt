@@ -6,7 +6,7 @@ use Rattle.flat_model.specs.Path.{Name, Path, same_path}
 use Rattle.flat_model.specs.Step.{counts_for}
 use Rattle.group_tree.specs.declared.attr.Attr.{Attr}
 use Rattle.group_tree.specs.Groups.{Groups}
-use Rattle.group_tree.specs.Node.{Branch, groups_of, HasRisingNames}
+use Rattle.group_tree.specs.Node.{Branch, groups_of, HasAscendingNames}
 use Rattle.group_tree.specs.declared.events.Change.TheVariants.{Raise}
 use Rattle.group_tree.specs.Refusals.{counted_by, stepped, Counts, HasRoomForRefusals}
 use Rattle.group_tree.proofs.Children.{get_root, get_child}
@@ -26,11 +26,11 @@ module _ (g : ℕ → ℕ) where
   stays m q None = refl
   stays m q (Some x) = refl
 
-  at_end : (attr : Attr) (kids : List Branch) (l : ℕ) → HasRisingNames kids → l ≡ g attr.local → Counts g (groups_of attr kids) (groups_of (record attr { local = l }) kids) []
+  at_end : (attr : Attr) (kids : List Branch) (l : ℕ) → HasAscendingNames kids → l ≡ g attr.local → Counts g (groups_of attr kids) (groups_of (record attr { local = l }) kids) []
   at_end attr kids l h e [] = get_root (record attr { local = l }) kids h ∙ ap (λ (k : ℕ). Some (record attr { local = k })) e ∙ ap (option_map (counted_by g [] [])) (sym (get_root attr kids h))
   at_end attr kids l h e (m ∷ q) = get_child (record attr { local = l }) kids m q h ∙ sym (get_child attr kids m q h) ∙ stays m q (fin.get (groups_of attr kids) (m ∷ q))
 
-  pub counts_here : (attr : Attr) (kids : List Branch) (b : Branch) (nm : Name) (names : Path) (l : ℕ) → ◌≡◌ {A = Branch} (record { name = nm; groups = groups_of attr kids }) b → HasRisingNames kids → names ≡ [] → l ≡ g attr.local → Counts g b.groups (groups_of (record attr { local = l }) kids) names
+  pub counts_here : (attr : Attr) (kids : List Branch) (b : Branch) (nm : Name) (names : Path) (l : ℕ) → ◌≡◌ {A = Branch} (record { name = nm; groups = groups_of attr kids }) b → HasAscendingNames kids → names ≡ [] → l ≡ g attr.local → Counts g b.groups (groups_of (record attr { local = l }) kids) names
   counts_here attr kids b nm names l is h e was =
       subst (λ (c : Branch). Counts g c.groups (groups_of (record attr { local = l }) kids) names) is
       (subst (λ (x : Path). Counts g (groups_of attr kids) (groups_of (record attr { local = l }) kids) x) (sym e) (at_end attr kids l h was))

@@ -1,10 +1,12 @@
 pub mod Groups
 pub mod Flat
 pub mod Limits
+pub mod Admission
 pub mod Along
 pub mod ChildNames
 pub mod Refusals
 pub mod Peaks
 pub mod Node
+pub mod Settings
 pub mod Sorted
 pub mod Codes

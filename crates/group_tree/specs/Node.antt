@@ -42,13 +42,13 @@ AllAbove name [] = Unit {0}
 AllAbove name (kid ∷ kids) = (name_cmp name kid.name ≡ Less) × AllAbove name kids
 
 -- the names strictly ascend
-abbrev pub HasRisingNames : List Branch → Type 0
-HasRisingNames [] = Unit {0}
-HasRisingNames (kid ∷ kids) = AllAbove kid.name kids × HasRisingNames kids
+abbrev pub HasAscendingNames : List Branch → Type 0
+HasAscendingNames [] = Unit {0}
+HasAscendingNames (kid ∷ kids) = AllAbove kid.name kids × HasAscendingNames kids
 
 -- what a node keeps: its children in order, and how many groups are below it, modulo 2^64
 pub record IsNode (kids : List Branch) (descendants : ℕ) : Type 0 where
-  pub rising : HasRisingNames kids
+  pub ascending : HasAscendingNames kids
   pub counted : descendants ≡ length (below kids) % 2 ^ 64
 
 -- a place one further on

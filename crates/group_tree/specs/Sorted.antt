@@ -11,7 +11,7 @@ use lib.Dec.{T}
 use denote.Param.Weighed.{most}
 use Rattle.flat_model.specs.Path.{name_cmp, path_cmp}
 use Rattle.group_tree.specs.declared.attr.Attr.{Attr}
-use Rattle.group_tree.specs.Node.{Branch, GroupEntry, under, below, groups_of, AllAbove, HasRisingNames}
+use Rattle.group_tree.specs.Node.{Branch, GroupEntry, under, below, groups_of, AllAbove, HasAscendingNames}
 
 both : (a b : Bool) → T a → T b → T (a && b)
 both true b p q = q
@@ -57,7 +57,7 @@ sorted_append n [] kids h a s = s
 sorted_append n (e ∷ es) kids h a s =
     both _ _ (below_append (n ∷ e.0) (under n es) (below kids) (below_under n e.0 es (first _ _ h)) (below_kids n e.0 kids a)) (sorted_append n es kids (second _ _ h) a s)
 
-pub sorted_below : (kids : List Branch) → HasRisingNames kids → T (is_sorted path_cmp (below kids))
+pub sorted_below : (kids : List Branch) → HasAscendingNames kids → T (is_sorted path_cmp (below kids))
 sorted_below [] h = tt
 sorted_below (k ∷ kids) h = sorted_append k.name (fin.entries k.groups) kids (fin.entries_sorted k.groups) h.0 (sorted_below kids h.1)
 
@@ -70,10 +70,10 @@ root_below [] = tt
 root_below (k ∷ kids) = root_under k.name (fin.entries k.groups) (below kids) (root_below kids)
 
 -- the entries of a node in order
-pub sorted_node : (attr : Attr) (kids : List Branch) → HasRisingNames kids → T (is_sorted path_cmp (([], attr) ∷ below kids))
+pub sorted_node : (attr : Attr) (kids : List Branch) → HasAscendingNames kids → T (is_sorted path_cmp (([], attr) ∷ below kids))
 sorted_node attr kids h = both _ _ (root_below kids) (sorted_below kids h)
 
-pub entries_of_node : (attr : Attr) (kids : List Branch) → HasRisingNames kids → fin.entries (groups_of attr kids) ≡ ([], attr) ∷ below kids
+pub entries_of_node : (attr : Attr) (kids : List Branch) → HasAscendingNames kids → fin.entries (groups_of attr kids) ≡ ([], attr) ∷ below kids
 unfolding groups_of
 entries_of_node attr kids h = fin.entries-from_sorted path_cmp (([], attr) ∷ below kids) (sorted_node attr kids h)
 
@@ -86,6 +86,6 @@ most_le-below [] = omega arith
 most_le-below (k ∷ kids) =
     omega (arith, most_le-below kids, length-append (under k.name (fin.entries k.groups)) (below kids), length-under k.name (fin.entries k.groups), fin.len-entries k.groups)
 
-pub most_le-groups : (attr : Attr) (kids : List Branch) → HasRisingNames kids → most (λ k. fin.len k.groups + 1) kids ≤ fin.len (groups_of attr kids)
+pub most_le-groups : (attr : Attr) (kids : List Branch) → HasAscendingNames kids → most (λ k. fin.len k.groups + 1) kids ≤ fin.len (groups_of attr kids)
 most_le-groups attr kids h =
     omega (arith, most_le-below kids, fin.len-entries (groups_of attr kids), ap length (entries_of_node attr kids h))

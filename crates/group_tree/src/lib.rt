@@ -2,13 +2,13 @@
 //!
 //! - A tree is a finite map from paths to attributes. It has the root at all times, and with a group every group on the
 //!   way to it.
-//! - `insert`, `set` and `remove` change one path and nothing else. A refusal changes nothing, also where memory runs out
-//!   in the middle of an insert: there is no half-made group.
+//! - `insert`, `set`, `replace_limit` and `remove` change one path and nothing else. A refusal changes nothing, also where
+//!   memory runs out in the middle of an insert: there is no half-made group.
 //! - Refusals come in a fixed order, and each names its cause. Only `insert`, `copy`, `new`, and a `chain` of more than
 //!   eight groups take memory: a group's parent's list of children grows, and a name of more than 23 bytes takes a block.
 //! - A look-up goes down once, in O(depth · log children) comparisons of names. How many groups are below each group is
 //!   kept, so that limits on descendants, and on all groups, are tested without a walk. The limits of the hierarchy that a
-//!   new group meets are all asked in one such descent.
+//!   new group meets are all asked in one such descent, and so is all that stands against it (`admits`).
 //! - What the groups along a path have comes one after another in one descent (`along`), and the event totals of those
 //!   groups are counted up and down in one (`count_refusal`, `uncount_refusal`), and their peaks set in one (`set_peaks`).
 //!   None of these takes memory.
@@ -25,6 +25,7 @@
 //! the laws of `hierarchy_laws` what these definitions tell.
 #![tactic(auto)]
 
+mod admission;
 mod along;
 mod attr;
 mod chain;
@@ -40,6 +41,7 @@ mod remove;
 mod set;
 mod tree;
 
+pub use admission::Admission;
 pub use along::Along;
 pub use attr::{Attr, Limit, LimitFile, Limits};
 pub use child_names::ChildNames;

@@ -37,7 +37,7 @@ impl<A: Allocator> Node<A> {
     ghost use Rattle.group_tree.specs.Limits.{met_here, first_met};
 
     /// Which of its own limits a new group so many levels below it meets, where its path has `n` names.
-    fn met_here(&self, levels: usize, n: usize) -> Option<MetLimit>
+    pub(crate) fn met_here(&self, levels: usize, n: usize) -> Option<MetLimit>
         ensures { result ≡ met_here (fin.get self.now.groups []) (descendant_count self.now.groups [] % 2 ^ 64) levels n }
     {
         if is_reached(self.attr.limits.descendants, self.descendants) {

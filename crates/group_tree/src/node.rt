@@ -1,10 +1,10 @@
 //! A group with the groups below it, and what is read of it and on the way down.
 
-ghost use Rattle.std.specs.Prelude.{◌≡◌, ◌≢◌, ◌<◌, ◌≤◌, ◌-◌, ◌%◌, ◌^◌, [], length, Some, MatchResult};
+ghost use Rattle.std.specs.Prelude.{◌≡◌, ◌≢◌, ◌<◌, ◌≤◌, ◌-◌, ◌%◌, ◌^◌, [], length, Some, MatchResult, option_map};
 ghost use Rattle.std.specs.Option.{option_copied};
 ghost use Rattle.std.specs.FinMap as fin;
 ghost use Rattle.flat_model.specs.Path.{name_cmp};
-ghost use Rattle.group_tree.specs.Node.{HasRisingNames, place_of, Counts, IsLeafOrNot};
+ghost use Rattle.group_tree.specs.Node.{HasAscendingNames, place_of, Counts, IsLeafOrNot};
 
 use crate::attr::Attr;
 use group_path::Names;
@@ -45,12 +45,12 @@ impl<A: Allocator> Model for Node<A> {
 
     ghost use Rattle.std.proofs.Common.{arith};
 
-    ghost size_decreases = { λ n h. omega (arith, most_le-groups n.attr n.children.items h.rising) };
+    ghost size_decreases = { λ n h. omega (arith, most_le-groups n.attr n.children.items h.ascending) };
 }
 
 /// Where the child of this name stands, or else where it would: in O(log children) comparisons of names.
 pub(crate) fn place<A: Allocator>(children: &[Node<A>], name: &[u8]) -> Result<usize, usize>
-    requires { HasRisingNames children.now }
+    requires { HasAscendingNames children.now }
     ensures value { result ≡ place_of name.now children.now }
     ensures bound { MatchResult result (λ at. at < length children.now) (λ at. at ≤ length children.now) }
 {
@@ -107,13 +107,9 @@ impl<A: Allocator> Node<A> {
     pub(crate) fn find(&self, names: Names<'_>) -> Option<&Attr>
         ensures { option_copied result ≡ fin.get self.now.groups names.entry }
     {
-        let mut names = names;
-        match names.next() {
-            None => Some(&self.attr),
-            Some(name) => match place(&self.children, name) {
-                Ok(at) => self.children[at].find(names),
-                Err(_) => None,
-            },
+        match self.find_with_descendants(names) {
+            Some((attr, _)) => Some(attr),
+            None => None,
         }
     }
 
@@ -121,11 +117,22 @@ impl<A: Allocator> Node<A> {
     pub(crate) fn descendants(&self, names: Names<'_>) -> Option<u64>
         ensures { Counts self.now.groups names.entry result }
     {
+        match self.find_with_descendants(names) {
+            Some((_, descendants)) => Some(descendants),
+            None => None,
+        }
+    }
+
+    /// What the group at these names from here has, and how many groups are below it, modulo 2^64.
+    pub(crate) fn find_with_descendants(&self, names: Names<'_>) -> Option<(&Attr, u64)>
+        ensures found { option_map (λ f. f.0.now) result ≡ fin.get self.now.groups names.entry }
+        ensures counted { Counts self.now.groups names.entry (option_map (λ f. f.1) result) }
+    {
         let mut names = names;
         match names.next() {
-            None => Some(self.descendants),
+            None => Some((&self.attr, self.descendants)),
             Some(name) => match place(&self.children, name) {
-                Ok(at) => self.children[at].descendants(names),
+                Ok(at) => self.children[at].find_with_descendants(names),
                 Err(_) => None,
             },
         }

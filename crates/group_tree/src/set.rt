@@ -1,31 +1,53 @@
 //! A group changed on the way down.
 
 ghost use Rattle.std.specs.Prelude.{◌≡◌};
-ghost use Rattle.group_tree.specs.Node.{NodeSets};
+ghost use Rattle.group_tree.specs.Settings.{IsSetBy, NodeSetsBy};
 
-use crate::attr::Attr;
+use crate::attr::{Attr, Limit, LimitFile};
 use crate::node::{Node, place};
 use group_path::Names;
 use std::alloc::Allocator;
 
+/// What of a group is set.
+#[derive(Clone, Copy)]
+pub(crate) enum Setting {
+    /// All that it has.
+    Whole(Attr),
+    /// The limit that stands in the file.
+    OneLimit(LimitFile, Limit),
+}
+
+impl Setting {
+    /// What a group has after it.
+    fn of(self, attr: Attr) -> Attr
+        ensures { IsSetBy self attr result }
+    {
+        match self {
+            Setting::Whole(whole) => whole,
+            Setting::OneLimit(file, limit) => attr.with_limit(file, limit),
+        }
+    }
+}
+
 impl<A: Allocator> Node<A> {
-    /// Changes what the group at these names from here has; false where there is none.
-    pub(crate) fn set(&mut self, names: Names<'_>, attr: Attr) -> bool
+    /// Changes what the group at these names from here has, and gives back what it had; None where there is none.
+    pub(crate) fn set(&mut self, names: Names<'_>, setting: Setting) -> Option<Attr>
         ensures name { self.new.name ≡ self.old.name }
-        ensures groups { NodeSets self.old.groups self.new.groups names.entry attr result }
+        ensures groups { NodeSetsBy setting self.old.groups self.new.groups names.entry result }
     {
         let mut names = names;
         match names.next() {
             None => {
-                self.attr = attr;
-                true
+                let attr = self.attr;
+                self.attr = setting.of(attr);
+                Some(attr)
             }
             Some(name) => match place(&self.children, name) {
                 Ok(at) => {
                     let child = &mut self.children[at];
-                    child.set(names, attr)
+                    child.set(names, setting)
                 }
-                Err(_) => false,
+                Err(_) => None,
             },
         }
     }

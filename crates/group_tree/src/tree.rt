@@ -11,15 +11,19 @@ ghost use Rattle.group_tree.specs.ChildNames.{NamesChildren};
 ghost use Rattle.group_tree.specs.Refusals.{Counts};
 ghost use Rattle.group_tree.specs.Peaks.{SetsPeaks};
 ghost use Rattle.group_tree.specs.Limits.{without_processes, refusal_along, names_of};
+ghost use Rattle.group_tree.specs.Admission.{Admits};
+ghost use Rattle.group_tree.specs.Settings.{ReplacesLimit};
 ghost use Rattle.group_tree.specs.Groups.{IsClosed, Inserts, Sets, Removes, only_root, descendant_count, chain_of};
 
+use crate::admission::Admission;
 use crate::along::Along;
-use crate::attr::Attr;
+use crate::attr::{Attr, Limit, LimitFile};
 use crate::child_names::ChildNames;
 use crate::events::Change;
 use crate::fault::TreeFault;
 use crate::limits::MetLimit;
 use crate::node::Node;
+use crate::set::Setting;
 use group_path::GroupPath;
 use smallvec::SmallVec;
 use std::alloc::{AllocError, Allocator};
@@ -65,7 +69,7 @@ impl<A: Allocator> GroupTree<A> {
     pub fn set<B: Allocator + Clone>(&mut self, path: &GroupPath<B>, attr: Attr) -> bool
         ensures { Sets self.old self.new path.now attr result }
     {
-        self.root.set(path.names(), attr)
+        self.root.set(path.names(), Setting::Whole(attr)).is_some()
     }
 
     /// Changes what the group at the first `n` names of the path has; false where there is no such group. Costs no more
@@ -79,7 +83,23 @@ impl<A: Allocator> GroupTree<A> {
         requires { n ≤ length path.now }
         ensures { Sets self.old self.new (take n path.now) attr result }
     {
-        self.root.set(path.first_names(n), attr)
+        self.root
+            .set(path.first_names(n), Setting::Whole(attr))
+            .is_some()
+    }
+
+    /// Sets a limit of the group at the path, and gives back the one that stood there; None where there is no such group. It
+    /// goes down once, as `find` does, and takes no memory.
+    pub fn replace_limit<B: Allocator + Clone>(
+        &mut self,
+        path: &GroupPath<B>,
+        file: LimitFile,
+        limit: Limit,
+    ) -> Option<Limit>
+        ensures { ReplacesLimit self.old self.new path.now file limit result }
+    {
+        let attr = self.root.set(path.names(), Setting::OneLimit(file, limit))?;
+        Some(attr.limit(file))
     }
 
     /// What the groups on the way along the path have, from the one below the root down to the path's own; it ends before
@@ -158,6 +178,19 @@ impl<A: Allocator> GroupTree<A> {
         self.root.descendants(path.first_names(n))
     }
 
+    /// What the group at the path has, and how many groups are strictly below it, as `find` and `descendants` say them; None
+    /// where there is no such group. It goes down once, as `find` does.
+    pub fn find_with_descendants<B: Allocator + Clone>(
+        &self,
+        path: &GroupPath<B>,
+    ) -> Option<(&Attr, u64)>
+        ensures found { option_map (λ f. f.0.now) result ≡ fin.get self.now path.now }
+        ensures counted { IfSome result (λ f. f.1 ≡ descendant_count self.now path.now % 2 ^ 64) }
+        ensures exact { fin.len self.now < 2 ^ 64 → IfSome result (λ f. f.1 ≡ descendant_count self.now path.now) }
+    {
+        self.root.find_with_descendants(path.names())
+    }
+
     /// The first limit of the hierarchy that a new group under the one at the first `n` names of the path meets, from
     /// there up to the root, and of one group the limit on descendants first; None where none is met. It goes down once,
     /// as `find` does. The counts are exact as long as the tree has fewer than 2^64 groups.
@@ -167,6 +200,15 @@ impl<A: Allocator> GroupTree<A> {
         ensures inside { IfSome result (λ met. names_of met ≤ n) }
     {
         self.root.met_limit(path.first_names(n), n, 0)
+    }
+
+    /// What stands against a new group at the path, memory aside, and what comes first in this order: that it is there, that
+    /// its parent is not, the first limit of the hierarchy that it meets, as `met_limit` says it. It goes down once, as
+    /// `find` does. The counts are exact as long as the tree has fewer than 2^64 groups.
+    pub fn admits<B: Allocator + Clone>(&self, path: &GroupPath<B>) -> Admission
+        ensures { Admits self.now path.now result }
+    {
+        self.root.admits(path.names(), path.depth(), 0)
     }
 
     /// The slots from the group at the path upward, the root left out; None where there is no such group, which takes no

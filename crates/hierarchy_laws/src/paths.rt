@@ -16,7 +16,7 @@ pub fn answers_follow_the_grammar()
     ensures memory { (g : Result Path grammar.PathFault) → FollowsGrammar (Err OutOfMemory) g ↔ IsOk g }
 {}
 
-/// A test of the grammar passes exactly where it has no fault, and else answers that fault; it never wants memory.
+/// A test of the grammar passes exactly where it has no fault, and else answers that fault; it is never out of memory.
 pub fn tests_follow_the_grammar()
     ensures passed { (o : Option grammar.PathFault) → (checked o ≡ Ok tt) ↔ (o ≡ None) }
     ensures fault { (f : grammar.PathFault) (o : Option grammar.PathFault) → (checked o ≡ Err (fault_of f)) ↔ (o ≡ Some f) }

@@ -1,7 +1,7 @@
 //! A tree of five groups, and tables of calls on it, each with what it answers.
 
 use group_path::GroupPath;
-use group_tree::{Attr, GroupTree, Limit, LimitFile, Limits, MetLimit, TreeFault};
+use group_tree::{Admission, Attr, GroupTree, Limit, LimitFile, Limits, MetLimit, TreeFault};
 use std::alloc::{AllocError, Allocator, Global};
 use std::test::Fail;
 use test_support::path;
@@ -55,6 +55,8 @@ pub(crate) enum Call {
     /// How many groups are below it.
     Below,
     BelowAt(usize),
+    /// Both at once: ten times the slot, and how many are below.
+    FindWithBelow,
     /// How many groups there are beside the root.
     All,
     /// The slots upward, as the digits of a number.
@@ -70,6 +72,10 @@ pub(crate) enum Call {
     SetAt(usize, u16),
     /// Another limit in a file; answers 1.
     Limit(LimitFile, Limit),
+    /// The same in one call; answers the number that stood there, and 0 where there was no limit.
+    Replace(LimitFile, Limit),
+    /// What stands against a new group: that it is there or has no parent, or else the limit that is met, as `Met` has it.
+    Admits,
     /// Answers the slot.
     Insert(u16),
     /// Answers the slot, where the rest is as `attr` has it.
@@ -191,6 +197,33 @@ fn limit<A: Allocator>(
     }
 }
 
+fn found_with_below(found: Option<(&Attr, u64)>) -> Result<u64, TreeFault> {
+    match found {
+        Some((attr, below)) => match slot_of(*attr) {
+            Ok(slot) => Ok(slot.saturating_mul(10).saturating_add(below)),
+            Err(fault) => Err(fault),
+        },
+        None => Err(TreeFault::NoGroup),
+    }
+}
+
+fn replaced(earlier: Option<Limit>) -> Result<u64, TreeFault> {
+    match earlier {
+        Some(Limit::At(most)) => Ok(u64::from(most)),
+        Some(Limit::Unlimited) => Ok(0),
+        None => Err(TreeFault::NoGroup),
+    }
+}
+
+fn admitted(admission: Admission) -> Result<u64, TreeFault> {
+    match admission {
+        Admission::Exists => Err(TreeFault::Exists),
+        Admission::NoParent => Err(TreeFault::NoParent),
+        Admission::Met(limit) => Ok(met(Some(limit))),
+        Admission::Free => Ok(0),
+    }
+}
+
 fn met(limit: Option<MetLimit>) -> u64 {
     match limit {
         None => 0,
@@ -228,6 +261,7 @@ pub(crate) fn answer<A: Allocator + Clone>(
         Call::FindAt(n) => found(tree.find_at(path, n.min(depth))),
         Call::Below => counted(tree.descendants(path)),
         Call::BelowAt(n) => counted(tree.descendants_at(path, n.min(depth))),
+        Call::FindWithBelow => found_with_below(tree.find_with_descendants(path)),
         Call::All => Ok(tree.groups_beside_root()),
         Call::Chain => chain(tree, path),
         Call::Along => Ok(along(tree, path)),
@@ -236,6 +270,8 @@ pub(crate) fn answer<A: Allocator + Clone>(
         Call::Set(slot) => done(tree.set(path, attr(slot))),
         Call::SetAt(n, slot) => done(tree.set_at(path, n.min(depth), attr(slot))),
         Call::Limit(file, value) => done(limit(tree, path, file, value)),
+        Call::Replace(file, value) => replaced(tree.replace_limit(path, file, value)),
+        Call::Admits => admitted(tree.admits(path)),
         Call::Insert(slot) => match tree.insert(path, attr(slot)) {
             Ok(()) => Ok(u64::from(slot)),
             Err(fault) => Err(fault),

@@ -1,7 +1,7 @@
 //! The limits that a group has, and the first that a new group meets.
 
 use crate::calls::{Call, first_other_of_sample};
-use group_tree::{Attr, Limit, LimitFile, Limits};
+use group_tree::{Attr, Limit, LimitFile, Limits, TreeFault};
 use std::test::Fail;
 
 /// Attributes with these limits of processes, of descendants and of depth.
@@ -62,6 +62,17 @@ fn meets_limits(rt: HostRuntime) -> Result<(), Fail> {
         ("/a/b/c", Call::Met(2), Ok(22)),
         ("/a/b/c", Call::Met(3), Ok(22)),
         ("/e", Call::Met(1), Ok(11)),
+        // The same of the path of the new group, once it is known that it is not there and its parent is.
+        ("/", Call::Admits, Err(TreeFault::Exists)),
+        ("/a/d", Call::Admits, Err(TreeFault::Exists)),
+        ("/x/d", Call::Admits, Err(TreeFault::NoParent)),
+        ("/a/b/x/c", Call::Admits, Err(TreeFault::NoParent)),
+        ("/x", Call::Admits, Ok(0)),
+        ("/a/x", Call::Admits, Ok(11)),
+        ("/a/d/x", Call::Admits, Ok(11)),
+        ("/a/b/x", Call::Admits, Ok(22)),
+        ("/a/b/c/x", Call::Admits, Ok(22)),
+        ("/e/x", Call::Admits, Ok(11)),
     ];
     assert_eq!(rt; first_other_of_sample(rt.alloc(), true, &rows)?, None);
     Ok(())
@@ -76,6 +87,35 @@ fn meets_the_limit_of_the_root(rt: HostRuntime) -> Result<(), Fail> {
         ("/", Call::Limit(LimitFile::MaxDepth, Limit::At(2)), Ok(1)),
         ("/a/b", Call::Met(1), Ok(0)),
         ("/a/b", Call::Met(2), Ok(20)),
+        ("/a/x", Call::Admits, Ok(0)),
+        ("/a/b/x", Call::Admits, Ok(20)),
+    ];
+    assert_eq!(rt; first_other_of_sample(rt.alloc(), true, &rows)?, None);
+    Ok(())
+}
+
+/// A limit that is replaced is answered, and the others stay.
+#[test]
+fn replaces_limits(rt: HostRuntime) -> Result<(), Fail> {
+    let depth = LimitFile::MaxDepth;
+    let descendants = LimitFile::MaxDescendants;
+    let none = Err(TreeFault::NoGroup);
+    let rows = [
+        ("/a/b", Call::Replace(descendants, Limit::At(2)), Ok(0)),
+        ("/a/b", Call::Replace(depth, Limit::At(3)), Ok(0)),
+        ("/a/b", Call::Replace(descendants, Limit::At(1)), Ok(2)),
+        ("/a/x", Call::Replace(depth, Limit::At(1)), none),
+        ("/a/b/x", Call::Admits, Ok(12)),
+        ("/a/b", Call::Replace(descendants, Limit::Unlimited), Ok(1)),
+        ("/a/b", Call::Replace(depth, Limit::At(0)), Ok(3)),
+        ("/a/b/x", Call::Admits, Ok(22)),
+        (
+            "/a/b",
+            Call::Replace(LimitFile::PidsMax, Limit::At(4)),
+            Ok(0),
+        ),
+        ("/a/b", Call::Replace(depth, Limit::Unlimited), Ok(0)),
+        ("/a/b/x", Call::Admits, Ok(0)),
     ];
     assert_eq!(rt; first_other_of_sample(rt.alloc(), true, &rows)?, None);
     Ok(())

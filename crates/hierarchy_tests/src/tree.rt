@@ -22,6 +22,10 @@ fn reads(rt: HostRuntime) -> Result<(), Fail> {
         ("/a/b", Call::Below, Ok(1)),
         ("/e", Call::Below, Ok(0)),
         ("/a/x", Call::Below, none),
+        ("/", Call::FindWithBelow, Ok(5)),
+        ("/a", Call::FindWithBelow, Ok(13)),
+        ("/a/b/c", Call::FindWithBelow, Ok(30)),
+        ("/a/x", Call::FindWithBelow, none),
         ("/", Call::All, Ok(5)),
         // The first names of a path need not be a group's.
         ("/a/b/x", Call::FindAt(0), Ok(0)),

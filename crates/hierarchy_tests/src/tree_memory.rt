@@ -1,7 +1,7 @@
 //! A tree in a small heap: what a refused allocation leaves.
 
 use crate::calls::{Call, answer, attr};
-use crate::wide_and_deep::{deep, is_rising, nest};
+use crate::wide_and_deep::{deep, is_ascending, nest};
 use group_tree::{GroupTree, TreeFault};
 use linked_list_allocator::LocalHeap;
 use std::alloc::{AllocError, Allocator, Global};
@@ -96,7 +96,7 @@ fn made_in(alloc: Global, size: usize, stem: &str, most: u16) -> Result<Option<u
     };
     match filled(alloc, &heap, &mut tree, stem, most)? {
         Some(made) if has_first(alloc, &mut tree, stem, made)? => Ok(Some(made)),
-        _ => Err(Fail::new("a refused growth left something changed")),
+        _ => Err(Fail::new("a refused allocation left something changed")),
     }
 }
 
@@ -156,7 +156,7 @@ fn in_65536_bytes(rt: HostRuntime) -> Result<(), Fail> {
 /// the name, then that of the list of children, whose new node is given back. A name takes fewer than 64 bytes, so what
 /// is refused in a larger heap before the first group is there is the list.
 #[test]
-fn each_growth_of_an_insert_refused(rt: HostRuntime) -> Result<(), Fail> {
+fn each_allocation_of_an_insert_refused(rt: HostRuntime) -> Result<(), Fail> {
     let mut is_refused_behind_the_name = false;
     let mut is_whole = false;
     for step in 1..160usize {
@@ -254,7 +254,7 @@ fn chained_in(alloc: Global, size: usize) -> Result<Option<bool>, Fail> {
         return Ok(None);
     }
     let is_had = match tree.chain(&deepest) {
-        Ok(Some(slots)) => is_rising(&slots, 9),
+        Ok(Some(slots)) => is_ascending(&slots, 9),
         Ok(None) => return Err(Fail::new("the chain of a group is not found")),
         Err(AllocError) => false,
     };

@@ -36,7 +36,7 @@ pub(crate) fn nest<A: Allocator + Clone>(
 }
 
 /// Whether the slots are those of nested groups from that depth up to 1.
-pub(crate) fn is_rising(slots: &[u16], depth: u16) -> bool {
+pub(crate) fn is_ascending(slots: &[u16], depth: u16) -> bool {
     let mut next = depth;
     for slot in slots {
         if *slot != next {
@@ -73,7 +73,7 @@ fn comes_along<A: Allocator>(tree: &GroupTree<A>, deepest: &GroupPath<Global>, d
 /// Whether that many groups have their slots upward.
 fn has_chain<A: Allocator>(tree: &GroupTree<A>, deepest: &GroupPath<Global>, depth: u16) -> bool {
     match tree.chain(deepest) {
-        Ok(Some(slots)) => is_rising(&slots, depth),
+        Ok(Some(slots)) => is_ascending(&slots, depth),
         _ => false,
     }
 }

@@ -6,7 +6,8 @@ use Rattle.snzi_core.specs.declared.holding.Role.TheVariants.{Main}
 use Rattle.snzi_core.specs.Holding.{empty}
 use Rattle.snzi_core.specs.Shape.{leaf_word, stripe_word}
 use Rattle.snzi_core.proofs.Lists.{at_nothing}
-use Rattle.snzi_tree.specs.Contents.{IsWithin, AllInRange, content_of, amounts_to}
+use Rattle.snzi_core.specs.Listed.{IsWithin}
+use Rattle.snzi_tree.specs.Contents.{AllInRange, content_of, amounts_to}
 
 either : (t : Bool) (n : ℕ) → n ≡ 0 → cond t n 0 ≡ 0
 either true n e = e

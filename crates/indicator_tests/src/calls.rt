@@ -2,7 +2,8 @@
 ghost use Rattle.std.specs.Prelude.{◌≡◌, ℕ, ◌+◌, ◌<◌, ◌≤◌, length};
 ghost use Rattle.snzi_core.specs.Caps.{helper_cap};
 ghost use Rattle.snzi_core.specs.Holding.{held, out};
-ghost use Rattle.snzi_tree.specs.Contents.{content_of, share_at, IsWithin};
+ghost use Rattle.snzi_core.specs.Listed.{IsWithin, listed_at};
+ghost use Rattle.snzi_tree.specs.Contents.{content_of};
 ghost use Rattle.snzi_tree.specs.Hands.{IsHandOf, holds, SameHand, IsMain};
 ghost use Rattle.indicator_tests.specs.Works.{IsFresh, IsBack};
 
@@ -67,7 +68,7 @@ fn arrive_all(board: &Board<1, 7, 4>, hand: &mut Hand, tokens: &[Token])
     requires room { held (holds hand.old) + length tokens.now ≤ HELD_MAX }
     ensures hand { SameHand hand.old hand.new }
     ensures role { (holds hand.new).role ≡ (holds hand.old).role }
-    ensures content { (s j : ℕ) → content_of 7 4 (holds hand.new) s j ≡ content_of 7 4 (holds hand.old) s j + share_at tokens.now s j }
+    ensures content { (s j : ℕ) → content_of 7 4 (holds hand.new) s j ≡ content_of 7 4 (holds hand.old) s j + listed_at tokens.now s j }
 {
     for token in tokens {
         board.arrive(hand, *token);

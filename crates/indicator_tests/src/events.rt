@@ -219,7 +219,7 @@ fn digest(core: &Core<&LocalHeap>) -> (u64, u64)
 }
 
 #[test]
-fn refused_growths_change_nothing(rt: HostRuntime) -> Result<(), Fail> {
+fn refused_allocations_change_nothing(rt: HostRuntime) -> Result<(), Fail> {
     let share = [Token { slot: 0, leaf: 0 }];
     let mut refused = 0;
     let mut done = 0;

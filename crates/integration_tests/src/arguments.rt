@@ -7,7 +7,101 @@ use replay_main::{
 };
 use std::alloc::{AllocError, Global};
 use std::io;
+use std::sync::Wait;
 use std::test::Fail;
+use std::thread::Threads;
+
+/// Words, and the number of workers and whether the trace is rehearsed; or why they are no command line.
+pub(crate) type Line = (&'static [&'static str], Result<(u8, bool), LineFault>);
+
+/// The first of these words that are read otherwise.
+pub(crate) fn first_misread(alloc: Global, lines: &[Line]) -> Option<usize> {
+    for (at, (words, wanted)) in lines.iter().enumerate() {
+        let is_right = match command_line(alloc, words) {
+            Ok(Ask::Run { workers, rehearse }) => *wanted == Ok((workers, rehearse)),
+            Ok(Ask::Help(_)) => false,
+            Err(fault) => *wanted == Err(fault),
+        };
+        if !is_right {
+            return Some(at);
+        }
+    }
+    None
+}
+
+const BAD: Result<(u8, bool), LineFault> = Err(LineFault::Bad);
+
+/// What no option says, and one that is spelled with a value that it has not.
+const LINES: [Line; 7] = [
+    (&[], Ok((1, false))),
+    (&["--bogus"], BAD),
+    (&["x"], BAD),
+    (&[""], BAD),
+    (&["--workers"], BAD),
+    (&["--rehearse=true"], BAD),
+    (&["--rehearse=false"], BAD),
+];
+
+/// Whether `--help` is answered with these words among others.
+fn is_help(alloc: Global) -> bool {
+    match command_line(alloc, &["--help"]) {
+        Ok(Ask::Help(text)) => {
+            let text = text.as_str();
+            text.contains("cgreplay")
+                && text.contains("--workers <1-8>")
+                && text.contains("--rehearse")
+                && text.contains("Rehearse the trace")
+        }
+        _ => false,
+    }
+}
+
+#[test]
+fn command_lines(rt: HostRuntime) {
+    assert_eq!(rt;
+        (first_misread(rt.alloc(), &LINES), is_help(rt.alloc())),
+        (None, true)
+    );
+}
+
+/// A digit from 1 to 8 is a number of workers, and nothing else is one.
+const NUMBERS: [Line; 12] = [
+    (&["--workers", "1"], Ok((1, false))),
+    (&["--workers", "2"], Ok((2, false))),
+    (&["--workers", "3"], Ok((3, false))),
+    (&["--workers", "8"], Ok((8, false))),
+    (&["--workers", "0"], BAD),
+    (&["--workers", "9"], BAD),
+    (&["--workers", ""], BAD),
+    (&["--workers", "03"], BAD),
+    (&["--workers", "+3"], BAD),
+    (&["--workers", "10"], BAD),
+    (&["--workers", "x"], BAD),
+    (&["--workers=3"], Ok((3, false))),
+];
+
+/// A digit from 1 to 8 is a number of workers, and nothing else is one.
+#[test]
+fn numbers_of_workers(rt: HostRuntime) {
+    assert_eq!(rt; first_misread(rt.alloc(), &NUMBERS), None);
+}
+
+/// The number of workers is read where the trace is rehearsed, too.
+const REHEARSALS: [Line; 7] = [
+    (&["--rehearse"], Ok((1, true))),
+    (&["--workers", "3"], Ok((3, false))),
+    (&["--workers", "3", "--rehearse"], Ok((3, true))),
+    (&["--rehearse", "--workers=8"], Ok((8, true))),
+    (&["--workers", "9", "--rehearse"], BAD),
+    (&["--rehearse", "x"], BAD),
+    (&["--rehearse", "--rehearse"], BAD),
+];
+
+/// The number of workers is read where the trace is rehearsed, too.
+#[test]
+fn rehearsals(rt: HostRuntime) {
+    assert_eq!(rt; first_misread(rt.alloc(), &REHEARSALS), None);
+}
 
 fn owned(alloc: Global, words: &[&str]) -> Result<Vec<String>, AllocError> {
     let mut args = Vec::new(alloc);
@@ -17,138 +111,75 @@ fn owned(alloc: Global, words: &[&str]) -> Result<Vec<String>, AllocError> {
     Ok(args)
 }
 
-#[test]
-fn command_lines(rt: HostRuntime) {
-    let none = command_line(rt.alloc(), &[]);
-    assert!(rt;
-        matches!(
-            none,
-            Ok(Ask::Run {
-                workers: 1,
-                rehearse: false
-            })
-        )
-    );
-    match command_line(rt.alloc(), &["--help"]) {
-        Ok(Ask::Help(text)) => {
-            for wanted in [
-                "cgreplay",
-                "--workers <1-8>",
-                "--rehearse",
-                "Rehearse the trace",
-            ] {
-                assert!(rt; text.as_str().contains(wanted), "{wanted}");
-            }
-        }
-        _ => assert!(rt; false),
-    }
-    for word in [
-        "--bogus",
-        "x",
-        "",
-        "--workers",
-        "--rehearse=true",
-        "--rehearse=false",
-    ] {
-        assert!(rt;
-            matches!(command_line(rt.alloc(), &[word]), Err(LineFault::Bad)),
-            "{word}"
-        );
-    }
+/// What the program comes to with these arguments, where the trace is what it reads; with what it left there, and what it
+/// wrote.
+pub(crate) fn ran<R: Threads + Wait + Sync>(
+    rt: &R,
+    alloc: Global,
+    words: &[&str],
+) -> Result<(Result<(), ProgramFault>, MemorySource<'static>, MemorySink), AllocError> {
+    let args = owned(alloc, words)?;
+    let mut reader = MemorySource::new(TRACE);
+    let mut writer = MemorySink::new(alloc);
+    let outcome = run_program(rt, alloc, args.as_slice(), &mut reader, &mut writer);
+    Ok((outcome, reader, writer))
 }
 
-/// A digit from 1 to 8 is a number of workers, and nothing else is one.
-#[test]
-fn numbers_of_workers(rt: HostRuntime) {
-    let rows = [("1", 1), ("2", 2), ("3", 3), ("8", 8)];
-    for (text, wanted) in rows {
-        match command_line(rt.alloc(), &["--workers", text]) {
-            Ok(Ask::Run { workers, .. }) => assert_eq!(rt; workers, wanted, "{text}"),
-            _ => assert!(rt; false, "{text}"),
+/// Arguments, what the program comes to, and what it writes.
+type Program = (
+    &'static [&'static str],
+    Result<(), ProgramFault>,
+    &'static [u8],
+);
+
+const BAD_LINE: Result<(), ProgramFault> = Err(ProgramFault::Line(LineFault::Bad));
+
+/// The first argument is the program's name, whatever it is.
+const PROGRAMS: [Program; 8] = [
+    (&[], Ok(()), ANSWERS),
+    (&["cgreplay"], Ok(()), ANSWERS),
+    (&["--bogus"], Ok(()), ANSWERS),
+    (&["cgreplay", "--workers", "8"], Ok(()), ANSWERS),
+    (&["cgreplay", "--rehearse"], Ok(()), ANSWERS),
+    (
+        &["cgreplay", "--workers", "3", "--rehearse"],
+        Ok(()),
+        ANSWERS,
+    ),
+    (&["cgreplay", "--workers", "9"], BAD_LINE, b""),
+    (&["cgreplay", "--bogus"], BAD_LINE, b""),
+];
+
+/// The first of these arguments with which the program does something else.
+fn first_otherwise<R: Threads + Wait + Sync>(
+    rt: &R,
+    alloc: Global,
+) -> Result<Option<usize>, AllocError> {
+    for (at, (words, wanted, written)) in PROGRAMS.iter().enumerate() {
+        let (outcome, _, writer) = ran(rt, alloc, words)?;
+        if outcome != *wanted || writer.bytes() != *written {
+            return Ok(Some(at));
         }
     }
-    for text in ["0", "9", "", "03", "+3", "10", "x"] {
-        assert!(rt;
-            matches!(
-                command_line(rt.alloc(), &["--workers", text]),
-                Err(LineFault::Bad)
-            ),
-            "{text}"
-        );
-    }
-    assert!(rt;
-        matches!(
-            command_line(rt.alloc(), &["--workers=3"]),
-            Ok(Ask::Run { workers: 3, .. })
-        )
-    );
-}
-
-/// The number of workers is read where the trace is rehearsed, too.
-#[test]
-fn rehearsals(rt: HostRuntime) {
-    let rows: [(&[&str], Option<(u8, bool)>); 7] = [
-        (&["--rehearse"], Some((1, true))),
-        (&["--workers", "3"], Some((3, false))),
-        (&["--workers", "3", "--rehearse"], Some((3, true))),
-        (&["--rehearse", "--workers=8"], Some((8, true))),
-        (&["--workers", "9", "--rehearse"], None),
-        (&["--rehearse", "x"], None),
-        (&["--rehearse", "--rehearse"], None),
-    ];
-    for (words, wanted) in rows {
-        let asked = match command_line(rt.alloc(), words) {
-            Ok(Ask::Run { workers, rehearse }) => Some((workers, rehearse)),
-            _ => None,
-        };
-        assert_eq!(rt; asked, wanted);
-    }
+    Ok(None)
 }
 
 /// The first argument is the program's name, whatever it is.
 #[test]
 fn programs(rt: HostRuntime) -> Result<(), Fail> {
-    let rows: [(&[&str], Result<(), ProgramFault>, &[u8]); 8] = [
-        (&[], Ok(()), ANSWERS),
-        (&["cgreplay"], Ok(()), ANSWERS),
-        (&["--bogus"], Ok(()), ANSWERS),
-        (&["cgreplay", "--workers", "8"], Ok(()), ANSWERS),
-        (&["cgreplay", "--rehearse"], Ok(()), ANSWERS),
-        (
-            &["cgreplay", "--workers", "3", "--rehearse"],
-            Ok(()),
-            ANSWERS,
-        ),
-        (
-            &["cgreplay", "--workers", "9"],
-            Err(ProgramFault::Line(LineFault::Bad)),
-            b"",
-        ),
-        (
-            &["cgreplay", "--bogus"],
-            Err(ProgramFault::Line(LineFault::Bad)),
-            b"",
-        ),
-    ];
-    for (args, wanted, written) in rows {
-        let args = owned(rt.alloc(), args)?;
-        let mut reader = MemorySource::new(TRACE);
-        let mut writer = MemorySink::new(rt.alloc());
-        let outcome = run_program(&rt, rt.alloc(), args.as_slice(), &mut reader, &mut writer);
-        assert!(rt; outcome == wanted);
-        assert_eq!(rt; writer.bytes(), written);
-    }
+    assert_eq!(rt; first_otherwise(&rt, rt.alloc())?, None);
     Ok(())
+}
+
+/// Whether the program writes how it is used.
+fn is_help_written<R: Threads + Wait + Sync>(rt: &R, alloc: Global) -> Result<bool, AllocError> {
+    let (outcome, _, writer) = ran(rt, alloc, &["cgreplay", "--help"])?;
+    Ok(outcome == Ok(()) && writer.bytes().starts_with(b"Usage: cgreplay"))
 }
 
 #[test]
 fn help(rt: HostRuntime) -> Result<(), Fail> {
-    let args = owned(rt.alloc(), &["cgreplay", "--help"])?;
-    let mut reader = MemorySource::new(TRACE);
-    let mut writer = MemorySink::new(rt.alloc());
-    let outcome = run_program(&rt, rt.alloc(), args.as_slice(), &mut reader, &mut writer);
-    assert!(rt; outcome == Ok(()));
-    assert!(rt; writer.bytes().starts_with(b"Usage: cgreplay"));
+    assert!(rt; is_help_written(&rt, rt.alloc())?);
     Ok(())
 }
 
@@ -175,40 +206,56 @@ const ENDINGS: [(ProgramFault, u8, &str); 7] = [
     (ProgramFault::Replay(ReplayFault::Close), 1, "close failed"),
 ];
 
+/// The first fault that ends otherwise.
+fn first_other_ending(alloc: Global) -> Result<Option<usize>, AllocError> {
+    for (at, (fault, status, message)) in ENDINGS.iter().enumerate() {
+        let text = format!(in alloc; "{fault}")?;
+        if exit_status(Err(*fault)) != *status || text.as_str() != *message {
+            return Ok(Some(at));
+        }
+    }
+    Ok(None)
+}
+
 #[test]
 fn endings(rt: HostRuntime) -> Result<(), Fail> {
-    assert_eq!(rt; exit_status(Ok(())), 0);
-    for (fault, status, message) in ENDINGS {
-        assert_eq!(rt; exit_status(Err(fault)), status, "{message}");
-        let text = format!(in rt.alloc(); "{fault}")?;
-        assert_eq!(rt; text.as_str(), message);
-    }
+    assert!(rt; exit_status(Ok(())) == 0);
+    assert_eq!(rt; first_other_ending(rt.alloc())?, None);
     Ok(())
+}
+
+/// Whether both arguments are collected, the name first.
+fn are_collected(alloc: Global) -> Result<bool, AllocError> {
+    let args = owned(alloc, &["cgreplay", "--help"])?;
+    match collect_arguments(alloc, Ok(args.into_iter())) {
+        Ok(args) => match args.as_slice() {
+            [name, _] => Ok(name.as_str() == "cgreplay"),
+            _ => Ok(false),
+        },
+        Err(_) => Ok(false),
+    }
 }
 
 #[test]
 fn arguments_that_came(rt: HostRuntime) -> Result<(), Fail> {
-    let args = owned(rt.alloc(), &["cgreplay", "--help"])?;
-    match collect_arguments(rt.alloc(), Ok(args.into_iter())) {
-        Ok(args) => {
-            assert_eq!(rt; args.len(), 2);
-            assert!(rt; args.first().is_some_and(|name| name.as_str() == "cgreplay"));
-        }
-        Err(_) => assert!(rt; false),
-    }
+    assert!(rt; are_collected(rt.alloc())?);
     Ok(())
+}
+
+/// Whether that is what arguments come to that this kept from coming.
+fn is_told(alloc: Global, kind: io::ErrorKind, wanted: LineFault) -> bool {
+    match collect_arguments(alloc, Err(io::Error::from(kind))) {
+        Ok(_) => false,
+        Err(fault) => fault == wanted,
+    }
 }
 
 #[test]
 fn arguments_that_did_not_come(rt: HostRuntime) {
-    let rows = [
-        (io::ErrorKind::OutOfMemory, LineFault::OutOfMemory),
-        (io::ErrorKind::InvalidData, LineFault::Bad),
-    ];
-    for (kind, wanted) in rows {
-        match collect_arguments(rt.alloc(), Err(io::Error::from(kind))) {
-            Ok(_) => assert!(rt; false),
-            Err(fault) => assert_eq!(rt; fault, wanted),
-        }
-    }
+    let is_full = is_told(
+        rt.alloc(),
+        io::ErrorKind::OutOfMemory,
+        LineFault::OutOfMemory,
+    );
+    assert!(rt; is_full && is_told(rt.alloc(), io::ErrorKind::InvalidData, LineFault::Bad));
 }

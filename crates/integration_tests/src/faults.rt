@@ -1,10 +1,16 @@
 //! Faults of a replay, by devices that fail or end.
 
+ghost use Rattle.std.specs.Prelude.{◌≡◌, false};
+
 use crate::devices::{Manners, Narrow, Repeated, Stuck, Torn};
 use crate::traces::{rehearsed, replayed};
 use replay_main::{
-    MemorySink, MemorySource, ReplayFault, StreamSink, StreamSource, Summary, TRACE_MAX, replay,
+    MemorySink, MemorySource, ReplayFault, Source, StreamSink, StreamSource, Summary, TRACE_MAX,
+    replay,
 };
+use std::alloc::Global;
+use std::sync::Wait;
+use std::thread::Threads;
 
 pub(crate) const TRACE: &[u8] =
     b"mkdir /a\nfork 1 2\nwrite /a cgroup.procs 2\ncat /a pids.current\nundo\ncat /a pids.current\n";
@@ -22,6 +28,21 @@ const SIX: Summary = Summary {
     refused: 0,
 };
 
+/// Whether what this source gives comes to that, with these answers in memory.
+fn is_answered<R: Threads + Wait + Sync, S: Source>(
+    rt: &R,
+    alloc: Global,
+    reader: &mut S,
+    wanted: Result<Summary, ReplayFault>,
+    answers: &[u8],
+) -> bool
+    requires { S.is_failed reader.old ≡ false }
+{
+    let mut writer = MemorySink::new(alloc);
+    let answer = replay(rt, alloc, reader, &mut writer, 1);
+    answer == wanted && writer.bytes() == answers
+}
+
 #[test]
 fn long_traces(rt: HostRuntime) {
     let rows = [
@@ -31,10 +52,7 @@ fn long_traces(rt: HostRuntime) {
     ];
     for (left, wanted) in rows {
         let mut reader = Repeated { byte: b'#', left };
-        let mut writer = MemorySink::new(rt.alloc());
-        let answer = replay(&rt, rt.alloc(), &mut reader, &mut writer, 1);
-        assert!(rt; answer == wanted);
-        assert!(rt; writer.bytes().is_empty());
+        assert!(rt; is_answered(&rt, rt.alloc(), &mut reader, wanted, b""));
     }
 }
 
@@ -42,10 +60,7 @@ fn long_traces(rt: HostRuntime) {
 fn a_failing_read(rt: HostRuntime) {
     for trace in [b"".as_slice(), TRACE] {
         let mut reader = Torn::new(trace);
-        let mut writer = MemorySink::new(rt.alloc());
-        let answer = replay(&rt, rt.alloc(), &mut reader, &mut writer, 1);
-        assert!(rt; answer == Err(ReplayFault::Read));
-        assert!(rt; writer.bytes().is_empty());
+        assert!(rt; is_answered(&rt, rt.alloc(), &mut reader, Err(ReplayFault::Read), b""));
     }
 }
 
@@ -59,35 +74,40 @@ const WRITES: [(usize, bool, bool, Result<Summary, ReplayFault>, usize); 5] = [
     (128, false, false, Ok(SIX), 64),
 ];
 
+/// What a trace comes to where a narrow sink takes the answers, and what that took.
+fn answered_narrowly<R: Threads + Wait + Sync>(
+    rt: &R,
+    alloc: Global,
+    trace: &[u8],
+    room: usize,
+    manners: Manners,
+) -> (Result<Summary, ReplayFault>, Narrow) {
+    let mut reader = MemorySource::new(trace);
+    let mut writer = Narrow::new(room, manners);
+    let answer = replay(rt, alloc, &mut reader, &mut writer, 1);
+    (answer, writer)
+}
+
 #[test]
 fn a_failing_write(rt: HostRuntime) {
     for (room, takes_none, flush_fails, wanted, written) in WRITES {
-        let mut reader = MemorySource::new(TRACE);
-        let mut writer = Narrow::new(
-            room,
-            Manners {
-                takes_none,
-                flush_fails,
-            },
-        );
-        let answer = replay(&rt, rt.alloc(), &mut reader, &mut writer, 1);
-        assert!(rt; answer == wanted);
-        assert!(rt; Some(writer.bytes()) == ANSWERS.get(..written));
+        let manners = Manners {
+            takes_none,
+            flush_fails,
+        };
+        let (answer, writer) = answered_narrowly(&rt, rt.alloc(), TRACE, room, manners);
+        assert!(rt; answer == wanted && Some(writer.bytes()) == ANSWERS.get(..written));
     }
 }
 
 /// Nothing is read and nothing is written, and yet the flush is asked for.
 #[test]
 fn a_flush_of_nothing(rt: HostRuntime) {
-    let mut reader = MemorySource::new(b"");
-    let mut writer = Narrow::new(
-        0,
-        Manners {
-            takes_none: false,
-            flush_fails: true,
-        },
-    );
-    let answer = replay(&rt, rt.alloc(), &mut reader, &mut writer, 1);
+    let manners = Manners {
+        takes_none: false,
+        flush_fails: true,
+    };
+    let (answer, _) = answered_narrowly(&rt, rt.alloc(), b"", 0, manners);
     assert!(rt; answer == Err(ReplayFault::Write));
 }
 
@@ -99,10 +119,7 @@ fn readers_to_their_end(rt: HostRuntime) {
         (TRACE, SIX, ANSWERS),
     ] {
         let mut reader = StreamSource::new(trace);
-        let mut writer = MemorySink::new(rt.alloc());
-        let answer = replay(&rt, rt.alloc(), &mut reader, &mut writer, 1);
-        assert!(rt; answer == Ok(wanted));
-        assert!(rt; writer.bytes() == answers);
+        assert!(rt; is_answered(&rt, rt.alloc(), &mut reader, Ok(wanted), answers));
     }
 }
 
@@ -114,23 +131,27 @@ fn a_writer_whose_flush_fails(rt: HostRuntime) {
     assert!(rt; answer == Err(ReplayFault::Write));
 }
 
+/// Whether the fault is out of memory, or that of a sink which has none.
+fn is_out_of_memory(fault: ReplayFault) -> bool {
+    matches!(fault, ReplayFault::OutOfMemory | ReplayFault::Write)
+}
+
 /// With any one allocation refused, either all is answered or nothing is written.
 #[test]
 fn a_refused_allocation(rt: HostRuntime) {
-    match replayed(&rt, rt.alloc(), TRACE) {
-        Ok((summary, writer)) => {
-            assert!(rt; summary == SIX);
-            assert!(rt; writer.bytes() == ANSWERS);
-        }
-        Err(fault) => assert!(rt; matches!(fault, ReplayFault::OutOfMemory | ReplayFault::Write)),
-    }
+    let is_right = match replayed(&rt, rt.alloc(), TRACE) {
+        Ok((summary, writer)) => summary == SIX && writer.bytes() == ANSWERS,
+        Err(fault) => is_out_of_memory(fault),
+    };
+    assert!(rt; is_right);
 }
 
 /// With any one allocation refused, all is answered, or out of memory is: a fault, or a sink's.
 #[test]
 fn a_refused_allocation_of_a_rehearsal(rt: HostRuntime) {
-    match rehearsed(&rt, rt.alloc(), TRACE) {
-        Ok((_, writer)) => assert!(rt; writer.bytes() == ANSWERS),
-        Err(fault) => assert!(rt; matches!(fault, ReplayFault::OutOfMemory | ReplayFault::Write)),
-    }
+    let is_right = match rehearsed(&rt, rt.alloc(), TRACE) {
+        Ok((_, writer)) => writer.bytes() == ANSWERS,
+        Err(fault) => is_out_of_memory(fault),
+    };
+    assert!(rt; is_right);
 }

@@ -1,9 +1,7 @@
 //! Traces and their answers, over devices in memory.
 
 use crate::file_traces::FILE_TRACES;
-use replay_main::{
-    LINE_MAX, MemorySink, MemorySource, ReplayFault, Summary, rehearse_trace, replay,
-};
+use replay_main::{MemorySink, MemorySource, ReplayFault, Summary, rehearse_trace, replay};
 use std::alloc::{AllocError, Global};
 use std::sync::Wait;
 use std::test::Fail;
@@ -237,6 +235,34 @@ fn counted(answers: &str) -> (u64, u64) {
     (commands, refused)
 }
 
+/// Whether a replay comes to these answers and this summary.
+pub(crate) fn is_replayed<R: Threads + Wait + Sync>(
+    rt: &R,
+    alloc: Global,
+    trace: &[u8],
+    answers: &[u8],
+    wanted: Summary,
+) -> bool {
+    match replayed(rt, alloc, trace) {
+        Ok((summary, writer)) => writer.bytes() == answers && summary == wanted,
+        Err(_) => false,
+    }
+}
+
+/// The same of a rehearsal.
+fn is_rehearsed<R: Threads + Wait + Sync>(
+    rt: &R,
+    alloc: Global,
+    trace: &[u8],
+    answers: &[u8],
+    wanted: Summary,
+) -> bool {
+    match rehearsed(rt, alloc, trace) {
+        Ok((summary, writer)) => writer.bytes() == answers && summary == wanted,
+        Err(_) => false,
+    }
+}
+
 /// Whether the trace has these answers, and the two numbers that are counted in them, by a replay
 /// and by a rehearsal.
 fn is_answered<R: Threads + Wait + Sync>(
@@ -244,15 +270,14 @@ fn is_answered<R: Threads + Wait + Sync>(
     alloc: Global,
     trace: &str,
     answers: &str,
-) -> Result<bool, Fail> {
+) -> Result<bool, AllocError> {
     let bytes = lines(alloc, trace)?;
     let wanted = lines(alloc, answers)?;
-    let (summary, writer) = replayed(rt, alloc, bytes.as_slice())?;
-    let (rehearsed_summary, rehearsed_writer) = rehearsed(rt, alloc, bytes.as_slice())?;
-    let numbers = (summary.commands, summary.refused);
+    let (commands, refused) = counted(answers);
+    let summary = Summary { commands, refused };
     Ok(
-        (writer.bytes(), numbers) == (wanted.as_slice(), counted(answers))
-            && (rehearsed_writer.bytes(), rehearsed_summary) == (wanted.as_slice(), summary),
+        is_replayed(rt, alloc, &bytes, &wanted, summary)
+            && is_rehearsed(rt, alloc, &bytes, &wanted, summary),
     )
 }
 
@@ -261,7 +286,7 @@ fn first_other<R: Threads + Wait + Sync>(
     rt: &R,
     alloc: Global,
     rows: &[(&'static str, &'static str)],
-) -> Result<Option<&'static str>, Fail> {
+) -> Result<Option<&'static str>, AllocError> {
     for (trace, answers) in rows {
         if !is_answered(rt, alloc, trace, answers)? {
             return Ok(Some(*trace));
@@ -272,8 +297,9 @@ fn first_other<R: Threads + Wait + Sync>(
 
 #[test]
 fn traces(rt: HostRuntime) -> Result<(), Fail> {
-    assert_eq!(rt; first_other(&rt, rt.alloc(), &TRACES)?, None);
-    assert_eq!(rt; first_other(&rt, rt.alloc(), &FILE_TRACES)?, None);
+    for rows in [TRACES.as_slice(), FILE_TRACES.as_slice()] {
+        assert_eq!(rt; first_other(&rt, rt.alloc(), rows)?, None);
+    }
     Ok(())
 }
 
@@ -286,87 +312,17 @@ fn counts(rt: HostRuntime) {
         ("1 refused nogroup /a;2 ok;| 0::/", (2, 1)),
     ];
     for (answers, wanted) in rows {
-        assert_eq!(rt; counted(answers), wanted, "{answers}");
+        assert!(rt; counted(answers) == wanted, "{answers}");
     }
 }
 
 /// Bytes behind the last line feed are a line.
 #[test]
-fn without_last_line_feed(rt: HostRuntime) -> Result<(), Fail> {
-    let (_, writer) = replayed(&rt, rt.alloc(), b"mkdir /a\nundo")?;
-    assert!(rt; writer.bytes() == b"1 ok\n2 ok\n| mkdir /a\n".as_slice());
-    Ok(())
-}
-
-/// How many groups there may be beside the root.
-const GROUPS: usize = 1_024;
-
-/// The lines `mkdir /g0` to `mkdir /g1024`, an undo, and `mkdir /g1024` again.
-fn many_groups(alloc: Global) -> Result<String, AllocError> {
-    let mut trace = String::new(alloc);
-    for n in 0..=GROUPS {
-        trace.push_str(format!(in alloc; "mkdir /g{n}\n")?.as_str())?;
-    }
-    trace.push_str("undo\nmkdir /g1024\n")?;
-    Ok(trace)
-}
-
-#[test]
-fn one_group_too_many(rt: HostRuntime) -> Result<(), Fail> {
-    let trace = many_groups(rt.alloc())?;
-    let mut answers = String::new(rt.alloc());
-    for n in 1..=GROUPS {
-        answers.push_str(format!(in rt.alloc(); "{n} ok\n")?.as_str())?;
-    }
-    answers.push_str("1025 refused noslot\n1026 ok\n| mkdir /g1023\n1027 ok\n")?;
-    let (summary, writer) = replayed(&rt, rt.alloc(), trace.as_str().as_bytes())?;
-    assert_eq!(rt; writer.bytes(), answers.as_str().as_bytes());
-    assert_eq!(rt; (summary.commands, summary.refused), (1027, 1));
-    Ok(())
-}
-
-/// The front, and then so many of this text.
-fn with_more(
-    alloc: Global,
-    front: &[u8],
-    more: &[u8],
-    times: usize,
-) -> Result<Vec<u8>, AllocError> {
-    let mut text = Vec::from_slice(alloc, front)?;
-    for _ in 0..times {
-        text.extend_from_slice(more)?;
-    }
-    Ok(text)
-}
-
-#[test]
-fn long_lines(rt: HostRuntime) -> Result<(), Fail> {
-    let rows: [(&[u8], usize, &[u8]); 5] = [
-        (b"# ", 9_998, b""),
-        (b"mkdir /", LINE_MAX - 7, b"1 refused path\n"),
-        (b"mkdir /", LINE_MAX - 6, b"1 refused syntax\n"),
-        (b"mkdir /", 255, b"1 ok\n"),
-        (b"mkdir /", 256, b"1 refused path\n"),
-    ];
-    for (front, letters, answers) in rows {
-        let trace = with_more(rt.alloc(), front, b"x", letters)?;
-        let (_, writer) = replayed(&rt, rt.alloc(), trace.as_slice())?;
-        assert_eq!(rt; writer.bytes(), answers);
-    }
-    Ok(())
-}
-
-/// 80,000 lines are answered with more than a mebibyte.
-#[test]
-fn long_answers(rt: HostRuntime) -> Result<(), Fail> {
-    let trace = with_more(rt.alloc(), b"", b"x\n", 80_000)?;
-    let mut answers = String::new(rt.alloc());
-    for n in 1..80_001 {
-        answers.push_str(format!(in rt.alloc(); "{n} refused syntax\n")?.as_str())?;
-    }
-    let (summary, writer) = replayed(&rt, rt.alloc(), trace.as_slice())?;
-    assert!(rt; answers.as_str().len() > 1_048_576);
-    assert!(rt; writer.bytes() == answers.as_str().as_bytes());
-    assert_eq!(rt; (summary.commands, summary.refused), (80_000, 80_000));
-    Ok(())
+fn without_last_line_feed(rt: HostRuntime) {
+    let answers = b"1 ok\n2 ok\n| mkdir /a\n";
+    let summary = Summary {
+        commands: 2,
+        refused: 0,
+    };
+    assert!(rt; is_replayed(&rt, rt.alloc(), b"mkdir /a\nundo", answers, summary));
 }

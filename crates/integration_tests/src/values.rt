@@ -30,27 +30,31 @@ const NAMES: [(&str, File, [bool; 3]); 11] = [
     ),
 ];
 
+/// Texts that are no file's name.
+const NO_NAMES: [&str; 8] = [
+    "",
+    "cgroup",
+    "cgroup.proc",
+    "cgroup.procs ",
+    "Cgroup.procs",
+    "pids.peaks",
+    "pids.events.locals",
+    "cgroup.threads",
+];
+
+/// Whether the name is the file's, and the file is where that says, and for that.
+fn is_name(name: &str, file: File, wanted: [bool; 3]) -> bool {
+    let found = [file.on_root(), file.readable(), file.writable()];
+    File::read(name.as_bytes()) == Some(file) && file.name() == name.as_bytes() && found == wanted
+}
+
 #[test]
 fn names_of_files(rt: HostRuntime) {
     for (name, file, wanted) in NAMES {
-        let found = [file.on_root(), file.readable(), file.writable()];
-        assert_eq!(rt;
-            (File::read(name.as_bytes()), file.name(), found),
-            (Some(file), name.as_bytes(), wanted),
-            "{name}"
-        );
+        assert!(rt; is_name(name, file, wanted), "{name}");
     }
-    for name in [
-        "",
-        "cgroup",
-        "cgroup.proc",
-        "cgroup.procs ",
-        "Cgroup.procs",
-        "pids.peaks",
-        "pids.events.locals",
-        "cgroup.threads",
-    ] {
-        assert_eq!(rt; File::read(name.as_bytes()), None, "{name}");
+    for name in NO_NAMES {
+        assert!(rt; File::read(name.as_bytes()).is_none(), "{name}");
     }
 }
 
@@ -111,7 +115,7 @@ const LIMITS: [(LimitFile, &str, Result<Limit, ValueFault>); 26] = [
 #[test]
 fn limits(rt: HostRuntime) {
     for (file, text, wanted) in LIMITS {
-        assert_eq!(rt; read_limit(file, text.as_bytes()), wanted, "{text}");
+        assert!(rt; read_limit(file, text.as_bytes()) == wanted, "{text}");
     }
 }
 
@@ -163,33 +167,43 @@ fn numbers(rt: HostRuntime) {
             read_pid(text.as_bytes()).map(|pid| pid.get()),
             read_kill(text.as_bytes()).map(|()| 1),
         );
-        assert_eq!(rt; read, (pid, kill), "{text}");
+        assert!(rt; read == (pid, kill), "{text}");
     }
+}
+
+/// Why a value is not taken, in words.
+const VALUE_FAULTS: [(ValueFault, &str); 4] = [
+    (ValueFault::Empty, "there is no value"),
+    (ValueFault::NotANumber, "a byte is no decimal digit"),
+    (ValueFault::LeadingZero, "a zero stands before other digits"),
+    (ValueFault::OutOfRange, "the number is out of its range"),
+];
+
+/// Why a file is not shown, in words.
+const SHOW_FAULTS: [(ShowFault, &str); 5] = [
+    (ShowFault::NoGroup, "there is no such group"),
+    (ShowFault::NoFile, "the group has no such file"),
+    (ShowFault::NotReadable, "the file cannot be read"),
+    (ShowFault::OutOfMemory, "out of memory"),
+    (ShowFault::NoProcess, "there is no such process"),
+];
+
+fn is_message(alloc: Global, fault: ValueFault, wanted: &str) -> Result<bool, AllocError> {
+    Ok(format!(in alloc; "{fault}")?.as_str() == wanted)
+}
+
+fn is_message_of_file(alloc: Global, fault: ShowFault, wanted: &str) -> Result<bool, AllocError> {
+    Ok(format!(in alloc; "{fault}")?.as_str() == wanted)
 }
 
 /// Why a value is not taken, and why a file is not shown, in words.
 #[test]
-fn messages(rt: HostRuntime) -> Result<(), AllocError> {
-    let values = [
-        (ValueFault::Empty, "there is no value"),
-        (ValueFault::NotANumber, "a byte is no decimal digit"),
-        (ValueFault::LeadingZero, "a zero stands before other digits"),
-        (ValueFault::OutOfRange, "the number is out of its range"),
-    ];
-    for (fault, wanted) in values {
-        let message = format!(in rt.alloc(); "{fault}")?;
-        assert_eq!(rt; message.as_str(), wanted);
+fn messages(rt: HostRuntime) -> Result<(), Fail> {
+    for (fault, wanted) in VALUE_FAULTS {
+        assert!(rt; is_message(rt.alloc(), fault, wanted)?, "{wanted}");
     }
-    let files = [
-        (ShowFault::NoGroup, "there is no such group"),
-        (ShowFault::NoFile, "the group has no such file"),
-        (ShowFault::NotReadable, "the file cannot be read"),
-        (ShowFault::OutOfMemory, "out of memory"),
-        (ShowFault::NoProcess, "there is no such process"),
-    ];
-    for (fault, wanted) in files {
-        let message = format!(in rt.alloc(); "{fault}")?;
-        assert_eq!(rt; message.as_str(), wanted);
+    for (fault, wanted) in SHOW_FAULTS {
+        assert!(rt; is_message_of_file(rt.alloc(), fault, wanted)?, "{wanted}");
     }
     Ok(())
 }
@@ -222,6 +236,6 @@ fn names_of_limits(rt: HostRuntime) {
         (LimitFile::MaxDepth, "cgroup.max.depth"),
     ];
     for (file, wanted) in rows {
-        assert_eq!(rt; limit_file_name(file), wanted.as_bytes());
+        assert!(rt; limit_file_name(file) == wanted.as_bytes(), "{wanted}");
     }
 }

@@ -56,7 +56,7 @@ fn text_of<A: Allocator + Clone, M: Meter, B: Allocator + Clone, P: Allocator + 
     ensures text { IfOk result (λ o. MatchOption o (refusal M.SLOTS charges.old (Show path.now (file_of file)) ≢ None)
         (λ text. (refusal M.SLOTS charges.old (Show path.now (file_of file)) ≡ None)
         × (text.items ≡ file_text charges.old path.now (file_of file)))) }
-    ensures wanting { OnErr result (refusal M.SLOTS charges.old (Show path.now (file_of file)) ≡ None) }
+    ensures out_of_memory { OnErr result (refusal M.SLOTS charges.old (Show path.now (file_of file)) ≡ None) }
     ensures kept { charges.new ≡ charges.old }
 {
     match file {

@@ -24,16 +24,10 @@ pub(crate) fn number_line<B: Allocator>(alloc: B, n: u64) -> Result<Vec<u8, B>, 
 pub(crate) fn limit_line<B: Allocator>(alloc: B, limit: Limit) -> Result<Vec<u8, B>, AllocError>
     ensures { IfOk result (λ text. text.items ≡ line (limit_text (limit_of limit))) }
 {
-    let mut digits = Buffer::new();
-    let mut text = Vec::with_capacity(alloc, 21)?;
     match limit {
-        Limit::Unlimited => text.extend_from_slice(b"max\n")?,
-        Limit::At(most) => {
-            text.extend_from_slice(digits.format(most).as_bytes())?;
-            text.extend_from_slice(b"\n")?;
-        }
+        Limit::Unlimited => Vec::from_slice(alloc, b"max\n"),
+        Limit::At(most) => number_line(alloc, u64::from(most)),
     }
-    Ok(text)
 }
 
 // `pids.events` and `pids.events.local`: how many forks were refused.

@@ -1,4 +1,4 @@
--- Which fault a line may have, and which command may want memory.
+-- Which fault a line may have, and which command may be out of memory.
 use Rattle.std.proofs.Common.{◌≡◌, ◌⊎◌, inl, inr, ℕ, Err, refl}
 use Rattle.std.specs.declared.alloc.AllocError.{AllocError}
 use Rattle.flat_model.specs.Path.{Path}

@@ -121,7 +121,7 @@ pub fn homes_are_told_apart()
 {}
 
 /// Out of memory comes last: only where the model refuses nothing, and there always possible.
-pub fn memory_is_wanting_last()
+pub fn out_of_memory_comes_last()
     ensures shown { (slots : ℕ) (s : State) (p : Path) (file : model_file.File)
         → Shows {B = ℕ} slots s p file (Err OutOfMemory) ↔ refusal slots s (model.Show p file) ≡ None }
     ensures home { (slots : ℕ) (s : State) (pid : ℕ)

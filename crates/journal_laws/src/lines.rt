@@ -34,7 +34,7 @@ pub fn lines_are_told_apart()
 {}
 
 /// Out of memory is answered only of a line that runs a command with a path, and may be of each.
-pub fn memory_is_wanting_for_paths()
+pub fn out_of_memory_is_for_paths()
     ensures only { (e : AllocError) (m : trace.Line) → Says (Err e) m → (p : Path)
         × ((m ≡ trace.Run (model.MakeGroup p)) ⊎ (m ≡ trace.Run (model.RemoveGroup p))
         ⊎ ((pid : ℕ) × (m ≡ trace.Run (model.Move p pid)))

@@ -24,6 +24,7 @@ use Rattle.pids_charge.specs.declared.process.Process.{Process}
 use Rattle.pids_charge.proofs.Entries.{home_rows, to_sorted, find_home, put_home}
 use Rattle.group_tree.specs.Groups.{Groups, Inserts}
 use Rattle.group_tree.specs.Limits.{without_processes, refusal_along}
+use Rattle.group_tree.specs.Admission.{MayStand}
 use Rattle.group_tree.specs.declared.limits.MetLimit.{MetLimit}
 use Rattle.group_tree.specs.Flat.{group_of}
 use Rattle.flat_model.proofs.MapValues.{get-map_values, len-map_values}
@@ -117,6 +118,15 @@ module _ {A : Type 0} (tree : Groups) (es : List (Row A)) where
   met-is s v p n met e h few =
       ap (λ (t : State). blocked_make t p) (sym v) ∙ ap (λ k. first_refusal (limit_met (state_of tree es) (take k p)) (upward (take k p))) (sym e)
       ∙ sym (h few ∙ same_walk (take n p) (upward (take n p)))
+
+  -- a new group that may stand, in the flat state
+  pub stands-is : (s : State) (v : state_of tree es ≡ s) (p : Path) (met : Option MetLimit) → MayStand tree p met → fin.len tree < 2 ^ 64
+      → (is_group s p ≡ false) × (is_group s (parent p) ≡ true) × (blocked_make s p ≡ option_map (refusal_along p) met)
+  stands-is s v p met h few = (
+    group-is s tree es v p ∙ ap is_some h.absent,
+    group-is s tree es v (parent p) ∙ h.below,
+    met-is s v p (length p - 1) met refl h.first few,
+  )
 
   pub len-is : (s : State) → state_of tree es ≡ s → fin.len s.groups ≡ fin.len tree
   len-is s v = ap (λ (t : State). fin.len t.groups) (sym v) ∙ len-map_values group_of tree

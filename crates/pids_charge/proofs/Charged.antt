@@ -20,7 +20,7 @@ use Rattle.pids_charge.specs.Lists.{Row, inside, is_inside, with_lost, placed_at
 use Rattle.pids_charge.specs.Recount.{Recounted, IsPlaced, charges_of, charges_at, chain_at}
 use Rattle.pids_charge.specs.declared.lost.Lost.{Lost}
 use Rattle.pids_charge.specs.declared.process.Process.{Process}
-use Rattle.pids_charge.proofs.Entries.{to_sorted, to_rising, kept_values, kept_keys, sum_by-same}
+use Rattle.pids_charge.proofs.Entries.{to_sorted, to_ascending, kept_values, kept_keys, sum_by-same}
 use Rattle.pids_charge.proofs.Listing.{split-sum}
 use Rattle.pids_charge.proofs.Listed.{AreNew, whole_sorted, whole_sum, whole_values, whole_keys}
 
@@ -160,7 +160,7 @@ module _ {A : Type 0} (leaves : ℕ) (tree : Groups) (es : List (Row A)) (conten
   placed leaf ls content2 held2 lt new homes pids more more_held =
       let sorted = to_sorted es d.ordered in
       record {
-        ordered = to_rising (with_lost leaf ls es) (whole_sorted leaf es sorted ls);
+        ordered = to_ascending (with_lost leaf ls es) (whole_sorted leaf es sorted ls);
         pids_below = whole_keys leaf es sorted (λ k. k < 2 ^ 22) ls d.pids_below pids;
         placed = whole_values leaf es sorted (λ p. IsPlaced leaves tree p) ls d.placed (All-weaker (λ l. IsSome (fin.get tree l.path)) (λ l. IsPlaced {A = A} leaves tree (placed_at leaf l)) (λ l h. record { home = h; leaf_below = lt }) ls homes);
         counted = λ s j. omega (arith, more s j, d.counted s j, whole_sum leaf es sorted (λ p. charges_of tree p s j) ls new);

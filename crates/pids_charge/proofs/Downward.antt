@@ -13,7 +13,8 @@ use Rattle.group_tree.specs.Groups.{Groups, slot_of}
 use Rattle.group_tree.specs.declared.attr.Attr.{Attr}
 use Rattle.group_tree.proofs.Downward.{down-cons}
 use Rattle.snzi_core.specs.declared.event.Token.{Token}
-use Rattle.pids_charge.specs.Content.{Content, one_at, tokens_at}
+use Rattle.snzi_core.specs.Listed.{listed_at, one_at}
+use Rattle.pids_charge.specs.Content.{Content}
 use Rattle.pids_charge.specs.Recount.{slot_at, chain_at, charges_at, SlotsApart, SlotsBelow}
 
 -- one charge with the leaf at each of these
@@ -37,9 +38,9 @@ still_charged attrs rest a leaf before now all e few gone =
     omega (arith, more, one_at-here a.slot leaf, few, gone)
 
 -- one token more
-pub one_token_more : (old new : List Token) (t : Token) → new ≡ old ++ t ∷ [] → (s j : ℕ) → tokens_at new s j ≡ tokens_at old s j + one_at t.slot t.leaf s j
+pub one_token_more : (old new : List Token) (t : Token) → new ≡ old ++ t ∷ [] → (s j : ℕ) → listed_at new s j ≡ listed_at old s j + one_at t.slot t.leaf s j
 one_token_more old new t e s j =
-    let more = ap (λ (ts : List Token). tokens_at ts s j) e ∙ sum_by-append (λ (x : Token). one_at x.slot x.leaf s j) old (t ∷ []) in
+    let more = ap (λ (ts : List Token). listed_at ts s j) e ∙ sum_by-append (λ (x : Token). one_at x.slot x.leaf s j) old (t ∷ []) in
     omega (arith, more)
 
 -- ---- along a path on which each group is there

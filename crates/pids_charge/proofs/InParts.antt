@@ -2,15 +2,16 @@
 use Rattle.std.proofs.Common.{◌≡◌, ℕ, zero, suc, ◌+◌, ◌-◌, ◌/◌, ◌≤◌, List, length, arith}
 use Rattle.std.proofs.lemmas.List.Sums.{sum_by-take-drop}
 use Rattle.snzi_core.specs.declared.event.Token.{Token}
-use Rattle.pids_charge.specs.Content.{Content, one_at, tokens_at}
+use Rattle.snzi_core.specs.Listed.{listed_at, one_at}
+use Rattle.pids_charge.specs.Content.{Content}
 use Rattle.pids_charge.specs.Parts.{but_last_run, the_last_run, in_parts}
 
 -- the runs have the tokens of the list
-pub runs_have : (n : ℕ) (ts : List Token) (s j : ℕ) → tokens_at (but_last_run n ts) s j + tokens_at (the_last_run n ts) s j ≡ tokens_at ts s j
+pub runs_have : (n : ℕ) (ts : List Token) (s j : ℕ) → listed_at (but_last_run n ts) s j + listed_at (the_last_run n ts) s j ≡ listed_at ts s j
 runs_have n ts s j = sum_by-take-drop (λ t. one_at t.slot t.leaf s j) ts (length ts - length ts / n)
 
-parts_leave : (n : ℕ) (leaving arriving : List Token) (at : Content) (s j : ℕ) → tokens_at leaving s j ≤ at s j
-    → in_parts n leaving arriving at s j + tokens_at leaving s j ≡ at s j + tokens_at arriving s j
+parts_leave : (n : ℕ) (leaving arriving : List Token) (at : Content) (s j : ℕ) → listed_at leaving s j ≤ at s j
+    → in_parts n leaving arriving at s j + listed_at leaving s j ≡ at s j + listed_at arriving s j
 parts_leave zero leaving arriving at s j there = omega (arith, there)
 parts_leave (suc n) leaving arriving at s j there =
     let go = runs_have (n + 2) leaving s j in
@@ -19,8 +20,8 @@ parts_leave (suc n) leaving arriving at s j there =
     omega (arith, go, come, before, there)
 
 -- what one content less leaving plus arriving is, any number of parts leave
-pub parts_settle : (n : ℕ) (leaving arriving : List Token) (old new : Content) → ((s j : ℕ) → tokens_at leaving s j ≤ old s j)
-    → ((s j : ℕ) → new s j + tokens_at leaving s j ≡ old s j + tokens_at arriving s j)
+pub parts_settle : (n : ℕ) (leaving arriving : List Token) (old new : Content) → ((s j : ℕ) → listed_at leaving s j ≤ old s j)
+    → ((s j : ℕ) → new s j + listed_at leaving s j ≡ old s j + listed_at arriving s j)
     → (s j : ℕ) → new s j ≡ in_parts n leaving arriving old s j
 parts_settle n leaving arriving old new there settled s j =
     let parts = parts_leave n leaving arriving old s j (there s j) in

@@ -25,4 +25,4 @@ mod PeaksNoted
 mod Forked
 mod Removals
 mod Empty
-pub mod Wants
+pub mod MemoryFault

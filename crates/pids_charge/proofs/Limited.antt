@@ -1,5 +1,5 @@
 -- A limit that is set.
-use Rattle.std.proofs.Common.{◌≡◌, ℕ, ◌&&◌, Bool, true, false, Some, None, List, length, take, unwrap_or, option_map, refl, sym, ap, ◌∙◌}
+use Rattle.std.proofs.Common.{◌≡◌, ℕ, ◌&&◌, true, false, Some, None, List, length, take, unwrap_or, option_map, refl, sym, ap, ◌∙◌}
 use Rattle.std.specs.FinMap as fin
 use Rattle.std.proofs.Math.Seq.{take-length}
 use Rattle.flat_model.specs.Path.{Path, is_root}
@@ -11,7 +11,7 @@ use Rattle.flat_model.specs.Command.{SetLimit, NoFile, NoGroup}
 use Rattle.flat_model.specs.Step.{refusal, after, with_limit, attr_of}
 use Rattle.flat_model.proofs.MapValues.{map_values-insert, get-map_values}
 use Rattle.flat_model.proofs.PathLaws.{path_cmp-IsTotalOrder, path_cmp-IsAntisymmetric}
-use Rattle.group_tree.specs.Groups.{Groups, Sets}
+use Rattle.group_tree.specs.Groups.{Groups}
 use Rattle.group_tree.specs.Flat.{group_of}
 use Rattle.group_tree.specs.declared.attr.Attr.{Attr}
 use Rattle.pids_charge.specs.Lists.{Row}
@@ -26,11 +26,6 @@ module _ (slots : ℕ) (s : State) (p : Path) (file : LimitFile) (value : flat.L
 
   pub limit_allowed : (is_root p && is_pids_max file) ≡ false → is_group s p ≡ true → refusal slots s (SetLimit p file value) ≡ None
   limit_allowed h i = rw (h, i) refl
-
--- new attributes of a group that is there
-pub set-is : (old new : Groups) (p : Path) (x y : Attr) (b : Bool) → Sets old new p x b → fin.get old p ≡ Some y → new ≡ fin.insert old p x
-set-is old new p x y true h e = h.1
-set-is old new p x y false h e = let none = sym e ∙ h.0 in cc
 
 module _ {A : Type 0} (s : State) (tree : Groups) (es : List (Row A)) (v : state_of tree es ≡ s) where
   pub attr-is : (p : Path) (y : Attr) → fin.get tree p ≡ Some y → attr_of s p ≡ group_of y

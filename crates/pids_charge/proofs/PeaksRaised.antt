@@ -16,7 +16,8 @@ use Rattle.group_tree.specs.Flat.{group_of}
 use Rattle.group_tree.specs.Groups.{Groups, slot_of}
 use Rattle.group_tree.specs.Peaks.{peaked_by}
 use Rattle.group_tree.specs.declared.attr.Attr.{Attr}
-use Rattle.pids_charge.specs.Content.{Content, over_leaves}
+use Rattle.snzi_core.specs.Listed.{over_leaves}
+use Rattle.pids_charge.specs.Content.{Content}
 use Rattle.pids_charge.specs.Lists.{Row}
 use Rattle.pids_charge.specs.Peaks.{peak_of, reached_of, raised_by, AreUpward}
 use Rattle.pids_charge.specs.Recount.{Recounted, HasSlots, SameSlots, state_of}

@@ -12,13 +12,14 @@ use Rattle.std.specs.FinMap.Entries.{find}
 use Rattle.std.proofs.Math.Seq.{take-length}
 use Rattle.flat_model.specs.Path.{Path, path_cmp, is_root, at_or_below, strictly_below, same_path}
 use Rattle.flat_model.specs.State.{State}
-use Rattle.flat_model.specs.Counts.{is_group, populated}
+use Rattle.flat_model.specs.Counts.{is_group, descendant_count, populated}
 use Rattle.flat_model.specs.Command.{RemoveGroup, RootFixed, NoGroup, HasChildren, HasProcesses}
 use Rattle.flat_model.specs.Refuse.{refuse}
 use Rattle.flat_model.specs.Step.{refusal}
 use Rattle.flat_model.specs.Mapped.{map_values}
 use Rattle.flat_model.proofs.PathLaws.{path_cmp-IsTotalOrder, same_path_is, at_or_below_itself, take_above}
 use Rattle.group_tree.specs.Groups.{Groups, IsClosed, slot_of, HasBelow, Removes}
+use Rattle.group_tree.specs.Groups as groups
 use Rattle.group_tree.specs.Flat.{group_of, CountsAsFlat}
 use Rattle.group_tree.specs.declared.attr.Attr.{Attr}
 use Rattle.group_tree.specs.declared.fault.TreeFault.{TreeFault}
@@ -215,6 +216,16 @@ not_refused old new p tree.OutOfMemory h root there none = h
 module _ {A : Type 0} (s : State) (tree : Groups) (es : List (Row A)) (v : state_of tree es ≡ s) (p : Path) where
   pub is_group_there : MayGo s p → IsSome (fin.get tree p)
   is_group_there may = is_there (fin.get tree p) (sym (ap not (group-is s tree es v p)) ∙ may.there)
+
+  -- a group as the tree found it or not, and how many groups are below it
+  pub group-here : (x : Attr) → Some x ≡ fin.get tree p → is_group s p ≡ true
+  group-here x found = group-is s tree es v p ∙ ap is_some (sym found)
+
+  pub group-gone : None ≡ fin.get tree p → is_group s p ≡ false
+  group-gone none = group-is s tree es v p ∙ ap is_some (sym none)
+
+  pub below-is : CountsAsFlat tree → (n : ℕ) → n ≡ groups.descendant_count tree p → n ≡ descendant_count s p
+  below-is flat n exact = exact ∙ sym (flat.counts (state_of tree es).home p) ∙ ap (λ (t : State). descendant_count t p) v
 
   pub has_below : CountsAsFlat tree → MayGo s p → HasBelow tree p → ⊥
   has_below flat may below = false≢true (sym (ap (λ (t : State). list_any (λ q. strictly_below q p) (fin.keys t.groups)) v ∙ may.no_children) ∙ (flat.below p).1 below)

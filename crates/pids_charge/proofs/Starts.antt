@@ -3,7 +3,7 @@ use Rattle.std.proofs.Common.{◌≡◌, ℕ, ◌+◌, ◌<◌, ◌≤◌, ◌^�
 use Rattle.std.specs.Cmp.{nat_cmp_total}
 use Rattle.std.proofs.lemmas.List.Elements.{All-cons}
 use Rattle.std.proofs.lemmas.List.Sums.{sum_by-cons}
-use Rattle.pids_charge.proofs.Entries.{to_rising}
+use Rattle.pids_charge.proofs.Entries.{to_ascending}
 use Rattle.std.specs.Option.{option_map}
 use Rattle.std.specs.Ordering.{eq_by_cmp, nat_cmp}
 use Rattle.std.specs.FinMap as fin
@@ -76,7 +76,7 @@ module _ {A : Type 0} (a : Attr) (tree : Groups) (is : tree ≡ only_root a) (x 
     };
     room = room;
     recounted = record {
-      ordered = to_rising ((1, x) ∷ []) tt;
+      ordered = to_ascending ((1, x) ∷ []) tt;
       pids_below = All-cons (λ k. k < 2 ^ 22) 1 [] (omega arith) (search rules);
       placed = All-cons (λ p. IsPlaced leaves tree p) x [] (record { home = subst (λ (q : Path). IsSome (fin.get tree q)) (sym home) closed.root; leaf_below = omega (arith, leaf) }) (search rules);
       counted = λ s j. let none : charges_at tree x.home x.leaf s j ≡ 0 = ap (λ (q : Path). charges_at tree q x.leaf s j) home in omega (arith, empty.nothing s j, none, sum_by-cons (λ p. charges_of tree p s j) x []);

@@ -9,20 +9,20 @@ use Rattle.pids_charge.specs.declared.fault.ChargeFault.{ChargeFault}
 use Rattle.pids_charge.specs.declared.fault.ChargeFault.TheVariants.{Exists, NoGroup, Descendants, Depth, NoSlot, RootFixed, HasChildren, HasProcesses, NoProcess, PidInUse, PidsMax, OutOfMemory, NoFile}
 
 -- the refusal that a fault is, where its numbers count names of p; out of memory is none
-abbrev pub refusal_of : Path → ChargeFault → Option Refusal
-refusal_of p Exists = Some model.Exists
-refusal_of p (NoGroup n) = Some (model.NoGroup (take n p))
-refusal_of p (Descendants n) = Some (model.Descendants (take n p))
-refusal_of p (Depth n) = Some (model.Depth (take n p))
-refusal_of p NoSlot = Some model.NoSlot
-refusal_of p RootFixed = Some model.RootFixed
-refusal_of p HasChildren = Some model.HasChildren
-refusal_of p HasProcesses = Some model.HasProcesses
-refusal_of p (NoProcess pid) = Some (model.NoProcess pid)
-refusal_of p (PidInUse pid) = Some (model.PidInUse pid)
-refusal_of p (PidsMax n) = Some (model.OverPidsMax (take n p))
-refusal_of p OutOfMemory = None
-refusal_of p NoFile = Some model.NoFile
+abbrev pub refusal_of_fault : Path → ChargeFault → Option Refusal
+refusal_of_fault p Exists = Some model.Exists
+refusal_of_fault p (NoGroup n) = Some (model.NoGroup (take n p))
+refusal_of_fault p (Descendants n) = Some (model.Descendants (take n p))
+refusal_of_fault p (Depth n) = Some (model.Depth (take n p))
+refusal_of_fault p NoSlot = Some model.NoSlot
+refusal_of_fault p RootFixed = Some model.RootFixed
+refusal_of_fault p HasChildren = Some model.HasChildren
+refusal_of_fault p HasProcesses = Some model.HasProcesses
+refusal_of_fault p (NoProcess pid) = Some (model.NoProcess pid)
+refusal_of_fault p (PidInUse pid) = Some (model.PidInUse pid)
+refusal_of_fault p (PidsMax n) = Some (model.OverPidsMax (take n p))
+refusal_of_fault p OutOfMemory = None
+refusal_of_fault p NoFile = Some model.NoFile
 
 -- a refusal leaves what it leaves; out of memory leaves all
 abbrev pub after_fault : State → Option Refusal → State
@@ -32,7 +32,7 @@ after_fault s (Some r) = after_refusal s r
 -- the first refusal is answered, memory last; else the state is the command's
 abbrev pub Does : ℕ → State → Command → Path → {X : Type 0} → Result X ChargeFault → State → Type 0
 Does slots s c p (Ok x) new = (refusal slots s c ≡ None) × (new ≡ after s c)
-Does slots s c p (Err f) new = (refusal slots s c ≡ refusal_of p f) × (new ≡ after_fault s (refusal_of p f))
+Does slots s c p (Err f) new = (refusal slots s c ≡ refusal_of_fault p f) × (new ≡ after_fault s (refusal_of_fault p f))
 
 -- how many names of the path a fault counts; 0 where it names no group
 abbrev pub names_in : ChargeFault → ℕ

@@ -11,7 +11,8 @@ use Rattle.flat_model.specs.Step.{counts_for}
 use Rattle.group_tree.specs.Groups.{Groups}
 use Rattle.group_tree.specs.Flat.{group_of, limit_of}
 use Rattle.group_tree.specs.declared.attr.Attr.{Attr}
-use Rattle.pids_charge.specs.Content.{Content, over_leaves}
+use Rattle.snzi_core.specs.Listed.{over_leaves}
+use Rattle.pids_charge.specs.Content.{Content}
 
 -- one process more would bring the group past its `pids.max`, by what the meter holds
 abbrev pub full_by : ℕ → Content → Option Attr → Bool

@@ -1,7 +1,8 @@
 -- A settlement in parts: each list of tokens is cut in as many runs, and a part does one run of each.
 use Rattle.std.specs.Prelude.{ℕ, zero, suc, ◌+◌, ◌-◌, ◌/◌, min, max, List, length, take, drop}
 use Rattle.snzi_core.specs.declared.event.Token.{Token}
-use Rattle.pids_charge.specs.Content.{Content, tokens_at}
+use Rattle.snzi_core.specs.Listed.{listed_at}
+use Rattle.pids_charge.specs.Content.{Content}
 
 -- in how many parts so many tokens are settled
 abbrev pub parts_for : ℕ → ℕ
@@ -16,7 +17,7 @@ the_last_run n ts = drop (length ts - length ts / n) ts
 
 -- the leaving tokens go and the arriving ones come
 abbrev pub in_one_part : List Token → List Token → Content → Content
-in_one_part leaving arriving at s j = at s j - tokens_at leaving s j + tokens_at arriving s j
+in_one_part leaving arriving at s j = at s j - listed_at leaving s j + listed_at arriving s j
 
 -- the same in one part more than there are helpers, each after those before it
 abbrev pub in_parts : ℕ → List Token → List Token → Content → Content

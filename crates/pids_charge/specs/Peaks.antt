@@ -5,7 +5,8 @@ use Rattle.flat_model.specs.Path.{Path}
 use Rattle.flat_model.specs.Step.{counts_for}
 use Rattle.group_tree.specs.Groups.{Groups}
 use Rattle.group_tree.specs.declared.attr.Attr.{Attr}
-use Rattle.pids_charge.specs.Content.{Content, over_leaves}
+use Rattle.snzi_core.specs.Listed.{over_leaves}
+use Rattle.pids_charge.specs.Content.{Content}
 
 -- the peak of a group
 abbrev pub peak_of : Option Attr → ℕ

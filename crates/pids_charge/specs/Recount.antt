@@ -10,7 +10,8 @@ use Rattle.flat_model.specs.State.{State}
 use Rattle.group_tree.specs.Groups.{Groups, slot_of, IsClosed}
 use Rattle.group_tree.specs.Flat.{group_of}
 use Rattle.flat_model.specs.Mapped.{map_values}
-use Rattle.pids_charge.specs.Content.{Content, one_at}
+use Rattle.snzi_core.specs.Listed.{one_at}
+use Rattle.pids_charge.specs.Content.{Content}
 use Rattle.pids_charge.specs.Lists.{Row}
 use Rattle.pids_charge.specs.declared.process.Process.{Process}
 

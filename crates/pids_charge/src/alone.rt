@@ -7,7 +7,7 @@ ghost use Rattle.flat_model.specs.Command.{Kill};
 ghost use Rattle.flat_model.specs.Inverse as inverse;
 ghost use Rattle.flat_model.specs.Inverse.{back, Killed};
 ghost use Rattle.pids_charge.specs.Answers.{Does, names_in};
-ghost use Rattle.pids_charge.specs.Content.{tokens_at, IsWithin};
+ghost use Rattle.snzi_core.specs.Listed.{IsWithin, listed_at};
 ghost use Rattle.pids_charge.specs.Lists.{rows_of};
 
 use crate::charges::Charges;
@@ -24,8 +24,8 @@ use std::alloc::{AllocError, Allocator};
 fn uncharge_each<M: Meter>(meter: &mut M, stripe: u8, leaving: &[Token])
     requires within { IsWithin M.SLOTS M.LEAVES leaving.now }
     requires stripe { stripe < M.LEAVES }
-    requires charged { (s j : ℕ) → tokens_at leaving.now s j ≤ M.content meter.old s j }
-    ensures content { (s j : ℕ) → M.content meter.new s j + tokens_at leaving.now s j ≡ M.content meter.old s j }
+    requires charged { (s j : ℕ) → listed_at leaving.now s j ≤ M.content meter.old s j }
+    ensures content { (s j : ℕ) → M.content meter.new s j + listed_at leaving.now s j ≡ M.content meter.old s j }
     ensures held { M.held meter.new + length leaving.now ≡ M.held meter.old }
 {
     for token in leaving {
@@ -37,7 +37,7 @@ fn uncharge_each<M: Meter>(meter: &mut M, stripe: u8, leaving: &[Token])
 fn charge_each<M: Meter>(meter: &mut M, arriving: &[Token])
     requires within { IsWithin M.SLOTS M.LEAVES arriving.now }
     requires room { M.held meter.old + length arriving.now ≤ HELD_MAX }
-    ensures content { (s j : ℕ) → M.content meter.new s j ≡ M.content meter.old s j + tokens_at arriving.now s j }
+    ensures content { (s j : ℕ) → M.content meter.new s j ≡ M.content meter.old s j + listed_at arriving.now s j }
     ensures held { M.held meter.new ≡ M.held meter.old + length arriving.now }
 {
     for token in arriving {
@@ -51,9 +51,9 @@ pub fn settle_alone<M: Meter>(meter: &mut M, stripe: u8, leaving: &[Token], arri
     requires leaving_within { IsWithin M.SLOTS M.LEAVES leaving.now }
     requires arriving_within { IsWithin M.SLOTS M.LEAVES arriving.now }
     requires stripe_below { stripe < M.LEAVES }
-    requires charged { (s j : ℕ) → tokens_at leaving.now s j ≤ M.content meter.old s j }
+    requires charged { (s j : ℕ) → listed_at leaving.now s j ≤ M.content meter.old s j }
     requires room { M.held meter.old + length arriving.now ≤ HELD_MAX }
-    ensures content { (s j : ℕ) → M.content meter.new s j + tokens_at leaving.now s j ≡ M.content meter.old s j + tokens_at arriving.now s j }
+    ensures content { (s j : ℕ) → M.content meter.new s j + listed_at leaving.now s j ≡ M.content meter.old s j + listed_at arriving.now s j }
     ensures held { M.held meter.new + length leaving.now ≡ M.held meter.old + length arriving.now }
 {
     uncharge_each(meter, stripe, leaving);

@@ -9,7 +9,7 @@ ghost use Rattle.flat_model.specs.Counts.{has_process};
 ghost use Rattle.flat_model.specs.Inverse.{back, Counted};
 ghost use Rattle.flat_model.specs.Step.{refusal, after, after_refusal, home_of, peaks_upward, at_each, count_up, count_down};
 ghost use Rattle.group_tree.specs.Refusals.{HasRoomForRefusals};
-ghost use Rattle.pids_charge.specs.Answers.{Does, refusal_of, names_in};
+ghost use Rattle.pids_charge.specs.Answers.{Does, refusal_of_fault, names_in};
 ghost use Rattle.pids_charge.specs.Events.{full_by, longest, flat_of, HasRoomForEvents, HasEvents};
 ghost use Rattle.pids_charge.specs.Recount.{SlotsBelow, SameSlots};
 
@@ -97,7 +97,7 @@ impl<A: Allocator + Clone, M: Meter> Charges<A, M> {
     /// What `fork` would refuse this with, memory aside: `NoProcess` of the parent, `PidInUse` of the child, or `PidsMax`. It
     /// counts nothing and changes nothing. Costs one descent of the tree, which asks the limits, all up to the root.
     pub fn refuses_fork(&mut self, parent: Pid, child: Pid) -> Option<ChargeFault>
-        ensures first { MatchOption result (refusal M.SLOTS self.old (Fork parent child) ≡ None) (λ f. refusal M.SLOTS self.old (Fork parent child) ≡ refusal_of (home_of self.old parent) f) }
+        ensures first { MatchOption result (refusal M.SLOTS self.old (Fork parent child) ≡ None) (λ f. refusal M.SLOTS self.old (Fork parent child) ≡ refusal_of_fault (home_of self.old parent) f) }
         ensures inside { IfSome result (λ f. names_in f ≤ length (home_of self.old parent)) }
         ensures below_root { (n : ℕ) → result ≡ Some (ChargeFault.PidsMax n) → 0 < n }
         ensures no_memory { IfSome result (λ f. f ≢ ChargeFault.OutOfMemory) }

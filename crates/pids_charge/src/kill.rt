@@ -8,7 +8,7 @@ ghost use Rattle.std.specs.Map.{values_of, keys_of};
 ghost use Rattle.flat_model.specs.Command.{Kill};
 ghost use Rattle.flat_model.specs.Inverse as inverse;
 ghost use Rattle.pids_charge.specs.Answers.{Does, names_in};
-ghost use Rattle.pids_charge.specs.Content.{tokens_at, IsWithin};
+ghost use Rattle.snzi_core.specs.Listed.{IsWithin, listed_at};
 ghost use Rattle.pids_charge.specs.Lists.{inside, is_inside, lost_of};
 ghost use Rattle.pids_charge.specs.Recount.{charges_of, IsPlaced, SlotsBelow};
 
@@ -47,7 +47,7 @@ fn gather_one<M: Meter, T: Allocator, A: Allocator + Clone>(
     requires slots { SlotsBelow M.SLOTS tree.now }
     requires within { IsWithin M.SLOTS M.LEAVES gathered.old.tokens.items }
     ensures lost { OnOk result (gathered.new.lost.items ≡ gathered.old.lost.items ++ lost_of (pid, process.now) ∷ []) }
-    ensures counted { OnOk result ((s j : ℕ) → tokens_at gathered.new.tokens.items s j ≡ tokens_at gathered.old.tokens.items s j + charges_of tree.now process.now s j) }
+    ensures counted { OnOk result ((s j : ℕ) → listed_at gathered.new.tokens.items s j ≡ listed_at gathered.old.tokens.items s j + charges_of tree.now process.now s j) }
     ensures many { OnOk result (length gathered.new.tokens.items ≡ length gathered.old.tokens.items + length process.now.home) }
     ensures within { IsWithin M.SLOTS M.LEAVES gathered.new.tokens.items }
 {
@@ -67,7 +67,7 @@ pub(crate) fn gather<M: Meter, T: Allocator, A: Allocator + Clone, B: Allocator 
     requires placed { All (λ p. IsPlaced M.LEAVES tree.now p) (values_of processes.now.entries) }
     requires slots { SlotsBelow M.SLOTS tree.now }
     ensures lost { IfOk result (λ g. g.lost.items ≡ map lost_of (inside path.now processes.now.entries)) }
-    ensures counted { IfOk result (λ g. (s j : ℕ) → tokens_at g.tokens.items s j ≡ sum_by (λ p. charges_of tree.now p s j) (values_of (inside path.now processes.now.entries))) }
+    ensures counted { IfOk result (λ g. (s j : ℕ) → listed_at g.tokens.items s j ≡ sum_by (λ p. charges_of tree.now p s j) (values_of (inside path.now processes.now.entries))) }
     ensures many { IfOk result (λ g. length g.tokens.items ≡ sum_by (λ p. length p.home) (values_of (inside path.now processes.now.entries))) }
     ensures within { IfOk result (λ g. IsWithin M.SLOTS M.LEAVES g.tokens.items) }
 {

@@ -28,7 +28,7 @@ fn is_missing<B: Allocator + Clone>(path: &GroupPath<B>, file: LimitFile) -> boo
 
 impl<A: Allocator + Clone, M: Meter> Charges<A, M> {
     /// Sets a limit of a group, and answers the one that stood there. A limit may be below what there is now. It takes no
-    /// memory, and costs two descents of the tree.
+    /// memory, and costs one descent of the tree.
     ///
     /// # Errors
     ///
@@ -47,12 +47,10 @@ impl<A: Allocator + Clone, M: Meter> Charges<A, M> {
         if is_missing(path, file) {
             return Err(ChargeFault::NoFile);
         }
-        let Some(found) = self.tree.find(path) else {
+        let Some(earlier) = self.tree.replace_limit(path, file, limit) else {
             return Err(ChargeFault::NoGroup(path.depth()));
         };
-        let attr = *found;
-        let _ = self.tree.set(path, attr.with_limit(file, limit));
         self.tree.known();
-        Ok(attr.limit(file))
+        Ok(earlier)
     }
 }

@@ -1,7 +1,8 @@
 //! What charges are kept in.
 
 ghost use Rattle.std.specs.Prelude.{◌≡◌, ℕ, ◌+◌, ◌-◌, ◌^◌, ◌<◌, ◌≤◌, ◌↔◌, IsTrue, length, List};
-ghost use Rattle.pids_charge.specs.Content.{Content, one_at, tokens_at, over_leaves, IsWithin};
+ghost use Rattle.snzi_core.specs.Listed.{IsWithin, listed_at, one_at, over_leaves};
+ghost use Rattle.pids_charge.specs.Content.{Content};
 ghost use Rattle.pids_charge.specs.Parts.{in_parts};
 
 use crate::gate::Gate;
@@ -75,9 +76,9 @@ pub trait Meter {
         requires leaving_within { IsWithin SLOTS LEAVES leaving.now }
         requires arriving_within { IsWithin SLOTS LEAVES arriving.now }
         requires stripe_below { stripe < LEAVES }
-        requires charged { (s j : ℕ) → tokens_at leaving.now s j ≤ content self.old s j }
+        requires charged { (s j : ℕ) → listed_at leaving.now s j ≤ content self.old s j }
         requires room { held self.old + length arriving.now ≤ HELD_MAX }
-        ensures content { (s j : ℕ) → content self.new s j + tokens_at leaving.now s j ≡ content self.old s j + tokens_at arriving.now s j }
+        ensures content { (s j : ℕ) → content self.new s j + listed_at leaving.now s j ≡ content self.old s j + listed_at arriving.now s j }
         ensures parts { (helpers s j : ℕ) → content self.new s j ≡ in_parts helpers leaving.now arriving.now (content self.old) s j }
         ensures held { held self.new + length leaving.now ≡ held self.old + length arriving.now };
 

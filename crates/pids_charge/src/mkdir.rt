@@ -3,35 +3,30 @@
 ghost use Rattle.std.specs.Prelude.{◌≡◌, ◌≤◌, length, None, IfSome, IfErr, OnErr, OnOk, MatchOption};
 ghost use Rattle.flat_model.specs.Command.{MakeGroup};
 ghost use Rattle.flat_model.specs.Step.{refusal, after};
-ghost use Rattle.pids_charge.specs.Answers.{Does, refusal_of, after_fault, names_in};
+ghost use Rattle.pids_charge.specs.Answers.{Does, refusal_of_fault, after_fault, names_in};
 
 use crate::charges::Charges;
 use crate::fault::ChargeFault;
 use crate::meter::Meter;
 use group_path::GroupPath;
-use group_tree::{Attr, MetLimit};
+use group_tree::{Admission, Attr, MetLimit};
 use std::alloc::Allocator;
 
 impl<A: Allocator + Clone, M: Meter> Charges<A, M> {
-    /// Why the group may not be made, if it may not: what `mkdir` would be refused, memory aside. It costs three descents of
+    /// Why the group may not be made, if it may not: what `mkdir` would be refused, memory aside. It costs one descent of
     /// the tree.
     pub fn refuses_mkdir<B: Allocator + Clone>(&self, path: &GroupPath<B>) -> Option<ChargeFault>
-        ensures first { MatchOption result (refusal M.SLOTS self.now (MakeGroup path.now) ≡ None) (λ f. refusal M.SLOTS self.now (MakeGroup path.now) ≡ refusal_of path.now f) }
+        ensures first { MatchOption result (refusal M.SLOTS self.now (MakeGroup path.now) ≡ None) (λ f. refusal M.SLOTS self.now (MakeGroup path.now) ≡ refusal_of_fault path.now f) }
         ensures inside { IfSome result (λ f. names_in f ≤ length path.now) }
-        ensures kept { IfSome result (λ f. after_fault self.now (refusal_of path.now f) ≡ self.now) }
+        ensures kept { IfSome result (λ f. after_fault self.now (refusal_of_fault path.now f) ≡ self.now) }
     {
-        if self.tree.find(path).is_some() {
-            return Some(ChargeFault::Exists);
-        }
-        let above = path.depth().saturating_sub(1);
-        if self.tree.find_at(path, above).is_none() {
-            return Some(ChargeFault::NoGroup(above));
-        }
-        match self.tree.met_limit(path, above) {
-            Some(MetLimit::Descendants(n)) => Some(ChargeFault::Descendants(n)),
-            Some(MetLimit::Depth(n)) => Some(ChargeFault::Depth(n)),
-            None if self.free.is_empty() => Some(ChargeFault::NoSlot),
-            None => None,
+        match self.tree.admits(path) {
+            Admission::Exists => Some(ChargeFault::Exists),
+            Admission::NoParent => Some(ChargeFault::NoGroup(path.depth().saturating_sub(1))),
+            Admission::Met(MetLimit::Descendants(n)) => Some(ChargeFault::Descendants(n)),
+            Admission::Met(MetLimit::Depth(n)) => Some(ChargeFault::Depth(n)),
+            Admission::Free if self.free.is_empty() => Some(ChargeFault::NoSlot),
+            Admission::Free => None,
         }
     }
 
@@ -53,8 +48,8 @@ impl<A: Allocator + Clone, M: Meter> Charges<A, M> {
         self.restore(path, Attr::new(0))
     }
 
-    /// Makes a group under one that is there, with no limits and event totals of 0, on a free slot. Costs four descents
-    /// of the tree at the most: all limits above it are asked in one.
+    /// Makes a group under one that is there, with no limits and event totals of 0, on a free slot. Costs two descents
+    /// of the tree: what stands against it, all limits above it too, is asked in one.
     ///
     /// # Errors
     ///

@@ -1,7 +1,7 @@
 //! In how many parts a settlement is done, and which tokens each part does.
 
 ghost use Rattle.std.specs.Prelude.{◌≡◌, ℕ, ◌+◌, ◌<◌, length};
-ghost use Rattle.pids_charge.specs.Content.{tokens_at, IsWithin};
+ghost use Rattle.snzi_core.specs.Listed.{IsWithin, listed_at};
 ghost use Rattle.pids_charge.specs.Parts.{parts_for, but_last_run, the_last_run};
 
 use snzi_core::Token;
@@ -18,7 +18,7 @@ pub fn part_count(leaving: &[Token], arriving: &[Token]) -> u8
 pub fn last_run(tokens: &[Token], runs: u8) -> (&[Token], &[Token])
     requires { 0 < runs }
     ensures runs { (result.0.now ≡ but_last_run runs tokens.now) × (result.1.now ≡ the_last_run runs tokens.now) }
-    ensures tokens { (s j : ℕ) → tokens_at result.0.now s j + tokens_at result.1.now s j ≡ tokens_at tokens.now s j }
+    ensures tokens { (s j : ℕ) → listed_at result.0.now s j + listed_at result.1.now s j ≡ listed_at tokens.now s j }
     ensures place { (g l : ℕ) → IsWithin g l tokens.now → IsWithin g l result.0.now × IsWithin g l result.1.now }
     ensures len { length result.0.now + length result.1.now ≡ length tokens.now }
 {

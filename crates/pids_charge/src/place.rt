@@ -7,7 +7,7 @@ ghost use Rattle.std.specs.BTreeMap.{insert_entry, is_at};
 ghost use Rattle.std.specs.FinMap as fin;
 ghost use Rattle.std.specs.Map.{lookup};
 ghost use Rattle.flat_model.specs.Inverse.{back, Killed};
-ghost use Rattle.pids_charge.specs.Content.{tokens_at, IsWithin};
+ghost use Rattle.snzi_core.specs.Listed.{IsWithin, listed_at};
 ghost use Rattle.pids_charge.specs.Lists.{with_lost, without, placed_at, rows_of};
 ghost use Rattle.pids_charge.specs.Recount.{charges_at, SlotsBelow};
 
@@ -36,7 +36,7 @@ pub(crate) fn tokens_of<M: Meter, T: Allocator, A: Allocator + Clone, B: Allocat
     requires leaf_below { leaf < M.LEAVES }
     requires homes { All (λ l. IsSome (fin.get tree.now l.path)) list.now }
     requires slots { SlotsBelow M.SLOTS tree.now }
-    ensures counted { IfOk result (λ t. (s j : ℕ) → tokens_at t.items s j ≡ sum_by (λ l. charges_at tree.now l.path leaf s j) list.now) }
+    ensures counted { IfOk result (λ t. (s j : ℕ) → listed_at t.items s j ≡ sum_by (λ l. charges_at tree.now l.path leaf s j) list.now) }
     ensures many { IfOk result (λ t. length t.items ≡ sum_by (λ l. length l.path) list.now) }
     ensures within { IfOk result (λ t. IsWithin M.SLOTS M.LEAVES t.items) }
 {

@@ -1,7 +1,8 @@
 //! A meter of plain numbers, for one thread.
 
 ghost use Rattle.std.specs.Prelude.{◌≡◌, ℕ, ◌+◌, ◌-◌, ◌%◌, ◌^◌, ◌<◌, ◌≤◌, ◌↔◌, IsTrue, IfOk, List, length, sum, slice_index, slice_set, replicate};
-ghost use Rattle.pids_charge.specs.Content.{IsEmpty, IsWithin, tokens_at};
+ghost use Rattle.snzi_core.specs.Listed.{IsWithin, listed_at};
+ghost use Rattle.pids_charge.specs.Content.{IsEmpty};
 ghost use Rattle.pids_charge.specs.Table.{table_at, table_held};
 
 use crate::gate::Gate;
@@ -127,9 +128,9 @@ impl<A: Allocator> PlainMeter<A> {
     )
         requires part { (1 ≤ part) × (part ≤ 24) }
         requires place { IsWithin SLOTS LEAVES leaving.now × IsWithin SLOTS LEAVES arriving.now × (stripe < LEAVES) }
-        requires charged { (s j : ℕ) → tokens_at leaving.now s j ≤ table_at self.old s j }
+        requires charged { (s j : ℕ) → listed_at leaving.now s j ≤ table_at self.old s j }
         requires room { table_held self.old + length arriving.now ≤ HELD_MAX }
-        ensures content { (s j : ℕ) → table_at self.new s j + tokens_at leaving.now s j ≡ table_at self.old s j + tokens_at arriving.now s j }
+        ensures content { (s j : ℕ) → table_at self.new s j + listed_at leaving.now s j ≡ table_at self.old s j + listed_at arriving.now s j }
         ensures held { table_held self.new + length leaving.now ≡ table_held self.old + length arriving.now }
     {
         gate.pass(part);
@@ -152,9 +153,9 @@ impl<A: Allocator> PlainMeter<A> {
     )
         requires few { parts ≤ 24 }
         requires place { IsWithin SLOTS LEAVES leaving.now × IsWithin SLOTS LEAVES arriving.now × (stripe < LEAVES) }
-        requires charged { (s j : ℕ) → tokens_at leaving.now s j ≤ table_at self.old s j }
+        requires charged { (s j : ℕ) → listed_at leaving.now s j ≤ table_at self.old s j }
         requires room { table_held self.old + length arriving.now ≤ HELD_MAX }
-        ensures content { (s j : ℕ) → table_at self.new s j + tokens_at leaving.now s j ≡ table_at self.old s j + tokens_at arriving.now s j }
+        ensures content { (s j : ℕ) → table_at self.new s j + listed_at leaving.now s j ≡ table_at self.old s j + listed_at arriving.now s j }
         ensures held { table_held self.new + length leaving.now ≡ table_held self.old + length arriving.now }
     {
         if parts <= 1 {

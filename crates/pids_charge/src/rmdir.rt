@@ -7,7 +7,7 @@ ghost use Rattle.flat_model.specs.Command.{RemoveGroup};
 ghost use Rattle.flat_model.specs.Step.{refusal, after};
 ghost use Rattle.flat_model.specs.Inverse.{back, Removed};
 ghost use Rattle.group_tree.specs.Flat.{group_of};
-ghost use Rattle.pids_charge.specs.Answers.{Does, refusal_of, after_fault, names_in};
+ghost use Rattle.pids_charge.specs.Answers.{Does, refusal_of_fault, after_fault, names_in};
 
 use crate::charges::Charges;
 use crate::fault::ChargeFault;
@@ -17,31 +17,29 @@ use group_tree::Attr;
 use std::alloc::Allocator;
 
 impl<A: Allocator + Clone, M: Meter> Charges<A, M> {
-    /// Why the group may not be removed, if it may not: what `rmdir` would be refused. It costs two descents of the tree.
+    /// Why the group may not be removed, if it may not: what `rmdir` would be refused. It costs one descent of the tree.
     pub fn refuses_rmdir<B: Allocator + Clone>(
         &mut self,
         path: &GroupPath<B>,
     ) -> Option<ChargeFault>
-        ensures first { MatchOption result (refusal M.SLOTS self.old (RemoveGroup path.now) ≡ None) (λ f. refusal M.SLOTS self.old (RemoveGroup path.now) ≡ refusal_of path.now f) }
+        ensures first { MatchOption result (refusal M.SLOTS self.old (RemoveGroup path.now) ≡ None) (λ f. refusal M.SLOTS self.old (RemoveGroup path.now) ≡ refusal_of_fault path.now f) }
         ensures inside { IfSome result (λ f. names_in f ≤ length path.now) }
         ensures no_memory { IfSome result (λ f. f ≢ ChargeFault.OutOfMemory) }
-        ensures unchanged { IfSome result (λ f. after_fault self.old (refusal_of path.now f) ≡ self.old) }
+        ensures unchanged { IfSome result (λ f. after_fault self.old (refusal_of_fault path.now f) ≡ self.old) }
         ensures kept { self.new ≡ self.old }
     {
-        if path.depth() == 0 {
+        let depth = path.depth();
+        if depth == 0 {
             return Some(ChargeFault::RootFixed);
         }
         self.tree.known();
-        let Some(below) = self.descendants(path) else {
-            return Some(ChargeFault::NoGroup(path.depth()));
+        let Some((attr, below)) = self.tree.find_with_descendants(path) else {
+            return Some(ChargeFault::NoGroup(depth));
         };
         if below > 0 {
             return Some(ChargeFault::HasChildren);
         }
-        let Some(is_populated) = self.populated(path) else {
-            unreachable!()
-        };
-        if is_populated {
+        if self.meter.populated(attr.slot) {
             return Some(ChargeFault::HasProcesses);
         }
         None
@@ -66,7 +64,7 @@ impl<A: Allocator + Clone, M: Meter> Charges<A, M> {
     }
 
     /// Removes a group that has no groups below it and no processes. What it had is answered. It takes no memory, and
-    /// costs three descents of the tree: that there are no processes is known from their count. The groups above it keep
+    /// costs two descents of the tree: that there are no processes is known from their count. The groups above it keep
     /// their event totals.
     ///
     /// # Errors

@@ -2,7 +2,7 @@
 
 ghost use Rattle.std.specs.Prelude.{◌≡◌, ℕ, ◌+◌, ◌<◌, ◌≤◌, length, IsSome, OnOk};
 ghost use Rattle.std.specs.FinMap as fin;
-ghost use Rattle.pids_charge.specs.Content.{tokens_at, IsWithin};
+ghost use Rattle.snzi_core.specs.Listed.{IsWithin, listed_at};
 ghost use Rattle.pids_charge.specs.Recount.{charges_at, SlotsBelow};
 
 use crate::meter::{HELD_MAX, Meter};
@@ -64,7 +64,7 @@ pub(crate) fn push_tokens<M: Meter, T: Allocator, A: Allocator + Clone, B: Alloc
     requires home { IsSome (fin.get tree.now path.now) }
     requires slots { SlotsBelow M.SLOTS tree.now }
     requires within { IsWithin M.SLOTS M.LEAVES tokens.old.items }
-    ensures counted { OnOk result ((s j : ℕ) → tokens_at tokens.new.items s j ≡ tokens_at tokens.old.items s j + charges_at tree.now path.now leaf s j) }
+    ensures counted { OnOk result ((s j : ℕ) → listed_at tokens.new.items s j ≡ listed_at tokens.old.items s j + charges_at tree.now path.now leaf s j) }
     ensures many { OnOk result (length tokens.new.items ≡ length tokens.old.items + length path.now) }
     ensures within { IsWithin M.SLOTS M.LEAVES tokens.new.items }
 {

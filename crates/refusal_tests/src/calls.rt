@@ -1,5 +1,8 @@
 //! Calls on charges, as rows of a table.
 
+ghost use Rattle.std.specs.Prelude.{◌≡◌, IsTrue, IsSome, None};
+ghost use Rattle.std.specs.FinMap as fin;
+
 use crate::answers::{
     Answer, done, lost_answered, move_answered, path_answered, peaks_answered, refused,
 };
@@ -35,6 +38,10 @@ pub(crate) enum Call {
     PlaceAll,
     /// Likewise.
     PlaceAllAlone,
+    /// Of a list of both.
+    PlaceBoth,
+    /// Likewise.
+    PlaceBothAlone,
 }
 
 /// A call with its path and its processes.
@@ -46,7 +53,8 @@ pub(crate) struct Asked {
     second: Pid,
 }
 
-fn pid(number: u32) -> Result<Pid, Fail> {
+/// The process of this number.
+pub(crate) fn pid(number: u32) -> Result<Pid, Fail> {
     match Pid::new(number) {
         Some(pid) => Ok(pid),
         None => Err(Fail::new("no process has that number")),
@@ -165,6 +173,51 @@ fn place_all_alone<A: Allocator + Clone>(
     done(charges.place_all_alone(0, &[Lost { pid, path }]), wanted)
 }
 
+/// Whether the process can be placed: its group is there, and its number is free.
+fn can_be_placed<A: Allocator + Clone>(charges: &Apart<A>, lost: &Lost<Global>) -> bool
+    ensures group { IsTrue result → IsSome (fin.get charges.now.groups lost.now.path) }
+    ensures free { IsTrue result → fin.get charges.now.home lost.now.pid ≡ None }
+{
+    charges.attr(&lost.path).is_some() && charges.home(lost.pid).is_none()
+}
+
+fn place_both<R: Threads + Wait + Sync, A: Allocator + Clone>(
+    rt: &R,
+    charges: &mut Apart<A>,
+    one: Lost<Global>,
+    other: Lost<Global>,
+    wanted: &Answer<'_>,
+) -> Tried {
+    if one.pid.get() == other.pid.get() {
+        return nothing(wanted);
+    }
+    if !can_be_placed(charges, &one) || !can_be_placed(charges, &other) {
+        return nothing(wanted);
+    }
+    done(charges.place_all(rt, &OpenGate, 0, &[one, other]), wanted)
+}
+
+fn place_both_alone<A: Allocator + Clone>(
+    charges: &mut Apart<A>,
+    one: Lost<Global>,
+    other: Lost<Global>,
+    wanted: &Answer<'_>,
+) -> Tried {
+    if one.pid.get() == other.pid.get() {
+        return nothing(wanted);
+    }
+    if !can_be_placed(charges, &one) || !can_be_placed(charges, &other) {
+        return nothing(wanted);
+    }
+    done(charges.place_all_alone(0, &[one, other]), wanted)
+}
+
+/// A process and its group.
+fn lost(alloc: Global, pid: Pid, path: &GroupPath<Global>) -> Result<Lost<Global>, AllocError> {
+    let path = path.copy(alloc)?;
+    Ok(Lost { pid, path })
+}
+
 /// Makes the call, and tells what it came to beside the wanted answer.
 pub(crate) fn answer<R: Threads + Wait + Sync, A: Allocator + Clone>(
     rt: &R,
@@ -188,6 +241,14 @@ pub(crate) fn answer<R: Threads + Wait + Sync, A: Allocator + Clone>(
         Call::Place => place(charges, first, path, wanted),
         Call::PlaceAll => place_all(rt, charges, first, path.copy(alloc)?, wanted),
         Call::PlaceAllAlone => place_all_alone(charges, first, path.copy(alloc)?, wanted),
+        Call::PlaceBoth => {
+            let one = lost(alloc, first, path)?;
+            place_both(rt, charges, one, lost(alloc, second, path)?, wanted)
+        }
+        Call::PlaceBothAlone => {
+            let one = lost(alloc, first, path)?;
+            place_both_alone(charges, one, lost(alloc, second, path)?, wanted)
+        }
     };
     Ok(tried)
 }

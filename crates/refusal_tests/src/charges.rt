@@ -326,6 +326,25 @@ fn place_all(rt: HostRuntime) -> Result<(), Fail> {
     Ok(())
 }
 
+/// Two processes: where the path of one is had and that of the other is refused, both are taken out.
+#[test]
+fn place_all_of_two(rt: HostRuntime) -> Result<(), Fail> {
+    let rows = [
+        (Call::Mkdir, A, (1, 2), Answer::Done, true),
+        (Call::Mkdir, B, (1, 2), Answer::Done, true),
+        (Call::PlaceBoth, C, (2, 3), Answer::Nothing, false),
+        (Call::PlaceBoth, B, (2, 2), Answer::Nothing, false),
+        (Call::PlaceBoth, B, (2, 3), Answer::Done, true),
+        (Call::PlaceBoth, B, (4, 3), Answer::Nothing, false),
+        (Call::Kill, A, (1, 2), Answer::Lost(&[2, 3]), true),
+        (Call::PlaceBothAlone, B, (3, 2), Answer::Done, true),
+        (Call::KillAlone, B, (1, 2), Answer::Lost(&[2, 3]), true),
+        (Call::PlaceBothAlone, A, (1, 2), Answer::Nothing, false),
+    ];
+    assert_eq!(rt; each_refused(&rt, rt.alloc(), &rows)?, None);
+    Ok(())
+}
+
 #[test]
 fn place_all_alone(rt: HostRuntime) -> Result<(), Fail> {
     let rows = [

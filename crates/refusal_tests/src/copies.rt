@@ -12,10 +12,10 @@ use std::thread::Threads;
 use test_support::{BLOCK_SIZE, Tried, all_but};
 
 /// The bytes of a meter of plain numbers: for each slot and each leaf of it two numbers of 8 bytes.
-const METER_SIZE: usize = SLOTS * LEAVES * 2 * 8;
+pub(crate) const METER_SIZE: usize = SLOTS * LEAVES * 2 * 8;
 
 /// So many bytes are there beside a meter.
-const BESIDE: usize = 8192;
+pub(crate) const BESIDE: usize = 8192;
 
 /// What a copy into the heap comes to: it is answered where all that can be read of it is what can be read of the charges.
 fn copied(alloc: Global, heap: &LocalHeap, charges: &mut Apart<Global>) -> Result<Tried, Fail> {

@@ -1,5 +1,6 @@
 //! The texts of files in a small heap.
 
+use crate::answers::tried;
 use crate::calls::Apart;
 use crate::sample::make_sample;
 use crate::seen::{A, B, C, look};
@@ -30,18 +31,13 @@ fn compared(
     shown: Result<Vec<u8, &LocalHeap>, ShowFault>,
     wanted: Result<&str, ShowFault>,
 ) -> Tried {
-    let is_wanted = match shown {
-        Err(ShowFault::OutOfMemory) => return Tried::Refused,
-        Err(fault) => wanted.err() == Some(fault),
+    match shown {
+        Err(ShowFault::OutOfMemory) => Tried::Refused,
+        Err(fault) => tried(wanted.err() == Some(fault)),
         Ok(text) => match wanted {
-            Ok(wanted) => text.as_slice() == wanted.as_bytes(),
-            Err(_) => false,
+            Ok(wanted) => tried(text.as_slice() == wanted.as_bytes()),
+            Err(_) => Tried::Other,
         },
-    };
-    if is_wanted {
-        Tried::Answered
-    } else {
-        Tried::Other
     }
 }
 

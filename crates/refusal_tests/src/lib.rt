@@ -9,10 +9,15 @@
 //! - `filled`: a meter in a heap that is too small, and an engine that forks until its heap is full.
 //! - `charges`: each call on `Charges` that takes a process or a group in or out. `calls` makes them, `answers` has what they
 //!   answer, and `seen` what can be read of charges.
+//! - `forks`: `fork`, which decides and makes in one call.
 //! - `copies`: `copy_plain` of the charges of `sample`.
 //! - `files`: `render` and `render_home`.
+//! - `members`: the list of a group's processes.
+//! - `texts`: copies of commands, of replies and of records, and the texts of commands.
+//! - `rehearsals`: `rehearse` over a heap.
 //!
-//! Not tested: what takes the memory of the program itself, as `parse_line` does.
+//! Not tested: what takes the memory of the program itself, as `parse_line` does and the list of a rehearsal's replies;
+//! `.ci/refused/run` refuses that to the program.
 #![tactic(auto)]
 
 #[cfg(test)]
@@ -28,6 +33,14 @@ mod files;
 #[cfg(test)]
 mod filled;
 #[cfg(test)]
+mod forks;
+#[cfg(test)]
+mod members;
+#[cfg(test)]
+mod rehearsals;
+#[cfg(test)]
 mod sample;
 #[cfg(test)]
 mod seen;
+#[cfg(test)]
+mod texts;

@@ -10,13 +10,13 @@ use Rattle.flat_model.specs.Trace.{Line, Skip, Run, Fault, read_trace}
 use Rattle.undo_journal.specs.Meaning.{command_of}
 use Rattle.replay_main.specs.declared.reading.Script.{Script}
 use Rattle.replay_main.specs.declared.trace.Summary.{Summary}
-use Rattle.replay_main.specs.Rehearsed.{answers_at, is_refusal}
+use Rattle.replay_main.specs.Rehearsed.{answers_at_hand, is_refusal}
 use Rattle.sessions.specs.Meaning.{slots}
 use Rattle.replay_main.specs.Replayed.{IsAnswered}
 use Rattle.replay_main.specs.Script.{IsScript, place_of, places_in}
 use Rattle.replay_main.proofs.ScriptLaws.{places-count, places-faults}
 
-answers-are : (n : ℕ) (lines : List Line) (rs : List Reply) → answers_at n (places_in lines) (map Some rs) ≡ out n lines rs
+answers-are : (n : ℕ) (lines : List Line) (rs : List Reply) → answers_at_hand n (places_in lines) (map Some rs) ≡ out n lines rs
 answers-are n [] rs = refl
 answers-are n (Skip ∷ lines) rs = answers-are n lines rs
 answers-are n (Fault f ∷ lines) rs = ap (λ t. fault_bytes n f ++ t) (answers-are (n + 1) lines rs)
@@ -27,7 +27,7 @@ refusals-are : (rs : List Reply) → count_by is_refusal (map Some rs) ≡ count
 refusals-are rs = count_by-map is_refusal Some rs
 
 pub rehearsed_is : (trace bytes : List ℕ) (script : Script) (os : List (Option Reply)) (summary : Summary) (faults refused : ℕ)
-    → IsScript script (read_trace trace) → os ≡ map Some (replies slots new_machine (map command_of script.commands.items)) → bytes ≡ answers_at 1 (map place_of script.places.items) os
+    → IsScript script (read_trace trace) → os ≡ map Some (replies slots new_machine (map command_of script.commands.items)) → bytes ≡ answers_at_hand 1 (map place_of script.places.items) os
     → summary.commands ≡ length script.places.items → summary.refused ≡ faults + refused → faults ≡ count_by is_some (map place_of script.places.items) → refused ≡ count_by is_refusal os
     → IsAnswered trace bytes summary
 rehearsed_is trace bytes script os summary faults refused s o b sc sr f k =
@@ -37,7 +37,7 @@ rehearsed_is trace bytes script os summary faults refused s o b sc sr f k =
     let f_is : faults ≡ count_by is_fault lines = f ∙ ap (λ ps. count_by is_some ps) s.places ∙ places-faults lines in
     let k_is : refused ≡ count_by is_refused rs = k ∙ ap (λ x. count_by is_refusal x) os_are ∙ refusals-are rs in
     record {
-      bytes_are = b ∙ ap (λ ps. answers_at 1 ps os) s.places ∙ ap (λ x. answers_at 1 (places_in lines) x) os_are ∙ answers-are 1 lines rs;
+      bytes_are = b ∙ ap (λ ps. answers_at_hand 1 ps os) s.places ∙ ap (λ x. answers_at_hand 1 (places_in lines) x) os_are ∙ answers-are 1 lines rs;
       counts = record {
         commands = sc ∙ sym (length-map script.places.items place_of) ∙ ap (λ ps. length ps) s.places ∙ places-count lines;
         refused = sr ∙ ap (λ x. x + refused) f_is ∙ ap (λ x. count_by is_fault lines + x) k_is;

@@ -74,10 +74,10 @@ from_number : (n m : ℕ) (bs : List (Option trace.TextFault)) (rs : List Reply)
 from_number n m [] rs same = refl
 from_number n m (b ∷ bs) rs same = ap (λ k. answers_from k (b ∷ bs) rs) (same (omega arith))
 
-abbrev answers_at : ℕ → List (Option trace.TextFault) → List Reply → ℕ → List ℕ
-answers_at size ps rs i = answers_from (i * size + 1) (drop (i * size) ps) (replies_behind (i * size) ps rs)
+abbrev answers_behind : ℕ → List (Option trace.TextFault) → List Reply → ℕ → List ℕ
+answers_behind size ps rs i = answers_from (i * size + 1) (drop (i * size) ps) (replies_behind (i * size) ps rs)
 
-answers_step : (size : ℕ) (ps : List (Option trace.TextFault)) (rs : List Reply) (i : ℕ) → answers_at size ps rs i ≡ run_answers size i ps rs ++ answers_at size ps rs (i + 1)
+answers_step : (size : ℕ) (ps : List (Option trace.TextFault)) (rs : List Reply) (i : ℕ) → answers_behind size ps rs i ≡ run_answers size i ps rs ++ answers_behind size ps rs (i + 1)
 answers_step size ps rs i =
     let next = next_start size i in
     let mine = run_of size i ps in
@@ -106,7 +106,7 @@ joined_answers v places rs size k xs enough run each =
     let a = length-map places place_of in
     let all : length ps ≤ k * size = omega (arith, a, enough) in
     let start : 0 * size ≡ 0 = omega arith in
-    runs_join v (answers_at size ps rs) (λ i. run_answers size i ps rs) xs 0 k run each (answers_step size ps rs)
+    runs_join v (answers_behind size ps rs) (λ i. run_answers size i ps rs) xs 0 k run each (answers_step size ps rs)
     (ap (λ t. answers_from (k * size + 1) t (replies_behind (k * size) ps rs)) (drop_all (k * size) ps all))
     ∙ ap (λ n. answers_from (n + 1) (drop n ps) (replies_behind n ps rs)) start
 

@@ -13,7 +13,7 @@
 //!   phases: lines become commands, the commands are run at a desk by a session for each worker, and
 //!   their replies become bytes.
 //! - A fault of a replay says what failed. After each but `Write` nothing was written; after
-//!   `Write` a prefix of the answers was. A trace of more than `TRACE_MAX` bytes is too long. Want
+//!   `Write` a prefix of the answers was. A trace of more than `TRACE_MAX` bytes is too long. Out
 //!   of memory is no answer: it ends the replay.
 //! - `rehearse_trace` answers a trace on a copy of a fresh engine in an arena: the same bytes, by
 //!   `Engine::rehearse`.

@@ -5,7 +5,7 @@ ghost use Rattle.std.specs.List.{count_by};
 ghost use Rattle.flat_model.specs.Trace.{trace_max};
 ghost use Rattle.undo_journal.specs.Meaning.{reply_of};
 ghost use Rattle.replay_main.specs.declared.fault.ReplayFault.TheVariants.{Close};
-ghost use Rattle.replay_main.specs.Rehearsed.{answers_at, is_refusal};
+ghost use Rattle.replay_main.specs.Rehearsed.{answers_at_hand, is_refusal};
 ghost use Rattle.replay_main.specs.Replayed.{IsAnswered, Replayed};
 ghost use Rattle.replay_main.specs.Script.{place_of};
 
@@ -86,7 +86,7 @@ fn put_answers(
     replies: &[Reply<Global>],
 ) -> Result<Vec<u8>, AllocError>
     ensures { IfOk result (λ v. v.items
-        ≡ answers_at 1 (map place_of places.now) (map reply_of replies.now)) }
+        ≡ answers_at_hand 1 (map place_of places.now) (map reply_of replies.now)) }
 {
     let mut bytes = Vec::new(alloc);
     let mut number = 0u64;

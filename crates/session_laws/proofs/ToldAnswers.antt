@@ -5,11 +5,11 @@ use Rattle.flat_model.specs.Command.{Command, Reply}
 use Rattle.flat_model.specs.Machine.{Machine, new_machine, replies, tick}
 use Rattle.flat_model.specs.Replies.{answers_to, command_count, commands_in, fault_bytes, line_replies, out, reply_bytes}
 use Rattle.flat_model.specs.Trace as trace
-use Rattle.replay_main.specs.Rehearsed.{answers_at}
+use Rattle.replay_main.specs.Rehearsed.{answers_at_hand}
 use Rattle.replay_main.specs.Script.{IsScript, TraceScript, answers_from, place_of, places_in}
 use Rattle.replay_main.proofs.ScriptLaws.{answers-out, places-count}
 
-pub at-hand : (n : ℕ) (lines : List trace.Line) (rs : List Reply) → answers_at n (places_in lines) (map (λ r. Some r) rs) ≡ out n lines rs
+pub at-hand : (n : ℕ) (lines : List trace.Line) (rs : List Reply) → answers_at_hand n (places_in lines) (map (λ r. Some r) rs) ≡ out n lines rs
 at-hand n [] rs = refl
 at-hand n (trace.Skip ∷ lines) rs = at-hand n lines rs
 at-hand n (trace.Fault f ∷ lines) rs = ap (λ t. fault_bytes n f ++ t) (at-hand (n + 1) lines rs)

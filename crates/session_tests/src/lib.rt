@@ -3,7 +3,9 @@
 //! They ask what no contract says: that each call succeeds where there is memory, what the replies
 //! are, that a desk that was halted or closed answers `Halted`, and that threads get on beside each
 //! other.
-//! What a contract says of every input is not tested here again.
+//! What a contract says of every input is not tested here again. Commands, works of threads and receipts are rows of tables; what
+//! may fail is done behind a helper that answers a plain value, since a proof grows with the places at which a function may end
+//! while a desk or a session is alive.
 //!
 //! - `receipts`: a worked log of three entries, and each way of altering its receipts.
 //! - `halting`: a halted desk.
@@ -11,7 +13,8 @@
 //! - `waking`: eight sessions that sleep for their turns.
 //! - `racing`: a close beside a command, a halt beside a turn, and a session that is dropped between its turns.
 //! - `memory`: one allocation refused at a time.
-//! - `calls`: what the others are written with.
+//! - `calls`: commands as rows of a table; desks that are opened and closed.
+//! - `works`: sessions at work in threads of their own.
 #![tactic(auto)]
 
 #[cfg(test)]
@@ -28,3 +31,5 @@ mod receipts;
 mod threads;
 #[cfg(test)]
 mod waking;
+#[cfg(test)]
+mod works;

@@ -1,64 +1,17 @@
 //! A desk that is closed or halted while a session runs a command, and a session that is dropped between its turns.
 
+use crate::calls::{closed_over, opened, refused};
+use crate::works::{Did, Work, does, finished, pause, worked};
 use sessions::{CloseFault, Desk, RunFault, Session};
 use std::alloc::{AllocError, Global};
 use std::sync::Wait;
 use std::test::Fail;
-use std::thread::{Threads, join, yield_now};
-use undo_journal::Command;
-
-/// A desk with its three sessions.
-fn opened(alloc: Global) -> Result<(Desk, Session, Session, Session), AllocError> {
-    let desk = Desk::new(alloc, 3)?;
-    let s0 = desk.session(0)?;
-    let s1 = desk.session(1)?;
-    let s2 = desk.session(2)?;
-    Ok((desk, s0, s1, s2))
-}
+use std::thread::{Threads, join};
 
 /// How often a race is run.
 const RACES: u32 = 50;
 
-/// Gives way to other threads so often.
-fn pause(times: u32) {
-    for _ in 0..times {
-        yield_now();
-    }
-}
-
-/// Runs one command, and tells how it was refused.
-fn runs<R: Threads + Wait + Sync>(rt: &R, mut session: Session) -> (Session, Option<RunFault>) {
-    let undo: Command<Global> = Command::Undo;
-    let fault = session.run(rt, &undo).err();
-    (session, fault)
-}
-
-/// Runs one command at its turn, and tells how it was refused.
-fn runs_at<R: Threads + Wait + Sync>(
-    rt: &R,
-    mut session: Session,
-    turn: u64,
-) -> (Session, Option<RunFault>) {
-    let undo: Command<Global> = Command::Undo;
-    let fault = session.run_at(rt, turn, &undo).err();
-    (session, fault)
-}
-
-/// Halts the desk.
-fn halts<R: Threads + Wait + Sync>(rt: &R, mut session: Session) -> Session {
-    session.halt(rt);
-    session
-}
-
-/// The length of the log that the desk is closed over; none where it is not closed.
-fn closed_over<R: Wait>(rt: &R, desk: Desk, sessions: Vec<Session>) -> Option<usize> {
-    match desk.close(rt, sessions) {
-        Ok(closed) => Some(closed.log.len()),
-        Err(_) => None,
-    }
-}
-
-/// The same, with one session more.
+/// The length of the log that the desk is closed over with one session more; none where it is not closed.
 fn closed_with<R: Wait>(
     rt: &R,
     desk: Desk,
@@ -71,110 +24,160 @@ fn closed_with<R: Wait>(
     }
 }
 
-/// Whether a desk that is closed while session 1 runs a command is closed over an empty log, and the session is told
-/// so; or has that command in its log, is not closed without its receipt, and is closed with it.
+/// Whether a desk that is closed while the session runs a command is closed over an empty log, and the session is told so; or
+/// has that command in its log, is not closed without its receipt, and is closed with it.
 fn is_before_or_behind<R: Threads + Wait + Sync>(
     rt: &R,
+    alloc: Global,
     desk: Desk,
     handed: Vec<Session>,
-    s1: Session,
+    session: Session,
     late: u32,
 ) -> bool {
     let early = RACES.saturating_sub(late);
-    let ((s1, fault), answer) = join(
+    let ((session, did), answer) = join(
         rt,
-        || {
-            pause(early);
-            runs(rt, s1)
-        },
+        || finished(rt, alloc, (session, early, Work::Undo)),
         || {
             pause(late);
             desk.close(rt, handed)
         },
     );
     match answer {
-        Ok(closed) => closed.log.is_empty() && fault == Some(RunFault::Halted),
-        Err((desk, sessions, given)) => {
-            let is_told = given == CloseFault::Missing(0) && fault.is_none();
-            is_told && closed_with(rt, desk, sessions, s1) == Some(1)
+        Ok(closed) => closed.log.is_empty() && did == (0, Some(RunFault::Halted)),
+        Err((desk, sessions, fault)) => {
+            let is_told = fault == CloseFault::Missing(0) && did == (1, None);
+            is_told && closed_with(rt, desk, sessions, session) == Some(1)
         }
+    }
+}
+
+/// The same of a desk of three.
+fn is_before_or_behind_of_three<R: Threads + Wait + Sync>(
+    rt: &R,
+    alloc: Global,
+    late: u32,
+) -> Result<bool, AllocError> {
+    let (desk, mut sessions) = opened(alloc, 3)?;
+    match sessions.pop() {
+        Some(session) => Ok(is_before_or_behind(rt, alloc, desk, sessions, session, late)),
+        None => Ok(false),
     }
 }
 
 #[test]
 fn closed_while_a_command_runs(rt: HostRuntime) -> Result<(), Fail> {
     for late in 0..RACES {
-        let (desk, s0, s1, s2) = opened(rt.alloc())?;
-        let handed = vec![in rt.alloc(); s0, s2]?;
-        assert!(&rt; is_before_or_behind(&rt, desk, handed, s1, late));
+        assert!(rt; is_before_or_behind_of_three(&rt, rt.alloc(), late)?);
     }
     Ok(())
 }
 
-/// Whether a session whose turn has come while another halts the desk is served or told `Halted`, as the log has it,
-/// and is told `Halted` at its next turn.
+/// Whether the session has no receipt.
+fn has_none(session: Option<Session>) -> bool {
+    match session {
+        Some(session) => session.receipts.is_empty(),
+        None => false,
+    }
+}
+
+/// What the first session did at this turn.
+fn did_at<R: Threads + Wait + Sync>(
+    rt: &R,
+    alloc: Global,
+    sessions: &mut [Session],
+    turn: u64,
+) -> Did {
+    match sessions.first_mut() {
+        Some(session) => does(rt, alloc, session, 0, Work::UndoAt(turn)),
+        None => (0, None),
+    }
+}
+
+/// Whether a session whose turn has come while another halts the desk is served or told `Halted`, as the log has it, and is
+/// told `Halted` at its next turn.
 fn is_served_or_halted<R: Threads + Wait + Sync>(
     rt: &R,
-    desk: Desk,
-    handed: Vec<Session>,
-    s0: Session,
-    s1: Session,
+    alloc: Global,
     late: u32,
-) -> bool {
+) -> Result<bool, AllocError> {
     let early = RACES.saturating_sub(late);
-    let ((s1, fault), s0) = join(
-        rt,
-        || {
-            pause(early);
-            runs_at(rt, s1, 0)
-        },
-        || {
-            pause(late);
-            halts(rt, s0)
-        },
-    );
-    let (s1, next) = runs_at(rt, s1, 1);
-    if s0.receipts.len() > 0 || next != Some(RunFault::Halted) {
-        return false;
-    }
-    let length = closed_with(rt, desk, handed, s1);
-    match fault {
-        None => length == Some(1),
-        Some(fault) => fault == RunFault::Halted && length == Some(0),
-    }
+    let works = [
+        (early, Work::UndoAt(0)),
+        (0, Work::Rest),
+        (late, Work::Halt),
+    ];
+    let mut dids = [(0, None); 3];
+    let (desk, sessions) = opened(alloc, 3)?;
+    let mut sessions = worked(rt, alloc, sessions, &works, &mut dids)?;
+    let halted = (0, Some(RunFault::Halted));
+    let is_told = has_none(sessions.pop())
+        && did_at(rt, alloc, sessions.as_mut_slice(), 1) == halted;
+    let length = closed_over(rt, desk, sessions);
+    let is_served = dids[0] == (1, None) && length == Some(1);
+    let is_halted = dids[0] == halted && length == Some(0);
+    Ok(is_told && (is_served || is_halted))
 }
 
 #[test]
 fn halted_while_a_turn_is_taken(rt: HostRuntime) -> Result<(), Fail> {
     for late in 0..RACES {
-        let (desk, s0, s1, s2) = opened(rt.alloc())?;
-        let handed = vec![in rt.alloc(); s2]?;
-        assert!(&rt; is_served_or_halted(&rt, desk, handed, s0, s1, late));
+        assert!(rt; is_served_or_halted(&rt, rt.alloc(), late)?);
     }
     Ok(())
+}
+
+/// A desk of three and two of its sessions, which have done these works one beside the other where the third was dropped behind
+/// its own turn, if it has one; none where a command was not answered with its number.
+fn without_one<R: Threads + Wait + Sync>(
+    rt: &R,
+    alloc: Global,
+    first: Option<u64>,
+    works: &[(u32, Work); 2],
+) -> Result<Option<(Desk, Vec<Session>)>, AllocError> {
+    let mut dids = [(0, None); 2];
+    let (desk, mut sessions) = opened(alloc, 3)?;
+    let is_first_right = match first {
+        Some(turn) => did_at(rt, alloc, sessions.as_mut_slice(), turn) == (1, None),
+        None => true,
+    };
+    sessions.reverse();
+    drop(sessions.pop());
+    let sessions = worked(rt, alloc, sessions, works, &mut dids)?;
+    if is_first_right && dids == [(1, None); 2] {
+        Ok(Some((desk, sessions)))
+    } else {
+        Ok(None)
+    }
+}
+
+/// Whether the desk is closed over two entries.
+fn is_closed_over_two<R: Wait>(rt: &R, left: Option<(Desk, Vec<Session>)>) -> bool {
+    match left {
+        Some((desk, sessions)) => closed_over(rt, desk, sessions) == Some(2),
+        None => false,
+    }
 }
 
 /// Who waits for a turn waits for the log alone: any other session may run the command that was awaited of a session
 /// that is dropped.
 #[test]
 fn a_session_dropped_before_its_turn(rt: HostRuntime) -> Result<(), Fail> {
-    let (desk, s0, s1, s2) = opened(rt.alloc())?;
-    drop(s0);
-    let ((s1, waited), (s2, ran)) = join(&rt, || runs_at(&rt, s1, 1), || runs(&rt, s2));
-    assert!(&rt; waited.is_none() && ran.is_none());
-    let sessions = vec![in rt.alloc(); s1, s2]?;
-    assert!(&rt; closed_over(&rt, desk, sessions) == Some(2));
+    let works = [(0, Work::Undo), (0, Work::UndoAt(1))];
+    let left = without_one(&rt, rt.alloc(), None, &works)?;
+    assert!(rt; is_closed_over_two(&rt, left));
     Ok(())
 }
 
 /// Whether the desk is not closed, for want of the receipt of entry 0, and not either when it is asked again.
-fn is_missed<R: Wait>(rt: &R, desk: Desk, sessions: Vec<Session>) -> bool {
-    match desk.close(rt, sessions) {
-        Ok(_) => false,
-        Err((desk, sessions, first)) => {
-            let again = desk.close(rt, sessions).err();
-            first == CloseFault::Missing(0) && matches!(again, Some((_, _, CloseFault::Missing(0))))
-        }
+fn is_missed<R: Wait>(rt: &R, left: Option<(Desk, Vec<Session>)>) -> bool {
+    let missing = CloseFault::Missing(0);
+    match left {
+        Some((desk, sessions)) => match refused(rt, desk, sessions, missing) {
+            Some((desk, sessions)) => refused(rt, desk, sessions, missing).is_some(),
+            None => false,
+        },
+        None => false,
     }
 }
 
@@ -182,12 +185,8 @@ fn is_missed<R: Wait>(rt: &R, desk: Desk, sessions: Vec<Session>) -> bool {
 /// answered without the receipt that is gone.
 #[test]
 fn a_session_dropped_behind_its_turn(rt: HostRuntime) -> Result<(), Fail> {
-    let (desk, s0, s1, s2) = opened(rt.alloc())?;
-    let (s0, first) = runs_at(&rt, s0, 0);
-    drop(s0);
-    let ((s1, waited), (s2, ran)) = join(&rt, || runs_at(&rt, s1, 2), || runs_at(&rt, s2, 1));
-    assert!(&rt; first.is_none() && waited.is_none() && ran.is_none());
-    let sessions = vec![in rt.alloc(); s1, s2]?;
-    assert!(&rt; is_missed(&rt, desk, sessions));
+    let works = [(0, Work::UndoAt(1)), (0, Work::UndoAt(2))];
+    let left = without_one(&rt, rt.alloc(), Some(0), &works)?;
+    assert!(rt; is_missed(&rt, left));
     Ok(())
 }

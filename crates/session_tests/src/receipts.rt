@@ -1,182 +1,247 @@
 //! A worked log of three entries, and what a desk answers where its receipts are altered.
 
-use crate::calls::{closed, current, last, locate, make, refused};
+use crate::calls::{
+    Ask, Row, Said, are_answered, are_halted, closed_over, command, is_closed_over, opened, refused,
+};
+use group_path::GroupPath;
 use sessions::{CloseFault, Desk, Receipt, RunFault, Session};
-use std::alloc::Global;
-use std::process::Abort;
+use std::alloc::{AllocError, Global};
+use std::mem;
 use std::sync::Wait;
 use std::test::Fail;
 use std::thread::Threads;
-use undo_journal::{Command, Reply};
+use undo_journal::{Bytes, Command, Reply};
 
 /// Three commands of two sessions on one thread: of session 0, of 1, and of 0 again.
-fn three_commands<R: Abort + Threads + Wait + Sync>(
-    rt: &R,
-    alloc: Global,
-) -> Result<(Desk, Session, Session), Fail> {
-    let made = make(alloc, "/x")?;
-    let shown = current(alloc, "/x")?;
-    let asked = locate(1)?;
-    let undo: Command<Global> = Command::Undo;
-    let desk = Desk::new(alloc, 2)?;
-    let mut s0 = desk.session(0)?;
-    let mut s1 = desk.session(1)?;
-    assert!(rt;
-        matches!(s0.run(rt, &made), Ok(r) if r.number == 0 && matches!(r.reply, Reply::Done))
-    );
-    assert!(rt; matches!(s1.run(rt, &shown), Ok(r) if r.number == 1 && says(&r.reply, b"0\n")));
-    assert!(rt; s1.run_at(rt, 0, &asked).err() == Some(RunFault::TurnPassed(2)));
-    assert!(rt;
-        matches!(s0.run_at(rt, 2, &undo), Ok(r) if r.number == 2 && made_is_undone(&r.reply, b"/x"))
-    );
-    Ok((desk, s0, s1))
-}
-
-fn says(reply: &Reply<Global>, text: &[u8]) -> bool {
-    match reply {
-        Reply::Text(bytes) => bytes.as_slice() == text,
-        _ => false,
-    }
-}
-
-fn made_is_undone(reply: &Reply<Global>, text: &[u8]) -> bool {
-    match reply {
-        Reply::Undone(Command::MakeGroup(path)) => path.text() == text,
-        _ => false,
-    }
-}
+const COMMANDS: [Row; 4] = [
+    (0, None, Ask::Make("/x"), Ok((0, Said::Done))),
+    (1, None, Ask::Current("/x"), Ok((1, Said::Text(b"0\n")))),
+    (1, Some(0), Ask::Locate(1), Err(RunFault::TurnPassed(2))),
+    (0, Some(2), Ask::Undo, Ok((2, Said::Unmade(b"/x")))),
+];
 
 /// The log's entries are of these sessions.
 const LOG: [u8; 3] = [0, 1, 0];
 
+/// The number, what was run, and what was replied.
+type Noted = (u64, Ask, Said);
+
+/// The receipt that says so.
+fn receipt(alloc: Global, noted: Noted) -> Option<Receipt> {
+    let (number, ask, said) = noted;
+    let command = command(alloc, ask)?;
+    match said {
+        Said::Done => Some(Receipt {
+            number,
+            command,
+            reply: Reply::Done,
+        }),
+        Said::Text(bytes) => {
+            let text = Vec::from_slice(alloc, bytes).ok()?;
+            Some(Receipt {
+                number,
+                command,
+                reply: Reply::Text(Bytes::of(text)),
+            })
+        }
+        Said::Unmade(text) => {
+            let path = GroupPath::read(alloc, text).ok()?;
+            Some(Receipt {
+                number,
+                command,
+                reply: Reply::Undone(Command::MakeGroup(path)),
+            })
+        }
+    }
+}
+
+fn receipts(alloc: Global, all: &[Noted]) -> Option<Vec<Receipt>> {
+    let mut receipts = Vec::new(alloc);
+    for noted in all {
+        receipts.push(receipt(alloc, *noted)?).ok()?;
+    }
+    Some(receipts)
+}
+
+/// A desk where the three commands were answered as they should be.
+fn three_commands<R: Threads + Wait + Sync>(
+    rt: &R,
+    alloc: Global,
+) -> Result<Option<(Desk, Vec<Session>)>, AllocError> {
+    let (desk, mut sessions) = opened(alloc, 2)?;
+    if are_answered(rt, alloc, sessions.as_mut_slice(), &COMMANDS) {
+        Ok(Some((desk, sessions)))
+    } else {
+        Ok(None)
+    }
+}
+
+/// Whether the desk is closed over the three entries.
+fn is_closed<R: Threads + Wait + Sync>(rt: &R, alloc: Global) -> Result<bool, AllocError> {
+    match three_commands(rt, alloc)? {
+        Some((desk, sessions)) => Ok(is_closed_over(rt, alloc, desk, sessions, &LOG)),
+        None => Ok(false),
+    }
+}
+
 #[test]
 fn nothing_is_altered(rt: HostRuntime) -> Result<(), Fail> {
-    let (desk, s0, s1) = three_commands(&rt, rt.alloc())?;
-    closed(&rt, rt.alloc(), desk, s0, s1, LOG.as_slice())
+    assert!(rt; is_closed(&rt, rt.alloc())?);
+    Ok(())
+}
+
+/// Gives the session these receipts, and takes those that it had.
+fn exchange(sessions: &mut [Session], number: usize, receipts: Vec<Receipt>) -> Vec<Receipt> {
+    match sessions.get_mut(number) {
+        Some(session) => mem::replace(&mut session.receipts, receipts),
+        None => receipts,
+    }
+}
+
+/// Whether the desk is not closed with those receipts of the session, for that fault, and is closed with its own.
+fn is_closed_behind<R: Threads + Wait + Sync>(
+    rt: &R,
+    alloc: Global,
+    desk: Desk,
+    mut sessions: Vec<Session>,
+    number: usize,
+    wrong: Vec<Receipt>,
+    fault: CloseFault,
+) -> bool {
+    let right = exchange(sessions.as_mut_slice(), number, wrong);
+    match refused(rt, desk, sessions, fault) {
+        Some((desk, mut sessions)) => {
+            drop(exchange(sessions.as_mut_slice(), number, right));
+            is_closed_over(rt, alloc, desk, sessions, &LOG)
+        }
+        None => false,
+    }
+}
+
+/// Whether the desk says so of these receipts of the session, and is closed with its own.
+fn is_found<R: Threads + Wait + Sync>(
+    rt: &R,
+    alloc: Global,
+    number: usize,
+    altered: &[Noted],
+    fault: CloseFault,
+) -> Result<bool, AllocError> {
+    let Some(wrong) = receipts(alloc, altered) else {
+        return Ok(false);
+    };
+    match three_commands(rt, alloc)? {
+        Some((desk, sessions)) => Ok(is_closed_behind(
+            rt, alloc, desk, sessions, number, wrong, fault,
+        )),
+        None => Ok(false),
+    }
 }
 
 #[test]
 fn last_receipt_is_taken_out(rt: HostRuntime) -> Result<(), Fail> {
-    let (desk, mut s0, s1) = three_commands(&rt, rt.alloc())?;
-    let right = last(&mut s0.receipts)?;
-    let (desk, mut s0, s1) = refused(&rt, rt.alloc(), desk, s0, s1, CloseFault::Missing(2))?;
-    s0.receipts.push(right)?;
-    closed(&rt, rt.alloc(), desk, s0, s1, LOG.as_slice())
+    let altered = [(0, Ask::Make("/x"), Said::Done)];
+    assert!(rt; is_found(&rt, rt.alloc(), 0, &altered, CloseFault::Missing(2))?);
+    Ok(())
 }
 
 #[test]
 fn reply_is_changed(rt: HostRuntime) -> Result<(), Fail> {
-    let (desk, s0, mut s1) = three_commands(&rt, rt.alloc())?;
-    let right = last(&mut s1.receipts)?;
-    let command = right.command.copy(rt.alloc())?;
-    s1.receipts.push(Receipt {
-        number: right.number,
-        command,
-        reply: Reply::Done,
-    })?;
-    let (desk, s0, mut s1) = refused(&rt, rt.alloc(), desk, s0, s1, CloseFault::Mismatch(1))?;
-    let _wrong = last(&mut s1.receipts)?;
-    s1.receipts.push(right)?;
-    closed(&rt, rt.alloc(), desk, s0, s1, LOG.as_slice())
+    let altered = [(1, Ask::Current("/x"), Said::Done)];
+    assert!(rt; is_found(&rt, rt.alloc(), 1, &altered, CloseFault::Mismatch(1))?);
+    Ok(())
 }
 
 #[test]
 fn receipt_is_copied(rt: HostRuntime) -> Result<(), Fail> {
-    let (desk, s0, mut s1) = three_commands(&rt, rt.alloc())?;
-    s1.receipts.push(Receipt {
-        number: 0,
-        command: make(rt.alloc(), "/x")?,
-        reply: Reply::Done,
-    })?;
-    let (desk, s0, mut s1) = refused(&rt, rt.alloc(), desk, s0, s1, CloseFault::Stranger(1))?;
-    let _wrong = last(&mut s1.receipts)?;
-    closed(&rt, rt.alloc(), desk, s0, s1, LOG.as_slice())
+    let altered = [
+        (1, Ask::Current("/x"), Said::Text(b"0\n")),
+        (0, Ask::Make("/x"), Said::Done),
+    ];
+    assert!(rt; is_found(&rt, rt.alloc(), 1, &altered, CloseFault::Stranger(1))?);
+    Ok(())
 }
 
 #[test]
 fn receipts_are_exchanged(rt: HostRuntime) -> Result<(), Fail> {
-    let (desk, mut s0, s1) = three_commands(&rt, rt.alloc())?;
-    s0.receipts.reverse();
-    let (desk, mut s0, s1) = refused(&rt, rt.alloc(), desk, s0, s1, CloseFault::Stranger(0))?;
-    s0.receipts.reverse();
-    closed(&rt, rt.alloc(), desk, s0, s1, LOG.as_slice())
+    let altered = [
+        (2, Ask::Undo, Said::Unmade(b"/x")),
+        (0, Ask::Make("/x"), Said::Done),
+    ];
+    assert!(rt; is_found(&rt, rt.alloc(), 0, &altered, CloseFault::Stranger(0))?);
+    Ok(())
 }
 
-/// Whether the command is done.
-fn is_done<R: Threads + Wait + Sync>(
-    rt: &R,
-    session: &mut Session,
-    command: &Command<Global>,
-) -> bool {
-    matches!(session.run(rt, command), Ok(r) if matches!(r.reply, Reply::Done))
+/// Gives the first session another number.
+fn renumber(sessions: &mut [Session], number: u8) {
+    if let Some(session) = sessions.first_mut() {
+        session.number = number;
+    }
 }
 
-/// Whether the desk answers that it is halted.
-fn is_halted<R: Threads + Wait + Sync>(
+/// Whether the desk is closed with the first session alone, over one entry, and the others answer `Halted`.
+fn is_closed_with_first<R: Threads + Wait + Sync>(
     rt: &R,
-    session: &mut Session,
-    command: &Command<Global>,
-) -> bool {
-    session.run(rt, command).err() == Some(RunFault::Halted)
+    desk: Desk,
+    mut sessions: Vec<Session>,
+) -> Result<bool, AllocError> {
+    let mut others = sessions.split_off(sessions.len().min(1))?;
+    let is_closed = closed_over(rt, desk, sessions) == Some(1);
+    Ok(is_closed && are_halted(rt, others.as_mut_slice()))
+}
+
+/// Whether the desk is not closed where the first session has another number, and is closed with it alone under its own.
+fn is_renumbered<R: Threads + Wait + Sync>(
+    rt: &R,
+    desk: Desk,
+    mut sessions: Vec<Session>,
+) -> Result<bool, AllocError> {
+    renumber(sessions.as_mut_slice(), 2);
+    match refused(rt, desk, sessions, CloseFault::Stranger(2)) {
+        Some((desk, mut sessions)) => {
+            renumber(sessions.as_mut_slice(), 0);
+            is_closed_with_first(rt, desk, sessions)
+        }
+        None => Ok(false),
+    }
+}
+
+/// One command of session 0.
+const MADE: [Row; 1] = [(0, None, Ask::Make("/x"), Ok((0, Said::Done)))];
+
+/// Whether the desk is not closed with session 1 alone, and goes on as above.
+fn is_left_out<R: Threads + Wait + Sync>(rt: &R, alloc: Global) -> Result<bool, AllocError> {
+    let (desk, mut sessions) = opened(alloc, 2)?;
+    if !are_answered(rt, alloc, sessions.as_mut_slice(), &MADE) {
+        return Ok(false);
+    }
+    let others = sessions.split_off(sessions.len().min(1))?;
+    match refused(rt, desk, others, CloseFault::Missing(0)) {
+        Some((desk, mut others)) => {
+            sessions.append(&mut others)?;
+            is_renumbered(rt, desk, sessions)
+        }
+        None => Ok(false),
+    }
 }
 
 /// One command of session 0. Then session 1 alone is handed in, session 0 under another number, and
 /// session 0 alone.
 #[test]
 fn session_is_left_out_or_renumbered(rt: HostRuntime) -> Result<(), Fail> {
-    let made = make(rt.alloc(), "/x")?;
-    let asked = locate(1)?;
-    let desk = Desk::new(rt.alloc(), 2)?;
-    let mut s0 = desk.session(0)?;
-    let s1 = desk.session(1)?;
-    assert!(&rt; is_done(&rt, &mut s0, &made));
-    let (desk, s1) = alone(&rt, rt.alloc(), desk, s1, CloseFault::Missing(0))?;
-    s0.number = 2;
-    let (desk, mut s0, mut s1) = refused(&rt, rt.alloc(), desk, s0, s1, CloseFault::Stranger(2))?;
-    s0.number = 0;
-    closed_alone(&rt, rt.alloc(), desk, s0, 1)?;
-    assert!(&rt; is_halted(&rt, &mut s1, &asked));
+    assert!(rt; is_left_out(&rt, rt.alloc())?);
     Ok(())
 }
 
-/// Hands one session in, and gets it back with this fault.
-fn alone<R: Abort + Wait>(
-    rt: &R,
-    alloc: Global,
-    desk: Desk,
-    session: Session,
-    fault: CloseFault,
-) -> Result<(Desk, Session), Fail> {
-    match desk.close(rt, vec![in alloc; session]?) {
-        Ok(_) => Err(Fail::new("the desk was closed")),
-        Err((desk, mut sessions, given)) => {
-            assert!(rt; given == fault);
-            let session = last(&mut sessions)?;
-            Ok((desk, session))
-        }
-    }
-}
-
-/// Hands one session in, and closes the desk over a log of so many entries.
-fn closed_alone<R: Abort + Wait>(
-    rt: &R,
-    alloc: Global,
-    desk: Desk,
-    session: Session,
-    entries: usize,
-) -> Result<(), Fail> {
-    match desk.close(rt, vec![in alloc; session]?) {
-        Ok(closed) => assert_eq!(rt; closed.log.len(), entries),
-        Err(_) => return Err(Fail::new("the desk was not closed")),
-    }
-    Ok(())
+/// The length of the log of a desk whose one session has another number.
+fn closed_under_another<R: Wait>(rt: &R, alloc: Global) -> Result<Option<usize>, AllocError> {
+    let (desk, mut sessions) = opened(alloc, 1)?;
+    renumber(sessions.as_mut_slice(), 5);
+    Ok(closed_over(rt, desk, sessions))
 }
 
 /// Nothing is asked of a session without receipts.
 #[test]
 fn session_without_receipts_may_have_any_number(rt: HostRuntime) -> Result<(), Fail> {
-    let desk = Desk::new(rt.alloc(), 1)?;
-    let mut s0 = desk.session(0)?;
-    s0.number = 5;
-    closed_alone(&rt, rt.alloc(), desk, s0, 0)
+    assert!(rt; closed_under_another(&rt, rt.alloc())? == Some(0));
+    Ok(())
 }

@@ -1,64 +1,32 @@
 //! Eight sessions that sleep for their turns.
 
-use sessions::{Desk, Session};
-use std::alloc::Global;
-use std::process::Abort;
-use std::sync::Wait;
-use std::test::Fail;
-use std::thread::{Threads, map_vec, yield_now};
-use undo_journal::Command;
+use crate::works::{Work, is_worked};
 
-/// Waits for its turn, runs a command, and tells whether that has its number. The first comes late,
-/// so that the others sleep.
-fn comes<R: Threads + Wait + Sync>(rt: &R, work: (Session, u64)) -> (Session, bool) {
-    let (mut session, turn) = work;
-    if turn == 0 {
-        for _ in 0..20_000 {
-            yield_now();
-        }
+/// What each session does where this one is the last of eight: the first comes late, so that the others sleep.
+fn works_of(last: usize) -> [(u32, Work); 8] {
+    let mut works = [(0, Work::Rest); 8];
+    for (number, work) in works.iter_mut().enumerate() {
+        let turn = number.saturating_add(7).saturating_sub(last) % 8;
+        let pauses = if turn == 0 { 20_000 } else { 0 };
+        *work = (pauses, Work::UndoAt(turn as u64));
     }
-    let undo: Command<Global> = Command::Undo;
-    let is_right = matches!(session.run_at(rt, turn, &undo), Ok(r) if r.number == turn);
-    (session, is_right)
+    works
 }
 
-/// The number of the session at this turn, where this session has the last of eight turns.
-fn session_at(last: usize, turn: usize) -> usize {
-    last.saturating_add(1).saturating_add(turn) % 8
-}
-
-/// Each session sleeps for its turn and is woken, this one last.
-fn all_are_woken<R: Abort + Threads + Wait + Sync>(
-    rt: &R,
-    alloc: Global,
-    last: usize,
-) -> Result<(), Fail> {
-    let desk = Desk::new(alloc, 8)?;
-    let mut works = Vec::new(alloc);
-    for turn in 0..8usize {
-        let session = desk.session((session_at(last, turn) % 8) as u8)?;
-        works.push((session, turn as u64))?;
+/// The sessions in the order of their turns.
+fn order_of(last: usize) -> [u8; 8] {
+    let mut order = [0u8; 8];
+    for (turn, number) in order.iter_mut().enumerate() {
+        *number = (last.saturating_add(1).saturating_add(turn) % 8) as u8;
     }
-    let mut sessions = Vec::new(alloc);
-    for (session, is_right) in map_vec(rt, works, &|work| comes(rt, work))? {
-        assert!(rt; is_right);
-        sessions.push(session)?;
-    }
-    let Ok(closed) = desk.close(rt, sessions) else {
-        return Err(Fail::new("the desk was not closed"));
-    };
-    assert_eq!(rt; closed.log.len(), 8);
-    for (turn, entry) in closed.log.iter().enumerate() {
-        assert_eq!(rt; usize::from(entry.session), session_at(last, turn));
-    }
-    Ok(())
+    order
 }
 
 /// Each of eight sessions is once the last to be woken.
 #[test]
-fn each_is_woken_last(rt: HostRuntime) -> Result<(), Fail> {
+fn each_is_woken_last(rt: HostRuntime) {
     for last in 0..8usize {
-        all_are_woken(&rt, rt.alloc(), last)?;
+        let (works, order) = (works_of(last), order_of(last));
+        assert!(rt; is_worked(&rt, rt.alloc(), 8, &works, &[(1, None); 8], &order));
     }
-    Ok(())
 }

@@ -1,5 +1,6 @@
 mod AuditLists
 mod AuditSteps
+mod DueTurns
 mod Legal
 pub mod SessionCrosses
 mod TakenBack

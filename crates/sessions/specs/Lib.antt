@@ -4,3 +4,4 @@ pub mod Ran
 pub mod Faults
 pub mod Marks
 pub mod Desks
+pub mod Waits

@@ -1,6 +1,6 @@
 //! What lies behind the lock, and one call of a session there.
 
-ghost use Rattle.std.specs.Prelude.{◌≡◌, ◌↔◌, IsTrue, IfOk, IfErr, OnErr, Some, None, true};
+ghost use Rattle.std.specs.Prelude.{◌≡◌, ◌↔◌, ◌≤◌, ◌%◌, ℕ, IsTrue, IfOk, IfErr, OnErr, Some, None, slice_index_or, true};
 ghost use Rattle.flat_model.specs.Audit.{AreEntries};
 ghost use Rattle.undo_journal.specs.Meaning.{command_of};
 ghost use Rattle.sessions.specs.Faults.{IsFirstFault};
@@ -13,6 +13,7 @@ ghost use Rattle.sessions.specs.Served.{
   Served,
   log_in,
 };
+ghost use Rattle.sessions.specs.Waits.{reached_of, AreDue, AreLeft, IsDue, IsLeft};
 
 use crate::auditing::audit;
 use crate::book::Book;
@@ -46,6 +47,9 @@ impl Hall {
     pub(crate) fn must_wait(&mut self, session: u8, turn: u64) -> bool
         ensures early { IsTrue result ↔ IsEarly self.new turn }
         ensures same { IsBut self.old self.new }
+        ensures noted { IsTrue result → slice_index_or self.new.waits (session % 8) 0 ≤ turn }
+        ensures others { (at : ℕ) → slice_index_or self.new.waits at 0
+            ≤ slice_index_or self.old.waits at 0 }
     {
         let is_early = self.is_early(turn);
         if is_early {
@@ -56,7 +60,9 @@ impl Hall {
     }
 
     /// The length of the log, or the greatest number where the desk is halted or closed.
-    pub(crate) fn reached(&self) -> u64 {
+    fn reached(&self) -> u64
+        ensures { result ≡ reached_of self.now }
+    {
         match &self.book {
             Some(book) if !self.is_halted => book.log.len() as u64,
             _ => u64::MAX,
@@ -65,7 +71,9 @@ impl Hall {
 
     /// The sessions whose sleepers have to wake.
     pub(crate) fn take_due(&mut self) -> [bool; 8]
-        ensures { IsBut self.old self.new }
+        ensures same { IsBut self.old self.new }
+        ensures due { AreDue (reached_of self.old) self.old.waits result }
+        ensures left { AreLeft (reached_of self.old) self.old.waits self.new.waits }
     {
         let reached = self.reached();
         due_of(&mut self.waits, reached)
@@ -162,13 +170,29 @@ impl Hall {
 }
 
 /// The signs at which a turn is slept for that is reached; nobody sleeps there for it any more.
-fn due_of(waits: &mut [u64; 8], reached: u64) -> [bool; 8] {
+fn due_of(waits: &mut [u64; 8], reached: u64) -> [bool; 8]
+    ensures due { AreDue reached waits.old result }
+    ensures left { AreLeft reached waits.old waits.new }
+{
     let mut due = [false; 8];
     for at in 0..8 {
-        if waits[at] <= reached {
-            due[at] = waits[at] != u64::MAX;
-            waits[at] = u64::MAX;
-        }
+        let turn = waits[at];
+        due[at] = is_due(turn, reached);
+        waits[at] = left_of(turn, reached);
     }
     due
+}
+
+/// Whether somebody sleeps for this turn, and it is reached.
+fn is_due(turn: u64, reached: u64) -> bool
+    ensures { IsTrue result ↔ IsDue reached turn }
+{
+    turn <= reached && turn < u64::MAX
+}
+
+/// The turn, or the greatest number where it is reached.
+fn left_of(turn: u64, reached: u64) -> u64
+    ensures { IsLeft reached turn result }
+{
+    if turn <= reached { u64::MAX } else { turn }
 }

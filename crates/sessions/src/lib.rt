@@ -29,7 +29,8 @@
 //!
 //! What a log, a receipt and their faults are stands in `flat_model` (`specs/Log.antt`,
 //! `specs/Audit.antt`); what a call leaves of its session in `specs/Ran.antt`, and of what lies behind
-//! the lock in `specs/Served.antt`.
+//! the lock in `specs/Served.antt`; which of the turns that are slept for have come in
+//! `specs/Waits.antt`.
 //! What these definitions say as laws stands in `session_laws`.
 #![tactic(auto)]
 

@@ -7,7 +7,8 @@ use native.Mathlib.Decide.{ℕ_discrete, dec_le}
 use Rattle.snzi_core.specs.declared.holding.Holding.{Holding}
 use Rattle.snzi_core.specs.declared.event.Token.{Token}
 use Rattle.snzi_core.specs.Shape.{node_word, leaf_word}
-use Rattle.snzi_tree.specs.Contents.{one_at, share_at, IsWithin, AllInRange, count_at, token_word, content_of, AtLeaves}
+use Rattle.snzi_core.specs.Listed.{IsWithin, listed_at, one_at}
+use Rattle.snzi_tree.specs.Contents.{AllInRange, count_at, token_word, content_of, AtLeaves}
 use Rattle.snzi_tree.proofs.Places.{leaf_same, leaf_not_above, leaf_or_none}
 use Rattle.snzi_tree.proofs.Leaves.{one_here, one_slot, one_leaf, inside, outside}
 
@@ -20,7 +21,7 @@ one_if t = cond t 1 0
 
 module _ (w l : ℕ) (shape : l + l ≡ w + 1) where
   -- tokens are counted at the word of a leaf as at the leaf
-  pub count_leaf : (g : ℕ) (ts : List Token) → AllInRange g l ts → (s j : ℕ) → j < l → count_at w l (leaf_word w l s j) ts ≡ share_at ts s j
+  pub count_leaf : (g : ℕ) (ts : List Token) → AllInRange g l ts → (s j : ℕ) → j < l → count_at w l (leaf_word w l s j) ts ≡ listed_at ts s j
   count_leaf g [] all s j below = refl
   count_leaf g (t ∷ ts) all s j below =
       let rest = count_leaf g ts all.1 s j below in
@@ -40,7 +41,7 @@ module _ (w l : ℕ) (shape : l + l ≡ w + 1) where
       let this : one_if (nat_eq (token_word w l t) i) ≡ 0 = ap one_if (ne_eqb (token_word w l t) i (off t.slot t.leaf all.0.1)) in
       omega arith
 
-  pub none_past : (g : ℕ) (ts : List Token) → AllInRange g l ts → (s j : ℕ) → l ≤ j → share_at ts s j ≡ 0
+  pub none_past : (g : ℕ) (ts : List Token) → AllInRange g l ts → (s j : ℕ) → l ≤ j → listed_at ts s j ≡ 0
   none_past g [] all s j past = refl
   none_past g (t ∷ ts) all s j past =
       let rest = none_past g ts all.1 s j past in
@@ -49,7 +50,7 @@ module _ (w l : ℕ) (shape : l + l ≡ w + 1) where
       omega arith
 
   -- a share that is there by slots and leaves is there by words
-  pub share_there : (g : ℕ) (ts : List Token) (h : Holding) → AllInRange g l ts → ((s j : ℕ) → share_at ts s j ≤ content_of w l h s j) → (i : ℕ) → count_at w l i ts ≤ slice_index h.tokens i
+  pub share_there : (g : ℕ) (ts : List Token) (h : Holding) → AllInRange g l ts → ((s j : ℕ) → listed_at ts s j ≤ content_of w l h s j) → (i : ℕ) → count_at w l i ts ≤ slice_index h.tokens i
   share_there g ts h all there i = ⊎_elim
       (λ (r : (s : ℕ) × (j : ℕ) × (j < l) × (i ≡ leaf_word w l s j)).
       let a = count_leaf g ts all r.0 r.1 r.2 in
@@ -61,13 +62,13 @@ module _ (w l : ℕ) (shape : l + l ≡ w + 1) where
 
   module _ (g : ℕ) (ts : List Token) (all : AllInRange g l ts) (h m k : Holding) (shared : (i : ℕ) → (slice_index k.tokens i ≡ count_at w l i ts) × (slice_index m.tokens i + count_at w l i ts ≡ slice_index h.tokens i)) where
     -- the helper has the share
-    pub share_content : (s j : ℕ) → content_of w l k s j ≡ share_at ts s j
+    pub share_content : (s j : ℕ) → content_of w l k s j ≡ listed_at ts s j
     share_content s j = dite (dec_le (suc j) l)
         (λ p. inside w l k s j p ∙ (shared (leaf_word w l s j)).0 ∙ count_leaf g ts all s j p)
         (λ p. outside w l k s j (omega arith) ∙ sym (none_past g ts all s j (omega arith)))
 
     -- and main the rest
-    pub rest_content : (s j : ℕ) → content_of w l m s j + share_at ts s j ≡ content_of w l h s j
+    pub rest_content : (s j : ℕ) → content_of w l m s j + listed_at ts s j ≡ content_of w l h s j
     rest_content s j = dite (dec_le (suc j) l)
         (λ p.
         let a = inside w l m s j p in

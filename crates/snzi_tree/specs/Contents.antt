@@ -1,22 +1,10 @@
 -- What a hand holds, by slots, leaves and stripes.
-use Rattle.std.specs.Prelude.{◌≡◌, ℕ, zero, suc, ◌+◌, ◌-◌, ◌/◌, ◌%◌, ◌^◌, ◌<◌, ◌&&◌, eqb, cond, nat_eq, nat_lt, List, [], ◌∷◌}
-use Rattle.std.specs.List.{sum_by, All}
+use Rattle.std.specs.Prelude.{◌≡◌, ℕ, zero, suc, ◌+◌, ◌-◌, ◌/◌, ◌%◌, ◌^◌, ◌<◌, eqb, cond, nat_eq, nat_lt, List, [], ◌∷◌}
 use Rattle.snzi_core.specs.declared.event.Token.{Token}
 use Rattle.snzi_core.specs.declared.holding.Holding.{Holding}
 use Rattle.snzi_core.specs.Holding.{tokens_at, amount_at}
+use Rattle.snzi_core.specs.Listed.{over_leaves}
 use Rattle.snzi_core.specs.Shape.{node_word, stripe_word, leaf_word}
-
--- 1 at (slot, leaf), and nothing elsewhere
-abbrev pub one_at : ℕ → ℕ → ℕ → ℕ → ℕ
-one_at slot leaf s j = cond (eqb slot s && eqb leaf j) 1 0
-
--- how many of the tokens are at each slot and leaf
-abbrev pub share_at : List Token → ℕ → ℕ → ℕ
-share_at share s j = sum_by (λ t. one_at t.slot t.leaf s j) share
-
--- each token is at one of g slots and l leaves
-abbrev pub IsWithin : ℕ → ℕ → List Token → Type 0
-IsWithin g l share = All (λ t. (t.slot < g) × (t.leaf < l)) share
 
 -- the word of a token
 abbrev pub token_word : ℕ → ℕ → Token → ℕ
@@ -34,11 +22,6 @@ AllInRange g l (t ∷ ts) = ((t.slot < g) × (t.leaf < l)) × AllInRange g l ts
 -- the hand's tokens at each slot and leaf
 abbrev pub content_of : ℕ → ℕ → Holding → ℕ → ℕ → ℕ
 content_of w l h s j = cond (nat_lt j l) (tokens_at (leaf_word w l s j) h) 0
-
--- the sum over the first n leaves
-abbrev pub over_leaves : ℕ → (ℕ → ℕ) → ℕ
-over_leaves zero at = 0
-over_leaves (suc n) at = over_leaves n at + at n
 
 -- the hand's tokens at the leaves of a slot
 abbrev pub tokens_in : ℕ → ℕ → Holding → ℕ → ℕ

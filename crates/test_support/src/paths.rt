@@ -13,7 +13,7 @@ use std::test::Fail;
 ///
 /// `Fail` where the text is no path, or memory ran out.
 pub fn path(alloc: Global, text: &str) -> Result<GroupPath<Global>, Fail>
-    ensures { IfOk result (λ p. IsPath p) }
+    ensures { IfOk result (λ p. IsPath p × (text.now ≡ path_text p)) }
 {
     Ok(GroupPath::read(alloc, text.as_bytes())?)
 }

@@ -1,6 +1,8 @@
 //! A heap with little room left.
 
-ghost use Rattle.std.specs.Prelude.{◌≤◌, IfOk, length};
+ghost use Rattle.std.specs.Prelude.{◌≤◌, ◌-◌, IfOk, length};
+ghost use Rattle.std.specs.List.{All};
+ghost use Rattle.std.specs.Vec.{vec_capacity};
 
 use linked_list_allocator::LocalHeap;
 use std::alloc::{AllocError, Global};
@@ -22,7 +24,8 @@ pub enum Tried {
     Other,
 }
 
-/// Blocks that take the free memory of the heap, but for `room` of them. It is free again once they are dropped.
+/// Blocks that take the free memory of the heap, but for `room` of them, with room for `BLOCK_SIZE` bytes each. It is free
+/// again once they are dropped.
 ///
 /// # Errors
 ///
@@ -32,7 +35,8 @@ pub fn all_but<'a>(
     heap: &'a LocalHeap,
     room: usize,
 ) -> Result<Vec<Vec<u8, &'a LocalHeap>>, AllocError>
-    ensures { IfOk result (λ blocks. length blocks.items ≤ BLOCKS_MAX) }
+    ensures few { IfOk result (λ blocks. length blocks.items ≤ BLOCKS_MAX - room) }
+    ensures whole { IfOk result (λ blocks. All (λ block. BLOCK_SIZE ≤ vec_capacity block) blocks.items) }
 {
     let mut blocks = Vec::new(alloc);
     for _ in 0..BLOCKS_MAX {

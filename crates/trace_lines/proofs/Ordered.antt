@@ -76,9 +76,9 @@ only_memory a (Ok c) h =
 only_memory a (Err (unread.Fault f)) h = let e = h (Ok []) refl in cc
 only_memory a (Err unread.OutOfMemory) h = refl
 
-wanting : (a : Action) (m : Result Path trace.TextFault) → IsOk m → is_at_path (and_then m (λ p. action_at p (Ok a))) ≡ true
-wanting a (Ok p) h = has_at p a
-wanting a (Err t) h = cc
+reads_at_path : (a : Action) (m : Result Path trace.TextFault) → IsOk m → is_at_path (and_then m (λ p. action_at p (Ok a))) ≡ true
+reads_at_path a (Ok p) h = has_at p a
+reads_at_path a (Err t) h = cc
 
 pub memory_last : (a : Action) (r : Result (Command Global) Unread) → r ≡ Err unread.OutOfMemory → ReadsAction (Err unread.OutOfMemory) (Ok a) r
-memory_last a r e = subst (λ (x : Result (Command Global) Unread). ReadsAction (Err unread.OutOfMemory) (Ok a) x) (sym e) (λ m h. wanting a m h)
+memory_last a r e = subst (λ (x : Result (Command Global) Unread). ReadsAction (Err unread.OutOfMemory) (Ok a) x) (sym e) (λ m h. reads_at_path a m h)

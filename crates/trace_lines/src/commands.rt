@@ -85,7 +85,7 @@ fn command_at(path: GroupPath<Global>, action: Action) -> Command<Global>
     }
 }
 
-/// The action at its path. A fault of the path comes first, then one of the action, and want of
+/// The action at its path. A fault of the path comes first, then one of the action, and out of
 /// memory for the path last.
 fn read_action(
     path: Result<GroupPath<Global>, Unread>,

@@ -94,7 +94,7 @@ module _ (slots : ℕ) where
   may_refuse from child false false None = refl
   may_refuse from child false false (Some a) = refl
 
-  other_fault : (p : Path) (f : ChargeFault) → may_fork (charges.refusal_of p f) ≡ true → (f ≡ OutOfMemory → ⊥) → ((n : ℕ) → f ≡ NoProcess n → ⊥) → ((n : ℕ) → f ≡ PidInUse n → ⊥) → ((n : ℕ) → f ≡ PidsMax n → ⊥) → ⊥
+  other_fault : (p : Path) (f : ChargeFault) → may_fork (charges.refusal_of_fault p f) ≡ true → (f ≡ OutOfMemory → ⊥) → ((n : ℕ) → f ≡ NoProcess n → ⊥) → ((n : ℕ) → f ≡ PidInUse n → ⊥) → ((n : ℕ) → f ≡ PidsMax n → ⊥) → ⊥
   other_fault p OutOfMemory t m h i k = m refl
   other_fault p (NoProcess n) t m h i k = h n refl
   other_fault p (PidInUse n) t m h i k = i n refl
@@ -109,7 +109,7 @@ module _ (slots : ℕ) where
   other_fault p HasProcesses t m h i k = false≢true t
   other_fault p NoFile t m h i k = false≢true t
 
-  pub no_other_fault : (s : State) (from child : ℕ) (p : Path) (f : ChargeFault) → refusal slots s (model.Fork from child) ≡ charges.refusal_of p f → (f ≡ OutOfMemory → ⊥) → ((n : ℕ) → f ≡ NoProcess n → ⊥) → ((n : ℕ) → f ≡ PidInUse n → ⊥) → ((n : ℕ) → f ≡ PidsMax n → ⊥) → ⊥
+  pub no_other_fault : (s : State) (from child : ℕ) (p : Path) (f : ChargeFault) → refusal slots s (model.Fork from child) ≡ charges.refusal_of_fault p f → (f ≡ OutOfMemory → ⊥) → ((n : ℕ) → f ≡ NoProcess n → ⊥) → ((n : ℕ) → f ≡ PidInUse n → ⊥) → ((n : ℕ) → f ≡ PidsMax n → ⊥) → ⊥
   no_other_fault s from child p f e =
       other_fault p f (ap may_fork (sym e) ∙ may_refuse from child (not (has_process s from)) (has_process s child) (blocked_fork s (home_of s from)))
 

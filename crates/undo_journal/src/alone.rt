@@ -14,7 +14,7 @@ ghost use Rattle.undo_journal.specs.History.{IsReady};
 use crate::command::Command;
 use crate::engine::{Engine, or_out_of_memory};
 use crate::exit::undo_exit;
-use crate::faults::want_of_memory;
+use crate::faults::out_of_memory;
 use crate::fork::{undo_counted, undo_fork};
 use crate::inverse::Inverse;
 use crate::journal::Entry;
@@ -39,7 +39,7 @@ fn undo_kill_alone<A: Allocator + Clone, M: Meter>(
 {
     match charges.place_all_alone(who, list.as_slice()) {
         Ok(()) => Ok(()),
-        Err(fault) => Err(want_of_memory(fault)),
+        Err(fault) => Err(out_of_memory(fault)),
     }
 }
 
@@ -148,7 +148,7 @@ impl<A: Allocator + Clone, M: Meter> Engine<A, M> {
                 })?;
                 Ok(())
             }
-            Err(fault) => Err(want_of_memory(fault)),
+            Err(fault) => Err(out_of_memory(fault)),
         }
     }
 

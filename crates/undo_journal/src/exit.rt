@@ -11,7 +11,7 @@ ghost use Rattle.undo_journal.specs.History.{IsReady};
 
 use crate::command::Command;
 use crate::engine::Engine;
-use crate::faults::want_of_memory;
+use crate::faults::out_of_memory;
 use crate::inverse::Inverse;
 use crate::journal::Entry;
 use crate::reply::{Refusal, Reply};
@@ -62,6 +62,6 @@ pub(crate) fn undo_exit<A: Allocator + Clone, M: Meter>(
 {
     match charges.place(who, pid, path) {
         Ok(()) => Ok(()),
-        Err(fault) => Err(want_of_memory(fault)),
+        Err(fault) => Err(out_of_memory(fault)),
     }
 }

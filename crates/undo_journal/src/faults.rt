@@ -31,7 +31,7 @@ pub(crate) fn refusal_at<A: Allocator + Clone, B: Allocator + Clone>(
     fault: ChargeFault,
 ) -> Result<Refusal<B>, AllocError>
     requires { names_in fault ≤ length path.now }
-    ensures { IfOk result (λ r. Some (refusal_of r) ≡ charges.refusal_of path.now fault) }
+    ensures { IfOk result (λ r. Some (refusal_of r) ≡ charges.refusal_of_fault path.now fault) }
 {
     match fault {
         ChargeFault::Exists => Ok(Refusal::Exists),
@@ -51,7 +51,7 @@ pub(crate) fn refusal_at<A: Allocator + Clone, B: Allocator + Clone>(
 }
 
 /// The fault as out of memory.
-pub(crate) fn want_of_memory(fault: ChargeFault) -> AllocError
+pub(crate) fn out_of_memory(fault: ChargeFault) -> AllocError
     requires { fault ≡ ChargeFault.OutOfMemory }
 {
     match fault {

@@ -12,7 +12,7 @@ ghost use Rattle.undo_journal.specs.History.{IsReady};
 
 use crate::command::Command;
 use crate::engine::Engine;
-use crate::faults::want_of_memory;
+use crate::faults::out_of_memory;
 use crate::inverse::Inverse;
 use crate::journal::Entry;
 use crate::reply::{Refusal, Reply};
@@ -63,7 +63,7 @@ impl<A: Allocator + Clone, M: Meter> Engine<A, M> {
                 })?;
                 Ok(())
             }
-            Err(fault) => Err(want_of_memory(fault)),
+            Err(fault) => Err(out_of_memory(fault)),
         }
     }
 
@@ -101,6 +101,6 @@ pub(crate) fn undo_move<A: Allocator + Clone, M: Meter>(
             charges.set_peaks(&left, peaks.as_slice());
             Ok(())
         }
-        Err(fault) => Err(want_of_memory(fault)),
+        Err(fault) => Err(out_of_memory(fault)),
     }
 }

@@ -12,7 +12,7 @@ ghost use Rattle.undo_journal.specs.History.{IsReady};
 
 use crate::command::Command;
 use crate::engine::Engine;
-use crate::faults::{refusal_at, want_of_memory};
+use crate::faults::{out_of_memory, refusal_at};
 use crate::inverse::Inverse;
 use crate::journal::Entry;
 use crate::reply::Reply;
@@ -70,6 +70,6 @@ pub(crate) fn undo_rmdir<A: Allocator + Clone, M: Meter>(
 {
     match charges.restore(path, attr) {
         Ok(()) => Ok(()),
-        Err(fault) => Err(want_of_memory(fault)),
+        Err(fault) => Err(out_of_memory(fault)),
     }
 }

@@ -5,12 +5,12 @@
 //!
 //! - `replays`: a trace with a kill and its undo by 1, 2, 3 and 8 workers, by a rehearsal, and
 //!   with a barrier.
-//! - `gates`: a barrier at which all parts of a phase have to meet.
+//! - `barrier`: where all parts of a phase have to meet.
 //! - `messages`: what is said of a line that is no command.
 #![tactic(auto)]
 
 #[cfg(test)]
-mod gates;
+mod barrier;
 #[cfg(test)]
 mod messages;
 #[cfg(test)]

@@ -1,6 +1,6 @@
 //! A trace with a kill and its undo, by several workers and by a rehearsal.
 
-use crate::gates::Meeting;
+use crate::barrier::PhaseBarrier;
 use replay_main::{
     MemorySink, MemorySource, ReplayFault, Summary, rehearse_trace, replay, replay_gated,
 };
@@ -42,12 +42,12 @@ fn by_a_rehearsal(rt: HostRuntime) {
 
 #[test]
 fn a_thread_for_each_worker(rt: HostRuntime) {
-    let gate = Meeting::new();
+    let barrier = PhaseBarrier::new();
     let mut source = MemorySource::new(TRACE);
     let mut sink = MemorySink::new(rt.alloc());
-    let summary = replay_gated(&rt, rt.alloc(), &gate, &mut source, &mut sink, 3);
+    let summary = replay_gated(&rt, rt.alloc(), &barrier, &mut source, &mut sink, 3);
     assert!(&rt; summary == WHOLE);
     assert!(&rt; sink.bytes() == ANSWERS);
-    assert!(&rt; gate.misses() == 0);
-    assert!(&rt; gate.is_full());
+    assert!(&rt; barrier.misses() == 0);
+    assert!(&rt; barrier.is_full());
 }

@@ -26,7 +26,7 @@ ghost use Rattle.flat_model.specs.Replies.{
 };
 ghost use Rattle.flat_model.specs.Trace as trace;
 ghost use Rattle.undo_journal.specs.Meaning.{command_of};
-ghost use Rattle.replay_main.specs.Rehearsed.{answers_at, is_refusal};
+ghost use Rattle.replay_main.specs.Rehearsed.{answers_at_hand, is_refusal};
 ghost use Rattle.replay_main.specs.Script.{
   IsScript,
   TraceScript,
@@ -48,9 +48,9 @@ pub fn answers_of_scripts()
         → length rs ≡ length (commands_in lines)
         → answers_from n (places_in lines) rs ≡ out n lines rs }
     ensures at_hand { (n : ℕ) (lines : List trace.Line) (rs : List model.Reply)
-        → answers_at n (places_in lines) (map (λ r. Some r) rs) ≡ out n lines rs }
-    ensures wanting { (n : ℕ) (places : List (Option trace.TextFault)) (rs : List (Option model.Reply))
-        → answers_at n (None ∷ places) (None ∷ rs) ≡ [] }
+        → answers_at_hand n (places_in lines) (map (λ r. Some r) rs) ≡ out n lines rs }
+    ensures out_of_memory { (n : ℕ) (places : List (Option trace.TextFault)) (rs : List (Option model.Reply))
+        → answers_at_hand n (None ∷ places) (None ∷ rs) ≡ [] }
     ensures refused { is_refusal (Some model.NothingToUndo) ≡ true }
     ensures done { is_refusal (Some model.Done) ≡ false }
     ensures no_memory { is_refusal None ≡ false }

@@ -1,4 +1,4 @@
-use Rattle.flat_model_laws.proofs.AuditLaws.{entries-once, entries-each, entries-rise}
+use Rattle.flat_model_laws.proofs.AuditLaws.{entries-once, entries-each, entries-ascend}
 use Rattle.flat_model_laws.proofs.audits.entries_once.Goals as goal
 
 pub returns-clause-once : goal.returns-clause-once
@@ -7,5 +7,5 @@ returns-clause-once c = entries-once
 pub returns-clause-own : goal.returns-clause-own
 returns-clause-own c = entries-each
 
-pub returns-clause-rising : goal.returns-clause-rising
-returns-clause-rising c = entries-rise
+pub returns-clause-ascending : goal.returns-clause-ascending
+returns-clause-ascending c = entries-ascend

@@ -1,9 +1,9 @@
 use Rattle.std.proofs.Common.{◌≡◌, ℕ, ◌+◌, take}
-use Rattle.pids_charge.specs.Content.{tokens_at}
+use Rattle.snzi_core.specs.Listed.{listed_at}
 use Rattle.pids_charge.proofs.alone.uncharge_each.Given as goal
 
 abbrev pub invariant-loop-token : goal.invariant-loop-token
 invariant-loop-token g l = record {
-  content : (s j : ℕ) → g.M.Meter.content l.meter s j + tokens_at (take l.token-index l.leaving) s j ≡ g.M.Meter.content l.fn.meter s j;
+  content : (s j : ℕ) → g.M.Meter.content l.meter s j + listed_at (take l.token-index l.leaving) s j ≡ g.M.Meter.content l.fn.meter s j;
   held : g.M.Meter.held l.meter + l.token-index ≡ g.M.Meter.held l.fn.meter;
 }

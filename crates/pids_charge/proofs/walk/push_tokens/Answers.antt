@@ -4,7 +4,7 @@ use Rattle.std.proofs.lemmas.List.Elements.{All-push}
 use Rattle.group_tree.specs.Along.{along_of}
 use Rattle.group_tree.specs.declared.attr.Attr.{Attr}
 use Rattle.snzi_core.specs.declared.event.Token.{Token}
-use Rattle.pids_charge.specs.Content.{tokens_at, IsWithin}
+use Rattle.snzi_core.specs.Listed.{IsWithin, listed_at}
 use Rattle.pids_charge.proofs.Downward.{charges_in, all_split, one_token_more, length-along, charges-along, below-along}
 use Rattle.pids_charge.proofs.walk.push_tokens.Goals as goal
 
@@ -15,7 +15,7 @@ loop-attr-init g c =
       can = tt;
       finite = tt;
       slots = subst (All (λ (a : Attr). a.slot < g.M.Meter.SLOTS)) (sym e) (below-along c.args.tree.now c.args.path.now c.requires.home c.known.ensures.prefixes g.M.Meter.SLOTS c.requires.slots);
-      counted = λ s j. ap (λ (attrs : List Attr). tokens_at c.args.tokens.now.items s j + charges_in attrs c.args.leaf s j) e;
+      counted = λ s j. ap (λ (attrs : List Attr). listed_at c.args.tokens.now.items s j + charges_in attrs c.args.leaf s j) e;
       many = ap (λ (attrs : List Attr). length c.args.tokens.now.items + length attrs) e ∙ ap (λ (n : ℕ). length c.args.tokens.now.items + n) (length-along c.args.tree.now c.args.path.now c.requires.home c.known.ensures.prefixes);
       within = c.requires.within;
     }

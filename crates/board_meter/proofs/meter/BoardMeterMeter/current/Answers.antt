@@ -1,11 +1,10 @@
-use Rattle.std.proofs.Common.{◌∙◌, ℕ, sym, ap, arith}
+use Rattle.std.proofs.Common.{◌∙◌, ℕ, ap, arith}
 use Rattle.snzi_core.specs.declared.holding.Holding.{Holding}
-use Rattle.snzi_tree.specs.Contents.{content_of, tokens_in, amount_in}
+use Rattle.snzi_tree.specs.Contents.{tokens_in, amount_in}
 use Rattle.snzi_tree.specs.Hands.{holds}
 use Rattle.snzi_tree.proofs.Leaves.{in_held}
 use Rattle.board_meter.specs.declared.shape.TheConstants.{NODES, ROW}
 use Rattle.board_meter.proofs.Excess.{level_sum}
-use Rattle.board_meter.proofs.Words.{over_leaves-is}
 use Rattle.board_meter.proofs.meter.BoardMeterMeter.current.Goals as goal
 
 pub returns-clause-answer : goal.returns-clause-answer
@@ -18,4 +17,3 @@ returns-clause-answer c =
     c.sum.ensures.alone i.alone
     ∙ level_sum (amount_in NODES ROW h s) (tokens_in NODES ROW h s) (i.level s) (omega (arith, few, most))
     ∙ ap (λ (k : Holding). tokens_in NODES ROW k s) c.self.view_is
-    ∙ sym (over_leaves-is ROW (content_of NODES ROW c.args.self.now s))

@@ -1,10 +1,9 @@
-use Rattle.std.proofs.Common.{ℕ, IsTrue, ◌<◌, sym, subst, ◌∙◌, ap}
+use Rattle.std.proofs.Common.{ℕ, IsTrue, ◌<◌, subst, ap}
 use Rattle.std.specs.Prelude.{◌↔◌}
 use Rattle.snzi_core.specs.declared.holding.Holding.{Holding}
-use Rattle.snzi_tree.specs.Contents.{content_of, tokens_in}
+use Rattle.snzi_tree.specs.Contents.{tokens_in}
 use Rattle.snzi_tree.specs.Hands.{holds}
 use Rattle.board_meter.specs.declared.shape.TheConstants.{NODES, ROW}
-use Rattle.board_meter.proofs.Words.{over_leaves-is}
 use Rattle.board_meter.proofs.meter.BoardMeterMeter.populated.Goals as goal
 
 pub returns-clause-answer : goal.returns-clause-answer
@@ -13,5 +12,5 @@ returns-clause-answer c =
     let i = c.self.invariant.1 in
     let s : ℕ = c.args.slot in
     subst (λ (n : ℕ). IsTrue c.query.result ↔ 0 < n)
-    (ap (λ (k : Holding). tokens_in NODES ROW k s) c.self.view_is ∙ sym (over_leaves-is ROW (content_of NODES ROW c.args.self.now s)))
+    (ap (λ (k : Holding). tokens_in NODES ROW k s) c.self.view_is)
     (c.query.ensures.content i.alone i.at_leaves)

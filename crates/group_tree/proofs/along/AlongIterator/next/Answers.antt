@@ -1,13 +1,13 @@
 use Rattle.std.proofs.Common.{◌∙◌, sym, ap, subst, refl, arith, length, Option, option_map, Bor}
 use Rattle.std.proofs.lemmas.Grind.{common_steps}
 use Rattle.group_tree.specs.Along.{along_from}
-use Rattle.group_tree.specs.Node.{Branch, HasRisingNames}
+use Rattle.group_tree.specs.Node.{Branch, HasAscendingNames}
 use Rattle.group_tree.proofs.Downward.{goes_down, ends_there}
 use Rattle.group_tree.proofs.Steps.{own_attr}
 use Rattle.group_tree.proofs.along.AlongIterator.next.Goals as goal
 
 pub place-requires : goal.place-requires
-place-requires g c = subst HasRisingNames (sym c.deref.ensures.value) c.node.invariant.rising
+place-requires g c = subst HasAscendingNames (sym c.deref.ensures.value) c.node.invariant.ascending
 
 pub index-child-requires : goal.index-child-requires
 index-child-requires g c = omega (arith, c.in-Ok.ensures.bound, c.deref.ensures.len)
@@ -17,8 +17,8 @@ returns-in-Ok-clause-steps g c =
     sym c.self.view_is
     ∙ ap (λ (o : Option (Bor Branch)). along_from (option_map (λ (node : Bor Branch). node.now.groups) o) c.self.inside.names) c.in_ok-node.was
     ∙ goes_down c.node.inside.attr c.node.inside.children.items c.deref.result.now c.in_ok-node.node.now c.node.inside.name c.self.inside.names c.in_ok-name.name.now c.next.new.self c.in-Ok.at
-    c.node.view_is c.node.invariant.rising c.in_ok-name.ensures.steps c.deref.ensures.value c.index-child.result.now c.child.inside.attr c.in-Ok.ensures.value c.index-child.ensures
-    (own_attr c.child.inside.attr c.child.inside.children.items c.index-child.result.now c.child.inside.name c.child.view_is c.child.invariant.rising)
+    c.node.view_is c.node.invariant.ascending c.in_ok-name.ensures.steps c.deref.ensures.value c.index-child.result.now c.child.inside.attr c.in-Ok.ensures.value c.index-child.ensures
+    (own_attr c.child.inside.attr c.child.inside.children.items c.index-child.result.now c.child.inside.name c.child.view_is c.child.invariant.ascending)
 
 pub returns-in-Ok-clause-goes : goal.returns-in-Ok-clause-goes
 returns-in-Ok-clause-goes g c = let e = returns-in-Ok-clause-steps g c in grind (arith, common_steps, ap length e)
@@ -28,6 +28,6 @@ returns-in-Err-clause-steps g c = (
   sym c.self.view_is
       ∙ ap (λ (o : Option (Bor Branch)). along_from (option_map (λ (node : Bor Branch). node.now.groups) o) c.self.inside.names) c.in_ok-node.was
       ∙ ends_there c.node.inside.attr c.node.inside.children.items c.deref.result.now c.in_ok-node.node.now c.node.inside.name c.self.inside.names c.in_ok-name.name.now c.next.new.self c.in-Err.field-0
-      c.node.view_is c.node.invariant.rising c.in_ok-name.ensures.steps c.deref.ensures.value c.in-Err.ensures.value,
+      c.node.view_is c.node.invariant.ascending c.in_ok-name.ensures.steps c.deref.ensures.value c.in-Err.ensures.value,
   refl,
 )

@@ -5,4 +5,4 @@ pub returns-clause-value : goal.returns-clause-value
 returns-clause-value g c = kept_count _ _ _ _ _ c.self.view_is c.self.invariant
 
 pub returns-clause-whole : goal.returns-clause-whole
-returns-clause-whole g c = has_some _ _ _ _ c.self.view_is c.self.invariant.rising
+returns-clause-whole g c = has_some _ _ _ _ c.self.view_is c.self.invariant.ascending

@@ -4,7 +4,7 @@ use Rattle.flat_model.specs.State.{State}
 use Rattle.flat_model.specs.Command.{Kill}
 use Rattle.flat_model.specs.Step.{after}
 use Rattle.flat_model.specs.Inverse.{lost}
-use Rattle.pids_charge.specs.Content.{tokens_at}
+use Rattle.snzi_core.specs.Listed.{listed_at}
 use Rattle.pids_charge.specs.Lists.{rows_of, inside}
 use Rattle.pids_charge.specs.Recount.{state_of}
 use Rattle.snzi_core.specs.declared.event.Token.{Token}
@@ -38,7 +38,7 @@ pub invariant_of-self : goal.invariant_of-self
 invariant_of-self g c =
     let told = c.in-Ok.ensures in
     let go : List (Process g.row.A.Denot) = values_of (inside c.args.path.now c.self.inside.processes.entries) in
-    let counted = λ (s j : ℕ). ap (λ (ts : List Token). tokens_at ts s j) c.as_slice.ensures.value ∙ told.counted s j in
+    let counted = λ (s j : ℕ). ap (λ (ts : List Token). listed_at ts s j) c.as_slice.ensures.value ∙ told.counted s j in
     let many = ap length c.as_slice.ensures.value ∙ told.many in
     record {
       has_slots = c.self.invariant.has_slots;

@@ -6,7 +6,8 @@ use Rattle.std.specs.Ordering.{nat_cmp}
 use Rattle.std.proofs.lemmas.List.Elements.{All-weaker}
 use Rattle.flat_model.specs.State.{State}
 use Rattle.flat_model.specs.Inverse.{back, Killed}
-use Rattle.pids_charge.specs.Content.{Content, tokens_at}
+use Rattle.snzi_core.specs.Listed.{listed_at}
+use Rattle.pids_charge.specs.Content.{Content}
 use Rattle.pids_charge.specs.Lists.{rows_of}
 use Rattle.pids_charge.specs.Recount.{state_of, charges_at}
 use Rattle.snzi_core.specs.declared.event.Token.{Token}
@@ -45,7 +46,7 @@ invariant_of-self-2 g c =
     let d = c.self.invariant.recounted in
     let new = All-weaker (λ l. fin.get c.args.self.now.home l.pid ≡ None) (λ l. find_new l.pid es) (λ l e. sym (fin.get-from_sorted nat_cmp (home_rows es) l.pid (to_sorted es d.ordered)) ∙ ap (λ (t : State). fin.get t.home l.pid) c.self.view_is ∙ e) c.args.list.now c.requires.new in
     let homes = All-weaker (λ l. IsSome (fin.get c.args.self.now.groups l.path)) (λ l. IsSome (fin.get c.self.inside.tree l.path)) (λ l h. there-is c.args.self.now c.self.inside.tree es c.self.view_is l.path h) c.args.list.now c.requires.homes in
-    let counted = λ (s j : ℕ). ap (λ (ts : List Token). tokens_at ts s j) c.as_slice.ensures.value ∙ (c.in_ok-tokens.ensures).counted s j in
+    let counted = λ (s j : ℕ). ap (λ (ts : List Token). listed_at ts s j) c.as_slice.ensures.value ∙ (c.in_ok-tokens.ensures).counted s j in
     let many = ap length c.as_slice.ensures.value ∙ (c.in_ok-tokens.ensures).many in
     record {
       has_slots = c.self.invariant.has_slots;

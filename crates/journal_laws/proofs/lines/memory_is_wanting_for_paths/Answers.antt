@@ -1,5 +1,0 @@
-use Rattle.journal_laws.proofs.Said.{at_a_path}
-use Rattle.journal_laws.proofs.lines.memory_is_wanting_for_paths.Goals as goal
-
-pub returns-clause-only : goal.returns-clause-only
-returns-clause-only c = at_a_path

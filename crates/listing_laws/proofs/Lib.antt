@@ -1,0 +1,5 @@
+mod InOrder
+mod Listed
+mod Members
+mod Order
+mod Reached

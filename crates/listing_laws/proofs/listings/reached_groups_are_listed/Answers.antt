@@ -1,0 +1,5 @@
+use Rattle.listing_laws.proofs.Reached.{reached_shallow, reached_keys}
+use Rattle.listing_laws.proofs.listings.reached_groups_are_listed.Goals as goal
+
+pub returns : goal.returns
+returns c = record { shallow = reached_shallow; keys = reached_keys }

@@ -1,0 +1,118 @@
+//! Forks in one call, with each allocation refused.
+
+ghost use Rattle.std.specs.Prelude.{◌≡◌, IfOk, OnOk};
+ghost use Rattle.flat_model.specs.Events.{HasEventsUpTo};
+
+use crate::answers::{Answer, peaks_answered};
+use crate::calls::{Apart, pid};
+use crate::seen::{A, Seen, look};
+use group_path::GroupPath;
+use linked_list_allocator::LocalHeap;
+use pids_charge::{ChargeFault, Charges, Pid, PlainMeter};
+use std::alloc::{Allocator, Global};
+use std::test::Fail;
+use test_support::{Tried, all_but, path};
+
+/// Makes the group, and moves the process there.
+fn move_to_new<A: Allocator + Clone>(
+    charges: &mut Apart<A>,
+    group: &GroupPath<Global>,
+    pid: Pid,
+) -> Result<(), ChargeFault>
+    requires { HasEventsUpTo 0 charges.old }
+    ensures { OnOk result (HasEventsUpTo 0 charges.new) }
+{
+    charges.mkdir(group)?;
+    let _moved = charges.migrate(0, pid, group)?;
+    Ok(())
+}
+
+/// A fork that is made.
+fn fork<A: Allocator + Clone>(
+    charges: &mut Apart<A>,
+    parent: Pid,
+    child: Pid,
+) -> Result<(), ChargeFault>
+    requires { HasEventsUpTo 0 charges.old }
+    ensures { OnOk result (HasEventsUpTo 0 charges.new) }
+{
+    let _peaks = charges.fork(0, parent, child)?;
+    Ok(())
+}
+
+/// Process 1 in the group `A` with its children 2, 3 and so on, but for `next` and those behind it.
+fn crowd<M: Allocator + Clone>(alloc: Global, memory: M, next: u32) -> Result<Apart<M>, Fail>
+    ensures { IfOk result (λ c. HasEventsUpTo 0 c) }
+{
+    let group = path(alloc, A)?;
+    let parent = pid(1)?;
+    let mut charges = Charges::new(memory, PlainMeter::new(alloc)?)?;
+    if move_to_new(&mut charges, &group, parent).is_err() {
+        return Err(Fail::new("a move was refused where there is memory"));
+    }
+    for number in 2..next {
+        if fork(&mut charges, parent, pid(number)?).is_err() {
+            return Err(Fail::new("a fork was refused where there is memory"));
+        }
+    }
+    Ok(charges)
+}
+
+/// What can be read of them in ample memory.
+fn seen_before(alloc: Global, next: u32) -> Result<Seen, Fail> {
+    let mut charges = crowd(alloc, alloc, next)?;
+    look(alloc, &mut charges)
+}
+
+/// What the fork of the child comes to with that room, where all that can be read is to be as before behind a refusal.
+fn forked(
+    alloc: Global,
+    heap: &LocalHeap,
+    child: u32,
+    room: usize,
+    wanted: &Answer<'_>,
+) -> Result<(Tried, Seen), Fail> {
+    let (parent, new) = (pid(1)?, pid(child)?);
+    let mut charges = crowd(alloc, heap, child)?;
+    let blocks = all_but(alloc, heap, room)?;
+    let full = heap.used();
+    let tried = peaks_answered(charges.fork(0, parent, new), wanted);
+    let is_kept = heap.used() == full || tried == Tried::Answered;
+    drop(blocks);
+    let seen = look(alloc, &mut charges)?;
+    if is_kept {
+        Ok((tried, seen))
+    } else {
+        Ok((Tried::Other, seen))
+    }
+}
+
+/// How many refusals there are before the child is forked, as the room grows by a block at a time, each time of new charges.
+fn refusals(
+    alloc: Global,
+    heap: &LocalHeap,
+    child: u32,
+    wanted: &Answer<'_>,
+) -> Result<usize, Fail> {
+    let before = seen_before(alloc, child)?;
+    let after = seen_before(alloc, child.saturating_add(1))?;
+    for room in 0..256usize {
+        let (tried, seen) = forked(alloc, heap, child, room, wanted)?;
+        match tried {
+            Tried::Answered if seen == after => return Ok(room),
+            Tried::Refused if seen == before => (),
+            _ => return Err(Fail::new("a fork left something changed")),
+        }
+    }
+    Err(Fail::new("there is no fork in 4,096 bytes"))
+}
+
+/// The second process asks for its path and for the peaks that were there; for the sixteenth the table of processes grows too.
+#[test]
+fn fork_in_one_call(rt: HostRuntime) -> Result<(), Fail> {
+    let heap = LocalHeap::new(rt.alloc(), 32_768)?;
+    let second = refusals(rt.alloc(), &heap, 2, &Answer::Peaks(&[1]))?;
+    let sixteenth = refusals(rt.alloc(), &heap, 16, &Answer::Peaks(&[15]))?;
+    assert!(rt; 0 < second && second < sixteenth);
+    Ok(())
+}

@@ -1,0 +1,12 @@
+use denote.Param.Send.{sendable}
+use Rattle.std.proofs.Crossing.{crosses}
+use Rattle.sessions.proofs.fault.RunFault.TheSendSync as fault
+use Rattle.sessions.proofs.SessionCrosses.{session_send}
+use Rattle.session_tests.proofs.works.Work.TheSendSync as work
+use Rattle.session_tests.proofs.works.worked.Goals as goal
+
+pub map_vec-requires-send-J : goal.map_vec-requires-send-J
+map_vec-requires-send-J g c κs = search (work.the_send, session_send, sendable, crosses) depth 30
+
+pub map_vec-requires-send-X : goal.map_vec-requires-send-X
+map_vec-requires-send-X g c κs = search (fault.the_send, session_send, sendable, crosses) depth 30
