@@ -6,6 +6,7 @@
  *   REFUSE=read N          the N-th read of standard input, which fails with EIO
  *   REFUSE=interrupted N   that read, which fails with EINTR
  *   REFUSE=write N         the N-th write to standard output, which fails with EIO
+ *   SIZED=N                allocations of N bytes alone are counted and refused
  *   COUNTED=FILE           how many allocations there were stands there afterwards, in eight bytes
  *   BYTEWISE=1             each read and each write takes one byte
  */
@@ -28,6 +29,7 @@ enum refused { NOTHING, ALLOCATION, ALLOCATIONS, READ, INTERRUPTED, WRITE };
 
 static enum refused refused;
 static unsigned long place;
+static size_t sized;
 static bool bytewise;
 static atomic_ulong own, reads, writes;
 static atomic_ulong *allocations = &own;
@@ -69,16 +71,22 @@ __attribute__((constructor)) static void read_plan(void)
 			place = strtoul(plan + length, NULL, 10);
 		}
 	}
+	if (getenv("SIZED") != NULL)
+		sized = strtoul(getenv("SIZED"), NULL, 10);
 	if (getenv("COUNTED") != NULL)
 		count_in(getenv("COUNTED"));
 	atomic_store(allocations, 0);
 }
 
-static bool no_memory(void)
+static bool no_memory(size_t size)
 {
-	unsigned long now = atomic_fetch_add(allocations, 1) + 1;
-	bool is_refused = (refused == ALLOCATION && now == place) || (refused == ALLOCATIONS && now >= place);
+	unsigned long now;
+	bool is_refused;
 
+	if (sized != 0 && size != sized)
+		return false;
+	now = atomic_fetch_add(allocations, 1) + 1;
+	is_refused = (refused == ALLOCATION && now == place) || (refused == ALLOCATIONS && now >= place);
 	if (is_refused)
 		errno = ENOMEM;
 	return is_refused;
@@ -86,17 +94,17 @@ static bool no_memory(void)
 
 void *malloc(size_t size)
 {
-	return no_memory() ? NULL : __libc_malloc(size);
+	return no_memory(size) ? NULL : __libc_malloc(size);
 }
 
 void *calloc(size_t count, size_t size)
 {
-	return no_memory() ? NULL : __libc_calloc(count, size);
+	return no_memory(count * size) ? NULL : __libc_calloc(count, size);
 }
 
 void *realloc(void *old, size_t size)
 {
-	return no_memory() ? NULL : __libc_realloc(old, size);
+	return no_memory(size) ? NULL : __libc_realloc(old, size);
 }
 
 /* What the next of these calls fails with, or 0. */
