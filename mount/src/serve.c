@@ -5,12 +5,14 @@
 #include "watch.h"
 #include <errno.h>
 #include <fcntl.h>
+#include <fuse3/fuse_lowlevel.h>
 #include <limits.h>
 #include <signal.h>
 #include <stdarg.h>
 #include <stdio.h>
 #include <stdlib.h>
 #include <string.h>
+#include <sys/uio.h>
 #include <sys/wait.h>
 #include <time.h>
 #include <unistd.h>
@@ -67,6 +69,37 @@ static struct fuse *make_session(void)
 	return fuse;
 }
 
+/* A read from an unmounted connection fails with ENODEV, or with ECONNABORTED if a request was still pending. At ENODEV
+   libfuse ends its loop quietly; at any other errno it prints a message and returns an error. */
+#if FUSE_VERSION >= FUSE_MAKE_VERSION(3, 14)
+static ssize_t read_request(int from, void *request, size_t size, void *unused)
+{
+	(void)unused;
+	ssize_t n = read(from, request, size);
+	if (n < 0 && errno == ECONNABORTED)
+		errno = ENODEV;
+	return n;
+}
+
+static ssize_t write_reply(int to, struct iovec *reply, int parts, void *unused)
+{
+	(void)unused;
+	return writev(to, reply, parts);
+}
+
+static bool treat_abort_as_unmount(struct fuse_session *session)
+{
+	static const struct fuse_custom_io io = { .read = read_request, .writev = write_reply };
+	return fuse_session_custom_io(session, &io, fuse_session_fd(session)) == 0;
+}
+#else
+/* There is no such hook in older libraries: the message may still be printed, but the status is the same. */
+static bool treat_abort_as_unmount(struct fuse_session *session)
+{
+	return session != NULL;
+}
+#endif
+
 int serve(const char *where, void (*ready)(void))
 {
 	struct fuse *fuse = make_session();
@@ -77,7 +110,7 @@ int serve(const char *where, void (*ready)(void))
 		return 2;
 	}
 	struct fuse_session *session = fuse_get_session(fuse);
-	if (fuse_set_signal_handlers(session))
+	if (!treat_abort_as_unmount(session) || fuse_set_signal_handlers(session))
 		return 1;
 	ready();
 	int ended = fuse_loop_mt(fuse, 0);
@@ -86,7 +119,7 @@ int serve(const char *where, void (*ready)(void))
 	fuse_unmount(fuse);
 	fuse_destroy(fuse);
 	engine_end();
-	return ended < 0 ? 1 : 0;
+	return ended < 0 && ended != -ECONNABORTED ? 1 : 0;
 }
 
 /* ---------------------------------------------------------------- makhloeum mount */

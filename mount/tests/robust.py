@@ -7,7 +7,7 @@ import sys
 import threading
 import time
 
-from support import PATIENCE, Mount, error_of, finish, read, same, step, until, write
+from support import PATIENCE, PROGRAM, Mount, error_of, finish, read, same, step, until, write
 
 CLIENT = """import os, sys
 at = sys.argv[1]
@@ -68,6 +68,13 @@ def unmounted_while_open():
     step("cgreplay gives the same answers", m.replay())
 
 
+def unmounted_with_a_request_pending(preload):
+    """The server's read fails with ECONNABORTED in place of ENODEV; the mount ends as ever."""
+    m = Mount(preload=preload)
+    os.mkdir(m.path("a"))
+    m.end()
+
+
 def ended_while_open(how, name):
     m = Mount()
     os.mkdir(m.path("a"))
@@ -104,11 +111,10 @@ def killed_under_load():
 
 
 def bad_lines():
-    program = os.environ["MAKHLOEUM"]
     for words in ([], ["mount"], ["run"], ["mount", "--bogus", "/tmp"], ["mount", "/nowhere/at/all"], ["mount", "/tmp", "x"], ["run", "--adopt", "true"]):
-        ran = subprocess.run([program, *words], stderr=subprocess.PIPE, timeout=10)
+        ran = subprocess.run([PROGRAM, *words], stderr=subprocess.PIPE, timeout=10)
         same("makhloeum %s" % " ".join(words), (ran.returncode, ran.stderr.count(b"\n")), (2, 1))
-    same("--help", subprocess.run([program, "--help"], stdout=subprocess.PIPE).returncode, 0)
+    same("--help", subprocess.run([PROGRAM, "--help"], stdout=subprocess.PIPE).returncode, 0)
 
 
 def background(closed=""):
@@ -116,7 +122,7 @@ def background(closed=""):
     home = os.environ.get("TMPDIR", "/tmp")
     at = os.path.join(home, "background")
     os.makedirs(at, exist_ok=True)
-    ran = subprocess.run(["sh", "-c", '"$0" mount "$1" ' + closed, os.environ["MAKHLOEUM"], at], stdout=subprocess.PIPE, timeout=10)
+    ran = subprocess.run(["sh", "-c", '"$0" mount "$1" ' + closed, PROGRAM, at], stdout=subprocess.PIPE, timeout=10)
     same("mount %sreturns once it is there" % closed, (ran.returncode, os.path.ismount(at)), (0, True))
     os.mkdir(at + "/a")
     same("and stays", (read(at + "/a/pids.current"), os.path.ismount(at)), (b"0\n", True))
@@ -129,4 +135,8 @@ for test, args in ((dying_clients, ()), (full_device, ()), (full_in_between, ())
                    (killed_under_load, ()), (bad_lines, ()), (background, ()), (background, ("<&- ",)), (background, (">&- ",)),
                    (background, ("<&- >&- 2>&- ",))):
     test(*args)
+# only beside the plain build: the sanitizers' library has to be loaded first
+ABORTED = os.path.join(os.path.dirname(PROGRAM), "aborted.so")
+if os.path.exists(ABORTED):
+    unmounted_with_a_request_pending(ABORTED)
 finish()

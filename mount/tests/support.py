@@ -72,7 +72,7 @@ def write(path, value):
 
 
 class Mount:
-    def __init__(self, *options, limit=None, trace=None):
+    def __init__(self, *options, limit=None, trace=None, preload=None):
         self.home = tempfile.mkdtemp()
         self.at = os.path.join(self.home, "at")
         self.trace = trace or os.path.join(self.home, "trace")
@@ -82,7 +82,7 @@ class Mount:
         before = (lambda: __import__("resource").setrlimit(__import__("resource").RLIMIT_FSIZE, limit)) if limit else None
         self.process = subprocess.Popen(
             [PROGRAM, "mount", self.at, "--foreground", "--trace", self.trace, "--answers", self.answers, *options],
-            stderr=self.said, preexec_fn=before)
+            stderr=self.said, preexec_fn=before, env=dict(os.environ, LD_PRELOAD=preload) if preload else None)
         if not until(lambda: self.process.poll() is not None or os.path.ismount(self.at)) or not os.path.ismount(self.at):
             raise SystemExit("no mount: %s" % self.words())
 
