@@ -7,8 +7,8 @@
 //! - Refusals come in a fixed order, and each names its cause. Only `insert`, `copy`, `new`, and a `chain` of more than
 //!   eight groups take memory: a group's parent's list of children grows, and a name of more than 23 bytes takes a block.
 //! - A look-up goes down once, in O(depth · log children) comparisons of names. How many groups are below each group is
-//!   kept, so that limits on descendants, and on all groups, are tested without a walk. The limits of the hierarchy that a
-//!   new group meets are all asked in one such descent, and so is all that stands against it (`admits`).
+//!   kept, so that limits on descendants, and on all groups, are tested without a walk. All that stands against a new group,
+//!   each limit of the hierarchy above it too, is asked in one such descent (`admits`).
 //! - What the groups along a path have comes one after another in one descent (`along`), and the event totals of those
 //!   groups are counted up and down in one (`count_refusal`, `uncount_refusal`), and their peaks set in one (`set_peaks`).
 //!   None of these takes memory.

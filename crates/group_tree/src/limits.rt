@@ -1,15 +1,13 @@
-//! Which limit of the hierarchy a new group meets: of the groups above it the nearest, and of one group its limit on
-//! descendants before that on depth.
+//! Which of a group's limits of the hierarchy a new group below it meets: that on descendants before that on depth.
 
-ghost use Rattle.std.specs.Prelude.{◌≡◌, ◌+◌, ◌%◌, ◌^◌, [], length};
+ghost use Rattle.std.specs.Prelude.{◌≡◌, ◌%◌, ◌^◌, []};
 ghost use Rattle.std.specs.FinMap as fin;
 ghost use Rattle.flat_model.specs.Counts.{reaches};
 ghost use Rattle.group_tree.specs.Flat.{limit_of};
 ghost use Rattle.group_tree.specs.Groups.{descendant_count};
 
 use crate::attr::Limit;
-use crate::node::{Node, place};
-use group_path::Names;
+use crate::node::Node;
 use std::alloc::Allocator;
 
 /// A limit of the hierarchy that a new group meets, of `cgroup.max.descendants` and `cgroup.max.depth` (admin-guide,
@@ -34,7 +32,7 @@ fn is_reached(limit: Limit, n: u64) -> bool
 }
 
 impl<A: Allocator> Node<A> {
-    ghost use Rattle.group_tree.specs.Limits.{met_here, first_met};
+    ghost use Rattle.group_tree.specs.Limits.{met_here};
 
     /// Which of its own limits a new group so many levels below it meets, where its path has `n` names.
     pub(crate) fn met_here(&self, levels: usize, n: usize) -> Option<MetLimit>
@@ -47,24 +45,5 @@ impl<A: Allocator> Node<A> {
             return Some(MetLimit::Depth(n));
         }
         None
-    }
-
-    /// The first limit that a new group under the one at these names meets, from there up to here, where the path of
-    /// this one has `n` names and that of the other `above`.
-    pub(crate) fn met_limit(&self, names: Names<'_>, above: usize, n: usize) -> Option<MetLimit>
-        requires { above ≡ n + length names }
-        ensures { result ≡ first_met (fin.get self.now.groups) (λ q. descendant_count self.now.groups q % 2 ^ 64) names.entry n }
-    {
-        let mut names = names;
-        match names.next() {
-            None => self.met_here(0, n),
-            Some(name) => match place(&self.children, name) {
-                Err(_) => self.met_here(above - n, n),
-                Ok(at) => match self.children[at].met_limit(names, above, n + 1) {
-                    Some(met) => Some(met),
-                    None => self.met_here(above - n, n),
-                },
-            },
-        }
     }
 }

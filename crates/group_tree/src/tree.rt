@@ -3,14 +3,12 @@
 ghost use Rattle.std.specs.Prelude.{◌≡◌, ◌+◌, ◌-◌, ◌<◌, ◌≤◌, ◌%◌, ◌^◌, ℕ, true, length, take, None, MatchOption, IsOk, IfOk, IfSome, IsSome, option_map, min};
 ghost use Rattle.std.specs.Option.{option_copied};
 ghost use Rattle.std.specs.FinMap as fin;
-ghost use Rattle.flat_model.specs.Path.{Path, at_or_below, upward};
-ghost use Rattle.flat_model.specs.Step.{limit_met, first_refusal};
+ghost use Rattle.flat_model.specs.Path.{Path, at_or_below};
 ghost use Rattle.group_tree.specs.Flat.{CountsAsFlat};
 ghost use Rattle.group_tree.specs.Along.{along_of};
 ghost use Rattle.group_tree.specs.ChildNames.{NamesChildren};
 ghost use Rattle.group_tree.specs.Refusals.{Counts};
 ghost use Rattle.group_tree.specs.Peaks.{SetsPeaks};
-ghost use Rattle.group_tree.specs.Limits.{without_processes, refusal_along, names_of};
 ghost use Rattle.group_tree.specs.Admission.{Admits};
 ghost use Rattle.group_tree.specs.Settings.{ReplacesLimit};
 ghost use Rattle.group_tree.specs.Groups.{IsClosed, Inserts, Sets, Removes, only_root, descendant_count, chain_of};
@@ -21,7 +19,6 @@ use crate::attr::{Attr, Limit, LimitFile};
 use crate::child_names::ChildNames;
 use crate::events::Change;
 use crate::fault::TreeFault;
-use crate::limits::MetLimit;
 use crate::node::Node;
 use crate::set::Setting;
 use group_path::GroupPath;
@@ -191,20 +188,10 @@ impl<A: Allocator> GroupTree<A> {
         self.root.find_with_descendants(path.names())
     }
 
-    /// The first limit of the hierarchy that a new group under the one at the first `n` names of the path meets, from
-    /// there up to the root, and of one group the limit on descendants first; None where none is met. It goes down once,
-    /// as `find` does. The counts are exact as long as the tree has fewer than 2^64 groups.
-    pub fn met_limit<B: Allocator + Clone>(&self, path: &GroupPath<B>, n: usize) -> Option<MetLimit>
-        requires { n ≤ length path.now }
-        ensures first { fin.len self.now < 2 ^ 64 → option_map (refusal_along path.now) result ≡ first_refusal (limit_met (without_processes self.now) (take n path.now)) (upward (take n path.now)) }
-        ensures inside { IfSome result (λ met. names_of met ≤ n) }
-    {
-        self.root.met_limit(path.first_names(n), n, 0)
-    }
-
     /// What stands against a new group at the path, memory aside, and what comes first in this order: that it is there, that
-    /// its parent is not, the first limit of the hierarchy that it meets, as `met_limit` says it. It goes down once, as
-    /// `find` does. The counts are exact as long as the tree has fewer than 2^64 groups.
+    /// its parent is not, the first limit of the hierarchy that it meets, from its parent up to the root, and of one group
+    /// that on descendants first. It goes down once, as `find` does. The counts are exact as long as the tree has fewer than
+    /// 2^64 groups.
     pub fn admits<B: Allocator + Clone>(&self, path: &GroupPath<B>) -> Admission
         ensures { Admits self.now path.now result }
     {

@@ -74,15 +74,13 @@ pub(crate) enum Call {
     Limit(LimitFile, Limit),
     /// The same in one call; answers the number that stood there, and 0 where there was no limit.
     Replace(LimitFile, Limit),
-    /// What stands against a new group: that it is there or has no parent, or else the limit that is met, as `Met` has it.
+    /// What stands against a new group: that it is there or has no parent, or else the limit that is met. 0 is none, and
+    /// others are the number of names of its group's path, with 10 for a limit on descendants and 20 for one on depth.
     Admits,
     /// Answers the slot.
     Insert(u16),
     /// Answers the slot, where the rest is as `attr` has it.
     Remove,
-    /// The limit that is met for a new group: 0 for none, and else the number of names of its group's path, with 10 for
-    /// a limit on descendants and 20 for one on depth.
-    Met(usize),
     /// Counts a refused fork, or takes that back; answers 1.
     Refuse(usize),
     Unrefuse(usize),
@@ -219,16 +217,15 @@ fn admitted(admission: Admission) -> Result<u64, TreeFault> {
     match admission {
         Admission::Exists => Err(TreeFault::Exists),
         Admission::NoParent => Err(TreeFault::NoParent),
-        Admission::Met(limit) => Ok(met(Some(limit))),
+        Admission::Met(limit) => Ok(met(limit)),
         Admission::Free => Ok(0),
     }
 }
 
-fn met(limit: Option<MetLimit>) -> u64 {
+fn met(limit: MetLimit) -> u64 {
     match limit {
-        None => 0,
-        Some(MetLimit::Descendants(n)) => (n as u64).saturating_add(10),
-        Some(MetLimit::Depth(n)) => (n as u64).saturating_add(20),
+        MetLimit::Descendants(n) => (n as u64).saturating_add(10),
+        MetLimit::Depth(n) => (n as u64).saturating_add(20),
     }
 }
 
@@ -280,7 +277,6 @@ pub(crate) fn answer<A: Allocator + Clone>(
             Ok(attr) => slot_of(attr),
             Err(fault) => Err(fault),
         },
-        Call::Met(n) => Ok(met(tree.met_limit(path, n.min(depth)))),
         Call::Refuse(n) => done(change_refusals(tree, path, n, true)),
         Call::Unrefuse(n) => done(change_refusals(tree, path, n, false)),
         Call::SetPeaks(n) => done(set_peaks(tree, path, n)),

@@ -56,13 +56,6 @@ fn meets_limits(rt: HostRuntime) -> Result<(), Fail> {
         ("/a/b", Call::Limit(depth, Limit::At(0)), Ok(1)),
         ("/e", Call::Limit(descendants, Limit::At(0)), Ok(1)),
         ("/e", Call::Limit(depth, Limit::At(0)), Ok(1)),
-        ("/", Call::Met(0), Ok(0)),
-        ("/a/d", Call::Met(1), Ok(11)),
-        ("/a/d", Call::Met(2), Ok(11)),
-        ("/a/b/c", Call::Met(2), Ok(22)),
-        ("/a/b/c", Call::Met(3), Ok(22)),
-        ("/e", Call::Met(1), Ok(11)),
-        // The same of the path of the new group, once it is known that it is not there and its parent is.
         ("/", Call::Admits, Err(TreeFault::Exists)),
         ("/a/d", Call::Admits, Err(TreeFault::Exists)),
         ("/x/d", Call::Admits, Err(TreeFault::NoParent)),
@@ -85,8 +78,6 @@ fn meets_the_limit_of_the_root(rt: HostRuntime) -> Result<(), Fail> {
     let rows = [
         ("/", Call::Limit(descendants, Limit::At(9)), Ok(1)),
         ("/", Call::Limit(LimitFile::MaxDepth, Limit::At(2)), Ok(1)),
-        ("/a/b", Call::Met(1), Ok(0)),
-        ("/a/b", Call::Met(2), Ok(20)),
         ("/a/x", Call::Admits, Ok(0)),
         ("/a/b/x", Call::Admits, Ok(20)),
     ];

@@ -5,7 +5,7 @@ use crate::limits::limited;
 use crate::paths::names_of_letters;
 use crate::tree_memory::{LONG, call, is_found};
 use group_path::GroupPath;
-use group_tree::{GroupTree, Limit, MetLimit, TreeFault};
+use group_tree::{Admission, GroupTree, Limit, MetLimit, TreeFault};
 use std::alloc::{AllocError, Allocator, Global};
 use std::test::Fail;
 use test_support::path;
@@ -103,6 +103,38 @@ fn nested(rt: HostRuntime) -> Result<(), Fail> {
     Ok(())
 }
 
+/// What is said of a new group at this path of so many names, where the groups above it are there and the root has this
+/// limit on depth.
+fn admission_below(alloc: Global, depth: usize, most: u32) -> Result<Option<Admission>, Fail> {
+    let mut tree = GroupTree::new(alloc, attr(0))?;
+    let new = deep(alloc, depth)?;
+    if let Some(parent) = new.parent(alloc)? {
+        if !nest(alloc, &mut tree, &parent)? {
+            return Err(Fail::new("a group was not made"));
+        }
+    }
+    let limits = [Limit::Unlimited, Limit::Unlimited, Limit::At(most)];
+    if tree.set_at(&new, 0, limited(0, limits)) {
+        Ok(Some(tree.admits(&new)))
+    } else {
+        Ok(None)
+    }
+}
+
+/// A limit of the root on depth is met by the deepest group that a path can name, and not by its parent.
+#[test]
+fn limit_of_the_root_at_the_deepest(rt: HostRuntime) -> Result<(), Fail> {
+    let met = Admission::Met(MetLimit::Depth(0));
+    for (depth, most, wanted) in [
+        (31, 31, Admission::Free),
+        (32, 31, met),
+        (32, 32, Admission::Free),
+    ] {
+        assert_eq!(rt; admission_below(rt.alloc(), depth, most)?, Some(wanted));
+    }
+    Ok(())
+}
+
 /// A tree of nested groups as deep as a path may go, and the path of the deepest.
 fn deepest(alloc: Global) -> Result<(GroupTree<Global>, GroupPath<Global>), Fail> {
     let mut tree = GroupTree::new(alloc, attr(0))?;
@@ -112,31 +144,6 @@ fn deepest(alloc: Global) -> Result<(GroupTree<Global>, GroupPath<Global>), Fail
     } else {
         Err(Fail::new("a group was not made"))
     }
-}
-
-/// The limits that are met for a group below the root, below that of 31 names, and below the deepest.
-fn met(tree: &GroupTree<Global>, deepest: &GroupPath<Global>) -> Option<[Option<MetLimit>; 3]> {
-    if deepest.depth() < 32 {
-        return None;
-    }
-    Some([
-        tree.met_limit(deepest, 0),
-        tree.met_limit(deepest, 31),
-        tree.met_limit(deepest, 32),
-    ])
-}
-
-/// A limit of the root on depth is met at the deepest group alone.
-#[test]
-fn limit_of_the_root_at_the_deepest(rt: HostRuntime) -> Result<(), Fail> {
-    let (mut tree, deepest) = deepest(rt.alloc())?;
-    let limits = [Limit::Unlimited, Limit::Unlimited, Limit::At(32)];
-    let is_set = tree.set_at(&deepest, 0, limited(0, limits));
-    assert_eq!(rt;
-        (is_set, met(&tree, &deepest)),
-        (true, Some([None, None, Some(MetLimit::Depth(0))]))
-    );
-    Ok(())
 }
 
 /// Removes the groups on the way to that path from below, each after the topmost was refused while others were below
