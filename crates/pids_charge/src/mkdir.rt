@@ -1,6 +1,6 @@
 //! The making of groups.
 
-ghost use Rattle.std.specs.Prelude.{◌≡◌, ◌≤◌, length, None, IfSome, IfErr, OnErr, OnOk, MatchOption};
+ghost use Rattle.std.specs.Prelude.{◌≡◌, ◌≢◌, ◌≤◌, length, None, IfSome, IfErr, OnErr, OnOk, MatchOption};
 ghost use Rattle.flat_model.specs.Command.{MakeGroup};
 ghost use Rattle.flat_model.specs.Step.{refusal, after};
 ghost use Rattle.pids_charge.specs.Answers.{Does, refusal_of_fault, after_fault, names_in};
@@ -18,6 +18,7 @@ impl<A: Allocator + Clone, M: Meter> Charges<A, M> {
     pub fn refuses_mkdir<B: Allocator + Clone>(&self, path: &GroupPath<B>) -> Option<ChargeFault>
         ensures first { MatchOption result (refusal M.SLOTS self.now (MakeGroup path.now) ≡ None) (λ f. refusal M.SLOTS self.now (MakeGroup path.now) ≡ refusal_of_fault path.now f) }
         ensures inside { IfSome result (λ f. names_in f ≤ length path.now) }
+        ensures no_memory { IfSome result (λ f. f ≢ ChargeFault.OutOfMemory) }
         ensures kept { IfSome result (λ f. after_fault self.now (refusal_of_fault path.now f) ≡ self.now) }
     {
         match self.tree.admits(path) {
