@@ -6,6 +6,7 @@
 //! - `trials`: what is tried on a new engine.
 //! - `engine`: commands, their texts, and what the engine keeps of them.
 //! - `engine_memory`: each allocation that a command asks for, refused in turn.
+//! - `undo_memory`: those of `undo_all`.
 //! - `ample_memory`: answers where there is memory, in the cases where a wrong reason could hide behind `OutOfMemory`.
 //! - `rehearsal`: rehearsals in an arena.
 //! - `lines`: lines answered into a buffer.
@@ -25,3 +26,5 @@ mod lines;
 mod rehearsal;
 #[cfg(test)]
 mod trials;
+#[cfg(test)]
+mod undo_memory;
