@@ -1,7 +1,7 @@
 //! Traces of many lines and groups, and long lines.
 
 use crate::traces::{is_replayed, replayed};
-use replay_main::{LINE_MAX, Summary};
+use replay_main::Summary;
 use std::alloc::{AllocError, Global};
 use std::sync::Wait;
 use std::test::Fail;
@@ -77,8 +77,8 @@ fn is_long_answered<R: Threads + Wait + Sync>(
 fn long_lines(rt: HostRuntime) -> Result<(), Fail> {
     let rows: [(&[u8], usize, &[u8]); 5] = [
         (b"# ", 9_998, b""),
-        (b"mkdir /", LINE_MAX - 7, b"1 refused path\n"),
-        (b"mkdir /", LINE_MAX - 6, b"1 refused syntax\n"),
+        (b"mkdir /", 8_185, b"1 refused path\n"),
+        (b"mkdir /", 8_186, b"1 refused syntax\n"),
         (b"mkdir /", 255, b"1 ok\n"),
         (b"mkdir /", 256, b"1 refused path\n"),
     ];
