@@ -1,7 +1,7 @@
 //! Calls that are answered where there is memory. A made-up `OutOfMemory` would pass every contract, so tests
 //! ask where a wrong reason could hide behind it.
 
-use crate::answers::{Plain, all_undone, answer};
+use crate::answers::{Plain, all_undone, answer, answer_alone};
 use crate::rehearsal::{all_answered, are_replies, commands};
 use crate::trials::{Trial, passes};
 use std::alloc::Global;
@@ -119,9 +119,20 @@ pub(crate) fn are_answered<R: Threads + Wait + Sync>(
     Ok(is_start_right && is_end_right)
 }
 
+/// Whether the lines are answered as they should be on the calling thread.
+pub(crate) fn are_answered_alone(alloc: Global, engine: &mut Plain) -> Result<bool, Fail> {
+    for (line, wanted) in ROWS {
+        if answer_alone(alloc, engine, line)?.as_slice() != wanted.as_bytes() {
+            return Err(Fail::new(line));
+        }
+    }
+    Ok(true)
+}
+
 #[test]
 fn answered_where_there_is_memory(rt: HostRuntime) -> Result<(), Fail> {
     assert!(rt; passes(&rt, rt.alloc(), Trial::Crowd)?);
     assert!(rt; passes(&rt, rt.alloc(), Trial::Answers)?);
+    assert!(rt; passes(&rt, rt.alloc(), Trial::Alone)?);
     Ok(())
 }

@@ -1,7 +1,7 @@
 //! What is tried on a new engine. One function makes the engine for all tests, since a proof grows with the places at which a
 //! function that has an engine may end.
 
-use crate::ample_memory::{are_answered, is_crowd_answered};
+use crate::ample_memory::{are_answered, are_answered_alone, is_crowd_answered};
 use crate::answers::{Plain, plain};
 use crate::engine::{all_shown, all_slots_told, journaled, recorded, traced};
 use crate::rehearsal::{
@@ -29,6 +29,8 @@ pub(crate) enum Trial {
     Crowd,
     /// Answers where a wrong reason could hide behind `OutOfMemory`.
     Answers,
+    /// The same on the calling thread.
+    Alone,
     /// A rehearsal of ten commands.
     Ten,
     /// One in which a record of each kind is taken back.
@@ -53,6 +55,7 @@ fn passes_on<R: Threads + Wait + Sync>(
         Trial::Journal => journaled(rt, alloc, engine),
         Trial::Crowd => is_crowd_answered(rt, alloc, engine),
         Trial::Answers => are_answered(rt, alloc, engine),
+        Trial::Alone => are_answered_alone(alloc, engine),
         Trial::Ten => ten_rehearsed(rt, alloc, engine),
         Trial::Records => rehearsed_and_applied(rt, alloc, engine, &RECORDED, &TAKEN_BACK),
         Trial::Processes => rehearsed_and_applied(rt, alloc, engine, &HOUSED, &COUNTED),

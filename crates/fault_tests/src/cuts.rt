@@ -1,26 +1,11 @@
 //! Traces that are cut after each byte.
 
-use crate::traces::{BLANKS, KILL, LINE_FAULTS, Row, UNDONE_MOVE, put_lines};
+use crate::traces::{BLANKS, KILL, LINE_FAULTS, Row, UNDONE_MOVE, put_answer, put_text};
 use replay_main::{MemorySink, MemorySource, rehearse_trace, replay};
 use std::alloc::{AllocError, Global};
 use std::sync::Wait;
 use std::test::Fail;
 use std::thread::Threads;
-
-/// What is answered to the first so many bytes of the row's line.
-fn answer_to_cut(row: &Row, len: usize) -> &'static str {
-    let (line, answer, cuts) = *row;
-    if len >= line.len() {
-        return answer;
-    }
-    let mut told = "";
-    for (from, answer) in cuts {
-        if *from <= len {
-            told = *answer;
-        }
-    }
-    told
-}
 
 /// Whether a replay and a rehearsal of a trace write these bytes.
 fn is_answered<R: Threads + Wait + Sync>(
@@ -36,39 +21,44 @@ fn is_answered<R: Threads + Wait + Sync>(
     answer.is_ok() && rehearsed == answer && sink.bytes() == wanted && copied.bytes() == wanted
 }
 
-/// Whether the lines before and the first so many bytes of the row's line are answered by the answers before and the row's.
+/// Whether the lines before and this text behind them are answered by the answers before and this one.
 fn is_cut<R: Threads + Wait + Sync>(
     rt: &R,
     alloc: Global,
     before: &[u8],
     answers: &[u8],
-    row: &Row,
-    len: usize,
+    text: &[u8],
+    answer: &str,
 ) -> Result<bool, AllocError> {
     let mut trace = Vec::from_slice(alloc, before)?;
-    trace.extend_from_slice(row.0.as_bytes().get(..len).unwrap_or(&[]))?;
+    trace.extend_from_slice(text)?;
     let mut wanted = Vec::from_slice(alloc, answers)?;
-    put_lines(&mut wanted, answer_to_cut(row, len))?;
+    put_answer(&mut wanted, answer)?;
     Ok(is_answered(rt, alloc, trace.as_slice(), wanted.as_slice()))
 }
 
-/// How many first bytes of the row's line are answered otherwise, behind the lines before it.
-fn first_cut_of_line<R: Threads + Wait + Sync>(
+/// How many first bytes of the text are answered otherwise behind the lines before, from so many on: all of them by the
+/// second answer, and fewer by the first.
+fn first_cut_of_text<R: Threads + Wait + Sync>(
     rt: &R,
     alloc: Global,
     before: &[u8],
     answers: &[u8],
-    row: &Row,
+    text: &[u8],
+    from: usize,
+    said: (&str, &str),
 ) -> Result<Option<usize>, AllocError> {
-    for len in 0..=row.0.len() {
-        if !is_cut(rt, alloc, before, answers, row, len)? {
+    for len in from..=text.len() {
+        let cut = text.get(..len).unwrap_or(text);
+        let answer = if len < text.len() { said.0 } else { said.1 };
+        if !is_cut(rt, alloc, before, answers, cut, answer)? {
             return Ok(Some(len));
         }
     }
     Ok(None)
 }
 
-/// The first line, and how many of its first bytes, that are answered otherwise; the whole trace counts as a line.
+/// The first row, and how many of its first bytes, that are answered otherwise; or the whole trace.
 fn first_cut<R: Threads + Wait + Sync>(
     rt: &R,
     alloc: Global,
@@ -76,20 +66,25 @@ fn first_cut<R: Threads + Wait + Sync>(
 ) -> Result<Option<(&'static str, usize)>, AllocError> {
     let mut before = Vec::new(alloc);
     let mut answers = Vec::new(alloc);
-    for row in rows {
-        if let Some(len) = first_cut_of_line(
-            rt,
-            alloc,
-            before.as_slice(),
-            answers.as_slice(),
-            row,
-        )? {
-            return Ok(Some((row.0, len)));
+    let mut from = 0usize;
+    let mut told = "";
+    for (text, answer) in rows {
+        let line = text.as_bytes();
+        let line = line.strip_suffix(b";").unwrap_or(line);
+        let said = (told, *answer);
+        if let Some(len) = first_cut_of_text(rt, alloc, &before, &answers, line, from, said)? {
+            return Ok(Some((*text, len)));
         }
-        put_lines(&mut before, row.0)?;
-        put_lines(&mut answers, row.1)?;
+        from = line.len().saturating_add(1);
+        told = *answer;
+        if text.ends_with(';') {
+            put_text(&mut before, text)?;
+            put_answer(&mut answers, answer)?;
+            from = 0;
+            told = "";
+        }
     }
-    if is_answered(rt, alloc, before.as_slice(), answers.as_slice()) {
+    if is_answered(rt, alloc, &before, &answers) {
         return Ok(None);
     }
     Ok(Some(("the whole trace", before.len())))
