@@ -8,6 +8,7 @@
 //! - `engine_memory`: each allocation that a command asks for, refused in turn.
 //! - `undo_memory`: those of `undo_all`.
 //! - `ample_memory`: answers where there is memory, in the cases where a wrong reason could hide behind `OutOfMemory`.
+//! - `gates`: which parts of a kill over a plain meter pass the test hook.
 //! - `rehearsal`: rehearsals in an arena.
 //! - `lines`: lines answered into a buffer.
 #![tactic(auto)]
@@ -20,6 +21,8 @@ mod answers;
 mod engine;
 #[cfg(test)]
 mod engine_memory;
+#[cfg(test)]
+mod gates;
 #[cfg(test)]
 mod lines;
 #[cfg(test)]

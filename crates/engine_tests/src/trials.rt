@@ -4,6 +4,7 @@
 use crate::ample_memory::{are_answered, are_answered_alone, is_crowd_answered};
 use crate::answers::{Plain, plain};
 use crate::engine::{all_shown, all_slots_told, journaled, recorded, traced};
+use crate::gates::all_passed;
 use crate::rehearsal::{
     COUNTED, HOUSED, RECORDED, TAKEN_BACK, refused_and_left, rehearsed_and_applied, ten_rehearsed,
 };
@@ -31,6 +32,8 @@ pub(crate) enum Trial {
     Answers,
     /// The same on the calling thread.
     Alone,
+    /// The parts of kills and of their undos.
+    Parts,
     /// A rehearsal of ten commands.
     Ten,
     /// One in which a record of each kind is taken back.
@@ -56,6 +59,7 @@ fn passes_on<R: Threads + Wait + Sync>(
         Trial::Crowd => is_crowd_answered(rt, alloc, engine),
         Trial::Answers => are_answered(rt, alloc, engine),
         Trial::Alone => are_answered_alone(alloc, engine),
+        Trial::Parts => all_passed(rt, alloc, engine),
         Trial::Ten => ten_rehearsed(rt, alloc, engine),
         Trial::Records => rehearsed_and_applied(rt, alloc, engine, &RECORDED, &TAKEN_BACK),
         Trial::Processes => rehearsed_and_applied(rt, alloc, engine, &HOUSED, &COUNTED),
