@@ -106,3 +106,27 @@ fn long_answers(rt: HostRuntime) -> Result<(), Fail> {
     assert!(rt; are_long_answers(&rt, rt.alloc())?);
     Ok(())
 }
+
+/// Whether a group of 1,500 processes is listed whole.
+fn is_long_text_answered<R: Threads + Wait + Sync>(
+    rt: &R,
+    alloc: Global,
+) -> Result<bool, AllocError> {
+    let trace = numbered(alloc, 2, 1_500, "fork 1 ", "\n", "cat / cgroup.procs\n")?;
+    let mut answers = numbered(alloc, 1, 1_500, "", " ok\n", "")?;
+    let listed = numbered(alloc, 1, 1_500, "| ", "\n", "")?;
+    answers.push_str(listed.as_str())?;
+    let summary = Summary {
+        commands: 1_500,
+        refused: 0,
+    };
+    let (trace, answers) = (trace.as_str().as_bytes(), answers.as_str().as_bytes());
+    Ok(is_replayed(rt, alloc, trace, answers, summary))
+}
+
+/// A text of more than 4,096 bytes.
+#[test]
+fn a_long_text(rt: HostRuntime) -> Result<(), Fail> {
+    assert!(rt; is_long_text_answered(&rt, rt.alloc())?);
+    Ok(())
+}
