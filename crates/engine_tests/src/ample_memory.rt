@@ -1,7 +1,7 @@
 //! Calls that are answered where there is memory. A made-up `OutOfMemory` would pass every contract, so tests
 //! ask where a wrong reason could hide behind it.
 
-use crate::answers::{Plain, all_undone, answer};
+use crate::answers::{Plain, all_undone, answer, answer_alone};
 use crate::rehearsal::{all_answered, are_replies, commands};
 use crate::trials::{Trial, passes};
 use std::alloc::Global;
@@ -89,22 +89,37 @@ fn is_forked<R: Threads + Wait + Sync>(
     Ok(said.as_slice() == b"ok".as_slice())
 }
 
+/// Before the thousand forks.
+const GATHERED: [(&str, &str); 2] = [("mkdir /a", "ok"), ("write /a cgroup.procs 1", "ok")];
+
+/// A kill of all of them and of process 1, and its undo.
+const KILLED: [(&str, &str); 5] = [
+    ("cat /a pids.current", "1001\n"),
+    ("write /a cgroup.kill 1", "ok"),
+    ("cat /a cgroup.events", "populated 0\nfrozen 0\n"),
+    ("undo", "write /a cgroup.kill 1"),
+    ("cat /a pids.current", "1001\n"),
+];
+
 /// Whether a thousand forks, one of them that of process 65,536, are answered each; whether their group's text then
-/// has them all; and whether all are taken back at once.
+/// has them all; whether all are killed and given back, first by a rehearsal; and whether all is taken back at once.
 pub(crate) fn is_crowd_answered<R: Threads + Wait + Sync>(
     rt: &R,
     alloc: Global,
     engine: &mut Plain,
 ) -> Result<bool, Fail> {
+    all_answered(rt, alloc, engine, &GATHERED)?;
     let mut listed = Vec::from_slice(alloc, b"1\n")?;
     for number in 65_036..66_036u32 {
         if !is_forked(rt, alloc, engine, number, &mut listed)? {
             return Ok(false);
         }
     }
-    let text = answer(rt, alloc, engine, "cat / cgroup.procs")?;
-    all_undone(rt, engine, 1000)?;
-    Ok(text == listed)
+    let text = answer(rt, alloc, engine, "cat /a cgroup.procs")?;
+    let is_rehearsed = is_rehearsed(rt, alloc, engine, &KILLED)?;
+    all_answered(rt, alloc, engine, &KILLED)?;
+    all_undone(rt, engine, 1002)?;
+    Ok(is_rehearsed && text == listed)
 }
 
 /// Whether the lines are answered as they should be, and what is rehearsed before and after them.
@@ -119,9 +134,20 @@ pub(crate) fn are_answered<R: Threads + Wait + Sync>(
     Ok(is_start_right && is_end_right)
 }
 
+/// Whether the lines are answered as they should be on the calling thread.
+pub(crate) fn are_answered_alone(alloc: Global, engine: &mut Plain) -> Result<bool, Fail> {
+    for (line, wanted) in ROWS {
+        if answer_alone(alloc, engine, line)?.as_slice() != wanted.as_bytes() {
+            return Err(Fail::new(line));
+        }
+    }
+    Ok(true)
+}
+
 #[test]
 fn answered_where_there_is_memory(rt: HostRuntime) -> Result<(), Fail> {
     assert!(rt; passes(&rt, rt.alloc(), Trial::Crowd)?);
     assert!(rt; passes(&rt, rt.alloc(), Trial::Answers)?);
+    assert!(rt; passes(&rt, rt.alloc(), Trial::Alone)?);
     Ok(())
 }

@@ -85,7 +85,7 @@ fn command_copied(alloc: Global, line: &str) -> Result<Command<Global>, Fail> {
 }
 
 /// A copy of a reply, in the words of a replay.
-fn said_by_a_copy<A: Allocator + Clone>(
+pub(crate) fn said_by_a_copy<A: Allocator + Clone>(
     alloc: Global,
     reply: &Reply<A>,
 ) -> Result<Vec<u8>, AllocError> {
@@ -103,6 +103,13 @@ pub(crate) fn answer<R: Threads + Wait + Sync, A: Allocator + Clone, M: Meter>(
     let command = command_copied(alloc, line)?;
     let reply = engine.apply(rt, 0, &command);
     Ok(said_by_a_copy(alloc, &reply)?)
+}
+
+/// What the engine answers to a line on the calling thread.
+pub(crate) fn answer_alone(alloc: Global, engine: &mut Plain, line: &str) -> Result<Vec<u8>, Fail> {
+    let command = command(alloc, line)?;
+    let reply = engine.apply_alone(0, &command);
+    Ok(said(alloc, &reply)?)
 }
 
 /// Takes back everything, and fails where that is another number of commands.

@@ -1,6 +1,6 @@
 //! Commands by their lines, what the engine answers, and what it keeps of them.
 
-use crate::answers::{Plain, all_undone, answer, command, said};
+use crate::answers::{Plain, all_undone, answer, command, said, said_by_a_copy};
 use crate::trials::{Trial, passes};
 use group_path::GroupPath;
 use interface_files::File;
@@ -134,7 +134,7 @@ fn one_trace(rt: HostRuntime) -> Result<(), Fail> {
     Ok(())
 }
 
-/// What the engine answers to a reading of the file of the group at the path of this text.
+/// What the engine answers to a reading of the file of the group at the path of this text, said from a copy of the reply.
 fn shown<R: Threads + Wait + Sync>(
     rt: &R,
     alloc: Global,
@@ -144,7 +144,7 @@ fn shown<R: Threads + Wait + Sync>(
 ) -> Result<Vec<u8>, Fail> {
     let path = GroupPath::read(alloc, path.as_bytes())?;
     let reply = engine.apply_gated(rt, &OpenGate, 0, &Command::Show { path, file });
-    Ok(said(alloc, &reply)?)
+    Ok(said_by_a_copy(alloc, &reply)?)
 }
 
 /// A path, a file, and what a reading of it is answered.

@@ -1,6 +1,7 @@
 //! Each allocation that a command asks for, refused in turn.
 
 use crate::answers::{answer, command, plain, said};
+use crate::undo_memory::{Ended, undone_or_resumed};
 use linked_list_allocator::LocalHeap;
 use pids_charge::{Meter, PlainMeter};
 use std::alloc::{AllocError, Allocator, Global};
@@ -23,7 +24,7 @@ fn newest<A: Allocator + Clone, M: Meter>(
 
 /// What can be seen of an engine in which no groups but two were made, of 24 letters each: how many commands
 /// are recorded, the newest, and the files of the groups.
-fn seen<R: Threads + Wait + Sync, A: Allocator + Clone, M: Meter>(
+pub(crate) fn seen<R: Threads + Wait + Sync, A: Allocator + Clone, M: Meter>(
     rt: &R,
     alloc: Global,
     engine: &mut Engine<A, M>,
@@ -49,7 +50,7 @@ fn seen<R: Threads + Wait + Sync, A: Allocator + Clone, M: Meter>(
 }
 
 /// An engine over this heap, its meter apart.
-type InHeap<'a> = Engine<&'a LocalHeap, PlainMeter<Global>>;
+pub(crate) type InHeap<'a> = Engine<&'a LocalHeap, PlainMeter<Global>>;
 
 /// A new engine over this heap.
 fn in_heap(alloc: Global, heap: &LocalHeap) -> Result<InHeap<'_>, AllocError> {
@@ -223,88 +224,22 @@ fn each_refused<'a, R: Threads + Wait + Sync>(
     Ok(Some(ROWS.len()))
 }
 
-/// A process ends in a group of a long name, whose text takes more than the fork behind it gives back.
-const ENDED: [&str; 5] = [
-    "mkdir /gggggggggggggggggggggggggggggggggggggggggggggggggggggggggggg",
-    "fork 1 2",
-    "write /gggggggggggggggggggggggggggggggggggggggggggggggggggggggggggg cgroup.procs 2",
-    "exit 2",
-    "fork 1 3",
-];
-
-/// What `undo_all` answers with that many blocks of sixteen bytes left in the heap, after the lines.
-fn undone_with<'a, R: Threads + Wait + Sync>(
-    rt: &R,
-    alloc: Global,
-    heap: &'a LocalHeap,
-    engine: &mut InHeap<'a>,
-    room: usize,
-) -> Result<Result<usize, (usize, AllocError)>, Fail> {
-    for line in ENDED {
-        answer(rt, alloc, engine, line)?;
-    }
-    let _blocks = all_but(alloc, heap, room)?;
-    Ok(engine.undo_all(rt, 0))
-}
-
-/// What `undo_all` answers with that many blocks of sixteen bytes left in the heap. When out of
-/// memory, the newest fork alone is undone, and with memory the other records are.
-fn undone_or_resumed<'a, R: Threads + Wait + Sync>(
-    rt: &R,
-    alloc: Global,
-    heap: &'a LocalHeap,
-    engine: &mut InHeap<'a>,
-    room: usize,
-) -> Result<Option<usize>, Fail> {
-    match undone_with(rt, alloc, heap, engine, room)? {
-        Ok(count) => Ok(Some(count)),
-        Err((1, AllocError)) if is_resumed(rt, alloc, engine)? => Ok(None),
-        Err(_) => Err(Fail::new("a refused allocation left something else")),
-    }
-}
-
-/// Whether process 1 is alone, and the end of process 2 is the newest of four records.
-fn is_fork_alone_undone<'a, R: Threads + Wait + Sync>(
-    rt: &R,
-    alloc: Global,
-    engine: &mut InHeap<'a>,
-) -> Result<bool, Fail> {
-    let before = answer(rt, alloc, engine, "cat / cgroup.procs")?;
-    let newest = newest(alloc, engine)?;
-    Ok(
-        before.as_slice() == b"1\n".as_slice()
-            && engine.depth() == 4
-            && newest.as_slice() == b"exit 2".as_slice(),
-    )
-}
-
-/// Whether process 1 is alone, the end of process 2 is the newest of four records, and all are taken
-/// back then.
-fn is_resumed<'a, R: Threads + Wait + Sync>(
-    rt: &R,
-    alloc: Global,
-    engine: &mut InHeap<'a>,
-) -> Result<bool, Fail> {
-    let is_right = is_fork_alone_undone(rt, alloc, engine)?;
-    let undone = engine.undo_all(rt, 0);
-    let after = seen(rt, alloc, engine)?;
-    let start = seen_at_the_start(rt, alloc)?;
-    Ok(is_right && undone == Ok(4) && after == start)
-}
-
 /// What can be seen of a new engine.
-fn seen_at_the_start<R: Threads + Wait + Sync>(rt: &R, alloc: Global) -> Result<Vec<u8>, Fail> {
+pub(crate) fn seen_at_the_start<R: Threads + Wait + Sync>(
+    rt: &R,
+    alloc: Global,
+) -> Result<Vec<u8>, Fail> {
     let mut engine = plain(alloc)?;
     seen(rt, alloc, &mut engine)
 }
 
 /// What is tried on a new engine over a heap of its own.
 #[derive(Clone, Copy)]
-enum Trial {
+pub(crate) enum Trial {
     /// The rows above, each with each of its allocations refused.
     Commands,
-    /// `undo_all` with that many blocks of sixteen bytes left.
-    Undos(usize),
+    /// `undo_all` behind these lines, with that many blocks of sixteen bytes left.
+    Undos(&'static Ended, usize),
 }
 
 fn tried_on<'a, R: Threads + Wait + Sync>(
@@ -316,12 +251,12 @@ fn tried_on<'a, R: Threads + Wait + Sync>(
 ) -> Result<Option<usize>, Fail> {
     match trial {
         Trial::Commands => each_refused(rt, alloc, heap, engine),
-        Trial::Undos(room) => undone_or_resumed(rt, alloc, heap, engine, room),
+        Trial::Undos(ended, room) => undone_or_resumed(rt, alloc, heap, engine, ended, room),
     }
 }
 
 /// How many rows were answered, or commands undone; None where `undo_all` was refused and has left what it should.
-fn tried<R: Threads + Wait + Sync>(
+pub(crate) fn tried<R: Threads + Wait + Sync>(
     rt: &R,
     alloc: Global,
     trial: Trial,
@@ -334,22 +269,6 @@ fn tried<R: Threads + Wait + Sync>(
 #[test]
 fn each_allocation_of_a_command_refused(rt: HostRuntime) -> Result<(), Fail> {
     assert_eq!(rt; tried(&rt, rt.alloc(), Trial::Commands)?, Some(38));
-    Ok(())
-}
-
-/// Each allocation that `undo_all` asks for refused in turn, as the room grows by a block at a time.
-#[test]
-fn each_allocation_of_undoing_all_refused(rt: HostRuntime) -> Result<(), Fail> {
-    let mut refusals = 0usize;
-    let mut undone = None;
-    for room in 0..100usize {
-        undone = tried(&rt, rt.alloc(), Trial::Undos(room))?;
-        if undone.is_some() {
-            break;
-        }
-        refusals = room + 1;
-    }
-    assert_eq!(rt; (undone, refusals > 0), (Some(5), true));
     Ok(())
 }
 

@@ -6,7 +6,9 @@
 //! - `trials`: what is tried on a new engine.
 //! - `engine`: commands, their texts, and what the engine keeps of them.
 //! - `engine_memory`: each allocation that a command asks for, refused in turn.
+//! - `undo_memory`: those of `undo_all`.
 //! - `ample_memory`: answers where there is memory, in the cases where a wrong reason could hide behind `OutOfMemory`.
+//! - `gates`: which parts of a kill over a plain meter pass the test hook.
 //! - `rehearsal`: rehearsals in an arena.
 //! - `lines`: lines answered into a buffer.
 #![tactic(auto)]
@@ -20,8 +22,12 @@ mod engine;
 #[cfg(test)]
 mod engine_memory;
 #[cfg(test)]
+mod gates;
+#[cfg(test)]
 mod lines;
 #[cfg(test)]
 mod rehearsal;
 #[cfg(test)]
 mod trials;
+#[cfg(test)]
+mod undo_memory;

@@ -1,9 +1,10 @@
 //! What is tried on a new engine. One function makes the engine for all tests, since a proof grows with the places at which a
 //! function that has an engine may end.
 
-use crate::ample_memory::{are_answered, is_crowd_answered};
+use crate::ample_memory::{are_answered, are_answered_alone, is_crowd_answered};
 use crate::answers::{Plain, plain};
 use crate::engine::{all_shown, all_slots_told, journaled, recorded, traced};
+use crate::gates::all_passed;
 use crate::rehearsal::{
     COUNTED, HOUSED, RECORDED, TAKEN_BACK, refused_and_left, rehearsed_and_applied, ten_rehearsed,
 };
@@ -29,6 +30,10 @@ pub(crate) enum Trial {
     Crowd,
     /// Answers where a wrong reason could hide behind `OutOfMemory`.
     Answers,
+    /// The same on the calling thread.
+    Alone,
+    /// The parts of kills and of their undos.
+    Parts,
     /// A rehearsal of ten commands.
     Ten,
     /// One in which a record of each kind is taken back.
@@ -53,6 +58,8 @@ fn passes_on<R: Threads + Wait + Sync>(
         Trial::Journal => journaled(rt, alloc, engine),
         Trial::Crowd => is_crowd_answered(rt, alloc, engine),
         Trial::Answers => are_answered(rt, alloc, engine),
+        Trial::Alone => are_answered_alone(alloc, engine),
+        Trial::Parts => all_passed(rt, alloc, engine),
         Trial::Ten => ten_rehearsed(rt, alloc, engine),
         Trial::Records => rehearsed_and_applied(rt, alloc, engine, &RECORDED, &TAKEN_BACK),
         Trial::Processes => rehearsed_and_applied(rt, alloc, engine, &HOUSED, &COUNTED),

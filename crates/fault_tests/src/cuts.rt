@@ -1,68 +1,11 @@
 //! Traces that are cut after each byte.
 
-use crate::traces::{EVERY_KIND, LINE_ENDS, UNDONE_MOVE, lines};
-use pids_charge::PlainMeter;
+use crate::traces::{BLANKS, KILL, LINE_FAULTS, Row, UNDONE_MOVE, put_answer, put_text};
 use replay_main::{MemorySink, MemorySource, rehearse_trace, replay};
 use std::alloc::{AllocError, Global};
 use std::sync::Wait;
 use std::test::Fail;
 use std::thread::Threads;
-use trace_lines::{Line, Lines, parse_line, put_fault, put_reply};
-use undo_journal::Engine;
-
-/// The answers to the first lines of a trace: so many, each with its text.
-fn answers_to(answers: &[u8], count: u64) -> &[u8] {
-    let mut seen = 0u64;
-    let mut end = 0usize;
-    for line in Lines::of(answers) {
-        if !line.starts_with(b"| ") {
-            seen = seen.saturating_add(1);
-            if seen > count {
-                break;
-            }
-        }
-        end = end.saturating_add(line.len()).saturating_add(1);
-    }
-    answers.get(..end).unwrap_or(answers)
-}
-
-/// Runs one line, puts its answer behind the bytes, and tells whether it has a number.
-fn run_line<R: Threads + Wait + Sync>(
-    rt: &R,
-    alloc: Global,
-    engine: &mut Engine<Global, PlainMeter<Global>>,
-    number: u64,
-    bytes: &mut Vec<u8>,
-    line: &[u8],
-) -> Result<bool, AllocError> {
-    match parse_line(alloc, line)? {
-        Line::Skip => return Ok(false),
-        Line::Fault(fault) => put_fault(bytes, number, fault)?,
-        Line::Run(command) => put_reply(alloc, bytes, number, &engine.apply(rt, 0, &command))?,
-    }
-    Ok(true)
-}
-
-/// What an engine answers to the last line of a text behind all others, and how many of those have a number.
-fn last_answer<R: Threads + Wait + Sync>(
-    rt: &R,
-    alloc: Global,
-    text: &[u8],
-) -> Result<(u64, Vec<u8>), AllocError> {
-    let mut engine = Engine::new(alloc, PlainMeter::new(alloc)?)?;
-    let mut bytes = Vec::new(alloc);
-    let mut before = 0u64;
-    let mut count = 0u64;
-    for line in Lines::of(text) {
-        before = count;
-        bytes.clear();
-        let number = count.saturating_add(1);
-        if run_line(rt, alloc, &mut engine, number, &mut bytes, line)? {
-            count = number;
-        }
-    }
-    Ok((before, bytes))
-}
 
 /// Whether a replay and a rehearsal of a trace write these bytes.
 fn is_answered<R: Threads + Wait + Sync>(
@@ -78,50 +21,85 @@ fn is_answered<R: Threads + Wait + Sync>(
     answer.is_ok() && rehearsed == answer && sink.bytes() == wanted && copied.bytes() == wanted
 }
 
-/// Whether a trace that is cut is answered by the answers to its whole lines, and by that to what is left of the line
-/// behind them.
+/// Whether the lines before and this text behind them are answered by the answers before and this one.
 fn is_cut<R: Threads + Wait + Sync>(
     rt: &R,
     alloc: Global,
-    text: &[u8],
+    before: &[u8],
     answers: &[u8],
+    text: &[u8],
+    answer: &str,
 ) -> Result<bool, AllocError> {
-    let (before, last) = last_answer(rt, alloc, text)?;
-    let mut wanted = Vec::from_slice(alloc, answers_to(answers, before))?;
-    wanted.extend_from_slice(last.as_slice())?;
-    Ok(is_answered(rt, alloc, text, wanted.as_slice()))
+    let mut trace = Vec::from_slice(alloc, before)?;
+    trace.extend_from_slice(text)?;
+    let mut wanted = Vec::from_slice(alloc, answers)?;
+    put_answer(&mut wanted, answer)?;
+    Ok(is_answered(rt, alloc, trace.as_slice(), wanted.as_slice()))
 }
 
-/// How many first bytes of a trace are answered otherwise.
-fn first_cut<R: Threads + Wait + Sync>(
+/// How many first bytes of the text are answered otherwise behind the lines before, from so many on: all of them by the
+/// second answer, and fewer by the first.
+fn first_cut_of_text<R: Threads + Wait + Sync>(
     rt: &R,
     alloc: Global,
-    (trace, answers): (&str, &str),
+    before: &[u8],
+    answers: &[u8],
+    text: &[u8],
+    from: usize,
+    said: (&str, &str),
 ) -> Result<Option<usize>, AllocError> {
-    let bytes = lines(alloc, trace)?;
-    let answers = lines(alloc, answers)?;
-    for end in 0..=bytes.len() {
-        let text = bytes.as_slice().get(..end).unwrap_or(&[]);
-        if !is_cut(rt, alloc, text, answers.as_slice())? {
-            return Ok(Some(end));
+    for len in from..=text.len() {
+        let cut = text.get(..len).unwrap_or(text);
+        let answer = if len < text.len() { said.0 } else { said.1 };
+        if !is_cut(rt, alloc, before, answers, cut, answer)? {
+            return Ok(Some(len));
         }
     }
     Ok(None)
 }
 
-#[test]
-fn cut_after_each_byte(rt: HostRuntime) -> Result<(), Fail> {
-    for row in [UNDONE_MOVE, LINE_ENDS, EVERY_KIND] {
-        assert_eq!(rt; first_cut(&rt, rt.alloc(), row)?, None);
+/// The first row, and how many of its first bytes, that are answered otherwise; or the whole trace.
+fn first_cut<R: Threads + Wait + Sync>(
+    rt: &R,
+    alloc: Global,
+    rows: &[Row],
+) -> Result<Option<(&'static str, usize)>, AllocError> {
+    let mut before = Vec::new(alloc);
+    let mut answers = Vec::new(alloc);
+    let mut from = 0usize;
+    let mut told = "";
+    for (text, answer) in rows {
+        let line = text.as_bytes();
+        let line = line.strip_suffix(b";").unwrap_or(line);
+        let said = (told, *answer);
+        if let Some(len) = first_cut_of_text(rt, alloc, &before, &answers, line, from, said)? {
+            return Ok(Some((*text, len)));
+        }
+        from = line.len().saturating_add(1);
+        told = *answer;
+        if text.ends_with(';') {
+            put_text(&mut before, text)?;
+            put_answer(&mut answers, answer)?;
+            from = 0;
+            told = "";
+        }
     }
-    Ok(())
+    if is_answered(rt, alloc, &before, &answers) {
+        return Ok(None);
+    }
+    Ok(Some(("the whole trace", before.len())))
 }
 
-/// Answers and how many lines they are to.
 #[test]
-fn answers_to_lines(rt: HostRuntime) {
-    let answers: &[u8] = b"1 ok\n| a\n| b\n2 refused syntax\n3 ok\n| c\n";
-    for (count, wanted) in [(0, 0), (1, 13), (2, 30), (3, 39), (4, 39)] {
-        assert_eq!(rt; answers_to(answers, count).len(), wanted);
+fn cut_after_each_byte(rt: HostRuntime) -> Result<(), Fail> {
+    let traces = [
+        UNDONE_MOVE.as_slice(),
+        KILL.as_slice(),
+        LINE_FAULTS.as_slice(),
+        BLANKS.as_slice(),
+    ];
+    for rows in traces {
+        assert_eq!(rt; first_cut(&rt, rt.alloc(), rows)?, None);
     }
+    Ok(())
 }

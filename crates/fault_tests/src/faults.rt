@@ -1,7 +1,7 @@
 //! Each read and each write that fails.
 
 use crate::devices::{Dripping, Endless, Narrow};
-use crate::traces::{EVERY_KIND, LINE_ENDS, UNDONE_MOVE, lines};
+use crate::traces::{KILL, UNDONE_MOVE, whole};
 use replay_main::{MemorySink, ReplayFault, Summary, TRACE_MAX, rehearse_trace, replay};
 use std::alloc::Global;
 use std::sync::Wait;
@@ -63,8 +63,8 @@ fn first_read<R: Threads + Wait + Sync>(
 
 #[test]
 fn each_read_fails(rt: HostRuntime) -> Result<(), Fail> {
-    for (trace, _) in [UNDONE_MOVE, LINE_ENDS, EVERY_KIND] {
-        let trace = lines(rt.alloc(), trace)?;
+    for rows in [UNDONE_MOVE.as_slice(), KILL.as_slice()] {
+        let (trace, _) = whole(rt.alloc(), rows)?;
         for way in WAYS {
             assert_eq!(rt; first_read(&rt, rt.alloc(), way, trace.as_slice()), None);
         }
@@ -109,30 +109,14 @@ fn first_write<R: Threads + Wait + Sync>(
 
 #[test]
 fn each_write_fails(rt: HostRuntime) -> Result<(), Fail> {
-    for (trace, answers) in [UNDONE_MOVE, LINE_ENDS] {
-        let trace = lines(rt.alloc(), trace)?;
-        let answers = lines(rt.alloc(), answers)?;
+    for rows in [UNDONE_MOVE.as_slice(), KILL.as_slice()] {
+        let (trace, answers) = whole(rt.alloc(), rows)?;
         for way in WAYS {
             assert_eq!(rt;
                 first_write(&rt, rt.alloc(), way, trace.as_slice(), answers.as_slice()),
                 None
             );
         }
-    }
-    Ok(())
-}
-
-/// Of the long trace for one worker and for a rehearsal.
-#[test]
-fn each_write_of_many_fails(rt: HostRuntime) -> Result<(), Fail> {
-    let (trace, answers) = EVERY_KIND;
-    let trace = lines(rt.alloc(), trace)?;
-    let answers = lines(rt.alloc(), answers)?;
-    for way in [Way::OneWorker, Way::Rehearsal] {
-        assert_eq!(rt;
-            first_write(&rt, rt.alloc(), way, trace.as_slice(), answers.as_slice()),
-            None
-        );
     }
     Ok(())
 }

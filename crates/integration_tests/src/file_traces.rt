@@ -56,6 +56,18 @@ pub(crate) const EVERY_FILE: (&str, &str) = (
      102 refused pidsmax /k",
 );
 
+/// Lines of text faults and of refusals, with one of each word.
+pub(crate) const LINE_FAULTS: (&str, &str) = (
+    "write a nofile x;write /a foo x;write /a pids.current x;write /a pids.max x;\
+     write /a pids.max 5;cat / pids.max;cat /a cgroup.kill;write / cgroup.kill 1;\
+     write / cgroup.procs 0;# note;bogus;mkdir;mkdir /a/b;mkdir /;where 2;where 1;\
+     cat / cgroup.procs;exit 1;cat / cgroup.procs",
+    "1 refused path;2 refused file;3 refused direction;4 refused value;\
+     5 refused nogroup /a;6 refused nofile;7 refused direction;8 refused nofile;\
+     9 refused value;10 refused syntax;11 refused syntax;12 refused nogroup /a;\
+     13 refused exists;14 refused noprocess 2;15 ok;| 0::/;16 ok;| 1;17 ok;18 ok",
+);
+
 /// Each trace with its answers, as in `traces`: a semicolon stands for a line feed.
 pub(crate) const FILE_TRACES: [(&str, &str); 28] = [
     // A fork that its own group's limit refuses, and what it has counted taken back.
@@ -140,17 +152,7 @@ pub(crate) const FILE_TRACES: [(&str, &str); 28] = [
         "1 ok;2 ok;3 ok;4 ok;5 ok;6 ok;| 0;7 ok;| 1;8 ok;9 ok;| 0;10 ok;| 0;11 ok;\
          | write /b cgroup.kill 1;12 ok;| write /b cgroup.procs 2;13 ok;| 1;14 ok;| 0",
     ),
-    // Lines of text faults and of refusals, with one of each word.
-    (
-        "write a nofile x;write /a foo x;write /a pids.current x;write /a pids.max x;\
-         write /a pids.max 5;cat / pids.max;cat /a cgroup.kill;write / cgroup.kill 1;\
-         write / cgroup.procs 0;# note;bogus;mkdir;mkdir /a/b;mkdir /;where 2;where 1;\
-         cat / cgroup.procs;exit 1;cat / cgroup.procs",
-        "1 refused path;2 refused file;3 refused direction;4 refused value;\
-         5 refused nogroup /a;6 refused nofile;7 refused direction;8 refused nofile;\
-         9 refused value;10 refused syntax;11 refused syntax;12 refused nogroup /a;\
-         13 refused exists;14 refused noprocess 2;15 ok;| 0::/;16 ok;| 1;17 ok;18 ok",
-    ),
+    LINE_FAULTS,
     // The files that the root has, and those that it has not.
     (
         "cat / cgroup.procs;cat / cgroup.stat;cat / cgroup.max.descendants;\

@@ -1,7 +1,7 @@
 //! Traces of many lines and groups, and long lines.
 
 use crate::traces::{is_replayed, replayed};
-use replay_main::{LINE_MAX, Summary};
+use replay_main::Summary;
 use std::alloc::{AllocError, Global};
 use std::sync::Wait;
 use std::test::Fail;
@@ -77,8 +77,8 @@ fn is_long_answered<R: Threads + Wait + Sync>(
 fn long_lines(rt: HostRuntime) -> Result<(), Fail> {
     let rows: [(&[u8], usize, &[u8]); 5] = [
         (b"# ", 9_998, b""),
-        (b"mkdir /", LINE_MAX - 7, b"1 refused path\n"),
-        (b"mkdir /", LINE_MAX - 6, b"1 refused syntax\n"),
+        (b"mkdir /", 8_185, b"1 refused path\n"),
+        (b"mkdir /", 8_186, b"1 refused syntax\n"),
         (b"mkdir /", 255, b"1 ok\n"),
         (b"mkdir /", 256, b"1 refused path\n"),
     ];
@@ -104,5 +104,29 @@ fn are_long_answers<R: Threads + Wait + Sync>(rt: &R, alloc: Global) -> Result<b
 #[test]
 fn long_answers(rt: HostRuntime) -> Result<(), Fail> {
     assert!(rt; are_long_answers(&rt, rt.alloc())?);
+    Ok(())
+}
+
+/// Whether a group of 1,500 processes is listed whole.
+fn is_long_text_answered<R: Threads + Wait + Sync>(
+    rt: &R,
+    alloc: Global,
+) -> Result<bool, AllocError> {
+    let trace = numbered(alloc, 2, 1_500, "fork 1 ", "\n", "cat / cgroup.procs\n")?;
+    let mut answers = numbered(alloc, 1, 1_500, "", " ok\n", "")?;
+    let listed = numbered(alloc, 1, 1_500, "| ", "\n", "")?;
+    answers.push_str(listed.as_str())?;
+    let summary = Summary {
+        commands: 1_500,
+        refused: 0,
+    };
+    let (trace, answers) = (trace.as_str().as_bytes(), answers.as_str().as_bytes());
+    Ok(is_replayed(rt, alloc, trace, answers, summary))
+}
+
+/// A text of more than 4,096 bytes.
+#[test]
+fn a_long_text(rt: HostRuntime) -> Result<(), Fail> {
+    assert!(rt; is_long_text_answered(&rt, rt.alloc())?);
     Ok(())
 }

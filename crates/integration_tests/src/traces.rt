@@ -1,6 +1,6 @@
 //! Traces and their answers, over devices in memory.
 
-use crate::file_traces::FILE_TRACES;
+use crate::file_traces::{FILE_TRACES, LINE_FAULTS};
 use replay_main::{MemorySink, MemorySource, ReplayFault, Summary, rehearse_trace, replay};
 use std::alloc::{AllocError, Global};
 use std::sync::Wait;
@@ -310,6 +310,7 @@ fn counts(rt: HostRuntime) {
         ("", (0, 0)),
         ("1 ok;| 1;2 refused path", (2, 1)),
         ("1 refused nogroup /a;2 ok;| 0::/", (2, 1)),
+        (LINE_FAULTS.1, (18, 14)),
     ];
     for (answers, wanted) in rows {
         assert!(rt; counted(answers) == wanted, "{answers}");

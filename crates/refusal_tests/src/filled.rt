@@ -21,18 +21,22 @@ fn meter_in_1024_bytes(rt: HostRuntime) -> Result<(), Fail> {
 }
 
 /// What process 1 is answered when it forks that process.
-fn fork<'a>(engine: &mut InHeap<'a>, child: Pid) -> Reply<&'a LocalHeap> {
+fn fork<'a, R: Threads + Wait + Sync>(
+    rt: &R,
+    engine: &mut InHeap<'a>,
+    child: Pid,
+) -> Reply<&'a LocalHeap> {
     match Pid::new(1) {
-        Some(parent) => engine.apply_alone(0, &Command::<Global>::Fork { parent, child }),
+        Some(parent) => engine.apply(rt, 0, &Command::<Global>::Fork { parent, child }),
         None => Reply::NothingToUndo,
     }
 }
 
 /// Process 1 forks 2, 3 and so on, until it is out of memory: the process that was refused then.
-fn first_refused(engine: &mut InHeap<'_>) -> Option<Pid> {
+fn first_refused<R: Threads + Wait + Sync>(rt: &R, engine: &mut InHeap<'_>) -> Option<Pid> {
     for number in 2..262_146u32 {
         let child = Pid::new(number)?;
-        match fork(engine, child) {
+        match fork(rt, engine, child) {
             Reply::Done => (),
             Reply::OutOfMemory => return Some(child),
             _ => return None,
@@ -42,8 +46,8 @@ fn first_refused(engine: &mut InHeap<'_>) -> Option<Pid> {
 }
 
 /// Whether the engine answers that there is no such process.
-fn is_absent(engine: &mut InHeap<'_>, pid: Pid) -> bool {
-    let reply = engine.apply_alone(0, &Command::<Global>::Locate(pid));
+fn is_absent<R: Threads + Wait + Sync>(rt: &R, engine: &mut InHeap<'_>, pid: Pid) -> bool {
+    let reply = engine.apply(rt, 0, &Command::<Global>::Locate(pid));
     match &reply {
         Reply::Refused(Refusal::NoProcess(other)) => *other == pid,
         _ => false,
@@ -57,10 +61,10 @@ fn filled<R: Threads + Wait + Sync>(
     heap: &LocalHeap,
 ) -> Result<(usize, bool, Result<usize, (usize, AllocError)>, Option<Pid>), AllocError> {
     let mut engine = Engine::new(heap, PlainMeter::new(heap)?)?;
-    let refused = first_refused(&mut engine);
+    let refused = first_refused(rt, &mut engine);
     let depth = engine.depth();
     let is_absent = match refused {
-        Some(pid) => is_absent(&mut engine, pid),
+        Some(pid) => is_absent(rt, &mut engine, pid),
         None => false,
     };
     let undone = engine.undo_all(rt, 0);

@@ -1,5 +1,6 @@
 //! The command line, what the program does by it, and how it ends.
 
+use crate::devices::Narrow;
 use crate::faults::{ANSWERS, TEXT};
 use replay_main::{LineFault, MemorySink, MemorySource};
 use shell_main::{ProgramFault, ShellFault, exit_status, run_program};
@@ -40,6 +41,20 @@ fn programs(rt: HostRuntime) -> Result<(), Fail> {
         let outcome = run_program(&rt, rt.alloc(), args.as_slice(), &mut reader, &mut writer);
         assert!(rt; outcome == wanted);
         assert_eq!(rt; writer.bytes(), written);
+    }
+    Ok(())
+}
+
+/// A help text for which there is no room, and one that is not flushed.
+#[test]
+fn help_that_is_not_out(rt: HostRuntime) -> Result<(), Fail> {
+    let args = owned(rt.alloc(), &["cgshell", "--help"])?;
+    for (room, flushes) in [(10, 9), (HELP.len(), 0)] {
+        let mut reader = MemorySource::new(TEXT);
+        let mut writer = Narrow::new(rt.alloc(), room, flushes);
+        let outcome = run_program(&rt, rt.alloc(), args.as_slice(), &mut reader, &mut writer);
+        assert!(rt; outcome == Err(ProgramFault::Shell(ShellFault::Write)));
+        assert!(rt; Some(writer.bytes()) == HELP.get(..room));
     }
     Ok(())
 }
