@@ -1,17 +1,18 @@
 //! A desk that is halted.
 
 use crate::calls::{Ask, Row, are_answered, is_closed_over, opened};
-use crate::works::{Work, is_worked};
+use crate::works::{FAR_TURNS, SLEEP, Work, is_worked};
 use sessions::{RunFault, Session};
 use std::alloc::{AllocError, Global};
 use std::sync::Wait;
 use std::test::Fail;
 use std::thread::Threads;
 
-/// A call that waits for its turn, and one that does not.
-const CALLS: [Row; 2] = [
-    (1, Some(5), Ask::Locate(1), Err(RunFault::Halted)),
+/// A call that does not wait, and calls that wait for their turn.
+const CALLS: [Row; 3] = [
     (0, None, Ask::Locate(1), Err(RunFault::Halted)),
+    (1, Some(5), Ask::Locate(1), Err(RunFault::Halted)),
+    (1, Some(u64::MAX), Ask::Locate(1), Err(RunFault::Halted)),
 ];
 
 /// Halts the desk by the first of its sessions.
@@ -21,8 +22,8 @@ fn halt<R: Wait>(rt: &R, sessions: &mut [Session]) {
     }
 }
 
-/// Whether both calls are answered on a halted desk, and it is closed.
-fn are_both_answered<R: Threads + Wait + Sync>(rt: &R, alloc: Global) -> Result<bool, AllocError> {
+/// Whether the calls are answered on a halted desk, and it is closed.
+fn are_all_answered<R: Threads + Wait + Sync>(rt: &R, alloc: Global) -> Result<bool, AllocError> {
     let (desk, mut sessions) = opened(alloc, 2)?;
     halt(rt, sessions.as_mut_slice());
     let is_right = are_answered(rt, alloc, sessions.as_mut_slice(), &CALLS);
@@ -30,17 +31,24 @@ fn are_both_answered<R: Threads + Wait + Sync>(rt: &R, alloc: Global) -> Result<
     Ok(is_right && is_closed)
 }
 
-/// A call that waits for its turn, and one that does not, are answered; the desk can be closed.
+/// Each call on a halted desk is answered, and the desk can be closed.
 #[test]
 fn halted_desk(rt: HostRuntime) -> Result<(), Fail> {
-    assert!(rt; are_both_answered(&rt, rt.alloc())?);
+    assert!(rt; are_all_answered(&rt, rt.alloc())?);
     Ok(())
 }
 
-/// A call that sleeps until its turn is woken.
+/// Whether a session that waits for this turn is woken where another halts the desk.
+fn is_woken<R: Threads + Wait + Sync>(rt: &R, alloc: Global, turn: u64) -> bool {
+    let works = [(0, Work::UndoAt(turn)), (SLEEP, Work::UndoAndHalt)];
+    let dids = [(0, Some(RunFault::Halted)), (1, None)];
+    is_worked(rt, alloc, 2, &works, &dids, &[1])
+}
+
+/// A session that waits for its turn is woken by a halt, also at the greatest turn.
 #[test]
 fn halt_wakes(rt: HostRuntime) {
-    let works = [(0, Work::UndoAt(5)), (100_000, Work::UndoAndHalt)];
-    let dids = [(0, Some(RunFault::Halted)), (1, None)];
-    assert!(rt; is_worked(&rt, rt.alloc(), 2, &works, &dids, &[1]));
+    for turn in FAR_TURNS {
+        assert!(rt; is_woken(&rt, rt.alloc(), turn), "at turn {turn}");
+    }
 }

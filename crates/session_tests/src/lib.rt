@@ -9,6 +9,7 @@
 //!
 //! - `receipts`: a worked log of three entries, and each way of altering its receipts.
 //! - `halting`: a halted desk.
+//! - `closing`: a desk that is closed while a session waits.
 //! - `threads`: sessions in threads of their own, in contention and by turns.
 //! - `waking`: eight sessions that sleep for their turns.
 //! - `racing`: a close beside a command, a halt beside a turn, and a session that is dropped between its turns.
@@ -19,6 +20,8 @@
 
 #[cfg(test)]
 mod calls;
+#[cfg(test)]
+mod closing;
 #[cfg(test)]
 mod halting;
 #[cfg(test)]

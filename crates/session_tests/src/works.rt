@@ -40,6 +40,12 @@ pub(crate) fn pause(times: u32) {
     }
 }
 
+/// So many pauses, after which a session that waits sleeps.
+pub(crate) const SLEEP: u32 = 100_000;
+
+/// Turns that no log of these tests reaches, the greatest among them.
+pub(crate) const FAR_TURNS: [u64; 3] = [5, u64::MAX - 1, u64::MAX];
+
 /// How often a session undoes by turns, forks, and contends.
 const TURNS: u64 = 500;
 

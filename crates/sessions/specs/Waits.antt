@@ -1,32 +1,44 @@
--- The turns that sessions sleep for: which of them have come, and which are slept for still.
-use Rattle.std.specs.Prelude.{◌≡◌, ◌↔◌, ℕ, ◌-◌, ◌^◌, ◌<◌, ◌≤◌, List, Bool, true, false, Option, Some, None, IsTrue, slice_index_or, vec_len}
+-- The turns that sessions wait for: which of them have come, and which are waited for still.
+use Rattle.std.specs.Prelude.{◌≡◌, ◌↔◌, ℕ, ◌<◌, ◌≤◌, List, Bool, true, false, Option, Some, None, IsTrue, slice_index_or, vec_len}
 use Rattle.sessions.specs.declared.book.Book.{Book}
 use Rattle.sessions.specs.declared.hall.Hall.{Hall}
 
--- in place of a turn where nobody sleeps
-abbrev pub no_turn : ℕ
-no_turn = 2 ^ 64 - 1
+abbrev pub reached_in : Option Book → Bool → Option ℕ
+reached_in (Some b) false = Some (vec_len b.log)
+reached_in (Some b) true = None
+reached_in None halted = None
 
-abbrev pub reached_in : Option Book → Bool → ℕ
-reached_in (Some b) true = no_turn
-reached_in (Some b) false = vec_len b.log
-reached_in None halted = no_turn
-
--- the length of the log; above every turn where the desk is halted or closed
-abbrev pub reached_of : Hall → ℕ
+-- the length of the log; none where the desk is halted or closed
+abbrev pub reached_of : Hall → Option ℕ
 reached_of h = reached_in h.book h.is_halted
 
--- somebody sleeps for this turn, and it has come
-abbrev pub IsDue : ℕ → ℕ → Type 0
-IsDue reached turn = (turn ≤ reached) × (turn < no_turn)
+-- the log is as long as the turn, or nobody is served any more
+abbrev pub HasCome : Option ℕ → ℕ → Type 0
+HasCome (Some len) turn = turn ≤ len
+HasCome None turn = Unit {0}
+
+-- somebody waits for a turn here, and it has come
+abbrev pub IsDue : Option ℕ → Option ℕ → Type 0
+IsDue reached (Some turn) = HasCome reached turn
+IsDue reached None = ⊥
 
 -- of a turn that has come nothing is left, and any other stays
-abbrev pub IsLeft : ℕ → ℕ → ℕ → Type 0
-IsLeft reached before after = (before ≤ reached → after ≡ no_turn) × (reached < before → after ≡ before)
+abbrev pub IsLeft : Option ℕ → Option ℕ → Option ℕ → Type 0
+IsLeft reached before after = (IsDue reached before → after ≡ None) × ((IsDue reached before → ⊥) → after ≡ before)
+
+-- whoever waits for this turn is woken once it has come: a turn is noted, and no later one
+abbrev pub IsNoted : ℕ → Option ℕ → Type 0
+IsNoted turn (Some noted) = noted ≤ turn
+IsNoted turn None = ⊥
+
+-- a turn that was noted still is, or an earlier one
+abbrev pub IsNoLater : Option ℕ → Option ℕ → Type 0
+IsNoLater (Some turn) after = IsNoted turn after
+IsNoLater None after = Unit {0}
 
 -- at each of the eight places whether the turn there is due
-abbrev pub AreDue : ℕ → List ℕ → List Bool → Type 0
-AreDue reached before due = (at : ℕ) → at < 8 → IsTrue (slice_index_or due at false) ↔ IsDue reached (slice_index_or before at 0)
+abbrev pub AreDue : Option ℕ → List (Option ℕ) → List Bool → Type 0
+AreDue reached before due = (at : ℕ) → at < 8 → IsTrue (slice_index_or due at false) ↔ IsDue reached (slice_index_or before at None)
 
-abbrev pub AreLeft : ℕ → List ℕ → List ℕ → Type 0
-AreLeft reached before after = (at : ℕ) → at < 8 → IsLeft reached (slice_index_or before at 0) (slice_index_or after at 0)
+abbrev pub AreLeft : Option ℕ → List (Option ℕ) → List (Option ℕ) → Type 0
+AreLeft reached before after = (at : ℕ) → at < 8 → IsLeft reached (slice_index_or before at None) (slice_index_or after at None)

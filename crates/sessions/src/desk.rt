@@ -40,7 +40,7 @@ impl Desk {
         let hall = Hall {
             book: Some(Book::new(alloc)?),
             is_halted: false,
-            waits: [u64::MAX; 8],
+            waits: [None; 8],
         };
         let shared = Arc::new(alloc, Shared::new(hall))?;
         Ok(Desk {

@@ -1,6 +1,6 @@
 //! What lies behind the lock, and one call of a session there.
 
-ghost use Rattle.std.specs.Prelude.{◌≡◌, ◌↔◌, ◌≤◌, ◌%◌, ℕ, IsTrue, IfOk, IfErr, OnErr, Some, None, slice_index_or, true};
+ghost use Rattle.std.specs.Prelude.{◌≡◌, ◌↔◌, ◌≤◌, ◌%◌, ℕ, IsTrue, IfOk, IfErr, IfSome, OnErr, Some, None, slice_index_or, true};
 ghost use Rattle.flat_model.specs.Audit.{AreEntries};
 ghost use Rattle.undo_journal.specs.Meaning.{command_of};
 ghost use Rattle.sessions.specs.Faults.{IsFirstFault};
@@ -13,7 +13,7 @@ ghost use Rattle.sessions.specs.Served.{
   Served,
   log_in,
 };
-ghost use Rattle.sessions.specs.Waits.{reached_of, AreDue, AreLeft, IsDue, IsLeft};
+ghost use Rattle.sessions.specs.Waits.{reached_of, AreDue, AreLeft, IsDue, IsLeft, IsNoLater, IsNoted};
 
 use crate::auditing::audit;
 use crate::book::Book;
@@ -28,8 +28,8 @@ use undo_journal::Command;
 pub(crate) struct Hall {
     pub(crate) book: Option<Book>,
     pub(crate) is_halted: bool,
-    /// For each session's number the least turn that is waited for there, or the greatest number.
-    pub(crate) waits: [u64; 8],
+    /// For each session's number the least turn that is waited for there, if any.
+    pub(crate) waits: [Option<u64>; 8],
 }
 
 impl Hall {
@@ -47,25 +47,26 @@ impl Hall {
     pub(crate) fn must_wait(&mut self, session: u8, turn: u64) -> bool
         ensures early { IsTrue result ↔ IsEarly self.new turn }
         ensures same { IsBut self.old self.new }
-        ensures noted { IsTrue result → slice_index_or self.new.waits (session % 8) 0 ≤ turn }
-        ensures others { (at : ℕ) → slice_index_or self.new.waits at 0
-            ≤ slice_index_or self.old.waits at 0 }
+        ensures noted { IsTrue result
+            → IsNoted turn (slice_index_or self.new.waits (session % 8) None) }
+        ensures others { (at : ℕ) → IsNoLater (slice_index_or self.old.waits at None)
+            (slice_index_or self.new.waits at None) }
     {
         let is_early = self.is_early(turn);
         if is_early {
             let at = usize::from(session % 8);
-            self.waits[at] = self.waits[at].min(turn);
+            self.waits[at] = Some(least_of(self.waits[at], turn));
         }
         is_early
     }
 
-    /// The length of the log, or the greatest number where the desk is halted or closed.
-    fn reached(&self) -> u64
+    /// The length of the log; none where the desk is halted or closed.
+    fn reached(&self) -> Option<u64>
         ensures { result ≡ reached_of self.now }
     {
         match &self.book {
-            Some(book) if !self.is_halted => book.log.len() as u64,
-            _ => u64::MAX,
+            Some(book) if !self.is_halted => Some(book.log.len() as u64),
+            _ => None,
         }
     }
 
@@ -169,30 +170,45 @@ impl Hall {
     }
 }
 
-/// The signs at which a turn is slept for that is reached; nobody sleeps there for it any more.
-fn due_of(waits: &mut [u64; 8], reached: u64) -> [bool; 8]
+/// The lesser of this turn and the one that is noted, if any.
+fn least_of(noted: Option<u64>, turn: u64) -> u64
+    ensures this { result ≤ turn }
+    ensures noted { IfSome noted (λ t. result ≤ t) }
+{
+    match noted {
+        Some(least) => least.min(turn),
+        None => turn,
+    }
+}
+
+/// The places at which a turn is waited for that has come; nobody waits there for it any more.
+fn due_of(waits: &mut [Option<u64>; 8], reached: Option<u64>) -> [bool; 8]
     ensures due { AreDue reached waits.old result }
     ensures left { AreLeft reached waits.old waits.new }
 {
     let mut due = [false; 8];
     for at in 0..8 {
-        let turn = waits[at];
-        due[at] = is_due(turn, reached);
-        waits[at] = left_of(turn, reached);
+        let noted = waits[at];
+        due[at] = is_due(noted, reached);
+        waits[at] = left_of(noted, reached);
     }
     due
 }
 
-/// Whether somebody sleeps for this turn, and it is reached.
-fn is_due(turn: u64, reached: u64) -> bool
-    ensures { IsTrue result ↔ IsDue reached turn }
+/// Whether a turn is noted and has come: the log is as long, or nobody is served any more.
+fn is_due(noted: Option<u64>, reached: Option<u64>) -> bool
+    ensures { IsTrue result ↔ IsDue reached noted }
 {
-    turn <= reached && turn < u64::MAX
+    match (noted, reached) {
+        (Some(turn), Some(len)) => turn <= len,
+        (Some(_), None) => true,
+        (None, _) => false,
+    }
 }
 
-/// The turn, or the greatest number where it is reached.
-fn left_of(turn: u64, reached: u64) -> u64
-    ensures { IsLeft reached turn result }
+/// The turn that is noted, if it has not come.
+fn left_of(noted: Option<u64>, reached: Option<u64>) -> Option<u64>
+    ensures { IsLeft reached noted result }
 {
-    if turn <= reached { u64::MAX } else { turn }
+    if is_due(noted, reached) { None } else { noted }
 }
