@@ -2,7 +2,10 @@
 
 ghost use Rattle.std.specs.Prelude.{◌≤◌};
 
-/// Called by the thread that does a part, at its start. The parts are numbered from 1. It may keep the thread waiting.
+/// Called by the thread that does a part, at its start. It may keep the thread waiting.
+///
+/// The parts are numbered from 1. A settlement has at most 8 of them. A replay has three phases with
+/// one part for each of its 1 to 8 workers, so the greatest number is 24.
 pub trait Gate: Sync {
     fn pass(&self, part: u8)
         requires from_one { 1 ≤ part }
