@@ -63,7 +63,7 @@ const AFTERWARDS: [(&str, &str); 8] = [
 ];
 
 /// Whether a rehearsal of the lines replies what stands beside them.
-fn is_rehearsed<R: Threads + Wait + Sync>(
+pub(crate) fn is_rehearsed<R: Threads + Wait + Sync>(
     rt: &R,
     alloc: Global,
     engine: &Plain,

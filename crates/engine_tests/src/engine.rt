@@ -1,5 +1,6 @@
 //! Commands by their lines, what the engine answers, and what it keeps of them.
 
+use crate::ample_memory::is_rehearsed;
 use crate::answers::{Plain, all_undone, answer, command, said, said_by_a_copy};
 use crate::trials::{Trial, passes};
 use group_path::GroupPath;
@@ -233,6 +234,13 @@ fn is_slot_told<R: Threads + Wait + Sync>(
     Ok(said.as_slice() == wanted.as_bytes())
 }
 
+/// What is rehearsed where there are as many groups as there may be.
+const FULL: [(&str, &str); 3] = [
+    ("undo", "mkdir /g1023"),
+    ("mkdir /h", "ok"),
+    ("mkdir /i", "noslot"),
+];
+
 pub(crate) fn all_slots_told<R: Threads + Wait + Sync>(
     rt: &R,
     alloc: Global,
@@ -243,7 +251,7 @@ pub(crate) fn all_slots_told<R: Threads + Wait + Sync>(
             return Ok(false);
         }
     }
-    Ok(engine.depth() == SLOTS)
+    Ok(engine.depth() == SLOTS && is_rehearsed(rt, alloc, engine, &FULL)?)
 }
 
 #[test]
@@ -279,13 +287,18 @@ fn is_taken_back<R: Threads + Wait + Sync>(rt: &R, engine: &mut Plain) -> bool {
     all & engine.newest().is_none()
 }
 
+/// What is rehearsed behind all of them.
+const DEEP: [(&str, &str); 1] = [("undo", "write / cgroup.max.depth 7")];
+
 pub(crate) fn journaled<R: Threads + Wait + Sync>(
     rt: &R,
     alloc: Global,
     engine: &mut Plain,
 ) -> Result<bool, Fail> {
     let command = command(alloc, "write / cgroup.max.depth 7")?;
-    Ok(is_recorded(rt, engine, &command) && is_taken_back(rt, engine))
+    let is_recorded = is_recorded(rt, engine, &command);
+    let is_rehearsed = is_rehearsed(rt, alloc, engine, &DEEP)?;
+    Ok(is_recorded && is_rehearsed && is_taken_back(rt, engine))
 }
 
 /// More than 65,536 commands are recorded, and each is taken back.
