@@ -1,7 +1,4 @@
-/* Makhloeum for C: a hierarchy of process groups in memory, asked line by line.
- *
- * A handle holds one engine: the groups, the processes and a journal that takes commands back. A line is a line of the
- * trace language (docs/FORMATS.md, "Trace"), and its answer the bytes that a replay writes for it ("Replies").
+/* Makhloeum for C: a hierarchy of process groups in memory that answers as the kernel's cgroup files do.
  *
  *     mk_handle h = {0};
  *     mk_info info;
@@ -11,14 +8,20 @@
  *         fwrite(out, 1, info.len, stdout);
  *     mk_close(&h);
  *
- * - A handle is for one thread at a time. Two calls on one handle never overlap: put a lock round them, or keep the handle
- *   on one thread. Two handles share nothing. No proof speaks of a handle that goes from one thread to another.
- * - No call starts a thread, takes a lock or waits. None is for a signal handler.
- * - Memory is the program's malloc, realloc and free. Where one of them gives none, the call answers
- *   MK_OUT_OF_MEMORY, and nothing has changed but perhaps bytes of the caller's buffer.
- * - No pointer is null, also where its length is 0. The line, the path, the buffer, the handle and the info of one call
- *   do not overlap.
- * - Link with libmakhloeum.a, or with libmakhloeum.so (bindings/build makes both).
+ * A handle names one engine: the groups, the processes and a journal that can undo commands. A line is a line of the trace
+ * language, and its answer the bytes that a replay writes for it (docs/FORMATS.md, "Trace" and "Replies").
+ *
+ * - Threads may share a handle. Each call holds the lock of its engine from beginning to end, so calls take effect one
+ *   after the other. Two handles have two locks.
+ * - A call from a signal handler that interrupted a call of the same thread returns MK_BUSY and does nothing. Elsewhere in
+ *   a handler no call is safe, since calls use malloc. A handler must not jump out of a call.
+ * - A child of fork has a copy of each engine as it was between two calls. The fork waits for calls that are running. A
+ *   handler that interrupted a call must not fork.
+ * - Memory comes from malloc. If there is none, the call returns MK_OUT_OF_MEMORY, and nothing has changed but perhaps
+ *   bytes of the caller's buffer. The memory of a lock, some 100 bytes, is kept for the next mk_open.
+ * - No pointer is null, even if its length is 0. The line, the path, the buffer, the handle and the info of one call do not
+ *   overlap.
+ * - Link with libmakhloeum.a or libmakhloeum.so (bindings/build makes both), and with -pthread.
  */
 #ifndef MAKHLOEUM_H
 #define MAKHLOEUM_H
@@ -32,18 +35,23 @@
 extern "C" {
 #endif
 
-/* Start it as {0}: no engine. Its fields are the library's: never write one, and never copy a handle, since two copies
-   would free one engine twice. */
+/* The version of this header. mk_version returns that of the library. */
+#define MK_VERSION "1.0.0"
+const char *mk_version(void);
+
+/* Initialize it with {0}: no engine. The fields are the library's. A copy of an open handle names the same engine. */
 typedef struct {
-    void *at;
-    bool full;
+    void *slot;
+    uint64_t serial;
 } mk_handle;
 
-/* What a call tells beside its status. All are 0 where a line below does not say otherwise. */
+/* What a call returns beside its status. A field is 0 unless its line says otherwise. */
 typedef struct {
-    size_t len;    /* how many bytes at the buffer's start are the answer, or the names */
+    size_t len;    /* how many bytes of the buffer are the answer or the names */
     size_t count;  /* how many names these are */
-    uint32_t code; /* with MK_REFUSED and MK_FAULT: which refusal, or which fault */
+    size_t needed; /* with MK_TOO_SMALL: a buffer of so many bytes is large enough for this call in this state */
+    uint32_t code; /* with MK_REFUSED and MK_FAULT: which refusal or fault */
+    int32_t error; /* the errno for status and code: see mk_status_errno */
 } mk_info;
 
 /* The status of a call. */
@@ -54,7 +62,8 @@ enum {
     MK_TOO_SMALL = 3,     /* the buffer is too small; nothing has changed */
     MK_OUT_OF_MEMORY = 4, /* out of memory; nothing has changed */
     MK_SKIPPED = 5,       /* a comment, or a line without words: it has no answer; nothing has changed */
-    MK_CLOSED = 6         /* the handle has no engine (for mk_open: it has one); nothing has changed */
+    MK_CLOSED = 6,        /* the handle has no engine (for mk_open: it has one); nothing has changed */
+    MK_BUSY = 7           /* called by a signal handler that interrupted a call of this thread; nothing has changed */
 };
 
 /* The code of a refusal (MK_REFUSED): why the state refuses the command. */
@@ -71,7 +80,7 @@ enum {
     MK_PID_IN_USE = 10,
     MK_PIDS_MAX = 11,
     MK_NO_FILE = 12,
-    MK_NOT_READABLE = 13,
+    MK_NOT_READABLE = 13, /* not in an answer: a read of cgroup.kill is MK_DIRECTION */
     MK_NOTHING_TO_UNDO = 14
 };
 
@@ -84,46 +93,77 @@ enum {
     MK_VALUE = 36
 };
 
+/* What is wrong with a text that is no path: see mk_path_fault. */
+enum {
+    MK_NOT_ROOTED = 1,
+    MK_PATH_TOO_LONG = 2,
+    MK_TOO_DEEP = 3,
+    MK_EMPTY_NAME = 4,
+    MK_BAD_BYTE = 5,
+    MK_NAME_TOO_LONG = 6,
+    MK_DOT_NAME = 7,
+    MK_RESERVED = 8
+};
+
 /* A buffer of so many bytes is never too small for the children of a group. */
 enum { MK_CHILDREN_MAX = 1024 * 256 };
 
-/* Nor is one of so many for all groups: a line with a path has 8,192 bytes at most. */
-enum { MK_GROUPS_MAX = 1025 * 8192 };
+/* Nor is one of so many for all groups: a path has 4,095 bytes at most. */
+enum { MK_GROUPS_MAX = 1025 * 4096 };
 
-/* Makes an engine in a handle that has none: the root alone, and process 1 in it. MK_DONE, MK_OUT_OF_MEMORY, or
-   MK_CLOSED where the handle has one. */
+/* Nor is one of so many for the answer to a line: at most 4,194,303 lines of a pid behind the first line. */
+enum { MK_ANSWER_MAX = 32 + 10 * 4194303 };
+
+/* Makes an engine in a handle that has none: the root alone, and process 1 in it. MK_DONE, MK_OUT_OF_MEMORY, MK_BUSY, or
+   MK_CLOSED if the handle has one. */
 uint32_t mk_open(mk_handle *h);
 
-/* Frees the engine. The handle has none then, and may be opened anew. MK_DONE, or MK_CLOSED where it had none. */
+/* Waits for the call that is running, and frees the engine. Every later call returns MK_CLOSED until the handle is opened
+   again. MK_DONE, MK_BUSY, or MK_CLOSED if there was no engine. */
 uint32_t mk_close(mk_handle *h);
 
-/* Answers one line, given without its line feed, as the number-th of a trace. MK_DONE, MK_REFUSED and MK_FAULT: info->len
-   bytes of out are the answer, its line feed included. Every other status leaves the engine. */
+/* Answers one line, given without its line feed, as the number-th of a trace. With MK_DONE, MK_REFUSED and MK_FAULT the
+   first info->len bytes of out are the answer, its line feed included. Every other status leaves the engine unchanged:
+   after MK_TOO_SMALL ask again with info->needed bytes. */
 uint32_t mk_line(mk_handle *h, uint64_t number, const uint8_t *line, size_t line_len, uint8_t *out, size_t out_size,
                  mk_info *info);
 
-/* The same of the line "undo": takes the newest recorded command back. */
+/* The same as the line "undo": undoes the newest recorded command. The answer's second line is that command. With
+   MK_TOO_SMALL nothing has been undone. */
 uint32_t mk_undo(mk_handle *h, uint64_t number, uint8_t *out, size_t out_size, mk_info *info);
 
-/* How many recorded commands can be taken back; 0 without an engine. MK_DONE or MK_CLOSED. */
+/* How many recorded commands can be undone; 0 without an engine. MK_DONE, MK_CLOSED or MK_BUSY. */
 uint32_t mk_depth(mk_handle *h, size_t *depth);
 
 /* The names of the groups one name below the one at the path, in the order of their bytes, each ended by a zero byte:
-   info->count names in info->len bytes. MK_REFUSED with MK_NO_GROUP where there is no such group, and MK_FAULT with
-   MK_PATH where the text is no path; then nothing is written. */
+   info->count names in info->len bytes. MK_DONE; MK_REFUSED with MK_NO_GROUP if there is no such group; MK_FAULT with
+   MK_PATH if the text is no path; MK_TOO_SMALL, MK_OUT_OF_MEMORY, MK_CLOSED, MK_BUSY. Only MK_DONE returns names. */
 uint32_t mk_children(mk_handle *h, const uint8_t *path, size_t path_len, uint8_t *out, size_t out_size, mk_info *info);
 
 /* The paths of all groups, the root's first, and behind each group's those of the groups below it, child by child in the
-   order of their names' bytes; each is ended by a zero byte: info->count paths in info->len bytes. Costs a descent for each
-   group. */
+   order of their names' bytes; each is ended by a zero byte: info->count paths in info->len bytes. MK_DONE, MK_TOO_SMALL,
+   MK_OUT_OF_MEMORY, MK_CLOSED or MK_BUSY. Costs a descent for each group. */
 uint32_t mk_groups(mk_handle *h, uint8_t *out, size_t out_size, mk_info *info);
 
-/* Whether there is such a group: MK_DONE where there is, MK_REFUSED with MK_NO_GROUP where there is not, MK_FAULT with
-   MK_PATH where the text is no path. */
+/* Whether there is such a group: MK_DONE if there is, MK_REFUSED with MK_NO_GROUP if not, MK_FAULT with MK_PATH if the text
+   is no path; MK_OUT_OF_MEMORY, MK_CLOSED, MK_BUSY. */
 uint32_t mk_has_group(mk_handle *h, const uint8_t *path, size_t path_len, mk_info *info);
 
+/* What is wrong with a text that is no path, and where: 0 if it is a path. *position is the place, from 0, of the byte at
+   fault, of the first byte of the name at fault, or of the first byte too many. The order is that of docs/FORMATS.md,
+   "Paths". */
+uint32_t mk_path_fault(const uint8_t *path, size_t path_len, size_t *position);
+
+/* The word of the answer for a code, as "exists" for MK_EXISTS; "ok" for 0, NULL for a number that is no code. */
+const char *mk_name(uint32_t code);
+
+/* A sentence without capital and full stop: for a code, a status, and a fault of mk_path_fault; NULL for other numbers. */
+const char *mk_message(uint32_t code);
+const char *mk_status_message(uint32_t status);
+const char *mk_path_message(uint32_t fault);
+
 /* The errno that the kernel gives for a code, as the table of docs/FORMATS.md ("Codes for C") has it in its first
-   column of errno; 0 for 0. Where the kernel's differs by case, that table has both. */
+   column of errno; 0 for 0. If the kernel's differs by case, that table has both. */
 static inline int mk_errno(uint32_t code) {
     switch (code) {
     case 0:
@@ -151,6 +191,26 @@ static inline int mk_errno(uint32_t code) {
         return ENODATA;
     default:
         return EINVAL;
+    }
+}
+
+/* The errno for a status with its code: mk_errno of the code for MK_REFUSED and MK_FAULT, 0 for MK_DONE and MK_SKIPPED,
+   ERANGE for MK_TOO_SMALL, ENOMEM, EBADF for MK_CLOSED, EDEADLK for MK_BUSY. */
+static inline int mk_status_errno(uint32_t status, uint32_t code) {
+    switch (status) {
+    case MK_REFUSED:
+    case MK_FAULT:
+        return mk_errno(code);
+    case MK_TOO_SMALL:
+        return ERANGE;
+    case MK_OUT_OF_MEMORY:
+        return ENOMEM;
+    case MK_CLOSED:
+        return EBADF;
+    case MK_BUSY:
+        return EDEADLK;
+    default:
+        return 0;
     }
 }
 

@@ -11,98 +11,47 @@
 //	h.Write("/a", "cgroup.procs", "2")
 //	text, err := h.Read("/a", "pids.current") // "1\n"
 //	err = h.Rmdir("/a")                       // errors.Is(err, syscall.EBUSY)
-//	taken, err := h.Undo()                    // "write /a cgroup.procs 2"
+//	undone, err := h.Undo()                   // "write /a cgroup.procs 2"
 //
-// It links bindings/out/libmakhloeum.a, which bindings/build makes. A refusal is a *Refused; it answers errors.Is for the
-// errno that the kernel gives for it (docs/FORMATS.md, "Codes for C").
+// A refusal is a *Refused: errors.Is finds the errno that the kernel gives for it (docs/FORMATS.md, "Codes for C"), and
+// fs.ErrExist and fs.ErrNotExist. Every other error is ErrClosed, ErrBusy or syscall.ENOMEM with the command before it.
+//
+// The package links the archive libmakhloeum.a beside it, which bindings/build puts there. With the build tag
+// makhloeum_pkgconfig it links the library that pkg-config names.
 package makhloeum
 
-/*
-#cgo CFLAGS: -I${SRCDIR}/../c
-#cgo LDFLAGS: ${SRCDIR}/../out/libmakhloeum.a
-#include "makhloeum.h"
-*/
+// #include "makhloeum.h"
 import "C"
 
 import (
-	"errors"
 	"fmt"
 	"runtime"
 	"strconv"
 	"strings"
+	"sync"
 	"syscall"
 	"unsafe"
 )
 
-// ErrClosed is the answer of every call on a hierarchy that was closed.
-var ErrClosed = errors.New("makhloeum: the hierarchy is closed")
-
-// Code says why a command was refused.
-type Code uint32
-
-// The codes of the header.
-const (
-	Exists        Code = C.MK_EXISTS
-	NoGroup       Code = C.MK_NO_GROUP
-	Descendants   Code = C.MK_DESCENDANTS
-	Depth         Code = C.MK_DEPTH
-	NoSlot        Code = C.MK_NO_SLOT
-	RootFixed     Code = C.MK_ROOT_FIXED
-	HasChildren   Code = C.MK_HAS_CHILDREN
-	HasProcesses  Code = C.MK_HAS_PROCESSES
-	NoProcess     Code = C.MK_NO_PROCESS
-	PidInUse      Code = C.MK_PID_IN_USE
-	PidsMax       Code = C.MK_PIDS_MAX
-	NoFile        Code = C.MK_NO_FILE
-	NotReadable   Code = C.MK_NOT_READABLE
-	NothingToUndo Code = C.MK_NOTHING_TO_UNDO
-	BadSyntax     Code = C.MK_SYNTAX
-	BadPath       Code = C.MK_PATH
-	BadFile       Code = C.MK_FILE
-	BadDirection  Code = C.MK_DIRECTION
-	BadValue      Code = C.MK_VALUE
-)
-
-// Refused is the error of a command that was refused.
-type Refused struct {
-	// Code says why.
-	Code Code
-	// Reply has the words of the answer, as "nogroup /b"; it is empty where the call has no answer of its own.
-	Reply string
-}
-
-func (r *Refused) Error() string {
-	if r.Reply == "" {
-		return "makhloeum: " + r.Errno().Error()
-	}
-	return "makhloeum: " + r.Reply
-}
-
-// Errno is what the kernel gives for it; where the kernel's differs by case, the first.
-func (r *Refused) Errno() syscall.Errno { return syscall.Errno(C.mk_errno(C.uint32_t(r.Code))) }
-
-// Unwrap lets errors.Is find the errno, and with it fs.ErrExist and fs.ErrNotExist.
-func (r *Refused) Unwrap() error { return r.Errno() }
-
-// Hierarchy is a hierarchy of groups: at first the root alone, and process 1 in it. It is for one goroutine at a time; put a
-// lock round it where several use it.
+// Hierarchy is a hierarchy of groups: at first the root alone, and process 1 in it. Goroutines may share it: commands take
+// effect one after the other.
 type Hierarchy struct {
 	handle C.mk_handle
-	info   C.mk_info
-	out    []byte
 }
 
-// New makes a hierarchy. Close frees it.
+// New makes a hierarchy. Close frees it, and so does the garbage collector, in a goroutine of its own, once nothing refers
+// to it. The error is syscall.ENOMEM.
 func New() (*Hierarchy, error) {
-	h := &Hierarchy{out: make([]byte, 4096)}
+	h := new(Hierarchy)
 	if C.mk_open(&h.handle) != C.MK_DONE {
-		return nil, syscall.ENOMEM
+		return nil, fmt.Errorf("makhloeum: %w", syscall.ENOMEM)
 	}
 	runtime.SetFinalizer(h, (*Hierarchy).Close)
 	return h, nil
 }
 
-// Close frees the engine. A second call does nothing.
+// Close waits for the call that is running and frees the engine. Every later call returns ErrClosed; a second Close does
+// nothing.
 func (h *Hierarchy) Close() { C.mk_close(&h.handle) }
 
 // at gives a pointer for a text that may be empty.
@@ -113,35 +62,54 @@ func at(text []byte) *C.uint8_t {
 	return (*C.uint8_t)(unsafe.Pointer(&text[0]))
 }
 
-// told gives the bytes that the call tells, in a buffer that grows until they have room.
-func (h *Hierarchy) told(call func() C.uint32_t) ([]byte, error) {
+// call is what one call of the library needs and returns. Each has its own, so calls share nothing.
+type call struct {
+	info  C.mk_info
+	out   []byte
+	first [firstSize]byte
+}
+
+const firstSize = 512
+
+var calls = sync.Pool{New: func() interface{} { return new(call) }}
+
+func newCall() *call { return calls.Get().(*call) }
+
+func (c *call) end() {
+	c.out = nil
+	calls.Put(c)
+}
+
+// told returns the bytes that the call gives, which are good until the call ends. Another goroutine may make the
+// answer longer between two calls, so the buffer may grow more than once, but not beyond the longest answer.
+func (c *call) told(what command, do func() C.uint32_t) ([]byte, error) {
+	c.info = C.mk_info{}
+	c.out = c.first[:]
 	for {
-		switch call() {
-		case C.MK_DONE, C.MK_SKIPPED:
-			return h.out[:h.info.len], nil
-		case C.MK_TOO_SMALL:
-			h.out = make([]byte, 4*len(h.out))
-		case C.MK_OUT_OF_MEMORY:
-			return nil, syscall.ENOMEM
-		case C.MK_CLOSED:
-			return nil, ErrClosed
+		status := do()
+		told := c.out[:c.info.len]
+		switch {
+		case status == C.MK_DONE, status == C.MK_SKIPPED:
+			return told, nil
+		case status == C.MK_TOO_SMALL && len(c.out) < C.MK_ANSWER_MAX:
+			c.out = make([]byte, grown(len(c.out), int(c.info.needed)))
 		default:
-			refused := &Refused{Code: Code(h.info.code)}
-			if words := strings.SplitN(string(h.out[:h.info.len]), " ", 3); len(words) == 3 {
-				refused.Reply = strings.TrimSuffix(words[2], "\n")
-			}
-			return nil, refused
+			return nil, failure(what, uint32(status), Code(c.info.code), told)
 		}
 	}
 }
 
-func (h *Hierarchy) answer(line []byte) ([]byte, error) {
-	return h.told(func() C.uint32_t {
-		return C.mk_line(&h.handle, 1, at(line), C.size_t(len(line)), at(h.out), C.size_t(len(h.out)), &h.info)
-	})
+func grown(size, needed int) int {
+	if needed > size {
+		return needed
+	}
+	if 4*size > C.MK_ANSWER_MAX {
+		return C.MK_ANSWER_MAX
+	}
+	return 4 * size
 }
 
-// shown gives the text behind an answer's first line.
+// shown returns the text behind an answer's first line.
 func shown(answer []byte) string {
 	lines := strings.SplitAfter(string(answer), "\n")[1:]
 	for i := range lines {
@@ -150,113 +118,112 @@ func shown(answer []byte) string {
 	return strings.Join(lines, "")
 }
 
-// Line answers one line of the trace language, and gives the text that it shows: of a cat and a where the file's, of an undo
-// the command's that it took back, else none.
-func (h *Hierarchy) Line(line string) (string, error) {
-	if strings.Contains(line, "\n") {
-		return "", &Refused{Code: BadSyntax, Reply: "syntax"}
-	}
-	answer, err := h.answer([]byte(line))
+// asked answers a line of the trace language.
+func (h *Hierarchy) asked(line string, what command) (string, error) {
+	c := newCall()
+	defer c.end()
+	text := []byte(line)
+	answer, err := c.told(what, func() C.uint32_t {
+		return C.mk_line(&h.handle, 1, at(text), C.size_t(len(text)), at(c.out), C.size_t(len(c.out)), &c.info)
+	})
+	runtime.KeepAlive(h)
 	if err != nil || len(answer) == 0 {
 		return "", err
 	}
 	return shown(answer), nil
 }
 
-func (h *Hierarchy) done(line string) error {
-	_, err := h.Line(line)
-	return err
+// Line answers one line of the trace language, and returns the text that it shows: the file's for a cat and a where, the
+// undone command for an undo, else none.
+func (h *Hierarchy) Line(line string) (string, error) {
+	what := command{text: line}
+	if strings.Contains(line, "\n") {
+		return "", &Refused{Code: BadSyntax, Reply: "syntax", Command: line}
+	}
+	return h.asked(line, what)
+}
+
+// word returns the text as one word of a line. A text that is not one word would be read as several, so that one becomes
+// a word which is neither a path nor a file nor a value, and which the library refuses.
+func word(text string) string {
+	if text == "" || len(text) > wordMax || strings.ContainsAny(text, " \t\r\n") {
+		return "?"
+	}
+	return text
+}
+
+const wordMax = 4095
+
+func (h *Hierarchy) do(operation, path string, words ...string) (string, error) {
+	line := operation + " " + word(path)
+	what := command{text: operation + " " + path, path: path, hasPath: true}
+	if operation == "cat" {
+		what.text = "read " + path
+	}
+	for _, it := range words {
+		line += " " + word(it)
+		what.text += " " + it
+	}
+	return h.asked(line, what)
 }
 
 // Mkdir makes a group.
-func (h *Hierarchy) Mkdir(path string) error { return h.done("mkdir " + path) }
+func (h *Hierarchy) Mkdir(path string) error {
+	_, err := h.do("mkdir", path)
+	return err
+}
 
 // Rmdir removes a group that has neither children nor processes.
-func (h *Hierarchy) Rmdir(path string) error { return h.done("rmdir " + path) }
-
-// Fork makes the process child, which starts in its parent's group.
-func (h *Hierarchy) Fork(parent, child int) error {
-	return h.done(fmt.Sprintf("fork %d %d", parent, child))
+func (h *Hierarchy) Rmdir(path string) error {
+	_, err := h.do("rmdir", path)
+	return err
 }
 
-// Exit ends and reaps the process.
-func (h *Hierarchy) Exit(pid int) error { return h.done("exit " + strconv.Itoa(pid)) }
-
-// Read gives the text of a file of the group.
-func (h *Hierarchy) Read(path, file string) (string, error) {
-	return h.Line("cat " + path + " " + file)
-}
+// Read returns the text of a file of the group.
+func (h *Hierarchy) Read(path, file string) (string, error) { return h.do("cat", path, file) }
 
 // Write writes a file of the group: a pid to cgroup.procs, a limit or "max" to a limit, "1" to cgroup.kill.
 func (h *Hierarchy) Write(path, file, value string) error {
-	return h.done("write " + path + " " + file + " " + strings.TrimSpace(value))
+	_, err := h.do("write", path, file, strings.Trim(value, " \t\r\n"))
+	return err
 }
 
-// Where gives the text of /proc/PID/cgroup.
-func (h *Hierarchy) Where(pid int) (string, error) { return h.Line("where " + strconv.Itoa(pid)) }
-
-// Undo takes the newest recorded command back, and gives its text.
-func (h *Hierarchy) Undo() (string, error) {
-	answer, err := h.told(func() C.uint32_t {
-		return C.mk_undo(&h.handle, 1, at(h.out), C.size_t(len(h.out)), &h.info)
-	})
-	if err != nil {
-		return "", err
+func (h *Hierarchy) pids(operation string, pids ...int) (string, error) {
+	line := operation
+	for _, pid := range pids {
+		line += " " + strconv.Itoa(pid)
 	}
-	return strings.TrimSuffix(shown(answer), "\n"), nil
+	return h.asked(line, command{text: line})
 }
 
-// Depth says how many recorded commands can be taken back.
+// Fork makes the process child, which starts in its parent's group.
+func (h *Hierarchy) Fork(parent, child int) error {
+	_, err := h.pids("fork", parent, child)
+	return err
+}
+
+// Exit ends and reaps the process.
+func (h *Hierarchy) Exit(pid int) error {
+	_, err := h.pids("exit", pid)
+	return err
+}
+
+// Where returns the text of /proc/PID/cgroup.
+func (h *Hierarchy) Where(pid int) (string, error) { return h.pids("where", pid) }
+
+// Undo undoes the newest recorded command, and returns its text.
+func (h *Hierarchy) Undo() (string, error) {
+	text, err := h.asked("undo", command{text: "undo"})
+	return strings.TrimSuffix(text, "\n"), err
+}
+
+// Depth returns how many recorded commands can be undone.
 func (h *Hierarchy) Depth() (int, error) {
 	var depth C.size_t
-	if C.mk_depth(&h.handle, &depth) != C.MK_DONE {
-		return 0, ErrClosed
+	status := C.mk_depth(&h.handle, &depth)
+	runtime.KeepAlive(h)
+	if status != C.MK_DONE {
+		return 0, failure(command{text: "depth"}, uint32(status), 0, nil)
 	}
 	return int(depth), nil
-}
-
-// Children gives the names of the groups one name below the group, in the order of their bytes.
-func (h *Hierarchy) Children(path string) ([]string, error) {
-	text := []byte(path)
-	told, err := h.told(func() C.uint32_t {
-		return C.mk_children(&h.handle, at(text), C.size_t(len(text)), at(h.out), C.size_t(len(h.out)), &h.info)
-	})
-	if err != nil || len(told) == 0 {
-		return nil, err
-	}
-	return strings.Split(string(told[:len(told)-1]), "\x00"), nil
-}
-
-// Groups gives the paths of the group and of all below it, each before those below it.
-func (h *Hierarchy) Groups(path string) ([]string, error) {
-	if path != "/" {
-		if _, err := h.Children(path); err != nil {
-			return nil, err
-		}
-	}
-	told, err := h.told(func() C.uint32_t {
-		return C.mk_groups(&h.handle, at(h.out), C.size_t(len(h.out)), &h.info)
-	})
-	if err != nil {
-		return nil, err
-	}
-	var groups []string
-	for _, group := range strings.Split(strings.TrimSuffix(string(told), "\x00"), "\x00") {
-		if path == "/" || group == path || strings.HasPrefix(group, path+"/") {
-			groups = append(groups, group)
-		}
-	}
-	return groups, nil
-}
-
-// HasGroup says whether there is such a group.
-func (h *Hierarchy) HasGroup(path string) (bool, error) {
-	text := []byte(path)
-	h.info.len = 0
-	_, err := h.told(func() C.uint32_t { return C.mk_has_group(&h.handle, at(text), C.size_t(len(text)), &h.info) })
-	var refused *Refused
-	if errors.As(err, &refused) && refused.Code == NoGroup {
-		return false, nil
-	}
-	return err == nil, err
 }

@@ -175,10 +175,10 @@ func TestEndsAndEmptyLines(t *testing.T) {
 	}
 	h.Close()
 	h.Close()
-	if err := h.Mkdir("/a"); err != ErrClosed {
+	if err := h.Mkdir("/a"); !errors.Is(err, ErrClosed) {
 		t.Error(err)
 	}
-	if _, err := h.Depth(); err != ErrClosed {
+	if _, err := h.Depth(); !errors.Is(err, ErrClosed) {
 		t.Error(err)
 	}
 }

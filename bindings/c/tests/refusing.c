@@ -1,5 +1,5 @@
 /* Each allocation of each call is refused in turn: the status is MK_OUT_OF_MEMORY, and nothing has changed. Link with
-   -Wl,--wrap=malloc,--wrap=realloc. Exits with the number of the first check that fails, or 0, and prints how many
+   -Wl,--wrap=malloc,--wrap=calloc,--wrap=realloc. Exits with the number of the first check that fails, or 0, and prints how many
    allocations were refused. */
 #include "makhloeum.h"
 #include <stdio.h>
@@ -7,8 +7,10 @@
 #include <string.h>
 
 void *__real_malloc(size_t size);
+void *__real_calloc(size_t count, size_t size);
 void *__real_realloc(void *at, size_t size);
 void *__wrap_malloc(size_t size);
+void *__wrap_calloc(size_t count, size_t size);
 void *__wrap_realloc(void *at, size_t size);
 
 static long left = -1; /* allocations until one is refused; below 0 none is */
@@ -16,6 +18,7 @@ static long left = -1; /* allocations until one is refused; below 0 none is */
 static bool refuses(void) { return left >= 0 && left-- == 0; }
 
 void *__wrap_malloc(size_t size) { return refuses() ? NULL : __real_malloc(size); }
+void *__wrap_calloc(size_t count, size_t size) { return refuses() ? NULL : __real_calloc(count, size); }
 void *__wrap_realloc(void *at, size_t size) { return refuses() ? NULL : __real_realloc(at, size); }
 
 static mk_handle h;
@@ -70,7 +73,7 @@ int main(void) {
         uint32_t status = mk_open(&h);
         left = -1;
         if (status == MK_DONE) break;
-        if (status != MK_OUT_OF_MEMORY || h.full || refused > 50) return 1;
+        if (status != MK_OUT_OF_MEMORY || mk_close(&h) != MK_CLOSED || refused > 50) return 1;
     }
     for (size_t i = 0; i < sizeof lines / sizeof *lines; i++) {
         tell();

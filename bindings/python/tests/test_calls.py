@@ -144,7 +144,7 @@ def test_a_closed_hierarchy():
 def test_the_header_has_these_codes():
     """The codes and their errno are those of the header."""
     here = os.path.dirname(os.path.abspath(__file__))
-    with open(os.path.join(here, "..", "c", "makhloeum.h"), encoding="utf-8") as file:
+    with open(os.path.join(here, "..", "..", "c", "makhloeum.h"), encoding="utf-8") as file:
         header = file.read()
     codes = {name: int(code) for name, code in re.findall(r"\b(MK_[A-Z_]+) = (\d+)", header)}
     cases = re.search(r"switch \(code\) \{(.*?)\n    \}", header, re.S).group(1)
@@ -155,9 +155,10 @@ def test_the_header_has_these_codes():
         else:
             numbers.update(dict.fromkeys(names, word[1]))
             names = []
-    kinds = makhloeum._BY_CODE
+    kinds = makhloeum.errors.BY_CODE
     refusals = {name: code for name, code in codes.items() if name.startswith("MK_") and code in kinds}
-    statuses = ("MK_DONE", "MK_REFUSED", "MK_FAULT", "MK_TOO_SMALL", "MK_OUT_OF_MEMORY", "MK_SKIPPED", "MK_CLOSED")
+    path_faults = re.findall(r"(MK_\w+) = \d+", re.search(r"MK_NOT_ROOTED = 1.*?\}", header, re.S).group(0))
+    statuses = ("MK_DONE", "MK_REFUSED", "MK_FAULT", "MK_TOO_SMALL", "MK_OUT_OF_MEMORY", "MK_SKIPPED", "MK_CLOSED", "MK_BUSY", *path_faults)
     refusals = {name: code for name, code in refusals.items() if name not in statuses}
     assert sorted(refusals.values()) == sorted(kinds)
     for name, code in refusals.items():

@@ -76,8 +76,9 @@ static int replies(void) {
 }
 
 static int small_buffers(void) {
-    CHECK(ask("mkdir /b", 4) == MK_TOO_SMALL && info.len == 0 && kept(5));
-    CHECK(ask("cat /a cgroup.stat", 20) == MK_TOO_SMALL);
+    CHECK(ask("mkdir /b", 4) == MK_TOO_SMALL && info.len == 0 && info.needed >= 5 && info.error == ERANGE && kept(5));
+    CHECK(ask("cat /a cgroup.stat", 20) == MK_TOO_SMALL && info.needed >= strlen("7 ok\n| nr_descendants 0\n| nr_dying_descendants 0\n"));
+    CHECK(ask("cat /a cgroup.stat", info.needed) == MK_DONE && info.needed == 0);
     CHECK(ask("mkdir b", 5) == MK_TOO_SMALL);
     CHECK(mk_undo(&h, 7, out, 10, &info) == MK_TOO_SMALL && kept(5));
     CHECK(ask("mkdir /b", 5) == MK_DONE && says("7 ok\n") && kept(6));
@@ -100,11 +101,13 @@ static int groups(void) {
     CHECK(children("/", sizeof out) == MK_DONE && names(2, "a\0b", 4));
     CHECK(children("/a", sizeof out) == MK_DONE && names(3, "w\0x\0x-z", 8));
     CHECK(children("/a", 8) == MK_DONE && children("/a", 7) == MK_TOO_SMALL && info.len == 0 && info.count == 0);
+    CHECK(info.needed == 8);
     CHECK(children("/b", 1) == MK_DONE && info.count == 0 && info.len == 0);
     CHECK(children("/c", sizeof out) == MK_REFUSED && info.code == MK_NO_GROUP && info.len == 0);
     CHECK(children("c", sizeof out) == MK_FAULT && info.code == MK_PATH);
     CHECK(all_groups(sizeof out) == MK_DONE && names(7, "/\0/a\0/a/w\0/a/x\0/a/x/y\0/a/x-z\0/b", 32));
     CHECK(all_groups(32) == MK_DONE && all_groups(31) == MK_TOO_SMALL && info.len == 0 && info.count == 0);
+    CHECK(info.needed == 32);
     CHECK(has_group("/a/x/y") == MK_DONE && info.code == 0);
     CHECK(has_group("/a/y") == MK_REFUSED && info.code == MK_NO_GROUP);
     CHECK(has_group("/a/") == MK_FAULT && info.code == MK_PATH);
@@ -130,8 +133,83 @@ static int errnos(void) {
     return 0;
 }
 
+static int names_of_codes(void) {
+    static const uint32_t codes[] = {MK_EXISTS, MK_NO_GROUP, MK_DESCENDANTS, MK_DEPTH, MK_NO_SLOT, MK_ROOT_FIXED, MK_HAS_CHILDREN,
+                                     MK_HAS_PROCESSES, MK_NO_PROCESS, MK_PID_IN_USE, MK_PIDS_MAX, MK_NO_FILE, MK_NOT_READABLE,
+                                     MK_NOTHING_TO_UNDO, MK_SYNTAX, MK_PATH, MK_FILE, MK_DIRECTION, MK_VALUE};
+    for (size_t i = 0; i < sizeof codes / sizeof *codes; i++) CHECK(mk_name(codes[i]) != NULL && mk_message(codes[i]) != NULL);
+    CHECK(strcmp(mk_name(0), "ok") == 0 && strcmp(mk_name(MK_NO_GROUP), "nogroup") == 0 && strcmp(mk_name(MK_VALUE), "value") == 0);
+    CHECK(mk_name(15) == NULL && mk_name(31) == NULL && mk_name(37) == NULL && mk_message(37) == NULL);
+    for (uint32_t status = MK_DONE; status <= MK_BUSY; status++) CHECK(mk_status_message(status) != NULL);
+    CHECK(mk_status_message(MK_BUSY + 1) == NULL && mk_path_message(MK_RESERVED + 1) == NULL);
+    CHECK(strcmp(mk_version(), MK_VERSION) == 0);
+    CHECK(mk_status_errno(MK_DONE, 0) == 0 && mk_status_errno(MK_CLOSED, 0) == EBADF && mk_status_errno(MK_OUT_OF_MEMORY, 0) == ENOMEM);
+    CHECK(mk_status_errno(MK_REFUSED, MK_EXISTS) == EEXIST && mk_status_errno(MK_SKIPPED, 0) == 0 && mk_status_errno(MK_BUSY, 0) == EDEADLK);
+    return 0;
+}
+
+/* the fault of a path, its place, and whether the engine too finds it to be no path */
+static bool has_fault(const char *path, size_t len, uint32_t fault, size_t position) {
+    size_t at = 9;
+    uint32_t found = mk_path_fault((const uint8_t *)path, len, &at);
+    uint32_t status = mk_has_group(&h, (const uint8_t *)path, len, &info);
+    return found == fault && at == position && (status == MK_FAULT) == (fault != 0);
+}
+
+static int faults_of_paths(void) {
+    static char text[5000];
+#define FAULT(path, fault, position) CHECK(has_fault(path, sizeof(path) - 1, fault, position))
+    CHECK(mk_open(&h) == MK_DONE);
+    FAULT("/", 0, 0);
+    FAULT("/a/b", 0, 0);
+    FAULT("", MK_NOT_ROOTED, 0);
+    FAULT("a", MK_NOT_ROOTED, 0);
+    FAULT("//", MK_EMPTY_NAME, 1);
+    FAULT("/a/", MK_EMPTY_NAME, 3);
+    FAULT("/my service", MK_BAD_BYTE, 3);
+    FAULT("/a/b\xff", MK_BAD_BYTE, 4);
+    FAULT("/a\0b", MK_BAD_BYTE, 2);
+    FAULT("/a/.", MK_DOT_NAME, 3);
+    FAULT("/../a", MK_DOT_NAME, 1);
+    FAULT("/...", 0, 0);
+    FAULT("/a/cgroup.x", MK_RESERVED, 3);
+    FAULT("/pids.", MK_RESERVED, 1);
+    FAULT("/pids", 0, 0);
+    memset(text, 'a', sizeof text);
+    text[0] = '/';
+    CHECK(has_fault(text, 256, 0, 0) && has_fault(text, 257, MK_NAME_TOO_LONG, 1) && has_fault(text, 4096, MK_PATH_TOO_LONG, 4095));
+    for (size_t i = 0; i < 66; i += 2) memcpy(text + i, "/a", 2);
+    CHECK(has_fault(text, 64, 0, 0) && has_fault(text, 66, MK_TOO_DEEP, 65) && has_fault(text, 65, MK_TOO_DEEP, 65));
+    /* texts over few bytes: the engine and the check agree on which are paths */
+    unsigned seed = 1;
+    for (int round = 0; round < 20000; round++) {
+        static const char bytes[] = "/ab./.c p\xff";
+        size_t len = (seed = seed * 1103515245u + 12345u) >> 16 & 15, at = 9;
+        for (size_t i = 0; i < len; i++) text[i] = bytes[(seed = seed * 1103515245u + 12345u) >> 16 & 7];
+        if (len > 0 && round % 8 != 0) text[0] = '/';
+        uint32_t fault = mk_path_fault((const uint8_t *)text, len, &at);
+        CHECK((mk_has_group(&h, (const uint8_t *)text, len, &info) == MK_FAULT) == (fault != 0) && at <= len);
+    }
+    CHECK(mk_close(&h) == MK_DONE);
+    return 0;
+}
+
+/* A copy names the same engine, and once that is closed neither has another's. */
+static int copies(void) {
+    mk_handle copy, other = {0};
+    CHECK(mk_open(&h) == MK_DONE && ask("mkdir /a", sizeof out) == MK_DONE);
+    copy = h;
+    CHECK(mk_has_group(&copy, (const uint8_t *)"/a", 2, &info) == MK_DONE);
+    CHECK(mk_close(&copy) == MK_DONE && mk_close(&h) == MK_CLOSED);
+    CHECK(mk_open(&other) == MK_DONE && has_group("/") == MK_CLOSED && mk_close(&copy) == MK_CLOSED);
+    CHECK(mk_open(&h) == MK_DONE && has_group("/a") == MK_REFUSED);
+    CHECK(mk_close(&h) == MK_DONE && mk_close(&other) == MK_DONE);
+    return 0;
+}
+
 int main(void) {
-    int (*const parts[])(void) = {closed_handles, replies, small_buffers, groups, to_the_end, errnos};
+    int (*const parts[])(void) = {closed_handles, replies, small_buffers, groups, to_the_end,
+                                  errnos, names_of_codes, faults_of_paths, copies};
     for (size_t i = 0; i < sizeof parts / sizeof *parts; i++) {
         int failed = parts[i]();
         if (failed != 0) return failed;

@@ -1,0 +1,252 @@
+/* The public calls over the proved ones: a lock around each engine.
+ *
+ * - A slot is an engine with its lock. A handle has the slot's address and the serial number of the mk_open that filled it.
+ *   A slot whose serial number is another one is not this handle's engine: it was closed, and may have been opened again.
+ * - Slots are reused and never freed, so a call that waits for the lock of an engine that another thread closes finds the
+ *   lock still there, sees another serial number, and returns MK_CLOSED.
+ * - `inside` says that this thread is in a call. An error-checking mutex can't say so reliably: it learns its owner after it
+ *   is locked, and forgets it before it is unlocked, and a signal handler that runs in between would wait for ever.
+ * - A fork locks all slots. An error-checking mutex could not be unlocked in the child, whose thread has another id.
+ */
+#include "makhloeum.h"
+#include "private.h"
+#include <pthread.h>
+#include <signal.h>
+#include <stdatomic.h>
+#include <stdlib.h>
+
+struct slot {
+    mk0_handle engine; /* the first field: a slot is found from its engine */
+    pthread_mutex_t lock;
+    uint64_t serial; /* 0: closed */
+    struct slot *next;
+    struct slot *next_free;
+};
+
+/* Guards what follows it here. It is taken before the lock of a slot, never behind it. */
+static pthread_mutex_t registry = PTHREAD_MUTEX_INITIALIZER;
+static struct slot *slots;
+static struct slot *free_slots;
+static uint64_t last_serial;
+
+static bool forks_are_watched;
+
+/* The thread's own. A handler may look at any moment, so no access may move across a lock: see begin and end. */
+static __thread volatile sig_atomic_t inside __attribute__((tls_model("initial-exec")));
+static __thread volatile sig_atomic_t skipped_forks __attribute__((tls_model("initial-exec")));
+
+static void begin(void) {
+    inside = 1;
+    atomic_signal_fence(memory_order_seq_cst);
+}
+
+static void end(void) {
+    atomic_signal_fence(memory_order_seq_cst);
+    inside = 0;
+}
+
+uint32_t enter(const mk_handle *h, mk0_handle **engine) {
+    if (inside) return MK_BUSY;
+    begin();
+    struct slot *slot = __atomic_load_n(&h->slot, __ATOMIC_ACQUIRE);
+    if (slot != NULL) {
+        pthread_mutex_lock(&slot->lock);
+        if (slot->serial == __atomic_load_n(&h->serial, __ATOMIC_RELAXED)) {
+            *engine = &slot->engine;
+            return MK_DONE;
+        }
+        pthread_mutex_unlock(&slot->lock);
+    }
+    end();
+    return MK_CLOSED;
+}
+
+void leave(mk0_handle *engine) {
+    struct slot *slot = (struct slot *)engine;
+    pthread_mutex_unlock(&slot->lock);
+    end();
+}
+
+uint32_t tell(mk_info *info, uint32_t status, const mk0_info *told) {
+    *info = (mk_info){.len = told->len,
+                      .count = told->count,
+                      .needed = told->needed,
+                      .code = told->code,
+                      .error = mk_status_errno(status, told->code)};
+    return status;
+}
+
+/* ---- opening and closing */
+
+/* with the registry locked */
+static bool is_open(const mk_handle *h) {
+    struct slot *slot = h->slot;
+    if (slot == NULL) return false;
+    pthread_mutex_lock(&slot->lock);
+    bool open = slot->serial == h->serial;
+    pthread_mutex_unlock(&slot->lock);
+    return open;
+}
+
+/* with the registry locked: a slot that no handle has */
+static struct slot *take_slot(void) {
+    struct slot *slot = free_slots;
+    if (slot != NULL) {
+        free_slots = slot->next_free;
+        return slot;
+    }
+    slot = calloc(1, sizeof *slot);
+    if (slot == NULL) return NULL;
+    if (pthread_mutex_init(&slot->lock, NULL) != 0) {
+        free(slot);
+        return NULL;
+    }
+    slot->next = slots;
+    slots = slot;
+    return slot;
+}
+
+static void give_slot(struct slot *slot) {
+    slot->next_free = free_slots;
+    free_slots = slot;
+}
+
+/* with the registry locked */
+static uint32_t fill(mk_handle *h) {
+    struct slot *slot = forks_are_watched ? take_slot() : NULL;
+    if (slot == NULL) return MK_OUT_OF_MEMORY;
+    pthread_mutex_lock(&slot->lock);
+    uint32_t status = mk0_open(&slot->engine);
+    if (status == MK_DONE) slot->serial = ++last_serial;
+    pthread_mutex_unlock(&slot->lock);
+    if (status != MK_DONE) {
+        give_slot(slot);
+        return status;
+    }
+    /* whoever reads the new slot with the old serial number, or the other way round, finds it closed */
+    __atomic_store_n(&h->serial, slot->serial, __ATOMIC_RELAXED);
+    __atomic_store_n(&h->slot, (void *)slot, __ATOMIC_RELEASE);
+    return MK_DONE;
+}
+
+PUBLIC uint32_t mk_open(mk_handle *h) {
+    if (inside) return MK_BUSY;
+    begin();
+    pthread_mutex_lock(&registry);
+    uint32_t status = is_open(h) ? (uint32_t)MK_CLOSED : fill(h);
+    pthread_mutex_unlock(&registry);
+    end();
+    return status;
+}
+
+PUBLIC uint32_t mk_close(mk_handle *h) {
+    mk0_handle *engine;
+    uint32_t status = enter(h, &engine);
+    if (status != MK_DONE) return status;
+    struct slot *slot = (struct slot *)engine;
+    status = mk0_close(engine);
+    slot->serial = 0;
+    pthread_mutex_unlock(&slot->lock);
+    pthread_mutex_lock(&registry);
+    give_slot(slot);
+    pthread_mutex_unlock(&registry);
+    end();
+    return status;
+}
+
+/* ---- forks */
+
+static void before_fork(void) {
+    if (inside) {
+        skipped_forks++;
+        return;
+    }
+    begin();
+    pthread_mutex_lock(&registry);
+    for (struct slot *slot = slots; slot != NULL; slot = slot->next) pthread_mutex_lock(&slot->lock);
+}
+
+static void after_fork(void) {
+    if (skipped_forks > 0) {
+        skipped_forks--;
+        return;
+    }
+    for (struct slot *slot = slots; slot != NULL; slot = slot->next) pthread_mutex_unlock(&slot->lock);
+    pthread_mutex_unlock(&registry);
+    end();
+}
+
+__attribute__((constructor)) static void watch_forks(void) {
+    forks_are_watched = pthread_atfork(before_fork, after_fork, after_fork) == 0;
+}
+
+/* ---- calls */
+
+PUBLIC uint32_t mk_line(mk_handle *h, uint64_t number, const uint8_t *line, size_t line_len, uint8_t *out, size_t out_size,
+                        mk_info *info) {
+    mk0_handle *engine;
+    mk0_info told = {0};
+    uint32_t status = enter(h, &engine);
+    if (status == MK_DONE) {
+        status = mk0_line(engine, number, line, line_len, out, out_size, &told);
+        leave(engine);
+    }
+    return tell(info, status, &told);
+}
+
+PUBLIC uint32_t mk_undo(mk_handle *h, uint64_t number, uint8_t *out, size_t out_size, mk_info *info) {
+    mk0_handle *engine;
+    mk0_info told = {0};
+    uint32_t status = enter(h, &engine);
+    if (status == MK_DONE) {
+        status = mk0_undo(engine, number, out, out_size, &told);
+        leave(engine);
+    }
+    return tell(info, status, &told);
+}
+
+PUBLIC uint32_t mk_depth(mk_handle *h, size_t *depth) {
+    mk0_handle *engine;
+    size_t found = 0;
+    uint32_t status = enter(h, &engine);
+    if (status == MK_DONE) {
+        status = mk0_depth(engine, &found);
+        leave(engine);
+    }
+    *depth = found;
+    return status;
+}
+
+PUBLIC uint32_t mk_children(mk_handle *h, const uint8_t *path, size_t path_len, uint8_t *out, size_t out_size,
+                            mk_info *info) {
+    mk0_handle *engine;
+    mk0_info told = {0};
+    uint32_t status = enter(h, &engine);
+    if (status == MK_DONE) {
+        status = mk0_children(engine, path, path_len, out, out_size, &told);
+        leave(engine);
+    }
+    return tell(info, status, &told);
+}
+
+PUBLIC uint32_t mk_groups(mk_handle *h, uint8_t *out, size_t out_size, mk_info *info) {
+    mk0_handle *engine;
+    mk0_info told = {0};
+    uint32_t status = enter(h, &engine);
+    if (status == MK_DONE) {
+        status = mk0_groups(engine, out, out_size, &told);
+        leave(engine);
+    }
+    return tell(info, status, &told);
+}
+
+PUBLIC uint32_t mk_has_group(mk_handle *h, const uint8_t *path, size_t path_len, mk_info *info) {
+    mk0_handle *engine;
+    mk0_info told = {0};
+    uint32_t status = enter(h, &engine);
+    if (status == MK_DONE) {
+        status = mk0_has_group(engine, path, path_len, &told);
+        leave(engine);
+    }
+    return tell(info, status, &told);
+}

@@ -1,0 +1,130 @@
+package makhloeum
+
+// #include "makhloeum.h"
+import "C"
+
+import (
+	"errors"
+	"fmt"
+	"strings"
+	"syscall"
+)
+
+// ErrClosed is the error of every call on a hierarchy that was closed.
+var ErrClosed = errors.New("the hierarchy is closed")
+
+// ErrBusy is the error of a call from C code that a signal handler of the running call made.
+var ErrBusy = errors.New("a call of this thread is running")
+
+// Code says why a command was refused.
+type Code uint32
+
+// The codes of the header.
+const (
+	Exists        Code = C.MK_EXISTS
+	NoGroup       Code = C.MK_NO_GROUP
+	Descendants   Code = C.MK_DESCENDANTS
+	Depth         Code = C.MK_DEPTH
+	NoSlot        Code = C.MK_NO_SLOT
+	RootFixed     Code = C.MK_ROOT_FIXED
+	HasChildren   Code = C.MK_HAS_CHILDREN
+	HasProcesses  Code = C.MK_HAS_PROCESSES
+	NoProcess     Code = C.MK_NO_PROCESS
+	PidInUse      Code = C.MK_PID_IN_USE
+	PidsMax       Code = C.MK_PIDS_MAX
+	NoFile        Code = C.MK_NO_FILE
+	NotReadable   Code = C.MK_NOT_READABLE // no answer has it
+	NothingToUndo Code = C.MK_NOTHING_TO_UNDO
+	BadSyntax     Code = C.MK_SYNTAX
+	BadPath       Code = C.MK_PATH
+	BadFile       Code = C.MK_FILE
+	BadDirection  Code = C.MK_DIRECTION
+	BadValue      Code = C.MK_VALUE
+)
+
+// PathFault says what is wrong with a text that is no path.
+type PathFault uint32
+
+// The faults of the header.
+const (
+	NotRooted    PathFault = C.MK_NOT_ROOTED
+	PathTooLong  PathFault = C.MK_PATH_TOO_LONG
+	TooDeep      PathFault = C.MK_TOO_DEEP
+	EmptyName    PathFault = C.MK_EMPTY_NAME
+	BadByte      PathFault = C.MK_BAD_BYTE
+	NameTooLong  PathFault = C.MK_NAME_TOO_LONG
+	DotName      PathFault = C.MK_DOT_NAME
+	ReservedName PathFault = C.MK_RESERVED
+)
+
+// Refused is the error of a command that was refused, or that is none.
+type Refused struct {
+	// Code says why.
+	Code Code
+	// Reply has the words of the answer, as "nogroup /b".
+	Reply string
+	// Command is the command, as "mkdir /b/c".
+	Command string
+	// Path is the path of the command, if it has one.
+	Path string
+	// PathFault says what is wrong with the path if Code is BadPath, and Position the place in the path, from 0, of the byte
+	// at fault, of the name at fault, or of the first byte too many.
+	PathFault PathFault
+	Position  int
+}
+
+// Error is as "mkdir /b/c: no such file or directory (nogroup /b)".
+func (r *Refused) Error() string {
+	return fmt.Sprintf("%s: %v (%s)", r.Command, r.Errno(), r.Reply)
+}
+
+// Errno is what the kernel gives for it; where the kernel's differs by case, the first.
+func (r *Refused) Errno() syscall.Errno { return syscall.Errno(C.mk_errno(C.uint32_t(r.Code))) }
+
+// Unwrap lets errors.Is find the errno, and with it fs.ErrExist and fs.ErrNotExist.
+func (r *Refused) Unwrap() error { return r.Errno() }
+
+// command is what an error says of the call.
+type command struct {
+	text, path string
+	hasPath    bool
+}
+
+func pathFault(path string) (PathFault, int) {
+	var position C.size_t
+	text := []byte(path)
+	fault := C.mk_path_fault(at(text), C.size_t(len(text)), &position)
+	return PathFault(fault), int(position)
+}
+
+func failure(what command, status uint32, code Code, answer []byte) error {
+	switch status {
+	case C.MK_REFUSED, C.MK_FAULT:
+		return refusal(what, code, answer)
+	case C.MK_CLOSED:
+		return fmt.Errorf("%s: %w", what.text, ErrClosed)
+	case C.MK_BUSY:
+		return fmt.Errorf("%s: %w", what.text, ErrBusy)
+	default:
+		return fmt.Errorf("%s: %w", what.text, syscall.ENOMEM)
+	}
+}
+
+func refusal(what command, code Code, answer []byte) error {
+	r := &Refused{Code: code, Command: what.text, Path: what.path}
+	if words := strings.SplitN(string(answer), " ", 3); len(words) == 3 {
+		r.Reply = strings.TrimSuffix(words[2], "\n")
+	} else {
+		r.Reply = C.GoString(C.mk_name(C.uint32_t(code)))
+		if code == NoGroup {
+			r.Reply += " " + what.path
+		}
+	}
+	if code == BadPath && what.hasPath {
+		r.PathFault, r.Position = pathFault(what.path)
+		if r.PathFault != 0 {
+			r.Reply = fmt.Sprintf("path: %s, at %d", C.GoString(C.mk_path_message(C.uint32_t(r.PathFault))), r.Position)
+		}
+	}
+	return r
+}

@@ -1,0 +1,6 @@
+//go:build makhloeum_pkgconfig
+
+package makhloeum
+
+// #cgo pkg-config: makhloeum
+import "C"

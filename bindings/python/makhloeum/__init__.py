@@ -1,0 +1,27 @@
+"""Makhloeum from Python: a hierarchy of process groups in memory, for tests of what reads and writes cgroup files.
+
+    from makhloeum import Busy, Hierarchy
+
+    with Hierarchy() as h:
+        h.mkdir("/a")
+        h.fork(1, 2)
+        h.write("/a", "cgroup.procs", 2)
+        h.read("/a", "pids.current")          # '1\\n'
+        h.children("/")                       # ['a']
+        try:
+            h.rmdir("/a")
+        except Busy as refused:
+            refused.errno                     # errno.EBUSY
+            str(refused)                      # 'rmdir /a: Device or resource busy (hasprocesses)'
+        h.undo()                              # 'write /a cgroup.procs 2'
+
+It calls libmakhloeum.so by ctypes. The library is looked for at MAKHLOEUM_LIBRARY, in this package, where bindings/build
+leaves it, and then where the system keeps libraries.
+"""
+
+from . import errors
+from .errors import *  # noqa: F403
+from .hierarchy import Hierarchy
+
+__version__ = "1.0.0"
+__all__ = ["Hierarchy", *errors.__all__]

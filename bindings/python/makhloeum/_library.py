@@ -1,0 +1,81 @@
+"""The C library: where it is, and the types of its calls.
+
+PyDLL keeps the interpreter's lock during a call. A call takes about a microsecond, and the library waits only for a call of
+another thread, which no thread of this interpreter can be in meanwhile.
+"""
+
+from __future__ import annotations
+
+import ctypes
+import os
+from typing import Any, Iterator
+
+DONE, REFUSED, FAULT, TOO_SMALL, OUT_OF_MEMORY, SKIPPED, CLOSED, BUSY = range(8)
+ANSWER_MAX = 32 + 10 * 4194303  # MK_ANSWER_MAX
+
+_NAME = "libmakhloeum.so.1"
+
+
+class Handle(ctypes.Structure):
+    _fields_ = [("slot", ctypes.c_void_p), ("serial", ctypes.c_uint64)]
+
+
+class Info(ctypes.Structure):
+    _fields_ = [
+        ("len", ctypes.c_size_t),
+        ("count", ctypes.c_size_t),
+        ("needed", ctypes.c_size_t),
+        ("code", ctypes.c_uint32),
+        ("error", ctypes.c_int32),
+    ]
+
+
+def _places() -> Iterator[str]:
+    """Where the library may be: as the environment says, in this package, where bindings/build leaves it, in the system."""
+    here = os.path.dirname(os.path.abspath(__file__))
+    given = os.environ.get("MAKHLOEUM_LIBRARY")
+    if given:
+        yield given
+        return
+    for folder in (here, os.path.join(here, "..", "..", "out")):
+        if os.path.exists(os.path.join(folder, _NAME)):
+            yield os.path.join(folder, _NAME)
+    yield _NAME
+
+
+def _open() -> ctypes.PyDLL:
+    for place in _places():
+        try:
+            return ctypes.PyDLL(place)
+        except OSError as error:
+            last = error
+    raise ImportError(f"makhloeum needs {_NAME}: run bindings/build, or set MAKHLOEUM_LIBRARY to its path ({last})")
+
+
+def _load() -> Any:
+    library = _open()
+    handle, info, size = ctypes.POINTER(Handle), ctypes.POINTER(Info), ctypes.c_size_t
+    number, text, buffer = ctypes.c_uint32, ctypes.c_char_p, ctypes.c_void_p
+    calls: dict[str, tuple[Any, list[Any]]] = {
+        "mk_open": (number, [handle]),
+        "mk_close": (number, [handle]),
+        "mk_line": (number, [handle, ctypes.c_uint64, text, size, buffer, size, info]),
+        "mk_undo": (number, [handle, ctypes.c_uint64, buffer, size, info]),
+        "mk_depth": (number, [handle, ctypes.POINTER(size)]),
+        "mk_children": (number, [handle, text, size, buffer, size, info]),
+        "mk_groups": (number, [handle, buffer, size, info]),
+        "mk_has_group": (number, [handle, text, size, info]),
+        "mk_path_fault": (number, [text, size, ctypes.POINTER(size)]),
+        "mk_path_message": (text, [number]),
+        "mk_version": (text, []),
+    }
+    for name, (result, arguments) in calls.items():
+        try:
+            call = getattr(library, name)
+        except AttributeError:
+            raise ImportError(f"makhloeum: {library._name} has no {name}: it is of another version") from None
+        call.argtypes, call.restype = arguments, result
+    return library
+
+
+library = _load()

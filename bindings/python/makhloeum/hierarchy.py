@@ -1,0 +1,249 @@
+"""A hierarchy of process groups in memory."""
+
+from __future__ import annotations
+
+import ctypes
+import operator
+import os
+import re
+import sys
+import warnings
+from typing import Any, Callable, NoReturn, Union
+
+from ._library import ANSWER_MAX, BUSY, CLOSED, DONE, OUT_OF_MEMORY, SKIPPED, TOO_SMALL, Handle, Info, library
+from .errors import BY_CODE, BY_FAULT, BadPath, BadSyntax, NoGroup, Refused
+
+Path = Union[str, bytes, "os.PathLike[str]"]
+Value = Union[str, bytes, int]
+
+_WORD = re.compile(rb"[^ \t\r\n]{1,4095}")
+_BLANKS = b" \t\r\n"
+_NO_WORD = b"?"  # neither a path nor a file nor a value, so the library refuses it as what it stands for
+_FIRST_SIZE = 512
+
+
+def _bytes(text: Path | Value) -> bytes:
+    return text if isinstance(text, bytes) else str(text).encode("utf-8", "surrogateescape")
+
+
+def _text(text: Path | Value) -> str:
+    return text.decode("utf-8", "surrogateescape") if isinstance(text, bytes) else str(text)
+
+
+def _word(text: Path | Value) -> bytes:
+    """The text as one word of a line. A text that is not one word would be read as several."""
+    word = _bytes(text)
+    return word if _WORD.fullmatch(word) else _NO_WORD
+
+
+def _pid(number: int) -> bytes:
+    number = operator.index(number)
+    return b"%d" % number if 0 <= number < 1 << 64 else _NO_WORD
+
+
+def _shown(answer: bytes) -> str:
+    """The text behind an answer's first line."""
+    return "".join(line[2:] + "\n" for line in answer.decode().split("\n")[1:-1])
+
+
+def _path_refusal(path: bytes, command: str) -> BadPath:
+    position = ctypes.c_size_t()
+    fault = library.mk_path_fault(path, len(path), ctypes.byref(position))
+    if fault == 0:
+        return BadPath("path", _text(path), command)
+    message = library.mk_path_message(fault).decode()
+    refused = BY_FAULT[fault](f"path: {message}, at {position.value}", _text(path), command)
+    refused.position = position.value
+    return refused
+
+
+def _raise(status: int, code: int, words: str, path: Path | None, command: str) -> NoReturn:
+    if status == OUT_OF_MEMORY:
+        raise MemoryError(f"{command}: out of memory")
+    if status == CLOSED:
+        raise ValueError("the hierarchy is closed")
+    if status == BUSY:
+        raise RuntimeError("a call of this thread is running")
+    kind = BY_CODE[code]
+    if kind is BadPath and path is not None:
+        raise _path_refusal(_bytes(path), command)
+    raise kind(words, None if path is None else _text(path), command)
+
+
+_Call = Callable[[Any, int, Any], int]
+
+
+class Hierarchy:
+    """A hierarchy of groups: at first the root alone, and process 1 in it.
+
+    A context manager, once: its end frees the engine. Paths are texts as '/' and '/a/b', pids numbers. Threads may share a
+    hierarchy: commands take effect one after the other. Each call raises a `Refused` if the command is refused,
+    `MemoryError` when out of memory, and `ValueError` once the hierarchy is closed.
+    """
+
+    _handle: Handle
+    _entered = False
+
+    def __init__(self) -> None:
+        if hasattr(self, "_handle"):
+            raise RuntimeError("a hierarchy is initialized once")
+        self._handle = Handle()
+        self._at = ctypes.byref(self._handle)
+        if library.mk_open(self._at) != DONE:
+            del self._handle
+            raise MemoryError("no memory for an engine")
+        self._closed = False
+
+    def __enter__(self) -> Hierarchy:
+        if self._closed:
+            raise ValueError("the hierarchy is closed")
+        if self._entered:
+            raise RuntimeError("a hierarchy is entered once")
+        self._entered = True
+        return self
+
+    def __exit__(self, *exception: object) -> None:
+        self.close()
+
+    # Defaults are bound now: at the interpreter's end the module's names may be gone.
+    def __del__(self, _warn: Any = warnings.warn, _close: Any = library.mk_close) -> None:
+        if getattr(self, "_closed", True):
+            return
+        _warn(f"unclosed {self!r}", ResourceWarning, source=self)
+        _close(self._at)
+
+    def __copy__(self) -> NoReturn:
+        raise TypeError("a hierarchy cannot be copied or pickled")
+
+    def __deepcopy__(self, memo: object) -> NoReturn:
+        self.__copy__()
+
+    def __reduce_ex__(self, protocol: object) -> NoReturn:
+        self.__copy__()
+
+    def close(self) -> None:
+        """Frees the engine. A second call does nothing."""
+        self._closed = True
+        library.mk_close(self._at)
+
+    @property
+    def closed(self) -> bool:
+        """Whether it was closed."""
+        return self._closed
+
+    def _told(self, call: _Call, command: str | bytes, path: Path | None = None) -> bytes:
+        """The bytes that the call returns. Another thread may make the answer longer between two calls, so the buffer may
+        grow more than once, but not beyond the longest answer."""
+        size = _FIRST_SIZE
+        while True:
+            buffer, info = (ctypes.c_char * size)(), Info()
+            status = call(buffer, size, ctypes.byref(info))
+            if status == DONE or status == SKIPPED:
+                return buffer[: info.len]
+            if status != TOO_SMALL or size > ANSWER_MAX:
+                break
+            size = 1 << max(info.needed - 1, size).bit_length()
+        words = buffer[: info.len].decode().rstrip("\n").split(" ", 2)
+        _raise(status, info.code, words[2] if len(words) > 2 else "", path, _text(command))
+
+    def _line(self, line: bytes, command: str | bytes, path: Path | None = None) -> str:
+        answer = self._told(
+            lambda out, size, info: library.mk_line(self._at, 1, line, len(line), out, size, info), command, path
+        )
+        return _shown(answer) if answer else ""
+
+    def line(self, line: str | bytes, path: Path | None = None) -> str:
+        """Answers one line of the trace language, as 'cat /a pids.current', and returns the text that it shows: the file's
+        for a `cat` and a `where`, the undone command for an `undo`, else ''. A comment and an empty line show nothing.
+        `path` is the path that an error names."""
+        text = _bytes(line)
+        if b"\n" in text:
+            raise BadSyntax("syntax", None if path is None else _text(path), _text(text))
+        return self._line(text, text, path)
+
+    def mkdir(self, path: Path) -> None:
+        """Makes a group."""
+        self._line(b"mkdir " + _word(path), f"mkdir {_text(path)}", path)
+
+    def rmdir(self, path: Path) -> None:
+        """Removes a group that has neither children nor processes."""
+        self._line(b"rmdir " + _word(path), f"rmdir {_text(path)}", path)
+
+    def fork(self, parent: int, child: int) -> None:
+        """The process `parent` forks `child`, which starts in its group."""
+        self._line(b"fork %b %b" % (_pid(parent), _pid(child)), f"fork {parent} {child}")
+
+    def exit(self, pid: int) -> None:
+        """The process exits and is reaped."""
+        self._line(b"exit " + _pid(pid), f"exit {pid}")
+
+    def read(self, path: Path, file: str | bytes) -> str:
+        """The text of a file of the group, as '1\\n' of pids.current."""
+        return self._line(b"cat %b %b" % (_word(path), _word(file)), f"read {_text(path)} {_text(file)}", path)
+
+    def write(self, path: Path, file: str | bytes, value: Value) -> None:
+        """Writes a file of the group: a pid to cgroup.procs, a limit or 'max' to a limit, 1 to cgroup.kill."""
+        word = _pid(value) if isinstance(value, int) else _word(_bytes(value).strip(_BLANKS))
+        line = b"write %b %b %b" % (_word(path), _word(file), word)
+        self._line(line, f"write {_text(path)} {_text(file)} {_text(value)}", path)
+
+    def where(self, pid: int) -> str:
+        """The text of /proc/PID/cgroup."""
+        return self._line(b"where " + _pid(pid), f"where {pid}")
+
+    def undo(self) -> str:
+        """Undoes the newest recorded command, and returns its text."""
+        answer = self._told(lambda out, size, info: library.mk_undo(self._at, 1, out, size, info), "undo")
+        return _shown(answer).rstrip("\n")
+
+    def depth(self) -> int:
+        """How many recorded commands can be undone."""
+        depth = ctypes.c_size_t()
+        status = library.mk_depth(self._at, ctypes.byref(depth))
+        if status != DONE:
+            _raise(status, 0, "", None, "depth")
+        return depth.value
+
+    def children(self, path: Path) -> list[str]:
+        """The names of the groups one name below the group, in the order of their bytes."""
+        text = _bytes(path)
+        try:
+            told = self._told(
+                lambda out, size, info: library.mk_children(self._at, text, len(text), out, size, info),
+                f"children {_text(path)}",
+                path,
+            )
+        except NoGroup as refused:
+            refused.reply = f"nogroup {_text(path)}"
+            raise
+        return told.decode().split("\0")[:-1]
+
+    def groups(self, path: Path = "/") -> list[str]:
+        """The paths of the group and of all below it, each before those below it."""
+        command, top = f"groups {_text(path)}", _bytes(path)
+        told = self._told(lambda out, size, info: library.mk_groups(self._at, out, size, info), command)
+        groups = told.split(b"\0")[:-1]
+        if top != b"/":
+            groups = [group for group in groups if group == top or group.startswith(top + b"/")]
+        if groups[:1] != [top]:
+            position = ctypes.c_size_t()
+            if library.mk_path_fault(top, len(top), ctypes.byref(position)):
+                raise _path_refusal(top, command)
+            raise NoGroup(f"nogroup {_text(path)}", _text(path), command)
+        return [group.decode() for group in groups]
+
+    def has_group(self, path: Path) -> bool:
+        """Whether there is such a group."""
+        text = _bytes(path)
+        try:
+            self._told(
+                lambda out, size, info: library.mk_has_group(self._at, text, len(text), info),
+                f"has_group {_text(path)}",
+                path,
+            )
+        except NoGroup:
+            return False
+        return True
+
+
+__all__ = ["Hierarchy", "Path", "Value", "Refused"]

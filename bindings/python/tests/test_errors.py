@@ -1,0 +1,139 @@
+"""What an error says, that it can be sent between processes, and that words never leak into other words of a command."""
+
+import copy
+import errno
+import itertools
+import multiprocessing
+import pickle
+
+import pytest
+
+import makhloeum
+from makhloeum import BadByte, BadFile, BadPath, BadValue, Hierarchy, NoGroup, Refused
+
+
+@pytest.fixture
+def h():
+    with Hierarchy() as hierarchy:
+        hierarchy.mkdir("/a")
+        hierarchy.mkdir("/b")
+        yield hierarchy
+
+
+def refusal(call):
+    with pytest.raises(Refused) as refused:
+        call()
+    return refused.value
+
+
+TEXTS = [
+    (lambda h: h.mkdir("/a"), "mkdir /a: File exists (exists)"),
+    (lambda h: h.mkdir("/x/y"), "mkdir /x/y: No such file or directory (nogroup /x)"),
+    (lambda h: h.rmdir("/"), "rmdir /: Device or resource busy (rootfixed)"),
+    (lambda h: h.fork(1, 1), "fork 1 1: File exists (pidinuse 1)"),
+    (lambda h: h.exit(9), "exit 9: No such process (noprocess 9)"),
+    (lambda h: h.read("/a", "x"), "read /a x: No such file or directory (file)"),
+    (lambda h: h.write("/a", "pids.max", -1), "write /a pids.max -1: Invalid argument (value)"),
+    (lambda h: h.mkdir("/my service"), "mkdir /my service: Invalid argument (path: a name cannot have this byte, at 3)"),
+    (lambda h: h.children("/x"), "children /x: No such file or directory (nogroup /x)"),
+    (lambda h: h.groups("/x"), "groups /x: No such file or directory (nogroup /x)"),
+    (lambda h: h.undo() and h.undo() and h.undo(), "undo: No data available (nothing)"),
+]
+
+
+@pytest.mark.parametrize("call, text", TEXTS)
+def test_the_text_names_command_errno_and_reply(h, call, text):
+    assert str(refusal(lambda: call(h))) == text
+
+
+@pytest.mark.parametrize("call, text", TEXTS)
+@pytest.mark.parametrize("again", [copy.copy, copy.deepcopy, lambda it: pickle.loads(pickle.dumps(it))])
+def test_an_error_can_be_copied_and_pickled(h, call, text, again):
+    first = refusal(lambda: call(h))
+    second = again(first)
+    assert type(second) is type(first) and str(second) == text and second.__dict__ == first.__dict__
+    assert (second.errno, second.strerror, second.filename) == (first.errno, first.strerror, first.filename)
+
+
+def in_a_worker(path):
+    with Hierarchy() as h:
+        h.mkdir(path)
+
+
+def test_an_error_comes_out_of_a_worker_pool():
+    with multiprocessing.get_context("fork").Pool(2) as pool:
+        with pytest.raises(NoGroup) as refused:
+            pool.apply_async(in_a_worker, ("/x/y",)).get(timeout=30)
+    assert refused.value.reply == "nogroup /x" and refused.value.filename == "/x/y"
+
+
+def test_limits_of_the_hierarchy_block_as_a_real_mkdir_does(h):
+    h.write("/a", "cgroup.max.descendants", 0)
+    h.write("/b", "cgroup.max.depth", 0)
+    for path in ("/a/x", "/b/x"):
+        refused = refusal(lambda: h.mkdir(path))
+        assert isinstance(refused, BlockingIOError) and refused.errno == errno.EAGAIN and refused.filename == path
+
+
+@pytest.mark.parametrize(
+    "path, kind, position",
+    [
+        ("a", makhloeum.NotRooted, 0),
+        ("", makhloeum.NotRooted, 0),
+        ("/a ", BadByte, 2),
+        ("/b/\t", BadByte, 3),
+        ("/a\n", BadByte, 2),
+        ("/a\0", BadByte, 2),
+        ("/é", BadByte, 1),
+        (b"/\xff", BadByte, 1),
+        ("/a/", makhloeum.EmptyName, 3),
+        ("/.", makhloeum.DotName, 1),
+        ("/a/pids.x", makhloeum.ReservedName, 3),
+        ("/" + "x" * 256, makhloeum.NameTooLong, 1),
+        ("/x" * 33, makhloeum.TooDeep, 65),
+        ("/" + "x" * 4095, makhloeum.PathTooLong, 4095),
+    ],
+)
+def test_the_fault_of_a_path_and_its_place(h, path, kind, position):
+    calls = (h.mkdir, h.rmdir, h.children, h.groups, h.has_group, lambda it: h.read(it, "x y"), lambda it: h.write(it, "x", "y"))
+    for call in calls:
+        refused = refusal(lambda: call(path))
+        assert type(refused) is kind and isinstance(refused, BadPath) and refused.position == position
+        assert f"at {position}" in str(refused)
+
+
+WORDS = ["", " ", "/b ", " /b", "/b\t", "/b\n", "/b\r", "/b pids.max", "/b pids.max 5", "#", "x y", "pids.max ", "pids.max 5",
+         "\n", "/c\nmkdir /d", "1 2", "cgroup.procs 1", "max\x0b", "5 #", "\x0b5"]
+
+
+def test_no_word_leaks_into_another(h):
+    """Texts that are not one word are refused wherever they are put, and change nothing."""
+    h.fork(1, 2)
+    before = (h.depth(), h.groups(), h.read("/a", "pids.max"), h.read("/b", "pids.max"), h.where(2))
+    for word in WORDS:
+        for call in (h.mkdir, h.rmdir, h.children, h.groups, h.has_group):
+            assert isinstance(refusal(lambda: call(word)), BadPath)
+        assert isinstance(refusal(lambda: h.read(word, "pids.max")), BadPath)
+        assert isinstance(refusal(lambda: h.read(word, "")), BadPath)
+        assert isinstance(refusal(lambda: h.write(word, "pids.max", 5)), BadPath)
+        assert isinstance(refusal(lambda: h.read("/b", word)), BadFile)
+        assert isinstance(refusal(lambda: h.write("/b", word, "5")), BadFile)
+        assert isinstance(refusal(lambda: h.write("/b", "pids.max", word)), BadValue)
+        for call in (h.exit, h.where, lambda it: h.fork(it, 5), lambda it: h.fork(1, it)):
+            with pytest.raises(TypeError):
+                call(word)
+    for path, file in itertools.product(WORDS, WORDS):
+        assert isinstance(refusal(lambda: h.read(path, file)), BadPath)
+    assert before == (h.depth(), h.groups(), h.read("/a", "pids.max"), h.read("/b", "pids.max"), h.where(2))
+
+
+@pytest.mark.parametrize("pid", [0, -1, 4194304, 2**31, 2**64, 2**64 + 1, -(2**64)])
+def test_numbers_that_are_no_pid(h, pid):
+    for call in (h.exit, h.where, lambda it: h.fork(it, 5), lambda it: h.fork(1, it), lambda it: h.write("/a", "cgroup.procs", it)):
+        assert isinstance(refusal(lambda: call(pid)), BadValue)
+
+
+def test_blanks_around_a_value_are_dropped_as_in_a_file(h):
+    for value in ("5\n", " 5", b"\t5\r\n", 5):
+        h.write("/a", "pids.max", value)
+        assert h.read("/a", "pids.max") == "5\n"

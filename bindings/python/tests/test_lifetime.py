@@ -1,0 +1,110 @@
+"""How a hierarchy begins and ends."""
+
+import copy
+import gc
+import os
+import pickle
+import subprocess
+import sys
+import warnings
+
+import pytest
+
+import makhloeum
+from makhloeum import Hierarchy
+
+
+def memory():
+    """The memory of this process that is resident, in bytes."""
+    with open("/proc/self/statm", encoding="ascii") as file:
+        return int(file.read().split()[1]) * os.sysconf("SC_PAGE_SIZE")
+
+
+def grown(rounds, call):
+    for _ in range(rounds // 10):
+        call()
+    before = memory()
+    for _ in range(rounds):
+        call()
+    return memory() - before
+
+
+def test_a_closed_hierarchy_leaves_no_memory():
+    def use():
+        with Hierarchy() as h:
+            h.mkdir("/a")
+
+    # an engine takes more than 100,000 bytes
+    assert grown(1000, use) < 20_000_000
+
+
+def test_a_hierarchy_is_initialized_once():
+    with Hierarchy() as h:
+        h.mkdir("/a")
+
+        def again():
+            with pytest.raises(RuntimeError):
+                h.__init__()
+
+        assert grown(1000, again) < 20_000_000
+        assert h.has_group("/a")
+    with pytest.raises(RuntimeError):
+        h.__init__()
+
+
+@pytest.mark.parametrize("again", [copy.copy, copy.deepcopy, pickle.dumps])
+def test_a_hierarchy_is_not_copied(again):
+    with Hierarchy() as h:
+        with pytest.raises(TypeError):
+            again(h)
+        gc.collect()
+        h.mkdir("/a")
+
+
+def test_a_hierarchy_is_entered_once():
+    with Hierarchy() as h:
+        with pytest.raises(RuntimeError):
+            h.__enter__()
+        h.mkdir("/a")
+    assert h.closed
+    with pytest.raises(ValueError):
+        h.__enter__()
+
+
+def test_an_unclosed_hierarchy_gives_a_warning():
+    with pytest.warns(ResourceWarning, match="unclosed"):
+        h = Hierarchy()
+        del h
+        gc.collect()
+    with warnings.catch_warnings():
+        warnings.simplefilter("error")
+        h = Hierarchy()
+        h.close()
+        del h
+        gc.collect()
+
+
+@pytest.mark.parametrize("keep", ["h = Hierarchy()", "class A: pass\na = A(); a.a = a; a.h = Hierarchy()", "import builtins; builtins.h = Hierarchy()"])
+def test_no_error_is_printed_when_the_interpreter_ends(keep):
+    words = [sys.executable, "-W", "ignore", "-c", f"from makhloeum import Hierarchy\n{keep}"]
+    folder = os.path.dirname(os.path.dirname(makhloeum.__file__))
+    ran = subprocess.run(words, capture_output=True, text=True, env=dict(os.environ, PYTHONPATH=folder), timeout=60)
+    assert (ran.returncode, ran.stdout, ran.stderr) == (0, "", "")
+
+
+def test_a_missing_library_is_said_in_one_sentence():
+    folder = os.path.dirname(os.path.dirname(makhloeum.__file__))
+    words = [sys.executable, "-c", "import makhloeum"]
+    ran = subprocess.run(words, capture_output=True, text=True, timeout=60,
+                         env=dict(os.environ, PYTHONPATH=folder, MAKHLOEUM_LIBRARY="/nowhere/libmakhloeum.so"))
+    assert ran.returncode == 1
+    assert ran.stderr.strip().split("\n")[-1].startswith("ImportError: makhloeum needs libmakhloeum.so.1: run bindings/build")
+
+
+def test_the_version_is_that_of_the_library_and_the_header():
+    from makhloeum._library import library
+
+    assert library.mk_version().decode() == makhloeum.__version__
+    header = os.path.join(os.path.dirname(makhloeum.__file__), "..", "..", "c", "makhloeum.h")
+    with open(header, encoding="utf-8") as file:
+        assert f'#define MK_VERSION "{makhloeum.__version__}"' in file.read()
