@@ -9,7 +9,7 @@ ghost use Rattle.replay_main.specs.Replayed.{Replayed};
 
 use crate::arguments::{Ask, LineFault, read_arguments};
 use crate::output::write_whole;
-use crate::{ReplayFault, Sink, Source, Summary, rehearse_trace, replay};
+use crate::{DeviceFault, ReplayFault, Sink, Source, Summary, rehearse_trace, replay};
 use std::alloc::Global;
 use std::sync::Wait;
 use std::thread::Threads;
@@ -59,7 +59,7 @@ pub fn run_program<R: Threads + Wait + Sync, S: Source, W: Sink>(
         }
         Ok(Ask::Help(text)) => match write_whole(writer, text.as_str().as_bytes()) {
             Ok(()) => Ok(()),
-            Err(_) => Err(ProgramFault::Replay(ReplayFault::Write)),
+            Err(DeviceFault) => Err(ProgramFault::Replay(ReplayFault::Write)),
         },
         Err(fault) => Err(ProgramFault::Line(fault)),
     }
@@ -95,6 +95,6 @@ pub fn exit_status(outcome: Result<(), ProgramFault>) -> u8
     match outcome {
         Ok(()) => 0,
         Err(ProgramFault::Line(LineFault::Bad)) => 2,
-        Err(_) => 1,
+        Err(ProgramFault::Line(LineFault::OutOfMemory) | ProgramFault::Replay(_)) => 1,
     }
 }

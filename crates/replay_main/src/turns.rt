@@ -58,7 +58,9 @@ fn fault_of(fault: CloseFault) -> ReplayFault
 {
     match fault {
         CloseFault::OutOfMemory => ReplayFault::OutOfMemory,
-        _ => ReplayFault::Close,
+        CloseFault::Stranger(_) | CloseFault::Missing(_) | CloseFault::Mismatch(_) => {
+            ReplayFault::Close
+        }
     }
 }
 
@@ -196,6 +198,6 @@ fn run_one<R: Threads + Wait + Sync>(
             session.halt(rt);
             false
         }
-        Err(_) => false,
+        Err(RunFault::Halted | RunFault::TurnPassed(_)) => false,
     }
 }
