@@ -1,7 +1,7 @@
 //! Each read and each write that fails.
 
 use crate::devices::{Dripping, Endless, Narrow};
-use crate::traces::{KILL, UNDONE_MOVE, whole};
+use crate::traces::{KILL, LINE_FAULTS, UNDONE_MOVE, whole};
 use replay_main::{MemorySink, ReplayFault, Summary, TRACE_MAX, rehearse_trace, replay};
 use std::alloc::Global;
 use std::sync::Wait;
@@ -63,7 +63,11 @@ fn first_read<R: Threads + Wait + Sync>(
 
 #[test]
 fn each_read_fails(rt: HostRuntime) -> Result<(), Fail> {
-    for rows in [UNDONE_MOVE.as_slice(), KILL.as_slice()] {
+    for rows in [
+        UNDONE_MOVE.as_slice(),
+        KILL.as_slice(),
+        LINE_FAULTS.as_slice(),
+    ] {
         let (trace, _) = whole(rt.alloc(), rows)?;
         for way in WAYS {
             assert_eq!(rt; first_read(&rt, rt.alloc(), way, trace.as_slice()), None);
@@ -109,9 +113,22 @@ fn first_write<R: Threads + Wait + Sync>(
 
 #[test]
 fn each_write_fails(rt: HostRuntime) -> Result<(), Fail> {
-    for rows in [UNDONE_MOVE.as_slice(), KILL.as_slice()] {
+    let (trace, answers) = whole(rt.alloc(), &UNDONE_MOVE)?;
+    for way in WAYS {
+        assert_eq!(rt;
+            first_write(&rt, rt.alloc(), way, trace.as_slice(), answers.as_slice()),
+            None
+        );
+    }
+    Ok(())
+}
+
+/// Of the long traces for one worker and for a rehearsal.
+#[test]
+fn each_write_of_many_fails(rt: HostRuntime) -> Result<(), Fail> {
+    for rows in [KILL.as_slice(), LINE_FAULTS.as_slice()] {
         let (trace, answers) = whole(rt.alloc(), rows)?;
-        for way in WAYS {
+        for way in [Way::OneWorker, Way::Rehearsal] {
             assert_eq!(rt;
                 first_write(&rt, rt.alloc(), way, trace.as_slice(), answers.as_slice()),
                 None
