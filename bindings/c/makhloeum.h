@@ -149,6 +149,44 @@ uint32_t mk_groups(mk_handle *h, uint8_t *out, size_t out_size, mk_info *info);
    is no path; MK_OUT_OF_MEMORY, MK_CLOSED, MK_BUSY. */
 uint32_t mk_has_group(mk_handle *h, const uint8_t *path, size_t path_len, mk_info *info);
 
+/* ---- a call for each command: paths, files and values are texts that end with a zero byte.
+   Each argument is one word of a command: "/a b" is no path, and never two words. MK_DONE; MK_REFUSED, MK_FAULT,
+   MK_OUT_OF_MEMORY, MK_CLOSED and MK_BUSY as for mk_line, with info->code and info->error. */
+uint32_t mk_mkdir(mk_handle *h, const char *path, mk_info *info);
+uint32_t mk_rmdir(mk_handle *h, const char *path, mk_info *info);
+uint32_t mk_fork(mk_handle *h, int64_t parent, int64_t child, mk_info *info);
+uint32_t mk_exit(mk_handle *h, int64_t pid, mk_info *info);
+
+/* Moves the process to the group. */
+uint32_t mk_attach(mk_handle *h, const char *path, int64_t pid, mk_info *info);
+
+/* Writes a file: a pid to cgroup.procs, a limit or "max" to a limit, "1" to cgroup.kill. */
+uint32_t mk_write(mk_handle *h, const char *path, const char *file, const char *value, mk_info *info);
+
+/* Kills the processes of the group and of the groups below it. */
+uint32_t mk_kill(mk_handle *h, const char *path, mk_info *info);
+
+/* The text of a file, and of /proc/PID/cgroup: info->len bytes and a zero byte. MK_TOO_SMALL if size is too small. */
+uint32_t mk_read(mk_handle *h, const char *path, const char *file, char *text, size_t size, mk_info *info);
+uint32_t mk_where(mk_handle *h, int64_t pid, char *text, size_t size, mk_info *info);
+
+/* pids.current, pids.peak, pids.max and whether cgroup.events says `populated 1`. The value is 0 unless MK_DONE is
+   returned. */
+#define MK_NO_LIMIT UINT64_MAX
+uint32_t mk_current(mk_handle *h, const char *path, uint64_t *value, mk_info *info);
+uint32_t mk_peak(mk_handle *h, const char *path, uint64_t *value, mk_info *info);
+uint32_t mk_limit(mk_handle *h, const char *path, uint64_t *value, mk_info *info);
+uint32_t mk_populated(mk_handle *h, const char *path, bool *populated, mk_info *info);
+
+/* The pids of the group itself, ascending: info->count numbers. MK_TOO_SMALL, with the number of pids in info->needed, if
+   there are more than room. */
+uint32_t mk_processes(mk_handle *h, const char *path, uint32_t *pids, size_t room, mk_info *info);
+
+/* Undoes recorded commands until no more than mark are left: mk_depth, called earlier, gives the mark; 0 undoes all.
+   info->count commands were undone. No other call comes in between. MK_REFUSED with MK_NOTHING_TO_UNDO if fewer are left
+   already. With MK_OUT_OF_MEMORY the commands that were undone so far stay undone. */
+uint32_t mk_undo_to(mk_handle *h, size_t mark, mk_info *info);
+
 /* What is wrong with a text that is no path, and where: 0 if it is a path. *position is the place, from 0, of the byte at
    fault, of the first byte of the name at fault, or of the first byte too many. The order is that of docs/FORMATS.md,
    "Paths". */

@@ -146,7 +146,7 @@ def test_the_header_has_these_codes():
     here = os.path.dirname(os.path.abspath(__file__))
     with open(os.path.join(here, "..", "..", "c", "makhloeum.h"), encoding="utf-8") as file:
         header = file.read()
-    codes = {name: int(code) for name, code in re.findall(r"\b(MK_[A-Z_]+) = (\d+)", header)}
+    codes = {name: int(code) for name, code in re.findall(r"\b(MK_[A-Z_]+) = (\d+)(?! *[+*\d])", header)}
     cases = re.search(r"switch \(code\) \{(.*?)\n    \}", header, re.S).group(1)
     numbers, names = {}, []
     for word in re.findall(r"case (\w+):|return (\w+);", cases):

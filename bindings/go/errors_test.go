@@ -1,0 +1,106 @@
+package makhloeum
+
+import (
+	"errors"
+	"io/fs"
+	"strings"
+	"syscall"
+	"testing"
+)
+
+func TestTextOfErrors(t *testing.T) {
+	h := open(t)
+	do(t, h, "mkdir /a")
+	read := func(path, file string) error {
+		_, err := h.Read(path, file)
+		return err
+	}
+	children := func(path string) error {
+		_, err := h.Children(path)
+		return err
+	}
+	groups := func(path string) error {
+		_, err := h.Groups(path)
+		return err
+	}
+	for _, row := range []struct {
+		err  error
+		text string
+		is   error
+	}{
+		{h.Mkdir("/a"), "mkdir /a: file exists (exists)", fs.ErrExist},
+		{h.Mkdir("/x/y"), "mkdir /x/y: no such file or directory (nogroup /x)", fs.ErrNotExist},
+		{h.Rmdir("/"), "rmdir /: device or resource busy (rootfixed)", syscall.EBUSY},
+		{h.Fork(1, 1), "fork 1 1: file exists (pidinuse 1)", syscall.EEXIST},
+		{h.Exit(9), "exit 9: no such process (noprocess 9)", syscall.ESRCH},
+		{h.Exit(-1), "exit -1: invalid argument (value)", syscall.EINVAL},
+		{read("/a", "x"), "read /a x: no such file or directory (file)", fs.ErrNotExist},
+		{h.Mkdir("/my service"), "mkdir /my service: invalid argument (path: a name cannot have this byte, at 3)", syscall.EINVAL},
+		{children("/x"), "children /x: no such file or directory (nogroup /x)", syscall.ENOENT},
+		{groups("/x"), "groups /x: no such file or directory (nogroup /x)", syscall.ENOENT},
+		{groups("\xff"), "groups \xff: invalid argument (path: a path begins with a slash, at 0)", syscall.EINVAL},
+	} {
+		if row.err == nil || row.err.Error() != row.text || !errors.Is(row.err, row.is) {
+			t.Errorf("%v; not %s", row.err, row.text)
+		}
+	}
+	h.Close()
+	if err := h.Mkdir("/b"); err.Error() != "mkdir /b: the hierarchy is closed" {
+		t.Error(err)
+	}
+}
+
+func TestFaultOfAPath(t *testing.T) {
+	h := open(t)
+	for _, row := range []struct {
+		path     string
+		fault    PathFault
+		position int
+	}{
+		{"", NotRooted, 0}, {"a", NotRooted, 0}, {"/a ", BadByte, 2}, {"/a\x00", BadByte, 2}, {"/a\n", BadByte, 2}, {"/\xff", BadByte, 1},
+		{"/a/", EmptyName, 3}, {"/..", DotName, 1}, {"/a/cgroup.b", ReservedName, 3}, {"/" + strings.Repeat("x", 256), NameTooLong, 1},
+		{strings.Repeat("/x", 33), TooDeep, 65}, {"/" + strings.Repeat("x", 4095), PathTooLong, 4095},
+	} {
+		_, here := h.HasGroup(row.path)
+		_, below := h.Children(row.path)
+		_, text := h.Read(row.path, "x y")
+		for _, err := range []error{h.Mkdir(row.path), h.Rmdir(row.path), h.Write(row.path, "x", "y"), here, below, text} {
+			var refused *Refused
+			if !errors.As(err, &refused) || refused.Code != BadPath || refused.PathFault != row.fault || refused.Position != row.position {
+				t.Errorf("%q: %v", row.path, err)
+			}
+		}
+	}
+}
+
+func TestNoWordLeaksIntoAnother(t *testing.T) {
+	h := open(t)
+	do(t, h, "mkdir /b", "fork 1 2")
+	code := func(want Code, err error) {
+		t.Helper()
+		var refused *Refused
+		if !errors.As(err, &refused) || refused.Code != want {
+			t.Errorf("%v: not %d", err, want)
+		}
+	}
+	read := func(path, file string) error {
+		_, err := h.Read(path, file)
+		return err
+	}
+	words := []string{"", " ", "/b ", " /b", "/b\t", "/b\n", "/b\r", "/b pids.max", "/b pids.max 5", "x y", "pids.max ", "pids.max 5", "\n",
+		"/c\nmkdir /d", "1 2", "5 #"}
+	for _, word := range words {
+		code(BadPath, h.Mkdir(word))
+		code(BadPath, h.Rmdir(word))
+		code(BadPath, h.Write(word, "pids.max", "5"))
+		code(BadFile, h.Write("/b", word, "5"))
+		code(BadValue, h.Write("/b", "pids.max", word))
+		code(BadFile, read("/b", word))
+		for _, file := range words {
+			code(BadPath, read(word, file))
+		}
+	}
+	if depth, err := h.Depth(); err != nil || depth != 2 {
+		t.Error(depth, err)
+	}
+}

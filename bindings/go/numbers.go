@@ -1,0 +1,110 @@
+package makhloeum
+
+// #include "makhloeum.h"
+// #include <stdlib.h>
+import "C"
+
+import (
+	"runtime"
+	"strings"
+	"unsafe"
+)
+
+// cPath gives the path to C, to be freed. One with a zero byte would be cut there.
+func cPath(path string) *C.char {
+	if strings.Contains(path, "\x00") {
+		path = "?"
+	}
+	return C.CString(path)
+}
+
+// number makes a call that reads something of the group.
+func (h *Hierarchy) number(what, path string, read func(path *C.char, info *C.mk_info) C.uint32_t) error {
+	text := cPath(path)
+	defer C.free(unsafe.Pointer(text))
+	var info C.mk_info
+	status := read(text, &info)
+	runtime.KeepAlive(h)
+	if status == C.MK_DONE {
+		return nil
+	}
+	return failure(command{text: what + " " + path, path: path, hasPath: true}, uint32(status), Code(info.code), nil)
+}
+
+// Current returns pids.current: the number of processes of the group and of the groups below it.
+func (h *Hierarchy) Current(path string) (int, error) {
+	var value C.uint64_t
+	err := h.number("current", path, func(text *C.char, info *C.mk_info) C.uint32_t {
+		return C.mk_current(&h.handle, text, &value, info)
+	})
+	return int(value), err
+}
+
+// Peak returns pids.peak: the largest pids.current so far.
+func (h *Hierarchy) Peak(path string) (int, error) {
+	var value C.uint64_t
+	err := h.number("peak", path, func(text *C.char, info *C.mk_info) C.uint32_t {
+		return C.mk_peak(&h.handle, text, &value, info)
+	})
+	return int(value), err
+}
+
+// Limit returns pids.max, and false if there is no limit.
+func (h *Hierarchy) Limit(path string) (int, bool, error) {
+	var value C.uint64_t
+	err := h.number("limit", path, func(text *C.char, info *C.mk_info) C.uint32_t {
+		return C.mk_limit(&h.handle, text, &value, info)
+	})
+	if err != nil || value == C.MK_NO_LIMIT {
+		return 0, false, err
+	}
+	return int(value), true, nil
+}
+
+// Populated says whether the group or a group below it has a process.
+func (h *Hierarchy) Populated(path string) (bool, error) {
+	var populated C.bool
+	err := h.number("populated", path, func(text *C.char, info *C.mk_info) C.uint32_t {
+		return C.mk_populated(&h.handle, text, &populated, info)
+	})
+	return bool(populated), err
+}
+
+// Processes returns the pids of the group itself, ascending.
+func (h *Hierarchy) Processes(path string) ([]int, error) {
+	found := make([]C.uint32_t, 64)
+	count := 0
+	err := h.number("processes", path, func(text *C.char, info *C.mk_info) C.uint32_t {
+		for {
+			status := C.mk_processes(&h.handle, text, &found[0], C.size_t(len(found)), info)
+			count = int(info.count)
+			if status != C.MK_TOO_SMALL {
+				return status
+			}
+			found = make([]C.uint32_t, info.needed)
+		}
+	})
+	pids := make([]int, count)
+	for i := range pids {
+		pids[i] = int(found[i])
+	}
+	return pids, err
+}
+
+// UndoTo undoes recorded commands until no more than mark are left: Depth, called earlier, gives the mark. No other call
+// comes in between.
+func (h *Hierarchy) UndoTo(mark int) error {
+	if mark < 0 {
+		mark = 0
+	}
+	var info C.mk_info
+	status := C.mk_undo_to(&h.handle, C.size_t(mark), &info)
+	runtime.KeepAlive(h)
+	if status == C.MK_DONE {
+		return nil
+	}
+	return failure(command{text: "undo to a mark"}, uint32(status), Code(info.code), nil)
+}
+
+// Reset undoes all recorded commands.
+func (h *Hierarchy) Reset() error { return h.UndoTo(0) }

@@ -1,0 +1,79 @@
+package makhloeum
+
+import (
+	"errors"
+	"fmt"
+	"reflect"
+	"syscall"
+	"testing"
+)
+
+func TestNumbers(t *testing.T) {
+	h := open(t)
+	do(t, h, "mkdir /a", "mkdir /a/b", "write /a pids.max 500")
+	var want []int
+	for pid := 2; pid < 202; pid++ {
+		do(t, h, fmt.Sprintf("fork 1 %d", pid), fmt.Sprintf("write /a/b cgroup.procs %d", pid))
+		want = append(want, pid)
+	}
+	if pids, err := h.Processes("/a/b"); err != nil || !reflect.DeepEqual(pids, want) {
+		t.Error(pids, err)
+	}
+	if pids, err := h.Processes("/a"); err != nil || len(pids) != 0 {
+		t.Error(pids, err)
+	}
+	do(t, h, "exit 201")
+	current, err := h.Current("/a")
+	if err != nil || current != 199 {
+		t.Error(current, err)
+	}
+	peak, err := h.Peak("/a")
+	if err != nil || peak != 200 {
+		t.Error(peak, err)
+	}
+	if limit, ok, err := h.Limit("/a"); err != nil || !ok || limit != 500 {
+		t.Error(limit, ok, err)
+	}
+	if _, ok, err := h.Limit("/a/b"); err != nil || ok {
+		t.Error(ok, err)
+	}
+	if populated, err := h.Populated("/a"); err != nil || !populated {
+		t.Error(populated, err)
+	}
+	_, err = h.Current("/x\x00y")
+	var refused *Refused
+	if !errors.As(err, &refused) || refused.PathFault != BadByte || refused.Position != 2 {
+		t.Error(err)
+	}
+	if _, err := h.Processes("/c"); !errors.Is(err, syscall.ENOENT) {
+		t.Error(err)
+	}
+	if _, _, err := h.Limit("/"); !errors.Is(err, syscall.ENOENT) || err.Error() != "limit /: no such file or directory (nofile)" {
+		t.Error(err)
+	}
+}
+
+func TestMarks(t *testing.T) {
+	h := open(t)
+	do(t, h, "mkdir /a")
+	mark, err := h.Depth()
+	if err != nil {
+		t.Fatal(err)
+	}
+	do(t, h, "mkdir /a/b", "fork 1 2", "write /a/b cgroup.procs 2")
+	if err := h.UndoTo(mark); err != nil {
+		t.Fatal(err)
+	}
+	if groups, err := h.Groups("/"); err != nil || !reflect.DeepEqual(groups, []string{"/", "/a"}) {
+		t.Error(groups, err)
+	}
+	if err := h.UndoTo(mark + 1); !errors.Is(err, syscall.ENODATA) {
+		t.Error(err)
+	}
+	if err := h.Reset(); err != nil {
+		t.Fatal(err)
+	}
+	if groups, err := h.Groups("/"); err != nil || !reflect.DeepEqual(groups, []string{"/"}) {
+		t.Error(groups, err)
+	}
+}
