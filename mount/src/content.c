@@ -4,6 +4,7 @@
 #include "opened.h"
 #include "operations.h"
 #include "real.h"
+#include "reported.h"
 #include "watch.h"
 #include <errno.h>
 #include <fcntl.h>
@@ -81,6 +82,7 @@ static int begin_read(struct opened *o)
 	if (fault)
 		return fault;
 	const char *text = engine_text(&size);
+	text = reported_text(o->group, o->file, text, &size);
 	return opened_keep(o, text, size);
 }
 
@@ -105,7 +107,7 @@ static int move(const struct opened *o, char said[SAID_MAX], pid_t writer)
 	real_sweep();
 	int fault = real_adopt((pid_t)atoi(said));
 	if (fault)
-		return fault;
+		return fault < 0 ? fault : 0;
 	from[0] = 0;
 	if (engine_look("where %s", said) == 0) {
 		const char *text = engine_text(&size);
