@@ -3,8 +3,11 @@
 #include <fcntl.h>
 #include <limits.h>
 #include <linux/magic.h>
+#include <linux/openat2.h>
+#include <stdint.h>
 #include <string.h>
 #include <sys/stat.h>
+#include <sys/syscall.h>
 #include <sys/vfs.h>
 
 enum { LINKS = 40, PROC_ROOT = 1 };
@@ -228,7 +231,8 @@ int opening_find(pid_t thread, int directory, const char *path, bool follows)
 	if (root < 0 || from < 0 || path[0] == 0)
 		return -1;
 	if (is_same(root, own)) {
-		cleanup_fd int found = openat(from, path, O_PATH | O_CLOEXEC | (follows ? 0 : O_NOFOLLOW));
+		struct open_how how = { .flags = (uint64_t)(O_PATH | O_CLOEXEC | (follows ? 0 : O_NOFOLLOW)), .resolve = RESOLVE_NO_MAGICLINKS };
+		cleanup_fd int found = (int)syscall(SYS_openat2, from, path, &how, sizeof how);
 		if (found >= 0 && !is_proc(found) && !is_proc(from))
 			return steal_fd(&found);
 	}
