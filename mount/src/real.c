@@ -10,6 +10,7 @@
 #include <stdlib.h>
 #include <string.h>
 #include <sys/epoll.h>
+#include <sys/resource.h>
 #include <sys/syscall.h>
 #include <unistd.h>
 
@@ -32,7 +33,13 @@ static size_t noted_count, noted_room;
 
 bool real_adopt_all(void)
 {
+	struct rlimit files;
 	way = ADOPTED;
+	/* each process has a descriptor */
+	if (getrlimit(RLIMIT_NOFILE, &files) == 0) {
+		files.rlim_cur = files.rlim_max;
+		setrlimit(RLIMIT_NOFILE, &files);
+	}
 	deaths = epoll_create1(EPOLL_CLOEXEC);
 	return deaths >= 0;
 }
