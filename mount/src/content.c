@@ -65,7 +65,6 @@ static int keep(void *opened, const char *text, size_t size)
 	return opened_keep(opened, text, size);
 }
 
-/* A read from the start asks anew; any other goes on in what it gave. */
 static int begin_read(struct opened *o)
 {
 	size_t size;
@@ -73,7 +72,7 @@ static int begin_read(struct opened *o)
 		return control_read(o->control, keep, o);
 	if (!o->file->readable)
 		return -EINVAL;
-	if (o->gone)
+	if (opened_is_gone(o))
 		return -ENODEV;
 	if (o->file->constant)
 		return opened_keep(o, o->file->constant, strlen(o->file->constant));
@@ -91,7 +90,7 @@ int content_read(const char *path, char *out, size_t size, off_t at, struct fuse
 	struct opened *o = opened_of(fi);
 	(void)path;
 	engine_lock();
-	int fault = at == 0 ? begin_read(o) : 0;
+	int fault = opened_goes_on(o, at) ? 0 : begin_read(o);
 	int n = fault ? fault : opened_read(o, out, size, at);
 	engine_unlock();
 	return n;
@@ -101,20 +100,16 @@ int content_read(const char *path, char *out, size_t size, off_t at, struct fuse
 static int move(const struct opened *o, char said[SAID_MAX], pid_t writer)
 {
 	char from[PATH_MAX_SAID];
-	size_t size;
 	if (strcmp(said, "0") == 0)
 		snprintf(said, SAID_MAX, "%d", real_process_of(writer));
+	long pid = strtol(said, NULL, 10);
 	real_sweep();
-	int fault = real_adopt((pid_t)atoi(said));
+	int fault = real_adopt((pid_t)pid);
 	if (fault)
 		return fault < 0 ? fault : 0;
-	from[0] = 0;
-	if (engine_look("where %s", said) == 0) {
-		const char *text = engine_text(&size);
-		snprintf(from, sizeof from, "%.*s", (int)size - 4, text + 3);
-	}
+	bool was_there = engine_where(pid, from, sizeof from);
 	fault = engine_line("write %s %s %s", o->group, o->file->name, said);
-	if (fault == 0 && from[0]) {
+	if (fault == 0 && was_there) {
 		watch_above(from);
 		watch_above(o->group);
 	}
@@ -128,7 +123,7 @@ static int kill_group(const struct opened *o, const char *said)
 	int fault = engine_line("write %s %s %s", o->group, o->file->name, said);
 	if (fault == 0) {
 		real_kill_noted();
-		watch_all();
+		watch_below(o->group);
 	}
 	return fault;
 }
@@ -151,7 +146,7 @@ static int write_file(struct opened *o, const char *data, size_t size, pid_t wri
 		return control_write(o->control, data, size);
 	if (o->file->value == NOTHING)
 		return -EINVAL;
-	if (o->gone)
+	if (opened_is_gone(o))
 		return -ENODEV;
 	if (o->file->value == NO_CHANGE)
 		return write_constant(o->file, data, size);
@@ -180,7 +175,7 @@ int content_poll(const char *path, struct fuse_file_info *fi, struct fuse_pollha
 	struct opened *o = opened_of(fi);
 	(void)path;
 	engine_lock();
-	if (o->file && o->file->notified && !o->gone)
+	if (o->file && o->file->notified && !opened_is_gone(o))
 		watch_seen(o->group, o->file);
 	*told = opened_poll(o, waiter);
 	engine_unlock();

@@ -1,27 +1,30 @@
 #include "control.h"
 #include "engine.h"
-#include "opened.h"
+#include "number.h"
+#include "operations.h"
 #include "watch.h"
 #include <errno.h>
 #include <stdio.h>
-#include <stdlib.h>
 #include <string.h>
 
 const char control_directory[] = ".makhloeum";
 
-enum { UNDO, DEPTH, NEWEST, TRACE, FORK, EXIT, FILES };
+enum { UNDO, DEPTH, NEWEST, TRACE, FORK, EXIT };
 
 static const struct {
 	const char *name;
 	mode_t mode;
-} files[FILES] = {
-	[UNDO] = { "undo", 0200 },  [DEPTH] = { "depth", 0444 }, [NEWEST] = { "newest", 0444 },
-	[TRACE] = { "trace", 0444 }, [FORK] = { "fork", 0200 },  [EXIT] = { "exit", 0200 },
+	bool of_history;
+} files[CONTROL_FILES] = {
+	[UNDO] = { "undo", 0200, true },   [DEPTH] = { "depth", 0444, true }, [NEWEST] = { "newest", 0444, true },
+	[TRACE] = { "trace", 0444, true }, [FORK] = { "fork", 0200, false },  [EXIT] = { "exit", 0200, false },
 };
 
 bool control_has(const char *path)
 {
 	size_t n = sizeof control_directory - 1;
+	if (look.marked && !look.history)
+		return false;
 	return path[0] == '/' && strncmp(path + 1, control_directory, n) == 0 && (path[n + 1] == 0 || path[n + 1] == '/');
 }
 
@@ -29,16 +32,21 @@ int control_find(const char *path)
 {
 	const char *name = path + sizeof control_directory;
 	if (*name == 0)
-		return -1;
-	for (int i = 0; i < FILES; i++)
-		if (strcmp(name + 1, files[i].name) == 0)
+		return CONTROL_ITSELF;
+	for (int i = 0; i < CONTROL_FILES; i++)
+		if (control_is_there(i) && strcmp(name + 1, files[i].name) == 0)
 			return i;
 	return -ENOENT;
 }
 
 const char *control_name(int file)
 {
-	return file < FILES ? files[file].name : NULL;
+	return files[file].name;
+}
+
+bool control_is_there(int file)
+{
+	return look.history || !files[file].of_history;
 }
 
 mode_t control_mode(int file)
@@ -51,6 +59,7 @@ int control_read(int file, int (*keep)(void *, const char *, size_t), void *to)
 	char depth[32];
 	const char *text;
 	size_t size;
+	WANTS_LOCK();
 	switch (file) {
 	case DEPTH:
 		snprintf(depth, sizeof depth, "%zu\n", engine_depth());
@@ -66,44 +75,76 @@ int control_read(int file, int (*keep)(void *, const char *, size_t), void *to)
 	}
 }
 
-/* Takes the newest `count` commands back; stops where there is none. */
+static void watch_process(long pid)
+{
+	char group[PATH_MAX_SAID];
+	if (engine_where(pid, group, sizeof group))
+		watch_above(group);
+}
+
+/* Tells what an undo has changed: `command` is what it took back. */
+static void tell_undone(const char *command, size_t size)
+{
+	char text[2 * PATH_MAX_SAID], group[PATH_MAX_SAID], file[64];
+	long pid = 0;
+	snprintf(text, sizeof text, "%.*s", (int)size, command);
+	if (sscanf(text, "mkdir %4095s", group) == 1)
+		remembered_lose(group);
+	else if (sscanf(text, "write %4095s %63s %ld", group, file, &pid) >= 2) {
+		if (strcmp(file, "cgroup.kill") == 0)
+			watch_below(group);
+		else if (strcmp(file, "cgroup.procs") == 0) {
+			watch_above(group);
+			watch_process(pid);
+		}
+	} else if (sscanf(text, "fork %ld", &pid) == 1 || sscanf(text, "exit %ld", &pid) == 1)
+		watch_process(pid);
+}
+
+/* Takes the newest `count` commands back. Where there are not so many, none. */
 static int undo(unsigned long count)
 {
-	int fault = 0;
-	while (count-- && fault == 0)
-		fault = engine_line("undo");
-	opened_check();
-	watch_all();
+	if (count > engine_depth())
+		return -ENODATA;
+	while (count--) {
+		size_t size;
+		int fault = engine_line("undo");
+		if (fault)
+			return fault;
+		const char *command = engine_text(&size);
+		tell_undone(command, size);
+	}
+	return 0;
+}
+
+static int control_fork(unsigned long parent, unsigned long child)
+{
+	int fault = engine_line("fork %lu %lu", parent, child);
+	if (fault == 0 || fault == -EAGAIN)
+		watch_process((long)parent);
+	return fault;
+}
+
+static int control_exit(unsigned long pid)
+{
+	char group[PATH_MAX_SAID];
+	bool was_there = engine_where((long)pid, group, sizeof group);
+	int fault = engine_line("exit %lu", pid);
+	if (fault == 0 && was_there)
+		watch_above(group);
 	return fault;
 }
 
 int control_write(int file, const char *data, size_t size)
 {
-	char text[64], end;
-	unsigned long count = 1;
-	int parent, child, fault;
-	if (size >= sizeof text)
-		return -EINVAL;
-	memcpy(text, data, size);
-	text[size] = 0;
-	switch (file) {
-	case UNDO:
-		if (text[strspn(text, " \t\n")] && (sscanf(text, " %lu %c", &count, &end) != 1 || strchr(text, '-')))
-			return -EINVAL;
-		return undo(count);
-	case FORK:
-		if (sscanf(text, " %d %d %c", &parent, &child, &end) != 2)
-			return -EINVAL;
-		fault = engine_line("fork %d %d", parent, child);
-		break;
-	case EXIT:
-		if (sscanf(text, " %d %c", &parent, &end) != 1)
-			return -EINVAL;
-		fault = engine_line("exit %d", parent);
-		break;
-	default:
-		return -EINVAL;
-	}
-	watch_all();
-	return fault;
+	unsigned long said[2];
+	WANTS_LOCK();
+	int count = numbers_said(data, size, said, 2);
+	if (file == UNDO && count >= 0 && count <= 1)
+		return undo(count ? said[0] : 1);
+	if (file == FORK && count == 2)
+		return control_fork(said[0], said[1]);
+	if (file == EXIT && count == 1)
+		return control_exit(said[0]);
+	return -EINVAL;
 }

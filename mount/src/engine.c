@@ -1,4 +1,5 @@
 #include "engine.h"
+#include "serve.h"
 #include <errno.h>
 #include <makhloeum.h>
 #include <pthread.h>
@@ -9,12 +10,16 @@
 #include <string.h>
 #include <unistd.h>
 
-enum { LINE_MAX = 8192, FIRST_ANSWER = 16384 };
+enum { LINE_MAX = 8192, FIRST_ANSWER = 16384, FORGET_AT = 1024, REPLAYED_MAX = 16777216 };
+
+/* A library without it keeps what could be undone. */
+extern uint32_t mk_forget(mk_handle *h) __attribute__((weak));
 
 static pthread_mutex_t lock = PTHREAD_MUTEX_INITIALIZER;
 static mk_handle engine;
-static int trace_to = -1, answers_to = -1;
-static int broken;          /* the errno after which the trace cannot go on: it ends in half a line */
+static struct kept *trace, *answers;
+static bool has_history, told_long;
+static _Thread_local bool holds_lock;
 static uint64_t number = 1; /* of the next line that is kept */
 static char line[LINE_MAX];
 static size_t line_size;
@@ -41,10 +46,11 @@ static bool make_room(struct buffer *b, size_t room)
 	return true;
 }
 
-bool engine_start(int trace, int answers)
+bool engine_start(struct kept *trace_to, struct kept *answers_to, bool history)
 {
-	trace_to = trace;
-	answers_to = answers;
+	trace = trace_to;
+	answers = answers_to;
+	has_history = history;
 	return make_room(&answer, FIRST_ANSWER) && make_room(&text, FIRST_ANSWER) && make_room(&standing, LINE_MAX) &&
 	       make_room(&names, MK_CHILDREN_MAX) && mk_open(&engine) == MK_DONE;
 }
@@ -55,43 +61,31 @@ void engine_end(void)
 	struct buffer *all[] = { &answer, &text, &standing, &names, &paths };
 	for (size_t i = 0; i < sizeof all / sizeof *all; i++)
 		free(all[i]->at);
-	if (trace_to >= 0)
-		close(trace_to);
-	if (answers_to >= 0)
-		close(answers_to);
+	kept_close(trace);
+	kept_close(answers);
 }
 
 void engine_lock(void)
 {
 	pthread_mutex_lock(&lock);
+	holds_lock = true;
 }
 
 void engine_unlock(void)
 {
+	holds_lock = false;
 	pthread_mutex_unlock(&lock);
 }
 
-/* Writes all, or takes the part back that was written. 0 or -errno. */
-static int keep(int fd, const char *bytes, size_t size)
+#ifdef CHECK_LOCK
+void engine_check_lock(const char *function)
 {
-	size_t done = 0;
-	if (broken)
-		return -broken;
-	while (done < size) {
-		ssize_t n = write(fd, bytes + done, size - done);
-		if (n < 0 && errno == EINTR)
-			continue;
-		if (n <= 0) {
-			int fault = n < 0 ? errno : EIO;
-			off_t end = lseek(fd, 0, SEEK_CUR);
-			if (done && (end < (off_t)done || ftruncate(fd, end - (off_t)done) || lseek(fd, end - (off_t)done, SEEK_SET) < 0))
-				broken = fault;
-			return -fault;
-		}
-		done += (size_t)n;
-	}
-	return 0;
+	if (holds_lock)
+		return;
+	say("%s is called without the engine's lock", function);
+	abort();
 }
+#endif
 
 /* The answer without its first line, and without the mark before each other line. */
 static int take_text(void)
@@ -151,16 +145,51 @@ static bool is_recorded(uint32_t status, uint32_t code)
 	return false;
 }
 
+static bool is_undo(void)
+{
+	return line_size == 4 && memcmp(line, "undo", 4) == 0;
+}
+
 static void stand(uint32_t status, uint32_t code)
 {
+	if (!has_history)
+		return;
 	if ((status == MK_DONE || status == MK_REFUSED) && is_recorded(status, code)) {
 		memcpy(standing.at + standing.size, line, line_size + 1);
 		standing.size += line_size + 1;
-	} else if (status == MK_DONE && strcmp(line, "undo\n") == 0) {
+	} else if (status == MK_DONE && is_undo()) {
 		size_t newest;
 		engine_newest(&newest);
 		standing.size -= newest;
 	}
+}
+
+/* Brings back the state before the line that was answered: what it recorded is undone, and what it undid is done again. */
+static bool step_back(uint32_t status, uint32_t code)
+{
+	if (status == MK_DONE && is_undo()) {
+		if (take_text() || text.size == 0 || text.size > sizeof line)
+			return false;
+		line_size = text.size - 1;
+		memcpy(line, text.at, line_size);
+	} else if ((status == MK_DONE || status == MK_REFUSED) && is_recorded(status, code)) {
+		line_size = 4;
+		memcpy(line, "undo", line_size);
+	} else
+		return true;
+	status = ask(0, &code);
+	return status == MK_DONE || (status == MK_REFUSED && code == MK_PIDS_MAX);
+}
+
+/* A longer trace than cgreplay reads is said once, and marked in the trace by a comment. */
+static void tell_long(void)
+{
+	static const char mark[] = "# This trace is longer than 16,777,216 bytes: use cgshell, not cgreplay.\n";
+	if (told_long || trace->fd < 0 || trace->size <= REPLAYED_MAX)
+		return;
+	told_long = true;
+	say("%s is longer than 16,777,216 bytes, which cgreplay refuses: replay it by cgshell < %s", trace->name, trace->name);
+	kept_add(trace, mark, sizeof mark - 1);
 }
 
 /* `line` has the text; 0 or -errno */
@@ -168,24 +197,28 @@ static int ask_and_keep(void)
 {
 	uint32_t code;
 	int fault = 0;
+	size_t size = line_size + 1;
 	line[line_size] = '\n';
-	line[line_size + 1] = 0;
-	if (!make_room(&standing, standing.size + line_size + 1))
+	line[size] = 0;
+	if (has_history && !make_room(&standing, standing.size + size))
 		return -ENOMEM;
-	if (trace_to >= 0 && (fault = keep(trace_to, line, line_size + 1)))
+	if (!has_history && mk_forget && engine_depth() >= FORGET_AT)
+		mk_forget(&engine);
+	if (trace->fd >= 0 && (fault = kept_add(trace, line, size)))
 		return fault;
 	uint32_t status = ask(number, &code);
-	if (status != MK_DONE && status != MK_REFUSED && status != MK_FAULT) {
-		/* no answer, and nothing has changed: so the line was never there */
-		off_t end = trace_to >= 0 ? lseek(trace_to, 0, SEEK_CUR) : -1;
-		if (trace_to >= 0 && (end < 0 || ftruncate(trace_to, end - (off_t)line_size - 1) || lseek(trace_to, -(off_t)line_size - 1, SEEK_CUR) < 0))
-			broken = ENOMEM;
-		return -ENOMEM;
+	if (status != MK_DONE && status != MK_REFUSED && status != MK_FAULT)
+		fault = -ENOMEM; /* nothing has changed: so the line was never there */
+	else if (answers->fd >= 0 && (fault = kept_add(answers, answer.at, answer.size)) && !step_back(status, code))
+		trace->broken = answers->broken = EIO; /* out of memory: the state is ahead of the answers, and goes no further */
+	if (fault) {
+		if (trace->fd >= 0)
+			kept_take_back(trace, size);
+		return fault;
 	}
 	number++;
 	stand(status, code);
-	if (answers_to >= 0 && keep(answers_to, answer.at, answer.size))
-		broken = EIO;
+	tell_long();
 	return error_of(status, code);
 }
 
@@ -199,6 +232,7 @@ __attribute__((format(printf, 1, 0))) static bool set_line(const char *format, v
 int engine_line(const char *format, ...)
 {
 	va_list words;
+	WANTS_LOCK();
 	va_start(words, format);
 	bool fits = set_line(format, words);
 	va_end(words);
@@ -209,6 +243,7 @@ int engine_look(const char *format, ...)
 {
 	uint32_t code;
 	va_list words;
+	WANTS_LOCK();
 	va_start(words, format);
 	bool fits = set_line(format, words);
 	va_end(words);
@@ -220,19 +255,32 @@ int engine_look(const char *format, ...)
 
 const char *engine_text(size_t *size)
 {
+	WANTS_LOCK();
 	*size = text.size;
 	return text.at;
+}
+
+bool engine_where(long pid, char *group, size_t size)
+{
+	size_t n;
+	if (engine_look("where %ld", pid))
+		return false;
+	const char *said = engine_text(&n); /* 0::GROUP and a line feed */
+	snprintf(group, size, "%.*s", (int)n - 4, said + 3);
+	return true;
 }
 
 int engine_has_group(const char *path)
 {
 	mk_info info;
+	WANTS_LOCK();
 	return mk_has_group(&engine, (const uint8_t *)path, strlen(path), &info) == MK_DONE ? 0 : -ENOENT;
 }
 
 int engine_children(const char *path, const char **found, size_t *count)
 {
 	mk_info info;
+	WANTS_LOCK();
 	uint32_t status = mk_children(&engine, (const uint8_t *)path, strlen(path), (uint8_t *)names.at, names.room, &info);
 	*found = names.at;
 	*count = info.count;
@@ -276,18 +324,21 @@ int engine_groups(const char *top, const char **found, size_t *count)
 size_t engine_depth(void)
 {
 	size_t depth = 0;
+	WANTS_LOCK();
 	mk_depth(&engine, &depth);
 	return depth;
 }
 
 const char *engine_standing(size_t *size)
 {
+	WANTS_LOCK();
 	*size = standing.size;
 	return standing.at;
 }
 
 const char *engine_newest(size_t *size)
 {
+	WANTS_LOCK();
 	size_t from = standing.size;
 	if (from)
 		from--;

@@ -2,26 +2,37 @@
 #ifndef ENGINE_H
 #define ENGINE_H
 
+#include "kept.h"
 #include <stdbool.h>
 #include <stddef.h>
+#include <sys/types.h>
 
-/* Makes the engine. Where a file descriptor is not -1, each line goes to `trace` before it is asked, and its answer to
-   `answers`: cgreplay < TRACE writes the same. */
-bool engine_start(int trace, int answers);
+/* Makes the engine. Each line goes to `trace` before it is asked, and its answer to `answers`: cgreplay < TRACE writes the
+   same. Without `history` commands cannot be undone, and take no memory once they are answered. */
+bool engine_start(struct kept *trace, struct kept *answers, bool history);
 void engine_end(void);
 
-/* All calls below want the lock, and so does all that the mount remembers beside the engine. */
+/* All calls below want the lock, and so does all that the mount remembers beside the engine. A build with CHECK_LOCK ends
+   where a function that wants it is called without it. */
 void engine_lock(void);
 void engine_unlock(void);
+#ifdef CHECK_LOCK
+void engine_check_lock(const char *function);
+#define WANTS_LOCK() engine_check_lock(__func__)
+#else
+#define WANTS_LOCK() ((void)0)
+#endif
 
-/* Asks one line and keeps it. 0, or the negated errno of its refusal; that of the device, where the line could not be
-   kept and was not asked. */
+/* Asks one line and keeps it. 0, or the negated errno of its refusal; or that of a device that could not keep the line or
+   its answer, and then nothing has changed. */
 int engine_line(const char *format, ...) __attribute__((format(printf, 1, 2)));
 /* Asks a line that changes nothing, and keeps nothing of it. */
 int engine_look(const char *format, ...) __attribute__((format(printf, 1, 2)));
 /* The text that the last answer carried, without its marks: of cat and where the file's bytes, of undo the command. */
 const char *engine_text(size_t *size);
 
+/* The group of a process; false where there is no such process. */
+bool engine_where(long pid, char *group, size_t size);
 /* 0, or -ENOENT. */
 int engine_has_group(const char *path);
 /* The names below a group, each ended by a zero byte. 0, or -ENOENT. */

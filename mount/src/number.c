@@ -123,3 +123,26 @@ int value_said(enum value kind, const char *data, size_t size, char said[SAID_MA
 		return -EINVAL;
 	}
 }
+
+int numbers_said(const char *data, size_t size, unsigned long out[], int most)
+{
+	int count = 0;
+	for (size_t i = 0; i < size && data[i];) {
+		if (is_blank((unsigned char)data[i])) {
+			i++;
+			continue;
+		}
+		if (count == most)
+			return -EINVAL;
+		unsigned long n = 0;
+		bool too_large = false;
+		for (; i < size && data[i] && !is_blank((unsigned char)data[i]); i++) {
+			if (data[i] < '0' || data[i] > '9')
+				return -EINVAL;
+			if (__builtin_mul_overflow(n, 10UL, &n) || __builtin_add_overflow(n, (unsigned long)(data[i] - '0'), &n))
+				too_large = true;
+		}
+		out[count++] = too_large ? ULONG_MAX : n;
+	}
+	return count;
+}

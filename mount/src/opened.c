@@ -1,30 +1,35 @@
 #include "opened.h"
+#include "cleanup.h"
 #include "engine.h"
 #include <errno.h>
 #include <poll.h>
 #include <stdlib.h>
 #include <string.h>
 
-static struct opened *all;
-
 struct opened *opened_new(const char *group, const struct file *file, int control)
 {
-	struct opened *o = calloc(1, sizeof *o);
-	if (!o)
+	WANTS_LOCK();
+	cleanup_free struct opened *o = calloc(1, sizeof *o);
+	cleanup_free char *own_group = strdup(group);
+	struct remembered *r = o && own_group ? remembered_make(group) : NULL;
+	if (!r)
 		return NULL;
-	o->group = strdup(group);
-	if (!o->group) {
-		free(o);
-		return NULL;
-	}
 	o->file = file;
 	o->control = control;
 	o->changed = true;
-	o->next = all;
-	if (all)
-		all->before = o;
-	all = o;
-	return o;
+	o->group = steal_pointer(&own_group);
+	o->of = r;
+	o->next = r->opened;
+	if (o->next)
+		o->next->before = o;
+	r->opened = o;
+	return steal_pointer(&o);
+}
+
+bool opened_is_gone(const struct opened *o)
+{
+	WANTS_LOCK();
+	return !o->of;
 }
 
 static void wake(struct opened *o)
@@ -37,16 +42,29 @@ static void wake(struct opened *o)
 	o->waiting = NULL;
 }
 
-void opened_free(struct opened *o)
+/* Takes it out of those of its group. */
+static void leave(struct opened *o)
 {
-	if (o->waiting)
-		fuse_pollhandle_destroy(o->waiting);
+	if (!o->of)
+		return;
 	if (o->next)
 		o->next->before = o->before;
 	if (o->before)
 		o->before->next = o->next;
 	else
-		all = o->next;
+		o->of->opened = o->next;
+	o->next = o->before = NULL;
+	o->of = NULL;
+}
+
+void opened_free(struct opened *o)
+{
+	WANTS_LOCK();
+	struct remembered *r = o->of;
+	if (o->waiting)
+		fuse_pollhandle_destroy(o->waiting);
+	leave(o);
+	remembered_tidy(r);
 	free(o->group);
 	free(o->text);
 	free(o);
@@ -54,6 +72,7 @@ void opened_free(struct opened *o)
 
 int opened_keep(struct opened *o, const char *text, size_t size)
 {
+	WANTS_LOCK();
 	char *copy = malloc(size + 1);
 	if (!copy)
 		return -ENOMEM;
@@ -65,47 +84,51 @@ int opened_keep(struct opened *o, const char *text, size_t size)
 	return 0;
 }
 
-int opened_read(const struct opened *o, char *out, size_t size, off_t at)
+/* A read that begins where the last one ended goes on in the text that it gave; any other is one of the text of now. */
+bool opened_goes_on(const struct opened *o, off_t at)
 {
+	WANTS_LOCK();
+	return at != 0 && o->text && at == o->read_to;
+}
+
+int opened_read(struct opened *o, char *out, size_t size, off_t at)
+{
+	WANTS_LOCK();
 	if (at < 0 || (size_t)at >= o->size)
-		return 0;
-	if (size > o->size - (size_t)at)
+		size = 0;
+	else if (size > o->size - (size_t)at)
 		size = o->size - (size_t)at;
-	memcpy(out, o->text + at, size);
+	if (size)
+		memcpy(out, o->text + at, size);
+	o->read_to = at + (off_t)size;
 	return (int)size;
 }
 
 unsigned opened_poll(struct opened *o, struct fuse_pollhandle *waiter)
 {
+	WANTS_LOCK();
 	if (waiter) {
 		if (o->waiting)
 			fuse_pollhandle_destroy(o->waiting);
 		o->waiting = waiter;
 	}
-	return POLLIN | POLLOUT | POLLRDNORM | POLLWRNORM | (o->changed || o->gone ? POLLERR | POLLPRI : 0);
+	return POLLIN | POLLOUT | POLLRDNORM | POLLWRNORM | (o->changed || !o->of ? POLLERR | POLLPRI : 0);
 }
 
-void opened_wake(const char *group, const struct file *file)
+void opened_wake(const struct remembered *r, const struct file *file)
 {
-	for (struct opened *o = all; o; o = o->next)
-		if (o->file == file && strcmp(o->group, group) == 0)
+	WANTS_LOCK();
+	for (struct opened *o = r->opened; o; o = o->next)
+		if (o->file == file)
 			wake(o);
 }
 
-void opened_lose(const char *group)
+void opened_lose(struct remembered *r)
 {
-	for (struct opened *o = all; o; o = o->next)
-		if (o->file && strcmp(o->group, group) == 0) {
-			o->gone = true;
-			wake(o);
-		}
-}
-
-void opened_check(void)
-{
-	for (struct opened *o = all; o; o = o->next)
-		if (o->file && !o->gone && engine_has_group(o->group)) {
-			o->gone = true;
-			wake(o);
-		}
+	WANTS_LOCK();
+	while (r->opened) {
+		struct opened *o = r->opened;
+		leave(o);
+		wake(o);
+	}
 }

@@ -1,5 +1,6 @@
 /* The table for libfuse, and the operations that a cgroup file system refuses. */
 #include "operations.h"
+#include "attributes.h"
 #include "watch.h"
 #include <errno.h>
 #include <stdint.h>
@@ -90,4 +91,8 @@ const struct fuse_operations operations = {
 	.symlink = no_link,
 	.link = no_link,
 	.rename = no_rename,
+	.setxattr = attributes_set,
+	.getxattr = attributes_get,
+	.listxattr = attributes_list,
+	.removexattr = attributes_remove,
 };

@@ -2,14 +2,14 @@
 #ifndef OPERATIONS_H
 #define OPERATIONS_H
 
-#include "place.h"
+#include "remembered.h"
 #include <fuse3/fuse.h>
 #include <stdbool.h>
 #include <sys/stat.h>
 
 /* How the mount looks. */
 struct look {
-	bool show_control; /* readdir tells the control directory */
+	bool history;      /* the control directory is listed, and has the files of a history */
 	bool marked;       /* statfs carries a mark by which the supervisor knows this file system */
 	uid_t uid;
 	gid_t gid;
@@ -39,8 +39,8 @@ int content_poll(const char *path, struct fuse_file_info *fi, struct fuse_pollha
 int content_release(const char *path, struct fuse_file_info *fi);
 
 /* Owners and modes that were given to a group or file (owner.c); all want the engine's lock. */
-void owner_apply(const char *path, struct stat *st);
-int owner_set(const char *path, const struct stat *st);
-void owner_forget(const char *group);
+void owner_apply(const struct place *place, struct stat *st);
+int owner_set(const struct place *place, const struct stat *st);
+void owner_forget(struct remembered *r);
 
 #endif

@@ -1,30 +1,30 @@
 /* Owners and modes are remembered and shown, and decide nothing: the mount is one user's. */
+#include "engine.h"
 #include "operations.h"
+#include "remembered.h"
 #include <errno.h>
 #include <stdlib.h>
-#include <string.h>
 
 struct owned {
 	struct owned *next;
+	const struct file *file; /* NULL: the group's own */
 	uid_t uid;
 	gid_t gid;
 	mode_t mode;
-	char path[];
 };
 
-static struct owned *all;
-
-static struct owned *find(const char *path)
+static struct owned *find(const struct remembered *r, const struct file *file)
 {
-	struct owned *o = all;
-	while (o && strcmp(o->path, path))
+	struct owned *o = r ? r->owned : NULL;
+	while (o && o->file != file)
 		o = o->next;
 	return o;
 }
 
-void owner_apply(const char *path, struct stat *st)
+void owner_apply(const struct place *place, struct stat *st)
 {
-	struct owned *o = find(path);
+	WANTS_LOCK();
+	const struct owned *o = find(remembered_find(place->group), place->file);
 	if (!o)
 		return;
 	st->st_uid = o->uid;
@@ -32,17 +32,21 @@ void owner_apply(const char *path, struct stat *st)
 	st->st_mode = (st->st_mode & S_IFMT) | o->mode;
 }
 
-int owner_set(const char *path, const struct stat *st)
+int owner_set(const struct place *place, const struct stat *st)
 {
-	struct owned *o = find(path);
+	WANTS_LOCK();
+	struct remembered *r = remembered_make(place->group);
+	struct owned *o = find(r, place->file);
 	if (!o) {
-		size_t size = strlen(path) + 1;
-		o = malloc(sizeof *o + size);
-		if (!o)
+		o = calloc(1, sizeof *o);
+		if (!r || !o) {
+			free(o);
+			remembered_tidy(r);
 			return -ENOMEM;
-		memcpy(o->path, path, size);
-		o->next = all;
-		all = o;
+		}
+		o->file = place->file;
+		o->next = r->owned;
+		r->owned = o;
 	}
 	o->uid = st->st_uid;
 	o->gid = st->st_gid;
@@ -50,14 +54,12 @@ int owner_set(const char *path, const struct stat *st)
 	return 0;
 }
 
-void owner_forget(const char *group)
+void owner_forget(struct remembered *r)
 {
-	for (struct owned **at = &all; *at;) {
-		struct owned *o = *at;
-		if (is_at_or_below(o->path, group)) {
-			*at = o->next;
-			free(o);
-		} else
-			at = &o->next;
+	WANTS_LOCK();
+	while (r->owned) {
+		struct owned *o = r->owned;
+		r->owned = o->next;
+		free(o);
 	}
 }

@@ -1,4 +1,5 @@
 #include "real.h"
+#include "cleanup.h"
 #include "engine.h"
 #include "place.h"
 #include "reported.h"
@@ -10,6 +11,7 @@
 #include <stdlib.h>
 #include <string.h>
 #include <sys/epoll.h>
+#include <sys/resource.h>
 #include <sys/syscall.h>
 #include <unistd.h>
 
@@ -33,7 +35,13 @@ static char noted_group[PATH_MAX_SAID];
 
 bool real_adopt_all(void)
 {
+	struct rlimit files;
 	way = ADOPTED;
+	/* each process has a descriptor */
+	if (getrlimit(RLIMIT_NOFILE, &files) == 0) {
+		files.rlim_cur = files.rlim_max;
+		setrlimit(RLIMIT_NOFILE, &files);
+	}
 	deaths = epoll_create1(EPOLL_CLOEXEC);
 	return deaths >= 0;
 }
@@ -101,12 +109,8 @@ static int remember(pid_t pid)
 	return 0;
 }
 
-static void die(pid_t pid)
+static void drop_adopted(pid_t pid)
 {
-	char group[PATH_MAX_SAID];
-	bool stood = find_group(pid, group);
-	if (known[pid] == LIVE)
-		engine_line("exit %d", pid);
 	known[pid] = UNKNOWN;
 	for (size_t i = 0; i < adopted_count; i++)
 		if (adopted[i].pid == pid) {
@@ -114,34 +118,64 @@ static void die(pid_t pid)
 			adopted[i] = adopted[--adopted_count];
 			break;
 		}
+}
+
+/* False where the exit cannot be kept now: an adopted one exits at a later look. */
+static bool die(pid_t pid)
+{
+	char group[PATH_MAX_SAID];
+	bool stood = find_group(pid, group);
+	if (known[pid] == LIVE) {
+		int fault = engine_line("exit %d", pid);
+		if (fault && fault != -ESRCH && way == ADOPTED)
+			return false;
+	}
+	drop_adopted(pid);
 	if (stood)
 		watch_above(group);
+	return true;
+}
+
+/* Asked once the child's descriptor is held: whatever the number means now, a signal goes to a child of an adopted process,
+   or nowhere. */
+static bool is_child_of(pid_t child, pid_t parent)
+{
+	char path[40], said[64];
+	int found = 0;
+	snprintf(path, sizeof path, "/proc/%d/status", child);
+	cleanup_stream FILE *f = fopen(path, "re");
+	while (f && fgets(said, sizeof said, f))
+		if (sscanf(said, "PPid: %d", &found) == 1)
+			break;
+	return found == parent;
 }
 
 static void adopt_child(pid_t parent, long child)
 {
 	if (child <= PROCESS_ONE || child >= PIDS || is_known((pid_t)child) || child == getpid())
 		return;
+	if (remember((pid_t)child))
+		return;
+	int fault = is_child_of((pid_t)child, parent) ? engine_line("fork %d %ld", parent, child) : -ESRCH;
 	/* a fork that pids.max refuses is counted once: the child is real all the same, and remembered */
-	if (remember((pid_t)child) == 0)
-		engine_line("fork %d %ld", parent, child);
+	if (fault && fault != -EAGAIN)
+		drop_adopted((pid_t)child);
 }
 
-/* The children of each thread. */
+/* The children of each thread. Their list has any length, and a number of it is taken only whole. */
 static void adopt_children(pid_t pid)
 {
-	char path[320], text[4096];
+	char path[320];
+	cleanup_free char *text = NULL;
+	size_t room = 0;
 	struct dirent *thread;
 	snprintf(path, sizeof path, "/proc/%d/task", pid);
-	DIR *threads = opendir(path);
+	cleanup_directory DIR *threads = opendir(path);
 	while (threads && (thread = readdir(threads))) {
 		snprintf(path, sizeof path, "/proc/%d/task/%s/children", pid, thread->d_name);
-		FILE *f = thread->d_name[0] == '.' ? NULL : fopen(path, "re");
-		if (!f)
+		cleanup_stream FILE *f = thread->d_name[0] == '.' ? NULL : fopen(path, "re");
+		if (!f || getdelim(&text, &room, 0, f) <= 0)
 			continue;
-		size_t n = fread(text, 1, sizeof text - 1, f);
-		fclose(f);
-		text[n] = 0;
 		for (char *at = text, *end;; at = end) {
 			long child = strtol(at, &end, 10);
 			if (end == at)
@@ -149,8 +183,6 @@ static void adopt_children(pid_t pid)
 			adopt_child(pid, child);
 		}
 	}
-	if (threads)
-		closedir(threads);
 }
 
 void real_sweep(void)
@@ -165,7 +197,8 @@ void real_sweep(void)
 		adopt_children(adopted[i].pid);
 	while ((n = epoll_wait(deaths, dead, 16, 0)) > 0)
 		for (int i = 0; i < n; i++)
-			die((pid_t)dead[i].data.u32);
+			if (!die((pid_t)dead[i].data.u32))
+				return;
 }
 
 int real_adopt(pid_t pid)

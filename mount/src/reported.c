@@ -30,12 +30,7 @@ static bool in_range(pid_t pid)
 
 static bool find_group(pid_t pid, char group[PATH_MAX_SAID])
 {
-	size_t size;
-	if (engine_look("where %d", pid))
-		return false;
-	const char *text = engine_text(&size);
-	snprintf(group, PATH_MAX_SAID, "%.*s", (int)size - 4, text + 3);
-	return true;
+	return engine_where(pid, group, PATH_MAX_SAID);
 }
 
 /* ---------------------------------------------------------------- reservations */

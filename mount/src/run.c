@@ -203,7 +203,7 @@ int run_program(char **program, const struct wishes *asked)
 	int ends[2], helpers[2];
 	wishes.extra = true;
 	if (!serve_prepare(&wishes))
-		return 1;
+		return REFUSED_HERE;
 	if (!space_enter(wishes.as_root))
 		return REFUSED_HERE;
 	look.uid = geteuid();

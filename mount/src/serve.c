@@ -7,6 +7,7 @@
 #include <fcntl.h>
 #include <fuse3/fuse_lowlevel.h>
 #include <limits.h>
+#include <linux/fuse.h>
 #include <signal.h>
 #include <stdarg.h>
 #include <stdio.h>
@@ -16,6 +17,8 @@
 #include <sys/wait.h>
 #include <time.h>
 #include <unistd.h>
+
+enum { REFUSED = 2 };
 
 void say(const char *format, ...)
 {
@@ -27,23 +30,29 @@ void say(const char *format, ...)
 	fprintf(stderr, "\n");
 }
 
-/* A file to keep lines in; -1 for none, -2 where it cannot be had. */
-static int open_kept(const char *name)
+static struct kept trace, answers;
+
+/* Nothing is changed before all is found to be right. */
+static bool open_kept(const struct wishes *wishes)
 {
-	if (!name)
-		return -1;
-	int fd = open(name, O_WRONLY | O_CREAT | O_TRUNC | O_CLOEXEC, 0666);
-	if (fd < 0)
-		say("%s cannot be written: %s", name, strerror(errno));
-	return fd < 0 ? -2 : fd;
+	bool right = kept_open(&trace, wishes->trace);
+	right = kept_open(&answers, right ? wishes->answers : NULL) && right;
+	if (right && kept_is_same(&trace, &answers)) {
+		say("--trace and --answers are the same file");
+		right = false;
+	}
+	if (right && kept_begin(&trace) && kept_begin(&answers))
+		return true;
+	kept_abandon(&trace);
+	kept_abandon(&answers);
+	return false;
 }
 
 bool serve_prepare(const struct wishes *wishes)
 {
-	int trace = open_kept(wishes->trace), answers = open_kept(wishes->answers);
-	if (trace == -2 || answers == -2)
+	if (!open_kept(wishes))
 		return false;
-	if (!engine_start(trace, answers)) {
+	if (!engine_start(&trace, &answers, wishes->control)) {
 		say("out of memory");
 		return false;
 	}
@@ -53,7 +62,7 @@ bool serve_prepare(const struct wishes *wishes)
 		say("processes cannot be watched here: %s", strerror(errno));
 		return false;
 	}
-	look = (struct look){ .show_control = wishes->control, .uid = getuid(), .gid = getgid() };
+	look = (struct look){ .history = wishes->control, .uid = getuid(), .gid = getgid() };
 	clock_gettime(CLOCK_REALTIME, &look.born);
 	signal(SIGPIPE, SIG_IGN);
 	signal(SIGXFSZ, SIG_IGN);
@@ -69,8 +78,9 @@ static struct fuse *make_session(void)
 	return fuse;
 }
 
-/* A read from an unmounted connection fails with ENODEV, or with ECONNABORTED if a request was still pending. At ENODEV
-   libfuse ends its loop quietly; at any other errno it prints a message and returns an error. */
+/* What is otherwise than libfuse has it. A read from an unmounted connection fails with ENODEV, or with ECONNABORTED if a request was still pending. At ENODEV
+   libfuse ends its loop quietly; at any other errno it prints a message and returns an error. And of a node that was removed
+   libfuse answers ESTALE by itself, where a group that is there no more is ENOENT. */
 #if FUSE_VERSION >= FUSE_MAKE_VERSION(3, 14)
 static ssize_t read_request(int from, void *request, size_t size, void *unused)
 {
@@ -83,22 +93,42 @@ static ssize_t read_request(int from, void *request, size_t size, void *unused)
 
 static ssize_t write_reply(int to, struct iovec *reply, int parts, void *unused)
 {
+	struct fuse_out_header head;
 	(void)unused;
-	return writev(to, reply, parts);
+	if (parts != 1 || reply->iov_len != sizeof head)
+		return writev(to, reply, parts);
+	memcpy(&head, reply->iov_base, sizeof head);
+	if (head.error == -ESTALE)
+		head.error = -ENOENT;
+	return write(to, &head, sizeof head);
 }
 
-static bool treat_abort_as_unmount(struct fuse_session *session)
+static bool use_own_io(struct fuse_session *session)
 {
 	static const struct fuse_custom_io io = { .read = read_request, .writev = write_reply };
 	return fuse_session_custom_io(session, &io, fuse_session_fd(session)) == 0;
 }
 #else
 /* There is no such hook in older libraries: the message may still be printed, but the status is the same. */
-static bool treat_abort_as_unmount(struct fuse_session *session)
+static bool use_own_io(struct fuse_session *session)
 {
 	return session != NULL;
 }
 #endif
+
+/* Answers until the mount is taken away, or cannot begin to. */
+static int answer(struct fuse *fuse, void (*ready)(void))
+{
+	struct fuse_session *session = fuse_get_session(fuse);
+	if (!use_own_io(session) || fuse_set_signal_handlers(session)) {
+		say("the file system cannot be answered for: %s", strerror(errno));
+		return -EIO;
+	}
+	ready();
+	int ended = fuse_loop_mt(fuse, 0);
+	fuse_remove_signal_handlers(session);
+	return ended;
+}
 
 int serve(const char *where, void (*ready)(void))
 {
@@ -107,15 +137,10 @@ int serve(const char *where, void (*ready)(void))
 		if (fuse)
 			fuse_destroy(fuse);
 		say("no file system can be mounted on %s: /dev/fuse, fusermount3 or the directory does not allow it", where);
-		return 2;
+		return REFUSED;
 	}
-	struct fuse_session *session = fuse_get_session(fuse);
-	if (!treat_abort_as_unmount(session) || fuse_set_signal_handlers(session))
-		return 1;
-	ready();
-	int ended = fuse_loop_mt(fuse, 0);
+	int ended = answer(fuse, ready);
 	watch_stop();
-	fuse_remove_signal_handlers(session);
 	fuse_unmount(fuse);
 	fuse_destroy(fuse);
 	engine_end();
@@ -157,14 +182,19 @@ static int wait_for(pid_t server, int from)
 int mount_directory(const char *directory, const struct wishes *wishes)
 {
 	char whole[PATH_MAX];
+	struct stat st;
 	int ends[2] = { -1, -1 };
-	if (!realpath(directory, whole)) {
+	if (!realpath(directory, whole) || stat(whole, &st)) {
 		say("%s: %s", directory, strerror(errno));
-		return 2;
+		return REFUSED;
+	}
+	if (!S_ISDIR(st.st_mode)) {
+		say("%s is not a directory", directory);
+		return REFUSED;
 	}
 	if (access("/dev/fuse", R_OK | W_OK)) {
 		say("this machine does not allow FUSE: /dev/fuse: %s", strerror(errno));
-		return 2;
+		return REFUSED;
 	}
 	if (!wishes->foreground) {
 		if (pipe(ends))
@@ -182,7 +212,7 @@ int mount_directory(const char *directory, const struct wishes *wishes)
 		setsid();
 	}
 	if (!serve_prepare(wishes))
-		return 1;
+		return REFUSED;
 	if (!watch_begin(whole, true)) {
 		say("no process can be had");
 		return 1;

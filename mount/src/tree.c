@@ -33,14 +33,12 @@ static int control_getattr(const char *path, struct stat *st)
 	int file = control_find(path);
 	if (file == -ENOENT)
 		return -ENOENT;
-	if (file < 0) {
+	if (file == CONTROL_ITSELF) {
 		set_stat(st, S_IFDIR | 0755, 2);
 		return 0;
 	}
 	set_stat(st, S_IFREG | control_mode(file), 1);
-	engine_lock();
 	control_read(file, count_bytes, st);
-	engine_unlock();
 	return 0;
 }
 
@@ -69,29 +67,36 @@ static size_t text_size(const struct place *place)
 	return size;
 }
 
-static int getattr(const char *path, struct stat *st)
+static int file_getattr(const struct place *place, struct stat *st)
 {
-	struct place place;
-	int fault = place_of(path, &place);
-	if (fault)
-		return fault;
-	if (!place.file)
-		return group_getattr(place.group, st);
-	if (engine_has_group(place.group))
+	if (engine_has_group(place->group))
 		return -ENOENT;
-	set_stat(st, S_IFREG | file_mode(place.file), 1);
-	st->st_size = (off_t)text_size(&place);
-	if (place.file->notified)
-		watch_seen(place.group, place.file);
+	set_stat(st, S_IFREG | file_mode(place->file), 1);
+	st->st_size = (off_t)text_size(place);
+	if (place->file->notified)
+		watch_seen(place->group, place->file);
 	return 0;
 }
 
-/* Of what is open, libfuse tells no path. */
+static int getattr(const char *path, struct place *place, struct stat *st)
+{
+	int fault = place_of(path, place);
+	if (fault)
+		return fault;
+	fault = place->file ? file_getattr(place, st) : group_getattr(place->group, st);
+	if (fault == 0)
+		owner_apply(place, st);
+	return fault;
+}
+
+/* Of what is open, libfuse tells no path. NULL: its group was removed. */
 static const char *path_of(const char *path, const struct fuse_file_info *fi, char *out, size_t size)
 {
 	const struct opened *o = path ? NULL : (const struct opened *)(uintptr_t)(fi ? fi->fh : 0);
-	if (!o || o->gone)
+	if (!o)
 		return path;
+	if (opened_is_gone(o))
+		return NULL;
 	if (o->file)
 		snprintf(out, size, "%s/%s", is_root(o->group) ? "" : o->group, o->file->name);
 	else if (o->control >= 0)
@@ -104,23 +109,21 @@ static const char *path_of(const char *path, const struct fuse_file_info *fi, ch
 int tree_getattr(const char *path, struct stat *st, struct fuse_file_info *fi)
 {
 	char of_open[PATH_MAX_SAID + 32];
-	if (!(path = path_of(path, fi, of_open, sizeof of_open)))
-		return -ENOENT;
-	if (control_has(path))
-		return control_getattr(path, st);
+	struct place place;
+	int fault = -ENOENT;
 	engine_lock();
-	int fault = getattr(path, st);
-	if (fault == 0)
-		owner_apply(path, st);
+	path = path_of(path, fi, of_open, sizeof of_open);
+	if (path)
+		fault = control_has(path) ? control_getattr(path, st) : getattr(path, &place, st);
 	engine_unlock();
 	return fault;
 }
 
 static int list_control(void *out, fuse_fill_dir_t fill)
 {
-	const char *name;
-	for (int i = 0; (name = control_name(i)); i++)
-		fill(out, name, NULL, 0, 0);
+	for (int i = 0; i < CONTROL_FILES; i++)
+		if (control_is_there(i))
+			fill(out, control_name(i), NULL, 0, 0);
 	return 0;
 }
 
@@ -138,19 +141,20 @@ int tree_readdir(const char *unsaid, void *out, fuse_fill_dir_t fill, off_t at, 
 	const struct file *file;
 	const char *names;
 	size_t count;
-	const char *path = ((const struct opened *)(uintptr_t)fi->fh)->group;
+	const struct opened *o = (const struct opened *)(uintptr_t)fi->fh;
+	const char *path = o->group;
 	(void)unsaid, (void)at, (void)flags;
 	fill(out, ".", NULL, 0, 0);
 	fill(out, "..", NULL, 0, 0);
 	if (control_has(path))
 		return list_control(out, fill);
 	engine_lock();
-	int fault = engine_children(path, &names, &count);
+	int fault = opened_is_gone(o) ? -ENOENT : engine_children(path, &names, &count);
 	if (fault == 0) {
 		for (size_t i = 0; (file = file_at(i)); i++)
 			if (file->on_root || !is_root(path))
 				fill(out, file->name, NULL, 0, 0);
-		if (look.show_control && is_root(path))
+		if (look.history && is_root(path))
 			fill(out, control_directory, NULL, 0, 0);
 		for (; count--; names += strlen(names) + 1)
 			fill(out, names, NULL, 0, 0);
@@ -179,32 +183,37 @@ int tree_rmdir(const char *path)
 	real_sweep();
 	reported_leave(path);
 	int fault = engine_line("rmdir %s", path);
-	if (fault == 0) {
-		opened_lose(path);
-		watch_forget(path);
-		owner_forget(path);
-	}
+	if (fault == 0)
+		remembered_lose(path);
 	engine_unlock();
 	return fault;
+}
+
+static void apply(struct stat *st, mode_t mode, uid_t uid, gid_t gid)
+{
+	if (mode != (mode_t)-1)
+		st->st_mode = mode;
+	if (uid != (uid_t)-1)
+		st->st_uid = uid;
+	if (gid != (gid_t)-1)
+		st->st_gid = gid;
 }
 
 /* Keeps a mode and an owner; what has all bits set stays as it was. */
 static int set_owner(const char *path, mode_t mode, uid_t uid, gid_t gid, struct fuse_file_info *fi)
 {
 	struct stat st;
+	struct place place;
 	char of_open[PATH_MAX_SAID + 32];
-	path = path_of(path, fi, of_open, sizeof of_open);
-	int fault = path ? tree_getattr(path, &st, fi) : -ENOENT;
-	if (fault || control_has(path))
-		return fault ? fault : -EPERM;
-	if (mode != (mode_t)-1)
-		st.st_mode = mode;
-	if (uid != (uid_t)-1)
-		st.st_uid = uid;
-	if (gid != (gid_t)-1)
-		st.st_gid = gid;
+	int fault = -ENOENT;
 	engine_lock();
-	fault = owner_set(path, &st);
+	path = path_of(path, fi, of_open, sizeof of_open);
+	if (path)
+		fault = control_has(path) ? -EPERM : getattr(path, &place, &st);
+	if (fault == 0) {
+		apply(&st, mode, uid, gid);
+		fault = owner_set(&place, &st);
+	}
 	engine_unlock();
 	return fault;
 }

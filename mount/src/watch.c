@@ -10,18 +10,17 @@
 #include <string.h>
 #include <unistd.h>
 
-enum { BUCKETS = 1024, TEXT_MAX = 40 };
+enum { TEXT_MAX = 40 };
 
 struct watched {
-	struct watched *next;      /* in its bucket */
+	struct watched *next;      /* among those of the group */
 	struct watched *to_tell;   /* behind it in the queue of those that the companion is to be told */
 	const struct file *file;
 	char text[TEXT_MAX];
 	bool queued;
-	char group[];
+	const struct remembered *of;
 };
 
-static struct watched *buckets[BUCKETS];
 static struct watched *queue, **queue_end = &queue;
 static pthread_cond_t told = PTHREAD_COND_INITIALIZER;
 static pthread_mutex_t queue_lock = PTHREAD_MUTEX_INITIALIZER;
@@ -29,21 +28,13 @@ static pthread_t teller;
 static bool running, stopping;
 static int companion = -1;
 
-static struct watched **bucket(const char *group)
-{
-	unsigned hash = 5381;
-	while (*group)
-		hash = hash * 33 + (unsigned char)*group++;
-	return &buckets[hash % BUCKETS];
-}
-
 static void read_text(struct watched *w, char out[TEXT_MAX])
 {
 	size_t size = 0;
 	const char *text = NULL;
-	if (engine_look("cat %s %s", w->group, w->file->name) == 0) {
+	if (engine_look("cat %s %s", w->of->path, w->file->name) == 0) {
 		text = engine_text(&size);
-		text = reported_text(w->group, w->file, text, &size);
+		text = reported_text(w->of->path, w->file, text, &size);
 	}
 	if (size >= TEXT_MAX)
 		size = TEXT_MAX - 1;
@@ -54,19 +45,23 @@ static void read_text(struct watched *w, char out[TEXT_MAX])
 
 void watch_seen(const char *group, const struct file *file)
 {
-	struct watched **at = bucket(group), *w;
-	for (w = *at; w; w = w->next)
-		if (w->file == file && strcmp(w->group, group) == 0)
-			return;
-	size_t size = strlen(group) + 1;
-	w = calloc(1, sizeof *w + size);
-	if (!w)
+	WANTS_LOCK();
+	struct remembered *r = remembered_make(group);
+	struct watched *w = r ? r->watched : NULL;
+	while (w && w->file != file)
+		w = w->next;
+	if (!r || w)
 		return;
-	memcpy(w->group, group, size);
+	w = calloc(1, sizeof *w);
+	if (!w) {
+		remembered_tidy(r);
+		return;
+	}
+	w->of = r;
 	w->file = file;
 	read_text(w, w->text);
-	w->next = *at;
-	*at = w;
+	w->next = r->watched;
+	r->watched = w;
 }
 
 static void check(struct watched *w)
@@ -76,7 +71,7 @@ static void check(struct watched *w)
 	if (strcmp(text, w->text) == 0)
 		return;
 	memcpy(w->text, text, TEXT_MAX);
-	opened_wake(w->group, w->file);
+	opened_wake(w->of, w->file);
 	pthread_mutex_lock(&queue_lock);
 	if (!w->queued && running) {
 		w->queued = true;
@@ -88,14 +83,31 @@ static void check(struct watched *w)
 	pthread_mutex_unlock(&queue_lock);
 }
 
+static void check_group(const char *group)
+{
+	const struct remembered *r = remembered_find(group);
+	for (struct watched *w = r ? r->watched : NULL; w; w = w->next)
+		check(w);
+}
+
 void watch_above(const char *group)
 {
 	char at[PATH_MAX_SAID];
+	WANTS_LOCK();
 	snprintf(at, sizeof at, "%s", group);
 	for (; !is_root(at); go_up(at))
-		for (struct watched *w = *bucket(at); w; w = w->next)
-			if (strcmp(w->group, at) == 0)
-				check(w);
+		check_group(at);
+}
+
+void watch_below(const char *group)
+{
+	const char *paths;
+	size_t count;
+	WANTS_LOCK();
+	if (engine_groups(group, &paths, &count) == 0)
+		for (; count--; paths += strlen(paths) + 1)
+			check_group(paths);
+	watch_above(group);
 }
 
 /* Takes an entry out of the queue. */
@@ -112,42 +124,14 @@ static void unqueue(struct watched *w)
 	pthread_mutex_unlock(&queue_lock);
 }
 
-static void forget_in(struct watched **at, bool (*is_lost)(const char *, const char *), const char *group)
+void watch_forget(struct remembered *r)
 {
-	while (*at) {
-		struct watched *w = *at;
-		if (!is_lost(w->group, group)) {
-			at = &w->next;
-			continue;
-		}
-		*at = w->next;
+	WANTS_LOCK();
+	while (r->watched) {
+		struct watched *w = r->watched;
+		r->watched = w->next;
 		unqueue(w);
 		free(w);
-	}
-}
-
-static bool is_same(const char *a, const char *b)
-{
-	return strcmp(a, b) == 0;
-}
-
-static bool is_missing(const char *a, const char *unused)
-{
-	(void)unused;
-	return engine_has_group(a) != 0;
-}
-
-void watch_forget(const char *group)
-{
-	forget_in(bucket(group), is_same, group);
-}
-
-void watch_all(void)
-{
-	for (size_t i = 0; i < BUCKETS; i++) {
-		forget_in(&buckets[i], is_missing, NULL);
-		for (struct watched *w = buckets[i]; w; w = w->next)
-			check(w);
 	}
 }
 
@@ -169,7 +153,7 @@ static void *tell(void *unused)
 		if (!queue)
 			queue_end = &queue;
 		w->queued = false;
-		int n = snprintf(path, sizeof path, "%s/%s", w->group, w->file->name);
+		int n = snprintf(path, sizeof path, "%s/%s", w->of->path, w->file->name);
 		pthread_mutex_unlock(&queue_lock);
 		if (write(companion, path, (size_t)n + 1) < 0 && errno == EPIPE)
 			return NULL;
@@ -205,10 +189,4 @@ void watch_stop(void)
 	running = false;
 	if (companion >= 0)
 		companion_end(companion);
-	for (size_t i = 0; i < BUCKETS; i++)
-		while (buckets[i]) {
-			struct watched *w = buckets[i];
-			buckets[i] = w->next;
-			free(w);
-		}
 }

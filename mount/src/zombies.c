@@ -3,7 +3,6 @@
 #include "place.h"
 #include <errno.h>
 #include <signal.h>
-#include <stdio.h>
 #include <stdlib.h>
 #include <sys/syscall.h>
 #include <unistd.h>
@@ -114,12 +113,7 @@ long zombies_below(const char *group)
 	char at[PATH_MAX_SAID];
 	long below = 0;
 	for (size_t i = 0; i < count; i++) {
-		size_t size;
-		if (engine_look("where %d", all[i].pid))
-			continue;
-		const char *text = engine_text(&size);
-		snprintf(at, sizeof at, "%.*s", (int)size - 4, text + 3);
-		below += is_at_or_below(at, group);
+		below += engine_where(all[i].pid, at, sizeof at) && is_at_or_below(at, group);
 	}
 	return below;
 }

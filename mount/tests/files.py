@@ -38,7 +38,7 @@ VALUES = [
 
 
 def listing():
-    m = Mount()
+    m = Mount(control=False)
     os.mkdir(m.path("a"))
     same("the files of the root", sorted(os.listdir(m.at)), sorted(ROOT + ["a"]))
     same("the files of a group", sorted(os.listdir(m.path("a"))), GROUP)
@@ -170,6 +170,10 @@ def control():
          b"mkdir /a\nfork 1 2\nwrite /a cgroup.procs 2\nwrite /a pids.max 1\nfork 2 3\n")
     write(m.control("undo"), b"\n")
     same("one undo", read(m.path("a", "pids.events")), b"max 0\n")
+    for count in (b"5\n", b"1000000\n", b"18446744073709551615\n", b"99999999999999999999999999\n"):
+        same("undo %s of four" % count.decode().strip(), error_of(write, m.control("undo"), count), "ENODATA")
+        same("it changed nothing", read(m.control("depth")), b"4\n")
+    same("undo of none", (error_of(write, m.control("undo"), b"0\n"), read(m.control("depth"))), ("ok", b"4\n"))
     write(m.control("undo"), b"3\n")
     same("three more", read(m.control("trace")), b"mkdir /a\n")
     fd = os.open(m.path("a", "pids.max"), os.O_RDONLY)
@@ -177,11 +181,29 @@ def control():
     same("an open file of a group that was taken back", error_of(os.read, fd, 9), "ENODEV")
     os.close(fd)
     same("nothing is left to undo", error_of(write, m.control("undo"), b"1\n"), "ENODATA")
-    same("no number", error_of(write, m.control("undo"), b"x\n"), "EINVAL")
+    for name, words in (("undo", "x"), ("undo", "-1"), ("undo", "+1"), ("undo", "1 1"), ("fork", "1"), ("fork", "1 2 3"), ("fork", "1 -2"),
+                        ("fork", "1 4194304"), ("fork", "1 99999999999999999999"), ("fork", "0 2"), ("exit", ""), ("exit", "1 1"),
+                        ("exit", "0x1"), ("fork", "4294967297 2")):
+        same("%s of %r" % (name, words), error_of(write, m.control(name), words.encode() + b"\n"), "EINVAL")
+    same("as it was", read(m.control("depth")), b"0\n")
     same("an exit of nobody", error_of(write, m.control("exit"), b"2\n"), "ESRCH")
     m.end()
 
 
-for test in (listing, values, groups, opened, sent, shell, extra, control):
+def no_history():
+    """Without --control: fork and exit alone."""
+    m = Mount(control=False)
+    same("the control directory", sorted(os.listdir(m.path(".makhloeum"))), ["exit", "fork"])
+    same("it is not listed", ".makhloeum" in os.listdir(m.at), False)
+    for name in ("undo", "depth", "newest", "trace"):
+        same("no %s" % name, error_of(os.open, m.control(name), os.O_RDONLY), "ENOENT")
+    write(m.control("fork"), b"1 2\n")
+    same("a fork", read(m.path("cgroup.procs")), b"1\n2\n")
+    write(m.control("exit"), b"2\n")
+    same("an exit", read(m.path("cgroup.procs")), b"1\n")
+    m.end()
+
+
+for test in (listing, values, groups, opened, sent, shell, extra, control, no_history):
     test()
 finish()

@@ -10,6 +10,7 @@ import time
 
 PROGRAM = os.environ["MAKHLOEUM"]
 CGREPLAY = os.environ["CGREPLAY"].split()
+CGSHELL = os.environ.get("CGSHELL", "")
 failed = []
 steps = []
 
@@ -72,13 +73,16 @@ def write(path, value):
 
 
 class Mount:
-    def __init__(self, *options, limit=None, trace=None, preload=None):
+    """`control`: with .makhloeum listed and a history kept, which most tests look at."""
+
+    def __init__(self, *options, limit=None, trace=None, answers=None, preload=None, control=True):
         self.home = tempfile.mkdtemp()
         self.at = os.path.join(self.home, "at")
         self.trace = trace or os.path.join(self.home, "trace")
-        self.answers = os.path.join(self.home, "answers")
+        self.answers = answers or os.path.join(self.home, "answers")
         self.said = open(os.path.join(self.home, "said"), "w+")
         os.mkdir(self.at)
+        options = (*options, "--control") if control and "--control" not in options else options
         before = (lambda: __import__("resource").setrlimit(__import__("resource").RLIMIT_FSIZE, limit)) if limit else None
         self.process = subprocess.Popen(
             [PROGRAM, "mount", self.at, "--foreground", "--trace", self.trace, "--answers", self.answers, *options],

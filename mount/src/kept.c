@@ -1,0 +1,110 @@
+#include "kept.h"
+#include "serve.h"
+#include <errno.h>
+#include <fcntl.h>
+#include <string.h>
+#include <unistd.h>
+
+/* Never waits: a FIFO without a reader is refused, and not opened. */
+static int open_to_write(const char *name, bool *was_made)
+{
+	const int flags = O_WRONLY | O_CLOEXEC | O_NONBLOCK | O_NOCTTY;
+	int fd = open(name, flags);
+	*was_made = false;
+	if (fd < 0 && errno == ENOENT) {
+		fd = open(name, flags | O_CREAT, 0600);
+		*was_made = fd >= 0;
+	}
+	return fd;
+}
+
+bool kept_open(struct kept *k, const char *name)
+{
+	*k = (struct kept){ .fd = -1, .name = name };
+	if (!name)
+		return true;
+	k->fd = open_to_write(name, &k->was_made);
+	if (k->fd < 0 || fstat(k->fd, &k->is)) {
+		say("%s cannot be written: %s", name, strerror(errno));
+		return false;
+	}
+	if (!S_ISREG(k->is.st_mode) && !S_ISCHR(k->is.st_mode)) {
+		say("%s cannot keep lines: it is neither a regular file nor a character device", name);
+		return false;
+	}
+	return true;
+}
+
+bool kept_is_same(const struct kept *a, const struct kept *b)
+{
+	return a->fd >= 0 && b->fd >= 0 && S_ISREG(a->is.st_mode) && a->is.st_dev == b->is.st_dev && a->is.st_ino == b->is.st_ino;
+}
+
+bool kept_begin(struct kept *k)
+{
+	if (k->fd < 0 || !S_ISREG(k->is.st_mode) || ftruncate(k->fd, 0) == 0)
+		return true;
+	say("%s cannot be emptied: %s", k->name, strerror(errno));
+	return false;
+}
+
+void kept_abandon(struct kept *k)
+{
+	if (k->fd >= 0 && k->was_made)
+		unlink(k->name);
+	if (k->fd >= 0)
+		close(k->fd);
+	k->fd = -1;
+}
+
+/* Cuts off what a refused text left. Where that fails too, the next text is written over it, or the close cuts it off. */
+static void cut_rest(struct kept *k)
+{
+	k->has_rest = ftruncate(k->fd, k->size) != 0;
+}
+
+static int fault_of(struct kept *k, size_t done)
+{
+	int fault = errno ? errno : EIO;
+	if (S_ISREG(k->is.st_mode))
+		cut_rest(k);
+	else if (done)
+		k->broken = fault;
+	return -fault;
+}
+
+int kept_add(struct kept *k, const char *bytes, size_t size)
+{
+	bool regular = S_ISREG(k->is.st_mode);
+	if (k->broken)
+		return -k->broken;
+	for (size_t done = 0; done < size;) {
+		errno = 0;
+		ssize_t n = regular ? pwrite(k->fd, bytes + done, size - done, k->size + (off_t)done)
+		                    : write(k->fd, bytes + done, size - done);
+		if (n < 0 && errno == EINTR)
+			continue;
+		if (n <= 0)
+			return fault_of(k, done);
+		done += (size_t)n;
+	}
+	k->size += (off_t)size;
+	return 0;
+}
+
+void kept_take_back(struct kept *k, size_t size)
+{
+	k->size -= (off_t)size;
+	if (S_ISREG(k->is.st_mode))
+		cut_rest(k);
+}
+
+void kept_close(struct kept *k)
+{
+	if (k->fd < 0)
+		return;
+	if (k->has_rest)
+		cut_rest(k);
+	close(k->fd);
+	k->fd = -1;
+}

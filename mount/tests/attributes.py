@@ -1,0 +1,95 @@
+"""Extended attributes of the user's are kept with a group and its files; and what is left of a group that was removed."""
+import errno
+import os
+import stat
+
+from support import Mount, error_of, finish, same, step, write
+
+
+def kept():
+    m = Mount()
+    os.mkdir(m.path("a"))
+    for where in (m.path("a"), m.path("a", "pids.max"), m.at):
+        name = os.path.basename(where)
+        same("%s: none at first" % name, os.listxattr(where), [])
+        same("%s: one that is not there" % name, error_of(os.getxattr, where, "user.x"), "ENODATA")
+        same("%s: removing it" % name, error_of(os.removexattr, where, "user.x"), "ENODATA")
+        same("%s: replacing it" % name, error_of(os.setxattr, where, "user.x", b"1", os.XATTR_REPLACE), "ENODATA")
+        same("%s: setting it" % name, error_of(os.setxattr, where, "user.x", b"1"), "ok")
+        same("%s: creating it" % name, error_of(os.setxattr, where, "user.x", b"1", os.XATTR_CREATE), "EEXIST")
+        same("%s: its value" % name, os.getxattr(where, "user.x"), b"1")
+        same("%s: another value" % name, error_of(os.setxattr, where, "user.x", b"two\0three"), "ok")
+        same("%s: its value then" % name, os.getxattr(where, "user.x"), b"two\0three")
+        same("%s: an empty one" % name, error_of(os.setxattr, where, "user.delegate", b""), "ok")
+        same("%s: both are listed" % name, sorted(os.listxattr(where)), ["user.delegate", "user.x"])
+        same("%s: the empty value" % name, os.getxattr(where, "user.delegate"), b"")
+        same("%s: removing one" % name, error_of(os.removexattr, where, "user.delegate"), "ok")
+        same("%s: the other is left" % name, os.listxattr(where), ["user.x"])
+        step("%s: another name space" % name, error_of(os.setxattr, where, "security.x", b"1") in ("ENOTSUP", "EPERM"))
+    same("an attribute of a group is no line", "user" in open(m.trace).read(), False)
+    fd = os.open(m.path("a"), os.O_RDONLY)
+    os.setxattr(fd, "user.fd", b"by descriptor")
+    same("by an open directory", os.getxattr(m.path("a"), "user.fd"), b"by descriptor")
+    os.close(fd)
+    m.end()
+
+
+def bounds():
+    """The kernel's: 128 attributes and 128 KiB of values for a group or file."""
+    m = Mount()
+    os.mkdir(m.path("a"))
+    same("65,536 bytes", error_of(os.setxattr, m.path("a"), "user.large", b"x" * 65536), "ok")
+    same("another 65,536", error_of(os.setxattr, m.path("a"), "user.large2", b"x" * 65536), "ok")
+    same("one byte more", error_of(os.setxattr, m.path("a"), "user.more", b"x"), "ENOSPC")
+    os.removexattr(m.path("a"), "user.large")
+    same("after one is removed", error_of(os.setxattr, m.path("a"), "user.more", b"x"), "ok")
+    os.mkdir(m.path("b"))
+    got = [error_of(os.setxattr, m.path("b"), "user.n%d" % i, b"v") for i in range(129)]
+    same("128 names", (got[:128], got[128]), (["ok"] * 128, "ENOSPC"))
+    same("they are listed", len(os.listxattr(m.path("b"))), 128)
+    m.end()
+
+
+def removed():
+    m = Mount()
+    os.mkdir(m.path("a"))
+    os.setxattr(m.path("a"), "user.x", b"1")
+    os.setxattr(m.path("a", "pids.max"), "user.x", b"1")
+    os.chmod(m.path("a", "pids.max"), 0o600)
+    directory, file = os.open(m.path("a"), os.O_RDONLY), os.open(m.path("a", "pids.max"), os.O_RDONLY)
+    os.chdir(m.path("a"))
+    os.rmdir(m.path("a"))
+    same("stat by its path", error_of(os.stat, m.path("a")), "ENOENT")
+    same("stat by an open directory", error_of(os.fstat, directory), "ENOENT")
+    same("stat of the working directory", error_of(os.stat, "."), "ENOENT")
+    same("a file in it", error_of(os.stat, "pids.max"), "ENOENT")
+    same("stat by an open file", error_of(os.fstat, file), "ENOENT")
+    same("a listing", error_of(os.listdir, directory), "ENOENT")
+    same("a mode", error_of(os.fchmod, directory, 0o700), "ENOENT")
+    same("an attribute", error_of(os.setxattr, directory, "user.x", b"1"), "ENOENT")
+    same("a new group in it", error_of(os.mkdir, "b"), "ENOENT")
+    os.mkdir(m.path("a"))
+    same("a group of that name is another: attributes", (os.listxattr(m.path("a")), os.listxattr(m.path("a", "pids.max"))), ([], []))
+    same("its modes", stat.S_IMODE(os.stat(m.path("a", "pids.max")).st_mode), 0o644)
+    same("the open directory is not of it", error_of(os.fstat, directory), "ENOENT")
+    same("nor the open file", error_of(os.fstat, file), "ENOENT")
+    same("nor what it lists", error_of(os.listdir, directory), "ENOENT")
+    os.setxattr(m.path("a"), "user.y", b"1")
+    listed = os.open(m.path("a"), os.O_RDONLY)
+    write(m.control("undo"), b"1\n")
+    same("a group that an undo took back", error_of(os.stat, m.path("a")), "ENOENT")
+    same("a listing of it", error_of(os.listdir, listed), "ENOENT")
+    os.mkdir(m.path("a"))
+    same("nothing of it is left", os.listxattr(m.path("a")), [])
+    os.chdir("/")
+    for fd in (directory, file, listed):
+        try:
+            os.close(fd)
+        except OSError as e:
+            step("close", e.errno == errno.ENODEV)
+    m.end()
+
+
+for test in (kept, bounds, removed):
+    test()
+finish()

@@ -1,0 +1,207 @@
+"""The files that a mount keeps, --trace and --answers: which may be given, and what happens when they can grow no more."""
+import os
+import resource
+import socket
+import stat
+import subprocess
+import sys
+import tempfile
+
+from support import CGREPLAY, CGSHELL, PATIENCE, PROGRAM, Mount, error_of, finish, read, same, step, until, write
+
+ME = os.path.realpath(__file__)
+TRACE_MAX = 16777216
+
+
+def refused(words):
+    """What the program says and its status, in ten seconds; and whether it mounted."""
+    try:
+        ran = subprocess.run([PROGRAM, "mount", *words], stderr=subprocess.PIPE, stdin=subprocess.DEVNULL, timeout=10)
+    except subprocess.TimeoutExpired:
+        return "hangs", ""
+    return ran.returncode, ran.stderr.decode()
+
+
+def leave(at):
+    if os.path.ismount(at):
+        until(lambda: subprocess.run(["fusermount3", "-u", at], stderr=-3).returncode == 0)
+
+
+def targets():
+    home = tempfile.mkdtemp()
+    at = os.path.join(home, "at")
+    os.mkdir(at)
+    file, fifo, sock, loop = (os.path.join(home, n) for n in ("file", "fifo", "socket", "link"))
+    open(file, "w").write("precious")
+    os.mkfifo(fifo)
+    socket.socket(socket.AF_UNIX).bind(sock)
+    os.symlink(file, loop)
+    for where in (file, fifo, sock, loop, "/dev/null"):
+        status, words = refused([where])
+        same("mount on %s" % os.path.basename(where), (status, words.count("\n")), (2, 1))
+        step("it says why", "not a directory" in words.lower(), words)
+        leave(where)
+    same("the file is as it was", open(file).read(), "precious")
+    for option in ("--trace", "--answers"):
+        for where in (fifo, sock, at, os.path.join(home, "nowhere", "x")):
+            status, words = refused([at, option, where])
+            same("%s %s" % (option, os.path.basename(where)), (status, words.count("\n")), (2, 1))
+            leave(at)
+    same("a refused mount leaves the directory", os.listdir(at), [])
+    for one, other in ((file, file), (file, loop), (os.path.join(home, "new"), os.path.join(home, "./new"))):
+        status, words = refused([at, "--trace", one, "--answers", other])
+        same("one file as both", (status, words.count("\n")), (2, 1))
+        leave(at)
+    same("it was not emptied", open(file).read(), "precious")
+    step("a file that was not there is not there", not os.path.exists(os.path.join(home, "new")))
+
+
+def modes():
+    os.umask(0o022)
+    m = Mount()
+    same("the mode of a trace", stat.S_IMODE(os.stat(m.trace).st_mode), 0o600)
+    same("of answers", stat.S_IMODE(os.stat(m.answers).st_mode), 0o600)
+    m.end()
+
+
+def full_answers():
+    m = Mount(answers="/dev/full")
+    same("a mkdir whose answer cannot be kept", error_of(os.mkdir, m.path("a")), "ENOSPC")
+    same("again", error_of(os.mkdir, m.path("a")), "ENOSPC")
+    same("nor a read's", error_of(read, m.path("cgroup.procs")), "ENOSPC")
+    same("nor a fork's", error_of(write, m.control("fork"), b"1 2\n"), "ENOSPC")
+    same("nor an undo's", error_of(write, m.control("undo"), b"1\n"), "ENODATA")
+    step("neither was done", not os.path.exists(m.path("a")))
+    same("no line was kept", open(m.trace).read(), "")
+    m.end(replayed=False)
+
+
+def snapshot(m):
+    """All that the hierarchy tells without a line of its own: groups, sizes of texts, history."""
+    sizes = {}
+    for folder, _, files in os.walk(m.at):
+        for f in files:
+            sizes[os.path.join(folder, f)] = os.stat(os.path.join(folder, f)).st_size
+    return sizes
+
+
+def recovers(what, m, stop, go_on):
+    """Every kind of command is refused while nothing can be kept, changes nothing, and is done afterwards."""
+    os.mkdir(m.path("a"))
+    os.mkdir(m.path("gone"))
+    for pid in (2, 3, 4):
+        write(m.control("fork"), b"1 %d\n" % pid)
+        write(m.path("a", "cgroup.procs"), b"%d\n" % pid)
+    write(m.path("a", "pids.max"), b"3\n")
+    commands = [(os.mkdir, m.path("b")), (os.rmdir, m.path("gone")), (write, m.control("fork"), b"1 9\n"),
+                (write, m.control("exit"), b"4\n"), (write, m.path("cgroup.procs"), b"3\n"), (write, m.path("a", "pids.max"), b"max\n"),
+                (write, m.path("a", "cgroup.kill"), b"1\n"), (write, m.control("undo"), b"1\n"), (read, m.path("a", "pids.max"))]
+    for command in commands:
+        before = snapshot(m), open(m.trace).read(), os.path.getsize(m.answers)
+        stop()
+        step("%s: %s of %s is refused" % (what, command[0].__name__, os.path.basename(command[1])),
+             error_of(*command) in ("ENOSPC", "EFBIG"), error_of(*command))
+        go_on()
+        same("nothing has changed", (snapshot(m), open(m.trace).read(), os.path.getsize(m.answers)), before)
+        same("then it is done", error_of(*command), "ok")
+    stop()
+    step("a refused fork is refused, and not counted", error_of(write, m.control("fork"), b"1 2\n") in ("ENOSPC", "EFBIG"))
+    go_on()
+    m.end()
+
+
+def limit_of(m, size):
+    hard = resource.prlimit(m.process.pid, resource.RLIMIT_FSIZE)[1]
+    resource.prlimit(m.process.pid, resource.RLIMIT_FSIZE, (hard if size is None else size, hard))
+
+
+def limited():
+    """A file that may grow no more: a limit of the process, which is lifted again."""
+    m = Mount()
+    recovers("both files", m, lambda: limit_of(m, 1), lambda: limit_of(m, None))
+    m = Mount()
+    trace = m.trace
+
+    def stop():  # what is left is enough for a trace's line and not for its answer
+        limit_of(m, max(os.path.getsize(trace) + 60, os.path.getsize(m.answers)))
+
+    for i in range(40):  # the answers get longer than the trace
+        read(m.path("cgroup.procs"))
+        os.mkdir(m.path("d%d" % i))
+        read(m.path("cgroup.stat"))
+    step("the answers are longer than the trace", os.path.getsize(m.answers) > os.path.getsize(trace) + 100)
+    recovers("the answers alone", m, stop, lambda: limit_of(m, None))
+
+
+def small_device():
+    """Inside name spaces of its own: a file system of 16 pages, filled and emptied."""
+    disk = tempfile.mkdtemp()
+    subprocess.run(["mount", "-t", "tmpfs", "-o", "size=64k", "none", disk], check=True)
+    ballast = os.path.join(disk, "ballast")
+    m = Mount(answers=os.path.join(disk, "answers"))
+
+    def stop():
+        with open(ballast, "ab", buffering=0) as it:
+            try:
+                while True:
+                    it.write(b"x" * 4096)
+            except OSError:
+                pass
+        size = os.path.getsize(m.answers)  # no room is left in its last page either
+        with open(m.answers, "r+b") as it:
+            it.truncate(size)
+
+    errors = []
+    stop()
+    for i in range(2000):  # one page of answers at most
+        errors.append(error_of(os.mkdir, m.path("g%d" % i)))
+        if errors[-1] != "ok":
+            break
+    same("a full device is told", errors[-1], "ENOSPC")
+    made = errors.count("ok")
+    same("as many groups as answers", (sum(n.startswith("g") for n in os.listdir(m.at)), sum(1 for _ in open(m.answers))), (made, made))
+    same("a kill", error_of(write, m.control("fork"), b"1 2\n"), "ENOSPC")
+    os.unlink(ballast)
+    same("it recovers", error_of(os.mkdir, m.path("after")), "ok")
+    m.end()
+    subprocess.run(["umount", disk], check=True)
+
+
+def long_trace():
+    """cgreplay takes 16 MiB; a longer trace is told once, and is one for cgshell."""
+    m = Mount()
+    deep = m.at
+    for _ in range(16):
+        deep += "/" + "d" * 240
+    os.makedirs(deep)
+    os.chdir(deep)
+    fd = os.open("pids.max", os.O_RDONLY)
+    while os.path.getsize(m.trace) <= TRACE_MAX - 5000:
+        os.pread(fd, 1, 0)
+    same("nothing is said up to 16 MiB", m.words(), "")
+    for _ in range(20):
+        os.pread(fd, 1, 0)
+    step("the trace is longer", os.path.getsize(m.trace) > TRACE_MAX)
+    same("that is said once", m.words().count("\n"), 1)
+    step("with the program that takes it", "cgshell" in m.words() and "16,777,216" in m.words(), m.words())
+    os.close(fd)
+    os.chdir("/")
+    step("it can be taken away", m.unmounted())
+    same("the process ends", m.ended(), 0)
+    with open(m.trace) as trace:
+        same("cgreplay refuses it", subprocess.run(CGREPLAY, stdin=trace, stdout=-3, stderr=-3).returncode, 1)
+    if not os.path.exists(CGSHELL):
+        print("  no cgshell here: its answers to the long trace are left out")
+        return
+    with open(m.trace) as trace, open(m.answers, "rb") as answers:
+        step("cgshell gives the same answers", subprocess.run([CGSHELL], stdin=trace, stdout=subprocess.PIPE).stdout == answers.read())
+
+
+if sys.argv[1:] == ["small"]:
+    small_device()
+    finish()
+for test in (targets, modes, full_answers, limited, long_trace):
+    test()
+ran = subprocess.run(["unshare", "-Urm", sys.executable, ME, "small"], timeout=6 * PATIENCE)
+same("on a small device", ran.returncode, 0)
+finish()

@@ -1,0 +1,47 @@
+"""A read at an offset gives the text from there, as seq files of the kernel do."""
+import os
+import subprocess
+
+from support import Mount, finish, read, same, step, write
+
+m = Mount()
+os.mkdir(m.path("a"))
+for pid in range(2, 40):
+    write(m.control("fork"), b"1 %d\n" % pid)
+    write(m.path("a", "cgroup.procs"), b"%d\n" % pid)
+write(m.path("a", "pids.max"), b"1234567\n")
+FILES = ("a/cgroup.procs", "a/cgroup.events", "a/cgroup.stat", "a/pids.max", ".makhloeum/trace", ".makhloeum/depth")
+for name in FILES:
+    path = m.path(name)
+    text = read(path)
+    wrong = []
+    for at in (0, 1, 3, 5, len(text) - 1, len(text), len(text) + 9):
+        for size in (1, 5, 4096):
+            fd = os.open(path, os.O_RDONLY)
+            wanted = text[at:at + size]
+            if os.pread(fd, size, at) != wanted or os.pread(fd, size, at) != wanted:
+                wrong.append((at, size))
+            os.close(fd)
+    same("pread of %s, first and again" % name, wrong, [])
+    ran = subprocess.run(["dd", "if=" + path, "bs=1", "skip=3", "status=none"], stdout=subprocess.PIPE)
+    same("dd skip=3 of %s" % name, ran.stdout, text[3:])
+    ran = subprocess.run(["tail", "-c", "4", path], stdout=subprocess.PIPE)
+    same("tail -c 4 of %s" % name, ran.stdout, text[-4:])
+
+fd = os.open(m.path("a", "pids.max"), os.O_RDONLY)
+same("a piece", os.read(fd, 3), b"123")
+write(m.path("a", "pids.max"), b"4193210\n")
+same("what goes on is of the same text", os.read(fd, 3), b"456")
+same("another offset is of today's", os.pread(fd, 9, 3), b"3210\n")
+os.lseek(fd, 1, os.SEEK_SET)
+same("after a seek too", os.read(fd, 9), b"193210\n")
+same("at its end there is nothing", os.read(fd, 9), b"")
+os.close(fd)
+lines = sum(1 for _ in open(m.trace))
+fd = os.open(m.path("a", "pids.max"), os.O_RDONLY)
+for _ in range(9):
+    os.read(fd, 1)
+step("a text that is read in nine pieces is one line", sum(1 for _ in open(m.trace)) == lines + 1)
+os.close(fd)
+m.end()
+finish()
