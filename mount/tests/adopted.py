@@ -2,8 +2,18 @@
 import os
 import signal
 import subprocess
+import sys
 
 from support import PATIENCE, Mount, error_of, finish, read, same, step, until, write
+
+
+
+def is_alive(pid):
+    try:
+        return open("/proc/%d/stat" % pid).read().rpartition(")")[2].split()[0] not in "ZX"
+    except OSError:
+        return False
+
 
 m = Mount("--adopt")
 os.mkdir(m.path("a"))
@@ -23,5 +33,30 @@ same("rmdir then", error_of(os.rmdir, m.path("a")), "ok")
 os.mkdir(m.path("b"))
 write(m.path("b", "cgroup.procs"), b"0\n")
 same("0 is the writer", read(m.path("b", "cgroup.procs")), b"%d\n" % os.getpid())
+m.end()
+
+# a list of children that is longer than a page, and ends within a number where it is cut
+CHILDREN = 2000
+FORKS = """import ctypes, os, signal
+libc = ctypes.CDLL(None)
+for _ in range(%d):
+    if os.fork() == 0:
+        libc.prctl(1, 9)  # it ends with its parent, also where a test is broken off
+        signal.pause()
+print(flush=True)
+signal.pause()
+""" % CHILDREN
+m = Mount("--adopt")
+os.mkdir(m.path("many"))
+parent = subprocess.Popen([sys.executable, "-c", FORKS], close_fds=True, stdout=subprocess.PIPE)
+parent.stdout.readline()
+write(m.path("many", "cgroup.procs"), b"%d\n" % parent.pid)
+same("all its children are adopted", read(m.path("many", "pids.current")), b"%d\n" % (CHILDREN + 1))
+mine = {parent.pid, *map(int, open("/proc/%d/task/%d/children" % (parent.pid, parent.pid)).read().split())}
+same("and no stranger", {int(p) for p in read(m.path("many", "cgroup.procs")).split()} - mine, set())
+same("nor anybody twice", len(read(m.path("many", "cgroup.procs")).split()), CHILDREN + 1)
+write(m.path("many", "cgroup.kill"), b"1\n")
+same("a kill reaches them all", parent.wait(PATIENCE), -signal.SIGKILL)
+step("and their children", until(lambda: not any(os.path.exists("/proc/%d" % p) and is_alive(p) for p in mine)))
 m.end()
 finish()

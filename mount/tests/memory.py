@@ -1,0 +1,69 @@
+"""Without --control neither a mount nor a run keeps a history: forks and exits for hours take no more memory."""
+import os
+import subprocess
+import sys
+
+from support import PROGRAM, Mount, finish, same, step, write
+
+PAIRS, FORKS = 60000, 6000
+
+
+def resident(pid):
+    """Bytes of memory."""
+    return int(open("/proc/%d/statm" % pid).read().split()[1]) * os.sysconf("SC_PAGE_SIZE")
+
+
+def of_mount():
+    m = Mount(control=False)
+    fork, leave = os.open(m.control("fork"), os.O_WRONLY), os.open(m.control("exit"), os.O_WRONLY)
+
+    def pairs(count):
+        for _ in range(count):
+            os.write(fork, b"1 2")
+            os.write(leave, b"2")
+
+    pairs(PAIRS // 6)
+    before = resident(m.process.pid)
+    pairs(PAIRS)
+    grown = resident(m.process.pid) - before
+    print("  mount: %.1f bytes for each of %d forks and exits" % (grown / PAIRS, PAIRS))
+    step("a mount does not grow", grown < 12 * PAIRS, grown)
+    os.close(fork)
+    os.close(leave)
+    m.end()
+
+
+PROGRAM_INSIDE = """import os, sys
+def forks(n):
+    for _ in range(n):
+        pid = os.fork()
+        if pid == 0:
+            os._exit(0)
+        os.waitpid(pid, 0)
+for count in (%d, %d):
+    forks(count)
+    print(flush=True)
+    sys.stdin.readline()
+""" % (FORKS // 4, FORKS)
+
+
+def of_run():
+    p = subprocess.Popen([PROGRAM, "run", sys.executable, "-c", PROGRAM_INSIDE], stdin=subprocess.PIPE, stdout=subprocess.PIPE, text=True)
+    p.stdout.readline()
+    children = open("/proc/%d/task/%d/children" % (p.pid, p.pid)).read().split()
+    ours = [p.pid] + [int(c) for c in children if open("/proc/%s/comm" % c).read() == "makhloeum\n"]
+    before = [resident(pid) for pid in ours]
+    p.stdin.write("\n")
+    p.stdin.flush()
+    p.stdout.readline()
+    grown = [resident(pid) - was for pid, was in zip(ours, before)]
+    print("  run: supervisor and server grow by %s bytes in %d forks" % (grown, FORKS))
+    step("a run does not grow", len(grown) == 2 and max(grown) < 60 * FORKS, grown)
+    p.stdin.write("\n")
+    p.stdin.close()
+    same("its status", p.wait(), 0)
+
+
+of_mount()
+of_run()
+finish()

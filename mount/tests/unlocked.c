@@ -1,0 +1,82 @@
+/* Each function that needs the engine's lock ends a program that calls it without the lock. Built with CHECK_LOCK, over the
+   sources of the mount without main.c. */
+#include "engine.h"
+#include "control.h"
+#include "operations.h"
+#include "opened.h"
+#include "remembered.h"
+#include "watch.h"
+#include "attributes.h"
+#include <signal.h>
+#include <stdio.h>
+#include <sys/wait.h>
+#include <unistd.h>
+
+static struct place place = { .group = "/" };
+static struct stat st;
+static struct remembered remembered = { .path = "/" };
+static struct opened opened;
+static size_t size;
+static const char *text;
+static char group[PATH_MAX_SAID];
+
+static void line(void) { engine_line("mkdir /x"); }
+static void look_at(void) { engine_look("cat / cgroup.procs"); }
+static void take_text(void) { engine_text(&size); }
+static void where(void) { engine_where(1, group, sizeof group); }
+static void has_group(void) { engine_has_group("/"); }
+static void children(void) { engine_children("/", &text, &size); }
+static void groups(void) { engine_groups("/", &text, &size); }
+static void depth(void) { engine_depth(); }
+static void standing(void) { engine_standing(&size); }
+static void newest(void) { engine_newest(&size); }
+static void find(void) { remembered_find("/"); }
+static void make(void) { remembered_make("/"); }
+static void lose(void) { remembered_lose("/"); }
+static void apply(void) { owner_apply(&place, &st); }
+static void set(void) { owner_set(&place, &st); }
+static void forget_owner(void) { owner_forget(&remembered); }
+static void forget_attributes(void) { attributes_forget(&remembered); }
+static void seen(void) { watch_seen("/", file_named("cgroup.events", false)); }
+static void above(void) { watch_above("/"); }
+static void below(void) { watch_below("/"); }
+static void forget_watch(void) { watch_forget(&remembered); }
+static void new_open(void) { opened_new("/", NULL, A_DIRECTORY); }
+static void is_gone(void) { opened_is_gone(&opened); }
+static void wake(void) { opened_wake(&remembered, NULL); }
+static void lose_open(void) { opened_lose(&remembered); }
+static void control(void) { control_write(0, "1", 1); }
+
+static int ends_by(void (*call)(void), bool locked)
+{
+	int status = 0;
+	pid_t pid = fork();
+	if (pid == 0) {
+		if (!freopen("/dev/null", "w", stderr))
+			_exit(1);
+		if (locked)
+			engine_lock();
+		call();
+		_exit(0);
+	}
+	waitpid(pid, &status, 0);
+	return WIFSIGNALED(status) ? WTERMSIG(status) : 0;
+}
+
+int main(void)
+{
+	void (*const calls[])(void) = { line, look_at, take_text, where, has_group, children, groups, depth, standing, newest, find, make,
+		lose, apply, set, forget_owner, forget_attributes, seen, above, below, forget_watch, new_open, is_gone, wake, lose_open, control };
+	static struct kept none = { .fd = -1 };
+	size_t wrong = 0, count = sizeof calls / sizeof *calls;
+	if (!engine_start(&none, &none, true))
+		return 1;
+	for (size_t i = 0; i < count; i++)
+		if (ends_by(calls[i], false) != SIGABRT || ends_by(calls[i], true) != 0) {
+			printf("  call %zu FAILED\n", i);
+			wrong++;
+		}
+	printf("  %zu calls without the lock, %zu of them wrong\n", count, wrong);
+	engine_end();
+	return wrong != 0;
+}
