@@ -4,3 +4,4 @@ mod Deeper
 mod Rows
 mod NoEvent
 mod LawfulRuns
+mod Unmoved

@@ -11,12 +11,14 @@ ghost use Rattle.snzi_core.specs.declared.event.Token.{Token};
 ghost use Rattle.snzi_core.specs.declared.unlawful.Unlawful.{Unlawful};
 ghost use Rattle.snzi_core.specs.declared.unlawful.Unlawful.TheVariants.{Cap};
 ghost use Rattle.snzi_core.specs.Caps.{token_cap, helper_cap};
-ghost use Rattle.snzi_core.specs.Holding.{tokens_at, held, main_weight, out};
+ghost use Rattle.snzi_core.specs.declared.holding.Holding.{Holding};
+ghost use Rattle.snzi_core.specs.Holding.{tokens_at, amount_at, held, main_weight, out};
 ghost use Rattle.snzi_core.specs.State.{State as Core};
 ghost use Rattle.snzi_core.specs.Lawful.{refusal};
 ghost use Rattle.snzi_core.specs.Effect.{after, Runs};
 ghost use Rattle.snzi_tree.specs.declared.board.View.{View};
 ghost use Rattle.snzi_tree.specs.Contents.{AllInRange, count_at, AtLeaves};
+ghost use Rattle.snzi_tree.specs.Ended.{HasEnded};
 ghost use Rattle.snzi_tree.specs.Events.{IsLawful, Comes, IsEventOf, IsSplitOf, IsJoinOf, Alike, slot_at, place_at, node_at, load_at, exchange_at};
 ghost use Rattle.snzi_tree.specs.Hands.{IsNodeWord, IsStripeWord, above, IsRootWord};
 ghost use Rattle.snzi_tree.specs.Tell.{looked, queried, summed, root_added, child_added, fast_added, left, added_on, staged, unstaged};
@@ -82,4 +84,9 @@ pub fn lawful_events_are_done()
     ensures refused { (k : Core) (e : Event) (u : Unlawful) → IsLawful k e → refusal k e ≡ Some u → (u ≡ Cap) × (2 ^ 32 - 1 ≤ length k.hands) }
     ensures run { (k k' : Core) (events : List Event) → Comes k events k' → length k'.hands < 2 ^ 32 → Runs k events k' }
     ensures one { (k a b : Core) (events : List Event) → Comes k events a → Comes k events b → a ≡ b }
+{}
+
+/// What a board came to in no step is nothing: main has no token then, and no amount.
+pub fn no_step_brings_nothing()
+    ensures { (g w l : ℕ) (h : Holding) → HasEnded g w l 0 h → (i : ℕ) → (tokens_at i h ≡ 0) × (amount_at i h ≡ 0) }
 {}

@@ -4,7 +4,8 @@ use Rattle.std.specs.Prelude.{slice_index}
 use mathlib.Core.Option.{none, some, some-injective}
 use lib.ListN.{get_elem?}
 use Rattle.atomic_table.specs.Table.{State as Table, step, keeps, Allows}
-use Rattle.atomic_table.proofs.Lists.{at_map}
+use Rattle.std.proofs.lemmas.List.{set-get_or}
+use Rattle.atomic_table.proofs.Lists.{at_map, set_again}
 use Rattle.snzi_core.specs.declared.holding.Holding.{Holding}
 use Rattle.snzi_core.specs.declared.holding.Role.{Role}
 use Rattle.snzi_core.specs.declared.holding.Role.TheVariants.{Main, Helper, Spent}
@@ -15,13 +16,13 @@ use Rattle.snzi_core.specs.Balance.{total, mains, helpers, outs, Mustered, Cover
 use Rattle.snzi_core.specs.State.{hand_of}
 use Rattle.snzi_core.proofs.Muster.{sole, no_main_no_out}
 use Rattle.snzi_tree.specs.declared.board.View.{View}
-use Rattle.snzi_tree.specs.View.{holding, BoardRule, Knows, Acts, IsBoard}
-use Rattle.snzi_tree.specs.Events.{core_of, load_at, HasRun, RunRule}
+use Rattle.snzi_tree.specs.declared.board.Tally.{Tally}
+use Rattle.snzi_tree.specs.View.{holding, BoardRule, IsBoard}
+use Rattle.snzi_tree.specs.Events.{core_of}
+use Rattle.snzi_tree.specs.Tallies.{view_of, Seated, plain, events_in, all_events, SpentCountNothing, HasRun, RunRule}
 use Rattle.snzi_tree.specs.Ended.{HasEnded, ended}
-use Rattle.snzi_tree.proofs.Ruled.{unmoved}
-use Rattle.snzi_tree.proofs.Events.{load_makes}
 use Rattle.snzi_tree.proofs.Shared.{is_first, first_is}
-use Rattle.snzi_tree.proofs.Run.{step_runs}
+use Rattle.snzi_tree.proofs.Tallies.{first_counts}
 
 weightless : (r : Role) → main_weight r ≡ 0 → helper_weight r ≡ 0 → r ≡ Spent
 weightless (Main n) a b = absurd (omega arith)
@@ -46,7 +47,16 @@ others_spent (x ∷ xs) v m at main id =
     let next : suc id ≡ id + 1 = omega arith in
     subst (λ (n : ℕ). (get_or (x ∷ xs) n (empty Spent)).role ≡ Spent) next (all_spent xs (omega arith) (omega arith) id)
 
-module _ (g w l : ℕ) (board : IsBoard g w l) (s : Table (Unit {0}) View) (r : BoardRule (g * (w + l)) w l s) (ran : HasRun g w s) (knows : MainKnows) (id : ℕ) (v : View) (at : get_elem? s.views id ≡ some v) (main : v.holding.role ≡ Main 0) where
+module _ (g w l : ℕ) (board : IsBoard g w l) (t : Table (Unit {0}) Tally) (r : BoardRule (g * (w + l)) w l (plain t)) (ran : HasRun g w t) (bare : SpentCountNothing t.views) (knows : MainKnows) (id : ℕ) (u : Tally) (seat : get_elem? t.views id ≡ some u) (main : u.view.holding.role ≡ Main 0) where
+  abbrev s : Table (Unit {0}) View
+  s = plain t
+
+  abbrev v : View
+  v = u.view
+
+  at : get_elem? s.views id ≡ some v
+  at = at_map view_of t.views id u seat
+
   there : get_elem? (map holding s.views) id ≡ some v.holding
   there = at_map holding s.views id v at
 
@@ -56,28 +66,34 @@ module _ (g w l : ℕ) (board : IsBoard g w l) (s : Table (Unit {0}) View) (r : 
   own : hand_of (core_of g w s) 0 ≡ v.holding
   own = first_is g w l board s r id v at first
 
-  pub has_ended : HasEnded g w l v.holding
+  others : (n : ℕ) → (get_or (map holding s.views) (n + 1) (empty Spent)).role ≡ Spent
+  others n = others_spent (map holding s.views) v.holding r.1.1 (subst (λ (m : ℕ). get_elem? (map holding s.views) m ≡ some v.holding) first there) main n
+
+  counted : all_events t.views ≡ events_in u
+  counted = first_counts t.views u (subst (λ (m : ℕ). get_elem? t.views m ≡ some u) first seat) bare others
+
+  pub has_ended : HasEnded g w l (events_in u) v.holding
   has_ended =
-      let (es, k, comes, like) = ran in
+      let (es, k, comes, like, long) = ran in
       let one = like.4 0 in (
         es,
         k,
         comes,
+        long ∙ counted,
         (
           subst (λ (h : Holding). ((hand_of k 0).role ≡ h.role) × ((i : ℕ) → (slice_index (hand_of k 0).tokens i ≡ slice_index h.tokens i) × (slice_index (hand_of k 0).amounts i ≡ slice_index h.amounts i))) own one,
-          λ n. (like.4 (n + 1)).0 ∙ others_spent (map holding s.views) v.holding r.1.1 (subst (λ (m : ℕ). get_elem? (map holding s.views) m ≡ some v.holding) first there) main n,
+          λ n. (like.4 (n + 1)).0 ∙ others n,
         ),
         λ j.
             let told = knows w (w + l) s.words (map holding s.views) id j v.holding board.0 r.1 there main in
             subst (λ (ws : List ℕ). (line w (w + l) j ≡ stripe → slice_index ws j ≡ slice_index v.holding.amounts j % 2 ^ 64) × (line w (w + l) j ≢ stripe → 0 < slice_index ws j ↔ Covers (parent w (w + l)) v.holding j)) (sym like.2) told,
       )
 
-pub ends : (g w l slots id j : ℕ) (me : Knows) → IsBoard g w l → Acts me.0 → j < g * (w + l) → MainKnows → Allows (RunRule g w l) slots id me j (λ x. x) (ended g w l (step slots j 0 0 none) me)
-ends g w l slots id j me board acts inside knows s rule homes at small =
-    let plain = λ (r : ℕ) (m : Knows). (m.0 ≡ me.0) × (m.1 ≡ me.1) in
-    let (v, a, valid, kept, told) = step_runs g w l slots id me j (λ x. x) plain (
-      (λ st r _ here _. (me.0, keeps, tt, unmoved (g * (w + l)) w l st r id me here j, (refl, refl))),
-      (λ x. load_at w l id j),
-      (λ st m r here is. load_makes g w l board st r id me here acts j inside m (ap holding is.0)),
-    ) s rule homes at small in
-    (v, a, valid, kept, (told.0, told.1, λ alone. has_ended g w l board s rule.0 rule.1 knows id me.0 at alone))
+pub ends : (g w l slots id j : ℕ) (me : Seated) → IsBoard g w l → MainKnows → Allows (RunRule g w l) slots id me j (λ x. x) (ended g w l (step slots j 0 0 none) me)
+ends g w l slots id j me board knows s rule homes at small = (
+  me.0,
+  keeps,
+  tt,
+  subst (λ (z : List ℕ × List Tally). RunRule g w l (record { words = z.0; homes = s.homes; views = z.1 })) (λ i. (sym (set-get_or s.words j 0) i, sym (set_again s.views id me.0 at) i)) rule,
+  (refl, refl, λ alone. has_ended g w l board s rule.0 rule.1 rule.2 knows id me.0 at alone),
+)

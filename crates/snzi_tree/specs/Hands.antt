@@ -9,7 +9,14 @@ use Rattle.snzi_tree.specs.declared.board.Hand.{Hand}
 
 -- what the hand holds
 abbrev pub holds : Hand → Holding
-holds hand = hand.seat.me.0.holding
+holds hand = hand.seat.me.0.view.holding
+
+-- how many events the hand has done, and how many those have done that it has joined
+abbrev pub own_events : Hand → ℕ
+own_events hand = hand.seat.me.0.own
+
+abbrev pub joined_events : Hand → ℕ
+joined_events hand = hand.seat.me.0.joined
 
 -- it is a hand of this board
 abbrev pub IsHandOf : {G W L : ℕ} → Board G W L → Hand → Type 0

@@ -1,7 +1,7 @@
 //! What a hand tells of itself.
 ghost use Rattle.std.specs.Prelude.{◌≡◌};
 ghost use Rattle.snzi_core.specs.Holding.{held, out};
-ghost use Rattle.snzi_tree.specs.Hands.{holds, counted};
+ghost use Rattle.snzi_tree.specs.Hands.{holds, own_events, counted};
 
 use crate::board::Hand;
 
@@ -20,19 +20,12 @@ impl Hand {
         self.helpers_out
     }
 
-    /// The hand's steps on words so far, of which a split and a join are one each for main. It
-    /// stays at the greatest u64.
+    /// The hand's steps on words so far, of which a split and a join are one each for main: as many as
+    /// the events of the hand. It stays at the greatest u64.
     pub fn steps(&self) -> u64
-        ensures { result ≡ self.now.steps }
+        ensures value { result ≡ self.now.steps }
+        ensures events { result ≡ counted 0 (own_events self.now) }
     {
         self.steps
-    }
-
-    // One step more.
-    pub(crate) fn count_step(&mut self)
-        ensures steps { self.new.steps ≡ counted self.old.steps 1 }
-        ensures same { (self.new.seat ≡ self.old.seat) × (self.new.held ≡ self.old.held) × (self.new.helpers_out ≡ self.old.helpers_out) }
-    {
-        self.steps = self.steps.saturating_add(1);
     }
 }

@@ -8,7 +8,8 @@
 //! What a user can rely on:
 //! - at every moment, whatever threads do, the board is where the SNZI core comes by a run of lawful
 //!   events of a new core, one for each step; so balance and caps hold between any two steps;
-//! - `close` hands such a run to its caller: one to a core in which main, alone, has what it has;
+//! - `close` hands such a run to its caller: one to a core in which main, alone, has what it has, and
+//!   of as many events as main and the helpers that it has joined have made steps;
 //! - `arrive` gives the hand one token at a leaf and `depart` takes one, `add` and `take` change the
 //!   hand's amount in one stripe modulo 2^64; nothing else of the hand changes but `steps`, and no
 //!   other hand; `split` moves exactly the share, `join` gives main all that the helper holds;
@@ -22,10 +23,10 @@
 //! other threads' adds is no snapshot; time. A helper that is dropped instead of joined stays out.
 //!
 //! The definitions stand in `specs/`: the rule and what a hand's seat knows (`View`), what each kind
-//! of step tells (`Tell`), that a step is an event and the board has a run (`Events`), what is left at
-//! the end (`Ended`), words of a hand (`Hands`), by slots, leaves and stripes (`Contents`), and the
-//! bounds (`Depths`). Balance, caps
-//! and presence are `snzi_core`'s. How the first sentence above is kept: the board's words are private
+//! of step tells (`Tell`), that a step is an event (`Events`), that the board has a run of as many
+//! events as its hands count (`Tallies`), what is left at the end (`Ended`), words of a hand (`Hands`),
+//! by slots, leaves and stripes (`Contents`), and the bounds (`Depths`). Balance, caps and presence are
+//! `snzi_core`'s. How the first sentence above is kept: the board's words are private
 //! to the module `board`, whose child `words` has the only functions that step on them; each asks
 //! that its step is one event (`IsStep`, `IsSplit`, `IsJoin`), by which the rule of a running board
 //! keeps that a run came to it (`HasRun`). The law beside it, `indicator_laws::events`, says which

@@ -1,6 +1,29 @@
 //! What each kind of step tells its hand.
-use crate::board::View;
+use crate::board::{Tally, View};
 use atomic_table::{Join, Play, Split};
+use std::marker::PhantomData;
+
+// A step that is one event of the hand.
+pub(crate) struct Counted<M: Play<(), View>> {
+    play: PhantomData<M>,
+}
+
+impl<M: Play<(), View>> Play<(), Tally> for Counted<M> {
+    ghost use Rattle.snzi_tree.specs.Tallies.{counts_one};
+
+    ghost then = { counts_one M.then };
+}
+
+// A load that counts as no event of the hand.
+pub(crate) struct Uncounted<M: Play<(), View>> {
+    play: PhantomData<M>,
+}
+
+impl<M: Play<(), View>> Play<(), Tally> for Uncounted<M> {
+    ghost use Rattle.snzi_tree.specs.Tallies.{counts_none};
+
+    ghost then = { counts_none M.then };
+}
 
 // A load of a node.
 pub(crate) struct Look;
@@ -98,7 +121,7 @@ impl Play<(), View> for Stage {
 // The last load of a board.
 pub(crate) struct Ended<const G: usize, const W: usize, const L: usize>;
 
-impl<const G: usize, const W: usize, const L: usize> Play<(), View> for Ended<G, W, L> {
+impl<const G: usize, const W: usize, const L: usize> Play<(), Tally> for Ended<G, W, L> {
     ghost use Rattle.snzi_tree.specs.Ended.{ended};
 
     ghost then = { ended G W L };
@@ -107,18 +130,18 @@ impl<const G: usize, const W: usize, const L: usize> Play<(), View> for Ended<G,
 // A split by the share, and a join.
 pub(crate) struct Share;
 
-impl Split<View> for Share {
-    ghost use Rattle.snzi_tree.specs.View.{kept, given};
+impl Split<Tally> for Share {
+    ghost use Rattle.snzi_tree.specs.Tallies.{kept_tally, given_tally};
 
-    ghost left = { kept };
+    ghost left = { kept_tally };
 
-    ghost right = { given };
+    ghost right = { given_tally };
 }
 
-impl Join<View> for Share {
-    ghost use Rattle.snzi_tree.specs.View.{joined, spent_view};
+impl Join<Tally> for Share {
+    ghost use Rattle.snzi_tree.specs.Tallies.{joined_tally, spent_tally};
 
-    ghost both = { joined };
+    ghost both = { joined_tally };
 
-    ghost spent = { spent_view };
+    ghost spent = { spent_tally };
 }

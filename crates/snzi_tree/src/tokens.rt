@@ -7,7 +7,7 @@ ghost use Rattle.snzi_core.specs.Shape.{node_word};
 ghost use Rattle.snzi_core.specs.Listed.{one_at};
 ghost use Rattle.snzi_tree.specs.Contents.{token_word, content_of, AtLeaves};
 ghost use Rattle.snzi_tree.specs.Depths.{halved, OnPath, depth, leaf_depth, arrive_steps, depart_steps};
-ghost use Rattle.snzi_tree.specs.Hands.{IsHandOf, holds, counted, IsNodeWord, SameHand};
+ghost use Rattle.snzi_tree.specs.Hands.{IsHandOf, holds, joined_events, counted, IsNodeWord, SameHand};
 
 use crate::board::{Board, Hand};
 use snzi_core::{TOKEN_CAP, Token};
@@ -24,6 +24,7 @@ impl<const G: usize, const W: usize, const L: usize> Board<G, W, L> {
         ensures steps { hand.new.steps ≤ hand.old.steps + depart_steps (depth node) }
         ensures counts { counted hand.old.steps 1 ≤ hand.new.steps }
         ensures hand { SameHand hand.old hand.new }
+        ensures joined { joined_events hand.new ≡ joined_events hand.old }
         ensures token { Loses (node_word W L slot node) (holds hand.old) (holds hand.new) }
     {
         let mut at = node;
@@ -44,6 +45,7 @@ impl<const G: usize, const W: usize, const L: usize> Board<G, W, L> {
         ensures steps { hand.new.steps ≤ hand.old.steps + 2 }
         ensures counts { counted hand.old.steps 1 ≤ hand.new.steps }
         ensures hand { SameHand hand.old hand.new }
+        ensures joined { joined_events hand.new ≡ joined_events hand.old }
         ensures won { IsTrue result → holds hand.new ≡ gain (holds hand.old) word }
         ensures lost { IsFalse result → holds hand.new ≡ holds hand.old }
     {
@@ -62,6 +64,7 @@ impl<const G: usize, const W: usize, const L: usize> Board<G, W, L> {
         ensures steps { hand.new.steps ≤ hand.old.steps + (2 * depth node + 1) }
         ensures counts { counted hand.old.steps 1 ≤ hand.new.steps }
         ensures hand { SameHand hand.old hand.new }
+        ensures joined { joined_events hand.new ≡ joined_events hand.old }
         ensures above { (result ≤ node) × OnPath node result }
         ensures token { Gains (node_word W L slot result) (holds hand.old) (holds hand.new) }
     {
@@ -102,6 +105,7 @@ impl<const G: usize, const W: usize, const L: usize> Board<G, W, L> {
         ensures steps { hand.new.steps ≤ hand.old.steps + arrive_steps (depth node) }
         ensures counts { counted hand.old.steps 1 ≤ hand.new.steps }
         ensures hand { SameHand hand.old hand.new }
+        ensures joined { joined_events hand.new ≡ joined_events hand.old }
         ensures token { Gains (node_word W L slot node) (holds hand.old) (holds hand.new) }
     {
         let mut at = self.climb(hand, slot, node);
@@ -121,6 +125,7 @@ impl<const G: usize, const W: usize, const L: usize> Board<G, W, L> {
         ensures steps { hand.new.steps ≤ hand.old.steps + depart_steps (depth node) }
         ensures counts { counted hand.old.steps 1 ≤ hand.new.steps }
         ensures hand { SameHand hand.old hand.new }
+        ensures joined { joined_events hand.new ≡ joined_events hand.old }
         ensures token { Moves (node_word W L slot (halved node)) (node_word W L slot node) (holds hand.old) (holds hand.new) }
     {
         let word = self.node(slot, node);
@@ -138,6 +143,7 @@ impl<const G: usize, const W: usize, const L: usize> Board<G, W, L> {
         ensures steps { hand.new.steps ≤ hand.old.steps + arrive_steps (leaf_depth W t.leaf) }
         ensures counts { counted hand.old.steps 1 ≤ hand.new.steps }
         ensures hand { SameHand hand.old hand.new }
+        ensures joined { joined_events hand.new ≡ joined_events hand.old }
         ensures token { Gains (token_word W L t) (holds hand.old) (holds hand.new) }
         ensures content { (s j : ℕ) → content_of W L (holds hand.new) s j ≡ content_of W L (holds hand.old) s j + one_at t.slot t.leaf s j }
         ensures at_leaves { AtLeaves W L (holds hand.old) → AtLeaves W L (holds hand.new) }
@@ -154,6 +160,7 @@ impl<const G: usize, const W: usize, const L: usize> Board<G, W, L> {
         ensures steps { hand.new.steps ≤ hand.old.steps + depart_steps (leaf_depth W t.leaf) }
         ensures counts { counted hand.old.steps 1 ≤ hand.new.steps }
         ensures hand { SameHand hand.old hand.new }
+        ensures joined { joined_events hand.new ≡ joined_events hand.old }
         ensures token { Loses (token_word W L t) (holds hand.old) (holds hand.new) }
         ensures content { (s j : ℕ) → content_of W L (holds hand.new) s j + one_at t.slot t.leaf s j ≡ content_of W L (holds hand.old) s j }
         ensures at_leaves { AtLeaves W L (holds hand.old) → AtLeaves W L (holds hand.new) }

@@ -27,5 +27,6 @@ down-preserved g c =
       place = low;
       path = t.3;
       hand = (e.hand.0 ∙ i.hand.0, e.hand.1 ∙ i.hand.1);
+      joined = e.joined ∙ i.joined;
       token = gains_moved (holds c.args.hand.now) (holds c.down.hand) (holds c.descend.new.hand) (node_word w l c.args.slot next) (node_word w l c.args.slot at) apart i.token moves;
     }

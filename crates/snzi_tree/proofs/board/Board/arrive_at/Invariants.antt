@@ -1,8 +1,8 @@
-use Rattle.std.proofs.Common.{◌*◌, ◌+◌, ◌-◌, ◌≤◌}
+use Rattle.std.proofs.Common.{◌≡◌, ◌*◌, ◌+◌, ◌-◌, ◌≤◌}
 use Rattle.snzi_core.specs.Changes.{Gains}
 use Rattle.snzi_core.specs.Shape.{node_word}
 use Rattle.snzi_tree.specs.Depths.{depth, OnPath}
-use Rattle.snzi_tree.specs.Hands.{holds, counted, SameHand}
+use Rattle.snzi_tree.specs.Hands.{holds, joined_events, counted, SameHand}
 use Rattle.snzi_tree.proofs.Paths.{down_steps}
 use Rattle.snzi_tree.proofs.board.Board.arrive_at.Given as goal
 
@@ -13,6 +13,7 @@ invariant-down g l = record {
   place : l.at ≤ l.node;
   path : OnPath l.node l.at;
   hand : SameHand l.fn.hand l.hand;
+  joined : joined_events l.hand ≡ joined_events l.fn.hand;
   token : Gains (node_word g.row.W g.row.L l.slot l.at) (holds l.fn.hand) (holds l.hand);
 }
 

@@ -20,7 +20,7 @@ returns-then-try_fast-clause-token g c =
     subst (λ (z : ℕ × Holding). Gains z.0 z.1 (holds c.try_fast.new.hand)) (λ i. (is i, c.up.invariant.same i)) (gains (holds c.up.hand) _ _ (c.try_fast.ensures.won c.if-try_fast.true))
 
 pub up-init : goal.up-init
-up-init g c = record { steps = omega arith; counts = omega arith; place = omega arith; hand = (refl, refl); path = here; same = refl }
+up-init g c = record { steps = omega arith; counts = omega arith; place = omega arith; hand = (refl, refl); joined = refl; path = here; same = refl }
 
 pub up-preserved : goal.up-preserved
 up-preserved g c =
@@ -31,4 +31,4 @@ up-preserved g c =
     let e = c.try_fast.ensures in
     let d = depth_up c.up.at some in
     let t = i.steps in
-    record { steps = omega (arith, d, t, e.steps); counts = let u = i.counts in omega (arith, u, e.counts); place = omega (arith, n); hand = (e.hand.0 ∙ i.hand.0, e.hand.1 ∙ i.hand.1); path = path_up c.up.at c.args.node i.path some; same = e.lost c.if-try_fast.false ∙ i.same }
+    record { steps = omega (arith, d, t, e.steps); counts = let u = i.counts in omega (arith, u, e.counts); place = omega (arith, n); hand = (e.hand.0 ∙ i.hand.0, e.hand.1 ∙ i.hand.1); joined = e.joined ∙ i.joined; path = path_up c.up.at c.args.node i.path some; same = e.lost c.if-try_fast.false ∙ i.same }

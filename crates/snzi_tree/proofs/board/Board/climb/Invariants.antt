@@ -1,6 +1,6 @@
 use Rattle.std.proofs.Common.{◌*◌, ◌+◌, ◌≡◌, ◌≤◌}
 use Rattle.snzi_tree.specs.Depths.{depth, OnPath}
-use Rattle.snzi_tree.specs.Hands.{holds, counted, SameHand}
+use Rattle.snzi_tree.specs.Hands.{holds, joined_events, counted, SameHand}
 use Rattle.snzi_tree.proofs.board.Board.climb.Given as goal
 
 abbrev pub invariant-up : goal.invariant-up
@@ -9,6 +9,7 @@ invariant-up g l = record {
   counts : counted l.fn.hand.steps 0 ≤ l.hand.steps;
   place : l.at ≤ l.node;
   hand : SameHand l.fn.hand l.hand;
+  joined : joined_events l.hand ≡ joined_events l.fn.hand;
   path : OnPath l.node l.at;
   same : holds l.hand ≡ holds l.fn.hand;
 }

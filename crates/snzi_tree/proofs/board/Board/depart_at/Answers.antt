@@ -36,6 +36,7 @@ up-preserved g c =
       counts = let u = c.up.invariant.counts in omega (arith, u, e);
       place = omega (arith, inside);
       hand = (c.leave.ensures.hand.0 ∙ c.up.invariant.hand.0, c.leave.ensures.hand.1 ∙ c.up.invariant.hand.1);
+      joined = c.leave.ensures.joined ∙ c.up.invariant.joined;
       token = passed_has h (holds c.leave.new.hand) c.node-word.result p m;
       rest = λ k t. c.up.invariant.rest k (subst (λ (j : ℕ). Loses j h k) is (loses_passed h (holds c.leave.new.hand) k c.node-word.result p apart have m t));
     }

@@ -10,4 +10,4 @@ load-requires g c =
     let self = c.args.self.now in
     let low = self.shape.0.1 in
     let some : 0 < g.row.G * (w + l) = pos_mul g.row.G (w + l) self.shape.1 (omega (arith, low)) in
-    (c.requires.0, subst (λ (k : ℕ). 0 < k) (sym self.words) some, ends g.row.G w l self.table.shared.table_id.slots c.args.seat.now.id 0 c.args.seat.now.me self.shape c.requires.1 some c.main_knows.ensures)
+    (c.requires.0, subst (λ (k : ℕ). 0 < k) (sym self.words) some, ends g.row.G w l self.table.shared.table_id.slots c.args.seat.now.id 0 c.args.seat.now.me self.shape c.main_knows.ensures)
