@@ -17,7 +17,11 @@ use Rattle.c_library.specs.declared.info.Info.{Info}
 
 -- what a call says beside its status
 abbrev pub told : ℕ → ℕ → ℕ → Info
-told len count code = record { len = len; count = count; code = code }
+told len count code = record { len = len; count = count; needed = 0; code = code }
+
+-- the buffer is too small for so many bytes
+abbrev pub too_small : ℕ → Info
+too_small needed = record { len = 0; count = 0; needed = needed; code = 0 }
 
 -- 0 for done, 1 for refused, 2 for a line that is no command
 abbrev pub status_of_code : ℕ → ℕ
@@ -28,13 +32,13 @@ status_of_code code = cond (nat_eq code 0) 0 (cond (nat_lt code 32) 1 2)
 abbrev pub status_of : Answer → ℕ
 status_of Skipped = 5
 status_of (Answered len code) = status_of_code code
-status_of TooSmall = 3
+status_of (TooSmall needed) = 3
 status_of OutOfMemory = 4
 
 abbrev pub info_of : Answer → Info
 info_of Skipped = told 0 0 0
 info_of (Answered len code) = told len 0 code
-info_of TooSmall = told 0 0 0
+info_of (TooSmall needed) = too_small needed
 info_of OutOfMemory = told 0 0 0
 
 -- the n-th line was answered so by the engine e, and left the handle with an engine
@@ -72,14 +76,14 @@ abbrev pub listing_status : Listing → ℕ
 listing_status (listing.Listed len count) = 0
 listing_status listing.NoGroup = 1
 listing_status listing.BadPath = 2
-listing_status listing.TooSmall = 3
+listing_status (listing.TooSmall needed) = 3
 listing_status listing.OutOfMemory = 4
 
 abbrev pub listing_info : Listing → Info
 listing_info (listing.Listed len count) = told len count 0
 listing_info listing.NoGroup = told 0 0 2
 listing_info listing.BadPath = told 0 0 33
-listing_info listing.TooSmall = told 0 0 0
+listing_info (listing.TooSmall needed) = too_small needed
 listing_info listing.OutOfMemory = told 0 0 0
 
 -- the children of the group at the path are told so, and the engine stays

@@ -3,7 +3,7 @@
 ghost use Rattle.std.specs.Prelude.{◌≡◌, codes};
 ghost use Rattle.flat_model.specs.PathText.{read_path};
 ghost use Rattle.flat_model.specs.Trace.{read_line};
-ghost use Rattle.c_library.specs.Status.{IsOpened, IsClosed, AnswersAt, DepthAt, ListsAt, ListsGroupsAt, FindsAt, told, status_of, status_of_code, info_of, listing_status, listing_info, found_status, found_info};
+ghost use Rattle.c_library.specs.Status.{IsOpened, IsClosed, AnswersAt, DepthAt, ListsAt, ListsGroupsAt, FindsAt, told, too_small, status_of, status_of_code, info_of, listing_status, listing_info, found_status, found_info};
 
 use crate::handle::Handle;
 use crate::info::Info;
@@ -33,7 +33,23 @@ const BAD_PATH: u32 = 33;
 fn told(len: usize, count: usize, code: u32) -> Info
     ensures { result ≡ told len count code }
 {
-    Info { len, count, code }
+    Info {
+        len,
+        count,
+        needed: 0,
+        code,
+    }
+}
+
+fn too_small(needed: usize) -> Info
+    ensures { result ≡ too_small needed }
+{
+    Info {
+        len: 0,
+        count: 0,
+        needed,
+        code: 0,
+    }
 }
 
 fn status_of_code(code: u32) -> u32
@@ -51,7 +67,7 @@ fn status_of(answer: Answer) -> u32
     match answer {
         Answer::Skipped => SKIPPED,
         Answer::Answered { len: _, code } => status_of_code(code),
-        Answer::TooSmall => TOO_SMALL,
+        Answer::TooSmall { needed: _ } => TOO_SMALL,
         Answer::OutOfMemory => OUT_OF_MEMORY,
     }
 }
@@ -61,7 +77,8 @@ fn info_of(answer: Answer) -> Info
 {
     match answer {
         Answer::Answered { len, code } => told(len, 0, code),
-        Answer::Skipped | Answer::TooSmall | Answer::OutOfMemory => told(0, 0, 0),
+        Answer::TooSmall { needed } => too_small(needed),
+        Answer::Skipped | Answer::OutOfMemory => told(0, 0, 0),
     }
 }
 
@@ -72,7 +89,7 @@ fn listing_status(listing: Listing) -> u32
         Listing::Listed { len: _, count: _ } => DONE,
         Listing::NoGroup => REFUSED,
         Listing::BadPath => FAULT,
-        Listing::TooSmall => TOO_SMALL,
+        Listing::TooSmall { needed: _ } => TOO_SMALL,
         Listing::OutOfMemory => OUT_OF_MEMORY,
     }
 }
@@ -84,7 +101,8 @@ fn listing_info(listing: Listing) -> Info
         Listing::Listed { len, count } => told(len, count, 0),
         Listing::NoGroup => told(0, 0, NO_GROUP),
         Listing::BadPath => told(0, 0, BAD_PATH),
-        Listing::TooSmall | Listing::OutOfMemory => told(0, 0, 0),
+        Listing::TooSmall { needed } => too_small(needed),
+        Listing::OutOfMemory => told(0, 0, 0),
     }
 }
 
@@ -111,7 +129,7 @@ fn found_info(found: Found) -> Info
 
 /// Makes an engine in a handle that has none.
 #[unsafe(no_mangle)]
-pub extern "C" fn mk_open(alloc: Global, h: &mut Handle) -> u32
+pub extern "C" fn mk0_open(alloc: Global, h: &mut Handle) -> u32
     ensures { IsOpened h.old.seal.held result h.new.seal.held }
 {
     if let Some(engine) = h.take(alloc) {
@@ -130,7 +148,7 @@ pub extern "C" fn mk_open(alloc: Global, h: &mut Handle) -> u32
 
 /// Frees the engine, if there is one.
 #[unsafe(no_mangle)]
-pub extern "C" fn mk_close(alloc: Global, h: &mut Handle) -> u32
+pub extern "C" fn mk0_close(alloc: Global, h: &mut Handle) -> u32
     ensures { IsClosed h.old.seal.held result h.new.seal.held }
 {
     match h.take(alloc) {
@@ -141,7 +159,7 @@ pub extern "C" fn mk_close(alloc: Global, h: &mut Handle) -> u32
 
 /// Answers one line of a trace.
 #[unsafe(no_mangle)]
-pub extern "C" fn mk_line(
+pub extern "C" fn mk0_line(
     alloc: Global,
     h: &mut Handle,
     number: u64,
@@ -164,7 +182,7 @@ pub extern "C" fn mk_line(
 
 /// Takes the newest recorded command back.
 #[unsafe(no_mangle)]
-pub extern "C" fn mk_undo(
+pub extern "C" fn mk0_undo(
     alloc: Global,
     h: &mut Handle,
     number: u64,
@@ -173,12 +191,12 @@ pub extern "C" fn mk_undo(
 ) -> u32
     ensures { AnswersAt h.old.seal.held number (read_line (codes "undo")) out.new result info.new h.new.seal.held }
 {
-    mk_line(alloc, h, number, b"undo", out, info)
+    mk0_line(alloc, h, number, b"undo", out, info)
 }
 
 /// How many recorded commands can be taken back.
 #[unsafe(no_mangle)]
-pub extern "C" fn mk_depth(alloc: Global, h: &mut Handle, depth: &mut usize) -> u32
+pub extern "C" fn mk0_depth(alloc: Global, h: &mut Handle, depth: &mut usize) -> u32
     ensures { DepthAt h.old.seal.held result depth.new h.new.seal.held }
 {
     let Some(engine) = h.take(alloc) else {
@@ -192,7 +210,7 @@ pub extern "C" fn mk_depth(alloc: Global, h: &mut Handle, depth: &mut usize) -> 
 
 /// The names of the groups one name below a group.
 #[unsafe(no_mangle)]
-pub extern "C" fn mk_children(
+pub extern "C" fn mk0_children(
     alloc: Global,
     h: &mut Handle,
     path: &[u8],
@@ -213,7 +231,7 @@ pub extern "C" fn mk_children(
 
 /// The paths of the groups that stand.
 #[unsafe(no_mangle)]
-pub extern "C" fn mk_groups(alloc: Global, h: &mut Handle, out: &mut [u8], info: &mut Info) -> u32
+pub extern "C" fn mk0_groups(alloc: Global, h: &mut Handle, out: &mut [u8], info: &mut Info) -> u32
     ensures { ListsGroupsAt h.old.seal.held out.new result info.new h.new.seal.held }
 {
     let Some(engine) = h.take(alloc) else {
@@ -228,7 +246,7 @@ pub extern "C" fn mk_groups(alloc: Global, h: &mut Handle, out: &mut [u8], info:
 
 /// Whether there is such a group.
 #[unsafe(no_mangle)]
-pub extern "C" fn mk_has_group(alloc: Global, h: &mut Handle, path: &[u8], info: &mut Info) -> u32
+pub extern "C" fn mk0_has_group(alloc: Global, h: &mut Handle, path: &[u8], info: &mut Info) -> u32
     ensures { FindsAt h.old.seal.held (read_path path.now) result info.new h.new.seal.held }
 {
     let Some(engine) = h.take(alloc) else {

@@ -8,6 +8,8 @@ pub struct Info {
     pub len: usize,
     /// How many names these are.
     pub count: usize,
+    /// Where the buffer is too small, how many bytes the answer or the names have; else 0.
+    pub needed: usize,
     /// The code of a refusal or a fault.
     pub code: u32,
 }

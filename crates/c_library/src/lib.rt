@@ -1,4 +1,4 @@
-//! The engine for C: what `bindings/c/makhloeum.h` declares.
+//! The engine for C: the private calls `mk0_..`, on which the C code of `bindings/c` stands.
 //!
 //! - A handle is C's. It holds an engine or none; all bytes 0 is one with none. Each call takes the engine out of its
 //!   handle, asks it, and puts it back.
@@ -7,7 +7,7 @@
 //!   the engine as it was.
 //! - No call starts a thread, takes a lock or waits. A handle is not proved to cross threads.
 //!
-//! Not checked by anything but tests: that C and the header agree, and that a caller keeps what the header asks.
+//! Not checked by anything but tests: that C declares these calls as they are, and that a caller keeps what they ask.
 //!
 //! `specs/Status.antt` says what each call answers and leaves, `specs/Sealed.antt` what a handle owns.
 #![tactic(auto)]

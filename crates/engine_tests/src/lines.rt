@@ -27,22 +27,35 @@ const ROWS: [(&str, &str, u32); 11] = [
     ("cat /a pids.events", "11 ok\n| max 0\n", 0),
 ];
 
-/// Whether a line is answered so: not in a buffer that is one byte too small, which leaves the engine as it was, and
-/// then in one that is just large enough.
+/// Whether a line whose answer has `len` bytes is told so, since the buffer is too small, and leaves the engine as it was.
+fn is_too_small(
+    alloc: Global,
+    lines: &mut LineEngine,
+    number: u64,
+    line: &str,
+    buffer: &mut [u8],
+    len: usize,
+) -> bool {
+    let depth = lines.depth();
+    let told = lines.answer(alloc, number, line.as_bytes(), buffer);
+    told == Answer::TooSmall { needed: len } && lines.depth() == depth
+}
+
+/// Whether a line is answered so: not in an empty buffer, nor in one that is one byte too small, which leave the engine as
+/// it was, and then in one that is just large enough.
 fn is_answered(alloc: Global, lines: &mut LineEngine, number: u64, row: (&str, &str, u32)) -> bool {
     let (line, wanted, code) = row;
     let mut buffer = [0u8; 64];
     let len = wanted.len().min(64);
-    let depth = lines.depth();
-    let small = lines.answer(
-        alloc,
-        number,
-        line.as_bytes(),
-        &mut buffer[..len.saturating_sub(1)],
-    );
-    let is_left = small == Answer::TooSmall && lines.depth() == depth;
+    if !is_too_small(alloc, lines, number, line, &mut [], len) {
+        return false;
+    }
+    let short = &mut buffer[..len.saturating_sub(1)];
+    if !is_too_small(alloc, lines, number, line, short, len) {
+        return false;
+    }
     let told = lines.answer(alloc, number, line.as_bytes(), &mut buffer[..len]);
-    is_left && told == Answer::Answered { len, code } && &buffer[..len] == wanted.as_bytes()
+    told == Answer::Answered { len, code } && &buffer[..len] == wanted.as_bytes()
 }
 
 fn other_kind(alloc: Global, lines: &mut LineEngine) -> Other {
@@ -76,7 +89,7 @@ fn other_than_skipped(alloc: Global, lines: &mut LineEngine) -> Other {
 /// A text, the size of a buffer, what is told of the children of the group at the text, and their names in the buffer.
 const CHILDREN: [(&str, usize, Listing, &[u8]); 4] = [
     ("/", 4, Listing::Listed { len: 4, count: 2 }, b"a\0b\0"),
-    ("/", 3, Listing::TooSmall, b""),
+    ("/", 3, Listing::TooSmall { needed: 4 }, b""),
     ("/c", 0, Listing::NoGroup, b""),
     ("a", 0, Listing::BadPath, b""),
 ];
@@ -88,7 +101,7 @@ const GROUPS: [(usize, Listing, &[u8]); 2] = [
         Listing::Listed { len: 13, count: 4 },
         b"/\0/a\0/a/c\0/b\0",
     ),
-    (12, Listing::TooSmall, b""),
+    (12, Listing::TooSmall { needed: 13 }, b""),
 ];
 
 /// A text, and whether there is a group at it.

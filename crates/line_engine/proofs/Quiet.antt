@@ -4,11 +4,11 @@ use Rattle.std.specs.Prelude.{◌≡◌, refl, Bool, true, false, cond, List, []
 use Rattle.std.proofs.Common.{sym, ap, subst, ◌∙◌}
 use Rattle.std.proofs.lemmas.Bool.{false≢true, true≢false}
 use Rattle.flat_model.specs.State.{State}
-use Rattle.flat_model.specs.Command.{Command, MakeGroup, RemoveGroup, Fork, Exit, Move, SetLimit, Kill, Show, Locate, Undo, Refusal, Exists, NoGroup, Descendants, Depth, NoSlot, RootFixed, HasChildren, HasProcesses, NoProcess, PidInUse, OverPidsMax, NoFile, NotReadable, Reply, Done, Text, Undone, Refused, NothingToUndo, is_undo, changes, is_counted}
+use Rattle.flat_model.specs.Command.{Command, MakeGroup, RemoveGroup, Fork, Exit, Move, SetLimit, Kill, Show, Locate, Undo, Refusal, Exists, NoGroup, Descendants, Depth, NoSlot, RootFixed, HasChildren, HasProcesses, NoProcess, PidInUse, OverPidsMax, NoFile, NotReadable, Done, is_undo, changes, is_counted}
 use Rattle.flat_model.specs.Inverse.{inverse_of_refusal}
 use Rattle.flat_model.specs.Step.{refusal, after, after_refusal}
 use Rattle.flat_model.specs.Machine.{Machine, tick, undone, outcome, accepted, recorded}
-use Rattle.undo_journal.specs.Answer.{needs_no_memory, undoes_without_memory, record_by, record_of}
+use Rattle.undo_journal.specs.Answer.{needs_no_memory, undoes_without_memory, record_by}
 use Rattle.line_engine.specs.Answers.{slots}
 use Rattle.line_engine.specs.Ready.{is_loud, is_counted_reply, ready_reply}
 

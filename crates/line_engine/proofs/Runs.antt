@@ -32,7 +32,7 @@ by_answer m c n out answer.Skipped next k h e = h
 by_answer m c n out (answer.Answered len code) next k h e =
     let same = e ∙ told (is_counted_reply (tick slots m c).1) (tick slots m c).0 (tick slots (tick slots m c).0 model.Undo).0 in
     record { goes = same; answered = h.0; code_is = h.1; history = subst (KeepsHistory slots m c) (sym same) k }
-by_answer m c n out answer.TooSmall next k h e = untold (is_counted_reply (tick slots m c).1) m c next refl h e
+by_answer m c n out (answer.TooSmall needed) next k h e = (untold (is_counted_reply (tick slots m c).1) m c next refl h.0 e, h.1)
 by_answer m c n out answer.OutOfMemory next k h e = untold (is_counted_reply (tick slots m c).1) m c next refl h e
 
 is_not_none : {X : Type 0} → (o : Option X) → is_some o ≡ true → o ≢ None

@@ -1,11 +1,12 @@
 -- What a line is answered, and what it leaves.
-use Rattle.std.specs.Prelude.{◌≡◌, ℕ, Bool, true, false, List, take}
+use Rattle.std.specs.Prelude.{◌≡◌, ℕ, Bool, true, false, List}
 use Rattle.flat_model.specs.Command.{Command}
 use Rattle.flat_model.specs.Machine.{Machine, tick}
 use Rattle.flat_model.specs.Replies.{reply_bytes, fault_bytes}
 use Rattle.flat_model.specs.Trace.{TextFault, Line, Skip, Run, Fault}
 use Rattle.pids_charge.specs.declared.plain.TheConstants.{SLOTS}
 use Rattle.undo_journal.specs.Headline.{KeepsHistory}
+use Rattle.line_engine.specs.Buffer.{Holds, LacksRoom}
 use Rattle.line_engine.specs.Codes.{reply_code, fault_code}
 use Rattle.line_engine.specs.declared.answer.Answer.{Answer}
 use Rattle.line_engine.specs.declared.answer.Answer.TheVariants.{Skipped, Answered, TooSmall, OutOfMemory}
@@ -17,29 +18,29 @@ slots = SLOTS
 abbrev pub is_told : Answer → Bool
 is_told Skipped = false
 is_told (Answered len code) = true
-is_told TooSmall = false
+is_told (TooSmall needed) = false
 is_told OutOfMemory = false
 
--- the first len bytes of the buffer answer the n-th line, which is no command
+-- the first len bytes of the buffer answer the n-th line, which is no command; or its answer is longer than the buffer
 abbrev pub AnswersFault : ℕ → TextFault → List ℕ → Answer → Type 0
 AnswersFault n f out Skipped = ⊥
-AnswersFault n f out (Answered len code) = (take len out ≡ fault_bytes n f) × (code ≡ fault_code f)
-AnswersFault n f out TooSmall = Unit {0}
+AnswersFault n f out (Answered len code) = Holds out len (fault_bytes n f) × (code ≡ fault_code f)
+AnswersFault n f out (TooSmall needed) = LacksRoom out needed (fault_bytes n f)
 AnswersFault n f out OutOfMemory = Unit {0}
 
--- the machine has run the command as the n-th, these bytes are its answer, and this is its code
-pub record Ran (m : Machine) (n : ℕ) (c : Command) (bytes : List ℕ) (code : ℕ) (next : Machine) : Type 0 where
+-- the machine has run the command as the n-th, the first len bytes of the buffer are its answer, and this is its code
+pub record Ran (m : Machine) (n : ℕ) (c : Command) (out : List ℕ) (len code : ℕ) (next : Machine) : Type 0 where
   pub goes : next ≡ (tick slots m c).0
-  pub answered : bytes ≡ reply_bytes n (tick slots m c).1
+  pub answered : Holds out len (reply_bytes n (tick slots m c).1)
   pub code_is : code ≡ reply_code (tick slots m c).1
   -- what was recorded can be undone, one command or a whole run, and what is counted is there
   pub history : KeepsHistory slots m c next
 
--- so it was, or the machine is as it was
+-- so it was; or the machine is as it was, since its answer is longer than the buffer, or when out of memory
 abbrev pub AnswersRun : Machine → ℕ → Command → List ℕ → Answer → Machine → Type 0
 AnswersRun m n c out Skipped next = ⊥
-AnswersRun m n c out (Answered len code) next = Ran m n c (take len out) code next
-AnswersRun m n c out TooSmall next = next ≡ m
+AnswersRun m n c out (Answered len code) next = Ran m n c out len code next
+AnswersRun m n c out (TooSmall needed) next = (next ≡ m) × LacksRoom out needed (reply_bytes n (tick slots m c).1)
 AnswersRun m n c out OutOfMemory next = next ≡ m
 
 abbrev pub AnswersLine : Machine → ℕ → Line → List ℕ → Answer → Machine → Type 0

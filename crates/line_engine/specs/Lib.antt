@@ -1,4 +1,5 @@
 pub mod Codes
+pub mod Buffer
 pub mod Answers
 pub mod Ready
 pub mod Listings

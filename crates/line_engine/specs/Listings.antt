@@ -1,11 +1,12 @@
 -- What is told of groups.
-use Rattle.std.specs.Prelude.{◌≡◌, ℕ, zero, suc, ◌<◌, true, false, List, [], ◌∷◌, ◌++◌, map, flat_map, length, take, Result, Ok, Err}
+use Rattle.std.specs.Prelude.{◌≡◌, ℕ, zero, suc, true, false, List, [], ◌∷◌, ◌++◌, map, flat_map, length, Result, Ok, Err}
 use Rattle.std.specs.Result.{IsOk, IsErr}
 use Rattle.flat_model.specs.Path.{Name, Path}
 use Rattle.flat_model.specs.PathText.{PathFault, path_text}
 use Rattle.flat_model.specs.State.{State}
 use Rattle.flat_model.specs.Counts.{is_group, children}
 use Rattle.group_tree.specs.ChildNames.{last_name}
+use Rattle.line_engine.specs.Buffer.{Holds, LacksRoom}
 use Rattle.line_engine.specs.declared.listing.Listing.{Listing}
 use Rattle.line_engine.specs.declared.listing.Listing.TheVariants as listing
 use Rattle.line_engine.specs.declared.listing.Found.{Found}
@@ -43,10 +44,10 @@ ReadsPath (Err unread.OutOfMemory) m = IsOk m
 -- the first len bytes of the buffer are the names of the children of the group, of which there are so many; or there is no
 -- such group; or they need more than the buffer has
 abbrev pub TellsChildrenAt : State → Path → List ℕ → Listing → Type 0
-TellsChildrenAt s p out (listing.Listed len count) = (is_group s p ≡ true) × (take len out ≡ names_bytes (names_below s p)) × (count ≡ length (children s p))
+TellsChildrenAt s p out (listing.Listed len count) = (is_group s p ≡ true) × Holds out len (names_bytes (names_below s p)) × (count ≡ length (children s p))
 TellsChildrenAt s p out listing.NoGroup = is_group s p ≡ false
 TellsChildrenAt s p out listing.BadPath = ⊥
-TellsChildrenAt s p out listing.TooSmall = (is_group s p ≡ true) × (length out < length (names_bytes (names_below s p)))
+TellsChildrenAt s p out (listing.TooSmall needed) = (is_group s p ≡ true) × LacksRoom out needed (names_bytes (names_below s p))
 TellsChildrenAt s p out listing.OutOfMemory = Unit {0}
 
 -- the same of the group that the text names, where it is a path
@@ -67,8 +68,8 @@ TellsGroup s (Err f) a = a ≡ found.BadPath
 -- the first len bytes of the buffer are the paths of the groups that stand, of which there are so many; or they need more
 -- than the buffer has
 abbrev pub TellsGroups : State → List ℕ → Listing → Type 0
-TellsGroups s out (listing.Listed len count) = (take len out ≡ paths_bytes (all_groups s)) × (count ≡ length (all_groups s))
+TellsGroups s out (listing.Listed len count) = Holds out len (paths_bytes (all_groups s)) × (count ≡ length (all_groups s))
 TellsGroups s out listing.NoGroup = ⊥
 TellsGroups s out listing.BadPath = ⊥
-TellsGroups s out listing.TooSmall = length out < length (paths_bytes (all_groups s))
+TellsGroups s out (listing.TooSmall needed) = LacksRoom out needed (paths_bytes (all_groups s))
 TellsGroups s out listing.OutOfMemory = Unit {0}

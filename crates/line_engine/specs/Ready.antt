@@ -1,8 +1,9 @@
 -- What is known of an answer before its command runs.
-use Rattle.std.specs.Prelude.{◌≡◌, ℕ, Bool, true, false, cond, List, take}
+use Rattle.std.specs.Prelude.{◌≡◌, ℕ, Bool, true, false, cond, List}
 use Rattle.flat_model.specs.Command.{Command, Reply, Done, Text, Undone, Refused, NothingToUndo, is_undo, is_counted}
 use Rattle.flat_model.specs.Machine.{Machine, undone}
 use Rattle.flat_model.specs.Replies.{reply_bytes}
+use Rattle.line_engine.specs.Buffer.{Holds, LacksRoom}
 use Rattle.line_engine.specs.Codes.{reply_code}
 use Rattle.line_engine.specs.declared.answer.Answer.{Answer}
 use Rattle.line_engine.specs.declared.answer.Answer.TheVariants.{Skipped, Answered, TooSmall, OutOfMemory}
@@ -30,6 +31,6 @@ is_counted_reply NothingToUndo = false
 -- the first len bytes of the buffer are the reply; where it is not told, it is none that an accepted change brings
 abbrev pub AnswersReply : ℕ → Reply → List ℕ → Answer → Type 0
 AnswersReply n r out Skipped = ⊥
-AnswersReply n r out (Answered len code) = (take len out ≡ reply_bytes n r) × (code ≡ reply_code r)
-AnswersReply n r out TooSmall = is_loud r ≡ false
+AnswersReply n r out (Answered len code) = Holds out len (reply_bytes n r) × (code ≡ reply_code r)
+AnswersReply n r out (TooSmall needed) = (is_loud r ≡ false) × LacksRoom out needed (reply_bytes n r)
 AnswersReply n r out OutOfMemory = is_loud r ≡ false

@@ -22,7 +22,10 @@ pub enum Answer {
         code: u32,
     },
     /// The buffer is too small. Nothing has changed.
-    TooSmall,
+    TooSmall {
+        /// How many bytes the answer has.
+        needed: usize,
+    },
     /// There is no memory for it. Nothing has changed.
     OutOfMemory,
 }

@@ -33,7 +33,9 @@ fn answer_fault(alloc: Global, number: u64, fault: TextFault, out: &mut [u8]) ->
             len,
             code: code_of_fault(fault),
         },
-        None => Answer::TooSmall,
+        None => Answer::TooSmall {
+            needed: bytes.len(),
+        },
     }
 }
 
@@ -57,7 +59,7 @@ impl LineEngine {
         ensures { AnswersLine self.old.engine number (read_line text.now) out.new result self.new.engine }
     {
         match parse_line(alloc, text) {
-            Err(_) => Answer::OutOfMemory,
+            Err(AllocError) => Answer::OutOfMemory,
             Ok(Line::Skip) => Answer::Skipped,
             Ok(Line::Fault(fault)) => answer_fault(alloc, number, fault, out),
             Ok(Line::Run(command)) => self.run(alloc, number, &command, out),

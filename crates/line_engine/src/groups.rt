@@ -63,7 +63,9 @@ impl LineEngine {
         };
         match put_out(out, bytes.as_slice()) {
             Some(len) => Listing::Listed { len, count },
-            None => Listing::TooSmall,
+            None => Listing::TooSmall {
+                needed: bytes.len(),
+            },
         }
     }
 }

@@ -25,7 +25,10 @@ pub enum Listing {
     /// The text is no path.
     BadPath,
     /// The buffer is too small.
-    TooSmall,
+    TooSmall {
+        /// How many bytes they have.
+        needed: usize,
+    },
     /// There is no memory for it.
     OutOfMemory,
 }
@@ -58,7 +61,16 @@ fn read(alloc: Global, text: &[u8]) -> Result<GroupPath<Global>, Unread>
     match GroupPath::read(alloc, text) {
         Ok(path) => Ok(path),
         Err(PathFault::OutOfMemory) => Err(Unread::OutOfMemory),
-        Err(_) => Err(Unread::BadPath),
+        Err(
+            PathFault::NotRooted
+            | PathFault::EmptyName
+            | PathFault::BadByte(_)
+            | PathFault::DotName
+            | PathFault::Reserved
+            | PathFault::NameTooLong
+            | PathFault::TooDeep
+            | PathFault::TooLong,
+        ) => Err(Unread::BadPath),
     }
 }
 
@@ -92,7 +104,9 @@ impl LineEngine {
         };
         match put_out(out, bytes.as_slice()) {
             Some(len) => Listing::Listed { len, count },
-            None => Listing::TooSmall,
+            None => Listing::TooSmall {
+                needed: bytes.len(),
+            },
         }
     }
 

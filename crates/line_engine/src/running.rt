@@ -1,6 +1,6 @@
 //! A command with its answer: told, or else nothing has changed.
 
-ghost use Rattle.std.specs.Prelude.{◌≡◌, ◌≤◌, true, cond, ◌&&◌, not, IfOk, IfSome, Some, is_some, length, option_map};
+ghost use Rattle.std.specs.Prelude.{◌≡◌, ◌≤◌, true, cond, ltb, ◌&&◌, not, IfOk, IfSome, Some, is_some, length, option_map};
 ghost use Rattle.flat_model.specs.Command as model;
 ghost use Rattle.flat_model.specs.Machine.{tick};
 ghost use Rattle.flat_model.specs.Replies.{reply_bytes};
@@ -63,7 +63,7 @@ fn answer_reply(
     ready: &[u8],
     out: &mut [u8],
 ) -> Answer
-    requires { length ready.now ≤ length out.old }
+    requires { IfSome (reply_of reply.now) (λ r. is_loud r ≡ true → length ready.now ≤ length out.old) }
     ensures { IfSome (reply_of reply.now) (λ r. (is_loud r ≡ true → ready.now ≡ reply_bytes number r) → AnswersReply number r out.new result) }
 {
     if is_loud_reply(reply) {
@@ -72,7 +72,9 @@ fn answer_reply(
                 len,
                 code: code_of_reply(reply),
             },
-            None => Answer::TooSmall,
+            None => Answer::TooSmall {
+                needed: ready.len(),
+            },
         };
     }
     let Ok(bytes) = bytes_of(alloc, number, reply) else {
@@ -83,7 +85,9 @@ fn answer_reply(
             len,
             code: code_of_reply(reply),
         },
-        None => Answer::TooSmall,
+        None => Answer::TooSmall {
+            needed: bytes.len(),
+        },
     }
 }
 
@@ -121,6 +125,30 @@ impl LineEngine {
         bytes_of(alloc, number, &reply)
     }
 
+    /// Whether the command changes the engine and is not refused.
+    fn is_changed_by(&mut self, command: &Command<Global>) -> bool
+        ensures told { result ≡ is_loud (tick slots self.old.engine (command_of command.now)).1 }
+        ensures kept { self.new.engine ≡ self.old.engine }
+    {
+        match command {
+            Command::Show { path: _, file: _ } | Command::Locate(_) => false,
+            Command::Undo => self.engine.newest_command().is_some(),
+            _ => self.engine.accepts(command),
+        }
+    }
+
+    /// Whether the command changes the engine and is not refused, and its answer, which has `needed` bytes then, has no
+    /// room in a buffer of so many.
+    fn lacks_room(&mut self, command: &Command<Global>, needed: usize, room: usize) -> bool
+        ensures told { result ≡ (ltb room needed && is_loud (tick slots self.old.engine (command_of command.now)).1) }
+        ensures kept { self.new.engine ≡ self.old.engine }
+    {
+        if room >= needed {
+            return false;
+        }
+        self.is_changed_by(command)
+    }
+
     /// Takes a counted refusal back where it is not told. This asks for no memory.
     fn take_untold_back(&mut self, reply: &Reply<Global>, answer: Answer)
         requires { IfSome (reply_of reply.now) (λ r. is_counted_reply r ≡ true → undoes_without_memory slots self.old.engine.past ≡ true) }
@@ -148,8 +176,10 @@ impl LineEngine {
         let Ok(ready) = self.ready(alloc, number, command) else {
             return Answer::OutOfMemory;
         };
-        if out.len() < ready.len() {
-            return Answer::TooSmall;
+        if self.lacks_room(command, ready.len(), out.len()) {
+            return Answer::TooSmall {
+                needed: ready.len(),
+            };
         }
         let reply = self.engine.apply_alone(0, command);
         let answered = is_answered(&reply);

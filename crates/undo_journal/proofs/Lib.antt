@@ -8,4 +8,5 @@ mod Newest
 pub mod Undone
 mod Alls
 mod Answering
+mod Accepted
 mod Copies

@@ -16,6 +16,7 @@
 //! - A kill, and a kill that is taken back, give all their charges to the meter at once, and may wait for the threads that
 //!   do a part of them. No other command waits. The session's number `who` picks where its charges stand in the meter.
 //! - `apply_alone` and `undo_alone` answer on the calling thread: they ask for no runtime, and nothing waits.
+//! - `accepts` tells whether a command would be accepted. It changes nothing and takes no memory.
 //! - What `apply_gated` adds is that each part first calls a test hook of the caller's; no clause speaks of it.
 //! - Commands, refusals and replies over different allocators are compared by `is`: true exactly where they mean the same.
 //! - Groups, processes and their counts are those of `Charges`: no command but a kill goes over all processes. There are
@@ -32,6 +33,7 @@
 //! What these definitions say is stated as laws in `journal_laws`.
 #![tactic(auto)]
 
+mod accepting;
 mod alone;
 mod bytes;
 mod cat;

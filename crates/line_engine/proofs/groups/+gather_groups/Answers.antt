@@ -1,4 +1,4 @@
-use Rattle.std.proofs.Common.{rules, arith, ◌-◌}
+use Rattle.std.proofs.Common.{rules, ◌-◌}
 use Rattle.line_engine.proofs.GroupsBelow.{first_bytes, first_count, more_bytes, more_count, all_bytes, all_count}
 use Rattle.line_engine.proofs.groups.+gather_groups.Goals as goal
 

@@ -1,4 +1,4 @@
-use Rattle.std.proofs.Common.{◌≡◌, ℕ, ◌+◌, ◌-◌, ◌++◌, length}
+use Rattle.std.proofs.Common.{◌≡◌, ◌+◌, ◌-◌, ◌++◌, length}
 use Rattle.line_engine.specs.Listings.{names_below, paths_bytes}
 use Rattle.line_engine.proofs.GroupsBelow.{groups_under, group_and_under}
 use Rattle.line_engine.proofs.groups.+gather_groups.Given as goal

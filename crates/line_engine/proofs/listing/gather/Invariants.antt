@@ -1,4 +1,4 @@
-use Rattle.std.proofs.Common.{◌≡◌, ℕ, ◌+◌, ◌++◌, length}
+use Rattle.std.proofs.Common.{◌≡◌, ◌+◌, ◌++◌, length}
 use Rattle.line_engine.specs.Listings.{names_bytes}
 use Rattle.line_engine.proofs.listing.gather.Given as goal
 

@@ -2,7 +2,7 @@ use Rattle.std.proofs.Common.{subst, Option, rules}
 use Rattle.line_engine.specs.declared.engine.LineEngine.{LineEngine}
 use Rattle.flat_model.specs.Trace.{read_line}
 use Rattle.c_library.specs.Status.{AnswersAt}
-use Rattle.c_library.proofs.exports.mk_line.Goals as goal
+use Rattle.c_library.proofs.exports.mk0_line.Goals as goal
 
 pub returns : goal.returns
 returns c =

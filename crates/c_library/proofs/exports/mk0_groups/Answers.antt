@@ -1,7 +1,7 @@
 use Rattle.std.proofs.Common.{subst, Option, rules}
 use Rattle.line_engine.specs.declared.engine.LineEngine.{LineEngine}
 use Rattle.c_library.specs.Status.{ListsGroupsAt}
-use Rattle.c_library.proofs.exports.mk_groups.Goals as goal
+use Rattle.c_library.proofs.exports.mk0_groups.Goals as goal
 
 pub returns : goal.returns
 returns c =

@@ -2,7 +2,7 @@ use Rattle.std.proofs.Common.{subst, Option, rules}
 use Rattle.line_engine.specs.declared.engine.LineEngine.{LineEngine}
 use Rattle.flat_model.specs.PathText.{read_path}
 use Rattle.c_library.specs.Status.{ListsAt}
-use Rattle.c_library.proofs.exports.mk_children.Goals as goal
+use Rattle.c_library.proofs.exports.mk0_children.Goals as goal
 
 pub returns : goal.returns
 returns c =

@@ -1,0 +1,39 @@
+-- Whether a command has a refusal.
+use Rattle.std.specs.Prelude.{◌≡◌, ◌≢◌, refl, ℕ, Bool, true, false, ◌&&◌, ◌||◌, not, Option, None, Some, IfSome, MatchOption, is_none, is_some}
+use Rattle.std.proofs.Common.{sym, ap, ◌∙◌}
+use Rattle.flat_model.specs.Path.{Path}
+use Rattle.flat_model.specs.Command as model
+use Rattle.flat_model.specs.Refuse.{refuse}
+use Rattle.pids_charge.specs.declared.fault.ChargeFault.{ChargeFault}
+use Rattle.pids_charge.specs.declared.fault.ChargeFault.TheVariants.{Exists, NoGroup, Descendants, Depth, NoSlot, RootFixed, HasChildren, HasProcesses, NoProcess, PidInUse, PidsMax, OutOfMemory, NoFile}
+use Rattle.pids_charge.specs.Answers.{refusal_of_fault}
+
+-- each fault but out of memory is a refusal
+is_refusal : (p : Path) (f : ChargeFault) → f ≢ OutOfMemory → is_none (refusal_of_fault p f) ≡ false
+is_refusal p Exists n = refl
+is_refusal p (NoGroup k) n = refl
+is_refusal p (Descendants k) n = refl
+is_refusal p (Depth k) n = refl
+is_refusal p NoSlot n = refl
+is_refusal p RootFixed n = refl
+is_refusal p HasChildren n = refl
+is_refusal p HasProcesses n = refl
+is_refusal p (NoProcess pid) n = refl
+is_refusal p (PidInUse pid) n = refl
+is_refusal p (PidsMax k) n = refl
+is_refusal p OutOfMemory n = absurd (n refl)
+is_refusal p NoFile n = refl
+
+-- there is a fault where there is a refusal
+pub decided : (p : Path) (o : Option ChargeFault) (r : Option model.Refusal) → MatchOption o (r ≡ None) (λ f. r ≡ refusal_of_fault p f) → IfSome o (λ f. f ≢ OutOfMemory) → is_none o ≡ is_none r
+decided p None r e n = sym (ap is_none e)
+decided p (Some f) r e n = sym (ap is_none e ∙ is_refusal p f n)
+
+pub one_test : {R : Type 0} (b : Bool) (x : R) → b ≡ is_none (refuse (not b) x None)
+one_test true x = refl
+one_test false x = refl
+
+pub two_tests : {R : Type 0} (a b : Bool) (x y : R) → is_none (refuse a x (refuse (not b) y None)) ≡ (not a && b)
+two_tests true b x y = refl
+two_tests false true x y = refl
+two_tests false false x y = refl
