@@ -12,6 +12,7 @@ from typing import Any, Iterator
 
 DONE, REFUSED, FAULT, TOO_SMALL, OUT_OF_MEMORY, SKIPPED, CLOSED, BUSY = range(8)
 ANSWER_MAX = 32 + 10 * 4194303  # MK_ANSWER_MAX
+NO_LIMIT = (1 << 64) - 1  # MK_NO_LIMIT
 
 _NAME = "libmakhloeum.so.1"
 
@@ -31,13 +32,15 @@ class Info(ctypes.Structure):
 
 
 def _places() -> Iterator[str]:
-    """Where the library may be: as the environment says, in this package, where bindings/build leaves it, in the system."""
+    """Where the library may be: as the environment says, in this package, where bindings/build leaves it, below the prefix
+    that this package was installed to, in the system."""
     here = os.path.dirname(os.path.abspath(__file__))
     given = os.environ.get("MAKHLOEUM_LIBRARY")
     if given:
         yield given
         return
-    for folder in (here, os.path.join(here, "..", "..", "out")):
+    above = os.path.join(here, "..", "..")
+    for folder in (here, os.path.join(above, "out"), os.path.join(above, "..", "..", "lib")):
         if os.path.exists(os.path.join(folder, _NAME)):
             yield os.path.join(folder, _NAME)
     yield _NAME
@@ -49,7 +52,7 @@ def _open() -> ctypes.PyDLL:
             return ctypes.PyDLL(place)
         except OSError as error:
             last = error
-    raise ImportError(f"makhloeum needs {_NAME}: run bindings/build, or set MAKHLOEUM_LIBRARY to its path ({last})")
+    raise ImportError(f"makhloeum needs {_NAME}: run bindings/build, install it, or set MAKHLOEUM_LIBRARY to its path ({last})")
 
 
 def _load() -> Any:
@@ -65,6 +68,13 @@ def _load() -> Any:
         "mk_children": (number, [handle, text, size, buffer, size, info]),
         "mk_groups": (number, [handle, buffer, size, info]),
         "mk_has_group": (number, [handle, text, size, info]),
+        "mk_current": (number, [handle, text, ctypes.POINTER(ctypes.c_uint64), info]),
+        "mk_peak": (number, [handle, text, ctypes.POINTER(ctypes.c_uint64), info]),
+        "mk_limit": (number, [handle, text, ctypes.POINTER(ctypes.c_uint64), info]),
+        "mk_populated": (number, [handle, text, ctypes.POINTER(ctypes.c_bool), info]),
+        "mk_processes": (number, [handle, text, ctypes.POINTER(ctypes.c_uint32), size, info]),
+        "mk_undo_to": (number, [handle, size, info]),
+        "mk_name": (text, [number]),
         "mk_path_fault": (number, [text, size, ctypes.POINTER(size)]),
         "mk_path_message": (text, [number]),
         "mk_version": (text, []),

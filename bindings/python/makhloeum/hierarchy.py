@@ -6,11 +6,10 @@ import ctypes
 import operator
 import os
 import re
-import sys
 import warnings
 from typing import Any, Callable, NoReturn, Union
 
-from ._library import ANSWER_MAX, BUSY, CLOSED, DONE, OUT_OF_MEMORY, SKIPPED, TOO_SMALL, Handle, Info, library
+from ._library import ANSWER_MAX, BUSY, CLOSED, DONE, NO_LIMIT, OUT_OF_MEMORY, SKIPPED, TOO_SMALL, Handle, Info, library
 from .errors import BY_CODE, BY_FAULT, BadPath, BadSyntax, NoGroup, Refused
 
 Path = Union[str, bytes, "os.PathLike[str]"]
@@ -231,6 +230,71 @@ class Hierarchy:
                 raise _path_refusal(top, command)
             raise NoGroup(f"nogroup {_text(path)}", _text(path), command)
         return [group.decode() for group in groups]
+
+    def _number(self, call: Any, value: Any, operation: str, path: Path) -> Any:
+        """What a call reads of a group."""
+        word, info = _word(path), Info()
+        # C would cut the path at a zero byte
+        word = _NO_WORD if b"\0" in word else word
+        status = call(self._at, word, ctypes.byref(value), ctypes.byref(info))
+        if status != DONE:
+            self._refuse(status, info.code, operation, path)
+        return value.value
+
+    def _refuse(self, status: int, code: int, operation: str, path: Path) -> NoReturn:
+        name = (library.mk_name(code) or b"").decode()
+        words = f"{name} {_text(path)}" if BY_CODE.get(code) is NoGroup else name
+        _raise(status, code, words, path, f"{operation} {_text(path)}")
+
+    def current(self, path: Path) -> int:
+        """pids.current: the number of processes of the group and of the groups below it."""
+        return int(self._number(library.mk_current, ctypes.c_uint64(), "current", path))
+
+    def peak(self, path: Path) -> int:
+        """pids.peak: the largest pids.current so far."""
+        return int(self._number(library.mk_peak, ctypes.c_uint64(), "peak", path))
+
+    def limit(self, path: Path) -> int | None:
+        """pids.max; None if there is no limit."""
+        value = int(self._number(library.mk_limit, ctypes.c_uint64(), "limit", path))
+        return None if value == NO_LIMIT else value
+
+    def populated(self, path: Path) -> bool:
+        """Whether the group or a group below it has a process."""
+        return bool(self._number(library.mk_populated, ctypes.c_bool(), "populated", path))
+
+    def processes(self, path: Path) -> list[int]:
+        """The pids of the group itself, ascending."""
+        word, room = _word(path), 64
+        word = _NO_WORD if b"\0" in word else word
+        while True:
+            pids, info = (ctypes.c_uint32 * room)(), Info()
+            status = library.mk_processes(self._at, word, pids, room, ctypes.byref(info))
+            if status == DONE:
+                return pids[: info.count]
+            if status != TOO_SMALL:
+                self._refuse(status, info.code, "processes", path)
+            room = 1 << (info.needed - 1).bit_length()
+
+    def mark(self) -> int:
+        """A mark for undo_to: the depth."""
+        return self.depth()
+
+    def undo_to(self, mark: int) -> int:
+        """Undoes the commands that were recorded since the mark, and returns how many. No other thread's command comes in
+        between. NothingToUndo if fewer commands are left than at the mark."""
+        info = Info()
+        mark = operator.index(mark)
+        if mark < 0:
+            raise ValueError("a mark is not negative")
+        status = library.mk_undo_to(self._at, mark, ctypes.byref(info))
+        if status != DONE:
+            _raise(status, info.code, "nothing", None, f"undo to {mark}")
+        return int(info.count)
+
+    def reset(self) -> int:
+        """Undoes all recorded commands, and returns how many."""
+        return self.undo_to(0)
 
     def has_group(self, path: Path) -> bool:
         """Whether there is such a group."""

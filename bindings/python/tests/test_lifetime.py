@@ -98,7 +98,7 @@ def test_a_missing_library_is_said_in_one_sentence():
     ran = subprocess.run(words, capture_output=True, text=True, timeout=60,
                          env=dict(os.environ, PYTHONPATH=folder, MAKHLOEUM_LIBRARY="/nowhere/libmakhloeum.so"))
     assert ran.returncode == 1
-    assert ran.stderr.strip().split("\n")[-1].startswith("ImportError: makhloeum needs libmakhloeum.so.1: run bindings/build")
+    assert ran.stderr.strip().split("\n")[-1].startswith("ImportError: makhloeum needs libmakhloeum.so.1: run bindings/build,")
 
 
 def test_the_version_is_that_of_the_library_and_the_header():

@@ -1,0 +1,208 @@
+"""An interactive shell: python3 -m makhloeum [SCRIPT ...]
+
+It answers the commands of the trace language, and: ls [PATH], tree [PATH], undo [NUMBER], source SCRIPT, help, quit.
+Scripts are answered in order, and then the shell ends; `-` is standard input. The status is 1 if a script's command failed.
+"""
+
+from __future__ import annotations
+
+import cmd
+import shlex
+import sys
+from typing import Callable, TextIO
+
+from . import __version__
+from .errors import Refused
+from .hierarchy import Hierarchy
+
+FILES = (
+    *("cgroup.procs", "cgroup.events", "cgroup.stat", "cgroup.max.depth", "cgroup.max.descendants", "cgroup.kill"),
+    *("pids.max", "pids.current", "pids.peak", "pids.events", "pids.events.local"),
+)
+
+
+def tree(h: Hierarchy, path: str = "/") -> str:
+    """The groups at and below the path, with pids.current and pids.max of each; for the root, with its own processes."""
+    lines = [path if path == "/" else path.rsplit("/", 1)[1]]
+    labels = [_label(h, path)]
+
+    def add(group: str, indent: str) -> None:
+        names = h.children(group)
+        for at, name in enumerate(names):
+            last = at == len(names) - 1
+            child = group.rstrip("/") + "/" + name
+            lines.append(indent + ("└─ " if last else "├─ ") + name)
+            labels.append(_label(h, child))
+            add(child, indent + ("   " if last else "│  "))
+
+    add(path, "")
+    width = max(map(len, lines))
+    return "".join(f"{line:<{width}}  {label}\n" for line, label in zip(lines, labels))
+
+
+def _label(h: Hierarchy, path: str) -> str:
+    if path == "/":
+        return f"{len(h.processes(path))} in the root"
+    limit = h.limit(path)
+    return f"{h.current(path)}/{'max' if limit is None else limit}"
+
+
+class Shell(cmd.Cmd):
+    """The loop is cmd's: it reads by readline, with history and completion."""
+
+    prompt = "makhloeum> "
+    doc_header = "Commands (help COMMAND says more):"
+
+    def __init__(self, hierarchy: Hierarchy, out: TextIO = sys.stdout) -> None:
+        super().__init__(stdout=out)
+        self.use_rawinput = True
+        self.h = hierarchy
+        self.failed = False
+
+    def _try(self, call: Callable[[], str | None]) -> None:
+        try:
+            text = call()
+        except (Refused, ValueError, OSError) as failure:
+            self.failed = True
+            self.stdout.write(f"{failure}\n")
+            return
+        if text:
+            self.stdout.write(text)
+
+    def onecmd(self, line: str) -> bool:
+        # cmd would take these as help, a shell command and its end-of-file word
+        if line.strip().startswith("#"):
+            return False
+        return bool(super().onecmd(line))
+
+    def emptyline(self) -> bool:
+        return False
+
+    def default(self, line: str) -> None:
+        self._try(lambda: self.h.line(line))
+
+    def _line(self, operation: str, words: str) -> None:
+        self._try(lambda: self.h.line(f"{operation} {words}"))
+
+    def do_mkdir(self, words: str) -> None:
+        """mkdir PATH: make a group"""
+        self._line("mkdir", words)
+
+    def do_rmdir(self, words: str) -> None:
+        """rmdir PATH: remove a group that has neither children nor processes"""
+        self._line("rmdir", words)
+
+    def do_fork(self, words: str) -> None:
+        """fork PARENT CHILD: the process PARENT forks CHILD"""
+        self._line("fork", words)
+
+    def do_exit(self, words: str) -> None:
+        """exit PID: the process exits (quit leaves the shell)"""
+        self._line("exit", words)
+
+    def do_write(self, words: str) -> None:
+        """write PATH FILE VALUE: write a file; cgroup.procs moves a process, cgroup.kill kills"""
+        self._line("write", words)
+
+    def do_cat(self, words: str) -> None:
+        """cat PATH FILE: show a file"""
+        self._line("cat", words)
+
+    def do_where(self, words: str) -> None:
+        """where PID: show /proc/PID/cgroup"""
+        self._line("where", words)
+
+    def do_undo(self, words: str) -> None:
+        """undo [NUMBER]: undo the newest recorded command, or as many as the number"""
+
+        def undo() -> str:
+            return "".join(self.h.undo() + "\n" for _ in range(int(words or 1)))
+
+        self._try(undo)
+
+    def do_ls(self, words: str) -> None:
+        """ls [PATH]: the groups below a group, and its files"""
+        path = words or "/"
+        files = [file for file in FILES if path != "/" or file in ("cgroup.procs", "cgroup.stat", *FILES[3:5])]
+        self._try(lambda: "".join(f"{name}\n" for name in [child + "/" for child in self.h.children(path)] + files))
+
+    def do_tree(self, words: str) -> None:
+        """tree [PATH]: the groups, with pids.current/pids.max"""
+        self._try(lambda: tree(self.h, words or "/"))
+
+    def do_source(self, words: str) -> None:
+        """source SCRIPT: answer the commands of a file"""
+
+        def source() -> None:
+            for file in shlex.split(words):
+                run_script(self, file)
+
+        self._try(source)
+
+    def do_quit(self, words: str) -> bool:
+        """quit: leave the shell"""
+        return True
+
+    def do_EOF(self, words: str) -> bool:  # noqa: N802
+        """the end of input: leave the shell"""
+        self.stdout.write("\n")
+        return True
+
+    # ---- completion
+
+    def completedefault(self, text: str, line: str, begin: int, end: int) -> list[str]:
+        """Paths for the second word, files for the third."""
+        words = line[:end].split(" ")
+        if len(words) == 2:
+            return self._paths(words[1], begin, line)
+        if len(words) == 3 and words[0] in ("cat", "write"):
+            return [file for file in FILES if file.startswith(text)]
+        return []
+
+    def _paths(self, word: str, begin: int, line: str) -> list[str]:
+        parent = word[: word.rfind("/") + 1]
+        try:
+            names = self.h.children(parent.rstrip("/") or "/")
+        except Refused:
+            return []
+        # readline replaces what follows the last delimiter
+        given = len(line[:begin].split(" ")[-1])
+        return [(parent + name)[given:] for name in names if (parent + name).startswith(word)]
+
+    def completenames(self, text: str, *ignored: object) -> list[str]:
+        return [name for name in super().completenames(text, *ignored) if name != "EOF"]
+
+
+def run_script(shell: Shell, file: str) -> None:
+    if file == "-":
+        for line in sys.stdin:
+            shell.onecmd(line.rstrip("\n"))
+        return
+    with open(file, encoding="utf-8", errors="surrogateescape") as script:
+        for line in script:
+            shell.onecmd(line.rstrip("\n"))
+
+
+def main(arguments: list[str]) -> int:
+    if arguments[:1] in (["-h"], ["--help"]):
+        print((__doc__ or "").strip())
+        return 0
+    if arguments == ["--version"]:
+        print(f"makhloeum {__version__}")
+        return 0
+    with Hierarchy() as h:
+        shell = Shell(h)
+        if not arguments and sys.stdin.isatty():
+            shell.cmdloop(f"Makhloeum {__version__}. help lists the commands.")
+            return 0
+        try:
+            for file in arguments or ["-"]:
+                run_script(shell, file)
+        except OSError as failure:
+            print(f"makhloeum: {failure}", file=sys.stderr)
+            return 1
+        return 1 if shell.failed else 0
+
+
+if __name__ == "__main__":
+    sys.exit(main(sys.argv[1:]))

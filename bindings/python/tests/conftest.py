@@ -1,0 +1,1 @@
+pytest_plugins = ["makhloeum.pytest_plugin"]
