@@ -1,135 +1,101 @@
 #include "births.h"
+#include "clones.h"
+#include "groups.h"
 #include "link.h"
-#include "memory.h"
 #include "place.h"
-#include "space.h"
-#include <elf.h>
+#include "registers.h"
 #include <errno.h>
-#include <linux/sched.h>
+#include <limits.h>
 #include <signal.h>
-#include <stddef.h>
-#include <stdio.h>
 #include <stdlib.h>
 #include <string.h>
+#include <sys/ptrace.h>
 #include <sys/syscall.h>
-#include <sys/uio.h>
-#include <sys/user.h>
-#include <unistd.h>
+#include <sys/wait.h>
+#include <time.h>
 
-enum { THREADS = 4194304 };
+/* How long a child whose creator was killed may take to its first stop: it has been made, and only has to be run. */
+enum { SLOTS = 65536, GRACE = 1000 };
 
-/* Of each thread that is held, its process; and where both stops of a birth have to be seen, which was. */
-static pid_t process_of[THREADS];
-static unsigned char state[THREADS];
-enum { TOLD = 1, WAITS = 2 };
-static size_t left; /* how many threads are held */
-
-/* A fork that was asked for. The first of the queue is being made: no other begins before its end is seen. */
 struct birth {
-	struct birth *next;
-	pid_t thread;
-	unsigned long args; /* of a clone3 into a group: where its arguments are, and their flags */
-	__u64 flags;
-	char group[];       /* empty: the parent's */
+	unsigned long ticket;
+	struct thread *creator;  /* NULL: gone */
+	pid_t process, child;
+	bool is_thread, reads, reserved, told, runs; /* runs: the call is being made */
+	int fault;               /* where told: what the call is to answer instead of a child */
+	unsigned reservation;
+	long long given_up_at;
+	struct registers before; /* of the creator, at the stop */
 };
-static struct birth *queue, **queue_end = &queue;
 
-void births_first(pid_t program)
+static struct birth *slots[SLOTS];
+static unsigned long last_ticket;
+static size_t lost; /* births without a creator whose child did not come yet */
+static long long next_look;
+
+static long long now(void)
 {
-	process_of[program] = program;
-	state[program] = TOLD;
-	left++;
+	struct timespec t;
+	clock_gettime(CLOCK_MONOTONIC, &t);
+	return t.tv_sec * 1000LL + t.tv_nsec / 1000000;
 }
 
-bool births_is_process(pid_t thread)
+static struct birth *find(unsigned long ticket)
 {
-	return thread > 0 && thread < THREADS && process_of[thread] == thread;
+	struct birth *b = slots[ticket % SLOTS];
+	return b && b->ticket == ticket ? b : NULL;
 }
 
-/* ---------------------------------------------------------------- before the call */
-
-static bool is_thread(const struct clone_args *args)
+static struct birth *begin(struct thread *t)
 {
-	return args->flags & CLONE_THREAD;
+	int tries = 0;
+	while (slots[++last_ticket % SLOTS])
+		if (++tries == SLOTS)
+			return NULL;
+	struct birth *b = calloc(1, sizeof *b);
+	if (!b)
+		return NULL;
+	b->ticket = last_ticket;
+	b->creator = t;
+	b->process = t->process;
+	slots[b->ticket % SLOTS] = b;
+	t->makes = b;
+	return b;
 }
 
-/* The group of a directory that is open in the program; false where it is none of the mount. */
-static bool group_of_open(pid_t thread, int fd, char group[PATH_MAX_SAID])
+static void end(struct birth *b)
 {
-	char link[64], to[PATH_MAX_SAID];
-	size_t n = strlen(cgroup_mount);
-	snprintf(link, sizeof link, "/proc/%d/fd/%d", thread, fd);
-	ssize_t size = readlink(link, to, sizeof to - 1);
-	if (size < (ssize_t)n || strncmp(to, cgroup_mount, n))
-		return false;
-	to[size] = 0;
-	if (to[n] != 0 && to[n] != '/')
-		return false;
-	snprintf(group, PATH_MAX_SAID, "%s", to[n] ? to + n : "/");
-	return true;
-}
-
-/* A clone3 into a group becomes one into the parent's: the hierarchy, not the kernel, puts the child elsewhere. */
-static void take_group(pid_t thread, unsigned long at, const struct clone_args *args, char group[PATH_MAX_SAID])
-{
-	if (!(args->flags & CLONE_INTO_CGROUP) || !group_of_open(thread, (int)args->cgroup, group))
-		return;
-	__u64 flags = args->flags & ~(__u64)CLONE_INTO_CGROUP;
-	if (!memory_write(thread, at, &flags, sizeof flags))
-		group[0] = 0;
-}
-
-static void refuse(pid_t thread, int error)
-{
-#if defined(__x86_64__)
-	ptrace(PTRACE_POKEUSER, thread, offsetof(struct user_regs_struct, orig_rax), -1L);
-	ptrace(PTRACE_POKEUSER, thread, offsetof(struct user_regs_struct, rax), (long)-error);
-#elif defined(__aarch64__)
-	int none = -1;
-	struct user_regs_struct regs;
-	struct iovec number = { &none, sizeof none }, all = { &regs, sizeof regs };
-	ptrace(PTRACE_SETREGSET, thread, NT_ARM_SYSTEM_CALL, &number);
-	if (ptrace(PTRACE_GETREGSET, thread, NT_PRSTATUS, &all) == 0) {
-		regs.regs[0] = (unsigned long long)-error;
-		ptrace(PTRACE_SETREGSET, thread, NT_PRSTATUS, &all);
-	}
-#endif
-	ptrace(PTRACE_CONT, thread, 0, 0);
-}
-
-static const char *group_of(const struct birth *b)
-{
-	return b->group[0] ? b->group : NULL;
-}
-
-static void leave_queue(struct birth **at)
-{
-	struct birth *b = *at;
-	*at = b->next;
-	if (b->group[0]) /* the arguments are the program's own: a call that is begun anew has to find them */
-		memory_write(b->thread, b->args, &b->flags, sizeof b->flags);
-	if (!*at)
-		queue_end = at;
+	if (b->reserved)
+		link_cancel(b->reservation);
+	if (b->creator)
+		b->creator->makes = NULL;
+	else if (!b->told)
+		lost--;
+	slots[b->ticket % SLOTS] = NULL;
 	free(b);
 }
 
-/* Lets the first of the queue make its child, or refuses it and goes on with the next. */
-static void begin_first(void)
+/* A birth is over once neither its creator nor its child needs what is kept of it. */
+static void end_if_over(struct birth *b)
 {
-	while (queue) {
-		int fault = link_may_fork(process_of[queue->thread], group_of(queue));
-		if (fault == 0) {
-			ptrace(PTRACE_SYSCALL, queue->thread, 0, 0);
-			return;
-		}
-		refuse(queue->thread, -fault);
-		leave_queue(&queue);
-	}
+	struct thread *child = threads_find(b->child);
+	if (b->told && !b->creator && !(child && child->made_by == b))
+		end(b);
 }
 
-bool births_is_fork(const struct __ptrace_syscall_info *call)
+bool births_first(pid_t program)
 {
-	switch (call->seccomp.nr) {
+	unsigned reservation;
+	struct thread *t = threads_add(program, program);
+	if (!t || link_reserve(0, NULL, &reservation) || link_born(reservation, program))
+		return false;
+	t->started = t->counted = true;
+	return true;
+}
+
+bool births_is_fork(long number)
+{
+	switch (number) {
 	case SYS_clone:
 	case SYS_clone3:
 #ifdef SYS_fork
@@ -142,110 +108,239 @@ bool births_is_fork(const struct __ptrace_syscall_info *call)
 	}
 }
 
-void births_ask(pid_t thread, const struct __ptrace_syscall_info *call)
+/* ---------------------------------------------------------------- before the call */
+
+static void refuse(struct thread *t, int error)
 {
-	struct clone_args args = { 0 };
-	char group[PATH_MAX_SAID] = "";
-	if (call->seccomp.nr == SYS_clone3) {
-		size_t size = call->seccomp.args[1] < sizeof args ? call->seccomp.args[1] : sizeof args;
-		if (!memory_read(thread, call->seccomp.args[0], &args, size) || is_thread(&args)) {
-			ptrace(PTRACE_CONT, thread, 0, 0);
+	struct registers before = t->makes->before;
+	end(t->makes);
+	registers_refuse(t->id, &before, error);
+	ptrace(PTRACE_CONT, t->id, 0, 0);
+}
+
+/* The program chose all of `args`, and can change none of them now: they go into registers of a thread that is stopped.
+   CLONE_UNTRACED would take the child away from its supervisor. A thread that is not stopped any more was killed. */
+static void make(struct thread *t, struct birth *b, long number, struct clone_registers *args, const char *group)
+{
+	bool goes_on;
+	b->is_thread = args->flags & CLONE_THREAD;
+	if (!b->is_thread) {
+		int fault = link_reserve(b->process, group, &b->reservation);
+		if (fault) {
+			refuse(t, -fault);
 			return;
 		}
-		take_group(thread, call->seccomp.args[0], &args, group);
+		b->reserved = true;
 	}
-	struct birth *b = malloc(sizeof *b + strlen(group) + 1);
+	args->flags &= ~(unsigned long)CLONE_UNTRACED;
+	args->ticket = b->ticket;
+	if (number == SYS_clone)
+		goes_on = registers_set_call(t->id, &b->before, SYS_clone, args);
+	else
+		goes_on = registers_set_ticket(t->id, &b->before, b->ticket);
+	b->runs = goes_on;
+	if (goes_on)
+		ptrace(PTRACE_SYSCALL, t->id, 0, 0);
+}
+
+/* clone3 has its arguments in memory, which other threads of the program write, and which a file system of the program
+   can keep from being read: they are read once, by a process that may be kept waiting. */
+static void read_arguments(struct thread *t, struct birth *b, const struct clone_registers *regs)
+{
+	int fault = clones_check_size(regs->stack);
+	if (fault == 0 && !helper_read(b->ticket, t->id, regs->flags, regs->stack))
+		fault = -ENOSYS; /* too many wait already: C libraries take `clone` then */
+	b->reads = fault == 0;
+	if (fault)
+		refuse(t, -fault);
+}
+
+void births_ask(struct thread *t, long number)
+{
+	struct registers before;
+	struct clone_registers args;
+	if (!registers_read(t->id, &before))
+		return; /* it was killed */
+	if (t->makes)
+		births_abandon(t);
+	struct birth *b = begin(t);
 	if (!b) {
-		refuse(thread, ENOMEM);
+		registers_refuse(t->id, &before, EAGAIN);
+		ptrace(PTRACE_CONT, t->id, 0, 0);
 		return;
 	}
-	b->next = NULL;
-	b->thread = thread;
-	b->args = call->seccomp.args[0];
-	b->flags = args.flags;
-	strcpy(b->group, group);
-	*queue_end = b;
-	queue_end = &b->next;
-	if (queue == b)
-		begin_first();
-}
-
-/* ---------------------------------------------------------------- behind it */
-
-static void hold(pid_t child, pid_t process)
-{
-	process_of[child] = process;
-	left++;
-	if (state[child] == WAITS)
-		ptrace(PTRACE_CONT, child, 0, 0);
-	state[child] = TOLD;
-}
-
-void births_born(pid_t thread, pid_t child)
-{
-	if (child <= 0 || child >= THREADS) {
-		ptrace(PTRACE_CONT, thread, 0, 0);
-		return;
+	b->before = before;
+	registers_of_clone(&before, &args);
+	if (number == SYS_clone3)
+		read_arguments(t, b, &args);
+	else {
+		if (number != SYS_clone)
+			args.flags = 0;
+		make(t, b, number, &args, NULL);
 	}
-	if (queue && queue->thread == thread) {
-		/* what was allowed can be refused now only where the group was changed in between: the child never runs */
-		if (link_forked(process_of[thread], child, group_of(queue)))
+}
+
+void births_arguments(const struct memory_reply *reply)
+{
+	char group[PATH_MAX_SAID];
+	struct clone_registers args;
+	struct birth *b = find(reply->ticket);
+	if (!b || !b->reads || !b->creator)
+		return; /* it was killed meanwhile */
+	struct thread *t = b->creator;
+	const struct clone_args *said = &reply->args;
+	int fault = reply->read ? clones_fit(said, &args) : -EFAULT;
+	b->reads = false;
+	bool elsewhere = fault == 0 && (said->flags & CLONE_INTO_CGROUP);
+	if (elsewhere && (said->flags & CLONE_THREAD))
+		fault = -EOPNOTSUPP;
+	else if (elsewhere)
+		fault = groups_of_open(t->id, (int)said->cgroup, group);
+	if (fault)
+		refuse(t, -fault);
+	else
+		make(t, b, SYS_clone, &args, elsewhere ? group : NULL);
+}
+
+/* ---------------------------------------------------------------- the child is there */
+
+/* Whether a child was killed before its first stop, and its death was seen before its creator told of it. */
+static bool is_no_more(pid_t child)
+{
+	siginfo_t unused;
+	return waitid(P_PID, (id_t)child, &unused, WEXITED | WSTOPPED | WNOHANG | WNOWAIT | __WALL) && errno == ECHILD;
+}
+
+/* Tells the hierarchy of a child that has not run. What cannot be told does not run: the call then answers an errno. */
+static struct thread *settle(struct birth *b, pid_t child)
+{
+	struct thread *t = NULL;
+	int fault = 0;
+	if (b->told)
+		return threads_find(child);
+	if (!b->creator)
+		lost--;
+	b->told = true;
+	b->child = child;
+	bool ended = is_no_more(child);
+	if (!ended && !(t = threads_add(child, b->is_thread ? b->process : child)))
+		fault = -ENOMEM;
+	else if (!b->is_thread) {
+		fault = link_born(b->reservation, child);
+		b->reserved = false;
+	}
+	if (t) {
+		t->made_by = b;
+		t->counted = !b->is_thread && fault == 0;
+	} else if (!b->is_thread && fault == 0)
+		link_exited(child);
+	if (fault) {
+		if (!ended)
 			kill(child, SIGKILL);
-		hold(child, child);
-		leave_queue(&queue);
-		ptrace(PTRACE_CONT, thread, 0, 0);
-		begin_first();
+		b->fault = fault == -ESRCH ? 0 : fault; /* a kill of the hierarchy finds the child made */
+	}
+	return t;
+}
+
+void births_told(struct thread *creator, pid_t child)
+{
+	struct birth *b = creator->makes;
+	if (!b || !b->runs) {
+		ptrace(PTRACE_CONT, creator->id, 0, 0);
 		return;
 	}
-	hold(child, process_of[thread]);
-	ptrace(PTRACE_CONT, thread, 0, 0);
-}
-
-void births_failed(pid_t thread)
-{
-	if (!queue || queue->thread != thread)
+	settle(b, child);
+	if (b->fault) { /* its answer is set behind the call */
+		ptrace(PTRACE_SYSCALL, creator->id, 0, 0);
 		return;
-	leave_queue(&queue);
-	begin_first();
+	}
+	registers_restore(creator->id, &b->before);
+	creator->makes = NULL;
+	b->creator = NULL;
+	end_if_over(b);
+	ptrace(PTRACE_CONT, creator->id, 0, 0);
 }
 
-bool births_waits_for_word(pid_t thread)
+/* The call made none, or its child may not run. It may be begun anew, and then has to find its arguments. */
+void births_returned(struct thread *t)
 {
-	if (thread >= THREADS || state[thread] == TOLD)
-		return false;
-	state[thread] = WAITS;
-	return true;
-}
-
-void births_ended(pid_t thread)
-{
-	if (thread <= 0 || thread >= THREADS)
+	struct birth *b = t->makes;
+	if (!b)
 		return;
-	if (process_of[thread])
-		left--;
-	process_of[thread] = 0;
-	state[thread] = 0;
-	for (struct birth **at = &queue; *at; at = &(*at)->next)
-		if ((*at)->thread == thread) {
-			bool first = *at == queue;
-			leave_queue(at);
-			if (first)
-				begin_first();
-			return;
-		}
+	registers_restore(t->id, &b->before);
+	if (b->fault)
+		registers_set_result(t->id, b->fault);
+	if (b->told)
+		births_abandon(t);
+	else
+		end(b);
 }
 
-void births_kill_all(void)
+struct thread *births_appeared(pid_t child)
 {
-	size_t seen = 0;
-	for (pid_t t = 1; t < THREADS && seen < left; t++)
-		if (process_of[t]) {
-			seen++;
-			kill(process_of[t], SIGKILL);
-		}
+	struct registers here;
+	struct thread *t = threads_find(child);
+	struct birth *b = t ? t->made_by : NULL;
+	if (!registers_read(child, &here))
+		return NULL; /* it was killed */
+	if (!b) {
+		b = find(registers_ticket(&here));
+		t = b && b->runs && !b->told ? settle(b, child) : NULL;
+	}
+	if (!t) { /* nobody was asked for it, or it came too late */
+		kill(child, SIGKILL);
+		return NULL;
+	}
+	registers_restore(child, &b->before);
+	t->started = true;
+	t->made_by = NULL;
+	end_if_over(b);
+	return t;
 }
 
-bool births_any_left(void)
+/* ---------------------------------------------------------------- ends */
+
+void births_abandon(struct thread *t)
 {
-	return left > 0;
+	struct birth *b = t->makes;
+	if (t->made_by) {
+		struct birth *made_by = t->made_by;
+		t->made_by = NULL;
+		end_if_over(made_by);
+	}
+	if (!b)
+		return;
+	if (!b->runs) { /* it was killed before the call */
+		end(b);
+		return;
+	}
+	b->creator = NULL;
+	t->makes = NULL;
+	if (!b->told) {
+		lost++;
+		b->given_up_at = now() + GRACE;
+		if (next_look == 0 || b->given_up_at < next_look)
+			next_look = b->given_up_at;
+	}
+	end_if_over(b);
+}
+
+int births_give_up(void)
+{
+	if (lost == 0)
+		return -1;
+	long long t = now(), next = LLONG_MAX;
+	if (t >= next_look) {
+		for (size_t i = 0; i < SLOTS; i++) {
+			struct birth *b = slots[i];
+			if (!b || b->creator || b->told)
+				continue;
+			if (b->given_up_at <= t)
+				end(b);
+			else if (b->given_up_at < next)
+				next = b->given_up_at;
+		}
+		next_look = next;
+	}
+	return lost == 0 ? -1 : (int)(next_look - t) + 1;
 }

@@ -4,6 +4,7 @@
 #include "opened.h"
 #include "operations.h"
 #include "real.h"
+#include "reported.h"
 #include "watch.h"
 #include <errno.h>
 #include <fcntl.h>
@@ -80,6 +81,7 @@ static int begin_read(struct opened *o)
 	if (fault)
 		return fault;
 	const char *text = engine_text(&size);
+	text = reported_text(o->group, o->file, text, &size);
 	return opened_keep(o, text, size);
 }
 
@@ -104,7 +106,7 @@ static int move(const struct opened *o, char said[SAID_MAX], pid_t writer)
 	real_sweep();
 	int fault = real_adopt((pid_t)pid);
 	if (fault)
-		return fault;
+		return fault < 0 ? fault : 0;
 	bool was_there = engine_where(pid, from, sizeof from);
 	fault = engine_line("write %s %s %s", o->group, o->file->name, said);
 	if (fault == 0 && was_there) {

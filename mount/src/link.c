@@ -1,26 +1,36 @@
 #include "link.h"
 #include "engine.h"
 #include "place.h"
-#include "real.h"
+#include "reported.h"
+#include <errno.h>
 #include <pthread.h>
 #include <stdint.h>
 #include <stdio.h>
+#include <stdlib.h>
 #include <string.h>
 #include <sys/socket.h>
 #include <unistd.h>
 
-enum what { MAY_FORK, FORKED, EXITED, WHERE };
+enum what { RESERVE, BORN, CANCEL, EXITED, WHERE };
 
+/* Only the beginning of a question or a reply is sent: as far as its text reaches. */
 struct question {
 	enum what what;
-	pid_t pid, child;
+	pid_t pid;
+	unsigned reservation;
 	bool elsewhere;
 	char group[PATH_MAX_SAID];
 };
 
 struct reply {
 	int result;
+	unsigned reservation;
 	char text[TEXT_SAID];
+};
+
+struct served {
+	int end;
+	bool ends_with_it;
 };
 
 bool link_make(int ends[2])
@@ -30,17 +40,19 @@ bool link_make(int ends[2])
 
 static void answer(const struct question *q, struct reply *r)
 {
-	const char *group = q->elsewhere ? q->group : NULL;
 	size_t size;
 	switch (q->what) {
-	case MAY_FORK:
-		r->result = real_may_fork(q->pid, group);
+	case RESERVE:
+		r->result = reported_reserve(q->pid, q->elsewhere ? q->group : NULL, &r->reservation);
 		break;
-	case FORKED:
-		r->result = real_forked(q->pid, q->child, group);
+	case BORN:
+		r->result = reported_born(q->reservation, q->pid);
+		break;
+	case CANCEL:
+		reported_cancel(q->reservation);
 		break;
 	case EXITED:
-		real_exited(q->pid);
+		reported_exited(q->pid);
 		break;
 	case WHERE:
 		if (engine_line("where %d", q->pid) == 0) {
@@ -52,28 +64,48 @@ static void answer(const struct question *q, struct reply *r)
 	}
 }
 
-static void *answer_all(void *end)
+static size_t size_of_text(size_t before, const char *text)
 {
-	int fd = (int)(intptr_t)end;
+	return before + strlen(text) + 1;
+}
+
+static void *answer_all(void *argument)
+{
+	struct served served = *(struct served *)argument;
 	struct question q;
 	struct reply r;
-	while (recv(fd, &q, sizeof q, 0) == sizeof q) {
-		memset(&r, 0, sizeof r);
+	free(argument);
+	while (recv(served.end, &q, sizeof q, 0) > (ssize_t)offsetof(struct question, group)) {
+		q.group[sizeof q.group - 1] = 0;
+		r.result = 0;
+		r.reservation = 0;
+		r.text[0] = 0;
 		engine_lock();
 		answer(&q, &r);
 		engine_unlock();
-		if (send(fd, &r, sizeof r, MSG_NOSIGNAL) != sizeof r)
+		size_t size = size_of_text(offsetof(struct reply, text), r.text);
+		if (send(served.end, &r, size, MSG_NOSIGNAL) != (ssize_t)size)
 			break;
 	}
+	if (!served.ends_with_it)
+		return NULL;
 	/* the mount is being taken away, and its threads end; where something still holds it, they are ended */
 	sleep(1);
 	_exit(0);
 }
 
-bool link_answer(int end)
+bool link_answer(int end, bool ends_with_it)
 {
 	pthread_t thread;
-	return pthread_create(&thread, NULL, answer_all, (void *)(intptr_t)end) == 0 && pthread_detach(thread) == 0;
+	struct served *served = malloc(sizeof *served);
+	if (!served)
+		return false;
+	*served = (struct served){ end, ends_with_it };
+	if (pthread_create(&thread, NULL, answer_all, served)) {
+		free(served);
+		return false;
+	}
+	return pthread_detach(thread) == 0;
 }
 
 static int server = -1;
@@ -83,35 +115,42 @@ void link_use(int end)
 	server = end;
 }
 
+/* Where there is no answer, the one that lets nothing happen is given. */
 static void ask(struct question *q, const char *group, struct reply *r)
 {
-	r->result = 0;
-	r->text[0] = 0;
 	q->elsewhere = group != NULL;
 	snprintf(q->group, sizeof q->group, "%s", group ? group : "");
-	if (server < 0)
+	size_t size = size_of_text(offsetof(struct question, group), q->group);
+	if (server >= 0 && send(server, q, size, MSG_NOSIGNAL) == (ssize_t)size &&
+	    recv(server, r, sizeof *r, 0) > (ssize_t)offsetof(struct reply, text))
 		return;
-	if (send(server, q, sizeof *q, MSG_NOSIGNAL) != sizeof *q || recv(server, r, sizeof *r, 0) != sizeof *r) {
-		r->result = 0;
-		r->text[0] = 0;
-		server = -1;
-	}
+	server = -1;
+	r->result = -EAGAIN;
+	r->text[0] = 0;
 }
 
-int link_may_fork(pid_t parent, const char *group)
+int link_reserve(pid_t parent, const char *group, unsigned *reservation)
 {
-	struct question q = { .what = MAY_FORK, .pid = parent };
+	struct question q = { .what = RESERVE, .pid = parent };
 	struct reply r;
 	ask(&q, group, &r);
+	*reservation = r.result == 0 ? r.reservation : 0;
 	return r.result;
 }
 
-int link_forked(pid_t parent, pid_t child, const char *group)
+int link_born(unsigned reservation, pid_t child)
 {
-	struct question q = { .what = FORKED, .pid = parent, .child = child };
+	struct question q = { .what = BORN, .pid = child, .reservation = reservation };
 	struct reply r;
-	ask(&q, group, &r);
+	ask(&q, NULL, &r);
 	return r.result;
+}
+
+void link_cancel(unsigned reservation)
+{
+	struct question q = { .what = CANCEL, .reservation = reservation };
+	struct reply r;
+	ask(&q, NULL, &r);
 }
 
 void link_exited(pid_t pid)

@@ -10,14 +10,17 @@ enum { TEXT_SAID = 4200 };
 
 /* A pair of ends; false where it cannot be had. */
 bool link_make(int ends[2]);
-/* The server's side: a thread that answers until the other end closes, and then ends this process. */
-bool link_answer(int end);
-/* The supervisor's side. Where the server has died every answer is 0. */
+/* The server's side: a thread that answers until the other end closes. Where that is the supervisor's, it then ends this
+   process. */
+bool link_answer(int end, bool ends_with_it);
+/* The asker's side: one thread at a time asks. */
 void link_use(int end);
-/* 0, or the negated errno by which the process may not fork (into a group, where that is not NULL). */
-int link_may_fork(pid_t parent, const char *group);
-/* 0, or an errno where the child has to be killed before it runs. */
-int link_forked(pid_t parent, pid_t child, const char *group);
+/* 0 and a reservation, or the negated errno by which the process may not fork (into a group, where that is not NULL).
+   Where the server has died nothing may fork. */
+int link_reserve(pid_t parent, const char *group, unsigned *reservation);
+/* 0, or a negated errno where the child may not run. The reservation has ended. */
+int link_born(unsigned reservation, pid_t child);
+void link_cancel(unsigned reservation);
 void link_exited(pid_t pid);
 /* The text of /proc/PID/cgroup. */
 void link_where(pid_t pid, char text[TEXT_SAID]);

@@ -1,92 +1,17 @@
 #include "procfiles.h"
+#include "cleanup.h"
 #include "link.h"
-#include "memory.h"
+#include "opening.h"
 #include "space.h"
-#include <dirent.h>
-#include <errno.h>
 #include <fcntl.h>
-#include <linux/openat2.h>
-#include <linux/seccomp.h>
+#include <linux/magic.h>
+#include <pthread.h>
 #include <stdbool.h>
-#include <stdint.h>
-#include <stdio.h>
-#include <stdlib.h>
 #include <string.h>
-#include <sys/ioctl.h>
 #include <sys/mman.h>
-#include <sys/stat.h>
-#include <sys/syscall.h>
-#include <unistd.h>
+#include <sys/vfs.h>
 
 enum { LONG = 4096 };
-
-/* ---------------------------------------------------------------- which process a path of /proc means */
-
-static bool same_namespace(pid_t a, pid_t b)
-{
-	char path[40];
-	struct stat one, other;
-	snprintf(path, sizeof path, "/proc/%d/ns/pid", a);
-	if (stat(path, &one))
-		return false;
-	snprintf(path, sizeof path, "/proc/%d/ns/pid", b);
-	return stat(path, &other) == 0 && one.st_ino == other.st_ino && one.st_dev == other.st_dev;
-}
-
-/* A number in /proc/PID/status: the last one of the line that begins so. */
-static pid_t status_number(pid_t pid, const char *key)
-{
-	char path[40], line[256];
-	pid_t found = -1;
-	snprintf(path, sizeof path, "/proc/%d/status", pid);
-	FILE *f = fopen(path, "re");
-	if (!f)
-		return -1;
-	while (found < 0 && fgets(line, sizeof line, f))
-		if (strncmp(line, key, strlen(key)) == 0) {
-			line[strcspn(line, "\n")] = 0;
-			char *last = strrchr(line, '\t');
-			found = last ? (pid_t)atoi(last + 1) : -1;
-		}
-	fclose(f);
-	return found;
-}
-
-/* The process here that has this number, or a thread with it, where the asking thread is. */
-static pid_t seen_from(pid_t thread, pid_t number)
-{
-	struct dirent *entry;
-	pid_t found = -1;
-	if (same_namespace(thread, getpid()))
-		return status_number(number, "Tgid:");
-	DIR *all = opendir("/proc");
-	while (all && found < 0 && (entry = readdir(all))) {
-		pid_t pid = (pid_t)atoi(entry->d_name);
-		if (pid > 0 && status_number(pid, "NStgid:") == number && same_namespace(pid, thread))
-			found = pid;
-	}
-	if (all)
-		closedir(all);
-	return found;
-}
-
-/* "/proc/WHO/WHAT" or "/proc/WHO/task/TID/WHAT": the process, and `what`; -1 for any other. */
-static pid_t process_in(const char *path, pid_t thread, const char **what)
-{
-	char who[32];
-	int at = 0, behind = 0;
-	if (strcmp(path, "/proc/mounts") == 0) {
-		*what = "mounts";
-		return status_number(thread, "Tgid:");
-	}
-	if (sscanf(path, "/proc/%31[^/]/%n", who, &at) != 1 || at == 0)
-		return -1;
-	sscanf(path + at, "task/%*[0-9]/%n", &behind);
-	*what = path + at + behind;
-	if (strcmp(who, "self") == 0 || strcmp(who, "thread-self") == 0)
-		return status_number(thread, "Tgid:");
-	return who[strspn(who, "0123456789")] ? -1 : seen_from(thread, (pid_t)atoi(who));
-}
 
 /* ---------------------------------------------------------------- the texts */
 
@@ -101,6 +26,8 @@ static int new_text(const char *name, FILE **out)
 	return fd;
 }
 
+static pthread_mutex_t asking = PTHREAD_MUTEX_INITIALIZER;
+
 static int cgroup_text(pid_t pid)
 {
 	char text[TEXT_SAID], path[32];
@@ -111,19 +38,38 @@ static int cgroup_text(pid_t pid)
 	int fd = new_text("cgroup", &out);
 	if (fd < 0)
 		return -1;
+	pthread_mutex_lock(&asking);
 	link_where(pid, text);
+	pthread_mutex_unlock(&asking);
 	fputs(text, out);
 	fclose(out);
 	return fd;
 }
 
+/* A word of a line, counted from 0. */
+static bool take_word(const char *line, int which, char *out, size_t size)
+{
+	line += strspn(line, " ");
+	for (; which > 0; which--) {
+		line += strcspn(line, " \n");
+		line += strspn(line, " ");
+	}
+	size_t n = strcspn(line, " \n");
+	if (n == 0 || n >= size)
+		return false;
+	memcpy(out, line, n);
+	out[n] = 0;
+	return true;
+}
+
 /* One line of a table: the mount as the kernel would show a cgroup2 one; the machine's own are left out. */
-static void put_mount(FILE *out, char *line, bool is_info)
+static void put_mount(FILE *out, char *line, const char *what)
 {
 	char place[LONG], type[64];
+	bool is_info = strcmp(what, "mountinfo") == 0, is_stats = strcmp(what, "mountstats") == 0;
 	char *tail = is_info ? strstr(line, " - ") : line;
-	if (!tail || sscanf(line, is_info ? "%*s %*s %*s %*s %4095s" : "%*s %4095s", place) != 1 ||
-	    sscanf(tail, is_info ? " - %63s" : "%*s %*s %63s", type) != 1) {
+	if (!tail || !take_word(line, is_info || is_stats ? 4 : 1, place, sizeof place) ||
+	    !take_word(tail, is_info ? 1 : is_stats ? 7 : 2, type, sizeof type)) {
 		fputs(line, out);
 		return;
 	}
@@ -131,123 +77,85 @@ static void put_mount(FILE *out, char *line, bool is_info)
 		return;
 	if (strcmp(type, "tmpfs") == 0 && strcmp(place, cgroup_mount) == 0)
 		return;
-	if (strcmp(type, "fuse.cgroup2") != 0) {
+	if (strcmp(type, "fuse.cgroup2") != 0)
 		fputs(line, out);
-	} else if (is_info) {
+	else if (is_info) {
 		*tail = 0;
 		fprintf(out, "%s - cgroup2 cgroup2 rw\n", line);
-	} else
+	} else if (is_stats)
+		fprintf(out, "device cgroup2 mounted on %s with fstype cgroup2\n", place);
+	else
 		fprintf(out, "cgroup2 %s cgroup2 rw,nosuid,nodev,noexec,relatime 0 0\n", place);
 }
 
 static int mounts_text(pid_t pid, const char *what)
 {
-	char path[48], *line = NULL;
+	char path[48];
+	cleanup_free char *line = NULL;
 	size_t room = 0;
 	FILE *out;
 	snprintf(path, sizeof path, "/proc/%d/%s", pid, what);
-	FILE *in = fopen(path, "re");
+	cleanup_stream FILE *in = fopen(path, "re");
 	int fd = in ? new_text(what, &out) : -1;
-	while (fd >= 0 && getline(&line, &room, in) > 0)
-		put_mount(out, line, strcmp(what, "mountinfo") == 0);
-	free(line);
-	if (fd >= 0)
-		fclose(out);
-	if (in)
-		fclose(in);
+	if (fd < 0)
+		return -1;
+	while (getline(&line, &room, in) > 0)
+		put_mount(out, line, what);
+	fclose(out);
 	return fd;
 }
 
-static int text_for(const char *path, pid_t thread)
+static int constant_text(const char *name, const char *text)
 {
-	const char *what;
-	pid_t pid = process_in(path, thread, &what);
+	FILE *out;
+	int fd = new_text(name, &out);
+	if (fd < 0)
+		return -1;
+	fputs(text, out);
+	fclose(out);
+	return fd;
+}
+
+/* ---------------------------------------------------------------- which file it is */
+
+/* Cuts the last name off a path, and gives it. */
+static const char *cut_name(char *path)
+{
+	char *slash = strrchr(path, '/');
+	if (!slash)
+		return "";
+	*slash = 0;
+	return slash + 1;
+}
+
+static bool is_number(const char *name)
+{
+	return *name && name[strspn(name, "0123456789")] == 0;
+}
+
+int procfiles_text(pid_t thread, int file)
+{
+	char link[40], path[LONG];
+	struct statfs st;
+	if (fstatfs(file, &st) || st.f_type != PROC_SUPER_MAGIC)
+		return -1;
+	snprintf(link, sizeof link, "/proc/self/fd/%d", file);
+	ssize_t n = readlink(link, path, sizeof path - 1);
+	if (n <= 0)
+		return -1;
+	path[n] = 0;
+	const char *what = cut_name(path), *who = cut_name(path);
+	if (!is_number(who))
+		return strcmp(what, "cgroups") == 0
+		       ? constant_text(what, "#subsys_name\thierarchy\tnum_cgroups\tenabled\npids\t0\t1\t1\n") : -1;
+	pid_t pid = opening_seen_from(thread, (pid_t)strtol(who, NULL, 10));
 	if (pid <= 0)
 		return -1;
 	if (strcmp(what, "cgroup") == 0)
 		return cgroup_text(pid);
-	if (strcmp(what, "mounts") == 0 || strcmp(what, "mountinfo") == 0)
+	if (strcmp(what, "cpuset") == 0)
+		return constant_text(what, "/\n");
+	if (strcmp(what, "mounts") == 0 || strcmp(what, "mountinfo") == 0 || strcmp(what, "mountstats") == 0)
 		return mounts_text(pid, what);
 	return -1;
-}
-
-/* ---------------------------------------------------------------- an open */
-
-static bool may_be_ours(const char *path)
-{
-	const char *name = strrchr(path, '/');
-	name = name ? name + 1 : path;
-	return strcmp(name, "cgroup") == 0 || strcmp(name, "mounts") == 0 || strcmp(name, "mountinfo") == 0;
-}
-
-/* The whole path of one that may begin at a directory that is open. */
-static bool make_whole(pid_t thread, int directory, const char *path, char out[LONG])
-{
-	char link[64], from[LONG];
-	if (path[0] == '/')
-		return snprintf(out, LONG, "%s", path) < LONG;
-	if (directory == AT_FDCWD)
-		snprintf(link, sizeof link, "/proc/%d/cwd", thread);
-	else
-		snprintf(link, sizeof link, "/proc/%d/fd/%d", thread, directory);
-	ssize_t n = readlink(link, from, sizeof from - 1);
-	if (n <= 0)
-		return false;
-	from[n] = 0;
-	int said = snprintf(out, LONG, "%s/%s", from, path);
-	return said > 0 && said < LONG;
-}
-
-/* A descriptor of the text that an open is to give instead, or -1. */
-static int text_of_open(const struct seccomp_notif *call, int *flags)
-{
-	char path[LONG], whole[LONG];
-	struct open_how how = { 0 };
-	const __u64 *a = call->data.args;
-	bool from_here = true;
-	unsigned long at = a[1];
-	pid_t thread = (pid_t)call->pid;
-#ifdef __NR_open
-	if (call->data.nr == __NR_open) {
-		from_here = false;
-		at = a[0];
-	}
-#endif
-	if (!memory_text(thread, at, path, sizeof path) || !may_be_ours(path))
-		return -1;
-	*flags = (int)a[from_here ? 2 : 1];
-	if (call->data.nr == __NR_openat2) {
-		if (!memory_read(thread, a[2], &how, a[3] < sizeof how ? a[3] : sizeof how))
-			return -1;
-		*flags = (int)how.flags;
-		if (*flags & (O_PATH | O_ACCMODE | O_DIRECTORY))
-			return -1;
-	}
-	if (!make_whole(thread, from_here ? (int)a[0] : AT_FDCWD, path, whole))
-		return -1;
-	return text_for(whole, thread);
-}
-
-void procfiles_answer(int listener)
-{
-	struct seccomp_notif call = { 0 };
-	int flags = 0;
-	char again[48];
-	if (ioctl(listener, SECCOMP_IOCTL_NOTIF_RECV, &call))
-		return;
-	int text = text_of_open(&call, &flags);
-	if (text >= 0) {
-		snprintf(again, sizeof again, "/proc/self/fd/%d", text);
-		int readable = open(again, O_RDONLY | O_CLOEXEC);
-		struct seccomp_notif_addfd add = { .id = call.id, .flags = SECCOMP_ADDFD_FLAG_SEND, .srcfd = (__u32)readable,
-			.newfd_flags = (__u32)(flags & O_CLOEXEC) };
-		int given = readable < 0 ? -1 : ioctl(listener, SECCOMP_IOCTL_NOTIF_ADDFD, &add);
-		close(text);
-		if (readable >= 0)
-			close(readable);
-		if (given >= 0)
-			return;
-	}
-	struct seccomp_notif_resp go_on = { .id = call.id, .flags = SECCOMP_USER_NOTIF_FLAG_CONTINUE };
-	ioctl(listener, SECCOMP_IOCTL_NOTIF_SEND, &go_on);
 }

@@ -2,6 +2,7 @@
 #include "cleanup.h"
 #include "engine.h"
 #include "place.h"
+#include "reported.h"
 #include "watch.h"
 #include <dirent.h>
 #include <errno.h>
@@ -30,6 +31,7 @@ static int deaths = -1; /* an epoll set of their pidfds */
 
 static pid_t *noted;
 static size_t noted_count, noted_room;
+static char noted_group[PATH_MAX_SAID];
 
 bool real_adopt_all(void)
 {
@@ -187,6 +189,8 @@ void real_sweep(void)
 {
 	struct epoll_event dead[16];
 	int n;
+	if (way == REPORTED)
+		reported_sweep();
 	if (way != ADOPTED || adopted_count == 0)
 		return;
 	for (size_t i = 0; i < adopted_count; i++)
@@ -199,6 +203,8 @@ void real_sweep(void)
 
 int real_adopt(pid_t pid)
 {
+	if (way == REPORTED)
+		return reported_move(pid);
 	if (way != ADOPTED || pid == PROCESS_ONE || is_known(pid))
 		return 0;
 	if (engine_look("where %d", pid) == 0)
@@ -219,6 +225,9 @@ void real_note(const char *group)
 	const char *paths;
 	size_t count, size;
 	noted_count = 0;
+	noted_group[0] = 0;
+	if (way == REPORTED)
+		snprintf(noted_group, sizeof noted_group, "%s", group);
 	if (way == NUMBERS || engine_groups(group, &paths, &count))
 		return;
 	for (; count--; paths += strlen(paths) + 1) {
@@ -228,7 +237,7 @@ void real_note(const char *group)
 		while (text < end) {
 			pid_t pid = (pid_t)strtol(text, NULL, 10);
 			text = (const char *)memchr(text, '\n', (size_t)(end - text)) + 1;
-			if (!is_known(pid))
+			if (way != REPORTED && !is_known(pid))
 				continue;
 			if (noted_count == noted_room) {
 				size_t room = noted_room ? 2 * noted_room : 64;
@@ -246,11 +255,13 @@ void real_note(const char *group)
 /* A number stands for the same process until its death is noticed: of an adopted one the descriptor says so. */
 static void slay(pid_t pid)
 {
-	known[pid] = DYING;
 	if (way == REPORTED) {
-		kill(pid, SIGKILL);
+		/* the supervisor tells of a death before the number is free: a living one is still this process */
+		if (reported_kill(pid))
+			kill(pid, SIGKILL);
 		return;
 	}
+	known[pid] = DYING;
 	for (size_t i = 0; i < adopted_count; i++)
 		if (adopted[i].pid == pid)
 			syscall(SYS_pidfd_send_signal, adopted[i].fd, SIGKILL, NULL, 0);
@@ -260,69 +271,6 @@ void real_kill_noted(void)
 {
 	for (size_t i = 0; i < noted_count; i++)
 		slay(noted[i]);
-}
-
-/* ---------------------------------------------------------------- run */
-
-static bool is_full(const char *group)
-{
-	size_t size;
-	if (engine_look("cat %s pids.max", group))
-		return false;
-	const char *text = engine_text(&size);
-	if (size && text[0] == 'm')
-		return false;
-	long most = strtol(text, NULL, 10);
-	if (engine_look("cat %s pids.current", group))
-		return false;
-	return strtol(engine_text(&size), NULL, 10) + 1 > most;
-}
-
-/* A number that no process has, for a fork that is going to be refused. */
-static pid_t free_number(void)
-{
-	pid_t pid = PIDS - 1;
-	while (engine_look("where %d", pid) == 0)
-		pid--;
-	return pid;
-}
-
-int real_may_fork(pid_t parent, const char *group)
-{
-	char at[PATH_MAX_SAID];
-	if (group)
-		snprintf(at, sizeof at, "%s", group);
-	else if (!find_group(parent, at))
-		return 0;
-	for (; !is_root(at); go_up(at))
-		if (is_full(at)) {
-			/* one that is born in another group is refused there, where nobody forks: no event is counted */
-			if (!group && engine_line("fork %d %d", parent, free_number()) == -EAGAIN && find_group(parent, at))
-				watch_above(at);
-			return -EAGAIN;
-		}
-	return 0;
-}
-
-int real_forked(pid_t parent, pid_t child, const char *group)
-{
-	if (child <= PROCESS_ONE || child >= PIDS)
-		return 0;
-	/* a kill reaches the child of one that it has met */
-	if (is_known(parent) && known[parent] == DYING)
-		return -ESRCH;
-	int fault = engine_line("fork %d %d", group || !is_known(parent) ? PROCESS_ONE : parent, child);
-	if (fault == 0 && group) {
-		fault = engine_line("write %s cgroup.procs %d", group, child);
-		watch_above(group);
-	}
-	if (fault == 0)
-		known[child] = LIVE;
-	return fault == -EAGAIN ? -EAGAIN : 0;
-}
-
-void real_exited(pid_t pid)
-{
-	if (is_known(pid))
-		die(pid);
+	if (noted_group[0])
+		reported_kill_reserved(noted_group);
 }

@@ -15,16 +15,12 @@ void real_are_reported(void); /* for run */
 void real_sweep(void);
 /* The process of a thread. */
 pid_t real_process_of(pid_t thread);
-/* Before a move: a process that the engine does not have is forked from process 1. 0 or -errno. */
+/* Before a move: a process that the engine does not have is forked from process 1. 0 or -errno; 1 where it is a zombie,
+   which moves nowhere. */
 int real_adopt(pid_t pid);
 
 /* Before a kill, the real ones at and below a group; and what becomes of them afterwards. */
 void real_note(const char *group);
 void real_kill_noted(void);
-
-/* What a supervisor reports. `group` is NULL, or that of a child which is born elsewhere than its parent. */
-int real_may_fork(pid_t parent, const char *group);
-int real_forked(pid_t parent, pid_t child, const char *group);
-void real_exited(pid_t pid);
 
 #endif

@@ -1,9 +1,11 @@
 #include "run.h"
+#include "births.h"
 #include "engine.h"
 #include "filter.h"
+#include "groups.h"
+#include "helper.h"
 #include "link.h"
 #include "operations.h"
-#include "procfiles.h"
 #include "real.h"
 #include "space.h"
 #include "tracer.h"
@@ -29,16 +31,17 @@ static void nothing(void)
 {
 }
 
-static pid_t start_server(int connection, int ends[2])
+static pid_t start_server(int connection, const int ends[2], const int helpers[2])
 {
 	char where[32];
 	pid_t pid = fork();
 	if (pid)
 		return pid;
 	close(ends[0]);
+	close(helpers[0]);
 	setsid();
 	snprintf(where, sizeof where, "/dev/fd/%d", connection);
-	if (!link_answer(ends[1]))
+	if (!link_answer(ends[1], true) || !link_answer(helpers[1], false))
 		_exit(1);
 	exit(serve(where, nothing));
 }
@@ -101,55 +104,81 @@ static void pass_on(int signals, pid_t program)
 			kill(program, (int)one.ssi_signo);
 }
 
-static int watch_over(int listener, int signals, int link, pid_t program)
+/* What the supervisor listens to. Each is asked once in a turn, and none is waited for while another has something. */
+struct ears {
+	int signals, link, helper;
+};
+
+static void hear_helper(void)
+{
+	struct memory_reply reply;
+	while (helper_take(&reply))
+		births_arguments(&reply);
+}
+
+/* The program decides how often it forks and ends, and how long a reading of its memory takes. A turn takes what is there,
+   answers each thread once, and then hears the signals and the server again. */
+static int watch_over(const struct ears *ears, pid_t program)
 {
 	int status = 0;
-	struct pollfd from[3] = { { .fd = listener, .events = POLLIN }, { .fd = signals, .events = POLLIN }, { .fd = link } };
+	struct pollfd from[3] = { { .fd = ears->signals, .events = POLLIN }, { .fd = ears->link }, { .fd = ears->helper, .events = POLLIN } };
 	for (;;) {
-		pass_on(signals, program);
-		if (tracer_look(&status))
+		pass_on(ears->signals, program);
+		bool more = tracer_look();
+		if (tracer_has_ended(&status))
 			break;
-		if (poll(from, 3, -1) < 0 && errno != EINTR)
+		hear_helper();
+		int next = births_give_up();
+		if (poll(from, 3, more ? 0 : next) < 0 && errno != EINTR)
 			break;
-		if (from[2].revents) {
-			say("the mount has ended");
-			kill(program, SIGKILL);
-			from[2].fd = -1;
-		}
-		if (from[0].revents & POLLIN)
-			procfiles_answer(listener);
-		else if (from[0].revents)
-			from[0].fd = -1;
+		for (int i = 1; i < 3; i++)
+			if (from[i].revents & (POLLHUP | POLLERR)) {
+				say(i == 1 ? "the mount has ended" : "a process of the supervisor has ended");
+				kill(program, SIGKILL);
+				from[1].fd = from[2].fd = -1;
+				break;
+			}
 	}
-	close(listener);
 	tracer_end_rest();
+	helper_end();
 	return WIFEXITED(status) ? WEXITSTATUS(status) : KILLED + WTERMSIG(status);
 }
 
-static int supervise(char **program, const sigset_t *before, int signals, int link)
+/* Ends a program that was not let run. */
+static int give_up(pid_t program, const char *why)
+{
+	int status;
+	say("%s", why);
+	kill(program, SIGKILL);
+	while (waitpid(program, &status, __WALL) < 0 && errno == EINTR)
+		;
+	return REFUSED_HERE;
+}
+
+static int supervise(char **program, const sigset_t *before, int signals, const int links[2])
 {
 	int control[2];
+	char why[160];
 	if (socketpair(AF_UNIX, SOCK_STREAM | SOCK_CLOEXEC, 0, control))
 		return 1;
+	/* what the program leaves without a parent is waited for here, and not by the machine's first process */
+	prctl(PR_SET_CHILD_SUBREAPER, 1, 0, 0, 0);
 	pid_t pid = fork();
 	if (pid == 0)
 		become(program, control[1], before);
 	close(control[1]);
 	if (pid < 0 || !tracer_hold(pid)) {
-		say("this machine does not allow a process to be traced: %s", strerror(errno));
-		if (pid > 0)
-			kill(pid, SIGKILL);
-		return REFUSED_HERE;
+		snprintf(why, sizeof why, "this machine does not allow a process to be traced: %s", strerror(errno));
+		return pid < 0 ? REFUSED_HERE : give_up(pid, why);
 	}
-	int status, listener = write(control[0], "", 1) == 1 ? receive_listener(control[0]) : -1;
-	if (listener < 0 || write(control[0], "", 1) != 1) {
-		say("this machine does not allow seccomp notification");
-		kill(pid, SIGKILL);
-		while (!tracer_look(&status))
-			;
-		return REFUSED_HERE;
-	}
-	return watch_over(listener, signals, link, pid);
+	int listener = write(control[0], "", 1) == 1 ? receive_listener(control[0]) : -1;
+	int helper = listener < 0 ? -1 : helper_start(listener, links[1]);
+	if (helper < 0 || write(control[0], "", 1) != 1)
+		return give_up(pid, "this machine does not allow seccomp notification");
+	close(listener);
+	close(links[1]);
+	struct ears ears = { signals, links[0], helper };
+	return watch_over(&ears, pid);
 }
 
 /* The mount goes, and with it the process that serves it. */
@@ -171,7 +200,7 @@ int run_program(char **program, const struct wishes *asked)
 {
 	struct wishes wishes = *asked;
 	sigset_t held, before;
-	int ends[2];
+	int ends[2], helpers[2];
 	wishes.extra = true;
 	if (!serve_prepare(&wishes))
 		return REFUSED_HERE;
@@ -181,14 +210,15 @@ int run_program(char **program, const struct wishes *asked)
 	look.gid = getegid();
 	look.marked = true;
 	real_are_reported();
-	if (!watch_begin(cgroup_mount, false) || !link_make(ends))
+	if (!watch_begin(cgroup_mount, false) || !link_make(ends) || !link_make(helpers))
 		return 1;
 	int connection = space_mount();
 	if (connection < 0)
 		return REFUSED_HERE;
-	pid_t server = start_server(connection, ends);
+	pid_t server = start_server(connection, ends, helpers);
 	close(connection);
 	close(ends[1]);
+	close(helpers[1]);
 	watch_leave();
 	engine_end();
 	if (server < 0)
@@ -206,8 +236,11 @@ int run_program(char **program, const struct wishes *asked)
 	int status = 1;
 	if (stat(cgroup_mount, &(struct stat){ 0 }))
 		say("the mount does not answer: %s", strerror(errno));
+	else if (!groups_begin())
+		say("the mount cannot be opened: %s", strerror(errno));
 	else
-		status = supervise(program, &before, signals, ends[0]);
+		status = supervise(program, &before, signals, (const int[]){ ends[0], helpers[0] });
+	groups_end();
 	end_server(server, ends[0]);
 	return status;
 }

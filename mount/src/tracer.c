@@ -1,27 +1,22 @@
 #include "tracer.h"
 #include "births.h"
 #include "link.h"
-#include "memory.h"
-#include "operations.h"
+#include "threads.h"
 #include <errno.h>
-#include <linux/magic.h>
 #include <signal.h>
 #include <stddef.h>
 #include <stdlib.h>
-#include <string.h>
 #include <sys/ptrace.h>
-#include <sys/statfs.h>
 #include <sys/syscall.h>
 #include <sys/wait.h>
 #include <unistd.h>
 
-#ifndef CGROUP2_SUPER_MAGIC
-#define CGROUP2_SUPER_MAGIC 0x63677270
-#endif
-
-enum { PATIENCE = 2000 };
+/* So many stops are taken at once, before any of them is answered: no thread is met twice while another waits. */
+enum { STOPS = 1024, PATIENCE = 2000 };
 
 static pid_t program;
+static int program_status;
+static bool program_ended;
 
 static const long wanted = PTRACE_O_TRACEFORK | PTRACE_O_TRACEVFORK | PTRACE_O_TRACECLONE | PTRACE_O_TRACEEXEC |
                            PTRACE_O_TRACESECCOMP | PTRACE_O_TRACESYSGOOD | PTRACE_O_EXITKILL;
@@ -31,161 +26,163 @@ bool tracer_hold(pid_t pid)
 	program = pid;
 	if (ptrace(PTRACE_SEIZE, pid, 0, wanted))
 		return false;
-	births_first(pid);
-	link_forked(0, pid, NULL);
-	return true;
-}
-
-/* ---------------------------------------------------------------- statfs */
-
-/* Where a thread that is inside a statfs wants the answer. */
-static struct asked {
-	struct asked *next;
-	pid_t thread;
-	unsigned long at;
-} *asked;
-
-static bool expect_statfs(pid_t thread, unsigned long at)
-{
-	struct asked *a = malloc(sizeof *a);
-	if (!a)
-		return false;
-	*a = (struct asked){ asked, thread, at };
-	asked = a;
-	return true;
-}
-
-static unsigned long take_statfs(pid_t thread)
-{
-	for (struct asked **a = &asked; *a; a = &(*a)->next)
-		if ((*a)->thread == thread) {
-			struct asked *found = *a;
-			unsigned long at = found->at;
-			*a = found->next;
-			free(found);
-			return at;
-		}
-	return 0;
-}
-
-/* The kernel has answered; where it was for this file system, which the mark says, it is told as the cgroup file system. */
-static void relabel(pid_t thread, unsigned long at)
-{
-	struct statfs st;
-	if (!memory_read(thread, at, &st, sizeof st) || st.f_type != FUSE_SUPER_MAGIC || st.f_ffree != MARK)
-		return;
-	st.f_type = CGROUP2_SUPER_MAGIC;
-	st.f_ffree = 0;
-	memory_write(thread, at, &st, sizeof st);
+	errno = EAGAIN;
+	return births_first(pid);
 }
 
 /* ---------------------------------------------------------------- stops */
 
-static void on_call(pid_t thread)
+/* The stop was taken a while ago. Meanwhile the thread may have been killed, and another that called execve may have its
+   number and stand at another stop: so the kernel is asked at which it stands now. */
+static void on_call(struct thread *t)
 {
 	struct __ptrace_syscall_info call;
-	if (ptrace(PTRACE_GET_SYSCALL_INFO, thread, sizeof call, &call) <= 0 || call.op != PTRACE_SYSCALL_INFO_SECCOMP) {
-		ptrace(PTRACE_CONT, thread, 0, 0);
+	if (ptrace(PTRACE_GET_SYSCALL_INFO, t->id, sizeof call, &call) <= 0)
 		return;
-	}
-	if (call.seccomp.nr == SYS_statfs || call.seccomp.nr == SYS_fstatfs) {
-		bool stops = expect_statfs(thread, call.seccomp.args[1]);
-		ptrace(stops ? PTRACE_SYSCALL : PTRACE_CONT, thread, 0, 0);
-		return;
-	}
-	if (births_is_fork(&call))
-		births_ask(thread, &call);
-	else /* of a filter that the program made for a tracer of its own */
-		ptrace(PTRACE_CONT, thread, 0, 0);
+	if (call.op == PTRACE_SYSCALL_INFO_SECCOMP && births_is_fork((long)call.seccomp.nr))
+		births_ask(t, (long)call.seccomp.nr);
+	else if (call.op == PTRACE_SYSCALL_INFO_SECCOMP) /* of a filter that the program made for a tracer of its own */
+		ptrace(PTRACE_CONT, t->id, 0, 0);
 }
 
-static void on_result(pid_t thread)
+static void on_birth(struct thread *t)
 {
-	unsigned long at = take_statfs(thread);
-	struct __ptrace_syscall_info call;
-	if (at && ptrace(PTRACE_GET_SYSCALL_INFO, thread, sizeof call, &call) > 0 && call.op == PTRACE_SYSCALL_INFO_EXIT &&
-	    !call.exit.is_error)
-		relabel(thread, at);
-	births_failed(thread);
-	ptrace(PTRACE_CONT, thread, 0, 0);
+	unsigned long child = 0;
+	if (ptrace(PTRACE_GETEVENTMSG, t->id, 0, &child) == 0 && child)
+		births_told(t, (pid_t)child);
+	else
+		ptrace(PTRACE_CONT, t->id, 0, 0);
 }
 
-static void on_stop(pid_t thread, int status)
+/* All other threads of the process have been killed. Where it was not the first that called execve, it has the first
+   one's number from now on; and the first, whatever it was doing, is no more, and no death of it is reported. */
+static void on_exec(struct thread *t)
 {
-	int event = status >> 16, signal = WSTOPSIG(status);
-	unsigned long message = 0;
+	unsigned long former = 0;
+	births_abandon(t);
+	if (ptrace(PTRACE_GETEVENTMSG, t->id, 0, &former) == 0 && (pid_t)former != t->id) {
+		struct thread *other = threads_find((pid_t)former);
+		if (other) {
+			births_abandon(other);
+			threads_drop(other);
+		}
+	}
+	ptrace(PTRACE_CONT, t->id, 0, 0);
+}
+
+/* The first stop of a new thread, or a stop of all of a process (job control), in which it stays until it is continued. */
+static void on_pause(pid_t id, int signal)
+{
+	struct thread *t = threads_find(id);
+	if (!t || !t->started)
+		t = births_appeared(id);
+	if (!t)
+		return;
+	if (signal == SIGSTOP || signal == SIGTSTP || signal == SIGTTIN || signal == SIGTTOU)
+		ptrace(PTRACE_LISTEN, id, 0, 0);
+	else
+		ptrace(PTRACE_CONT, id, 0, 0);
+}
+
+static void on_stop(pid_t id, int status)
+{
+	int event = status >> 8, signal = status & 0x7f;
+	struct thread *t = threads_find(id);
+	if (event == PTRACE_EVENT_STOP) {
+		on_pause(id, signal);
+		return;
+	}
+	if (!t) { /* it has not been let run: so it can have been killed only */
+		kill(id, SIGKILL);
+		return;
+	}
 	switch (event) {
 	case PTRACE_EVENT_SECCOMP:
-		on_call(thread);
+		on_call(t);
 		return;
 	case PTRACE_EVENT_FORK:
 	case PTRACE_EVENT_VFORK:
 	case PTRACE_EVENT_CLONE:
-		ptrace(PTRACE_GETEVENTMSG, thread, 0, &message);
-		births_born(thread, (pid_t)message);
+		on_birth(t);
 		return;
-	case PTRACE_EVENT_EXEC: /* by another thread than the first: it has the first one's number from now on */
-		ptrace(PTRACE_GETEVENTMSG, thread, 0, &message);
-		if ((pid_t)message != thread)
-			births_ended((pid_t)message);
-		ptrace(PTRACE_CONT, thread, 0, 0);
-		return;
-	case PTRACE_EVENT_STOP:
-		if (births_waits_for_word(thread))
-			return;
-		if (signal == SIGSTOP || signal == SIGTSTP || signal == SIGTTIN || signal == SIGTTOU)
-			ptrace(PTRACE_LISTEN, thread, 0, 0);
-		else
-			ptrace(PTRACE_CONT, thread, 0, 0);
+	case PTRACE_EVENT_EXEC:
+		on_exec(t);
 		return;
 	}
-	if (signal == (SIGTRAP | 0x80))
-		on_result(thread);
-	else
-		ptrace(PTRACE_CONT, thread, 0, signal);
+	if (status == (SIGTRAP | 0x80)) {
+		births_returned(t);
+		ptrace(PTRACE_CONT, id, 0, 0);
+	} else
+		ptrace(PTRACE_CONT, id, 0, signal);
 }
 
 /* The hierarchy hears of a death before the parent does. */
-static void on_end(pid_t thread)
+static void on_end(pid_t id)
 {
-	if (births_is_process(thread))
-		link_exited(thread);
-	take_statfs(thread);
-	births_ended(thread);
+	struct thread *t = threads_find(id);
+	if (!t)
+		return;
+	if (t->counted)
+		link_exited(id);
+	births_abandon(t);
+	threads_drop(t);
 }
 
-bool tracer_look(int *status)
+/* ---------------------------------------------------------------- all of them */
+
+static struct {
+	pid_t id;
+	int status;
+} stops[STOPS];
+
+/* Takes the next one. Returns 0 where there is none, 1 for a stop, and -1 for a death, which is told already. */
+static int take_next(size_t at)
 {
 	siginfo_t next;
-	bool ended = false;
-	for (;;) {
-		int said;
-		next.si_pid = 0;
-		if (waitid(P_ALL, 0, &next, WEXITED | WSTOPPED | WNOHANG | WNOWAIT | __WALL) || next.si_pid == 0)
-			return ended;
-		bool stops = next.si_code == CLD_TRAPPED || next.si_code == CLD_STOPPED;
-		if (!stops)
-			on_end(next.si_pid);
-		if (waitpid(next.si_pid, &said, WNOHANG | __WALL) != next.si_pid)
-			continue;
-		if (stops && !WIFSTOPPED(said)) /* killed in between */
-			on_end(next.si_pid);
-		if (WIFSTOPPED(said))
-			on_stop(next.si_pid, said);
-		else if (next.si_pid == program) {
-			*status = said;
-			ended = true;
-		}
+	next.si_pid = 0;
+	if (waitid(P_ALL, 0, &next, WEXITED | WSTOPPED | WNOHANG | WNOWAIT | __WALL) || next.si_pid == 0)
+		return 0;
+	id_t id = (id_t)next.si_pid;
+	if (next.si_code == CLD_TRAPPED || next.si_code == CLD_STOPPED) {
+		next.si_pid = 0; /* killed in between, it is met again as a death */
+		if (waitid(P_PID, id, &next, WSTOPPED | WNOHANG | __WALL) || next.si_pid == 0)
+			return -1;
+		stops[at].id = (pid_t)id;
+		stops[at].status = next.si_status;
+		return 1;
 	}
+	on_end((pid_t)id);
+	int status;
+	if (waitpid((pid_t)id, &status, WNOHANG | __WALL) == (pid_t)id && (pid_t)id == program) {
+		program_status = status;
+		program_ended = true;
+	}
+	return -1;
+}
+
+bool tracer_look(void)
+{
+	size_t count = 0;
+	int taken = 0;
+	for (int i = 0; i < 2 * STOPS && count < STOPS && (taken = take_next(count)); i++)
+		count += taken > 0;
+	for (size_t i = 0; i < count; i++)
+		on_stop(stops[i].id, stops[i].status);
+	return count > 0 || taken != 0;
+}
+
+bool tracer_has_ended(int *status)
+{
+	*status = program_status;
+	return program_ended;
 }
 
 void tracer_end_rest(void)
 {
-	int status;
 	/* killed threads stop no more, and end in bounded time */
-	for (int i = 0; i < PATIENCE && births_any_left(); i++) {
-		births_kill_all();
-		tracer_look(&status);
-		usleep(1000);
+	for (int i = 0; i < PATIENCE && threads_count() > 0; i++) {
+		threads_kill_all();
+		if (!tracer_look())
+			usleep(1000);
 	}
 }

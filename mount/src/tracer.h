@@ -1,4 +1,4 @@
-/* The forks and deaths of a program, and its statfs, as its tracer sees them. */
+/* The births and deaths of a program, as its tracer sees them. */
 #ifndef TRACER_H
 #define TRACER_H
 
@@ -8,8 +8,11 @@
 /* Takes hold of the program before it runs; false with errno. Its death ends whatever is left: nothing outlives its
    tracer. */
 bool tracer_hold(pid_t program);
-/* Answers all that has happened. True once the program has ended, with its wait status. */
-bool tracer_look(int *status);
+/* Looks at what has happened: every stop and death that is there is taken first, and then each stop is answered once. False
+   where nothing had happened. */
+bool tracer_look(void);
+/* True once the program has ended, with its wait status. */
+bool tracer_has_ended(int *status);
 /* Ends all that the program left behind. */
 void tracer_end_rest(void);
 

@@ -3,6 +3,7 @@
 #include "opened.h"
 #include "operations.h"
 #include "real.h"
+#include "reported.h"
 #include "watch.h"
 #include <errno.h>
 #include <stdio.h>
@@ -59,8 +60,10 @@ static size_t text_size(const struct place *place)
 	if (place->file->constant)
 		return strlen(place->file->constant);
 	real_sweep();
-	if (place->file->readable && engine_look("cat %s %s", place->group, place->file->name) == 0)
-		engine_text(&size);
+	if (place->file->readable && engine_look("cat %s %s", place->group, place->file->name) == 0) {
+		const char *text = engine_text(&size);
+		reported_text(place->group, place->file, text, &size);
+	}
 	return size;
 }
 
@@ -178,6 +181,7 @@ int tree_rmdir(const char *path)
 		return -EPERM;
 	engine_lock();
 	real_sweep();
+	reported_leave(path);
 	int fault = engine_line("rmdir %s", path);
 	if (fault == 0)
 		remembered_lose(path);

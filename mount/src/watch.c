@@ -2,6 +2,7 @@
 #include "companion.h"
 #include "engine.h"
 #include "opened.h"
+#include "reported.h"
 #include <errno.h>
 #include <pthread.h>
 #include <stdio.h>
@@ -31,8 +32,10 @@ static void read_text(struct watched *w, char out[TEXT_MAX])
 {
 	size_t size = 0;
 	const char *text = NULL;
-	if (engine_look("cat %s %s", w->of->path, w->file->name) == 0)
+	if (engine_look("cat %s %s", w->of->path, w->file->name) == 0) {
 		text = engine_text(&size);
+		text = reported_text(w->of->path, w->file, text, &size);
+	}
 	if (size >= TEXT_MAX)
 		size = TEXT_MAX - 1;
 	if (size)

@@ -1,0 +1,138 @@
+#include "notified.h"
+#include "cleanup.h"
+#include "groups.h"
+#include "memory.h"
+#include "opening.h"
+#include "procfiles.h"
+#include <fcntl.h>
+#include <limits.h>
+#include <linux/magic.h>
+#include <linux/openat2.h>
+#include <poll.h>
+#include <string.h>
+#include <sys/ioctl.h>
+#include <sys/syscall.h>
+#include <sys/vfs.h>
+
+#ifndef CGROUP2_SUPER_MAGIC
+#define CGROUP2_SUPER_MAGIC 0x63677270
+#endif
+
+bool notified_next(int listener, struct seccomp_notif *call)
+{
+	for (;;) {
+		struct pollfd from = { .fd = listener, .events = POLLIN };
+		if (poll(&from, 1, -1) < 0 && errno != EINTR)
+			return false;
+		if (!(from.revents & POLLIN) && from.revents)
+			return false;
+		memset(call, 0, sizeof *call);
+		/* another thread may have taken it, or its caller was killed */
+		if ((from.revents & POLLIN) && ioctl(listener, SECCOMP_IOCTL_NOTIF_RECV, call) == 0)
+			return true;
+	}
+}
+
+static void respond(int listener, const struct seccomp_notif *call, int error, unsigned flags)
+{
+	struct seccomp_notif_resp response = { .id = call->id, .error = -error, .flags = flags };
+	ioctl(listener, SECCOMP_IOCTL_NOTIF_SEND, &response);
+}
+
+void notified_let_through(int listener, const struct seccomp_notif *call)
+{
+	respond(listener, call, 0, SECCOMP_USER_NOTIF_FLAG_CONTINUE);
+}
+
+/* ---------------------------------------------------------------- statfs */
+
+/* The number of the caller is its own as long as the call is not over; its memory is opened before that is asked, so that
+   what is written goes to no other. It can be kept waiting, and then only this call waits. */
+static bool write_answer(int listener, const struct seccomp_notif *call, unsigned long at, const void *bytes, size_t size)
+{
+	char path[40];
+	snprintf(path, sizeof path, "/proc/%d/mem", (int)call->pid);
+	cleanup_fd int memory = open(path, O_RDWR | O_CLOEXEC);
+	return memory >= 0 && ioctl(listener, SECCOMP_IOCTL_NOTIF_ID_VALID, &call->id) == 0 &&
+	       pwrite(memory, bytes, size, (off_t)at) == (ssize_t)size;
+}
+
+/* True where the mount was asked for, and the answer has been given. */
+static bool answer_statfs(int listener, const struct seccomp_notif *call)
+{
+	char path[PATH_MAX];
+	struct statfs st;
+	pid_t thread = (pid_t)call->pid;
+	bool by_path = call->data.nr == __NR_statfs;
+	if (by_path && !memory_text(thread, call->data.args[0], path, sizeof path))
+		return false;
+	cleanup_fd int file = by_path ? opening_find(thread, AT_FDCWD, path, true) : opening_of_descriptor(thread, (int)call->data.args[0]);
+	if (file < 0 || !groups_have(file) || fstatfs(file, &st))
+		return false;
+	st.f_type = CGROUP2_SUPER_MAGIC;
+	st.f_ffree = 0;
+	respond(listener, call, write_answer(listener, call, call->data.args[1], &st, sizeof st) ? 0 : EFAULT, 0);
+	return true;
+}
+
+/* ---------------------------------------------------------------- an open */
+
+struct open_call {
+	int directory, flags;
+	char path[PATH_MAX];
+};
+
+/* The supervisor's own copy of what is asked. The program can change its memory afterwards: then the kernel opens another
+   file than was looked at, and what is in the text of /proc is what the machine has. */
+static bool read_open(const struct seccomp_notif *call, struct open_call *out)
+{
+	const __u64 *a = call->data.args;
+	struct open_how how = { 0 };
+	pid_t thread = (pid_t)call->pid;
+	unsigned long at = a[1];
+	out->directory = (int)a[0];
+	out->flags = (int)a[2];
+#ifdef __NR_open
+	if (call->data.nr == __NR_open) {
+		out->directory = AT_FDCWD;
+		out->flags = (int)a[1];
+		at = a[0];
+	}
+#endif
+	if (call->data.nr == __NR_openat2) {
+		if (a[3] < sizeof how.flags || !memory_read(thread, a[2], &how, a[3] < sizeof how ? a[3] : sizeof how))
+			return false;
+		out->flags = (int)how.flags;
+	}
+	if (out->flags & (O_PATH | O_ACCMODE | O_CREAT) || (out->flags & O_DIRECTORY))
+		return false;
+	return memory_text(thread, at, out->path, sizeof out->path);
+}
+
+static bool answer_open(int listener, const struct seccomp_notif *call)
+{
+	struct open_call asked;
+	char again[48];
+	pid_t thread = (pid_t)call->pid;
+	if (!read_open(call, &asked))
+		return false;
+	cleanup_fd int file = opening_find(thread, asked.directory, asked.path, !(asked.flags & O_NOFOLLOW));
+	cleanup_fd int text = file < 0 ? -1 : procfiles_text(thread, file);
+	if (text < 0)
+		return false;
+	snprintf(again, sizeof again, "/proc/self/fd/%d", text);
+	cleanup_fd int readable = open(again, O_RDONLY | O_CLOEXEC);
+	if (readable < 0)
+		return false;
+	struct seccomp_notif_addfd add = { .id = call->id, .flags = SECCOMP_ADDFD_FLAG_SEND, .srcfd = (__u32)readable,
+		.newfd_flags = (__u32)(asked.flags & O_CLOEXEC) };
+	return ioctl(listener, SECCOMP_IOCTL_NOTIF_ADDFD, &add) >= 0;
+}
+
+void notified_answer(int listener, const struct seccomp_notif *call)
+{
+	bool is_statfs = call->data.nr == __NR_statfs || call->data.nr == __NR_fstatfs;
+	bool answered = is_statfs ? answer_statfs(listener, call) : answer_open(listener, call);
+	if (!answered)
+		notified_let_through(listener, call);
+}

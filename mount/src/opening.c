@@ -1,0 +1,240 @@
+#include "opening.h"
+#include "cleanup.h"
+#include <fcntl.h>
+#include <limits.h>
+#include <linux/magic.h>
+#include <linux/openat2.h>
+#include <stdint.h>
+#include <string.h>
+#include <sys/stat.h>
+#include <sys/syscall.h>
+#include <sys/vfs.h>
+
+enum { LINKS = 40, PROC_ROOT = 1 };
+
+/* ---------------------------------------------------------------- numbers of processes */
+
+bool opening_same_numbers(pid_t a, pid_t b)
+{
+	char path[40];
+	struct stat one, other;
+	snprintf(path, sizeof path, "/proc/%d/ns/pid", a);
+	if (stat(path, &one))
+		return false;
+	snprintf(path, sizeof path, "/proc/%d/ns/pid", b);
+	return stat(path, &other) == 0 && one.st_ino == other.st_ino && one.st_dev == other.st_dev;
+}
+
+/* A number in /proc/PID/status: the last one of the line that begins so. */
+static pid_t status_number(pid_t pid, const char *key)
+{
+	char path[40], line[256];
+	snprintf(path, sizeof path, "/proc/%d/status", pid);
+	cleanup_stream FILE *f = fopen(path, "re");
+	while (f && fgets(line, sizeof line, f))
+		if (strncmp(line, key, strlen(key)) == 0) {
+			line[strcspn(line, "\n")] = 0;
+			const char *last = strrchr(line, '\t');
+			return last ? (pid_t)strtol(last + 1, NULL, 10) : -1;
+		}
+	return -1;
+}
+
+pid_t opening_process_of(pid_t thread)
+{
+	return status_number(thread, "Tgid:");
+}
+
+pid_t opening_seen_from(pid_t thread, pid_t number)
+{
+	struct dirent *entry;
+	if (opening_same_numbers(thread, getpid()))
+		return status_number(number, "Tgid:");
+	cleanup_directory DIR *all = opendir("/proc");
+	while (all && (entry = readdir(all))) {
+		pid_t pid = (pid_t)strtol(entry->d_name, NULL, 10);
+		if (pid > 0 && status_number(pid, "NStgid:") == number && opening_same_numbers(pid, thread))
+			return pid;
+	}
+	return -1;
+}
+
+/* ---------------------------------------------------------------- one step of a path */
+
+/* Where a walk is. `rest` is what is left of the path. */
+struct walk {
+	pid_t thread;
+	int root, at;
+	int links;
+	char rest[2 * PATH_MAX];
+};
+
+static int open_of(pid_t thread, const char *what)
+{
+	char path[64];
+	snprintf(path, sizeof path, "/proc/%d/%s", thread, what);
+	return open(path, O_PATH | O_CLOEXEC);
+}
+
+int opening_of_descriptor(pid_t thread, int fd)
+{
+	char what[32];
+	snprintf(what, sizeof what, "fd/%d", fd);
+	return open_of(thread, what);
+}
+
+static bool is_same(int a, int b)
+{
+	struct statx one, other;
+	int how = AT_EMPTY_PATH | AT_STATX_DONT_SYNC | AT_NO_AUTOMOUNT;
+	return statx(a, "", how, STATX_INO | STATX_MNT_ID, &one) == 0 && statx(b, "", how, STATX_INO | STATX_MNT_ID, &other) == 0 &&
+	       one.stx_ino == other.stx_ino && one.stx_mnt_id == other.stx_mnt_id && one.stx_dev_minor == other.stx_dev_minor &&
+	       one.stx_dev_major == other.stx_dev_major;
+}
+
+static bool is_link(int fd)
+{
+	struct statx st;
+	return statx(fd, "", AT_EMPTY_PATH | AT_STATX_DONT_SYNC, STATX_TYPE, &st) == 0 && S_ISLNK(st.stx_mode);
+}
+
+static bool is_proc(int fd)
+{
+	struct statfs st;
+	return fstatfs(fd, &st) == 0 && st.f_type == PROC_SUPER_MAGIC;
+}
+
+static bool is_proc_root(int fd)
+{
+	struct statx st;
+	return is_proc(fd) && statx(fd, "", AT_EMPTY_PATH | AT_STATX_DONT_SYNC, STATX_INO, &st) == 0 && st.stx_ino == PROC_ROOT;
+}
+
+static void go(struct walk *w, int to)
+{
+	close(w->at);
+	w->at = to;
+}
+
+/* Puts the text of a link before the rest. */
+static bool go_on_with(struct walk *w, const char *text)
+{
+	char rest[sizeof w->rest];
+	int n = snprintf(rest, sizeof rest, "%s%s%s", text, w->rest[0] ? "/" : "", w->rest);
+	if (n < 0 || (size_t)n >= sizeof rest)
+		return false;
+	memcpy(w->rest, rest, (size_t)n + 1);
+	if (text[0] != '/')
+		return true;
+	int root = fcntl(w->root, F_DUPFD_CLOEXEC, 0);
+	if (root >= 0)
+		go(w, root);
+	return root >= 0;
+}
+
+/* /proc/self and /proc/thread-self are what the thread is where that /proc was mounted. */
+static bool follow_self(struct walk *w, const char *name)
+{
+	char text[64];
+	bool same = opening_same_numbers(w->thread, getpid());
+	pid_t process = same ? opening_process_of(w->thread) : status_number(w->thread, "NStgid:");
+	pid_t thread = same ? w->thread : status_number(w->thread, "NSpid:");
+	if (strcmp(name, "self") == 0)
+		snprintf(text, sizeof text, "%d", process);
+	else
+		snprintf(text, sizeof text, "%d/task/%d", process, thread);
+	return go_on_with(w, text);
+}
+
+static bool follow(struct walk *w, int link, const char *name)
+{
+	char text[PATH_MAX];
+	if (++w->links > LINKS)
+		return false;
+	if (is_proc(link)) {
+		bool at_root = is_proc_root(w->at);
+		if (at_root && (strcmp(name, "self") == 0 || strcmp(name, "thread-self") == 0))
+			return follow_self(w, name);
+		if (!at_root) { /* not a text, but a file: a descriptor, a directory, a program */
+			int to = openat(w->at, name, O_PATH | O_CLOEXEC);
+			if (to >= 0)
+				go(w, to);
+			return to >= 0;
+		}
+	}
+	ssize_t n = readlinkat(link, "", text, sizeof text - 1);
+	if (n <= 0)
+		return false;
+	text[n] = 0;
+	return go_on_with(w, text);
+}
+
+/* Takes the first name of the rest. False at the end of the path. */
+static bool take_name(struct walk *w, char name[NAME_MAX + 1], bool *is_last)
+{
+	size_t from = strspn(w->rest, "/"), n = strcspn(w->rest + from, "/");
+	if (n == 0 || n > NAME_MAX)
+		return false;
+	memcpy(name, w->rest + from, n);
+	name[n] = 0;
+	*is_last = w->rest[from + n] == 0;
+	const char *rest = w->rest + from + n;
+	rest += strspn(rest, "/");
+	memmove(w->rest, rest, strlen(rest) + 1);
+	return true;
+}
+
+static bool step(struct walk *w, const char *name, bool follows)
+{
+	if (strcmp(name, ".") == 0 || (strcmp(name, "..") == 0 && is_same(w->at, w->root)))
+		return true;
+	cleanup_fd int next = openat(w->at, name, O_PATH | O_NOFOLLOW | O_CLOEXEC);
+	if (next < 0)
+		return false;
+	if (follows && is_link(next))
+		return follow(w, next, name);
+	go(w, steal_fd(&next));
+	return true;
+}
+
+static int walk_by_hand(pid_t thread, int root, int from, const char *path, bool follows)
+{
+	char name[NAME_MAX + 1];
+	bool is_last;
+	struct walk w = { .thread = thread, .root = root, .at = from };
+	if (snprintf(w.rest, sizeof w.rest, "%s", path) >= (int)sizeof w.rest) {
+		close(from);
+		return -1;
+	}
+	while (take_name(&w, name, &is_last))
+		if (!step(&w, name, follows || !is_last)) {
+			close(w.at);
+			return -1;
+		}
+	if (w.rest[strspn(w.rest, "/")]) {
+		close(w.at);
+		return -1;
+	}
+	return w.at;
+}
+
+/* ---------------------------------------------------------------- the whole path */
+
+/* Where the root is that of this process the kernel finds the file at once, unless it is one of /proc, where it depends on
+   who asks; or is not there for this process. */
+int opening_find(pid_t thread, int directory, const char *path, bool follows)
+{
+	cleanup_fd int root = open_of(thread, "root");
+	cleanup_fd int own = open("/", O_PATH | O_CLOEXEC);
+	cleanup_fd int from = path[0] == '/' ? fcntl(root, F_DUPFD_CLOEXEC, 0)
+	                      : directory == AT_FDCWD ? open_of(thread, "cwd") : opening_of_descriptor(thread, directory);
+	if (root < 0 || from < 0 || path[0] == 0)
+		return -1;
+	if (is_same(root, own)) {
+		struct open_how how = { .flags = (uint64_t)(O_PATH | O_CLOEXEC | (follows ? 0 : O_NOFOLLOW)), .resolve = RESOLVE_NO_MAGICLINKS };
+		cleanup_fd int found = (int)syscall(SYS_openat2, from, path, &how, sizeof how);
+		if (found >= 0 && !is_proc(found) && !is_proc(from))
+			return steal_fd(&found);
+	}
+	return walk_by_hand(thread, root, steal_fd(&from), path, follows);
+}

@@ -1,0 +1,20 @@
+/* Which file an open of the program would open: as the kernel finds it for that thread, from its root and its directory,
+   through its /proc/self and its descriptors. Any of this may take as long as a file system of the program likes. */
+#ifndef OPENING_H
+#define OPENING_H
+
+#include <stdbool.h>
+#include <sys/types.h>
+
+/* A descriptor (O_PATH) of the file, or -1. */
+int opening_find(pid_t thread, int directory, const char *path, bool follows);
+/* That of a descriptor of the thread. */
+int opening_of_descriptor(pid_t thread, int fd);
+/* Whether two threads see the same process numbers. */
+bool opening_same_numbers(pid_t a, pid_t b);
+/* The process of a thread here. */
+pid_t opening_process_of(pid_t thread);
+/* The process here that has this number, or a thread with it, where the asking thread is. */
+pid_t opening_seen_from(pid_t thread, pid_t number);
+
+#endif

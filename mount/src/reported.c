@@ -1,0 +1,296 @@
+#include "reported.h"
+#include "cleanup.h"
+#include "engine.h"
+#include "place.h"
+#include "watch.h"
+#include "zombies.h"
+#include <errno.h>
+#include <stdio.h>
+#include <stdlib.h>
+#include <string.h>
+
+enum { PIDS = 4194304, PROCESS_ONE = 1 };
+
+/* A process that a kill of the hierarchy has met is dying: it may fork no more. */
+enum { UNKNOWN, LIVE, DYING };
+static unsigned char known[PIDS];
+
+/* A fork that was allowed and is not made yet. It counts against every limit at or above its group. */
+static struct reservation {
+	char *group; /* NULL: free */
+	pid_t parent;
+	bool elsewhere, killed;
+} *reserved;
+static unsigned reserved_room;
+
+static bool in_range(pid_t pid)
+{
+	return pid > PROCESS_ONE && pid < PIDS;
+}
+
+static bool find_group(pid_t pid, char group[PATH_MAX_SAID])
+{
+	return engine_where(pid, group, PATH_MAX_SAID);
+}
+
+/* ---------------------------------------------------------------- reservations */
+
+static int reserve(const char *group, pid_t parent, bool elsewhere, unsigned *out)
+{
+	unsigned i = 0;
+	while (i < reserved_room && reserved[i].group)
+		i++;
+	if (i == reserved_room) {
+		unsigned room = reserved_room ? 2 * reserved_room : 16;
+		struct reservation *more = realloc(reserved, room * sizeof *more);
+		if (!more)
+			return -ENOMEM;
+		memset(more + reserved_room, 0, (room - reserved_room) * sizeof *more);
+		reserved = more;
+		reserved_room = room;
+	}
+	char *copy = strdup(group);
+	if (!copy)
+		return -ENOMEM;
+	reserved[i] = (struct reservation){ copy, parent, elsewhere, false };
+	*out = i;
+	return 0;
+}
+
+void reported_cancel(unsigned reservation)
+{
+	if (reservation >= reserved_room)
+		return;
+	free(reserved[reservation].group);
+	reserved[reservation].group = NULL;
+}
+
+static long reserved_below(const char *top)
+{
+	long count = 0;
+	for (unsigned i = 0; i < reserved_room; i++)
+		count += reserved[i].group && is_at_or_below(reserved[i].group, top);
+	return count;
+}
+
+/* Whether one more than `coming` does not go into this group. */
+static bool is_full(const char *group, long coming)
+{
+	size_t size;
+	if (engine_look("cat %s pids.max", group))
+		return false;
+	const char *text = engine_text(&size);
+	if (size && text[0] == 'm')
+		return false;
+	long most = strtol(text, NULL, 10);
+	if (engine_look("cat %s pids.current", group))
+		return false;
+	return strtol(engine_text(&size), NULL, 10) + coming + 1 > most;
+}
+
+static bool is_any_full(const char *group, bool with_reserved)
+{
+	char at[PATH_MAX_SAID];
+	snprintf(at, sizeof at, "%s", group);
+	for (; !is_root(at); go_up(at))
+		if (is_full(at, with_reserved ? reserved_below(at) : 0))
+			return true;
+	return false;
+}
+
+/* A number that no process has. */
+static pid_t free_number(pid_t below)
+{
+	pid_t pid = below - 1;
+	while (pid > PROCESS_ONE && (known[pid] != UNKNOWN || engine_look("where %d", pid) == 0))
+		pid--;
+	return pid;
+}
+
+/* The engine counts a refusal that it makes itself. Where only reservations fill the group, they stand in it meanwhile. */
+static int refuse(pid_t parent, const char *group)
+{
+	pid_t lowest = PIDS;
+	int fault = 0;
+	for (long left = reserved_below("/"); left >= 0 && fault == 0; left--) {
+		lowest = free_number(lowest);
+		fault = engine_line("fork %d %d", parent, lowest);
+		if (fault == 0)
+			zombies_add_gone(lowest);
+	}
+	zombies_sweep();
+	if (fault == -EAGAIN)
+		watch_above(group);
+	return fault == -ENOMEM ? -ENOMEM : -EAGAIN;
+}
+
+int reported_reserve(pid_t parent, const char *group, unsigned *reservation)
+{
+	char at[PATH_MAX_SAID];
+	zombies_sweep();
+	if (!in_range(parent) && parent != 0)
+		return -EAGAIN;
+	if (known[parent] == DYING)
+		return -EAGAIN;
+	if (group && engine_has_group(group))
+		return -ENOENT;
+	if (group)
+		snprintf(at, sizeof at, "%s", group);
+	else if (!find_group(parent, at)) /* its own fork was undone */
+		snprintf(at, sizeof at, "/");
+	if (is_any_full(at, true)) /* one that is born in another group is refused there, where nobody forks: no event is counted */
+		return group ? -EAGAIN : refuse(parent, at);
+	return reserve(at, parent, group != NULL, reservation);
+}
+
+/* ---------------------------------------------------------------- births and deaths */
+
+/* A move asks no limit, and process 1 stands in the root, which has none: the child was allowed already. */
+static int place(pid_t child, const char *group)
+{
+	int fault = engine_line("fork %d %d", PROCESS_ONE, child);
+	if (fault || is_root(group))
+		return fault;
+	fault = engine_line("write %s cgroup.procs %d", group, child);
+	if (fault) {
+		zombies_add_gone(child);
+		zombies_sweep();
+	}
+	return fault;
+}
+
+static int tell(const struct reservation *r, pid_t child)
+{
+	char at[PATH_MAX_SAID];
+	if (!in_range(child) || !zombies_settle(child))
+		return -EAGAIN;
+	if (r->killed || known[r->parent] == DYING)
+		return -ESRCH;
+	bool has_parent = !r->elsewhere && find_group(r->parent, at);
+	if (!has_parent)
+		snprintf(at, sizeof at, "%s", r->group);
+	if (engine_has_group(at))
+		return -ENOENT;
+	int fault = has_parent && !is_any_full(at, false) ? engine_line("fork %d %d", r->parent, child) : place(child, at);
+	if (fault == 0) {
+		known[child] = LIVE;
+		if (!has_parent)
+			watch_above(at);
+	}
+	return fault;
+}
+
+int reported_born(unsigned reservation, pid_t child)
+{
+	if (reservation >= reserved_room || !reserved[reservation].group)
+		return -EAGAIN;
+	int fault = tell(&reserved[reservation], child);
+	reported_cancel(reservation);
+	return fault;
+}
+
+void reported_exited(pid_t pid)
+{
+	char group[PATH_MAX_SAID];
+	if (!in_range(pid) || known[pid] == UNKNOWN)
+		return;
+	bool stands = known[pid] == LIVE && find_group(pid, group);
+	known[pid] = UNKNOWN;
+	if (!stands)
+		return;
+	zombies_add(pid);
+	watch_above(group);
+}
+
+/* ---------------------------------------------------------------- what else the file system asks */
+
+void reported_sweep(void)
+{
+	zombies_sweep();
+}
+
+/* A program writes any number: what is none of its own processes stays where it is. */
+int reported_move(pid_t pid)
+{
+	if (zombies_has(pid))
+		return 1;
+	if (pid == PROCESS_ONE)
+		return -EPERM;
+	return 0;
+}
+
+void reported_leave(const char *group)
+{
+	char above[PATH_MAX_SAID];
+	const char *names;
+	size_t count, size;
+	if (zombies_count() == 0 || is_root(group) || engine_children(group, &names, &count) || count)
+		return;
+	if (engine_look("cat %s cgroup.procs", group))
+		return;
+	const char *text = engine_text(&size);
+	cleanup_free char *procs = strndup(text, size);
+	for (char *at = procs, *end; at && *at; at = end + (*end == '\n'))
+		if (!zombies_has((pid_t)strtol(at, &end, 10)))
+			return;
+	snprintf(above, sizeof above, "%s", group);
+	go_up(above);
+	for (char *at = procs, *end; at && *at; at = end + (*end == '\n'))
+		engine_line("write %s cgroup.procs %ld", above, strtol(at, &end, 10));
+}
+
+bool reported_kill(pid_t pid)
+{
+	if (!in_range(pid) || zombies_forget(pid) || known[pid] == UNKNOWN)
+		return false;
+	known[pid] = DYING;
+	return true;
+}
+
+void reported_kill_reserved(const char *group)
+{
+	for (unsigned i = 0; i < reserved_room; i++)
+		if (reserved[i].group && is_at_or_below(reserved[i].group, group))
+			reserved[i].killed = true;
+}
+
+/* ---------------------------------------------------------------- texts */
+
+static long count_below(const char *group)
+{
+	size_t size;
+	if (engine_look("cat %s pids.current", group))
+		return -1;
+	return strtol(engine_text(&size), NULL, 10);
+}
+
+const char *reported_text(const char *group, const struct file *file, const char *text, size_t *size)
+{
+	static char *own;
+	if (zombies_count() == 0)
+		return text;
+	bool procs = strcmp(file->name, "cgroup.procs") == 0, events = strcmp(file->name, "cgroup.events") == 0;
+	if ((!procs && !events) || *size == 0)
+		return text;
+	char *copy = realloc(own, *size + 1);
+	if (!copy)
+		return text;
+	own = copy;
+	memcpy(own, text, *size);
+	own[*size] = 0;
+	if (procs) {
+		char *to = own;
+		for (char *at = own, *end; *at; at = end) {
+			pid_t pid = (pid_t)strtol(at, &end, 10);
+			end += *end == '\n';
+			size_t n = (size_t)(end - at);
+			if (zombies_has(pid))
+				continue;
+			memmove(to, at, n);
+			to += n;
+		}
+		*size = (size_t)(to - own);
+	} else if (strncmp(own, "populated 1", 11) == 0 && count_below(group) == zombies_below(group))
+		own[10] = '0';
+	return own;
+}

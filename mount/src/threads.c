@@ -1,0 +1,53 @@
+#include "threads.h"
+#include <signal.h>
+#include <stdlib.h>
+
+enum { THREADS = 4194305 };
+
+static struct thread *by_number[THREADS], *all;
+static size_t count;
+
+struct thread *threads_find(pid_t id)
+{
+	return id > 0 && id < THREADS ? by_number[id] : NULL;
+}
+
+struct thread *threads_add(pid_t id, pid_t process)
+{
+	struct thread *t = threads_find(id);
+	if (t || id <= 0 || id >= THREADS || !(t = calloc(1, sizeof *t)))
+		return t;
+	t->id = id;
+	t->process = process;
+	t->next = all;
+	if (all)
+		all->before = t;
+	all = by_number[id] = t;
+	count++;
+	return t;
+}
+
+void threads_drop(struct thread *t)
+{
+	if (t->next)
+		t->next->before = t->before;
+	if (t->before)
+		t->before->next = t->next;
+	else
+		all = t->next;
+	by_number[t->id] = NULL;
+	count--;
+	free(t);
+}
+
+size_t threads_count(void)
+{
+	return count;
+}
+
+/* A number in the table is not free in the kernel: nobody but the supervisor takes a death of one that it holds. */
+void threads_kill_all(void)
+{
+	for (struct thread *t = all; t; t = t->next)
+		kill(t->process, SIGKILL);
+}

@@ -1,0 +1,226 @@
+"""Programs under `makhloeum run` that mean harm: none of their processes is uncounted, and none stops the others."""
+import os
+import re
+import resource
+import signal
+import subprocess
+import sys
+import tempfile
+import time
+
+from support import CGREPLAY, PATIENCE, PROGRAM, error_of, finish, read, same, step, until, write
+
+AT = "/sys/fs/cgroup"
+ME = os.path.realpath(__file__)
+BUILT = os.environ.get("HOSTILE") or os.path.join(os.path.dirname(PROGRAM), "..", "hostile")
+HOSTILE, STALLED = os.path.join(BUILT, "hostile"), os.path.join(BUILT, "stalled")
+
+
+def into(group):
+    write(AT + group + "/cgroup.procs", b"0\n")
+
+
+def started(*words, group="/"):
+    return subprocess.Popen([HOSTILE, *words], stdin=subprocess.PIPE, stdout=subprocess.PIPE, preexec_fn=lambda: into(group))
+
+
+def said(*words, group="/", seconds=60):
+    """What it prints, as words; what is wrong, where it does not end."""
+    p = started(*words, group=group)
+    try:
+        return p.communicate(timeout=seconds)[0].decode().split()
+    except subprocess.TimeoutExpired:
+        p.kill()
+        return ["it hangs"]
+
+
+def count(group):
+    return int(read(AT + group + "/pids.current"))
+
+
+def processes(group):
+    return [int(p) for p in read(AT + group + "/cgroup.procs").split()]
+
+
+# ---------------------------------------------------------------- inside: nothing escapes
+
+def forks():
+    os.mkdir(AT + "/a")
+    write(AT + "/a/pids.max", b"5\n")
+    for way in ("clone", "clone3", "parent", "no-signal") + (("int80", "x32") if os.uname().machine == "x86_64" else ()):
+        p = started("forks", way, group="/a")
+        made = int(p.stdout.readline())
+        expected = 0 if way in ("int80", "x32") else 4
+        same("forty forks by %s under pids.max 5" % way, (made, count("/a"), len(processes("/a"))), (expected, expected + 1, expected + 1))
+        write(AT + "/a/cgroup.kill", b"1\n")
+        p.wait()
+        same("then none is left", (count("/a"), read(AT + "/a/cgroup.procs")), (0, b""))
+
+
+def thread():
+    os.mkdir(AT + "/a")
+    p = started("thread", group="/a")
+    until(lambda: "sleep" in open("/proc/%d/comm" % p.pid).read())
+    same("an untraced thread that calls execve is its process", (count("/a"), processes("/a")), (1, [p.pid]))
+    p.kill()
+    p.wait()
+    same("and is gone when it was waited for", count("/a"), 0)
+
+
+def arguments():
+    os.mkdir(AT + "/one")
+    os.mkdir(AT + "/two")
+    wrong = said("rewritten")
+    step("arguments that are rewritten: each child is in one group", wrong[0] == "0" and int(wrong[1]) > 50, wrong)
+    same("arguments that threads share, in constant memory", said("shared"), ["0"])
+    same("a clone3 into what is no group", said("into"), ["ENOENT", "ENOENT", "EBADF", "EBADF", "EBADF", "EBADF", "ok"])
+    same("nobody is left", (read(AT + "/one/cgroup.procs"), read(AT + "/two/cgroup.procs")), (b"", b""))
+
+
+def falling():
+    os.mkdir(AT + "/one")
+    same("no child is killed that fork had made", said("falling"), ["0", "1"])
+
+
+# ---------------------------------------------------------------- inside: nothing hangs
+
+def races():
+    os.mkdir(AT + "/one")
+    racing = [started("exec-race") for _ in range(4)]
+    step("execve in one thread while another forks", until(lambda: all(p.poll() is not None for p in racing), 40))
+    same("the others fork", subprocess.run(["true"], timeout=20).returncode, 0)
+    same("parents that are killed while they fork leave no child stopped", said("killed-parents"), ["0"])
+    step("and nobody is left", until(lambda: len(processes("")) == 2), processes(""))
+
+
+def fair():
+    os.mkdir(AT + "/one")
+    write(AT + "/one/pids.max", b"12\n")
+    for what in ("fork", "statfs"):
+        got = said("starve", what, seconds=30)
+        step("twelve that only call %s leave room for others" % what, len(got) == 2 and min(map(int, got)) > 20, got)
+
+
+def zombies():
+    os.mkdir(AT + "/a")
+    p = started("zombies", group="/a")
+    p.stdout.readline()
+    same("zombies count and are not listed", (count("/a"), processes("/a")), (4, [p.pid]))
+    write(AT + "/a/pids.max", b"4\n")
+    same("they count against pids.max", error_of(lambda: subprocess.run(["true"], preexec_fn=lambda: into("/a"))), "ok")
+    p.stdin.write(b"\n")
+    p.stdin.flush()
+    p.stdout.readline()
+    same("once they are waited for they are gone", count("/a"), 1)
+    p.communicate(b"\n")
+    os.mkdir(AT + "/b")
+    child = os.fork()
+    if child == 0:
+        into("/b")
+        os._exit(0)
+    os.waitid(os.P_PID, child, os.WEXITED | os.WNOWAIT)
+    same("a group of zombies alone", (read(AT + "/b/cgroup.events"), count("/b")), (b"populated 0\nfrozen 0\n", 1))
+    same("one moves nowhere", error_of(write, AT + "/a/cgroup.procs", b"%d\n" % child), "ok")
+    same("and does not hold its group", error_of(os.rmdir, AT + "/b"), "ok")
+    os.waitpid(child, 0)
+    orphan = subprocess.run(["sh", "-c", "sleep 0.2 & echo $!"], stdout=subprocess.PIPE).stdout
+    step("an orphan is waited for", until(lambda: not os.path.exists("/proc/%d" % int(orphan))))
+
+
+# ---------------------------------------------------------------- inside: what is read
+
+def texts():
+    os.mkdir(AT + "/a")
+    into("/a")
+    home = tempfile.mkdtemp()
+    os.symlink("/proc/self/cgroup", home + "/link")
+    os.symlink("self", home + "/self")
+    os.symlink("/proc", home + "/proc")
+    me = os.getpid()
+    held = os.open("/proc/self/cgroup", os.O_PATH)
+    names = ["/proc/self/cgroup", "/proc//self/./cgroup", "/proc/self/root/proc/self/cgroup", "/proc/self/../self/cgroup",
+             "/proc/%d/task/%d/cgroup" % (me, me), home + "/link", home + "/proc/self/cgroup", "/proc/self/fd/%d" % held,
+             "/dev/fd/%d" % held, "/proc/thread-self/cgroup", "/proc/self/cwd/../../../../../../../../proc/self/cgroup"]
+    for name in names:
+        same(name.replace(home, "HOME"), error_text(name), "0::/a\n")
+    os.chdir("/proc/self")
+    same("from /proc/self", error_text("cgroup"), "0::/a\n")
+    os.chdir("/")
+    for name in ("/etc/mtab", "/proc/mounts", "/proc/self/mountinfo", "/proc/self/mountstats", "/proc/self/root/proc/mounts"):
+        lines = [x for x in error_text(name).splitlines() if "cgroup" in x]
+        step("%s shows one cgroup mount, of type cgroup2" % name, len(lines) == 1 and "fuse" not in lines[0], lines)
+    same("/proc/cgroups", [x.split()[0] for x in error_text("/proc/cgroups").splitlines()], ["#subsys_name", "pids"])
+    same("/proc/self/cpuset", error_text("/proc/self/cpuset"), "/\n")
+
+
+def error_text(name):
+    try:
+        return open(name).read()
+    except OSError as e:
+        return str(e)
+
+
+# ---------------------------------------------------------------- outside
+
+def full_trace():
+    """The trace can't be written any more: no fork is made that is not in it."""
+    trace = os.path.join(tempfile.mkdtemp(), "trace")
+    script = "n=0; for i in 1 2 3 4 5 6 7 8 9 10 11 12 13 14 15 16 17 18 19 20; do (exec true) && n=$((n + 1)); done; echo $n"
+    code = ("import os\nmade = 0\nfor i in range(200):\n try: pid = os.fork()\n except OSError: continue\n"
+            " if pid == 0: os._exit(0)\n made += 1\n os.waitpid(pid, 0)\nprint(made)")
+    ran = subprocess.run([PROGRAM, "run", "--trace", trace, sys.executable, "-c", code], stdout=subprocess.PIPE, timeout=60,
+                         preexec_fn=lambda: resource.setrlimit(resource.RLIMIT_FSIZE, (900, 900)))
+    told = len(re.findall(r"^fork ", open(trace).read(), re.M)) - 1
+    step("of 200 forks as many are made as the trace has room for", 5 < int(ran.stdout) <= told < 100, (ran.stdout, told))
+
+
+def stalled():
+    home = tempfile.mkdtemp()
+    system = subprocess.Popen([STALLED, home], stderr=subprocess.DEVNULL)
+    if not until(lambda: os.path.ismount(home), 5):
+        step("a file system that does not answer is left out: it can't be mounted", True)
+        return
+    p = subprocess.Popen([PROGRAM, "run", HOSTILE, "stalled", home + "/page"], stdout=subprocess.PIPE)
+    line = []
+    thread = __import__("threading").Thread(target=lambda: line.append(p.stdout.readline()), daemon=True)
+    thread.start()
+    thread.join(PATIENCE)
+    step("memory that can't be read stops nobody else", bool(line) and int(line[0] or 0) > 20, line)
+    p.send_signal(signal.SIGTERM)
+    started_at = time.monotonic()
+    try:
+        p.wait(PATIENCE)
+    except subprocess.TimeoutExpired:
+        pass
+    step("and SIGTERM ends the run", p.poll() is not None and time.monotonic() - started_at < 10)
+    system.kill()
+    subprocess.run(["fusermount3", "-u", "-q", "-z", home])
+    system.wait()
+    p.kill()
+    p.wait()
+
+
+INSIDE = (forks, thread, arguments, falling, races, fair, zombies, texts)
+if sys.argv[1:2] == ["inside"]:
+    {t.__name__: t for t in INSIDE}[sys.argv[2]]()
+    finish()
+for test in INSIDE:
+    if sys.argv[1:] and test.__name__ not in sys.argv[1:]:
+        continue
+    home = tempfile.mkdtemp()
+    trace, answers = os.path.join(home, "trace"), os.path.join(home, "answers")
+    p = subprocess.Popen([PROGRAM, "run", "--trace", trace, "--answers", answers, sys.executable, ME, "inside", test.__name__],
+                         start_new_session=True)
+    try:
+        p.wait(100)
+    except subprocess.TimeoutExpired:
+        p.kill()
+        p.wait()
+    same("%s: its status" % test.__name__, p.returncode, 0)
+    with open(trace) as lines, open(answers, "rb") as wanted:
+        if os.path.getsize(trace) < 16 << 20:
+            step("cgreplay gives the same answers", subprocess.run(CGREPLAY, stdin=lines, stdout=subprocess.PIPE).stdout == wanted.read())
+for test in (full_trace, stalled):
+    if not sys.argv[1:] or test.__name__ in sys.argv[1:]:
+        test()
+finish()
