@@ -31,17 +31,16 @@ static void nothing(void)
 {
 }
 
-static pid_t start_server(int connection, const int ends[2], const int helpers[2])
+static pid_t start_server(int connection, const int ends[2])
 {
 	char where[32];
 	pid_t pid = fork();
 	if (pid)
 		return pid;
 	close(ends[0]);
-	close(helpers[0]);
 	setsid();
 	snprintf(where, sizeof where, "/dev/fd/%d", connection);
-	if (!link_answer(ends[1], true) || !link_answer(helpers[1], false))
+	if (!link_answer(ends[1]))
 		_exit(1);
 	exit(serve(where, nothing));
 }
@@ -167,7 +166,7 @@ static int give_up(pid_t program, const char *why)
 	return REFUSED_HERE;
 }
 
-static int supervise(char **program, const sigset_t *before, int signals, const int links[2])
+static int supervise(char **program, const sigset_t *before, int signals, int link)
 {
 	int control[2];
 	char why[160];
@@ -185,12 +184,11 @@ static int supervise(char **program, const sigset_t *before, int signals, const 
 		return pid < 0 ? REFUSED_HERE : give_up(pid, why);
 	}
 	int listener = write(control[0], "", 1) == 1 ? receive_listener(control[0]) : -1;
-	int helper = listener < 0 ? -1 : helper_start(listener, links[1]);
+	int helper = listener < 0 ? -1 : helper_start(listener);
 	if (helper < 0 || write(control[0], "", 1) != 1)
 		return give_up(pid, "this machine does not allow seccomp notification");
 	close(listener);
-	close(links[1]);
-	struct ears ears = { signals, links[0], helper };
+	struct ears ears = { signals, link, helper };
 	return watch_over(&ears, pid);
 }
 
@@ -213,7 +211,7 @@ int run_program(char **program, const struct wishes *asked)
 {
 	struct wishes wishes = *asked;
 	sigset_t held, before;
-	int ends[2], helpers[2];
+	int ends[2];
 	wishes.extra = true;
 	if (!serve_prepare(&wishes))
 		return REFUSED_HERE;
@@ -224,15 +222,14 @@ int run_program(char **program, const struct wishes *asked)
 	look.marked = true;
 	hide(true);
 	real_are_reported();
-	if (!watch_begin(cgroup_mount, false) || !link_make(ends) || !link_make(helpers))
+	if (!watch_begin(cgroup_mount, false) || !link_make(ends))
 		return 1;
 	int connection = space_mount();
 	if (connection < 0)
 		return REFUSED_HERE;
-	pid_t server = start_server(connection, ends, helpers);
+	pid_t server = start_server(connection, ends);
 	close(connection);
 	close(ends[1]);
-	close(helpers[1]);
 	watch_leave();
 	engine_end();
 	if (server < 0)
@@ -253,7 +250,7 @@ int run_program(char **program, const struct wishes *asked)
 	else if (!groups_begin())
 		say("the mount cannot be opened: %s", strerror(errno));
 	else
-		status = supervise(program, &before, signals, (const int[]){ ends[0], helpers[0] });
+		status = supervise(program, &before, signals, ends[0]);
 	groups_end();
 	end_server(server, ends[0]);
 	return status;
