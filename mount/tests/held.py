@@ -5,25 +5,24 @@ import stat
 import subprocess
 import tempfile
 import threading
+import time
 
-from support import PROGRAM, Mount, error_of, finish, same, step
+from support import PROGRAM, Mount, error_of, finish, same, step, write
 
 HERE = os.path.dirname(PROGRAM)
 
 
 def owners():
-    """A mode that is given while the group is removed does not come to the next group of that name."""
+    """A mode that is given while an undo takes the group back does not come to the next group of that name."""
     m = Mount(preload=os.path.join(HERE, "slow_unlock.so"))
-    file = m.path("a", "pids.max")
-    wrong = 0
-    for _ in range(60):
+    file, wrong = m.path("a", "pids.max"), 0
+    for turn in range(150):
         os.mkdir(m.path("a"))
-        fd = os.open(file, os.O_RDONLY)
-        giver = threading.Thread(target=error_of, args=(os.fchmod, fd, 0o600))
+        giver = threading.Thread(target=error_of, args=(os.chmod, file, 0o600))
         giver.start()
-        os.rmdir(m.path("a"))
+        time.sleep(turn % 50 * 0.0002)
+        write(m.control("undo"), b"1")
         giver.join()
-        os.close(fd)
         os.mkdir(m.path("a"))
         wrong += stat.S_IMODE(os.stat(file).st_mode) != 0o644
         os.rmdir(m.path("a"))
