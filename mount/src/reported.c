@@ -49,10 +49,9 @@ static int reserve(const char *group, pid_t parent, bool elsewhere, unsigned *ou
 		reserved = more;
 		reserved_room = room;
 	}
-	char *copy = strdup(group);
-	if (!copy)
+	reserved[i] = (struct reservation){ strdup(group), parent, elsewhere, false };
+	if (!reserved[i].group)
 		return -ENOMEM;
-	reserved[i] = (struct reservation){ copy, parent, elsewhere, false };
 	*out = i;
 	return 0;
 }
