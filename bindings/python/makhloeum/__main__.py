@@ -160,7 +160,7 @@ class Shell(cmd.Cmd):
         return []
 
     def _paths(self, word: str, begin: int, line: str) -> list[str]:
-        parent = word[: word.rfind("/") + 1]
+        parent = word[: word.rfind("/") + 1] or "/"
         try:
             names = self.h.children(parent.rstrip("/") or "/")
         except Refused:

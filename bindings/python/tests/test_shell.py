@@ -26,7 +26,7 @@ def test_standard_input_and_scripts(tmp_path):
     ran = run(text=f"source {script}\nls /a/\nmkdir /a\nnonsense\n")
     assert ran.returncode == 1
     assert ran.stdout.endswith(
-        "ls" and "children /a/: Invalid argument (path: a name is empty, at 3)\nmkdir /a: File exists (exists)\nnonsense: Invalid argument (syntax)\n"
+        "children /a/: Invalid argument (path: a name is empty, at 3)\nmkdir /a: File exists (exists)\nnonsense: Invalid argument (syntax)\n"
     )
     ran = run(str(tmp_path / "missing"))
     assert ran.returncode == 1 and "No such file" in ran.stderr
@@ -47,7 +47,7 @@ def test_completion(hierarchy):
         h.line(line)
     shell = Shell(h, io.StringIO())
     complete = shell.completedefault
-    assert complete("", "rmdir ", 6, 6) == ["/alpha", "/beta"] or complete("", "rmdir ", 6, 6) == ["alpha", "beta"]
+    assert complete("", "rmdir ", 6, 6) == ["/alpha", "/beta"]
     assert complete("/al", "rmdir /al", 6, 9) == ["/alpha"]
     assert complete("al", "rmdir /al", 7, 9) == ["alpha"]
     assert complete("", "rmdir /alpha/", 13, 13) == ["x"]
