@@ -15,8 +15,11 @@ struct thread *threads_find(pid_t id)
 struct thread *threads_add(pid_t id, pid_t process)
 {
 	struct thread *t = threads_find(id);
-	if (t || id <= 0 || id >= THREADS || !(t = calloc(1, sizeof *t)))
+	if (t || id <= 0 || id >= THREADS)
 		return t;
+	t = calloc(1, sizeof *t);
+	if (!t)
+		return NULL;
 	t->id = id;
 	t->process = process;
 	t->next = all;
