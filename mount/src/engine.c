@@ -58,9 +58,11 @@ bool engine_start(struct kept *trace_to, struct kept *answers_to, bool history)
 void engine_end(void)
 {
 	mk_close(&engine);
-	struct buffer *all[] = { &answer, &text, &standing, &names, &paths };
-	for (size_t i = 0; i < sizeof all / sizeof *all; i++)
-		free(all[i]->at);
+	free(answer.at);
+	free(text.at);
+	free(standing.at);
+	free(names.at);
+	free(paths.at);
 	kept_close(trace);
 	kept_close(answers);
 }

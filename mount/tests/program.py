@@ -273,7 +273,7 @@ if sys.argv[1:2] == ["inside"]:
     finish()
 for test in INSIDE:
     trace, answers = (os.path.join(tempfile.mkdtemp(), n) for n in ("trace", "answers"))
-    ran = subprocess.run([PROGRAM, "run", "--trace", trace, "--answers", answers, sys.executable, ME, "inside", test.__name__],
+    ran = subprocess.run([PROGRAM, "run", "--control", "--trace", trace, "--answers", answers, sys.executable, ME, "inside", test.__name__],
                          timeout=120, stderr=subprocess.PIPE)
     same("its status", (ran.returncode, ran.stderr), (0, b""))
     with open(trace) as lines, open(answers, "rb") as wanted:
