@@ -5,6 +5,7 @@
 #include "watch.h"
 #include <errno.h>
 #include <stdio.h>
+#include <stdlib.h>
 #include <string.h>
 
 const char control_directory[] = ".makhloeum";
@@ -20,9 +21,22 @@ static const struct {
 	[TRACE] = { "trace", 0444, true }, [FORK] = { "fork", 0200, false },  [EXIT] = { "exit", 0200, false },
 };
 
+/* The process of /.makhloeum.PID, which is there under `run` and not listed: what it has is the text of /proc/PID/cgroup. */
+static long where_of(const char *path)
+{
+	size_t n = sizeof control_directory - 1;
+	if (!look.marked || path[0] != '/' || strncmp(path + 1, control_directory, n) || path[n + 1] != '.')
+		return -1;
+	const char *number = path + n + 2;
+	size_t digits = strspn(number, "0123456789");
+	return digits && digits < 8 && number[digits] == 0 ? strtol(number, NULL, 10) : -1;
+}
+
 bool control_has(const char *path)
 {
 	size_t n = sizeof control_directory - 1;
+	if (where_of(path) >= 0)
+		return true;
 	if (look.marked && !look.history)
 		return false;
 	return path[0] == '/' && strncmp(path + 1, control_directory, n) == 0 && (path[n + 1] == 0 || path[n + 1] == '/');
@@ -31,6 +45,8 @@ bool control_has(const char *path)
 int control_find(const char *path)
 {
 	const char *name = path + sizeof control_directory;
+	if (where_of(path) >= 0)
+		return CONTROL_WHERE + (int)where_of(path);
 	if (*name == 0)
 		return CONTROL_ITSELF;
 	for (int i = 0; i < CONTROL_FILES; i++)
@@ -51,7 +67,17 @@ bool control_is_there(int file)
 
 mode_t control_mode(int file)
 {
-	return files[file].mode;
+	return file >= CONTROL_WHERE ? 0444 : files[file].mode;
+}
+
+/* One that no supervisor knows is in the root, as all others of the machine. */
+static int read_where(long pid, int (*keep)(void *, const char *, size_t), void *to)
+{
+	char group[PATH_MAX_SAID], text[PATH_MAX_SAID + 8];
+	if (!engine_where(pid, group, sizeof group))
+		snprintf(group, sizeof group, "/");
+	int size = snprintf(text, sizeof text, "0::%s\n", group);
+	return keep(to, text, (size_t)size);
 }
 
 int control_read(int file, int (*keep)(void *, const char *, size_t), void *to)
@@ -60,6 +86,8 @@ int control_read(int file, int (*keep)(void *, const char *, size_t), void *to)
 	const char *text;
 	size_t size;
 	WANTS_LOCK();
+	if (file >= CONTROL_WHERE)
+		return read_where(file - CONTROL_WHERE, keep, to);
 	switch (file) {
 	case DEPTH:
 		snprintf(depth, sizeof depth, "%zu\n", engine_depth());

@@ -21,6 +21,11 @@ bool groups_begin(void)
 	return root >= 0 && statx(root, "", ASKS_NOBODY, STATX_INO, &root_is) == 0;
 }
 
+int groups_root(void)
+{
+	return root;
+}
+
 void groups_end(void)
 {
 	close(root);
@@ -38,8 +43,7 @@ bool groups_have(int fd)
 	return statx(fd, "", ASKS_NOBODY, STATX_INO, &st) == 0 && is_here(&st);
 }
 
-/* Opens below the mount's root, and never what the program has mounted there. */
-static int open_below(const char *path, int flags)
+int groups_open(const char *path, int flags)
 {
 	struct open_how how = { .flags = (uint64_t)(flags | O_CLOEXEC), .resolve = RESOLVE_NO_XDEV | RESOLVE_NO_SYMLINKS | RESOLVE_BENEATH };
 	return (int)syscall(SYS_openat2, root, path[1] ? path + 1 : ".", &how, sizeof how);
@@ -48,7 +52,7 @@ static int open_below(const char *path, int flags)
 static bool is_same(const char *path, const struct statx *wanted)
 {
 	struct statx st;
-	cleanup_fd int fd = open_below(path, O_PATH | O_DIRECTORY);
+	cleanup_fd int fd = groups_open(path, O_PATH | O_DIRECTORY);
 	return fd >= 0 && statx(fd, "", ASKS_NOBODY, STATX_INO, &st) == 0 && st.stx_ino == wanted->stx_ino;
 }
 
@@ -57,7 +61,7 @@ static bool search(char group[PATH_MAX_SAID], const struct statx *wanted)
 {
 	if (is_same(group, wanted))
 		return true;
-	int fd = open_below(group, O_RDONLY | O_DIRECTORY);
+	int fd = groups_open(group, O_RDONLY | O_DIRECTORY);
 	cleanup_directory DIR *all = fd < 0 ? NULL : fdopendir(fd);
 	size_t size = is_root(group) ? 0 : strlen(group);
 	struct dirent *entry;

@@ -1,5 +1,5 @@
 #include "helper.h"
-#include "link.h"
+#include "groups.h"
 #include "memory.h"
 #include "notified.h"
 #include <linux/seccomp.h>
@@ -100,15 +100,14 @@ static void *answer_all(void *argument)
 	return NULL;
 }
 
-static void serve(int listener, int end, int link)
+static void serve(int listener, int end)
 {
 	pthread_t thread;
 	prctl(PR_SET_PDEATHSIG, SIGKILL);
 	/* what else the supervisor has open would keep the mount, and the other ends of its pipes */
 	for (int fd = STDERR_FILENO + 1; fd < OPEN_AT_FIRST; fd++)
-		if (fd != listener && fd != end && fd != link)
+		if (fd != listener && fd != end && fd != groups_root())
 			close(fd);
-	link_use(link);
 	pthread_attr_init(&small);
 	pthread_attr_setstacksize(&small, STACK);
 	for (int i = 0; i < READERS - 1; i++)
@@ -119,7 +118,7 @@ static void serve(int listener, int end, int link)
 	read_all((void *)(intptr_t)end);
 }
 
-int helper_start(int listener, int link)
+int helper_start(int listener)
 {
 	int ends[2];
 	sigset_t all, before;
@@ -130,7 +129,7 @@ int helper_start(int listener, int link)
 	process = fork();
 	if (process == 0) {
 		close(ends[0]);
-		serve(listener, ends[1], link);
+		serve(listener, ends[1]);
 		_exit(0);
 	}
 	sigprocmask(SIG_SETMASK, &before, NULL);

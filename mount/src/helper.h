@@ -14,8 +14,8 @@ struct memory_reply {
 	struct clone_args args;
 };
 
-/* Starts it. It answers the notifications of `listener`, and asks the server by `link`. Its descriptor to poll, or -1. */
-int helper_start(int listener, int link);
+/* Starts it. It answers the notifications of `listener`. Its descriptor to poll, or -1. */
+int helper_start(int listener);
 /* It is not waited for: a file system of the program may keep it. */
 void helper_end(void);
 /* Asks for the arguments of a clone3. False where too many are being read. */

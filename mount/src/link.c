@@ -6,14 +6,14 @@
 #include <pthread.h>
 #include <stdint.h>
 #include <stdio.h>
-#include <stdlib.h>
+#include <stddef.h>
 #include <string.h>
 #include <sys/socket.h>
 #include <unistd.h>
 
-enum what { RESERVE, BORN, CANCEL, EXITED, WHERE };
+enum what { RESERVE, BORN, CANCEL, EXITED };
 
-/* Only the beginning of a question or a reply is sent: as far as its text reaches. */
+/* Only the beginning of a question is sent: as far as its text reaches. */
 struct question {
 	enum what what;
 	pid_t pid;
@@ -25,12 +25,6 @@ struct question {
 struct reply {
 	int result;
 	unsigned reservation;
-	char text[TEXT_SAID];
-};
-
-struct served {
-	int end;
-	bool ends_with_it;
 };
 
 bool link_make(int ends[2])
@@ -40,7 +34,6 @@ bool link_make(int ends[2])
 
 static void answer(const struct question *q, struct reply *r)
 {
-	size_t size;
 	switch (q->what) {
 	case RESERVE:
 		r->result = reported_reserve(q->pid, q->elsewhere ? q->group : NULL, &r->reservation);
@@ -54,58 +47,33 @@ static void answer(const struct question *q, struct reply *r)
 	case EXITED:
 		reported_exited(q->pid);
 		break;
-	case WHERE:
-		if (engine_line("where %d", q->pid) == 0) {
-			const char *text = engine_text(&size);
-			snprintf(r->text, sizeof r->text, "%.*s", (int)size, text);
-		} else
-			snprintf(r->text, sizeof r->text, "0::/\n");
-		break;
 	}
-}
-
-static size_t size_of_text(size_t before, const char *text)
-{
-	return before + strlen(text) + 1;
 }
 
 static void *answer_all(void *argument)
 {
-	struct served served = *(struct served *)argument;
+	int end = (int)(intptr_t)argument;
 	struct question q;
 	struct reply r;
-	free(argument);
-	while (recv(served.end, &q, sizeof q, 0) > (ssize_t)offsetof(struct question, group)) {
+	while (recv(end, &q, sizeof q, 0) > (ssize_t)offsetof(struct question, group)) {
 		q.group[sizeof q.group - 1] = 0;
 		r.result = 0;
 		r.reservation = 0;
-		r.text[0] = 0;
 		engine_lock();
 		answer(&q, &r);
 		engine_unlock();
-		size_t size = size_of_text(offsetof(struct reply, text), r.text);
-		if (send(served.end, &r, size, MSG_NOSIGNAL) != (ssize_t)size)
+		if (send(end, &r, sizeof r, MSG_NOSIGNAL) != sizeof r)
 			break;
 	}
-	if (!served.ends_with_it)
-		return NULL;
 	/* the mount is being taken away, and its threads end; where something still holds it, they are ended */
 	sleep(1);
 	_exit(0);
 }
 
-bool link_answer(int end, bool ends_with_it)
+bool link_answer(int end)
 {
 	pthread_t thread;
-	struct served *served = malloc(sizeof *served);
-	if (!served)
-		return false;
-	*served = (struct served){ end, ends_with_it };
-	if (pthread_create(&thread, NULL, answer_all, served)) {
-		free(served);
-		return false;
-	}
-	return pthread_detach(thread) == 0;
+	return pthread_create(&thread, NULL, answer_all, (void *)(intptr_t)end) == 0 && pthread_detach(thread) == 0;
 }
 
 static int server = -1;
@@ -120,13 +88,12 @@ static void ask(struct question *q, const char *group, struct reply *r)
 {
 	q->elsewhere = group != NULL;
 	snprintf(q->group, sizeof q->group, "%s", group ? group : "");
-	size_t size = size_of_text(offsetof(struct question, group), q->group);
+	size_t size = offsetof(struct question, group) + strlen(q->group) + 1;
 	if (server >= 0 && send(server, q, size, MSG_NOSIGNAL) == (ssize_t)size &&
-	    recv(server, r, sizeof *r, 0) > (ssize_t)offsetof(struct reply, text))
+	    recv(server, r, sizeof *r, 0) == sizeof *r)
 		return;
 	server = -1;
 	r->result = -EAGAIN;
-	r->text[0] = 0;
 }
 
 int link_reserve(pid_t parent, const char *group, unsigned *reservation)
@@ -158,12 +125,4 @@ void link_exited(pid_t pid)
 	struct question q = { .what = EXITED, .pid = pid };
 	struct reply r;
 	ask(&q, NULL, &r);
-}
-
-void link_where(pid_t pid, char text[TEXT_SAID])
-{
-	struct question q = { .what = WHERE, .pid = pid };
-	struct reply r;
-	ask(&q, NULL, &r);
-	snprintf(text, TEXT_SAID, "%s", r.text[0] ? r.text : "0::/\n");
 }

@@ -6,14 +6,11 @@
 #include <stddef.h>
 #include <sys/types.h>
 
-enum { TEXT_SAID = 4200 };
-
 /* A pair of ends; false where it cannot be had. */
 bool link_make(int ends[2]);
-/* The server's side: a thread that answers until the other end closes. Where that is the supervisor's, it then ends this
-   process. */
-bool link_answer(int end, bool ends_with_it);
-/* The asker's side: one thread at a time asks. */
+/* The server's side: a thread that answers until the other end closes, and then ends this process. */
+bool link_answer(int end);
+/* The supervisor's side. */
 void link_use(int end);
 /* 0 and a reservation, or the negated errno by which the process may not fork (into a group, where that is not NULL).
    Where the server has died nothing may fork. */
@@ -22,7 +19,5 @@ int link_reserve(pid_t parent, const char *group, unsigned *reservation);
 int link_born(unsigned reservation, pid_t child);
 void link_cancel(unsigned reservation);
 void link_exited(pid_t pid);
-/* The text of /proc/PID/cgroup. */
-void link_where(pid_t pid, char text[TEXT_SAID]);
 
 #endif

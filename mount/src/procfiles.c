@@ -1,11 +1,10 @@
 #include "procfiles.h"
 #include "cleanup.h"
-#include "link.h"
+#include "groups.h"
 #include "opening.h"
 #include "space.h"
 #include <fcntl.h>
 #include <linux/magic.h>
-#include <pthread.h>
 #include <stdbool.h>
 #include <string.h>
 #include <sys/mman.h>
@@ -26,24 +25,12 @@ static int new_text(const char *name, FILE **out)
 	return fd;
 }
 
-static pthread_mutex_t asking = PTHREAD_MUTEX_INITIALIZER;
-
+/* A file of the mount, so that it has today's group also where it stays open. */
 static int cgroup_text(pid_t pid)
 {
-	char text[TEXT_SAID], path[32];
-	FILE *out;
-	snprintf(path, sizeof path, "/proc/%d", pid);
-	if (access(path, F_OK))
-		return -1;
-	int fd = new_text("cgroup", &out);
-	if (fd < 0)
-		return -1;
-	pthread_mutex_lock(&asking);
-	link_where(pid, text);
-	pthread_mutex_unlock(&asking);
-	fputs(text, out);
-	fclose(out);
-	return fd;
+	char name[40];
+	snprintf(name, sizeof name, "/.makhloeum.%d", pid);
+	return groups_open(name, O_RDONLY);
 }
 
 /* A word of a line, counted from 0. */
@@ -98,7 +85,7 @@ static int mounts_text(pid_t pid, const char *what)
 	cleanup_stream FILE *in = fopen(path, "re");
 	int fd = in ? new_text(what, &out) : -1;
 	if (fd < 0)
-		return -1;
+		return -1; /* cppcheck-suppress resourceLeak ; the cleanup attribute closes it */
 	while (getline(&line, &room, in) > 0)
 		put_mount(out, line, what);
 	fclose(out);

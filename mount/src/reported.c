@@ -16,12 +16,14 @@ enum { UNKNOWN, LIVE, DYING };
 static unsigned char known[PIDS];
 
 /* A fork that was allowed and is not made yet. It counts against every limit at or above its group. */
-static struct reservation {
-	char *group; /* NULL: free */
+struct reservation {
+	struct reservation *next;
+	unsigned number;
 	pid_t parent;
 	bool elsewhere, killed;
-} *reserved;
-static unsigned reserved_room;
+	char group[];
+};
+static struct reservation *reserved;
 
 static bool in_range(pid_t pid)
 {
@@ -37,38 +39,47 @@ static bool find_group(pid_t pid, char group[PATH_MAX_SAID])
 
 static int reserve(const char *group, pid_t parent, bool elsewhere, unsigned *out)
 {
-	unsigned i = 0;
-	while (i < reserved_room && reserved[i].group)
-		i++;
-	if (i == reserved_room) {
-		unsigned room = reserved_room ? 2 * reserved_room : 16;
-		struct reservation *more = realloc(reserved, room * sizeof *more);
-		if (!more)
-			return -ENOMEM;
-		memset(more + reserved_room, 0, (room - reserved_room) * sizeof *more);
-		reserved = more;
-		reserved_room = room;
-	}
-	reserved[i] = (struct reservation){ strdup(group), parent, elsewhere, false };
-	if (!reserved[i].group)
+	static unsigned last;
+	size_t size = strlen(group) + 1;
+	struct reservation *r = malloc(sizeof *r + size);
+	if (!r)
 		return -ENOMEM;
-	*out = i;
+	memcpy(r->group, group, size);
+	r->number = ++last;
+	r->parent = parent;
+	r->elsewhere = elsewhere;
+	r->killed = false;
+	r->next = reserved;
+	reserved = r;
+	*out = r->number;
 	return 0;
+}
+
+static struct reservation *find_reserved(unsigned number)
+{
+	struct reservation *r = reserved;
+	while (r && r->number != number)
+		r = r->next;
+	return r;
 }
 
 void reported_cancel(unsigned reservation)
 {
-	if (reservation >= reserved_room)
+	struct reservation **at = &reserved;
+	while (*at && (*at)->number != reservation)
+		at = &(*at)->next;
+	if (!*at)
 		return;
-	free(reserved[reservation].group);
-	reserved[reservation].group = NULL;
+	struct reservation *r = *at;
+	*at = r->next;
+	free(r);
 }
 
 static long reserved_below(const char *top)
 {
 	long count = 0;
-	for (unsigned i = 0; i < reserved_room; i++)
-		count += reserved[i].group && is_at_or_below(reserved[i].group, top);
+	for (const struct reservation *r = reserved; r; r = r->next)
+		count += is_at_or_below(r->group, top);
 	return count;
 }
 
@@ -181,9 +192,10 @@ static int tell(const struct reservation *r, pid_t child)
 
 int reported_born(unsigned reservation, pid_t child)
 {
-	if (reservation >= reserved_room || !reserved[reservation].group)
+	const struct reservation *r = find_reserved(reservation);
+	if (!r)
 		return -EAGAIN;
-	int fault = tell(&reserved[reservation], child);
+	int fault = tell(r, child);
 	reported_cancel(reservation);
 	return fault;
 }
@@ -248,9 +260,8 @@ bool reported_kill(pid_t pid)
 
 void reported_kill_reserved(const char *group)
 {
-	for (unsigned i = 0; i < reserved_room; i++)
-		if (reserved[i].group && is_at_or_below(reserved[i].group, group))
-			reserved[i].killed = true;
+	for (struct reservation *r = reserved; r; r = r->next)
+		r->killed |= is_at_or_below(r->group, group);
 }
 
 /* ---------------------------------------------------------------- texts */

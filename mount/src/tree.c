@@ -99,6 +99,8 @@ static const char *path_of(const char *path, const struct fuse_file_info *fi, ch
 		return NULL;
 	if (o->file)
 		snprintf(out, size, "%s/%s", is_root(o->group) ? "" : o->group, o->file->name);
+	else if (o->control >= CONTROL_WHERE)
+		snprintf(out, size, "/%s.%d", control_directory, o->control - CONTROL_WHERE);
 	else if (o->control >= 0)
 		snprintf(out, size, "/%s/%s", control_directory, control_name(o->control));
 	else

@@ -143,6 +143,12 @@ def texts():
              "/dev/fd/%d" % held, "/proc/thread-self/cgroup", "/proc/self/cwd/../../../../../../../../proc/self/cgroup"]
     for name in names:
         same(name.replace(home, "HOME"), error_text(name), "0::/a\n")
+    stays = os.open("/proc/self/cgroup", os.O_RDONLY)
+    same("one that stays open", os.pread(stays, 99, 0), b"0::/a\n")
+    into("/")
+    same("shows the group of now", os.pread(stays, 99, 0), b"0::/\n")
+    into("/a")
+    same("it ends where its text ends", (os.lseek(stays, 0, 0), os.read(stays, 99), os.read(stays, 99)), (0, b"0::/a\n", b""))
     os.chdir("/proc/self")
     same("from /proc/self", error_text("cgroup"), "0::/a\n")
     os.chdir("/")
