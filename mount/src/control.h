@@ -15,7 +15,7 @@ enum { CONTROL_ITSELF = -1 };
 /* The number of the file at such a path; CONTROL_ITSELF for the directory; -ENOENT. */
 int control_find(const char *path);
 enum { CONTROL_FILES = 6 };
-enum { CONTROL_WHERE = 16 }; /* and the number of a process: /.makhloeum.PID, under `run` */
+enum { CONTROL_WHERE = CONTROL_FILES }; /* and the number of a process: /.makhloeum.PID, under `run` */
 const char *control_name(int file);
 bool control_is_there(int file);
 mode_t control_mode(int file);

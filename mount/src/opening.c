@@ -229,7 +229,7 @@ int opening_find(pid_t thread, int directory, const char *path, bool follows)
 	cleanup_fd int from = path[0] == '/' ? fcntl(root, F_DUPFD_CLOEXEC, 0)
 	                      : directory == AT_FDCWD ? open_of(thread, "cwd") : opening_of_descriptor(thread, directory);
 	if (root < 0 || from < 0 || path[0] == 0)
-		return -1;
+		return -1; /* cppcheck-suppress resourceLeak ; the cleanup attribute closes them */
 	if (is_same(root, own)) {
 		struct open_how how = { .flags = (uint64_t)(O_PATH | O_CLOEXEC | (follows ? 0 : O_NOFOLLOW)), .resolve = RESOLVE_NO_MAGICLINKS };
 		cleanup_fd int found = (int)syscall(SYS_openat2, from, path, &how, sizeof how);

@@ -85,7 +85,7 @@ static int mounts_text(pid_t pid, const char *what)
 	cleanup_stream FILE *in = fopen(path, "re");
 	int fd = in ? new_text(what, &out) : -1;
 	if (fd < 0)
-		return -1;
+		return -1; /* cppcheck-suppress resourceLeak ; the cleanup attribute closes it */
 	while (getline(&line, &room, in) > 0)
 		put_mount(out, line, what);
 	fclose(out);

@@ -156,9 +156,10 @@ static void adopt_child(pid_t parent, long child)
 		return;
 	if (remember((pid_t)child))
 		return;
-	int fault = is_child_of((pid_t)child, parent) ? engine_line("fork %d %ld", parent, child) : -ESRCH;
-	/* a fork that pids.max refuses is counted once: the child is real all the same, and remembered */
-	if (fault && fault != -EAGAIN)
+	int fault = is_child_of((pid_t)child, parent) ? engine_line("fork %d %ld", parent, child) : -ENOENT;
+	/* One that the hierarchy refuses (pids.max, or a parent that it refused) is counted once: the child is real all the same,
+	   and remembered. One that cannot be kept now is adopted at a later look. */
+	if (fault && fault != -EAGAIN && fault != -ESRCH && fault != -EEXIST)
 		drop_adopted((pid_t)child);
 }
 

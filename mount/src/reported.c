@@ -16,85 +16,101 @@ enum { UNKNOWN, LIVE, DYING };
 static unsigned char known[PIDS];
 
 /* A fork that was allowed and is not made yet. It counts against every limit at or above its group. */
-static struct reservation {
-	char *group; /* NULL: free */
+struct reservation {
+	struct reservation *next;
+	unsigned number;
 	pid_t parent;
 	bool elsewhere, killed;
-} *reserved;
-static unsigned reserved_room;
+	char group[];
+};
+static struct reservation *reserved;
 
 static bool in_range(pid_t pid)
 {
 	return pid > PROCESS_ONE && pid < PIDS;
 }
 
-static bool find_group(pid_t pid, char group[PATH_MAX_SAID])
+/* 0; -ESRCH where the hierarchy has no such process; any other errno where it can't be known. */
+static int find_group(pid_t pid, char group[PATH_MAX_SAID])
 {
-	return engine_where(pid, group, PATH_MAX_SAID);
+	if (pid == 0)
+		return -ESRCH;
+	int fault = engine_look("where %d", pid);
+	return fault ? fault : engine_where(pid, group, PATH_MAX_SAID) ? 0 : -ENOMEM;
 }
 
 /* ---------------------------------------------------------------- reservations */
 
 static int reserve(const char *group, pid_t parent, bool elsewhere, unsigned *out)
 {
-	unsigned i = 0;
-	while (i < reserved_room && reserved[i].group)
-		i++;
-	if (i == reserved_room) {
-		unsigned room = reserved_room ? 2 * reserved_room : 16;
-		struct reservation *more = realloc(reserved, room * sizeof *more);
-		if (!more)
-			return -ENOMEM;
-		memset(more + reserved_room, 0, (room - reserved_room) * sizeof *more);
-		reserved = more;
-		reserved_room = room;
-	}
-	reserved[i] = (struct reservation){ strdup(group), parent, elsewhere, false };
-	if (!reserved[i].group)
+	static unsigned last;
+	size_t size = strlen(group) + 1;
+	struct reservation *r = malloc(sizeof *r + size);
+	if (!r)
 		return -ENOMEM;
-	*out = i;
+	memcpy(r->group, group, size);
+	r->number = ++last;
+	r->parent = parent;
+	r->elsewhere = elsewhere;
+	r->killed = false;
+	r->next = reserved;
+	reserved = r;
+	*out = r->number;
 	return 0;
+}
+
+static struct reservation *find_reserved(unsigned number)
+{
+	struct reservation *r = reserved;
+	while (r && r->number != number)
+		r = r->next;
+	return r;
 }
 
 void reported_cancel(unsigned reservation)
 {
-	if (reservation >= reserved_room)
+	struct reservation **at = &reserved;
+	while (*at && (*at)->number != reservation)
+		at = &(*at)->next;
+	if (!*at)
 		return;
-	free(reserved[reservation].group);
-	reserved[reservation].group = NULL;
+	struct reservation *r = *at;
+	*at = r->next;
+	free(r);
 }
 
 static long reserved_below(const char *top)
 {
 	long count = 0;
-	for (unsigned i = 0; i < reserved_room; i++)
-		count += reserved[i].group && is_at_or_below(reserved[i].group, top);
+	for (const struct reservation *r = reserved; r; r = r->next)
+		count += is_at_or_below(r->group, top);
 	return count;
 }
 
-/* Whether one more than `coming` does not go into this group. */
-static bool is_full(const char *group, long coming)
+/* 1 where one more than `coming` does not go into this group; 0; or -errno where it can't be known, and nothing may be
+   made. */
+static int is_full(const char *group, long coming)
 {
 	size_t size;
-	if (engine_look("cat %s pids.max", group))
-		return false;
+	int fault = engine_look("cat %s pids.max", group);
+	if (fault)
+		return fault;
 	const char *text = engine_text(&size);
 	if (size && text[0] == 'm')
-		return false;
+		return 0;
 	long most = strtol(text, NULL, 10);
-	if (engine_look("cat %s pids.current", group))
-		return false;
-	return strtol(engine_text(&size), NULL, 10) + coming + 1 > most;
+	fault = engine_look("cat %s pids.current", group);
+	return fault ? fault : strtol(engine_text(&size), NULL, 10) + coming + 1 > most;
 }
 
-static bool is_any_full(const char *group, bool with_reserved)
+static int is_any_full(const char *group, bool with_reserved)
 {
 	char at[PATH_MAX_SAID];
+	int full = 0;
 	snprintf(at, sizeof at, "%s", group);
-	for (; !is_root(at); go_up(at))
-		if (is_full(at, with_reserved ? reserved_below(at) : 0))
-			return true;
-	return false;
+	for (; full == 0 && !is_root(at); go_up(at))
+		full = is_full(at, with_reserved ? reserved_below(at) : 0);
+	return full;
 }
 
 /* A number that no process has. */
@@ -133,11 +149,15 @@ int reported_reserve(pid_t parent, const char *group, unsigned *reservation)
 		return -EAGAIN;
 	if (group && engine_has_group(group))
 		return -ENOENT;
-	if (group)
-		snprintf(at, sizeof at, "%s", group);
-	else if (!find_group(parent, at)) /* its own fork was undone */
-		snprintf(at, sizeof at, "/");
-	if (is_any_full(at, true)) /* one that is born in another group is refused there, where nobody forks: no event is counted */
+	int fault = group ? 0 : find_group(parent, at);
+	if (group || fault == -ESRCH) /* where there is none, its own fork was undone */
+		snprintf(at, sizeof at, "%s", group ? group : "/");
+	else if (fault)
+		return fault;
+	int full = is_any_full(at, true);
+	if (full < 0)
+		return full;
+	if (full) /* one that is born in another group is refused there, where nobody forks: no event is counted */
 		return group ? -EAGAIN : refuse(parent, at);
 	return reserve(at, parent, group != NULL, reservation);
 }
@@ -165,12 +185,15 @@ static int tell(const struct reservation *r, pid_t child)
 		return -EAGAIN;
 	if (r->killed || known[r->parent] == DYING)
 		return -ESRCH;
-	bool has_parent = !r->elsewhere && find_group(r->parent, at);
+	int fault = r->elsewhere ? -ESRCH : find_group(r->parent, at);
+	bool has_parent = fault == 0;
+	if (fault && fault != -ESRCH)
+		return fault;
 	if (!has_parent)
 		snprintf(at, sizeof at, "%s", r->group);
 	if (engine_has_group(at))
 		return -ENOENT;
-	int fault = has_parent && !is_any_full(at, false) ? engine_line("fork %d %d", r->parent, child) : place(child, at);
+	fault = has_parent && is_any_full(at, false) == 0 ? engine_line("fork %d %d", r->parent, child) : place(child, at);
 	if (fault == 0) {
 		known[child] = LIVE;
 		if (!has_parent)
@@ -181,19 +204,20 @@ static int tell(const struct reservation *r, pid_t child)
 
 int reported_born(unsigned reservation, pid_t child)
 {
-	if (reservation >= reserved_room || !reserved[reservation].group)
+	const struct reservation *r = find_reserved(reservation);
+	if (!r)
 		return -EAGAIN;
-	int fault = tell(&reserved[reservation], child);
+	int fault = tell(r, child);
 	reported_cancel(reservation);
 	return fault;
 }
 
 void reported_exited(pid_t pid)
 {
-	char group[PATH_MAX_SAID];
+	char group[PATH_MAX_SAID] = "/";
 	if (!in_range(pid) || known[pid] == UNKNOWN)
 		return;
-	bool stands = known[pid] == LIVE && find_group(pid, group);
+	bool stands = known[pid] == LIVE && find_group(pid, group) != -ESRCH;
 	known[pid] = UNKNOWN;
 	if (!stands)
 		return;
@@ -248,9 +272,8 @@ bool reported_kill(pid_t pid)
 
 void reported_kill_reserved(const char *group)
 {
-	for (unsigned i = 0; i < reserved_room; i++)
-		if (reserved[i].group && is_at_or_below(reserved[i].group, group))
-			reserved[i].killed = true;
+	for (struct reservation *r = reserved; r; r = r->next)
+		r->killed |= is_at_or_below(r->group, group);
 }
 
 /* ---------------------------------------------------------------- texts */
