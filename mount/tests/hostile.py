@@ -171,13 +171,15 @@ def error_text(name):
 def full_trace():
     """The trace can't be written any more: no fork is made that is not in it."""
     trace = os.path.join(tempfile.mkdtemp(), "trace")
-    script = "n=0; for i in 1 2 3 4 5 6 7 8 9 10 11 12 13 14 15 16 17 18 19 20; do (exec true) && n=$((n + 1)); done; echo $n"
     code = ("import os\nmade = 0\nfor i in range(200):\n try: pid = os.fork()\n except OSError: continue\n"
-            " if pid == 0: os._exit(0)\n made += 1\n os.waitpid(pid, 0)\nprint(made)")
+            " if pid == 0: os._exit(0)\n made += 1\n os.waitpid(pid, 0)\nstrangers = 0\n"
+            "try:\n while os.waitpid(-1, 0): strangers += 1\nexcept ChildProcessError: print(made, strangers)")
     ran = subprocess.run([PROGRAM, "run", "--trace", trace, sys.executable, "-c", code], stdout=subprocess.PIPE, timeout=60,
                          preexec_fn=lambda: resource.setrlimit(resource.RLIMIT_FSIZE, (900, 900)))
     told = len(re.findall(r"^fork ", open(trace).read(), re.M)) - 1
-    step("of 200 forks as many are made as the trace has room for", 5 < int(ran.stdout) <= told < 100, (ran.stdout, told))
+    made, strangers = map(int, ran.stdout.split())
+    step("of 200 forks as many are made as the trace has room for", 5 < made <= told < 100, (made, told))
+    step("the others fail before there is a child, but the first", strangers <= 1, strangers)
 
 
 def stalled():
