@@ -1,4 +1,6 @@
 """Programs under `makhloeum run` that mean harm: none of their processes is uncounted, and none stops the others."""
+import ctypes
+import errno
 import os
 import re
 import resource
@@ -8,7 +10,7 @@ import sys
 import tempfile
 import time
 
-from support import CGREPLAY, PATIENCE, PROGRAM, error_of, finish, read, same, step, until, write
+from support import CGREPLAY, PATIENCE, PROGRAM, error_of, finish, libc, read, same, step, until, write
 
 AT = "/sys/fs/cgroup"
 ME = os.path.realpath(__file__)
@@ -156,6 +158,7 @@ def texts():
         lines = [x for x in error_text(name).splitlines() if "cgroup" in x]
         step("%s shows one cgroup mount, of type cgroup2" % name, len(lines) == 1 and "fuse" not in lines[0], lines)
     same("/proc/cgroups", [x.split()[0] for x in error_text("/proc/cgroups").splitlines()], ["#subsys_name", "pids"])
+    same("no io_uring, which opens unseen", (libc.syscall(425, 1, ctypes.create_string_buffer(120)), ctypes.get_errno()), (-1, errno.EPERM))
     same("/proc/self/cpuset", error_text("/proc/self/cpuset"), "/\n")
 
 
@@ -180,6 +183,29 @@ def full_trace():
     made, strangers = map(int, ran.stdout.split())
     step("of 200 forks as many are made as the trace has room for", 5 < made <= told < 100, (made, told))
     step("the others fail before there is a child, but the first", strangers <= 1, strangers)
+
+
+HOLD = """import ctypes, errno, os
+libc = ctypes.CDLL(None, use_errno=True)
+above = os.getppid()
+for pid in [above] + [int(p) for p in open("/proc/%d/task/%d/children" % (above, above)).read().split()]:
+    if pid != os.getpid():
+        libc.ptrace(0x4206, pid, None, None)
+        print(errno.errorcode[ctypes.get_errno()])
+        try:
+            os.open("/proc/%d/mem" % pid, os.O_RDWR)
+            print("open")
+        except OSError as e:
+            print(errno.errorcode[e.errno])
+"""
+
+
+def taken_hold():
+    """With --root the program has every capability in its namespace, and none over those who count it."""
+    if b"__asan_init" in open(PROGRAM, "rb").read():
+        return  # a sanitizer needs ptrace
+    ran = subprocess.run([PROGRAM, "run", "--root", sys.executable, "-c", HOLD], stdout=subprocess.PIPE, timeout=20)
+    same("no process of the supervisor is taken hold of", ran.stdout.split(), [b"EPERM", b"EACCES"] * 3)
 
 
 def stalled():
@@ -228,7 +254,7 @@ for test in INSIDE:
     with open(trace) as lines, open(answers, "rb") as wanted:
         if os.path.getsize(trace) < 16 << 20:
             step("cgreplay gives the same answers", subprocess.run(CGREPLAY, stdin=lines, stdout=subprocess.PIPE).stdout == wanted.read())
-for test in (full_trace, stalled):
+for test in (full_trace, taken_hold, stalled):
     if not sys.argv[1:] or test.__name__ in sys.argv[1:]:
         test()
 finish()
