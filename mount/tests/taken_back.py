@@ -18,6 +18,6 @@ while trace:
     if read(".makhloeum/newest") != trace.pop():
         sys.exit("the newest is another")
     os.write(undo, b"1\n")
-groups = [e.name for e in os.scandir(AT) if e.is_dir()]
+groups = [e.name for e in os.scandir(AT) if e.is_dir() and e.name != ".makhloeum"]
 if (groups, read("cgroup.procs"), read(".makhloeum/depth")) != ([], b"1\n", b"0\n"):
     sys.exit("this is not the start: %r" % ((groups, read("cgroup.procs"), read(".makhloeum/depth")),))
