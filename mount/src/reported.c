@@ -141,12 +141,14 @@ static int refuse(pid_t parent, const char *group)
 
 static bool trace_may_be_full;
 
-/* A fork whose line can't be kept is found out when its child is there already. Afterwards a line that changes nothing is
-   tried first, until one is kept. */
+enum { AS_LONG_AS_A_FORK = 64 };
+
+/* A fork whose line can't be kept is found out when its child is there already. Afterwards a line that changes nothing, and
+   is longer with its blanks, is tried first, until one is kept. */
 static bool has_room(pid_t parent)
 {
 	if (trace_may_be_full) {
-		int fault = engine_line("where %d", parent);
+		int fault = engine_line("where %d%*s", parent, AS_LONG_AS_A_FORK, "");
 		trace_may_be_full = fault && fault != -ESRCH;
 	}
 	return !trace_may_be_full;
