@@ -2,7 +2,7 @@
 ghost use Rattle.std.specs.Prelude.{◌≡◌, ◌<◌};
 ghost use Rattle.std.specs.Thread.{IsSync};
 ghost use Rattle.snzi_core.specs.Holding.{held};
-ghost use Rattle.snzi_tree.specs.Hands.{IsHandOf, holds};
+ghost use Rattle.snzi_tree.specs.Hands.{IsHandOf, IsMain, holds};
 ghost use Rattle.indicator_tests.specs.Works.{Works, IsFresh, IsBack};
 
 use crate::calls::{join_one, split_one};
@@ -28,6 +28,7 @@ struct Found {
     query: bool,
     sum: u64,
     held: u64,
+    ended: bool,
 }
 
 // Arrives, asks, adds, departs and takes: says whether the query was true.
@@ -96,7 +97,19 @@ fn two<R: Threads + Sync>(
     (x.0, y.0, x.1 & y.1)
 }
 
-// Four helpers at work, each in a thread of its own, and then joined.
+// Ends the board if no helper is out: says whether it did.
+fn ends(board: Board<1, 7, 4>, main: Hand) -> bool
+    requires here { IsHandOf board main }
+    requires main { IsMain main }
+{
+    if main.helpers_out() > 0 {
+        return false;
+    }
+    board.close(main);
+    true
+}
+
+// Four helpers at work, each in a thread of its own, and then joined; the board ends with the run of all five hands.
 fn four<R: Threads + Sync>(rt: &R, alloc: Global, place: Place) -> Result<Found, AllocError> {
     let (board, mut main) = Board::<1, 7, 4>::new(alloc)?;
     let a = split_one(&board, &mut main);
@@ -127,6 +140,7 @@ fn four<R: Threads + Sync>(rt: &R, alloc: Global, place: Place) -> Result<Found,
         query,
         sum,
         held,
+        ended: ends(board, main),
     })
 }
 
@@ -137,6 +151,7 @@ fn four_threads_leave_nothing(rt: HostRuntime) -> Result<(), Fail> {
         query: false,
         sum: 0,
         held: 0,
+        ended: true,
     };
     for apart in [true, false] {
         let found = four(&rt, rt.alloc(), Place { apart, keep: false })?;
@@ -152,6 +167,7 @@ fn four_threads_keep_their_last_tokens(rt: HostRuntime) -> Result<(), Fail> {
         query: true,
         sum: 4,
         held: 4,
+        ended: true,
     };
     for apart in [true, false] {
         let found = four(&rt, rt.alloc(), Place { apart, keep: true })?;
