@@ -22,11 +22,13 @@ int LLVMFuzzerTestOneInput(const uint8_t *data, size_t size);
 int LLVMFuzzerTestOneInput(const uint8_t *data, size_t size)
 {
 	static mk_handle engine;
+	static bool is_open;
 	static char path[4097];
 	struct place place;
 	mk_info info;
-	if (!engine.full && mk_open(&engine) != MK_DONE)
+	if (!is_open && mk_open(&engine) != MK_DONE)
 		abort();
+	is_open = true;
 	size_t n = size < sizeof path - 1 ? size : sizeof path - 1;
 	memcpy(path, data, n);
 	path[n] = 0;
