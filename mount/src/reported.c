@@ -139,6 +139,21 @@ static int refuse(pid_t parent, const char *group)
 	return fault == -ENOMEM ? -ENOMEM : -EAGAIN;
 }
 
+static bool trace_may_be_full;
+
+enum { AS_LONG_AS_A_FORK = 64 };
+
+/* A fork whose line can't be kept is found out when its child is there already. Afterwards a line that changes nothing, and
+   is longer with its blanks, is tried first, until one is kept. */
+static bool has_room(pid_t parent)
+{
+	if (trace_may_be_full) {
+		int fault = engine_line("where %d%*s", parent, AS_LONG_AS_A_FORK, "");
+		trace_may_be_full = fault && fault != -ESRCH;
+	}
+	return !trace_may_be_full;
+}
+
 int reported_reserve(pid_t parent, const char *group, unsigned *reservation)
 {
 	char at[PATH_MAX_SAID];
@@ -146,6 +161,8 @@ int reported_reserve(pid_t parent, const char *group, unsigned *reservation)
 	if (!in_range(parent) && parent != 0)
 		return -EAGAIN;
 	if (known[parent] == DYING)
+		return -EAGAIN;
+	if (!has_room(parent))
 		return -EAGAIN;
 	if (group && engine_has_group(group))
 		return -ENOENT;
@@ -209,7 +226,10 @@ int reported_born(unsigned reservation, pid_t child)
 		return -EAGAIN;
 	int fault = tell(r, child);
 	reported_cancel(reservation);
-	return fault;
+	if (fault == 0 || fault == -ESRCH || fault == -ENOENT || fault == -ENOMEM)
+		return fault;
+	trace_may_be_full = true;
+	return -EAGAIN;
 }
 
 void reported_exited(pid_t pid)

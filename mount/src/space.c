@@ -32,6 +32,8 @@ bool space_enter(bool as_root)
 		say("this machine does not allow user namespaces: %s", strerror(errno));
 		return false;
 	}
+	/* what is read past the supervisor then has no path of the machine's own; where there is no such namespace, it has */
+	(void)unshare(CLONE_NEWCGROUP);
 	return true;
 }
 

@@ -4,29 +4,38 @@
 #include <errno.h>
 #include <signal.h>
 #include <stdlib.h>
+#include <sys/epoll.h>
+#include <sys/resource.h>
 #include <sys/syscall.h>
 #include <unistd.h>
+
+enum { PIDS = 4194304, SCANNED = 16, TAKEN = 64, SPARED = 64 };
 
 static struct zombie {
 	pid_t pid;
 	int fd; /* -1: none was to be had */
 	bool gone;
 } *all;
-static size_t count, room;
+static size_t count, room, gone_count, next_scanned;
+static unsigned place[PIDS]; /* of a number among all, from 1; 0: it is none */
+
+/* A pidfd hangs up once its process was waited for (Linux 6.9): so the kernel names those of very many. */
+static int hangups = -1;
 
 static struct zombie *find(pid_t pid)
 {
-	for (size_t i = 0; i < count; i++)
-		if (all[i].pid == pid)
-			return &all[i];
-	return NULL;
+	return pid > 0 && pid < PIDS && place[pid] ? &all[place[pid] - 1] : NULL;
 }
 
 static void drop(struct zombie *z)
 {
 	if (z->fd >= 0)
 		close(z->fd);
+	gone_count -= z->gone;
+	place[z->pid] = 0;
 	*z = all[--count];
+	if (z != &all[count])
+		place[z->pid] = (unsigned)(z - all) + 1;
 }
 
 static void add(pid_t pid, int fd, bool gone)
@@ -43,12 +52,27 @@ static void add(pid_t pid, int fd, bool gone)
 		all = at;
 		room = more;
 	}
-	all[count++] = (struct zombie){ pid, fd, gone };
+	all[count] = (struct zombie){ pid, fd, gone };
+	place[pid] = (unsigned)++count;
+	gone_count += gone;
+}
+
+/* The program chooses how many of its children it does not wait for: some descriptors are spared for the server. */
+static bool may_open(void)
+{
+	struct rlimit most;
+	return getrlimit(RLIMIT_NOFILE, &most) == 0 && count + SPARED < most.rlim_cur;
 }
 
 void zombies_add(pid_t pid)
 {
-	add(pid, (int)syscall(SYS_pidfd_open, pid, 0), false);
+	int fd = may_open() ? (int)syscall(SYS_pidfd_open, pid, 0) : -1;
+	struct epoll_event none = { .events = 0, .data.u32 = (unsigned)pid };
+	if (hangups < 0)
+		hangups = epoll_create1(EPOLL_CLOEXEC);
+	if (fd >= 0 && hangups >= 0)
+		epoll_ctl(hangups, EPOLL_CTL_ADD, fd, &none);
+	add(pid, fd, false);
 }
 
 void zombies_add_gone(pid_t pid)
@@ -56,7 +80,8 @@ void zombies_add_gone(pid_t pid)
 	add(pid, -1, true);
 }
 
-/* The descriptor means this process, whoever has its number later. */
+/* A descriptor means this process, whoever has its number later. Without one another process of the run that has the number
+   is met by its birth, and one outside it holds the place as long as it lives. */
 static bool was_waited_for(const struct zombie *z)
 {
 	if (z->gone)
@@ -69,6 +94,7 @@ static bool was_waited_for(const struct zombie *z)
 /* False where the line could not be kept: it is tried again. */
 static bool let_exit(struct zombie *z)
 {
+	gone_count += !z->gone;
 	z->gone = true;
 	int fault = engine_line("exit %d", z->pid);
 	if (fault && fault != -ESRCH)
@@ -77,11 +103,29 @@ static bool let_exit(struct zombie *z)
 	return true;
 }
 
+/* Those that the kernel names; all whose exit was tried before; and, where it names none, a few of the others in turn. */
 void zombies_sweep(void)
 {
-	for (size_t i = count; i-- > 0;)
-		if (was_waited_for(&all[i]))
-			let_exit(&all[i]);
+	struct epoll_event waited[TAKEN];
+	if (count == 0)
+		return;
+	int n;
+	do {
+		n = hangups < 0 ? 0 : epoll_wait(hangups, waited, TAKEN, 0);
+		for (int i = 0; i < n; i++) {
+			struct zombie *z = find((pid_t)waited[i].data.u32);
+			if (z && !let_exit(z))
+				return;
+		}
+	} while (n == TAKEN);
+	for (size_t i = count; gone_count && i-- > 0;)
+		if (all[i].gone && !let_exit(&all[i]))
+			return;
+	for (size_t i = 0; i < SCANNED && i < count; i++) {
+		next_scanned = next_scanned ? next_scanned - 1 : count - 1;
+		if (next_scanned < count && was_waited_for(&all[next_scanned]) && !let_exit(&all[next_scanned]))
+			return;
+	}
 }
 
 bool zombies_settle(pid_t pid)

@@ -1,4 +1,6 @@
 """Programs under `makhloeum run` that mean harm: none of their processes is uncounted, and none stops the others."""
+import ctypes
+import errno
 import os
 import re
 import resource
@@ -8,25 +10,25 @@ import sys
 import tempfile
 import time
 
-from support import CGREPLAY, PATIENCE, PROGRAM, error_of, finish, read, same, step, until, write
+from support import CGREPLAY, PATIENCE, PROGRAM, error_of, finish, libc, read, same, step, until, write
 
 AT = "/sys/fs/cgroup"
 ME = os.path.realpath(__file__)
 BUILT = os.environ.get("HOSTILE") or os.path.join(os.path.dirname(PROGRAM), "..", "hostile")
-HOSTILE, STALLED = os.path.join(BUILT, "hostile"), os.path.join(BUILT, "stalled")
+HOSTILE, HANGS, STALLED = (os.path.join(BUILT, n) for n in ("hostile", "hangs", "stalled"))
 
 
 def into(group):
     write(AT + group + "/cgroup.procs", b"0\n")
 
 
-def started(*words, group="/"):
-    return subprocess.Popen([HOSTILE, *words], stdin=subprocess.PIPE, stdout=subprocess.PIPE, preexec_fn=lambda: into(group))
+def started(*words, group="/", program=HOSTILE):
+    return subprocess.Popen([program, *words], stdin=subprocess.PIPE, stdout=subprocess.PIPE, preexec_fn=lambda: into(group))
 
 
-def said(*words, group="/", seconds=60):
+def said(*words, seconds=60, program=HOSTILE):
     """What it prints, as words; what is wrong, where it does not end."""
-    p = started(*words, group=group)
+    p = started(*words, program=program)
     try:
         return p.communicate(timeout=seconds)[0].decode().split()
     except subprocess.TimeoutExpired:
@@ -86,10 +88,10 @@ def falling():
 
 def races():
     os.mkdir(AT + "/one")
-    racing = [started("exec-race") for _ in range(4)]
+    racing = [started("exec-race", program=HANGS) for _ in range(4)]
     step("execve in one thread while another forks", until(lambda: all(p.poll() is not None for p in racing), 40))
     same("the others fork", subprocess.run(["true"], timeout=20).returncode, 0)
-    same("parents that are killed while they fork leave no child stopped", said("killed-parents"), ["0"])
+    same("parents that are killed while they fork leave no child stopped", said("killed-parents", program=HANGS), ["0"])
     step("and nobody is left", until(lambda: len(processes("")) == 2), processes(""))
 
 
@@ -97,8 +99,8 @@ def fair():
     os.mkdir(AT + "/one")
     write(AT + "/one/pids.max", b"12\n")
     for what in ("fork", "statfs"):
-        got = said("starve", what, seconds=30)
-        step("twelve that only call %s leave room for others" % what, len(got) == 2 and min(map(int, got)) > 20, got)
+        got = said("starve", what, seconds=40, program=HANGS)
+        step("twelve that only call %s leave room for others" % what, got == ["40", "40"], got)
 
 
 def zombies():
@@ -156,6 +158,7 @@ def texts():
         lines = [x for x in error_text(name).splitlines() if "cgroup" in x]
         step("%s shows one cgroup mount, of type cgroup2" % name, len(lines) == 1 and "fuse" not in lines[0], lines)
     same("/proc/cgroups", [x.split()[0] for x in error_text("/proc/cgroups").splitlines()], ["#subsys_name", "pids"])
+    same("no io_uring, which opens unseen", (libc.syscall(425, 1, ctypes.create_string_buffer(120)), ctypes.get_errno()), (-1, errno.EPERM))
     same("/proc/self/cpuset", error_text("/proc/self/cpuset"), "/\n")
 
 
@@ -171,13 +174,38 @@ def error_text(name):
 def full_trace():
     """The trace can't be written any more: no fork is made that is not in it."""
     trace = os.path.join(tempfile.mkdtemp(), "trace")
-    script = "n=0; for i in 1 2 3 4 5 6 7 8 9 10 11 12 13 14 15 16 17 18 19 20; do (exec true) && n=$((n + 1)); done; echo $n"
     code = ("import os\nmade = 0\nfor i in range(200):\n try: pid = os.fork()\n except OSError: continue\n"
-            " if pid == 0: os._exit(0)\n made += 1\n os.waitpid(pid, 0)\nprint(made)")
+            " if pid == 0: os._exit(0)\n made += 1\n os.waitpid(pid, 0)\nstrangers = 0\n"
+            "try:\n while os.waitpid(-1, 0): strangers += 1\nexcept ChildProcessError: print(made, strangers)")
     ran = subprocess.run([PROGRAM, "run", "--trace", trace, sys.executable, "-c", code], stdout=subprocess.PIPE, timeout=60,
                          preexec_fn=lambda: resource.setrlimit(resource.RLIMIT_FSIZE, (900, 900)))
     told = len(re.findall(r"^fork ", open(trace).read(), re.M)) - 1
-    step("of 200 forks as many are made as the trace has room for", 5 < int(ran.stdout) <= told < 100, (ran.stdout, told))
+    made, strangers = map(int, ran.stdout.split())
+    step("of 200 forks as many are made as the trace has room for", 5 < made <= told < 100, (made, told))
+    step("the others fail before there is a child, but the first", strangers <= 1, strangers)
+
+
+HOLD = """import ctypes, errno, os
+libc = ctypes.CDLL(None, use_errno=True)
+above = os.getppid()
+for pid in [above] + [int(p) for p in open("/proc/%d/task/%d/children" % (above, above)).read().split()]:
+    if pid != os.getpid():
+        libc.ptrace(0x4206, pid, None, None)
+        print(errno.errorcode[ctypes.get_errno()])
+        try:
+            os.open("/proc/%d/mem" % pid, os.O_RDWR)
+            print("open")
+        except OSError as e:
+            print(errno.errorcode[e.errno])
+"""
+
+
+def taken_hold():
+    """With --root the program has every capability in its namespace, and none over those who count it."""
+    if b"__asan_init" in open(PROGRAM, "rb").read():
+        return  # a sanitizer needs ptrace
+    ran = subprocess.run([PROGRAM, "run", "--root", sys.executable, "-c", HOLD], stdout=subprocess.PIPE, timeout=20)
+    same("no process of the supervisor is taken hold of", ran.stdout.split(), [b"EPERM", b"EACCES"] * 3)
 
 
 def stalled():
@@ -186,12 +214,12 @@ def stalled():
     if not until(lambda: os.path.ismount(home), 5):
         step("a file system that does not answer is left out: it can't be mounted", True)
         return
-    p = subprocess.Popen([PROGRAM, "run", HOSTILE, "stalled", home + "/page"], stdout=subprocess.PIPE)
+    p = subprocess.Popen([PROGRAM, "run", HANGS, "stalled", home + "/page"], stdout=subprocess.PIPE)
     line = []
     thread = __import__("threading").Thread(target=lambda: line.append(p.stdout.readline()), daemon=True)
     thread.start()
     thread.join(PATIENCE)
-    step("memory that can't be read stops nobody else", bool(line) and int(line[0] or 0) > 20, line)
+    step("memory that can't be read stops nobody else", bool(line) and int(line[0] or 0) > 2, line)
     p.send_signal(signal.SIGTERM)
     started_at = time.monotonic()
     try:
@@ -226,7 +254,7 @@ for test in INSIDE:
     with open(trace) as lines, open(answers, "rb") as wanted:
         if os.path.getsize(trace) < 16 << 20:
             step("cgreplay gives the same answers", subprocess.run(CGREPLAY, stdin=lines, stdout=subprocess.PIPE).stdout == wanted.read())
-for test in (full_trace, stalled):
+for test in (full_trace, taken_hold, stalled):
     if not sys.argv[1:] or test.__name__ in sys.argv[1:]:
         test()
 finish()
