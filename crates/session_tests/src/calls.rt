@@ -18,6 +18,8 @@ pub(crate) enum Ask {
     Current(&'static str),
     /// Process 1 forks this one.
     Fork(u32),
+    /// `write .. cgroup.procs` with this process.
+    Enter(&'static str, u32),
     /// `where`
     Locate(u32),
     Undo,
@@ -58,12 +60,17 @@ pub(crate) fn command(alloc: Global, ask: Ask) -> Option<Command<Global>> {
             let child = Pid::new(number)?;
             Some(Command::Fork { parent, child })
         }
+        Ask::Enter(text, number) => {
+            let path = path(alloc, text)?;
+            let pid = Pid::new(number)?;
+            Some(Command::Move { path, pid })
+        }
         Ask::Locate(number) => Some(Command::Locate(Pid::new(number)?)),
         Ask::Undo => Some(Command::Undo),
     }
 }
 
-fn says(reply: &Reply<Global>, said: Said) -> bool {
+pub(crate) fn says(reply: &Reply<Global>, said: Said) -> bool {
     match (reply, said) {
         (Reply::Done, Said::Done) => true,
         (Reply::Text(bytes), Said::Text(text)) => bytes.as_slice() == text,

@@ -1,82 +1,228 @@
-//! A desk where one allocation is refused: `rt try --test --fail-alloc N -- a_refused_allocation` refuses the N-th.
+//! A desk where one allocation is refused: `.ci/refused/run` plays this test with each of its allocations refused in turn, and
+//! `rt try --test --fail-alloc N -- a_refused_allocation` with the N-th.
 
-use crate::calls::closed_over;
-use group_path::GroupPath;
-use sessions::{CloseFault, Desk, RunFault, Session};
+use crate::calls::{Ask, Said, command, says};
+use sessions::{CloseFault, Closed, Desk, DeskEngine, Entry, Receipt, RunFault, Session, audit};
 use std::alloc::Global;
 use std::sync::Wait;
 use std::thread::Threads;
-use undo_journal::{Command, Reply};
+use undo_journal::Command;
 
-/// Whether the command is done, at once or when it is run once more: out of memory left no receipt.
-fn is_done<R: Threads + Wait + Sync>(
+/// What is run, the turn that is waited for, and the reply. The paths are so long that each copy takes memory.
+const STEPS: [(Ask, Option<u64>, Said); 7] = [
+    (Ask::Make("/aaaaaaaaaaaaaaaaaaaaaaaaaaaa"), None, Said::Done),
+    (Ask::Fork(2), Some(1), Said::Done),
+    (
+        Ask::Enter("/aaaaaaaaaaaaaaaaaaaaaaaaaaaa", 2),
+        None,
+        Said::Done,
+    ),
+    (
+        Ask::Current("/aaaaaaaaaaaaaaaaaaaaaaaaaaaa"),
+        Some(3),
+        Said::Text(b"1\n"),
+    ),
+    (Ask::Make("/bbbbbbbbbbbbbbbbbbbbbbbbbbbb"), None, Said::Done),
+    (
+        Ask::Undo,
+        Some(5),
+        Said::Unmade(b"/bbbbbbbbbbbbbbbbbbbbbbbbbbbb"),
+    ),
+    (
+        Ask::Locate(2),
+        None,
+        Said::Text(b"0::/aaaaaaaaaaaaaaaaaaaaaaaaaaaa\n"),
+    ),
+];
+
+/// How many of them can be undone at the end.
+const DEPTH: usize = 3;
+
+/// The command; asked for again where there was no memory for it.
+fn asked(alloc: Global, ask: Ask) -> Option<Command<Global>> {
+    match command(alloc, ask) {
+        Some(command) => Some(command),
+        None => command(alloc, ask),
+    }
+}
+
+/// What a call answers: the fault, or whether the receipt has this number and reply.
+fn ran<R: Threads + Wait + Sync>(
     rt: &R,
     session: &mut Session,
     command: &Command<Global>,
-) -> bool {
-    let before = session.receipts.len();
-    match session.run(rt, command) {
-        Ok(receipt) => return matches!(receipt.reply, Reply::Done),
-        Err(RunFault::OutOfMemory) => {}
-        Err(_) => return false,
+    turn: Option<u64>,
+    number: u64,
+    said: Said,
+) -> Result<bool, RunFault> {
+    let answer = match turn {
+        Some(turn) => session.run_at(rt, turn, command),
+        None => session.run(rt, command),
+    };
+    match answer {
+        Ok(receipt) => Ok(receipt.number == number && says(&receipt.reply, said)),
+        Err(fault) => Err(fault),
     }
-    let is_kept = session.receipts.len() == before;
-    is_kept && matches!(session.run(rt, command), Ok(r) if matches!(r.reply, Reply::Done))
 }
 
-/// Whether the desk is closed over so many entries, at once or when the session is handed in once more: out of memory left
-/// the desk open.
-fn is_closed<R: Wait>(rt: &R, desk: Desk, sessions: Vec<Session>, entries: usize) -> bool {
-    match desk.close(rt, sessions) {
-        Ok(closed) => closed.log.len() == entries,
-        Err((desk, sessions, fault)) => {
-            fault == CloseFault::OutOfMemory && closed_over(rt, desk, sessions) == Some(entries)
+/// Whether the receipts are those of the first steps, so many.
+fn are_first(alloc: Global, receipts: &[Receipt], count: usize) -> bool {
+    for (receipt, (number, (ask, _, said))) in receipts.iter().zip(STEPS.iter().enumerate()) {
+        let is_of = match asked(alloc, *ask) {
+            Some(command) => receipt.command.is(&command),
+            None => false,
+        };
+        if !is_of || receipt.number != number as u64 || !says(&receipt.reply, *said) {
+            return false;
+        }
+    }
+    receipts.len() == count
+}
+
+/// Whether the step is answered, at once or when it is asked again: out of memory left the receipts, and the next number.
+fn is_done<R: Threads + Wait + Sync>(
+    rt: &R,
+    alloc: Global,
+    session: &mut Session,
+    number: usize,
+    step: (Ask, Option<u64>, Said),
+) -> bool {
+    let (ask, turn, said) = step;
+    let Some(command) = asked(alloc, ask) else {
+        return false;
+    };
+    match ran(rt, session, &command, turn, number as u64, said) {
+        Ok(is_right) => is_right,
+        Err(RunFault::OutOfMemory) => {
+            are_first(alloc, session.receipts.as_slice(), number)
+                && ran(rt, session, &command, turn, number as u64, said) == Ok(true)
+        }
+        Err(RunFault::Halted | RunFault::TurnPassed(_)) => false,
+    }
+}
+
+fn are_done<R: Threads + Wait + Sync>(rt: &R, alloc: Global, session: &mut Session) -> bool {
+    for (number, step) in STEPS.iter().enumerate() {
+        if !is_done(rt, alloc, session, number, *step) {
+            return false;
+        }
+    }
+    true
+}
+
+/// Whether the log begins with entries of the steps, all by session 0.
+fn begins_with_steps(alloc: Global, log: &[Entry]) -> bool {
+    for (entry, (ask, _, said)) in log.iter().zip(&STEPS) {
+        let is_of = match asked(alloc, *ask) {
+            Some(command) => entry.command.is(&command),
+            None => false,
+        };
+        if entry.session != 0 || !is_of || !says(&entry.reply, *said) {
+            return false;
+        }
+    }
+    true
+}
+
+/// Whether the group has one process, and all commands that can be undone are undone.
+fn is_left_by_steps<R: Threads + Wait + Sync>(
+    rt: &R,
+    engine: &mut DeskEngine,
+    made: &Command<Global>,
+) -> bool {
+    let is_counted = match made {
+        Command::MakeGroup(path) => {
+            engine.current(path) == Some(1) && engine.populated(path) == Some(true)
+        }
+        _ => false,
+    };
+    if !is_counted || engine.depth() != DEPTH {
+        return false;
+    }
+    match engine.undo_all(rt, 0) {
+        Ok(undone) => undone == DEPTH,
+        Err((undone, _)) => engine.undo_all(rt, 0) == Ok(DEPTH.saturating_sub(undone)),
+    }
+}
+
+/// Whether the audit finds nothing, at once or when it is asked again.
+fn is_sound(alloc: Global, log: &[Entry], sessions: &[Session]) -> bool {
+    match audit(alloc, 1, log, sessions) {
+        Ok(()) => true,
+        Err(fault) => {
+            fault == CloseFault::OutOfMemory && audit(alloc, 1, log, sessions) == Ok(())
         }
     }
 }
 
-/// Whether both commands are done, and the desk is closed over them. Where there was no memory for a list of the session, there
-/// is nothing to ask.
-fn are_done<R: Threads + Wait + Sync>(
+/// Whether a closed desk leaves the steps' log and engine, with so many entries.
+fn is_whole<R: Threads + Wait + Sync>(
+    rt: &R,
+    alloc: Global,
+    closed: &mut Closed,
+    entries: usize,
+) -> bool {
+    let made = match asked(alloc, STEPS[0].0) {
+        Some(made) => made,
+        None => return false,
+    };
+    closed.log.len() == entries
+        && begins_with_steps(alloc, closed.log.as_slice())
+        && is_sound(alloc, closed.log.as_slice(), closed.sessions.as_slice())
+        && is_left_by_steps(rt, &mut closed.engine, &made)
+}
+
+/// Whether the desk serves one more command after a refused close, and is closed over it.
+fn goes_on<R: Threads + Wait + Sync>(
     rt: &R,
     alloc: Global,
     desk: Desk,
-    mut session: Session,
-    commands: &[Command<Global>; 2],
+    mut sessions: Vec<Session>,
 ) -> bool {
-    let [made, removed] = commands;
-    let are_done = is_done(rt, &mut session, made) && is_done(rt, &mut session, removed);
+    let locate = (Ask::Locate(1), None, Said::Text(b"0::/\n"));
+    let is_served = match sessions.first_mut() {
+        Some(session) => is_done(rt, alloc, session, STEPS.len(), locate),
+        None => false,
+    };
+    match desk.close(rt, sessions) {
+        Ok(mut closed) => is_served && is_whole(rt, alloc, &mut closed, STEPS.len() + 1),
+        Err(_) => false,
+    }
+}
+
+/// Whether the desk is closed over the steps; or is refused memory, goes on, and is then closed.
+fn is_closed<R: Threads + Wait + Sync>(
+    rt: &R,
+    alloc: Global,
+    desk: Desk,
+    sessions: Vec<Session>,
+) -> bool {
+    match desk.close(rt, sessions) {
+        Ok(mut closed) => is_whole(rt, alloc, &mut closed, STEPS.len()),
+        Err((desk, sessions, fault)) => {
+            fault == CloseFault::OutOfMemory && goes_on(rt, alloc, desk, sessions)
+        }
+    }
+}
+
+/// Whether a new desk answers so. Where there was no memory for the desk or a list of its session, there is nothing to ask.
+fn is_right<R: Threads + Wait + Sync>(rt: &R, alloc: Global) -> bool {
+    let Ok(desk) = Desk::new(alloc, 1) else {
+        return true;
+    };
+    let Ok(mut session) = desk.session(0) else {
+        return true;
+    };
+    let are_done = are_done(rt, alloc, &mut session);
     match vec![in alloc; session] {
-        Ok(sessions) => are_done && is_closed(rt, desk, sessions, 2),
+        Ok(sessions) => are_done && is_closed(rt, alloc, desk, sessions),
         Err(_) => are_done,
     }
 }
 
-/// The same of a new desk. Where there was no memory for it, there is nothing to ask.
-fn are_done_at_new_desk<R: Threads + Wait + Sync>(
-    rt: &R,
-    alloc: Global,
-    commands: &[Command<Global>; 2],
-) -> bool {
-    let Ok(desk) = Desk::new(alloc, 1) else {
-        return true;
-    };
-    match desk.session(0) {
-        Ok(session) => are_done(rt, alloc, desk, session, commands),
-        Err(_) => true,
-    }
-}
-
-/// With any one allocation refused, each call is answered, or says out of memory and is answered when it is asked
-/// again.
+/// With any one allocation refused, each call is answered, or says out of memory, changes nothing, and is answered when it is
+/// asked again.
 #[test]
 fn a_refused_allocation(rt: HostRuntime) {
-    let (Ok(path), Ok(again)) = (
-        GroupPath::read(rt.alloc(), b"/x"),
-        GroupPath::read(rt.alloc(), b"/x"),
-    ) else {
-        return;
-    };
-    let commands = [Command::MakeGroup(path), Command::RemoveGroup(again)];
-    assert!(rt; are_done_at_new_desk(&rt, rt.alloc(), &commands));
+    assert!(rt; is_right(&rt, rt.alloc()));
 }

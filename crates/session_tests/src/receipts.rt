@@ -1,7 +1,7 @@
 //! A worked log of three entries, and what a desk answers where its receipts are altered.
 
 use crate::calls::{
-    Ask, Row, Said, are_answered, are_halted, closed_over, command, is_closed_over, opened, refused,
+    Ask, Row, Said, are_answered, closed_over, command, is_closed_over, opened, refused,
 };
 use group_path::GroupPath;
 use sessions::{CloseFault, Desk, Receipt, RunFault, Session};
@@ -98,7 +98,14 @@ fn exchange(sessions: &mut [Session], number: usize, receipts: Vec<Receipt>) -> 
     }
 }
 
-/// Whether the desk is not closed with those receipts of the session, for that fault, and is closed with its own.
+/// A command after a refused close.
+const NEXT: [Row; 1] = [(1, None, Ask::Locate(1), Ok((3, Said::Text(b"0::/\n"))))];
+
+/// The log's entries after it.
+const LOG_AND_NEXT: [u8; 4] = [0, 1, 0, 1];
+
+/// Whether the desk is not closed with those receipts of the session, for that fault; then it serves one more command, and is
+/// closed with the session's own receipts.
 fn is_closed_behind<R: Threads + Wait + Sync>(
     rt: &R,
     alloc: Global,
@@ -112,7 +119,8 @@ fn is_closed_behind<R: Threads + Wait + Sync>(
     match refused(rt, desk, sessions, fault) {
         Some((desk, mut sessions)) => {
             drop(exchange(sessions.as_mut_slice(), number, right));
-            is_closed_over(rt, alloc, desk, sessions, &LOG)
+            are_answered(rt, alloc, sessions.as_mut_slice(), &NEXT)
+                && is_closed_over(rt, alloc, desk, sessions, &LOG_AND_NEXT)
         }
         None => false,
     }
@@ -178,20 +186,25 @@ fn renumber(sessions: &mut [Session], number: u8) {
     }
 }
 
-/// Whether the desk is closed with the first session alone, over one entry, and the others answer `Halted`.
+/// What the other session is told after the close.
+const ENDED: [Row; 1] = [(0, None, Ask::Locate(1), Err(RunFault::Halted))];
+
+/// Whether the desk is closed with the first session alone, over one entry, and the other answers `Halted`.
 fn is_closed_with_first<R: Threads + Wait + Sync>(
     rt: &R,
+    alloc: Global,
     desk: Desk,
     mut sessions: Vec<Session>,
 ) -> Result<bool, AllocError> {
     let mut others = sessions.split_off(sessions.len().min(1))?;
     let is_closed = closed_over(rt, desk, sessions) == Some(1);
-    Ok(is_closed && are_halted(rt, others.as_mut_slice()))
+    Ok(is_closed && are_answered(rt, alloc, others.as_mut_slice(), &ENDED))
 }
 
 /// Whether the desk is not closed where the first session has another number, and is closed with it alone under its own.
 fn is_renumbered<R: Threads + Wait + Sync>(
     rt: &R,
+    alloc: Global,
     desk: Desk,
     mut sessions: Vec<Session>,
 ) -> Result<bool, AllocError> {
@@ -199,7 +212,7 @@ fn is_renumbered<R: Threads + Wait + Sync>(
     match refused(rt, desk, sessions, CloseFault::Stranger(2)) {
         Some((desk, mut sessions)) => {
             renumber(sessions.as_mut_slice(), 0);
-            is_closed_with_first(rt, desk, sessions)
+            is_closed_with_first(rt, alloc, desk, sessions)
         }
         None => Ok(false),
     }
@@ -218,7 +231,7 @@ fn is_left_out<R: Threads + Wait + Sync>(rt: &R, alloc: Global) -> Result<bool, 
     match refused(rt, desk, others, CloseFault::Missing(0)) {
         Some((desk, mut others)) => {
             sessions.append(&mut others)?;
-            is_renumbered(rt, desk, sessions)
+            is_renumbered(rt, alloc, desk, sessions)
         }
         None => Ok(false),
     }
