@@ -27,7 +27,7 @@ const ROWS: [(&str, &str, u32); 11] = [
     ("cat /a pids.events", "11 ok\n| max 0\n", 0),
 ];
 
-/// Whether a line whose answer has `len` bytes is told so, since the buffer is too small, and leaves the engine as it was.
+/// Whether a line whose answer has `len` bytes is answered `TooSmall` with that length, and leaves the engine as it was.
 fn is_too_small(
     alloc: Global,
     lines: &mut LineEngine,

@@ -8,7 +8,7 @@ use std::sync::Wait;
 use std::test::Fail;
 use std::thread::{Threads, join};
 
-/// Whether the desk is closed with the sessions handed in while this one waits for its turn, which is told so.
+/// Whether the desk is closed with the sessions handed in while this one waits for its turn, and this one gets `Halted`.
 fn is_told<R: Threads + Wait + Sync>(
     rt: &R,
     alloc: Global,

@@ -186,7 +186,7 @@ fn renumber(sessions: &mut [Session], number: u8) {
     }
 }
 
-/// What the other session is told after the close.
+/// What the other session gets after the close.
 const ENDED: [Row; 1] = [(0, None, Ask::Locate(1), Err(RunFault::Halted))];
 
 /// Whether the desk is closed with the first session alone, over one entry, and the other answers `Halted`.
