@@ -13,7 +13,7 @@
 //! Not promised: what stands in the buffer where the answer is not told.
 //!
 //! `specs/Answers.antt` says what a line is answered and what it leaves, `specs/Codes.antt` which code is which,
-//! `specs/Listings.antt` what is told of groups, and `specs/Buffer.antt` what a buffer holds and when it is too small.
+//! `specs/Listings.antt` what a listing of groups holds, and `specs/Buffer.antt` what a buffer holds and when it is too small.
 #![tactic(auto)]
 
 mod answer;
