@@ -1,7 +1,7 @@
-//! Times an arrival and its departure on the board, beside an atomic counter and a mutex.
+//! Times an arrival and its departure on the board, next to an atomic counter and a mutex.
 //!
-//! `board_bench ROUNDS` prints a line for 1, 2 and 4 threads: the nanoseconds that each thread needs
-//! for one arrival and its departure, or for one more and one less, as the best of five runs.
+//! `board_bench ROUNDS` prints a line for each of 1, 2 and 4 threads: the nanoseconds that each thread takes for one arrival
+//! and its departure, or for adding and subtracting one. Each figure is the best of five runs.
 #![tactic(auto)]
 
 ghost use Rattle.std.specs.Prelude.{◌≡◌, ◌+◌, ◌<◌, ◌≤◌, IfOk, vec_len};
@@ -17,13 +17,13 @@ use std::thread::{Threads, map_indices, map_vec};
 use std::time::{Clock, Instant};
 use std::{env, io};
 
-// Runs of which the best counts.
+// The runs, of which the best counts.
 const RUNS: u32 = 5;
 
 // The slot has four leaves.
 const LEAVES: u8 = 4;
 
-// How many threads are at work, and how many rounds each has.
+// How many threads work, and how many rounds each does.
 #[derive(Clone, Copy)]
 struct Load {
     threads: u8,
@@ -33,13 +33,13 @@ struct Load {
 // Where the hands of a run arrive.
 #[derive(Clone, Copy)]
 enum Place {
-    // Each at a leaf of its own, where main holds a token, so that no arrival climbs to the root.
+    // Each at a leaf of its own, where main has a token, so that no arrival climbs to the root.
     OwnHeldLeaf,
     // All at one leaf, on an empty board.
     OneEmptyLeaf,
 }
 
-// A helper at the leaf where it arrives and departs.
+// A helper, with the leaf at which it arrives and departs.
 #[derive(Drop)]
 struct Visitor<'a> {
     board: &'a Board<1, 7, 4>,
@@ -50,7 +50,7 @@ struct Visitor<'a> {
     ghost empty: { held (holds hand) ≡ 0 },
 }
 
-// A helper with nothing, for a leaf.
+// A helper that holds nothing, for a leaf.
 fn send<'a>(board: &'a Board<1, 7, 4>, main: &mut Hand, leaf: u8) -> Visitor<'a>
     requires here { IsHandOf board.now main.old × IsMain main.old }
     requires leaf { leaf < 4 }
@@ -63,7 +63,7 @@ fn send<'a>(board: &'a Board<1, 7, 4>, main: &mut Hand, leaf: u8) -> Visitor<'a>
     Visitor { board, hand, leaf }
 }
 
-// Arrives and departs as often.
+// Arrives and departs so many times.
 fn visit_rounds(board: &Board<1, 7, 4>, hand: &mut Hand, leaf: u8, rounds: u32)
     requires here { IsHandOf board.now hand.old }
     requires leaf { leaf < 4 }
@@ -85,7 +85,7 @@ fn visit(visitor: Visitor<'_>, rounds: u32) {
     visit_rounds(board, &mut hand, leaf, rounds);
 }
 
-// One more and one less on the word, as often.
+// Adds and subtracts one on the word, so many times.
 fn count_rounds(counter: &AtomicU64, rounds: u32) {
     for _ in 0..rounds {
         counter.fetch_add(1, Ordering::SeqCst);
@@ -93,7 +93,7 @@ fn count_rounds(counter: &AtomicU64, rounds: u32) {
     }
 }
 
-// One more and one less under the lock, as often.
+// Adds and subtracts one under the lock, so many times.
 fn lock_rounds<R: Wait>(rt: &R, number: &Mutex<u64>, rounds: u32) {
     for _ in 0..rounds {
         let mut more = number.lock(rt);

@@ -1,4 +1,4 @@
--- What a hand holds for a meter: tokens at leaves, and beside them the amounts in the stripes.
+-- What a hand holds for a meter: tokens at leaves, and amounts in the stripes.
 use Rattle.std.specs.Prelude.{◌≡◌, ℕ, ◌+◌, ◌-◌, ◌*◌, ◌%◌, ◌^◌, ◌<◌, ◌≤◌, List, length}
 use Rattle.snzi_core.specs.declared.holding.Holding.{Holding}
 use Rattle.snzi_core.specs.declared.holding.Role.TheVariants.{Main}
@@ -9,11 +9,11 @@ use Rattle.snzi_tree.specs.Contents.{content_of, tokens_in, amount_in, AtLeaves}
 use Rattle.snzi_core.specs.Listed.{IsWithin, listed_at}
 use Rattle.pids_charge.specs.declared.meter.TheConstants.{HELD_MAX}
 
--- what the hand's amounts at a slot are less its tokens there, modulo 2^64
+-- the hand's amounts at a slot less its tokens there, modulo 2^64
 abbrev pub excess : ℕ → ℕ → Holding → ℕ → ℕ
 excess w l h s = (amount_in w l h s + (2 ^ 64 - 1) * tokens_in w l h s) % 2 ^ 64
 
--- what a charge keeps: amounts go with tokens, which stand at leaves
+-- what a charge keeps: amounts match tokens, and tokens are at leaves
 pub record InStep (w l : ℕ) (h k : Holding) : Type 0 where
   pub excess : (s : ℕ) → excess w l k s ≡ excess w l h s
   pub at_leaves : AtLeaves w l h → AtLeaves w l k
@@ -27,17 +27,17 @@ pub record CanSettle (g w l stripe : ℕ) (leaving arriving : List Token) (h : H
   pub charged : (s j : ℕ) → listed_at leaving s j ≤ content_of w l h s j
   pub room : held h + length arriving ≤ HELD_MAX
 
--- the hand h with the arriving tokens in place of the leaving ones, and its amounts to match, is k
+-- k is the hand h with the arriving tokens instead of the leaving ones, and with its amounts to match
 pub record Settled (w l : ℕ) (leaving arriving : List Token) (h k : Holding) : Type 0 where
   pub content : (s j : ℕ) → content_of w l k s j + listed_at leaving s j ≡ content_of w l h s j + listed_at arriving s j
   pub held : held k + length leaving ≡ held h + length arriving
   pub in_step : InStep w l h k
 
--- main may have this many helpers more
+-- main may have this many more helpers
 abbrev pub HasRoomFor : ℕ → Holding → Type 0
 HasRoomFor helpers h = (main_weight h.role ≡ 1) × (out h.role + helpers ≤ helper_cap)
 
--- the hand h is cut in two: k has the share, and m the rest
+-- the hand h is split: k has the share, and m the rest
 pub record CutOff (w l : ℕ) (share : List Token) (h m k : Holding) : Type 0 where
   pub given : (s j : ℕ) → content_of w l k s j ≡ listed_at share s j
   pub left : (s j : ℕ) → content_of w l m s j + listed_at share s j ≡ content_of w l h s j
@@ -48,7 +48,7 @@ pub record CutOff (w l : ℕ) (share : List Token) (h m k : Holding) : Type 0 wh
   pub at_leaves_left : AtLeaves w l h → AtLeaves w l m
   pub role : m.role ≡ one_out h.role
 
--- z has what the hands m and k have
+-- z has what the hands m and k have together
 pub record PutTogether (w l : ℕ) (m k z : Holding) : Type 0 where
   pub content : (s j : ℕ) → content_of w l z s j ≡ content_of w l m s j + content_of w l k s j
   pub held : held z ≡ held m + held k
@@ -56,7 +56,7 @@ pub record PutTogether (w l : ℕ) (m k z : Holding) : Type 0 where
   pub at_leaves : AtLeaves w l m → AtLeaves w l k → AtLeaves w l z
   pub role : z.role ≡ one_back m.role
 
--- what main holds between a meter's calls: no helper is out, tokens stand at leaves, and the stripes of each slot add up to
+-- what main holds between a meter's calls: no helper is out, tokens are at leaves, and the stripes of each slot add up to
 -- its tokens modulo 2^64
 pub record IsMeter (w l : ℕ) (h : Holding) : Type 0 where
   pub alone : h.role ≡ Main 0

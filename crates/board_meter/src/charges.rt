@@ -1,4 +1,4 @@
-//! One charge more or less in a hand: a token at a leaf, and 1 in a stripe of its slot.
+//! Adding or removing one charge of a hand: a token at a leaf, and 1 in a stripe of its slot.
 ghost use Rattle.std.specs.Prelude.{◌≡◌, ℕ, ◌+◌, ◌<◌};
 ghost use Rattle.snzi_core.specs.Holding.{held};
 ghost use Rattle.snzi_tree.specs.Contents.{content_of};
@@ -9,7 +9,7 @@ ghost use Rattle.board_meter.specs.Held.{InStep};
 use pids_charge::{HELD_MAX, Token};
 use snzi_tree::{Board, Hand};
 
-/// One token more at the leaf, and 1 more in the stripe of that leaf.
+/// Adds a token at the leaf, and 1 in the stripe of that leaf.
 pub(crate) fn charge<const G: usize, const W: usize, const L: usize>(
     board: &Board<G, W, L>,
     hand: &mut Hand,
@@ -27,7 +27,7 @@ pub(crate) fn charge<const G: usize, const W: usize, const L: usize>(
     board.add(hand, token.slot, token.leaf, 1);
 }
 
-/// One token less at the leaf, and 1 less in this stripe of its slot.
+/// Removes a token at the leaf, and subtracts 1 in this stripe of its slot.
 pub(crate) fn uncharge<const G: usize, const W: usize, const L: usize>(
     board: &Board<G, W, L>,
     hand: &mut Hand,

@@ -1,4 +1,4 @@
-//! The meter.
+//! The type `BoardMeter`.
 ghost use Rattle.std.specs.Prelude.{◌≡◌, ℕ, ◌+◌, ◌<◌, ◌≤◌, length, IfOk, IsTrue};
 ghost use Rattle.snzi_core.specs.Holding.{held};
 ghost use Rattle.snzi_tree.specs.Contents.{content_of};
@@ -34,12 +34,11 @@ impl Model for BoardMeter {
 }
 
 impl BoardMeter {
-    /// An empty meter. Takes memory for the board's words, 23,552 of them; an error only where that
-    /// is refused.
+    /// An empty meter. Allocates the board's 23,552 words.
     ///
     /// # Errors
     ///
-    /// `AllocError` where the memory was refused.
+    /// `AllocError` when out of memory.
     pub fn new(alloc: Global) -> Result<BoardMeter, AllocError>
         ensures empty { IfOk result (λ m. IsEmpty (content_of NODES ROW m) (held m)) }
     {

@@ -10,7 +10,7 @@ use crate::charges::{charge, uncharge};
 use pids_charge::{Gate, HELD_MAX, Token};
 use snzi_tree::{Board, Hand};
 
-// The charges go, in turn.
+// Removes the charges in order.
 fn uncharge_all<const G: usize, const W: usize, const L: usize>(
     board: &Board<G, W, L>,
     hand: &mut Hand,
@@ -30,7 +30,7 @@ fn uncharge_all<const G: usize, const W: usize, const L: usize>(
     }
 }
 
-// The charges come, in turn.
+// Adds the charges in order.
 fn charge_all<const G: usize, const W: usize, const L: usize>(
     board: &Board<G, W, L>,
     hand: &mut Hand,
@@ -49,7 +49,7 @@ fn charge_all<const G: usize, const W: usize, const L: usize>(
     }
 }
 
-/// Calls the test hook; then the leaving charges go before the arriving ones come.
+/// Calls the test hook, then removes the leaving charges, then adds the arriving ones.
 pub(crate) fn do_part<const G: usize, const W: usize, const L: usize, A: Gate>(
     board: &Board<G, W, L>,
     hand: &mut Hand,

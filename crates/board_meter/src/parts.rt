@@ -1,4 +1,4 @@
-//! A settlement in parts, one inside the other, each by a thread and a hand of its own.
+//! A settlement in nested parts, each on a thread and with a hand of its own.
 ghost use Rattle.std.specs.Prelude.{◌-◌, ◌<◌, ◌≤◌};
 ghost use Rattle.snzi_tree.specs.Contents.{AtLeaves};
 ghost use Rattle.snzi_tree.specs.Hands.{IsHandOf, holds, SameHand};
@@ -10,10 +10,10 @@ use pids_charge::{Gate, Token, last_run};
 use snzi_tree::{Board, Hand};
 use std::thread::{Threads, join_mut};
 
-/// The parts from 1 to `parts`, and part 1 where that is 0. The last of them is done by a thread of
-/// its own with a hand of its own; beside it the others are done, in the same way, before it is
-/// joined. Part 1 is done here, with main. Where no thread can be had, the thread that should have
-/// started it does its part as well.
+/// Does the parts 1 to `parts`, or part 1 if that is 0. The last part runs on a thread of its own
+/// with a hand of its own. The others run beside it, in the same way, before it is joined. Part 1
+/// runs here, with main. If a thread cannot be started, the thread that would have started it does
+/// its part as well.
 pub(crate) fn settle_parts<R: Threads, A: Gate, const G: usize, const W: usize, const L: usize>(
     rt: &R,
     board: &Board<G, W, L>,

@@ -1,12 +1,12 @@
-//! How large a meter's board is.
+//! The size of a meter's board.
 
 use pids_charge::{LEAVES, SLOTS};
 
-/// Slots of the board.
+/// The slots of the board.
 pub(crate) const GROUPS: usize = SLOTS;
 
-/// Nodes of a slot.
+/// The nodes of a slot.
 pub(crate) const NODES: usize = 15;
 
-/// Leaves of a slot, and as many stripes.
+/// The leaves of a slot, and as many stripes.
 pub(crate) const ROW: usize = LEAVES;

@@ -1,19 +1,19 @@
-//! What calls on `Charges` answer, as values that a table can hold.
+//! The results of calls on `Charges`, as values that a table can hold.
 
 use group_path::GroupPath;
 use group_tree::Limit;
 use pids_charge::{ChargeFault, Peaks, Shifted};
 use std::alloc::Global;
 
-/// What a call answers.
+/// The result of a call.
 #[derive(Clone, Copy, PartialEq, Eq)]
 pub(crate) enum Answer {
     Done,
-    /// So many bytes has the path that is answered.
+    /// The returned path has so many bytes.
     Path(usize),
-    /// The digits of the peaks that were there, from the group upward, behind a 1.
+    /// The digits of the old peaks, from the group upward, after a 1.
     Peaks(u64),
-    /// So many bytes has the path of the old group, and the peaks that were there along the new one.
+    /// The path of the old group has so many bytes; and the old peaks along the new path, as in `Peaks`.
     Moved(usize, u64),
     Old(Limit),
     Refused(ChargeFault),
@@ -21,7 +21,7 @@ pub(crate) enum Answer {
     Totals(u64, u64),
     Number(u64),
     Flag(bool),
-    /// There is nothing to answer, or the call may not be made now.
+    /// Nothing to return, or the call may not be made now.
     Nothing,
 }
 

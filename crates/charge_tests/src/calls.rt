@@ -1,4 +1,4 @@
-//! Calls on `Charges` over a plain meter, as rows of a table.
+//! Calls on `Charges` over a plain meter, as the rows of a table.
 
 ghost use Rattle.std.specs.Prelude.{ℕ, ◌+◌, ◌≤◌, ◌≡◌, IsTrue, IfOk};
 ghost use Rattle.std.specs.FinMap as fin;
@@ -17,12 +17,12 @@ use test_support::path;
 
 pub(crate) type Plain = Charges<Global, PlainMeter<Global>>;
 
-/// A call, with its paths as texts; all are made by who 0.
+/// A call, with its paths as texts. All calls are made with `who` 0.
 #[derive(Clone, Copy)]
 pub(crate) enum Call {
     Make(&'static str),
     Remove(&'static str),
-    /// With what the last removed group had.
+    /// With the attributes of the group that was removed last.
     Restore(&'static str),
     Set(&'static str, LimitFile, Limit),
     Move(u32, &'static str),
@@ -83,7 +83,7 @@ fn has_room(alloc: Global, charges: &Plain) -> Result<bool, Fail>
     }
 }
 
-/// Under a group whose total is not below those of the removed one, as that of the group above it is.
+/// Restores under a group whose total is not below those of the removed group, such as its parent.
 fn restore(
     alloc: Global,
     charges: &mut Plain,
@@ -144,7 +144,7 @@ fn kill<R: Threads + Wait + Sync>(rt: &R, charges: &mut Plain, path: &GroupPath<
     }
 }
 
-/// At a group below the root alone, whose totals are the only ones.
+/// Only for a group below the root, whose totals are the only ones.
 fn uncount(charges: &mut Plain, path: &GroupPath<Global>) -> Answer
     ensures up { (n : ℕ) → HasEventsUpTo n charges.old → HasEventsUpTo (n + 1) charges.new }
 {
@@ -325,7 +325,7 @@ fn make_call<R: Threads + Wait + Sync>(
     }
 }
 
-/// Makes the calls in turn on new charges, and answers the place of the first whose answer is another than its row's.
+/// Makes the calls in order on new charges, and returns the index of the first with another result than its row expects.
 pub(crate) fn first_wrong<R: Threads + Wait + Sync>(
     rt: &R,
     alloc: Global,

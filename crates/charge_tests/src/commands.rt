@@ -1,4 +1,4 @@
-//! Sequences of calls on `Charges`, with the answers of the rules.
+//! Sequences of calls on `Charges`, with the results that the rules give.
 
 use crate::answers::Answer;
 use crate::calls::{Call, first_wrong};
@@ -6,7 +6,7 @@ use group_tree::{Limit, LimitFile};
 use pids_charge::ChargeFault;
 use std::test::Fail;
 
-/// A fork that the limit of the group above blocks, and what takes its count back; refusals in their order.
+/// A fork that the limit of the group above refuses, and the undo of its count; refusals in their order.
 #[test]
 fn a_blocked_fork(rt: HostRuntime) -> Result<(), Fail> {
     let rows = [
@@ -16,7 +16,7 @@ fn a_blocked_fork(rt: HostRuntime) -> Result<(), Fail> {
             Call::Set("/a", LimitFile::PidsMax, Limit::At(1)),
             Answer::Old(Limit::Unlimited),
         ),
-        // Its old group is the root, `/`, and the peaks along the new path were 0 and 0.
+        // Its old group is the root, `/`; the old peaks along the new path were 0 and 0.
         (Call::Move(1, "/a/b"), Answer::Moved(1, 1_00)),
         (Call::Fork(1, 2), Answer::Refused(ChargeFault::PidsMax(1))),
         (Call::Attr("/a"), Answer::Totals(1, 1)),
@@ -43,7 +43,7 @@ fn a_blocked_fork(rt: HostRuntime) -> Result<(), Fail> {
     Ok(())
 }
 
-/// A limit below what there is blocks no move, and each fork; the nearest full group is named.
+/// A limit below the present count refuses no move, but every fork; the nearest full group is named.
 #[test]
 fn a_limit_below_what_there_is(rt: HostRuntime) -> Result<(), Fail> {
     let rows = [
@@ -81,7 +81,7 @@ fn a_limit_below_what_there_is(rt: HostRuntime) -> Result<(), Fail> {
     Ok(())
 }
 
-/// Exits and kills, and what puts the processes back.
+/// Exits and kills, and their undos.
 #[test]
 fn ends_and_returns(rt: HostRuntime) -> Result<(), Fail> {
     let rows = [
@@ -120,8 +120,8 @@ fn ends_and_returns(rt: HostRuntime) -> Result<(), Fail> {
     Ok(())
 }
 
-/// A removed group is put back with its limits and event totals, on another slot where its own is taken. No limit of the
-/// groups above it is asked.
+/// A removed group is restored with its limits and event totals, on another slot if its own is taken. The limits of the
+/// groups above it are not tested.
 #[test]
 fn a_group_put_back(rt: HostRuntime) -> Result<(), Fail> {
     let rows = [
@@ -143,7 +143,7 @@ fn a_group_put_back(rt: HostRuntime) -> Result<(), Fail> {
         (Call::Remove("/a/b"), Answer::Done),
         (Call::Attr("/a/b"), Answer::Nothing),
         (Call::Attr("/a"), Answer::Totals(0, 1)),
-        // It takes a slot, and has a process.
+        // It takes a slot and gets a process.
         (Call::Make("/c"), Answer::Done),
         (Call::Fork(1, 4), Answer::Peaks(1)),
         (Call::Move(4, "/c"), Answer::Moved(1, 1_0)),

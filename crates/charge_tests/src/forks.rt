@@ -1,10 +1,10 @@
-//! A fork in its two halves: decided, and then done.
+//! A fork in its two halves: decided, then done.
 
 use crate::calls::Plain;
 use pids_charge::{ChargeFault, Charges, Pid, PlainMeter};
 use std::test::Fail;
 
-/// Makes the process where it is not refused; what it was refused with.
+/// Makes the process unless it is refused. Returns the refusal.
 fn make(charges: &mut Plain, parent: Pid, child: Pid) -> Option<ChargeFault> {
     match charges.refuses_fork(parent, child) {
         Some(fault) => Some(fault),
@@ -12,7 +12,7 @@ fn make(charges: &mut Plain, parent: Pid, child: Pid) -> Option<ChargeFault> {
     }
 }
 
-/// How deep the group of a process is; None where there is no such process.
+/// The depth of a process's group; None if there is no such process.
 fn depth_of_home(charges: &Plain, pid: Pid) -> Option<usize> {
     match charges.home(pid) {
         Some(path) => Some(path.depth()),
@@ -20,7 +20,7 @@ fn depth_of_home(charges: &Plain, pid: Pid) -> Option<usize> {
     }
 }
 
-/// What is not refused is made, once, and in the group of its parent.
+/// A fork that is not refused is made once, in the group of its parent.
 #[test]
 fn decided_and_made(rt: HostRuntime) -> Result<(), Fail> {
     let mut charges = Charges::new(rt.alloc(), PlainMeter::new(rt.alloc())?)?;

@@ -1,13 +1,13 @@
-//! Tests of stripes and of charges, in a crate of their own so that no other is proved twice for them.
+//! Tests of stripes and of charges. They are in a crate of their own so that no other crate is proved twice for them.
 //!
-//! They ask what no contract says: that calls succeed where there is memory, and worked examples whose answers were written
-//! by hand.
+//! They test what no contract says: that calls succeed if there is memory, and worked examples whose results were written by
+//! hand.
 //!
-//! - `stripes`: adds and takes in several stripes, past 2^64.
-//! - `pids`: the numbers of processes.
-//! - `forks`: a fork decided, and then made; `made_and_taken`: a new group and a removal likewise.
-//! - `commands`, `peaks`: sequences of calls on `Charges` over a plain meter; `calls` makes them, and `answers` has what they
-//!   answer.
+//! - `stripes`: adds and takes in several stripes, beyond 2^64.
+//! - `pids`: pids.
+//! - `forks`: a fork decided, then made; `made_and_taken`: the same for a new group and a removal.
+//! - `commands`, `peaks`: sequences of calls on `Charges` over a plain meter. `calls` makes them, and `answers` has their
+//!   results.
 #![tactic(auto)]
 
 #[cfg(test)]

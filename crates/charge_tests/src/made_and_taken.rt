@@ -1,4 +1,4 @@
-//! A new group, and a removal, in their two halves: decided, and then done.
+//! A new group and a removal in their two halves: decided, then done.
 
 use crate::calls::Plain;
 use group_path::GroupPath;
@@ -6,7 +6,7 @@ use pids_charge::{ChargeFault, Charges, PlainMeter};
 use std::alloc::Global;
 use std::test::Fail;
 
-/// Makes the group where it is not refused; what it was refused with.
+/// Makes the group unless it is refused. Returns the refusal.
 fn make(charges: &mut Plain, group: &GroupPath<Global>) -> Option<ChargeFault> {
     match charges.refuses_mkdir(group) {
         Some(fault) => Some(fault),
@@ -14,7 +14,7 @@ fn make(charges: &mut Plain, group: &GroupPath<Global>) -> Option<ChargeFault> {
     }
 }
 
-/// Takes the group out where it is not refused; its local total and its total.
+/// Removes the group unless it is refused. Returns its local total and its total.
 fn take(charges: &mut Plain, group: &GroupPath<Global>) -> Result<(u64, u64), ChargeFault> {
     if let Some(fault) = charges.refuses_rmdir(group) {
         return Err(fault);
@@ -23,7 +23,7 @@ fn take(charges: &mut Plain, group: &GroupPath<Global>) -> Result<(u64, u64), Ch
     Ok((attr.local, attr.total))
 }
 
-/// What is not refused is made, once, and is taken out, once.
+/// A group that is not refused is made once, and removed once.
 #[test]
 fn decided_and_made(rt: HostRuntime) -> Result<(), Fail> {
     let mut charges = Charges::new(rt.alloc(), PlainMeter::new(rt.alloc())?)?;

@@ -1,4 +1,4 @@
-//! Peaks: what raises them, what leaves them, and what sets them.
+//! Peaks: what raises them, what keeps them, and what sets them.
 
 use crate::answers::Answer;
 use crate::calls::{Call, first_wrong};
@@ -6,8 +6,8 @@ use group_tree::{Limit, LimitFile};
 use pids_charge::ChargeFault;
 use std::test::Fail;
 
-/// A fork and a move raise the peaks of the group and of each above it. A refused fork raises none, also where a group below
-/// the limiting one is not full; an exit and a kill lower none.
+/// A fork and a move raise the peaks of the group and of each above it. A refused fork raises none, even if a group below
+/// the limiting one is not full. An exit and a kill lower none.
 #[test]
 fn raised_and_kept(rt: HostRuntime) -> Result<(), Fail> {
     let rows = [
@@ -31,11 +31,11 @@ fn raised_and_kept(rt: HostRuntime) -> Result<(), Fail> {
         (Call::Peak("/a"), Answer::Number(2)),
         (Call::Exit(2), Answer::Path(6)),
         (Call::Peak("/a/b/c"), Answer::Number(2)),
-        // One more is as many as there were.
+        // One more makes as many as there were.
         (Call::Fork(1, 3), Answer::Peaks(1_222)),
         (Call::Peak("/a"), Answer::Number(2)),
         (Call::Make("/a/d"), Answer::Done),
-        // On its way it leaves `/a`, which counts it before and after.
+        // It leaves `/a` on its way, which counts it before and after.
         (Call::Move(3, "/a/d"), Answer::Moved(6, 1_02)),
         (Call::Peak("/a/d"), Answer::Number(1)),
         (Call::Peak("/a"), Answer::Number(2)),
@@ -51,7 +51,7 @@ fn raised_and_kept(rt: HostRuntime) -> Result<(), Fail> {
     Ok(())
 }
 
-/// What takes a command back raises no peak. The next fork raises it to what there is then.
+/// An undo raises no peak. The next fork raises it to the count at that time.
 #[test]
 fn put_back(rt: HostRuntime) -> Result<(), Fail> {
     let rows = [

@@ -1,4 +1,4 @@
-//! The numbers of processes.
+//! Pids.
 
 use pids_charge::{PID_MAX, Pid};
 use std::test::Fail;

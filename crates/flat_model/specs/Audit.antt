@@ -1,4 +1,4 @@
--- When the receipts of some sessions are the entries of a log, each once, and what the first fault is where they are not.
+-- When the receipts of some sessions are the entries of a log, each once; and the first fault if they are not.
 use Rattle.std.specs.Prelude.{◌≡◌, ◌≢◌, ℕ, ◌+◌, ◌<◌, ◌≤◌, ◌⊎◌, List, [], ◌∷◌, ◌++◌, map, length, Some, slice_get}
 use Rattle.std.specs.List.{All, Any, AllPairs, Contains}
 use Rattle.flat_model.specs.Log.{Entry, Receipt, Session, entry_of}
@@ -31,7 +31,7 @@ IsEntry n log h = (h.session < n) × (slice_get log h.receipt.number ≡ Some (e
 abbrev pub InOrder : Handed → Handed → Type 0
 InOrder earlier later = (earlier.receipt.number ≢ later.receipt.number) × (earlier.list ≡ later.list → earlier.receipt.number < later.receipt.number)
 
--- so far as they go, the receipts are entries of the log, none twice, ascending within a list
+-- so far, the receipts are entries of the log, no entry twice, ascending within a list
 pub record AreSound (n : ℕ) (log : List Entry) (hs : List Handed) : Type 0 where
   pub entries : All (IsEntry n log) hs
   pub order : AllPairs InOrder hs
@@ -44,15 +44,15 @@ pub record AreEntries (n : ℕ) (log : List Entry) (sessions : List Session) : T
 -- ---- the first fault
 
 pub data ReceiptFault : Type 0 where
-  -- a receipt of the session with this number stands for no entry, or not there
+  -- a receipt of the session with this number is no entry, or not at this place
   Stranger : ℕ → ReceiptFault
   -- a receipt differs from the entry of this number
   Mismatch : ℕ → ReceiptFault
   -- the entry of this number has no receipt
   Missing : ℕ → ReceiptFault
 
--- it stands for no entry, or not here: its session is none of the n, its number is none of the log's, was named before,
--- or is below an earlier one in its list
+-- it is no entry, or not at this place: its session is not one of the n, or its number is not in the log, came before,
+-- or is below an earlier number in its list
 abbrev pub IsStranger : ℕ → List Entry → List Handed → Handed → Type 0
 IsStranger n log before h =
     (n ≤ h.session)
@@ -60,11 +60,11 @@ IsStranger n log before h =
     ⊎ (Contains (numbers before) h.receipt.number
     ⊎ Any (λ e. (e.list ≡ h.list) × (h.receipt.number < e.receipt.number)) before))
 
--- its session, command or reply differ from the entry at its number
+-- its session, command or reply differs from the entry at its number
 abbrev pub Differs : List Entry → Handed → Type 0
 Differs log h = slice_get log h.receipt.number ≢ Some (entry_of h.session h.receipt)
 
--- all before this receipt is sound
+-- all receipts before this one are sound
 pub record Reached (n : ℕ) (log : List Entry) (hs before : List Handed) (h : Handed) : Type 0 where
   pub rest : List Handed
   pub split : hs ≡ before ++ h ∷ rest

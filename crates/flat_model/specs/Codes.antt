@@ -1,4 +1,4 @@
--- The state as a value that a model may have: its parts as plain numbers, pairs, sums and lists.
+-- The state, encoded as a value that a model may have: its parts as plain numbers, pairs, sums and lists.
 use Rattle.std.specs.Prelude.{◌≡◌, ℕ, Option, Some, None, refl}
 use Rattle.std.specs.Coded.{Coded, code_by, coded×, coded_ℕ, coded_list, coded_option}
 use Rattle.std.specs.FinMap as map

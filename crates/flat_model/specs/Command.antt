@@ -8,10 +8,10 @@ pub data Command : Type 0 where
   -- `mkdir`, `rmdir`
   MakeGroup : Path → Command
   RemoveGroup : Path → Command
-  -- by the parent, of the child
+  -- a fork by the parent (first) of the child (second)
   Fork : ℕ → ℕ → Command
   Exit : ℕ → Command
-  -- to the group, of the process: a write to `cgroup.procs`
+  -- a move to the group of the process: a write to `cgroup.procs`
   Move : Path → ℕ → Command
   SetLimit : Path → LimitFile → Limit → Command
   -- a write to `cgroup.kill`
@@ -34,7 +34,7 @@ pub data Refusal : Type 0 where
   HasProcesses : Refusal
   NoProcess : ℕ → Refusal
   PidInUse : ℕ → Refusal
-  -- by the `pids.max` of this group
+  -- refused by the `pids.max` of this group
   OverPidsMax : Path → Refusal
   NoFile : Refusal
   NotReadable : Refusal

@@ -28,19 +28,19 @@ command_text c = join_with_byte 0x20 (command_words c)
 abbrev pub IsPid : ℕ → Type 0
 IsPid n = (1 ≤ n) × (n ≤ pid_max)
 
--- a hierarchy limit of the greatest number is read as no limit
+-- a hierarchy limit with the greatest number is read as no limit
 abbrev pub IsLimit : LimitFile → Limit → Type 0
 IsLimit file Unlimited = Unit {0}
 IsLimit PidsMax (At n) = n ≤ limit_max PidsMax
 IsLimit MaxDescendants (At n) = (n ≤ limit_max MaxDescendants) × (n ≢ hierarchy_limit_max)
 IsLimit MaxDepth (At n) = (n ≤ limit_max MaxDepth) × (n ≢ hierarchy_limit_max)
 
--- the texts that say this limit: the one that its file shows, and for the hierarchy's limits their greatest number, which is no limit
+-- the texts that are read as this limit: the text that its file shows, and for no limit of the hierarchy also the greatest number
 abbrev pub IsLimitText : LimitFile → Limit → List ℕ → Type 0
 IsLimitText file Unlimited text = (text ≡ codes "max") ⊎ ((is_pids_max file ≡ false) × (text ≡ decimal hierarchy_limit_max))
 IsLimitText file (At n) text = text ≡ decimal n
 
--- the paths are in the grammar, pids and limits in their ranges, and a file that is shown can be read
+-- the paths are in the grammar, pids and limits are in range, and a file that is shown can be read
 abbrev pub IsSayable : Command → Type 0
 IsSayable (MakeGroup p) = IsPath p
 IsSayable (RemoveGroup p) = IsPath p

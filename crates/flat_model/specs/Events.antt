@@ -1,4 +1,4 @@
--- What is counted of forks that `pids.max` refuses, and how far the totals get.
+-- How forks that `pids.max` refuses are counted, and how large the totals get.
 use Rattle.std.specs.Prelude.{◌≡◌, ◌≢◌, ℕ, ◌+◌, ◌≤◌, List, [], ◌∷◌, Some, length}
 use Rattle.std.specs.FinMap.{get}
 use Rattle.flat_model.specs.Path.{Path, HasPrefix}
@@ -6,7 +6,7 @@ use Rattle.flat_model.specs.State.{State, Attr}
 use Rattle.flat_model.specs.Command.{Command}
 use Rattle.flat_model.specs.Machine.{Machine}
 
--- the group at p had the attributes x and has y, since a has refused one fork more: the local total of a alone rises by one, and the total of a and of each group above it but the root
+-- the group at p had the attributes x and has y after a refused one more fork: the local total of a rises by one, and so do the totals of a and of each group above it other than the root; nothing else changes
 pub record IsCounted (a p : Path) (x y : Attr) : Type 0 where
   pub limits : y.limits ≡ x.limits
   pub peak : y.peak ≡ x.peak
@@ -19,7 +19,7 @@ pub record IsCounted (a p : Path) (x y : Attr) : Type 0 where
 abbrev pub HasEventsUpTo : ℕ → State → Type 0
 HasEventsUpTo n s = (p : Path) (attr : Attr) → get s.groups p ≡ Some attr → (attr.local ≤ n) × (attr.total ≤ n)
 
--- nor, in each state of the past, above the number of commands recorded until then
+-- nor, in each state of the past, above the number of commands recorded before it
 abbrev pub PastEventsBounded : List (Command × State) → Type 0
 PastEventsBounded [] = Unit {0}
 PastEventsBounded (e ∷ past) = HasEventsUpTo (length past) e.1 × PastEventsBounded past

@@ -1,4 +1,4 @@
--- The interface files: their names, and which of them a group has, which can be read, and what is written to them.
+-- The interface files: their names, which groups have them, which can be read, and what can be written to them.
 use Rattle.std.specs.Prelude.{ℕ, Bool, true, false, not, List, [], ◌∷◌, codes, find, Option, Some, None, is_some}
 use Rattle.flat_model.specs.Path.{same_name}
 
@@ -46,7 +46,7 @@ is_pids_max PidsMax = true
 is_pids_max MaxDescendants = false
 is_pids_max MaxDepth = false
 
--- whether the root has it
+-- whether the root has the file
 abbrev pub on_root : File → Bool
 on_root Procs = true
 on_root Events = false
@@ -69,13 +69,13 @@ readable PidsPeak = true
 readable PidsEvents = true
 readable PidsEventsLocal = true
 
--- the kinds of value that are written: a pid, a limit, and the 1 of `cgroup.kill`
+-- the kinds of value that can be written: a pid, a limit, and the 1 of `cgroup.kill`
 pub data ValueKind : Type 0 where
   PidValue : ValueKind
   LimitValue : LimitFile → ValueKind
   KillValue : ValueKind
 
--- what is written to a file, if anything is
+-- the kind of value that can be written to a file, if any
 abbrev pub value_kind : File → Option ValueKind
 value_kind Procs = Some PidValue
 value_kind Events = None

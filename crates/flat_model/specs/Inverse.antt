@@ -1,4 +1,4 @@
--- Inverse records: what a journal keeps of a recorded command, and the state that a record gives back.
+-- Inverse records: what a journal keeps of a recorded command, and the state that a record restores.
 use Rattle.std.specs.Prelude.{ℕ, List, [], ◌∷◌, Option, Some, None}
 use Rattle.std.specs.FinMap.{FinMap, insert, remove, retain_keys, entries}
 use Rattle.std.specs.Ordering.{nat_cmp}
@@ -10,19 +10,19 @@ use Rattle.flat_model.specs.Step.{at_each, count_down, set_limit, peaks_upward, 
 
 pub data Inverse : Type 0 where
   Made : Path → Inverse
-  -- with the attributes that the group had
+  -- with the attributes of the group
   Removed : Path → Attr → Inverse
-  -- with the peaks that its home and the groups above it had, from there upward, the root left out
+  -- with the old peaks of its home and of the groups above it, from there upward, without the root
   Forked : ℕ → List ℕ → Inverse
-  -- with the home that the process had
+  -- with the old home of the process
   Exited : ℕ → Path → Inverse
-  -- with the home that the process had, and the peaks that its new home and the groups above it had
+  -- with the old home of the process, and the old peaks of its new home and of the groups above it, without the root
   Moved : ℕ → Path → List ℕ → Inverse
-  -- with the limit that stood there
+  -- with the old limit
   Limited : Path → LimitFile → Limit → Inverse
-  -- a fork refused by this group's `pids.max`
+  -- a fork that this group's `pids.max` refused
   Counted : Path → Inverse
-  -- each process with the home that it had, ascending
+  -- each process with its old home, ascending
   Killed : List (ℕ × Path) → Inverse
 
 -- each listed process at its listed home
@@ -30,7 +30,7 @@ abbrev pub place_all : List (ℕ × Path) → FinMap nat_cmp Path → FinMap nat
 place_all [] home = home
 place_all (e ∷ es) home = insert (place_all es home) e.0 e.1
 
--- the state that a record gives back, without counting anything
+-- the state that a record restores, without counting anything
 abbrev pub back : Inverse → State → State
 back (Made p) s = record s { groups = remove s.groups p }
 back (Removed p attr) s = record s { groups = insert s.groups p attr }
@@ -45,7 +45,7 @@ back (Killed lost) s = record s { home = place_all lost s.home }
 abbrev pub lost : State → Path → List (ℕ × Path)
 lost s g = entries (retain_keys s.home (lives_in s g))
 
--- the record of an accepted command, made in the state before it; a command that changes nothing has none
+-- the record of an accepted command, made in the state before it; None for a command that changes nothing
 abbrev pub inverse : State → Command → Option Inverse
 inverse s (MakeGroup p) = Some (Made p)
 inverse s (RemoveGroup p) = Some (Removed p (attr_of s p))
@@ -58,7 +58,7 @@ inverse s (Show p file) = None
 inverse s (Locate pid) = None
 inverse s Undo = None
 
--- the record of a refusal: a counted fork has one
+-- the record of a refusal: only a counted fork has one
 abbrev pub inverse_of_refusal : Refusal → Option Inverse
 inverse_of_refusal (OverPidsMax a) = Some (Counted a)
 inverse_of_refusal Exists = None
@@ -74,7 +74,7 @@ inverse_of_refusal (PidInUse p) = None
 inverse_of_refusal NoFile = None
 inverse_of_refusal NotReadable = None
 
--- a journal holds each recorded command with its record, newest first; the past that it stands for, read from the state now
+-- a journal has each recorded command with its record, newest first; this is the past that it describes, from the present state
 abbrev pub past_of : State → List (Command × Inverse) → List (Command × State)
 past_of s [] = []
 past_of s (e ∷ journal) = (e.0, back e.1 s) ∷ past_of (back e.1 s) journal

@@ -1,4 +1,4 @@
--- The machine: the state now, and for each recorded command, newest first, the command and the state before it.
+-- The machine: the present state, and for each recorded command, newest first, the command and the state before it.
 use Rattle.std.specs.Prelude.{ℕ, zero, suc, ◌≤◌, cond, List, [], ◌∷◌, Option, Some, None, length}
 use Rattle.flat_model.specs.State.{State, start}
 use Rattle.flat_model.specs.Command.{Command, MakeGroup, RemoveGroup, Fork, Exit, Move, SetLimit, Kill, Show, Locate, Undo, Refusal, Reply, Done, Text, Undone, Refused, NothingToUndo, is_undo, changes, is_counted}
@@ -12,7 +12,7 @@ pub record Machine : Type 0 where
 abbrev pub new_machine : Machine
 new_machine = record { state = start; past = [] }
 
--- what an accepted command answers
+-- the reply to an accepted command
 abbrev pub accepted : State → Command → Reply
 accepted s (MakeGroup p) = Done
 accepted s (RemoveGroup p) = Done
@@ -29,21 +29,21 @@ accepted s Undo = Done
 abbrev pub recorded : Machine → Command → State → Machine
 recorded m c s = record { state = s; past = (c, m.state) ∷ m.past }
 
--- what one command leaves and answers
+-- the machine after one command, and the reply
 abbrev pub outcome : Machine → Command → Option Refusal → Machine × Reply
 outcome m c None = (cond (changes c) (recorded m c (after m.state c)) m, accepted m.state c)
 outcome m c (Some r) = (cond (is_counted r) (recorded m c (after_refusal m.state r)) m, Refused r)
 
--- undo takes the newest entry off, whoever issued it, checks no limit, and is not itself recorded
+-- undo removes the newest entry, whichever session issued it; it tests no limit and is not recorded
 abbrev pub undone : State → List (Command × State) → Machine × Reply
 undone s [] = (record { state = s; past = [] }, NothingToUndo)
 undone s (e ∷ past) = (record { state = e.1; past = past }, Undone e.0)
 
--- one step of the machine; there may be `slots` groups beside the root
+-- one step of the machine, if there may be `slots` groups besides the root
 abbrev pub tick : ℕ → Machine → Command → Machine × Reply
 tick slots m c = cond (is_undo c) (undone m.state m.past) (outcome m c (refusal slots m.state c))
 
--- the replies to a list of commands, and the machine that they leave
+-- the replies to a list of commands, and the machine after them
 abbrev pub replies : ℕ → Machine → List Command → List Reply
 replies slots m [] = []
 replies slots m (c ∷ cs) = (tick slots m c).1 ∷ replies slots (tick slots m c).0 cs
@@ -52,7 +52,7 @@ abbrev pub end_of : ℕ → Machine → List Command → Machine
 end_of slots m [] = m
 end_of slots m (c ∷ cs) = end_of slots (tick slots m c).0 cs
 
--- a machine that a list of commands leaves, from the start
+-- the machine after a list of commands, from the start
 abbrev pub after_all : ℕ → List Command → Machine
 after_all slots cs = end_of slots new_machine cs
 
@@ -61,7 +61,7 @@ abbrev pub undos : ℕ → List Command
 undos zero = []
 undos (suc n) = Undo ∷ undos n
 
--- the past never gets shorter than `floor`: no undo of the list takes back what stood there before it
+-- the past never gets shorter than `floor`: no undo in the list undoes a command from before the list
 abbrev pub TakesBackItsOwn : ℕ → ℕ → Machine → List Command → Type 0
 TakesBackItsOwn slots floor m [] = Unit {0}
 TakesBackItsOwn slots floor m (c ∷ cs) = (floor ≤ length (tick slots m c).0.past) × TakesBackItsOwn slots floor (tick slots m c).0 cs

@@ -1,4 +1,4 @@
--- A map with each value seen through a function: how a table of the program is read as a map of the model.
+-- A map with a function applied to each value: how a table of the program is seen as a map of the model.
 use Rattle.std.specs.Prelude.{map}
 use Rattle.std.specs.declared.cmp.Ordering.{Ordering}
 use Rattle.std.specs.FinMap.{FinMap, from_sorted, entries}

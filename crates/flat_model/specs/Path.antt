@@ -10,11 +10,11 @@ Name = List ℕ
 abbrev pub Path : Type 0
 Path = List Name
 
--- names in the order of their bytes, a name before those that it begins
+-- names in the order of their bytes; a name comes before the names that begin with it
 abbrev pub name_cmp : Name → Name → Ordering
 name_cmp = slice_cmp nat_cmp
 
--- paths in the order of their names, a group before those below it
+-- paths in the order of their names; a group comes before the groups below it
 abbrev pub path_cmp : Path → Path → Ordering
 path_cmp = slice_cmp name_cmp
 
@@ -28,7 +28,7 @@ abbrev pub is_root : Path → Bool
 is_root [] = true
 is_root (name ∷ rest) = false
 
--- p is q, or stands somewhere below it: q's names begin p's
+-- p is q or is below it: p begins with q's names
 abbrev pub at_or_below : Path → Path → Bool
 at_or_below p [] = true
 at_or_below [] (m ∷ q) = false
@@ -41,15 +41,15 @@ strictly_below p q = at_or_below p q && not (same_path p q)
 abbrev pub HasPrefix : Path → Path → Type 0
 HasPrefix p q = (rest : Path) × (p ≡ q ++ rest)
 
--- the path without its last name; the root is its own
+-- the path without its last name; the root is its own parent
 abbrev pub parent : Path → Path
 parent p = take (length p - 1) p
 
--- the root, the group below it on the way to p, and so on down to p itself
+-- the groups from the root down to p, both included
 abbrev pub prefixes : Path → List Path
 prefixes [] = [] ∷ []
 prefixes (name ∷ rest) = [] ∷ map (λ q. name ∷ q) (prefixes rest)
 
--- p itself, its parent, and so on up to the root
+-- the groups from p up to the root, both included
 abbrev pub upward : Path → List Path
 upward p = reverse (prefixes p)

@@ -1,5 +1,5 @@
--- The text of a path, which texts are paths, and which fault a text has first.
--- A path is `/`, or one or more times `/` followed by a name.
+-- The text of a path, which texts are paths, and the first fault of any other text.
+-- A path is `/`, or one or more names, each after a slash.
 use Rattle.std.specs.Prelude.{◌≡◌, nat_eq, ℕ, ◌+◌, ◌≤◌, Bool, true, false, not, ◌&&◌, ◌||◌, ◌==◌, nat_lt, nat_le, List, [], ◌∷◌, ◌++◌, length, codes, Option, None, option_map, Result}
 use Rattle.std.specs.Option.{option_or}
 use Rattle.std.specs.List.{AllByRecursion, starts_with, position_from, slice_split}
@@ -14,12 +14,12 @@ abbrev pub spelled : List Name → List ℕ
 spelled [] = []
 spelled (name ∷ names) = 47 ∷ name ++ spelled names
 
--- the one text of a path: the root is a slash alone
+-- the one text of a path; the root's is a single slash
 abbrev pub path_text : Path → List ℕ
 path_text [] = 47 ∷ []
 path_text (name ∷ names) = spelled (name ∷ names)
 
--- a printed character of ASCII but the slash
+-- a printable ASCII character other than the slash
 abbrev pub is_name_byte : ℕ → Bool
 is_name_byte b = nat_le 0x21 b && nat_le b 0x7E && not (is_slash b)
 
@@ -30,7 +30,7 @@ is_bad_byte b = not (is_name_byte b)
 abbrev pub is_dots : Name → Bool
 is_dots name = same_name name (codes ".") || same_name name (codes "..")
 
--- it begins as the kernel's interface files do
+-- it begins like the kernel's interface files
 abbrev pub is_reserved : Name → Bool
 is_reserved name = starts_with nat_eq name (codes "cgroup.") || starts_with nat_eq name (codes "pids.")
 
@@ -61,7 +61,7 @@ pub record IsPath (names : Path) : Type 0 where
 pub data PathFault : Type 0 where
   NotRooted : PathFault
   EmptyName : PathFault
-  -- at this place
+  -- the index of the byte
   BadByte : ℕ → PathFault
   DotName : PathFault
   Reserved : PathFault
@@ -69,7 +69,7 @@ pub data PathFault : Type 0 where
   TooDeep : PathFault
   TooLong : PathFault
 
--- the first fault of a name whose first byte stands at `here`
+-- the first fault of a name whose first byte is at index `here`
 unfoldable pub name_fault : ℕ → Name → Option PathFault
 name_fault here name =
     refuse (length name == 0) EmptyName
@@ -78,7 +78,7 @@ name_fault here name =
     (refuse (is_dots name) DotName
     (refuse (is_reserved name) Reserved None))))
 
--- the first fault of names behind `count` others, the first byte of the first at `here`
+-- the first fault of names that follow `count` others; the first byte of the first name is at index `here`
 abbrev pub names_fault : ℕ → ℕ → List Name → Option PathFault
 names_fault count here [] = None
 names_fault count here (name ∷ names) =
@@ -90,7 +90,7 @@ abbrev pub is_rooted : List ℕ → Bool
 is_rooted [] = false
 is_rooted (b ∷ bytes) = is_slash b
 
--- what stands behind each slash; a slash alone has no names
+-- the texts after each slash; a single slash has no names
 abbrev pub names_in : List ℕ → List Name
 names_in [] = []
 names_in (b ∷ []) = []
@@ -107,13 +107,13 @@ path_fault text =
 abbrev pub read_path : List ℕ → Result Path PathFault
 read_path text = unless (path_fault text) (names_in text)
 
--- the first fault of one more name behind those of p
+-- the first fault of adding this name to p
 unfoldable pub child_fault : Path → Name → Option PathFault
 child_fault p name =
     option_or (name_fault 0 name)
     (refuse (nat_le depth_max (length p)) TooDeep
     (refuse (nat_lt text_max (length (path_text (p ++ name ∷ [])))) TooLong None))
 
--- the group of that name below p, or the first fault
+-- the child of p with that name, or the first fault
 abbrev pub child_path : Path → Name → Result Path PathFault
 child_path p name = unless (child_fault p name) (p ++ name ∷ [])

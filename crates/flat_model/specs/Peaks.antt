@@ -1,9 +1,9 @@
--- What becomes of the peaks of groups as a process comes to one.
+-- How the peaks of groups change when a process enters a group.
 use Rattle.std.specs.Prelude.{◌≡◌, ◌≢◌, ℕ, max, []}
 use Rattle.flat_model.specs.Path.{Path, HasPrefix}
 use Rattle.flat_model.specs.State.{Attr}
 
--- the group at p had the attributes x and has y, since a process came to a, and counts n processes now: where a is p or below it, and p is not the root, its peak is no lower than that; nothing else of it changes
+-- the group at p had the attributes x and has y after a process entered a, and now counts n processes: if p is a or above it, and not the root, its peak has risen to at least n; nothing else changes
 pub record IsRaised (a p : Path) (n : ℕ) (x y : Attr) : Type 0 where
   pub limits : y.limits ≡ x.limits
   pub local : y.local ≡ x.local

@@ -1,4 +1,4 @@
--- The bytes that answer a trace.
+-- The output for a trace.
 use Rattle.std.specs.Prelude.{ℕ, ◌+◌, Bool, true, false, List, [], ◌∷◌, ◌++◌, codes, decimal, flat_map, count_by}
 use Rattle.flat_model.specs.PathText.{path_text}
 use Rattle.flat_model.specs.Command.{Command, Refusal, Exists, NoGroup, Descendants, Depth, NoSlot, RootFixed, HasChildren, HasProcesses, NoProcess, PidInUse, OverPidsMax, NoFile, NotReadable, Reply, Done, Text, Undone, Refused, NothingToUndo}
@@ -35,11 +35,11 @@ ok_line n = line (decimal n ++ codes " ok")
 abbrev pub refused_line : ℕ → List ℕ → List ℕ
 refused_line n words = line (decimal n ++ codes " refused " ++ words)
 
--- a line of an answer's text
+-- a line of a reply's text
 abbrev pub bar_line : List ℕ → List ℕ
 bar_line text = line (codes "| " ++ text)
 
--- the answer to the n-th command
+-- the output for the n-th command
 abbrev pub reply_bytes : ℕ → Reply → List ℕ
 reply_bytes n Done = ok_line n
 reply_bytes n (Text text) = ok_line n ++ flat_map bar_line (lines_in text)
@@ -59,7 +59,7 @@ command_in (Fault f) = []
 abbrev pub commands_in : List Line → List Command
 commands_in lines = flat_map command_in lines
 
--- the answers from number n on: those of the text faults in their places, and of the commands' replies
+-- the output from number n on: text faults at their places, and the replies to commands
 abbrev pub out : ℕ → List Line → List Reply → List ℕ
 out n [] rs = []
 out n (Skip ∷ lines) rs = out n lines rs
@@ -74,11 +74,11 @@ line_replies slots lines = replies slots new_machine (commands_in lines)
 abbrev pub answers_to : ℕ → List Line → List ℕ
 answers_to slots lines = out 1 lines (line_replies slots lines)
 
--- what is answered to a trace
+-- the output for a trace
 abbrev pub answers : ℕ → List ℕ → List ℕ
 answers slots bytes = answers_to slots (read_trace bytes)
 
--- ---- the two numbers of the summary
+-- ---- the two counts of the summary
 
 abbrev pub is_numbered : Line → Bool
 is_numbered Skip = false
@@ -90,7 +90,7 @@ is_fault Skip = false
 is_fault (Run c) = false
 is_fault (Fault f) = true
 
--- answered `refused`
+-- the reply is a refusal
 abbrev pub is_refused : Reply → Bool
 is_refused Done = false
 is_refused (Text text) = false

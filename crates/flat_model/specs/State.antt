@@ -10,7 +10,7 @@ pub data Limit : Type 0 where
   At : ℕ → Limit
   deriving Discrete as Limit-discrete
 
--- what `pids.max`, `cgroup.max.descendants` and `cgroup.max.depth` hold
+-- the values of `pids.max`, `cgroup.max.descendants` and `cgroup.max.depth`
 pub record Limits : Type 0 where
   pub pids : Limit
   pub descendants : Limit
@@ -18,14 +18,14 @@ pub record Limits : Type 0 where
 
 pub record Attr : Type 0 where
   pub limits : Limits
-  -- the forks refused by this group's own `pids.max`
+  -- how many forks this group's own `pids.max` refused
   pub local : ℕ
-  -- those and the forks refused by the `pids.max` of a group below it
+  -- those, plus the forks that the `pids.max` of a group below it refused
   pub total : ℕ
-  -- the most processes that the group and those below it have had at once; the root's stays 0
+  -- the most processes that were in the group and below it at once; always 0 for the root
   pub peak : ℕ
 
--- a process is a number, and its home is the group that it belongs to
+-- a process is a number; its home is the group that it belongs to
 pub record State : Type 0 where
   pub groups : FinMap path_cmp Attr
   pub home : FinMap nat_cmp Path
@@ -33,10 +33,10 @@ pub record State : Type 0 where
 abbrev pub no_limits : Limits
 no_limits = record { pids = Unlimited; descendants = Unlimited; depth = Unlimited }
 
--- a group as it is made
+-- a new group
 abbrev pub fresh : Attr
 fresh = record { limits = no_limits; local = 0; total = 0; peak = 0 }
 
--- the root alone, and process 1 in it
+-- the root, with process 1 in it
 abbrev pub start : State
 start = record { groups = insert empty [] fresh; home = insert empty 1 [] }

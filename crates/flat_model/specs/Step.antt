@@ -1,4 +1,4 @@
--- One command on the state: the first refusal that holds, in the order of the rules, or else what the command leaves.
+-- One command on a state: the first refusal that applies, in the order of the rules, or the state after the command.
 use Rattle.std.specs.Prelude.{ℕ, ◌+◌, ◌-◌, max, Bool, false, cond, ◌&&◌, not, List, [], ◌∷◌, length, get_or, take, ltb, Option, Some, None, map, option_map, unwrap_or}
 use Rattle.std.specs.Option.{option_or}
 use Rattle.std.specs.List.{list_any}
@@ -10,17 +10,17 @@ use Rattle.flat_model.specs.Counts.{current, descendant_count, is_group, has_pro
 use Rattle.flat_model.specs.File.{LimitFile, PidsMax, MaxDescendants, MaxDepth, is_pids_max, readable, on_root}
 use Rattle.flat_model.specs.Command.{Command, MakeGroup, RemoveGroup, Fork, Exit, Move, SetLimit, Kill, Show, Locate, Undo, Refusal, Exists, NoGroup, Descendants, Depth, NoSlot, RootFixed, HasChildren, HasProcesses, NoProcess, PidInUse, OverPidsMax, NoFile, NotReadable}
 
--- the home of a process, and the root where there is no such process
+-- the home of a process; the root if there is no such process
 abbrev pub home_of : State → ℕ → Path
 home_of s pid = unwrap_or (get s.home pid) []
 
--- the attributes of a group, and fresh ones where there is no such group
+-- the attributes of a group; those of a new group if there is no such group
 abbrev pub attr_of : State → Path → Attr
 attr_of s p = unwrap_or (get s.groups p) fresh
 
--- ---- what refuses
+-- ---- refusals
 
--- the limits of a that a new group under q meets: descendants first, then depth
+-- the limits of a that a new child of q meets: descendants first, then depth
 abbrev pub limit_met : State → Path → Path → Option Refusal
 limit_met s q a =
     refuse (asks (λ attr. reaches (descendant_count s a) attr.limits.descendants) (get s.groups a)) (Descendants a)
@@ -31,11 +31,11 @@ abbrev pub first_refusal : (Path → Option Refusal) → List Path → Option Re
 first_refusal test [] = None
 first_refusal test (p ∷ ps) = option_or (test p) (first_refusal test ps)
 
--- the limit that blocks a new group at p: the first that is met, from p's parent upward
+-- the limit that blocks a new group at p: the first one met, from p's parent upward
 abbrev pub blocked_make : State → Path → Option Refusal
 blocked_make s p = first_refusal (limit_met s (parent p)) (upward (parent p))
 
--- the first refusal in the order of the rules; there may be `slots` groups beside the root
+-- the first refusal in the order of the rules, if there may be `slots` groups besides the root
 abbrev pub refusal : ℕ → State → Command → Option Refusal
 refusal slots s (MakeGroup p) =
     refuse (is_group s p) Exists
@@ -70,7 +70,7 @@ refusal slots s (Locate pid) =
     refuse (not (has_process s pid)) (NoProcess pid) None
 refusal slots s Undo = None
 
--- ---- what is left
+-- ---- the state afterwards
 
 abbrev pub with_limit : LimitFile → Limit → Attr → Attr
 with_limit PidsMax value attr = record attr { limits = record attr.limits { pids = value } }
@@ -82,7 +82,7 @@ limit_at PidsMax attr = attr.limits.pids
 limit_at MaxDescendants attr = attr.limits.descendants
 limit_at MaxDepth attr = attr.limits.depth
 
--- that limit of the group at p
+-- sets that limit of the group at p
 abbrev pub set_limit : Path → LimitFile → Limit → State → State
 set_limit p file value s = record s { groups = insert s.groups p (with_limit file value (attr_of s p)) }
 
@@ -94,35 +94,35 @@ is_within g (Some p) = at_or_below p g
 abbrev pub lives_in : State → Path → ℕ → Bool
 lives_in s g pid = is_within g (get s.home pid)
 
--- each group with the attributes that f makes of its path and of what it had
+-- the attributes of each group, computed by f from its path and its old attributes
 abbrev pub at_each : (Path → Attr → Attr) → State → State
 at_each f s = record s { groups = from_entries (map (λ e. (e.0, f e.0 e.1)) (entries s.groups)) }
 
--- whether p counts the processes and refused forks of a: p is a or a group above it, but not the root
+-- whether p counts the processes and refused forks of a: p is a or above it, but not the root
 abbrev pub counts_for : Path → Path → Bool
 counts_for a p = not (is_root p) && at_or_below a p
 
--- the attributes of p once a process has come to a, which stands in s already: the peak is no lower than the count
+-- the attributes of p after a process entered a, which is already there in s: the peak is at least the count
 abbrev pub raise_peak : State → Path → Path → Attr → Attr
 raise_peak s a p attr = record attr { peak = cond (counts_for a p) (max attr.peak (current s p)) attr.peak }
 
--- the state that a process has come to a in, with the peaks raised
+-- the state with the peaks raised after a process entered a
 abbrev pub raise_peaks : Path → State → State
 raise_peaks a s = at_each (raise_peak s a) s
 
--- the peaks of the groups from p upward, the root left out
+-- the peaks of the groups from p upward, without the root
 abbrev pub peaks_upward : State → Path → List ℕ
 peaks_upward s p = map (λ q. (attr_of s q).peak) (take (length p) (upward p))
 
--- the attributes of p with its peak among those of the groups from a upward
+-- the attributes of p with its peak from the list, which has the peaks of the groups from a upward
 abbrev pub set_peak : Path → List ℕ → Path → Attr → Attr
 set_peak a peaks p attr = record attr { peak = cond (counts_for a p) (get_or peaks (length a - length p) attr.peak) attr.peak }
 
--- these peaks along the groups from a upward, the root left out
+-- sets these peaks along the groups from a upward, without the root
 abbrev pub set_peaks : Path → List ℕ → State → State
 set_peaks a peaks s = at_each (set_peak a peaks) s
 
--- what an accepted command leaves
+-- the state after an accepted command
 abbrev pub after : State → Command → State
 after s (MakeGroup p) = record s { groups = insert s.groups p fresh }
 after s (RemoveGroup p) = record s { groups = remove s.groups p }
@@ -135,7 +135,7 @@ after s (Show p file) = s
 after s (Locate pid) = s
 after s Undo = s
 
--- the attributes of p when a has refused one fork more
+-- the attributes of p after a refused one more fork
 abbrev pub count_up : Path → Path → Attr → Attr
 count_up a p attr = record attr {
   local = attr.local + cond (same_path p a) 1 0;
@@ -148,7 +148,7 @@ count_down a p attr = record attr {
   total = attr.total - cond (counts_for a p) 1 0;
 }
 
--- what a refusal leaves: a fork refused by a limit is counted, and no other refusal changes anything
+-- the state after a refusal: a fork that a limit refused is counted; no other refusal changes anything
 abbrev pub after_refusal : State → Refusal → State
 after_refusal s (OverPidsMax a) = at_each (count_up a) s
 after_refusal s Exists = s

@@ -1,4 +1,4 @@
--- Traces: lines, words, and the command or the text fault that a line says.
+-- Traces: lines, words, and the command or text fault of a line.
 use Rattle.std.specs.Prelude.{ℕ, Bool, false, cond, not, ◌||◌, ◌==◌, nat_lt, List, [], ◌∷◌, length, codes, filter, map, Result, Ok, Err}
 use Rattle.std.specs.List.{slice_split}
 use Rattle.flat_model.specs.Refuse.{map_ok, or_fault, some_or, and_then}
@@ -16,17 +16,17 @@ Word = List ℕ
 abbrev pub is_line_feed : ℕ → Bool
 is_line_feed b = b == 0x0A
 
--- blank, tab, carriage return
+-- a space, a tab, or a carriage return
 abbrev pub is_blank : ℕ → Bool
 is_blank b = b == 0x20 || b == 0x09 || b == 0x0D
 
--- the pieces, but for an empty last one
+-- the pieces, without an empty last one
 abbrev pub without_empty_end : List (List ℕ) → List (List ℕ)
 without_empty_end [] = []
 without_empty_end (piece ∷ []) = cond (length piece == 0) [] (piece ∷ [])
 without_empty_end (piece ∷ next ∷ pieces) = piece ∷ without_empty_end (next ∷ pieces)
 
--- the text cut at its line feeds, which belong to no line; what stands behind the last one is a line if there is any
+-- the text cut at its line feeds, which are not part of the lines; text after the last line feed is a line if it is not empty
 abbrev pub lines_in : List ℕ → List (List ℕ)
 lines_in text = without_empty_end (slice_split is_line_feed text)
 
@@ -48,7 +48,7 @@ pub data Line : Type 0 where
   Run : Command → Line
   Fault : TextFault → Line
 
--- the most bytes of a line that is a command
+-- the most bytes of a line with a command
 abbrev pub line_max : ℕ
 line_max = 8192
 
@@ -65,20 +65,20 @@ file_word w = some_or BadFile (file_named w)
 abbrev pub pid_word : Word → Result ℕ TextFault
 pid_word w = or_fault BadValue (read_pid w)
 
--- the command that writes a value of this kind to its file of the group
+-- the command that writes a value of this kind to the group's file
 abbrev pub write_as : Path → ValueKind → Word → Result Command TextFault
 write_as p PidValue w = map_ok (Move p) (pid_word w)
 write_as p (LimitValue file) w = map_ok (SetLimit p file) (or_fault BadValue (read_limit file w))
 write_as p KillValue w = map_ok (λ one. Kill p) (or_fault BadValue (read_kill w))
 
--- a write of a value to a file of the group: direction first, and then the value
+-- writing a value to a file of the group: the direction is tested first, then the value
 abbrev pub write_of : Path → File → Word → Result Command TextFault
 write_of p file w = and_then (some_or BadDirection (value_kind file)) (λ kind. write_as p kind w)
 
 abbrev pub show_of : Path → File → Result Command TextFault
 show_of p file = cond (readable file) (Ok (Show p file)) (Err BadDirection)
 
--- what stands behind each first word: a wrong number of words is bad syntax, and then path, file, direction and value are read in this order
+-- the rest of a line, by its first word: a wrong number of words is bad syntax; then path, file, direction and value are tested in this order
 abbrev pub mkdir_of : List Word → Result Command TextFault
 mkdir_of [] = Err BadSyntax
 mkdir_of (p ∷ []) = map_ok MakeGroup (path_word p)
@@ -151,10 +151,10 @@ line_with len (first ∷ rest) =
     (cond (nat_lt line_max len) (Fault BadSyntax)
     (line_of (command_of_words first rest)))
 
--- what a line says
+-- the meaning of a line
 abbrev pub read_line : List ℕ → Line
 read_line bytes = line_with (length bytes) (words_in bytes)
 
--- what a trace says, line by line
+-- the meaning of a trace, line by line
 abbrev pub read_trace : List ℕ → List Line
 read_trace bytes = map read_line (lines_in bytes)

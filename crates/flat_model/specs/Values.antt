@@ -1,4 +1,4 @@
--- The values that are written to files: their ranges, and which fault a text has first.
+-- The values that can be written to files: their ranges, and the first fault of any other text.
 use Rattle.std.specs.Prelude.{ℕ, ◌-◌, Bool, false, cond, not, ◌&&◌, ◌||◌, ◌==◌, nat_lt, nat_le, List, [], ◌∷◌, length, take, drop, codes, Option, None, Result, Ok}
 use Rattle.std.specs.List.{prefix_len, suffix_len}
 use Rattle.std.specs.Str.{all_ascii_digits}
@@ -12,11 +12,11 @@ use Rattle.flat_model.specs.File.{LimitFile, PidsMax, MaxDescendants, MaxDepth}
 abbrev pub pid_max : ℕ
 pid_max = 4194303
 
--- the greatest number that `cgroup.max.descendants` and `cgroup.max.depth` take, and which they hold as no limit
+-- the greatest number that `cgroup.max.descendants` and `cgroup.max.depth` accept; it means no limit
 abbrev pub hierarchy_limit_max : ℕ
 hierarchy_limit_max = 2147483647
 
--- the greatest number that the file of a limit takes
+-- the greatest number that the file of a limit accepts
 abbrev pub limit_max : LimitFile → ℕ
 limit_max PidsMax = 4194304
 limit_max MaxDescendants = hierarchy_limit_max
@@ -28,11 +28,11 @@ pub data ValueFault : Type 0 where
   LeadingZero : ValueFault
   OutOfRange : ValueFault
 
--- blank, tab, line feed, carriage return
+-- a space, a tab, a line feed, or a carriage return
 abbrev pub is_space : ℕ → Bool
 is_space b = b == 0x20 || b == 0x09 || b == 0x0A || b == 0x0D
 
--- the text without the spaces at both ends
+-- the text without spaces at both ends
 abbrev pub without_front : List ℕ → List ℕ
 without_front text = drop (prefix_len is_space text) text
 
@@ -60,11 +60,11 @@ read_number low high digits = unless (number_fault low high digits) (digits_valu
 abbrev pub read_pid : List ℕ → Result ℕ ValueFault
 read_pid text = read_number 1 pid_max (trimmed text)
 
--- the one value of `cgroup.kill` is 1
+-- the only value of `cgroup.kill` is 1
 abbrev pub read_kill : List ℕ → Result ℕ ValueFault
 read_kill text = read_number 1 1 (trimmed text)
 
--- the limit that a number in the file's range is
+-- the limit of a number in the file's range
 abbrev pub limit_from : LimitFile → ℕ → Limit
 limit_from PidsMax n = At n
 limit_from MaxDescendants n = cond (n == hierarchy_limit_max) Unlimited (At n)

@@ -1,4 +1,4 @@
--- The words of the worked examples of audits: a desk of two sessions after three commands, of sessions 0, 1 and 0.
+-- The values of the worked examples of audits: a desk with two sessions after three commands, of sessions 0, 1 and 0.
 use Rattle.std.specs.Prelude.{ℕ, List, [], ◌∷◌, codes}
 use Rattle.flat_model.specs.File.{PidsCurrent}
 use Rattle.flat_model.specs.Command.{Command, Reply, MakeGroup, Show, Undo, Done, Text, Undone}
@@ -21,7 +21,7 @@ session k rs = record { number = k; receipts = rs }
 abbrev pub three : Exchange → Exchange → Exchange → List Entry
 three a b c = entry 0 a ∷ entry 1 b ∷ entry 0 c ∷ []
 
--- the three of one worked example
+-- the three exchanges of one worked example
 abbrev pub made : Exchange
 made = record { command = MakeGroup (codes "x" ∷ []); reply = Done }
 

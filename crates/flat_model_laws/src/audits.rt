@@ -1,4 +1,4 @@
-//! What an audit's definition says. Each function is proof only: its contract is a law.
+//! The laws of the definition of an audit. Each function is proof only: its contract is a law.
 
 ghost use Rattle.std.specs.Prelude.{
   ◌≡◌,
@@ -32,8 +32,7 @@ ghost use Rattle.flat_model.specs.Audit.{
   FirstFault,
 };
 
-/// Receipts are the log's entries exactly where they have no fault, and there is one first fault at
-/// most.
+/// Receipts are the log's entries exactly if they have no fault; there is at most one first fault.
 pub fn fault_or_entries()
     ensures not_both { (n : ℕ) (log : List Entry) (ss : List Session) (f : ReceiptFault)
         → FirstFault n log ss f → AreEntries n log ss → ⊥ }
@@ -41,7 +40,7 @@ pub fn fault_or_entries()
         → FirstFault n log ss f → FirstFault n log ss g → f ≡ g }
 {}
 
-/// The receipts are the log's entries exactly where there is no first fault, and one of the two can
+/// The receipts are the log's entries exactly if there is no first fault. One of the two can always
 /// be found.
 pub fn fault_is_found()
     ensures exactly { (n : ℕ) (log : List Entry) (ss : List Session)
@@ -50,8 +49,8 @@ pub fn fault_is_found()
         → AreEntries n log ss ⊎ ((f : ReceiptFault) × FirstFault n log ss f) }
 {}
 
-/// Then each entry has one receipt, which is its own, and the numbers ascend within each session's
-/// list.
+/// If the receipts are the log's entries, each entry has one receipt, which equals it, and the
+/// numbers ascend within each session's list.
 pub fn entries_once()
     ensures once { (n : ℕ) (log : List Entry) (ss : List Session) (i : ℕ) → AreEntries n log ss
         → i < length log → count_by (λ m. m == i) (numbers (handed ss)) ≡ 1 }
@@ -63,7 +62,7 @@ pub fn entries_once()
         → All (λ s. IsStrictlyIncreasing (map (λ r. r.number) s.receipts)) ss }
 {}
 
-/// A receipt may follow sound ones exactly where it is no stranger and is the entry at its number.
+/// A receipt may follow sound ones exactly if it is no stranger and equals the entry at its number.
 pub fn stranger_or_next()
     ensures follows { (n : ℕ) (log : List Entry) (before : List Handed) (h : Handed)
         → AreSound n log before → (IsStranger n log before h → ⊥)

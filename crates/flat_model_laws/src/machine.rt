@@ -1,5 +1,5 @@
-//! The laws of the machine: a command and its undo, a run and its undos, and what holds of every
-//! machine that commands reach.
+//! The laws of the machine: a command and its undo, a run and its undos, and what holds for every machine that commands
+//! reach.
 
 ghost use Rattle.std.specs.Prelude.{
   ◌≡◌,
@@ -48,8 +48,8 @@ ghost use Rattle.flat_model.specs.Machine.{
 ghost use Rattle.flat_model.specs.WellFormed.{WellFormed, MachineWellFormed};
 ghost use Rattle.flat_model.specs.Events.{HasEventsUpTo, EventsBounded};
 
-/// A recorded command and then its undo give the machine back as it was, from any machine: an
-/// accepted one, and a fork that `pids.max` refused.
+/// A recorded command and then its undo restore the machine, from any machine. The command is one that was accepted, or a
+/// fork that `pids.max` refused.
 pub fn one_undone()
     ensures accepted { (slots : ℕ) (m : Machine) (c : Command) → refusal slots m.state c ≡ None
         → changes c ≡ true → tick slots (tick slots m c).0 Undo ≡ (m, Undone c) }
@@ -58,9 +58,8 @@ pub fn one_undone()
         → tick slots (tick slots m c).0 Undo ≡ (m, Undone c) }
 {}
 
-/// A run, and then as many undos as it left records, give back the state and the past before it,
-/// whatever undos it had inside that took back only its own records. Undoing everything gives the
-/// start.
+/// A run and then as many undos as it left records restore the state and the past from before the run. The run may contain
+/// undos that undo only its own records. Undoing everything restores the start.
 pub fn run_undone()
     ensures run { (slots : ℕ) (m : Machine) (cs : List Command)
         → TakesBackItsOwn slots (length m.past) m cs
@@ -73,9 +72,9 @@ pub fn run_undone()
         → replies slots m (undos (length m.past)) ≡ map (λ e. Undone e.0) m.past }
 {}
 
-/// In every state that commands reach, undo among them, the state is well formed, and so is each
-/// that an undo can give back; each group's count is its own members and what its children count,
-/// `populated` says whether there is one, and its descendants are its children and theirs.
+/// In every state that commands, including undo, reach: the state is well formed, and so is each state that an undo can
+/// restore. Each group's count is its own members plus what its children count. `populated` says whether there is such a
+/// process. A group's descendants are its children and theirs.
 pub fn reachable_is_exact()
     ensures kept { (slots : ℕ) (m : Machine) (c : Command) → MachineWellFormed slots m
         → MachineWellFormed slots (tick slots m c).0 }
@@ -91,17 +90,17 @@ pub fn reachable_is_exact()
         ≡ length (children s g) + sum_by (descendant_count s) (children s g) }
 {}
 
-/// Each event total is at most the number of commands recorded until then: in the state now, and in
-/// each that an undo can give back.
+/// Each event total is at most the number of commands recorded before: in the present state, and in each state that an undo
+/// can restore.
 pub fn events_are_bounded()
     ensures kept { (slots : ℕ) (m : Machine) (c : Command) → EventsBounded m
         → EventsBounded (tick slots m c).0 }
     ensures bounded { (slots : ℕ) (cs : List Command) → EventsBounded (after_all slots cs) }
 {}
 
-/// The past is what undos give back, each state in turn: it is well formed where each of those is,
-/// its event totals are bounded where those of each are by what is still recorded then, and a run takes
-/// back its own records alone where none of its commands leaves fewer than there were.
+/// The past is what undos restore, each state in turn. It is well formed exactly if each of these states is. Its event
+/// totals are bounded exactly if those of each state are bounded by the number of commands recorded before it. A run undoes
+/// only its own records exactly if none of its commands leaves fewer records than there were before the run.
 pub fn past_is_given_back()
     ensures well_formed { (slots : ℕ) (m : Machine) → MachineWellFormed slots m
         ↔ ((k : ℕ) → WellFormed slots (end_of slots m (undos k)).state) }
@@ -112,7 +111,7 @@ pub fn past_is_given_back()
         → floor ≤ length (end_of slots m (take k cs)).past) }
 {}
 
-/// No total of a group is above the bound exactly where no group has one that is.
+/// No total of a group exceeds the bound exactly if no group has a total that does.
 pub fn bounded_totals()
     ensures { (n : ℕ) (s : State) → HasEventsUpTo n s ↔ ((p : Path)
         → asks (λ attr. ltb n attr.local || ltb n attr.total) (get s.groups p) ≡ false) }

@@ -35,7 +35,7 @@ ghost use Rattle.flat_model.specs.Path.{
 };
 ghost use Rattle.flat_model.specs.PathText.{IsPath, path_text, read_path, child_path};
 
-/// Names and paths each stand in one order, and only equal ones tie in it.
+/// Names have one order, and so do paths; only equal ones compare as equal.
 pub fn paths_are_ordered()
     ensures names { IsTotalOrder name_cmp }
     ensures names_exactly { IsAntisymmetric name_cmp }
@@ -45,7 +45,7 @@ pub fn paths_are_ordered()
     ensures path_test { (p q : Path) → (same_path p q ≡ true) ↔ (p ≡ q) }
 {}
 
-/// A group is at or below another where the other's names begin its own.
+/// A group is at or below another exactly if its path begins with the other's names.
 pub fn below_is_prefix()
     ensures test { (p q : Path) → (at_or_below p q ≡ true) ↔ HasPrefix p q }
     ensures strictly { (p q : Path)
@@ -58,13 +58,14 @@ pub fn below_is_prefix()
     ensures parent { (p : Path) → at_or_below p (parent p) ≡ true }
     ensures child { (p : Path) (name : Name) → parent (p ++ name ∷ []) ≡ p }
 
-    // The groups above one group stand in a line.
+    // Of two groups at or above one group, one is at or above the other.
     ensures line { (p q r : Path) → at_or_below p q ≡ true → at_or_below p r ≡ true
         → (at_or_below q r ≡ true) ⊎ (at_or_below r q ≡ true) }
     ensures shorter { (p q : Path) → at_or_below p q ≡ true → length q ≤ length p }
 {}
 
-/// The groups on the way from the root to p, and back up from p, are those that p is at or below.
+/// The groups on the way from the root to p, and from p up to the root, are those that p is at or
+/// below.
 pub fn ancestors_are_prefixes()
     ensures prefixes { (p q : Path) → Contains (prefixes p) q ↔ (at_or_below p q ≡ true) }
     ensures upward { (p q : Path) → Contains (upward p) q ↔ (at_or_below p q ≡ true) }
@@ -77,8 +78,8 @@ pub fn path_is_read_back()
     ensures apart { (p q : Path) → IsPath p → IsPath q → path_text p ≡ path_text q → p ≡ q }
 {}
 
-/// The first names of a path are a path, and a name below it is one exactly where it is in the
-/// grammar.
+/// The first names of a path are a path. A child of a path is a path exactly if the grammar allows
+/// it.
 pub fn neighbours_are_paths()
     ensures front { (n : ℕ) (p : Path) → IsPath p → IsPath (take n p) }
     ensures child { (p : Path) (name : Name) → IsPath p

@@ -1,4 +1,5 @@
-//! The laws of peaks: what raises one, what leaves it, and that it is no lower than what there is.
+//! The laws of peaks: what raises them, what keeps them, and that they are no lower than the
+//! counts.
 
 ghost use Rattle.std.specs.Prelude.{
   ◌≡◌,
@@ -41,9 +42,9 @@ ghost use Rattle.flat_model.specs.Step.{
 ghost use Rattle.flat_model.specs.Machine.{after_all};
 ghost use Rattle.flat_model.specs.Peaks.{IsRaised};
 
-/// A fork raises the peaks of the child's group and of those above it but the root to their counts,
-/// where they are lower; a move does so for the new group. Nothing else of a group changes, and
-/// none is made.
+/// A fork raises the peaks of the child's group and of those above it other than the root to their
+/// counts, if they are lower. A move does so for the new group. Nothing else of a group changes,
+/// and no group is made.
 pub fn peaks_are_raised()
     ensures fork { (s : State) (from child : ℕ) (p : Path) (x : Attr) → get s.groups p ≡ Some x
         → (y : Attr) × (get (after s (Fork from child)).groups p ≡ Some y)
@@ -61,8 +62,8 @@ pub fn peaks_are_raised()
         → (after s (Move a pid)).home ≡ insert s.home pid a }
 {}
 
-/// No other command changes a peak: not an exit or a kill, by which counts fall, and not a fork
-/// that is refused.
+/// No other command changes a peak: neither an exit nor a kill, which lower counts, nor a refused
+/// fork.
 pub fn peaks_are_kept()
     ensures exit { (s : State) (pid : ℕ) → (after s (Exit pid)).groups ≡ s.groups }
     ensures kill { (s : State) (g : Path) → (after s (Kill g)).groups ≡ s.groups }
@@ -75,8 +76,8 @@ pub fn peaks_are_kept()
         → get (after_refusal s r).groups p ≡ Some y → y.peak ≡ x.peak }
 {}
 
-/// In each state that commands reach a group but the root has a peak that is no lower than its
-/// `pids.current`, and the root has none.
+/// In each state that commands reach, the peak of a group other than the root is no lower than its
+/// `pids.current`, and the root has no peak.
 pub fn peaks_hold_the_counts()
     ensures reached { (slots : ℕ) (cs : List Command) (p : Path) (x : Attr)
         → get (after_all slots cs).state.groups p ≡ Some x → is_root p ≡ false
@@ -85,8 +86,8 @@ pub fn peaks_hold_the_counts()
         → get (after_all slots cs).state.groups [] ≡ Some x → x.peak ≡ 0 }
 {}
 
-/// The peaks along a path are those of the groups from it upward, one for each of its names, and
-/// set along it they leave it as it is.
+/// The peaks along a path are those of the groups from its own group upward, one for each of its
+/// names. Setting them along the path changes nothing.
 pub fn peaks_along_a_path()
     ensures many { (s : State) (p : Path) → length (peaks_upward s p) ≡ length p }
     ensures each { (s : State) (p : Path) (i other : ℕ) → i < length p

@@ -1,4 +1,4 @@
-//! The laws of records: each takes its command back, and a journal of them stands for a past.
+//! The laws of records: each undoes its command, and a journal of them describes a past.
 
 ghost use Rattle.std.specs.Prelude.{◌≡◌, ◌∷◌, ℕ, List, [], Some, None, is_some};
 ghost use Rattle.flat_model.specs.State.{State};
@@ -6,22 +6,21 @@ ghost use Rattle.flat_model.specs.Command.{Command, Refusal, changes, is_counted
 ghost use Rattle.flat_model.specs.Step.{refusal, after, after_refusal};
 ghost use Rattle.flat_model.specs.Inverse.{Inverse, back, inverse, inverse_of_refusal, past_of};
 
-/// A recorded command, taken back by its record, gives the state before it, from any state where it
-/// is accepted. So does a fork that was refused by `pids.max` and counted.
+/// A recorded command, undone by its record, gives the state before it, from any state in which it is accepted. So does a
+/// fork that `pids.max` refused and that was counted.
 pub fn taken_back()
     ensures accepted { (slots : ℕ) (s : State) (c : Command) (i : Inverse)
         → refusal slots s c ≡ None → inverse s c ≡ Some i → back i (after s c) ≡ s }
     ensures counted { (s : State) (r : Refusal) (i : Inverse) → inverse_of_refusal r ≡ Some i
         → back i (after_refusal s r) ≡ s }
 
-    // What the machine records has a record, and nothing else has.
+    // Exactly the commands that the machine records have a record.
     ensures recorded { (s : State) (c : Command) → is_some (inverse s c) ≡ changes c }
     ensures counted_recorded { (r : Refusal) → is_some (inverse_of_refusal r) ≡ is_counted r }
 {}
 
-/// A journal stands for a past: that of an empty one is empty, and with a recorded command in front,
-/// read from the state that the command left, it is the command with the state before it, and then
-/// the past as it was read from there.
+/// A journal describes a past. That of an empty journal is empty. With a recorded command in front, read from the state
+/// after that command, it is the command with the state before it, then the rest of the past as read from that state.
 pub fn journal_is_a_past()
     ensures empty { (s : State) → past_of s [] ≡ [] }
     ensures accepted { (slots : ℕ) (s : State) (c : Command) (i : Inverse)

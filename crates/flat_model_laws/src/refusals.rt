@@ -1,5 +1,5 @@
-//! The laws of refusals, exactly: which commands are accepted, what a limit lets through and what
-//! it refuses, and what is counted of a refusal.
+//! The exact laws of refusals: which commands are accepted, what a limit permits and refuses, and
+//! what is counted of a refusal.
 
 ghost use Rattle.std.specs.Prelude.{◌≡◌, ◌≢◌, ℕ, ◌≤◌, ◌↔◌, true, false, [], Some, None};
 ghost use Rattle.std.specs.FinMap.{get, len};
@@ -38,10 +38,10 @@ ghost use Rattle.flat_model.specs.Limiting.{
   MeetsDepth,
 };
 
-/// `pids.max` refuses a fork of one process by another exactly where the fork would leave a group
-/// past its limit, and names the one group that limits it.
+/// `pids.max` refuses a fork exactly if the fork would bring a group past its limit, and names the
+/// one group that limits it.
 pub fn pids_limits_are_exact()
-    // No group at or above g but the root has more processes than it may have.
+    // No group at or above g other than the root has more processes than its limit.
     ensures within { (s : State) (g : Path) → IsWithinPids s g ↔ ((a : Path)
         → at_or_below g a ≡ true → is_root a ≡ false
         → asks (λ attr. exceeds (current s a) attr.limits.pids) (get s.groups a) ≡ false) }
@@ -52,8 +52,8 @@ pub fn pids_limits_are_exact()
     ensures one { (s : State) (g a b : Path) → IsLimiting s g a → IsLimiting s g b → a ≡ b }
 {}
 
-/// A limit of the hierarchy refuses a new group exactly where a group above has no room for it, and
-/// names the one group and the one limit.
+/// A limit of the hierarchy refuses a new group exactly if a group above has no room for it. The
+/// refusal names the one group and the one limit.
 pub fn hierarchy_limits_are_exact()
     ensures room { (s : State) (q a : Path) → HasRoomFor s q a ↔ (limit_met s q a ≡ None) }
     ensures free { (s : State) (p : Path)
@@ -64,12 +64,12 @@ pub fn hierarchy_limits_are_exact()
         → MeetsDepth s (parent p) a ↔ (blocked_make s p ≡ Some (Depth a)) }
 {}
 
-/// The attributes that a counted fork leaves are those that the step computes, and no others.
+/// The attributes after a counted fork are those that the step computes, and no others.
 pub fn events_are_counted_exactly()
     ensures { (a p : Path) (x y : Attr) → IsCounted a p x y ↔ (y ≡ count_up a p x) }
 {}
 
-/// A command on a group is accepted exactly where what it asks for is so.
+/// A command on a group is accepted exactly if its conditions hold.
 pub fn group_commands_are_accepted()
     ensures made { (slots : ℕ) (s : State) (p : Path) → (refusal slots s (MakeGroup p) ≡ None)
         ↔ ((is_group s p ≡ false) × (is_group s (parent p) ≡ true) × HasRoomBelow s (parent p)
@@ -88,7 +88,7 @@ pub fn group_commands_are_accepted()
         ↔ ((readable file ≡ true) × (is_group s p ≡ true) × (p ≡ [] → on_root file ≡ true)) }
 {}
 
-/// A command on a process is accepted exactly where what it asks for is so.
+/// A command on a process is accepted exactly if its conditions hold.
 pub fn process_commands_are_accepted()
     ensures forked { (slots : ℕ) (s : State) (from child : ℕ)
         → (refusal slots s (Fork from child) ≡ None)

@@ -1,4 +1,4 @@
-//! The laws of states: what commands keep, what the counts are, and what the limits let through.
+//! The laws of states: what commands keep, what the counts are, and what the limits permit.
 
 ghost use Rattle.std.specs.Prelude.{
   ◌≡◌,
@@ -53,9 +53,9 @@ ghost use Rattle.flat_model.specs.Limiting.{
   MeetsDepth,
 };
 
-/// Every command keeps a state well formed: the root is a group, the parents of groups and the
-/// homes of processes are groups, there are at most as many groups beside the root as there are
-/// slots, no total is below its local one, and no peak but the root's is below its group's count.
+/// Every command keeps a state well formed. The root is a group; the parents of groups and the homes of processes are
+/// groups. There are at most as many groups besides the root as slots. No total is below its local one, and no peak but the
+/// root's is below its group's count.
 pub fn well_formed_kept()
     ensures start { (slots : ℕ) → WellFormed slots start }
     ensures accepted { (slots : ℕ) (s : State) (c : Command) → WellFormed slots s
@@ -64,8 +64,8 @@ pub fn well_formed_kept()
         → refusal slots s c ≡ Some r → WellFormed slots (after_refusal s r) }
 {}
 
-/// `pids.current` counts each process once: a group's own members, and what its children count.
-/// `populated` says whether there is one. The descendants of a group are its children and theirs.
+/// `pids.current` counts each process once: a group's own members, and what its children count. `populated` says whether
+/// there is such a process. The descendants of a group are its children and theirs.
 pub fn counts_are_exact()
     ensures whole { (slots : ℕ) (s : State) → WellFormed slots s → (g : Path)
         → current s g ≡ length (members s g) + sum_by (current s) (children s g) }
@@ -75,8 +75,8 @@ pub fn counts_are_exact()
         ≡ length (children s g) + sum_by (descendant_count s) (children s g) }
 {}
 
-/// At the start there is the root alone, without limits, and process 1 in it. A new group has no
-/// limits, event totals of 0 and no peak, and leaves all else as it was.
+/// At the start there is only the root, without limits, and process 1 in it. A new group has no limits, event totals of 0
+/// and no peak, and changes nothing else.
 pub fn new_groups_are_bare()
     ensures root { get start.groups []
         ≡ Some (record {
@@ -99,9 +99,8 @@ pub fn new_groups_are_bare()
     ensures home { (s : State) (p : Path) → (after s (MakeGroup p)).home ≡ s.home }
 {}
 
-/// A fork that `pids.max` refuses raises the local total of the group that it names, and the total
-/// of that group and of each above it but the root; nothing else changes. No other refusal changes
-/// anything.
+/// A fork that `pids.max` refuses raises the local total of the group that it names, and the total of that group and of each
+/// above it other than the root. Nothing else changes. No other refusal changes anything.
 pub fn events_are_exact()
     ensures counted { (s : State) (a p : Path) (x : Attr) → get s.groups p ≡ Some x → (y : Attr)
         × (get (after_refusal s (OverPidsMax a)).groups p ≡ Some y) × IsCounted a p x y }
@@ -111,22 +110,21 @@ pub fn events_are_exact()
     ensures others { (s : State) (r : Refusal) → is_counted r ≡ false → after_refusal s r ≡ s }
 {}
 
-/// A kill leaves nobody in the group and below it, and everybody else where they are.
+/// A kill leaves no process in the group or below it, and all other processes where they are.
 pub fn kill_is_whole()
     ensures nobody { (s : State) (g : Path) → populated (after s (Kill g)) g ≡ false }
     ensures others { (s : State) (g : Path) (pid : ℕ) (p : Path) → get s.home pid ≡ Some p
         → at_or_below p g ≡ false → get (after s (Kill g)).home pid ≡ Some p }
 {}
 
-/// A limit refuses exactly what would break it, and names the group that it stands at: the nearest
-/// at or above the fork or the new group. At one group descendants come before depth.
+/// A limit refuses exactly what would break it, and names its group: the nearest at or above the fork or the new group. At
+/// one group the limit on descendants comes before that on depth.
 pub fn limits_are_exact()
     ensures fork { (slots : ℕ) (s : State) (from child : ℕ)
         → refusal slots s (Fork from child) ≡ None
         → IsWithinPids (after s (Fork from child)) (home_of s from) }
 
-    // Only a fork is refused by `pids.max`, and the group that is named is the nearest that the
-    // fork would bring past it.
+    // Only a fork is refused by `pids.max`, and the named group is the nearest whose limit the fork would exceed.
     ensures fork_refused { (slots : ℕ) (s : State) (c : Command) (a : Path)
         → refusal slots s c ≡ Some (OverPidsMax a)
         → (from : ℕ) × (child : ℕ) × (c ≡ Fork from child) × IsLimiting s (home_of s from) a }
@@ -138,10 +136,9 @@ pub fn limits_are_exact()
         → refusal slots s (MakeGroup p) ≡ Some (Depth a) → MeetsDepth s (parent p) a }
 {}
 
-/// What a well-formed state promises: each group above a group is there, each process is in a group
-/// that shows it, a group is refused for want of a slot only when each slot has one, no group
-/// counts more refused forks of its own than in all, and none but the root counts more processes than its
-/// peak.
+/// What a well-formed state guarantees. Each group above a group exists. Each process is in a group, which lists it. A group
+/// is refused because no slot is free only if each slot has a group. No group counts more refused forks of its own than in
+/// all. No group but the root counts more processes than its peak.
 pub fn well_formed_is_closed()
     ensures groups { (slots : ℕ) (s : State) (p q : Path) → WellFormed slots s
         → is_group s p ≡ true → at_or_below p q ≡ true → is_group s q ≡ true }

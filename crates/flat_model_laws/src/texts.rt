@@ -1,5 +1,5 @@
-//! The laws of the texts of values, files and commands. Each function says its law and does
-//! nothing.
+//! The laws of the texts of values, files and commands. Each function is proof only: its contract
+//! is a law.
 
 ghost use Rattle.std.specs.Prelude.{
   ◌≡◌,
@@ -38,20 +38,21 @@ ghost use Rattle.flat_model.specs.Trace.{
   read_trace,
 };
 
-/// A pid is read from its decimal, and from no other text but for spaces at both ends.
+/// A pid is read from its decimal digits, with or without spaces at both ends, and from no other
+/// text.
 pub fn pid_is_read_back()
     ensures read { (n : ℕ) → IsPid n → read_pid (decimal n) ≡ Ok n }
     ensures only { (t : List ℕ) (n : ℕ) → read_pid t ≡ Ok n → IsPid n × (trimmed t ≡ decimal n) }
 {}
 
-/// The text of `cgroup.kill` is `1`, and no other text but for spaces at both ends.
+/// The text for `cgroup.kill` is `1`, with or without spaces at both ends, and no other.
 pub fn kill_is_one()
     ensures { (t : List ℕ) (n : ℕ) → read_kill t ≡ Ok n → trimmed t ≡ codes "1" }
 {}
 
-/// A limit is read from the text that its file shows, and from no other but for spaces at both ends
-/// and the greatest number of a hierarchy limit, which is no limit. Each limit that is read is one
-/// of the file.
+/// A limit is read from the text that its file shows, with or without spaces at both ends, and for
+/// no limit of the hierarchy also from the greatest number; from no other text. Each limit that is
+/// read is one that the file can have.
 pub fn limit_is_read_back()
     ensures read { (file : LimitFile) (l : Limit) → IsLimit file l
         → read_limit file (limit_text l) ≡ Ok l }
@@ -67,8 +68,8 @@ pub fn file_is_read_back()
     ensures only { (name : List ℕ) (f : File) → file_named name ≡ Some f → name ≡ file_name f }
 {}
 
-/// A write is refused for its direction exactly where the file is not written, whatever the value,
-/// and `cat` where it is not read.
+/// A write is refused for its direction exactly if the file cannot be written, whatever the value;
+/// `cat` exactly if it cannot be read.
 pub fn direction_is_of_the_file()
     ensures written { (p : Path) (file : File) (value : List ℕ)
         → (write_of p file value ≡ Err BadDirection) ↔ (writable file ≡ false) }
@@ -76,7 +77,7 @@ pub fn direction_is_of_the_file()
         → (show_of p file ≡ Err BadDirection) ↔ (readable file ≡ false) }
 {}
 
-/// The text of a command is read as that command, no two commands have one text, and each command
+/// The text of a command is read as that command. No two commands have the same text. Each command
 /// that is read has a text.
 pub fn command_is_read_back()
     ensures read { (c : Command) → IsSayable c → read_line (command_text c) ≡ Run c }

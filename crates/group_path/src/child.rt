@@ -1,4 +1,4 @@
-//! One name more: the path of a child.
+//! The path of a child: a path with one more name.
 
 ghost use Rattle.std.specs.Prelude.{◌≡◌, ◌≢◌, ◌≤◌, [], ◌∷◌, ◌++◌, length, IfErr, IfOk};
 ghost use Rattle.inline_bytes.specs.declared.bytes.TheConstants.{INLINE_MAX};
@@ -12,12 +12,12 @@ use inline_bytes::InlineBytes;
 use std::alloc::Allocator;
 
 impl<A: Allocator + Clone> GroupPath<A> {
-    /// The group of this name below this one, in time linear in both texts.
+    /// The child of this group with the given name. Linear in both texts.
     ///
     /// # Errors
     ///
-    /// The first that holds, in this order: `EmptyName`, `BadByte` with the byte's place in the name, `NameTooLong`,
-    /// `DotName`, `Reserved`, `TooDeep`, `TooLong`, `OutOfMemory`.
+    /// The first of these that applies: `EmptyName`, `BadByte` with the byte's index in the name, `NameTooLong`, `DotName`,
+    /// `Reserved`, `TooDeep`, `TooLong`, `OutOfMemory`.
     pub fn child<B: Allocator + Clone>(
         &self,
         alloc: B,
@@ -26,7 +26,7 @@ impl<A: Allocator + Clone> GroupPath<A> {
         ensures found { IfOk result (λ p. p ≡ self.now ++ name.now ∷ []) }
         ensures first { FollowsGrammar result (child_path self.now name.now) }
 
-        // A text that short takes no memory.
+        // A text this short needs no allocation.
         ensures few { length (path_text (self.now ++ name.now ∷ [])) ≤ INLINE_MAX → IfErr result (λ fault. fault ≢ PathFault.OutOfMemory) }
     {
         let _ = &self.text;
@@ -50,7 +50,7 @@ impl<A: Allocator + Clone> GroupPath<A> {
         Ok(())
     }
 
-    /// A slash before each name: the text, but nothing for the root.
+    /// The text with a slash before each name. The root's is empty.
     fn spelled(&self) -> &[u8]
         ensures { result.now ≡ spelled self.now }
     {

@@ -1,4 +1,4 @@
-//! Why a text is no path.
+//! Why a text is not a path.
 
 ghost use Rattle.std.specs.Prelude.{◌≡◌};
 ghost use Rattle.group_path.specs.declared.fault.PathFault.TheVariants.{OutOfMemory};
@@ -7,22 +7,23 @@ use crate::grammar::{DEPTH_MAX, NAME_MAX, TEXT_MAX};
 use std::alloc::AllocError;
 use thiserror::Error;
 
-/// Why a text is no path, or a name no child of one.
+/// Why a text is not a path, or a name is not the name of a child.
 #[derive(Clone, Copy, Debug, PartialEq, Eq, Error)]
 pub enum PathFault {
     /// The text is empty or does not begin with a slash.
     #[error("a path begins with a slash")]
     NotRooted,
-    /// A name has no bytes, as behind a slash at the end.
+    /// A name is empty, as after a slash at the end.
     #[error("a name is empty")]
     EmptyName,
-    /// The byte at this place of the text, or of a child's name, counted from 0, may not stand in a name.
+    /// A name contains a byte that is not allowed. The number is its index in the text, or in a child's name, counted from
+    /// 0.
     #[error("the byte at {0} may not stand in a name")]
     BadByte(usize),
     /// A name is `.` or `..`.
     #[error("a name is `.` or `..`")]
     DotName,
-    /// A name begins with `cgroup.` or `pids.`, as the kernel's interface files do.
+    /// A name begins with `cgroup.` or `pids.`, like the kernel's interface files.
     #[error("a name begins with `cgroup.` or `pids.`")]
     Reserved,
     /// A name has more than `NAME_MAX` bytes.
@@ -34,7 +35,7 @@ pub enum PathFault {
     /// The text has more than `TEXT_MAX` bytes.
     #[error("the path has more than {max} bytes", max = TEXT_MAX)]
     TooLong,
-    /// There was no memory for the path.
+    /// The allocation of the path failed.
     #[error("out of memory")]
     OutOfMemory,
 }

@@ -1,4 +1,4 @@
-//! The grammar of names and of texts, tested from the left.
+//! The grammar of names and paths, tested from left to right.
 
 ghost use Rattle.std.specs.Prelude.{◌≡◌, ◌+◌, ◌<◌, ◌≤◌, ◌^◌, length};
 ghost use Rattle.std.specs.List.{position_from, slice_split};
@@ -23,7 +23,7 @@ fn is_name_byte(b: u8) -> bool
     matches!(b, 0x21..=0x7e) && b != b'/'
 }
 
-/// The place of the first byte that may not stand in a name, whose first byte stands at `at`.
+/// The index of the first byte of a name that is not allowed. The name starts at index `at`.
 fn bad_byte(at: usize, name: &[u8]) -> Option<usize>
     requires { at + length name.now < 2 ^ 64 }
     ensures { result ≡ position_from is_bad_byte at name.now }
@@ -50,7 +50,7 @@ fn is_reserved(name: &[u8]) -> bool
     name.starts_with(b"cgroup.") || name.starts_with(b"pids.")
 }
 
-/// Tests a name whose first byte stands at `at`.
+/// Tests a name that starts at index `at`.
 #[tactic(auto, unfolding(flat_model::specs::PathText::name_fault))]
 pub(crate) fn check_name(at: usize, name: &[u8]) -> Result<(), PathFault>
     requires { at + length name.now < 2 ^ 64 }
@@ -74,7 +74,7 @@ pub(crate) fn check_name(at: usize, name: &[u8]) -> Result<(), PathFault>
     Ok(())
 }
 
-/// Tests the names behind the first slash of a text.
+/// Tests the names after the first slash of a text.
 fn check_names(names: &[u8]) -> Result<(), PathFault>
     requires { length names.now < text_max }
     ensures { result ≡ checked (names_fault 0 1 (slice_split is_slash names.now)) }

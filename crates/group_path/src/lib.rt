@@ -1,27 +1,26 @@
-//! Paths of groups in the hierarchy of control groups.
+//! Paths of groups in the cgroup hierarchy.
 //!
-//! A path is `/`, the root, or one or more times a slash followed by a name. A name has 1 to 255 bytes from 0x21 to
-//! 0x7E without the slash; it is not `.` or `..`, and it does not begin with `cgroup.` or `pids.`, which the kernel's
-//! interface files do. A path has at most 32 names and at most 4,095 bytes. These bounds are this crate's own.
+//! A path is `/`, the root, or one or more names, each after a slash. A name has 1 to 255 bytes from 0x21 to 0x7E other than
+//! the slash. It is not `.` or `..`, and it does not begin with `cgroup.` or `pids.`, like the kernel's interface files. A
+//! path has at most 32 names and at most 4,095 bytes. These bounds are this crate's own.
 //!
-//! `GroupPath::read` accepts these texts and no others, and names the first fault of any other text, from the left. A
-//! path has one text, so paths are the same exactly where their texts are. Contracts see a path as its list of names,
-//! and a name as its list of bytes; each path that a call takes or gives is one of the grammar, which `known` tells a
-//! caller who needs the bounds.
+//! `GroupPath::read` accepts exactly these texts. For any other text it returns the first fault from the left. A path has
+//! one text, so two paths are equal exactly if their texts are. Contracts see a path as its list of names and a name as its
+//! list of bytes. Every path that a call takes or returns is in the grammar; `known` gives a caller its bounds.
 //!
-//! A path is over any allocator, and the calls that take a second path, or make one, take any other allocator too.
-//! A text of up to 23 bytes lies in the path itself. `read`, `parent`, `child` and `copy` ask for memory, once, for longer
-//! texts; they answer `OutOfMemory` or `AllocError` only where that was refused and nothing else is wrong. All other calls
-//! take none. Every call is linear in the texts at most.
+//! A path may use any allocator. A call that takes or makes a second path accepts another allocator for it. A text of up to
+//! 23 bytes is stored in the path itself. For longer texts `read`, `parent`, `child` and `copy` allocate once. They return
+//! `OutOfMemory` or `AllocError` only if that allocation fails and nothing else is wrong. No other call allocates. Every
+//! call is at most linear in the texts.
 //!
-//! Paths are ordered name by name, so that a group stands before the groups below it and these before its next
-//! sibling. That is not the order of the texts.
+//! Paths are ordered name by name: a group comes before the groups below it, and these come before its next sibling. This is
+//! not the order of the texts.
 //!
-//! Not promised: that a path names a group which exists, or that the kernel would take the name.
+//! Not promised: that the group of a path exists, or that the kernel would accept the name.
 //!
-//! The definitions stand in `flat_model`: `specs/Path.antt` (paths, their order, at or below) and `specs/PathText.antt`
-//! (texts, the grammar, the first fault). `specs/FollowsGrammar.antt` here says how a call answers one of those faults,
-//! and the laws of `hierarchy_laws` what such an answer tells.
+//! The definitions are in `flat_model`: `specs/Path.antt` (paths, their order, at or below) and `specs/PathText.antt`
+//! (texts, the grammar, the first fault). `specs/FollowsGrammar.antt` in this crate says how a call returns one of those
+//! faults. `hierarchy_laws` says what such a result means.
 #![tactic(auto)]
 
 mod child;

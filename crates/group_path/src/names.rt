@@ -1,4 +1,4 @@
-//! The names of a path, one after another.
+//! The names of a path, in order.
 
 ghost use Rattle.std.specs.Prelude.{◌≡◌};
 ghost use Rattle.std.specs.Iterator.{YieldsFirstBy, item_count};
@@ -10,9 +10,9 @@ use std::marker::Model;
 /// The names of a path from the root down, or the first of them, as slices of its text.
 #[derive(Drop)]
 pub struct Names<'a> {
-    /// What stands behind the next slash, where there is one.
+    /// The text after the next slash, if there is one.
     rest: Option<&'a [u8]>,
-    /// How many names are given at most.
+    /// The greatest number of names still to return.
     left: usize,
 }
 
@@ -29,7 +29,7 @@ impl<'a> Names<'a> {
     ghost use Rattle.std.specs.Prelude.{take, option_map};
     ghost use Rattle.group_path.specs.Names.{names_behind};
 
-    /// The first `left` names in what stands behind a slash, where there is one.
+    /// The first `left` names in the text after a slash, if there is one.
     pub(crate) fn of(rest: Option<&'a [u8]>, left: usize) -> Names<'a>
         ensures { result ≡ take left (names_behind (option_map (λ bytes. bytes.now) rest.entry)) }
     {
@@ -37,7 +37,7 @@ impl<'a> Names<'a> {
     }
 }
 
-/// Where the first slash stands.
+/// The index of the first slash.
 fn next_slash(bytes: &[u8]) -> Option<usize>
     ensures { result ≡ position is_slash bytes.now }
 {

@@ -1,4 +1,4 @@
-//! When paths are equal, and their order.
+//! Equality and order of paths.
 
 ghost use Rattle.std.specs.Prelude.{Some, refl};
 ghost use Rattle.std.specs.Cmp as laws;
@@ -9,7 +9,7 @@ use crate::path::GroupPath;
 use std::alloc::Allocator;
 use std::cmp::Ordering;
 
-/// Two paths are equal where they have the same names.
+/// Two paths are equal if they have the same names.
 impl<A: Allocator + Clone> PartialEq for GroupPath<A> {
     ghost eq = { same_path };
 
@@ -24,8 +24,8 @@ impl<A: Allocator + Clone> Eq for GroupPath<A> {
     ghost laws = { laws.eq_by_cmp_equiv (lists_total nat_list_cmp_total) };
 }
 
-/// Paths are ordered name by name, and names byte by byte: a group comes before those below it, and these come before
-/// its next sibling. The order of the texts is another one, since `!` to `.` come before the slash.
+/// Paths are ordered name by name, and names byte by byte: a group comes before the groups below it, and these come before
+/// its next sibling. The order of the texts differs, because the bytes `!` to `.` come before the slash.
 impl<A: Allocator + Clone> PartialOrd for GroupPath<A> {
     ghost partial_cmp = { λ p q. Some (path_cmp p q) };
 

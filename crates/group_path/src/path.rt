@@ -1,4 +1,4 @@
-//! A path, and what is read from it.
+//! A path and its readers.
 
 ghost use Rattle.std.specs.Prelude.{◌≡◌, ◌≢◌, ℕ, ◌<◌, ◌≤◌, [], true, if◌then◌else◌, length, take, IfErr, IfOk, IsOk, IsOkAnd, MatchResult};
 ghost use Rattle.inline_bytes.specs.declared.bytes.TheConstants.{INLINE_MAX};
@@ -13,7 +13,7 @@ use inline_bytes::InlineBytes;
 use std::alloc::{AllocError, Allocator};
 use std::marker::Model;
 
-/// A path of a group, from the root down: the root itself is `/`.
+/// The path of a group, from the root down. The root is `/`.
 #[derive(Drop)]
 pub struct GroupPath<A: Allocator + Clone> {
     pub(crate) text: InlineBytes<A>,
@@ -31,7 +31,7 @@ impl<A: Allocator + Clone> Model for GroupPath<A> {
 }
 
 impl<A: Allocator + Clone> GroupPath<A> {
-    /// The path of the root, `/`. It asks for no memory, and so there is no error.
+    /// The path of the root, `/`. Allocates nothing, so it never fails.
     pub fn root(alloc: A) -> Result<GroupPath<A>, AllocError>
         ensures { IsOkAnd result (λ p. p ≡ []) }
     {
@@ -39,24 +39,24 @@ impl<A: Allocator + Clone> GroupPath<A> {
         Ok(GroupPath { text })
     }
 
-    /// Reads a path, in time linear in the text.
+    /// Reads a path. Linear in the text.
     ///
     /// # Errors
     ///
-    /// The first that holds, in this order: `NotRooted`; `TooLong`; then for each name from the left `TooDeep` if it
-    /// is the 33rd, `EmptyName`, `BadByte` with the byte's place in the whole text, `NameTooLong`, `DotName`,
-    /// `Reserved`. `OutOfMemory` comes last.
+    /// The first of these that applies: `NotRooted`; `TooLong`; then for each name from the left `TooDeep` if it is the
+    /// 33rd, `EmptyName`, `BadByte` with the byte's index in the whole text, `NameTooLong`, `DotName`, `Reserved`;
+    /// `OutOfMemory`.
     pub fn read(alloc: A, text: &[u8]) -> Result<GroupPath<A>, PathFault>
-        // What is read is a path of the grammar, and the text is its text.
+        // The result is a path of the grammar, and the text is its text.
         ensures found { IfOk result (λ p. IsPath p × (text.now ≡ path_text p)) }
 
-        // The text of each path of the grammar is read as that path, unless memory runs out.
+        // The text of every path of the grammar is read as that path, unless memory runs out.
         ensures only { (p : Path) → IsPath p → text.now ≡ path_text p → MatchResult result (λ q. q ≡ p) (λ fault. fault ≡ PathFault.OutOfMemory) }
 
-        // Which fault it is.
+        // Which fault is returned.
         ensures first { FollowsGrammar result (read_path text.now) }
 
-        // A text that short takes no memory.
+        // A text this short needs no allocation.
         ensures few { length text.now ≤ INLINE_MAX → IfErr result (λ fault. fault ≢ PathFault.OutOfMemory) }
     {
         check_text(text)?;
@@ -64,15 +64,14 @@ impl<A: Allocator + Clone> GroupPath<A> {
         Ok(GroupPath { text })
     }
 
-    /// Tells callers that every path is one of the grammar, with its bounds on names, on their bytes and on the text.
-    /// It is proof only.
+    /// Gives callers that every path is in the grammar: the bounds on its names, on their bytes and on its text. Proof only.
     pub fn known(&self)
         ensures { IsPath self.now }
     {
         let _ = &self.text;
     }
 
-    /// The text with slashes.
+    /// The text, with slashes.
     pub fn text(&self) -> &[u8]
         ensures { result.now ≡ path_text self.now }
     {
@@ -87,7 +86,7 @@ impl<A: Allocator + Clone> GroupPath<A> {
         self.first_names(DEPTH_MAX)
     }
 
-    /// The first `n` names from the root down, or all where there are no more.
+    /// The first `n` names from the root down, or all if there are no more than `n`.
     pub fn first_names(&self, n: usize) -> Names<'_>
         ensures { result ≡ take n self.now }
     {
@@ -99,7 +98,7 @@ impl<A: Allocator + Clone> GroupPath<A> {
         }
     }
 
-    /// How many names there are: 0 for the root. Linear in the text.
+    /// The number of names; 0 for the root. Linear in the text.
     pub fn depth(&self) -> usize
         ensures { result ≡ length self.now }
     {
@@ -107,7 +106,7 @@ impl<A: Allocator + Clone> GroupPath<A> {
         self.names().count()
     }
 
-    /// Whether this group is the other one or stands somewhere below it. Linear in both texts.
+    /// Whether this group is the other one or is below it. Linear in both texts.
     pub fn is_at_or_below<B: Allocator + Clone>(&self, other: &GroupPath<B>) -> bool
         ensures { result ≡ at_or_below self.now other.now }
     {
@@ -121,7 +120,7 @@ impl<A: Allocator + Clone> GroupPath<A> {
         true
     }
 
-    /// Whether the other path is this one, whatever memory it lies in. Linear in the text.
+    /// Whether the two paths are equal, whatever their allocators. Linear in the text.
     pub fn is_same<B: Allocator + Clone>(&self, other: &GroupPath<B>) -> bool
         ensures { result ≡ same_path self.now other.now }
     {
@@ -130,7 +129,7 @@ impl<A: Allocator + Clone> GroupPath<A> {
         self.text() == other.text()
     }
 
-    /// The path without its last name; None for the root, which takes no memory. Linear in the text.
+    /// The path without its last name; None for the root. None needs no allocation. Linear in the text.
     ///
     /// # Errors
     ///
@@ -149,13 +148,13 @@ impl<A: Allocator + Clone> GroupPath<A> {
         Ok(Some(GroupPath { text }))
     }
 
-    /// The same path in other memory. Linear in the text.
+    /// A copy of the path in another allocator. Linear in the text.
     ///
     /// # Errors
     ///
-    /// `AllocError` when out of memory; a text of at most `INLINE_MAX` bytes takes none.
+    /// `AllocError` when out of memory. A text of at most `INLINE_MAX` bytes needs no allocation.
     pub fn copy<B: Allocator + Clone>(&self, alloc: B) -> Result<GroupPath<B>, AllocError>
-        // It is the same path, and only a text that does not lie in the value can be out of memory.
+        // The path is the same, and only a text that is not inline can run out of memory.
         ensures { MatchResult result (λ p. p ≡ self.now) (λ _. INLINE_MAX < length (path_text self.now)) }
     {
         let text = InlineBytes::copy_of(alloc, self.text.as_slice())?;
@@ -171,7 +170,7 @@ impl<A: Allocator + Clone> GroupPath<A> {
         self.text.truncate(len);
     }
 
-    /// How many bytes the path of the first `n` names has.
+    /// The number of bytes of the path of the first `n` names.
     fn prefix_len(&self, n: usize) -> usize
         ensures bound { result ≤ length (path_text self.now) }
         ensures value { result ≡ length (path_text (take n self.now)) }

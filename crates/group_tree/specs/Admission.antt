@@ -1,4 +1,4 @@
--- What the groups that there are, and the limits of the hierarchy, say of a new group.
+-- Whether a new group is possible, by the existing groups and the limits of the hierarchy.
 use Rattle.std.specs.Prelude.{◌≡◌, ℕ, ◌-◌, ◌<◌, ◌≤◌, ◌^◌, ◌%◌, length, Option, Some, None, IsSome, IfSome, option_map}
 use Rattle.std.specs.FinMap.{get, len}
 use Rattle.flat_model.specs.Path.{Path, parent, upward}
@@ -9,21 +9,21 @@ use Rattle.group_tree.specs.declared.admission.Admission.TheVariants.{Exists, No
 use Rattle.group_tree.specs.Groups.{Groups, descendant_count}
 use Rattle.group_tree.specs.Limits.{without_processes, refusal_along, names_of, first_met}
 
--- p is free and its parent is there; a new group there meets this limit first, at its parent or above, or none
+-- p is free, its parent exists, and `met` is the first limit that a new group meets, from its parent upward, or None
 pub record MayStand (m : Groups) (p : Path) (met : Option MetLimit) : Type 0 where
   pub absent : get m p ≡ None
   pub below : IsSome (get m (parent p))
   pub first : len m < 2 ^ 64 → option_map (refusal_along p) met ≡ first_refusal (limit_met (without_processes m) (parent p)) (upward (parent p))
   pub inside : IfSome met (λ met. names_of met ≤ length p - 1)
 
--- what is said of a new group at p
+-- the answer of `admits` about a new group at p
 abbrev pub Admits : Groups → Path → Admission → Type 0
 Admits m p Exists = IsSome (get m p)
 Admits m p NoParent = (get m p ≡ None) × (get m (parent p) ≡ None)
 Admits m p (Met met) = MayStand m p (Some met)
 Admits m p Free = MayStand m p None
 
--- ---- as a node is asked
+-- ---- seen from a node
 
 abbrev pub admission_by : Option MetLimit → Admission
 admission_by None = Free

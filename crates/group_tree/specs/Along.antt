@@ -1,4 +1,4 @@
--- The groups on the way along a path, and what each of them has.
+-- The groups along a path, and their attributes.
 use Rattle.std.specs.Prelude.{List, [], filter, not, Option, Some, None}
 use Rattle.std.specs.List.{filter_map}
 use Rattle.std.specs.FinMap.{get}
@@ -6,15 +6,15 @@ use Rattle.flat_model.specs.Path.{Path, is_root, prefixes}
 use Rattle.group_tree.specs.declared.attr.Attr.{Attr}
 use Rattle.group_tree.specs.Groups.{Groups}
 
--- the paths from the first name of p down to p: the root is left out
+-- the paths from the first name of p down to p, without the root
 abbrev pub groups_down : Path → List Path
 groups_down p = filter (λ q. not (is_root q)) (prefixes p)
 
--- what the groups at them have
+-- their attributes
 abbrev pub along_of : Groups → Path → List Attr
 along_of m p = filter_map (get m) (groups_down p)
 
--- the same from a node, where there is one
+-- the same from a node, if there is one
 abbrev pub along_from : Option Groups → Path → List Attr
 along_from None p = []
 along_from (Some m) p = along_of m p

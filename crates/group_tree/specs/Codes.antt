@@ -1,4 +1,4 @@
--- The tree's values as values that a model may have.
+-- The tree's values, encoded as values that a model may have.
 use Rattle.std.specs.Prelude.{◌≡◌, ℕ, Option, Some, None, refl}
 use Rattle.std.specs.Coded.{Coded, code_by, coded×, coded_list, coded_ℕ, coded_option}
 use Rattle.std.specs.FinMap as fin

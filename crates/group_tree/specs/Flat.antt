@@ -1,4 +1,4 @@
--- The tree's groups as `flat_model` has them: `map_values group_of`, the same paths, limits, event totals and peaks, and no slot.
+-- The tree's groups as `flat_model` has them: `map_values group_of` has the same paths, limits, event totals and peaks, but no slots.
 use Rattle.std.specs.Prelude.{◌≡◌, ◌↔◌, true}
 use Rattle.std.specs.List.{list_any}
 use Rattle.std.specs.Ordering.{nat_cmp}
@@ -28,11 +28,11 @@ limit_file_of MaxDepth = flat_file.MaxDepth
 abbrev pub limits_of : Limits → flat.Limits
 limits_of l = record { pids = limit_of l.pids; descendants = limit_of l.descendants; depth = limit_of l.depth }
 
--- a group as the flat state has it
+-- a group of the tree as a group of the flat state
 abbrev pub group_of : Attr → flat.Attr
 group_of a = record { limits = limits_of a.limits; local = a.local; total = a.total; peak = a.peak }
 
--- what stands below a group of the tree is what stands below it in a flat state of the tree's groups
+-- the groups below a group of the tree are those below it in a flat state of the tree's groups
 pub record CountsAsFlat (m : Groups) : Type 0 where
   -- `nr_descendants`
   pub counts : (home : FinMap nat_cmp Path) (p : Path) → flat_counts.descendant_count (record { groups = map_values group_of m; home = home }) p ≡ descendant_count m p

@@ -1,4 +1,4 @@
--- The tree as a finite map from paths to attributes, and what each call reads from it or leaves of it.
+-- The tree as a finite map from paths to attributes, and what each call returns and leaves.
 use Rattle.std.specs.Prelude.{◌≡◌, ◌≢◌, ℕ, Bool, true, false, List, [], map, Option, Some, None, IsSome, filter, not, count_by, Result, Ok, Err}
 use Rattle.std.specs.FinMap.{FinMap, get, insert, remove, keys, empty}
 use Rattle.flat_model.specs.Path.{Path, path_cmp, strictly_below, is_root, parent, upward}
@@ -10,12 +10,12 @@ use Rattle.group_tree.specs.declared.fault.TreeFault.TheVariants.{Exists, NoPare
 abbrev pub Groups : Type 0
 Groups = FinMap path_cmp Attr
 
--- it has the root, and the parent of each group, and so each prefix of a group's path
+-- the map has the root and the parent of each group, and so each prefix of a group's path
 pub record IsClosed (m : Groups) : Type 0 where
   pub root : IsSome (get m [])
   pub parents : (p : Path) → IsSome (get m p) → IsSome (get m (parent p))
 
--- the root and nothing else
+-- the root and no other group
 abbrev pub only_root : Attr → Groups
 only_root attr = insert empty [] attr
 
@@ -38,7 +38,7 @@ abbrev pub slot_of : Option Attr → ℕ
 slot_of None = 0
 slot_of (Some attr) = attr.slot
 
--- the groups from p upward, the root left out
+-- the groups from p upward, without the root
 abbrev pub groups_upward : Path → List Path
 groups_upward p = filter (λ q. not (is_root q)) (upward p)
 
@@ -46,7 +46,7 @@ groups_upward p = filter (λ q. not (is_root q)) (upward p)
 abbrev pub chain_of : Groups → Path → List ℕ
 chain_of m p = map (λ q. slot_of (get m q)) (groups_upward p)
 
--- what a new group at p answers and leaves
+-- what inserting a group at p returns and leaves
 abbrev pub Inserts : Groups → Groups → Path → Attr → Result (Unit {0}) TreeFault → Type 0
 Inserts old new p attr (Ok _) = (get old p ≡ None) × IsSome (get old (parent p)) × (new ≡ insert old p attr)
 Inserts old new p attr (Err Exists) = IsSome (get old p) × (new ≡ old)
@@ -56,12 +56,12 @@ Inserts old new p attr (Err NoGroup) = ⊥
 Inserts old new p attr (Err HasChildren) = ⊥
 Inserts old new p attr (Err RootFixed) = ⊥
 
--- what new attributes at p answer and leave
+-- what setting the attributes at p returns and leaves
 abbrev pub Sets : Groups → Groups → Path → Attr → Bool → Type 0
 Sets old new p attr true = IsSome (get old p) × (new ≡ insert old p attr)
 Sets old new p attr false = (get old p ≡ None) × (new ≡ old)
 
--- what the removal of p answers and leaves
+-- what removing p returns and leaves
 abbrev pub Removes : Groups → Groups → Path → Result Attr TreeFault → Type 0
 Removes old new p (Ok attr) = (p ≢ []) × (get old p ≡ Some attr) × HasNoneBelow old p × (new ≡ remove old p)
 Removes old new p (Err RootFixed) = (p ≡ []) × (new ≡ old)

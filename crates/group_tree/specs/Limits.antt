@@ -17,7 +17,7 @@ use Rattle.group_tree.specs.Flat.{group_of, limit_of}
 abbrev pub without_processes : Groups → State
 without_processes m = record { groups = map_values group_of m; home = empty }
 
--- the refusal of a new group on the way along p
+-- the refusal of a new group at p for a limit that is met
 abbrev pub refusal_along : Path → MetLimit → model.Refusal
 refusal_along p (Descendants n) = model.Descendants (take n p)
 refusal_along p (Depth n) = model.Depth (take n p)
@@ -26,20 +26,20 @@ abbrev pub names_of : MetLimit → ℕ
 names_of (Descendants n) = n
 names_of (Depth n) = n
 
--- ---- as a node is asked
+-- ---- seen from a node
 
--- the limits of a group of n names that a new group so many levels below it meets, where so many groups are below it now
+-- the limits of a group of n names that a new group so many levels below it meets, if it has so many groups below it now
 abbrev pub met_here : Option Attr → ℕ → ℕ → ℕ → Option MetLimit
 met_here None count levels n = None
 met_here (Some attr) count levels n =
     cond (reaches count (limit_of attr.limits.descendants)) (Some (Descendants n))
     (cond (reaches levels (limit_of attr.limits.depth)) (Some (Depth n)) None)
 
--- the first answer along the paths
+-- the first result along the paths
 abbrev pub first_along : {X : Type 0} → (Path → Option X) → List Path → Option X
 first_along test [] = None
 first_along test (p ∷ ps) = option_or (test p) (first_along test ps)
 
--- the limit that a new group under the one at p meets first, from there up to here, where the group here has n names
+-- the limit that a new group under p meets first, from p up to here, if the group here has n names
 abbrev pub first_met : (Path → Option Attr) → (Path → ℕ) → Path → ℕ → Option MetLimit
 first_met has count p n = first_along (λ q. met_here (has q) (count q) (length p - length q) (n + length q)) (upward p)

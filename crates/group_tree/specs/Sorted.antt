@@ -1,4 +1,4 @@
--- The entries of a node stand in order, and each child has fewer than the node.
+-- The entries of a node are in order, and each child has fewer entries than the node.
 use Rattle.std.specs.Prelude.{◌≡◌, ℕ, ◌+◌, ◌≤◌, suc, Bool, true, false, ◌&&◌, List, [], ◌∷◌, ◌++◌, length, refl}
 use Rattle.std.proofs.Common.{arith, length-append, sym, ap, subst}
 use Rattle.std.specs.declared.cmp.Ordering.TheVariants.{Less}
@@ -25,7 +25,7 @@ second : (a b : Bool) → T (a && b) → T b
 second true b p = p
 second false b p = absurd p
 
--- two paths with one first name stand as their rests do
+-- two paths with the same first name are ordered as their rests are
 pub same_first : (n : List ℕ) (p q : List (List ℕ)) → path_cmp (n ∷ p) (n ∷ q) ≡ path_cmp p q
 same_first n p q = ap (λ r. ordering_then r (path_cmp p q)) (tied_itself nat_list_cmp_total n)
 

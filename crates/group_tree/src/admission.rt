@@ -1,5 +1,5 @@
-//! Whether a new group may stand at a path: whether it is there, whether its parent is, and which limit of the hierarchy it
-//! meets, all found in one descent.
+//! Whether a new group may be made at a path: whether the path is free, whether its parent exists, and which limit of the
+//! hierarchy it meets. One descent finds all three.
 
 ghost use Rattle.std.specs.Prelude.{◌≡◌, ◌+◌, ◌%◌, ◌^◌, [], length, IsSome};
 ghost use Rattle.std.specs.FinMap as fin;
@@ -12,21 +12,21 @@ use crate::node::{Node, place};
 use group_path::Names;
 use std::alloc::Allocator;
 
-/// What the groups that there are, and the limits of the hierarchy, say of a new group.
+/// Whether a new group is possible, by the existing groups and the limits of the hierarchy.
 #[derive(Clone, Copy, Debug, PartialEq, Eq)]
 pub enum Admission {
-    /// There is such a group.
+    /// The group exists.
     Exists,
-    /// There is none, and no group one name above it.
+    /// The group doesn't exist, and neither does its parent.
     NoParent,
-    /// Its parent is there, and this is the first limit that it meets.
+    /// The parent exists, and this is the first limit that the new group meets.
     Met(MetLimit),
-    /// Its parent is there, and it meets no limit.
+    /// The parent exists, and the new group meets no limit.
     Free,
 }
 
 impl<A: Allocator> Node<A> {
-    /// What its own limits say of a new group so many levels below it, where its path has `n` names.
+    /// Tests this group's own limits for a new group so many levels below it. The path of this group has `n` names.
     fn admits_here(&self, levels: usize, n: usize) -> Admission
         ensures { result ≡ admission_by (met_here (fin.get self.now.groups []) (descendant_count self.now.groups [] % 2 ^ 64) levels n) }
     {
@@ -36,8 +36,7 @@ impl<A: Allocator> Node<A> {
         }
     }
 
-    /// What is said, from here on, of a new group at these names, where the path of this one has `n` names and that of the
-    /// new one `depth`.
+    /// Tests a new group at these names, from here on. The path of this group has `n` names, that of the new group `depth`.
     pub(crate) fn admits(&self, names: Names<'_>, depth: usize, n: usize) -> Admission
         requires { depth ≡ n + length names }
         ensures root { IsSome (fin.get self.now.groups []) }

@@ -1,4 +1,4 @@
-//! What the groups on the way along a path have, one after another.
+//! The attributes of the groups along a path, in order.
 
 ghost use Rattle.std.specs.Prelude.{◌≡◌, Some};
 ghost use Rattle.std.specs.Iterator.{YieldsFirstRef, item_count};
@@ -10,13 +10,13 @@ use group_path::Names;
 use std::alloc::Allocator;
 use std::marker::Model;
 
-/// What the groups on the way along a path have, from the one below the root down to the path's own; it ends before the
-/// first that is missing. Each step costs O(log children) comparisons of names, and no memory.
+/// The attributes of the groups along a path, from the child of the root down to the path's own group. The iterator ends
+/// before the first group that is missing. Each step costs O(log children) comparisons of names and allocates nothing.
 #[derive(Drop)]
 pub struct Along<'a, A: Allocator> {
-    /// The group that was given last, at first that at which the way begins; None once one was missing.
+    /// The group returned last, at first the group at which the path starts; None once a group was missing.
     last: Option<&'a Node<A>>,
-    /// The names from there on.
+    /// The remaining names.
     names: Names<'a>,
 }
 
@@ -31,7 +31,7 @@ impl<'a, A: Allocator> Model for Along<'a, A> {
 }
 
 impl<'a, A: Allocator> Along<'a, A> {
-    /// The way from a node along these names.
+    /// The attributes from a node along these names.
     pub(crate) fn of(from: &'a Node<A>, names: Names<'a>) -> Along<'a, A>
         ensures { result ≡ along_of from.now.groups names.entry }
     {

@@ -1,4 +1,4 @@
-//! What a group has beside its name: its limits, its event totals, its peak and its slot.
+//! The attributes of a group: its limits, its event totals, its peak and its slot.
 
 /// A limit of a group.
 #[derive(Clone, Copy, Debug, PartialEq, Eq)]
@@ -9,7 +9,7 @@ pub enum Limit {
     At(u32),
 }
 
-/// The file in which a limit stands.
+/// The file of a limit.
 #[derive(Clone, Copy, Debug, PartialEq, Eq)]
 pub enum LimitFile {
     /// `pids.max`
@@ -23,26 +23,26 @@ pub enum LimitFile {
 /// The limits of a group (admin-guide, "Core Interface Files" and "PID Interface Files").
 #[derive(Clone, Copy, Debug, PartialEq, Eq)]
 pub struct Limits {
-    /// Of processes, `pids.max`.
+    /// On processes: `pids.max`.
     pub pids: Limit,
-    /// Of groups below, `cgroup.max.descendants`.
+    /// On groups below: `cgroup.max.descendants`.
     pub descendants: Limit,
-    /// Of levels below, `cgroup.max.depth`.
+    /// On levels below: `cgroup.max.depth`.
     pub depth: Limit,
 }
 
-/// What a group has beside its name.
+/// The attributes of a group.
 #[derive(Clone, Copy, Debug, PartialEq, Eq)]
 pub struct Attr {
     pub limits: Limits,
-    /// How many forks its own `pids.max` refused (`pids.events.local`).
+    /// How many forks the group's own `pids.max` refused (`pids.events.local`).
     pub local: u64,
-    /// Those, and the ones that the `pids.max` of a group below it refused (`pids.events`).
+    /// The same, plus the forks that the `pids.max` of a group below it refused (`pids.events`).
     pub total: u64,
-    /// How many processes it and the groups below it have had at once, at the most (`pids.peak`). The tree gives it back as
-    /// it was put in or set, and asks nothing of it.
+    /// The most processes that were in the group and below it at once (`pids.peak`). The tree stores this number without
+    /// interpreting it.
     pub peak: u64,
-    /// Where its processes are counted. The tree gives it back as it was put in, and asks nothing of it.
+    /// The slot that counts the group's processes. The tree stores this number without interpreting it.
     pub slot: u16,
 }
 
@@ -52,7 +52,7 @@ impl Attr {
     ghost use Rattle.flat_model.specs.Step.{limit_at, with_limit};
     ghost use Rattle.group_tree.specs.Flat.{group_of, limit_of, limit_file_of};
 
-    /// What a group has as it is made: no limits, event totals of 0 and no peak, its processes counted at the slot.
+    /// The attributes of a new group: no limits, event totals of 0, no peak, and this slot.
     pub fn new(slot: u16) -> Attr
         ensures group { group_of result ≡ fresh }
         ensures slot { result.slot ≡ slot }
@@ -70,7 +70,7 @@ impl Attr {
         }
     }
 
-    /// The limit that stands in the file.
+    /// The limit of this file.
     pub fn limit(self, file: LimitFile) -> Limit
         ensures { limit_of result ≡ limit_at (limit_file_of file) (group_of self) }
     {
@@ -81,7 +81,7 @@ impl Attr {
         }
     }
 
-    /// The same with another limit in the file: the other limits, the event totals, the peak and the slot stay.
+    /// The same attributes with another limit for this file. The other limits, the event totals, the peak and the slot stay.
     pub fn with_limit(self, file: LimitFile, limit: Limit) -> Attr
         ensures group { group_of result ≡ with_limit (limit_file_of file) (limit_of limit) (group_of self) }
         ensures slot { result.slot ≡ self.slot }

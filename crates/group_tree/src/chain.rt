@@ -1,4 +1,4 @@
-//! The slots from a group upward, gathered on the way back up.
+//! The slots from a group upward, collected on the way back up.
 
 ghost use Rattle.std.specs.Prelude.{◌≡◌, ◌++◌, false, length, None, Ok, MatchBool, IfOk, IsSome};
 ghost use Rattle.std.specs.FinMap as fin;
@@ -11,7 +11,7 @@ use smallvec::SmallVec;
 use std::alloc::{AllocError, Allocator};
 
 impl<A: Allocator> Node<A> {
-    /// Appends the slots of the groups from the one at these names up to here, this one left out; false where there
+    /// Appends the slots of the groups from the one at these names up to this one, which is excluded. Returns false if there
     /// is no such group.
     pub(crate) fn push_chain<B: Allocator + Copy>(
         &self,

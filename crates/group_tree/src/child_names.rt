@@ -1,4 +1,4 @@
-//! The names of the groups one name below a group, one after another.
+//! The names of a group's children, in order.
 
 ghost use Rattle.std.specs.Prelude.{◌≡◌};
 ghost use Rattle.std.specs.Iterator.{YieldsFirstBy, item_count};
@@ -9,10 +9,10 @@ use group_path::Names;
 use std::alloc::Allocator;
 use std::marker::Model;
 
-/// The names of the groups one name below a group, ascending by their bytes. Each costs one step, and no memory.
+/// The names of a group's children, ascending by their bytes. Each name costs one step and allocates nothing.
 #[derive(Drop)]
 pub struct ChildNames<'a, A: Allocator> {
-    /// The groups whose names are still to be given.
+    /// The children whose names are still to be returned.
     rest: &'a [Node<A>],
 }
 
@@ -50,7 +50,7 @@ impl<'a, A: Allocator> Iterator for ChildNames<'a, A> {
 }
 
 impl<A: Allocator> Node<A> {
-    /// The names one below the group at these names from here; None where there is no such group.
+    /// The names of the children of the group at these names from here; None if there is no such group.
     pub(crate) fn child_names(&self, names: Names<'_>) -> Option<ChildNames<'_, A>>
         ensures { NamesChildren self.now.groups names.entry result }
     {

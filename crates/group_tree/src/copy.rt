@@ -1,4 +1,4 @@
-//! A node in other memory.
+//! Copying a node into another allocator.
 
 ghost use Rattle.std.specs.Prelude.{◌≡◌, IfOk};
 
@@ -7,7 +7,7 @@ use inline_bytes::InlineBytes;
 use std::alloc::{AllocError, Allocator};
 
 impl<A: Allocator> Node<A> {
-    /// The same group, with the groups below it, in the memory of another allocator.
+    /// Copies the group and the groups below it into another allocator.
     pub(crate) fn copy<B: Allocator + Clone + Drop>(&self, alloc: B) -> Result<Node<B>, AllocError>
         ensures { IfOk result (λ n. n ≡ self.now) }
     {

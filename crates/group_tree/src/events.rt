@@ -1,4 +1,4 @@
-//! The event totals of the groups along a path, changed on the way down.
+//! The event totals of the groups along a path, changed during one descent.
 
 ghost use Rattle.std.specs.Prelude.{◌≡◌, [], true};
 ghost use Rattle.group_tree.specs.Node.{NodeSets};
@@ -19,7 +19,7 @@ pub(crate) enum Change {
 }
 
 impl Change {
-    /// The total after it. The greatest is not raised, and 0 is not lowered.
+    /// The total after this change. The greatest u64 is not raised, and 0 is not lowered.
     fn of(self, total: u64) -> u64
         ensures { result ≡ stepped self total }
     {
@@ -31,7 +31,7 @@ impl Change {
 }
 
 impl<A: Allocator> Node<A> {
-    /// Changes what the group itself has.
+    /// Replaces the attributes of this group.
     pub(crate) fn put(&mut self, attr: Attr)
         ensures name { self.new.name ≡ self.old.name }
         ensures groups { NodeSets self.old.groups self.new.groups [] attr true }
@@ -39,8 +39,8 @@ impl<A: Allocator> Node<A> {
         self.attr = attr;
     }
 
-    /// Changes the totals of the groups along these names by a fork that the last of them refused; that of the group here
-    /// stays.
+    /// Changes the totals of the groups along these names for a fork that the last of them refused. The group here is not
+    /// changed.
     pub(crate) fn count(&mut self, names: Names<'_>, change: Change)
         ensures name { self.new.name ≡ self.old.name }
         ensures counts { Counts (stepped change) self.old.groups self.new.groups names.entry }

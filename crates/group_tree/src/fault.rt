@@ -1,4 +1,4 @@
-//! Why a tree is not changed.
+//! Why a tree refuses a change.
 
 ghost use Rattle.std.specs.Prelude.{◌≡◌};
 ghost use Rattle.group_tree.specs.declared.fault.TreeFault.TheVariants.{OutOfMemory};
@@ -6,25 +6,25 @@ ghost use Rattle.group_tree.specs.declared.fault.TreeFault.TheVariants.{OutOfMem
 use std::alloc::{AllocError, AllocFailed};
 use thiserror::Error;
 
-/// Why a tree is not changed.
+/// Why a tree refuses a change.
 #[derive(Clone, Copy, Debug, PartialEq, Eq, Error)]
 pub enum TreeFault {
-    /// There is such a group already.
+    /// The group exists already.
     #[error("there is such a group already")]
     Exists,
-    /// There is no group to put it in.
+    /// The parent group does not exist.
     #[error("there is no parent group")]
     NoParent,
-    /// There is no such group.
+    /// The group does not exist.
     #[error("there is no such group")]
     NoGroup,
-    /// There are groups below it.
+    /// The group has groups below it.
     #[error("there are groups below it")]
     HasChildren,
-    /// The root stays.
+    /// The root cannot be removed.
     #[error("the root cannot be removed")]
     RootFixed,
-    /// There was no memory for the group.
+    /// The allocation for the group failed.
     #[error("out of memory")]
     OutOfMemory,
 }

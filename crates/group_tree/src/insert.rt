@@ -1,4 +1,4 @@
-//! A group put in on the way down. A refusal changes nothing.
+//! Inserting a group during the descent. A refusal changes nothing.
 
 ghost use Rattle.std.specs.Prelude.{◌≡◌, ◌≤◌, [], vec_len, insert, IfOk, OnOk, OnErr, IsSome};
 ghost use Rattle.std.specs.FinMap as fin;
@@ -12,7 +12,7 @@ use inline_bytes::InlineBytes;
 use std::alloc::{AllocError, Allocator};
 
 impl<A: Allocator + Clone> Node<A> {
-    /// A group with none below it.
+    /// A group with no groups below it.
     pub(crate) fn leaf(alloc: A, name: &[u8], attr: Attr) -> Result<Node<A>, AllocError>
         ensures { IfOk result (λ n. n ≡ leaf_of name.now attr) }
     {
@@ -26,7 +26,7 @@ impl<A: Allocator + Clone> Node<A> {
         })
     }
 
-    /// Puts a group at these names from here.
+    /// Inserts a group at these names from here.
     pub(crate) fn insert(&mut self, names: Names<'_>, attr: Attr) -> Result<(), TreeFault>
         ensures root { IsSome (fin.get self.old.groups []) }
         ensures name { self.new.name ≡ self.old.name }
@@ -61,7 +61,7 @@ impl<A: Allocator + Clone> Node<A> {
     }
 }
 
-/// Makes a group with none below it, and puts it among the children.
+/// Makes a group with no groups below it, and inserts it among the children.
 fn add_leaf<A: Allocator + Clone>(
     children: &mut Vec<Node<A>, A>,
     at: usize,

@@ -1,28 +1,27 @@
-//! The groups as a recursive tree that any allocator can carry.
+//! The groups as a recursive tree, under any allocator.
 //!
-//! - A tree is a finite map from paths to attributes. It has the root at all times, and with a group every group on the
-//!   way to it.
-//! - `insert`, `set`, `replace_limit` and `remove` change one path and nothing else. A refusal changes nothing, also where
-//!   memory runs out in the middle of an insert: there is no half-made group.
+//! - A tree is a finite map from paths to attributes. It always has the root. If it has a group, it has every group on the
+//!   path to it.
+//! - `insert`, `set`, `replace_limit` and `remove` change one path and nothing else. A refusal changes nothing, even if
+//!   memory runs out in the middle of an insert.
 //! - Refusals come in a fixed order, and each names its cause. Only `insert`, `copy`, `new`, and a `chain` of more than
-//!   eight groups take memory: a group's parent's list of children grows, and a name of more than 23 bytes takes a block.
-//! - A look-up goes down once, in O(depth · log children) comparisons of names. How many groups are below each group is
-//!   kept, so that limits on descendants, and on all groups, are tested without a walk. All that stands against a new group,
-//!   each limit of the hierarchy above it too, is asked in one such descent (`admits`).
-//! - What the groups along a path have comes one after another in one descent (`along`), and the event totals of those
-//!   groups are counted up and down in one (`count_refusal`, `uncount_refusal`), and their peaks set in one (`set_peaks`).
-//!   None of these takes memory.
-//! - The names of the groups one name below a group come one after another in order (`child_names`). It takes no memory.
+//!   eight groups allocate: the parent's list of children grows, and a name of more than 23 bytes needs a block.
+//! - A look-up descends once, in O(depth · log children) comparisons of names. Each group records how many groups are below
+//!   it, so limits on descendants, and on the number of all groups, are tested without a walk. `admits` tests everything
+//!   that can refuse a new group in one descent, including the limits of every group above it.
+//! - `along` returns the attributes of the groups along a path in one descent. `count_refusal` and `uncount_refusal` change
+//!   the event totals of these groups in one descent; `set_peaks` sets their peaks in one. None of these allocates.
+//! - `child_names` returns the names of a group's children in order. It allocates nothing.
 //! - The calls that end in `_at` do the same at the first n names of a path, and copy nothing.
-//! - A path may lie in other memory than the tree. What a group has is given and taken by value; its slot is the
-//!   caller's, and the tree asks nothing of it: two groups may have the same. A change of a limit keeps it. Nor does the
-//!   tree ask what a peak is: it holds the ones that it is given.
+//! - A path may use another allocator than the tree. Attributes are passed and returned by value. The slot is the caller's,
+//!   and the tree doesn't interpret it: two groups may have the same slot, and changing a limit keeps it. Nor does the tree
+//!   interpret a peak: it stores what it is given.
 //!
-//! Not promised: that a count of descendants is exact in a tree of 2^64 groups or more (it is taken modulo 2^64), and how
-//! much memory a tree takes.
+//! Not promised: exact counts of descendants in a tree of 2^64 groups or more (they are modulo 2^64), and how much memory a
+//! tree uses.
 //!
-//! `specs/Groups.antt` says what each call reads and leaves, `specs/Flat.antt` how this is the flat state of `flat_model`, and
-//! the laws of `hierarchy_laws` what these definitions tell.
+//! `specs/Groups.antt` says what each call returns and leaves. `specs/Flat.antt` relates the tree to the flat state of
+//! `flat_model`. The laws of these definitions are in `hierarchy_laws`.
 #![tactic(auto)]
 
 mod admission;

@@ -1,4 +1,4 @@
-//! Which of a group's limits of the hierarchy a new group below it meets: that on descendants before that on depth.
+//! Which of a group's hierarchy limits a new group below it meets: the limit on descendants is tested before that on depth.
 
 ghost use Rattle.std.specs.Prelude.{◌≡◌, ◌%◌, ◌^◌, []};
 ghost use Rattle.std.specs.FinMap as fin;
@@ -10,18 +10,18 @@ use crate::attr::Limit;
 use crate::node::Node;
 use std::alloc::Allocator;
 
-/// A limit of the hierarchy that a new group meets, of `cgroup.max.descendants` and `cgroup.max.depth` (admin-guide,
-/// "Core Interface Files"). The number is that of the names of the group whose limit it is: the group meant is that prefix
-/// of the path that was asked about.
+/// A limit of the hierarchy that a new group meets: `cgroup.max.descendants` or `cgroup.max.depth` (admin-guide, "Core
+/// Interface Files"). The number identifies the group with the limit: its path is that many first names of the new group's
+/// path.
 #[derive(Clone, Copy, Debug, PartialEq, Eq)]
 pub enum MetLimit {
-    /// As many groups are below it as there may be.
+    /// The group has as many groups below it as its limit allows.
     Descendants(usize),
-    /// The new group would stand on a level too deep below it.
+    /// The new group would be on a level too deep below the group.
     Depth(usize),
 }
 
-/// Whether so many are at the limit or past it.
+/// Whether `n` is at the limit or past it.
 fn is_reached(limit: Limit, n: u64) -> bool
     ensures { result ≡ reaches n (limit_of limit) }
 {
@@ -34,7 +34,7 @@ fn is_reached(limit: Limit, n: u64) -> bool
 impl<A: Allocator> Node<A> {
     ghost use Rattle.group_tree.specs.Limits.{met_here};
 
-    /// Which of its own limits a new group so many levels below it meets, where its path has `n` names.
+    /// Which of this group's limits a new group so many levels below it meets. The path of this group has `n` names.
     pub(crate) fn met_here(&self, levels: usize, n: usize) -> Option<MetLimit>
         ensures { result ≡ met_here (fin.get self.now.groups []) (descendant_count self.now.groups [] % 2 ^ 64) levels n }
     {

@@ -1,4 +1,4 @@
-//! A group with the groups below it, and what is read of it and on the way down.
+//! A node: a group with the groups below it, and its readers.
 
 ghost use Rattle.std.specs.Prelude.{◌≡◌, ◌≢◌, ◌<◌, ◌≤◌, ◌-◌, ◌%◌, ◌^◌, [], length, Some, MatchResult, option_map};
 ghost use Rattle.std.specs.Option.{option_copied};
@@ -16,12 +16,12 @@ use std::marker::Model;
 /// A group with the groups below it.
 #[derive(Drop)]
 pub struct Node<A: Allocator> {
-    /// The last name of its path; empty for the root.
+    /// The last name of the group's path; empty for the root.
     pub(crate) name: InlineBytes<A>,
     pub(crate) attr: Attr,
     /// How many groups are below it, modulo 2^64.
     pub(crate) descendants: u64,
-    /// The groups one name below it, their names ascending.
+    /// The children, their names ascending.
     pub(crate) children: Vec<Node<A>, A>,
 }
 
@@ -48,7 +48,7 @@ impl<A: Allocator> Model for Node<A> {
     ghost size_decreases = { λ n h. omega (arith, most_le-groups n.attr n.children.items h.ascending) };
 }
 
-/// Where the child of this name stands, or else where it would: in O(log children) comparisons of names.
+/// The index of the child of this name, or the index to insert it at. O(log children) comparisons of names.
 pub(crate) fn place<A: Allocator>(children: &[Node<A>], name: &[u8]) -> Result<usize, usize>
     requires { HasAscendingNames children.now }
     ensures value { result ≡ place_of name.now children.now }
@@ -62,7 +62,7 @@ pub(crate) fn place<A: Allocator>(children: &[Node<A>], name: &[u8]) -> Result<u
 }
 
 impl<A: Allocator> Node<A> {
-    /// The last name of its path.
+    /// The last name of the group's path.
     pub(crate) fn name(&self) -> &[u8]
         ensures { result.now ≡ self.now.name }
     {
@@ -74,7 +74,7 @@ impl<A: Allocator> Node<A> {
         self.children.allocator()
     }
 
-    /// What the group itself has.
+    /// The group's attributes.
     pub(crate) fn attr(&self) -> Attr
         ensures { Some result ≡ fin.get self.now.groups [] }
     {
@@ -103,7 +103,7 @@ impl<A: Allocator> Node<A> {
         self.descendants
     }
 
-    /// What the group at these names from here has.
+    /// The attributes of the group at these names from here.
     pub(crate) fn find(&self, names: Names<'_>) -> Option<&Attr>
         ensures { option_copied result ≡ fin.get self.now.groups names.entry }
     {
@@ -113,7 +113,7 @@ impl<A: Allocator> Node<A> {
         }
     }
 
-    /// How many groups are below the one at these names from here, modulo 2^64.
+    /// How many groups are below the group at these names from here, modulo 2^64.
     pub(crate) fn descendants(&self, names: Names<'_>) -> Option<u64>
         ensures { Counts self.now.groups names.entry result }
     {
@@ -123,7 +123,7 @@ impl<A: Allocator> Node<A> {
         }
     }
 
-    /// What the group at these names from here has, and how many groups are below it, modulo 2^64.
+    /// The attributes of the group at these names from here, and how many groups are below it, modulo 2^64.
     pub(crate) fn find_with_descendants(&self, names: Names<'_>) -> Option<(&Attr, u64)>
         ensures found { option_map (λ f. f.0.now) result ≡ fin.get self.now.groups names.entry }
         ensures counted { Counts self.now.groups names.entry (option_map (λ f. f.1) result) }

@@ -1,4 +1,4 @@
-//! The peaks of the groups along a path, set on the way down.
+//! The peaks of the groups along a path, set during one descent.
 
 ghost use Rattle.std.specs.Prelude.{◌≡◌, length};
 ghost use Rattle.group_tree.specs.Peaks.{SetsPeaks};
@@ -9,7 +9,7 @@ use group_path::Names;
 use std::alloc::Allocator;
 
 impl<A: Allocator> Node<A> {
-    /// Sets the peaks of the groups along these names, the last peak being that of the first group on the way; that of the
+    /// Sets the peaks of the groups along these names. The last peak is that of the first group on the path. The peak of the
     /// group here stays.
     pub(crate) fn set_peaks(&mut self, names: Names<'_>, peaks: &[u64])
         requires many { length peaks.now ≡ length names }

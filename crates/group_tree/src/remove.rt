@@ -1,4 +1,4 @@
-//! A group taken out on the way down. A refusal changes nothing.
+//! Removing a group during the descent. A refusal changes nothing.
 
 ghost use Rattle.std.specs.Prelude.{◌≡◌, ◌<◌, ◌∷◌, vec_len};
 ghost use Rattle.group_tree.specs.Node.{NodeRemoves, TakesOut};
@@ -10,7 +10,7 @@ use group_path::Names;
 use std::alloc::Allocator;
 
 impl<A: Allocator> Node<A> {
-    /// Takes out the group at this name and then these names from here.
+    /// Removes the group at this name and then these names from here.
     pub(crate) fn remove(&mut self, name: &[u8], names: Names<'_>) -> Result<Attr, TreeFault>
         ensures name { self.new.name ≡ self.old.name }
         ensures groups { NodeRemoves self.old.groups self.new.groups (name.now ∷ names.entry) result }
@@ -41,7 +41,7 @@ impl<A: Allocator> Node<A> {
     }
 }
 
-/// Takes a child out that has no children.
+/// Removes a child that has no children.
 fn take_out<A: Allocator>(children: &mut Vec<Node<A>, A>, at: usize) -> Result<Attr, TreeFault>
     requires { at < vec_len children.old }
     ensures { TakesOut children.old.items children.new.items at result }

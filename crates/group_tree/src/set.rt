@@ -1,4 +1,4 @@
-//! A group changed on the way down.
+//! Changing a group during the descent.
 
 ghost use Rattle.std.specs.Prelude.{◌≡◌};
 ghost use Rattle.group_tree.specs.Settings.{IsSetBy, NodeSetsBy};
@@ -8,17 +8,17 @@ use crate::node::{Node, place};
 use group_path::Names;
 use std::alloc::Allocator;
 
-/// What of a group is set.
+/// What to set of a group.
 #[derive(Clone, Copy)]
 pub(crate) enum Setting {
-    /// All that it has.
+    /// All its attributes.
     Whole(Attr),
-    /// The limit that stands in the file.
+    /// The limit of this file.
     OneLimit(LimitFile, Limit),
 }
 
 impl Setting {
-    /// What a group has after it.
+    /// The group's attributes after the setting.
     fn of(self, attr: Attr) -> Attr
         ensures { IsSetBy self attr result }
     {
@@ -30,7 +30,8 @@ impl Setting {
 }
 
 impl<A: Allocator> Node<A> {
-    /// Changes what the group at these names from here has, and gives back what it had; None where there is none.
+    /// Changes the attributes of the group at these names from here, and returns the old ones; None if there is no such
+    /// group.
     pub(crate) fn set(&mut self, names: Names<'_>, setting: Setting) -> Option<Attr>
         ensures name { self.new.name ≡ self.old.name }
         ensures groups { NodeSetsBy setting self.old.groups self.new.groups names.entry result }

@@ -1,4 +1,4 @@
-//! The tree, seen as a finite map, and each public call on it.
+//! The tree, seen as a finite map, and its public calls.
 
 ghost use Rattle.std.specs.Prelude.{◌≡◌, ◌+◌, ◌-◌, ◌<◌, ◌≤◌, ◌%◌, ◌^◌, ℕ, true, length, take, None, MatchOption, IsOk, IfOk, IfSome, IsSome, option_map, min};
 ghost use Rattle.std.specs.Option.{option_copied};
@@ -26,7 +26,7 @@ use smallvec::SmallVec;
 use std::alloc::{AllocError, Allocator};
 use std::marker::Model;
 
-/// A tree of groups, seen as a finite map from paths to attributes that has the root and the parent of each group.
+/// A tree of groups, seen as a finite map from paths to attributes. It has the root and the parent of each group.
 #[derive(Drop)]
 pub struct GroupTree<A: Allocator> {
     root: Node<A>,
@@ -46,7 +46,7 @@ impl<A: Allocator> Model for GroupTree<A> {
 }
 
 impl<A: Allocator> GroupTree<A> {
-    /// What the group at the path has; None where there is no such group. In O(depth · log children) comparisons of
+    /// The attributes of the group at the path; None if there is no such group. O(depth · log children) comparisons of
     /// names.
     pub fn find<B: Allocator + Clone>(&self, path: &GroupPath<B>) -> Option<&Attr>
         ensures { option_copied result ≡ fin.get self.now path.now }
@@ -54,7 +54,7 @@ impl<A: Allocator> GroupTree<A> {
         self.root.find(path.names())
     }
 
-    /// What the group at the first `n` names of the path has. Costs no more than `find`.
+    /// The attributes of the group at the first `n` names of the path. Costs no more than `find`.
     pub fn find_at<B: Allocator + Clone>(&self, path: &GroupPath<B>, n: usize) -> Option<&Attr>
         requires { n ≤ length path.now }
         ensures { option_copied result ≡ fin.get self.now (take n path.now) }
@@ -62,14 +62,14 @@ impl<A: Allocator> GroupTree<A> {
         self.root.find(path.first_names(n))
     }
 
-    /// Changes what the group at the path has; false where there is no such group. Costs as much as `find`.
+    /// Sets the attributes of the group at the path; false if there is no such group. Costs as much as `find`.
     pub fn set<B: Allocator + Clone>(&mut self, path: &GroupPath<B>, attr: Attr) -> bool
         ensures { Sets self.old self.new path.now attr result }
     {
         self.root.set(path.names(), Setting::Whole(attr)).is_some()
     }
 
-    /// Changes what the group at the first `n` names of the path has; false where there is no such group. Costs no more
+    /// Sets the attributes of the group at the first `n` names of the path; false if there is no such group. Costs no more
     /// than `find`.
     pub fn set_at<B: Allocator + Clone>(
         &mut self,
@@ -85,8 +85,8 @@ impl<A: Allocator> GroupTree<A> {
             .is_some()
     }
 
-    /// Sets a limit of the group at the path, and gives back the one that stood there; None where there is no such group. It
-    /// goes down once, as `find` does, and takes no memory.
+    /// Sets a limit of the group at the path and returns the old limit; None if there is no such group. Descends once, as
+    /// `find` does, and allocates nothing.
     pub fn replace_limit<B: Allocator + Clone>(
         &mut self,
         path: &GroupPath<B>,
@@ -99,16 +99,16 @@ impl<A: Allocator> GroupTree<A> {
         Some(attr.limit(file))
     }
 
-    /// What the groups on the way along the path have, from the one below the root down to the path's own; it ends before
-    /// the first that is missing. It goes down once, as `find` does, and takes no memory.
+    /// The attributes of the groups along the path, from the child of the root down to the path's own group. The iterator
+    /// ends before the first group that is missing. Descends once, as `find` does, and allocates nothing.
     pub fn along<'a, B: Allocator + Clone>(&'a self, path: &'a GroupPath<B>) -> Along<'a, A>
         ensures { result ≡ along_of self.now path.now }
     {
         Along::of(&self.root, path.names())
     }
 
-    /// The names of the groups one name below the one at the path, in the order of their bytes; None where there is no such
-    /// group. It goes down once, as `find` does, and takes no memory.
+    /// The names of the children of the group at the path, in the order of their bytes; None if there is no such group.
+    /// Descends once, as `find` does, and allocates nothing.
     pub fn child_names<B: Allocator + Clone>(
         &self,
         path: &GroupPath<B>,
@@ -118,10 +118,9 @@ impl<A: Allocator> GroupTree<A> {
         self.root.child_names(path.names())
     }
 
-    /// Counts one fork more that the group at the first `n` names of the path refused, which is not the root: in its local
-    /// total, and in the
-    /// totals of it and of the groups above it but the root. A total that is the greatest number stays. It goes down once, as
-    /// `find` does, and takes no memory.
+    /// Counts a fork that the group at the first `n` names of the path refused. Adds one to the local total of that group,
+    /// and one to the totals of that group and of the groups above it other than the root. That group must not be the root.
+    /// A total that is the greatest u64 stays. Descends once, as `find` does, and allocates nothing.
     pub fn count_refusal<B: Allocator + Clone>(&mut self, path: &GroupPath<B>, n: usize)
         requires at { n ≤ length path.now }
         requires beside_root { 0 < n }
@@ -130,8 +129,8 @@ impl<A: Allocator> GroupTree<A> {
         self.root.count(path.first_names(n), Change::Raise);
     }
 
-    /// Counts one fork less that the group at the first `n` names of the path refused. A total of 0 stays. Costs as much as
-    /// `count_refusal`, and takes no memory.
+    /// Undoes one `count_refusal`: subtracts one from the same totals. A total of 0 stays. Costs as much as `count_refusal`,
+    /// and allocates nothing.
     pub fn uncount_refusal<B: Allocator + Clone>(&mut self, path: &GroupPath<B>, n: usize)
         requires at { n ≤ length path.now }
         ensures { Counts (λ m. m - 1) self.old self.new (take n path.now) }
@@ -139,8 +138,8 @@ impl<A: Allocator> GroupTree<A> {
         self.root.count(path.first_names(n), Change::Lower);
     }
 
-    /// Sets the peaks of the groups from the one at the path upward, the root left out: the first is that of the path's own
-    /// group. A group that is missing is passed over. It goes down once, as `find` does, and takes no memory.
+    /// Sets the peaks of the groups from the path's own group upward, without the root. The first peak is that of the path's
+    /// own group. A missing group is skipped. Descends once, as `find` does, and allocates nothing.
     pub fn set_peaks<B: Allocator + Clone>(&mut self, path: &GroupPath<B>, peaks: &[u64])
         requires { length peaks.now ≡ length path.now }
         ensures { SetsPeaks self.old self.new path.now peaks.now }
@@ -148,8 +147,8 @@ impl<A: Allocator> GroupTree<A> {
         self.root.set_peaks(path.names(), peaks);
     }
 
-    /// How many groups there are beside the root. The count is kept, so this costs one step. It is exact as long as the
-    /// tree has fewer than 2^64 groups.
+    /// How many groups there are besides the root. The number is stored, so this takes constant time. It is exact as long as
+    /// the tree has fewer than 2^64 groups.
     pub fn groups_beside_root(&self) -> u64
         ensures counted { result ≡ (fin.len self.now - 1) % 2 ^ 64 }
         ensures exact { fin.len self.now < 2 ^ 64 → result + 1 ≡ fin.len self.now }
@@ -157,8 +156,8 @@ impl<A: Allocator> GroupTree<A> {
         self.root.groups_below()
     }
 
-    /// How many groups are strictly below the one at the path; None where there is no such group. The count is kept,
-    /// so this costs no more than `find`. It is exact as long as the tree has fewer than 2^64 groups.
+    /// How many groups are strictly below the group at the path; None if there is no such group. The number is stored, so
+    /// this costs no more than `find`. It is exact as long as the tree has fewer than 2^64 groups.
     pub fn descendants<B: Allocator + Clone>(&self, path: &GroupPath<B>) -> Option<u64>
         ensures counted { MatchOption result (fin.get self.now path.now ≡ None) (λ n. IsSome (fin.get self.now path.now) × (n ≡ descendant_count self.now path.now % 2 ^ 64)) }
         ensures exact { fin.len self.now < 2 ^ 64 → IfSome result (λ n. n ≡ descendant_count self.now path.now) }
@@ -166,7 +165,7 @@ impl<A: Allocator> GroupTree<A> {
         self.root.descendants(path.names())
     }
 
-    /// How many groups are strictly below the one at the first `n` names of the path, as `descendants` says it.
+    /// The same as `descendants`, for the group at the first `n` names of the path.
     pub fn descendants_at<B: Allocator + Clone>(&self, path: &GroupPath<B>, n: usize) -> Option<u64>
         requires { n ≤ length path.now }
         ensures counted { MatchOption result (fin.get self.now (take n path.now) ≡ None) (λ k. IsSome (fin.get self.now (take n path.now)) × (k ≡ descendant_count self.now (take n path.now) % 2 ^ 64)) }
@@ -175,8 +174,8 @@ impl<A: Allocator> GroupTree<A> {
         self.root.descendants(path.first_names(n))
     }
 
-    /// What the group at the path has, and how many groups are strictly below it, as `find` and `descendants` say them; None
-    /// where there is no such group. It goes down once, as `find` does.
+    /// The attributes of the group at the path, and how many groups are strictly below it, as `find` and `descendants`
+    /// return them; None if there is no such group. Descends once, as `find` does.
     pub fn find_with_descendants<B: Allocator + Clone>(
         &self,
         path: &GroupPath<B>,
@@ -188,22 +187,22 @@ impl<A: Allocator> GroupTree<A> {
         self.root.find_with_descendants(path.names())
     }
 
-    /// What stands against a new group at the path, memory aside, and what comes first in this order: that it is there, that
-    /// its parent is not, the first limit of the hierarchy that it meets, from its parent up to the root, and of one group
-    /// that on descendants first. It goes down once, as `find` does. The counts are exact as long as the tree has fewer than
-    /// 2^64 groups.
+    /// Whether a new group can be made at the path, apart from memory. The first of these that applies is returned: the
+    /// group exists; its parent does not exist; a limit of the hierarchy is met. Limits are tested from the parent up to the
+    /// root, and at one group that on descendants first. Descends once, as `find` does. The counts are exact as long as the
+    /// tree has fewer than 2^64 groups.
     pub fn admits<B: Allocator + Clone>(&self, path: &GroupPath<B>) -> Admission
         ensures { Admits self.now path.now result }
     {
         self.root.admits(path.names(), path.depth(), 0)
     }
 
-    /// The slots from the group at the path upward, the root left out; None where there is no such group, which takes no
-    /// memory, as up to eight slots take none. It goes down once, as `find` does.
+    /// The slots of the groups from the path's own group upward, without the root; None if there is no such group. Up to
+    /// eight slots and None need no allocation. Descends once, as `find` does.
     ///
     /// # Errors
     ///
-    /// `AllocError` where there was no memory for more than eight.
+    /// `AllocError` if there are more than eight slots and their allocation fails.
     pub fn chain<B: Allocator + Clone>(
         &self,
         path: &GroupPath<B>,
@@ -221,12 +220,12 @@ impl<A: Allocator> GroupTree<A> {
         }
     }
 
-    /// Takes out a group that has none below it, and gives back what it had. It takes no memory. Costs as much as `find`,
-    /// and a move of each sibling behind it.
+    /// Removes a group that has no groups below it, and returns its attributes. Allocates nothing. Costs as much as `find`,
+    /// and a move of each sibling after it.
     ///
     /// # Errors
     ///
-    /// The first that holds, in this order: `RootFixed`, `NoGroup`, `HasChildren`. Each leaves the tree as it was.
+    /// The first of these that applies: `RootFixed`, `NoGroup`, `HasChildren`. Each leaves the tree unchanged.
     pub fn remove<B: Allocator + Clone>(&mut self, path: &GroupPath<B>) -> Result<Attr, TreeFault>
         ensures { Removes self.old self.new path.now result }
     {
@@ -237,8 +236,8 @@ impl<A: Allocator> GroupTree<A> {
         }
     }
 
-    /// Tells callers that the tree has the root and the parent of each group, and that what stands below a group is what
-    /// stands below it in the flat state of `map_values group_of`. It is proof only.
+    /// Gives callers that the tree has the root and the parent of each group, and that the groups below a group are those
+    /// below it in the flat state of `map_values group_of`. Proof only.
     pub fn known(&self)
         ensures closed { IsClosed self.now }
         ensures prefixes { (p q : Path) → IsSome (fin.get self.now p) → at_or_below p q ≡ true → IsSome (fin.get self.now q) }
@@ -247,11 +246,11 @@ impl<A: Allocator> GroupTree<A> {
         let _ = &self.root;
     }
 
-    /// The same tree in the memory of another allocator, in time linear in its groups and their names.
+    /// Copies the tree into another allocator. Linear in the groups and their names.
     ///
     /// # Errors
     ///
-    /// `AllocError` when out of memory; what was copied is dropped then.
+    /// `AllocError` when out of memory; the partial copy is dropped.
     pub fn copy<B: Allocator + Clone + Drop>(&self, alloc: B) -> Result<GroupTree<B>, AllocError>
         ensures { IfOk result (λ t. t ≡ self.now) }
     {
@@ -261,7 +260,7 @@ impl<A: Allocator> GroupTree<A> {
 }
 
 impl<A: Allocator + Clone> GroupTree<A> {
-    /// The tree of the root alone.
+    /// A tree with the root alone.
     ///
     /// # Errors
     ///
@@ -273,11 +272,11 @@ impl<A: Allocator + Clone> GroupTree<A> {
         Ok(GroupTree { root })
     }
 
-    /// Makes a group. Costs as much as `find`, and a move of each sibling behind it.
+    /// Makes a group. Costs as much as `find`, and a move of each sibling after it.
     ///
     /// # Errors
     ///
-    /// The first that holds, in this order: `Exists`, `NoParent`, `OutOfMemory`. Each leaves the tree as it was.
+    /// The first of these that applies: `Exists`, `NoParent`, `OutOfMemory`. Each leaves the tree unchanged.
     pub fn insert<B: Allocator + Clone>(
         &mut self,
         path: &GroupPath<B>,

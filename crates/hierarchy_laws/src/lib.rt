@@ -1,13 +1,13 @@
-//! The laws of the definitions that paths and the tree of groups are proved by: no code stands here.
+//! The laws of the definitions that the contracts of `group_path` and `group_tree` use. This crate has no code.
 //!
-//! Each function's contract is a law, and its body is empty. A law says of a definition what its reader wants to know, in
-//! equivalences where it can, so that a definition which says less would not meet it.
+//! Each function's contract is a law, and its body is empty. A law says what a definition amounts to, as an equivalence
+//! where possible, so that a weaker definition would not satisfy it.
 //!
-//! - `paths`: what a call of `group_path` answers for what the grammar gives, and the answer to a text with each fault.
-//! - `trees`: what the calls of `group_tree` answer and leave by what the tree had, and what its values are in the flat
+//! - `paths`: what a call of `group_path` returns for each result of the grammar, and the result for a text with each fault.
+//! - `trees`: what the calls of `group_tree` return and leave, depending on the tree; and the tree's values in the flat
 //!   state.
 //!
-//! The laws of the paths themselves, of their order and of their grammar stand in `flat_model_laws`.
+//! The laws of paths, of their order and of their grammar are in `flat_model_laws`.
 #![tactic(auto)]
 
 pub mod paths;

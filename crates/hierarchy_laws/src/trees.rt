@@ -1,4 +1,4 @@
-//! The laws of what calls answer and leave, and of what the tree's values are in the flat state.
+//! The laws of what calls return and leave, and of the tree's values in the flat state.
 
 ghost use Rattle.std.specs.Prelude.{◌≡◌, ◌≢◌, ℕ, List, ◌+◌, ◌^◌, ◌-◌, ◌<◌, ◌≤◌, ◌↔◌, ◌⊎◌, Bool, true, false, [], ◌∷◌, length, Some, None, IsSome, is_some, option_map, min, Result, Ok, Err, codes};
 ghost use Rattle.std.specs.List.{list_any};
@@ -22,21 +22,21 @@ ghost use Rattle.group_tree.specs.Refusals.{Counts, HasRoomForRefusals, counted_
 ghost use Rattle.group_tree.specs.Peaks.{SetsPeaks, peaked_by};
 ghost use Rattle.group_tree.specs.Limits.{refusal_along, names_of, without_processes};
 
-/// What a new group answers, by what the tree had: one fault where there is such a group, one where there is none to put
-/// it in, and else only out of memory. Each fault leaves the tree as it was.
+/// What inserting a group returns, depending on the tree: one fault if the group exists, one if its parent doesn't exist,
+/// and otherwise only out of memory. Each fault leaves the tree unchanged.
 pub fn faults_of_a_new_group()
     ensures exists { (old new : Groups) (p : Path) (attr : Attr) (r : Result (Unit {0}) TreeFault) → IsSome (get old p) → Inserts old new p attr r ↔ ((r ≡ Err Exists) × (new ≡ old)) }
     ensures no_parent { (old new : Groups) (p : Path) (attr : Attr) (r : Result (Unit {0}) TreeFault) → get old p ≡ None → get old (parent p) ≡ None → Inserts old new p attr r ↔ ((r ≡ Err NoParent) × (new ≡ old)) }
     ensures made { (old new : Groups) (p : Path) (attr : Attr) (r : Result (Unit {0}) TreeFault) → get old p ≡ None → IsSome (get old (parent p)) → Inserts old new p attr r ↔ (((r ≡ Ok tt) × (new ≡ insert old p attr)) ⊎ ((r ≡ Err OutOfMemory) × (new ≡ old))) }
 {}
 
-/// New attributes are given to a group that is there, and to no other.
+/// Setting attributes succeeds exactly if the group exists.
 pub fn only_a_group_is_set()
     ensures there { (old new : Groups) (p : Path) (attr : Attr) (done : Bool) → IsSome (get old p) → Sets old new p attr done ↔ ((done ≡ true) × (new ≡ insert old p attr)) }
     ensures absent { (old new : Groups) (p : Path) (attr : Attr) (done : Bool) → get old p ≡ None → Sets old new p attr done ↔ ((done ≡ false) × (new ≡ old)) }
 {}
 
-/// What a removal answers, by what the tree had. Each fault leaves the tree as it was, and there is no other.
+/// What removing a group returns, depending on the tree. Each fault leaves the tree unchanged, and there are no others.
 pub fn faults_of_a_removal()
     ensures root { (old new : Groups) (r : Result Attr TreeFault) → Removes old new [] r ↔ ((r ≡ Err RootFixed) × (new ≡ old)) }
     ensures absent { (old new : Groups) (p : Path) (r : Result Attr TreeFault) → p ≢ [] → get old p ≡ None → Removes old new p r ↔ ((r ≡ Err NoGroup) × (new ≡ old)) }
@@ -44,14 +44,14 @@ pub fn faults_of_a_removal()
     ensures removed { (old new : Groups) (p : Path) (attr : Attr) (r : Result Attr TreeFault) → p ≢ [] → get old p ≡ Some attr → HasNoneBelow old p → Removes old new p r ↔ ((r ≡ Ok attr) × (new ≡ remove old p)) }
 {}
 
-/// Some group is below a path, or none is: the test of the tree's paths says which.
+/// Whether some group is below a path: the test of the tree's paths decides it.
 pub fn below_or_none()
     ensures some { (m : Groups) (p : Path) → HasBelow m p ↔ (list_any (λ q. strictly_below q p) (keys m) ≡ true) }
     ensures none { (m : Groups) (p : Path) → HasNoneBelow m p ↔ (list_any (λ q. strictly_below q p) (keys m) ≡ false) }
 {}
 
-/// A group of the tree is one of the flat state: each limit stands in its own file, no two limits, files or groups are
-/// the same there, their slots aside, and the limits of the hierarchy that are met are told apart.
+/// A group of the tree is one of the flat state. Each limit is that of its own file. No two limits, files or groups become
+/// the same there, apart from their slots. The limits of the hierarchy that are met remain distinct.
 pub fn groups_are_flat_groups()
     ensures limits { (a b : Limit) → limit_of a ≡ limit_of b → a ≡ b }
     ensures groups { (a b : Attr) → group_of a ≡ group_of b → a.slot ≡ b.slot → a ≡ b }
@@ -71,8 +71,7 @@ pub fn groups_are_flat_groups()
     ensures nobody { (m : Groups) (pid : ℕ) → has_process (without_processes m) pid ≡ false }
 {}
 
-/// Event totals are counted as the flat state counts them: up as far as the greatest number, down as far as 0. The slot
-/// and the peak stay.
+/// Event totals change as in the flat state: up to the greatest u64, and down to 0. The slot and the peak stay.
 pub fn refusals_are_counted()
     ensures up { (a q : Path) (x : Attr) → x.local < 2 ^ 64 - 1 → x.total < 2 ^ 64 - 1 → group_of (counted_by (λ m. min (m + 1) (2 ^ 64 - 1)) a q x) ≡ count_up a q (group_of x) }
     ensures down { (a q : Path) (x : Attr) → group_of (counted_by (λ m. m - 1) a q x) ≡ count_down a q (group_of x) }
@@ -83,8 +82,8 @@ pub fn refusals_are_counted()
     ensures all_down { (old new : Groups) (a q : Path) → Counts (λ m. m - 1) old new a → get (map_values group_of new) q ≡ option_map (count_down a q) (get (map_values group_of old) q) }
 {}
 
-/// Peaks are set as the flat state sets them. All else of a group stays, and so does the root: of three groups on a way,
-/// the last has the first peak, and the first the last.
+/// Peaks are set as in the flat state. Everything else of a group stays, and so does the root. Of three groups along a path,
+/// the last gets the first peak, and the first the last.
 pub fn peaks_are_set()
     ensures each { (a q : Path) (peaks : List ℕ) (x : Attr) → group_of (peaked_by a peaks q x) ≡ set_peak a peaks q (group_of x) }
     ensures slot { (a q : Path) (peaks : List ℕ) (x : Attr) → (peaked_by a peaks q x).slot ≡ x.slot }
@@ -94,8 +93,8 @@ pub fn peaks_are_set()
     ensures three_last { (l m n : ℕ) (x : Attr) → (peaked_by (codes "a" ∷ codes "b" ∷ codes "c" ∷ []) (l ∷ m ∷ n ∷ []) (codes "a" ∷ codes "b" ∷ codes "c" ∷ []) x).peak ≡ l }
 {}
 
-/// A group, its child and the child of that: the slots upward, the groups downward, and what they have as far as they are
-/// there. The root is not among them.
+/// A group, its child and its grandchild: the slots upward, the groups downward, and the attributes of those that exist. The
+/// root is not among them.
 pub fn three_groups()
     ensures chain { (m : Groups) (a b c : Name) (x y z : Attr) → get m (a ∷ []) ≡ Some x → get m (a ∷ b ∷ []) ≡ Some y → get m (a ∷ b ∷ c ∷ []) ≡ Some z → chain_of m (a ∷ b ∷ c ∷ []) ≡ z.slot ∷ y.slot ∷ x.slot ∷ [] }
     ensures root_chain { (m : Groups) → chain_of m [] ≡ [] }
@@ -105,7 +104,7 @@ pub fn three_groups()
     ensures root_along { (m : Groups) → along_of m [] ≡ [] }
 {}
 
-/// A new tree has the root alone, with what it was given. Each tree has the root, and each group above one of its groups.
+/// A new tree has only the root, with the given attributes. Each tree has the root, and each group above one of its groups.
 pub fn trees_are_closed()
     ensures alone { (a x : Attr) (p : Path) → (get (only_root a) p ≡ Some x) ↔ ((p ≡ []) × (x ≡ a)) }
     ensures root { (m : Groups) → IsClosed m → is_group (without_processes m) [] ≡ true }

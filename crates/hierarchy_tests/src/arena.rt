@@ -1,4 +1,4 @@
-//! Trees that are copied into an arena.
+//! Trees copied into an arena.
 
 use crate::calls::sample;
 use bumpalo::{Bump, ResetError};
@@ -6,7 +6,7 @@ use std::mem;
 use std::test::Fail;
 use test_support::path;
 
-/// An arena is given up after the tree that was copied into it.
+/// An arena is freed after the tree that was copied into it.
 #[test]
 fn tree_in_an_arena(rt: HostRuntime) -> Result<(), Fail> {
     let root = path(rt.alloc(), "/")?;
@@ -19,7 +19,7 @@ fn tree_in_an_arena(rt: HostRuntime) -> Result<(), Fail> {
     Ok(())
 }
 
-/// A tree that is forgotten keeps the arena from being given up.
+/// A tree that is forgotten keeps its arena from being freed.
 #[test]
 fn tree_forgotten_in_an_arena(rt: HostRuntime) -> Result<(), Fail> {
     let tree = sample(rt.alloc(), false)?;

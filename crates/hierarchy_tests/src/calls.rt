@@ -1,4 +1,4 @@
-//! A tree of five groups, and tables of calls on it, each with what it answers.
+//! A tree of five groups, and tables of calls on it, each with its expected result.
 
 use group_path::GroupPath;
 use group_tree::{Admission, Attr, GroupTree, Limit, LimitFile, Limits, MetLimit, TreeFault};
@@ -6,7 +6,7 @@ use std::alloc::{AllocError, Allocator, Global};
 use std::test::Fail;
 use test_support::path;
 
-/// Attributes that tell one group from another by their slot.
+/// Attributes whose slot identifies the group.
 pub(crate) fn attr(slot: u16) -> Attr {
     Attr {
         limits: Limits {
@@ -21,8 +21,8 @@ pub(crate) fn attr(slot: u16) -> Attr {
     }
 }
 
-/// `/a`, `/a/b`, `/a/b/c`, `/a/d`, `/e`, made out of their order, with the slots 1 to 5; quiet ones have no limits
-/// and event totals of 0.
+/// `/a`, `/a/b`, `/a/b/c`, `/a/d`, `/e`, made out of order, with the slots 1 to 5. If `is_quiet`, they have no limits and
+/// event totals of 0.
 pub(crate) fn sample(alloc: Global, is_quiet: bool) -> Result<GroupTree<Global>, Fail> {
     let mut tree = GroupTree::new(alloc, with(is_quiet, 0))?;
     for (text, slot) in [
@@ -46,49 +46,49 @@ fn with(is_quiet: bool, slot: u16) -> Attr {
     }
 }
 
-/// A call on a tree by a path, or by so many of its first names.
+/// A call on a tree by a path, or by the first names of a path.
 #[derive(Clone, Copy)]
 pub(crate) enum Call {
-    /// Answers the slot, where the rest is as `attr` has it.
+    /// Returns the slot, if the other attributes are those of `attr`.
     Find,
     FindAt(usize),
-    /// How many groups are below it.
+    /// Returns how many groups are below it.
     Below,
     BelowAt(usize),
-    /// Both at once: ten times the slot, and how many are below.
+    /// Both at once: ten times the slot, plus how many groups are below it.
     FindWithBelow,
-    /// How many groups there are beside the root.
+    /// Returns how many groups there are besides the root.
     All,
-    /// The slots upward, as the digits of a number.
+    /// Returns the slots upward, as the digits of a number.
     Chain,
-    /// The slots downward, as the digits of a number.
+    /// Returns the slots downward, as the digits of a number.
     Along,
-    /// The local total and the total of each group from the root to here, as the digits of a number.
+    /// Returns the local total and the total of each group from the root to this one, as the digits of a number.
     Events,
-    /// The peak of each group from the root to here, as the digits of a number.
+    /// Returns the peak of each group from the root to this one, as the digits of a number.
     Peaks,
-    /// `attr` of this slot; answers 1.
+    /// Sets `attr` of this slot; returns 1.
     Set(u16),
     SetAt(usize, u16),
-    /// Another limit in a file; answers 1.
+    /// Sets another limit; returns 1.
     Limit(LimitFile, Limit),
-    /// The same in one call; answers the number that stood there, and 0 where there was no limit.
+    /// The same in one call; returns the old number, or 0 if there was no limit.
     Replace(LimitFile, Limit),
-    /// What stands against a new group: that it is there or has no parent, or else the limit that is met. 0 is none, and
-    /// others are the number of names of its group's path, with 10 for a limit on descendants and 20 for one on depth.
+    /// Tests whether a new group is possible: it exists, has no parent, or meets a limit. 0 is no limit. Otherwise the
+    /// number is that of the names of the limiting group's path, plus 10 for a limit on descendants or 20 for one on depth.
     Admits,
-    /// Answers the slot.
+    /// Returns the slot.
     Insert(u16),
-    /// Answers the slot, where the rest is as `attr` has it.
+    /// Returns the slot, if the other attributes are those of `attr`.
     Remove,
-    /// Counts a refused fork, or takes that back; answers 1.
+    /// Counts a refused fork, or undoes the count; returns 1.
     Refuse(usize),
     Unrefuse(usize),
-    /// Sets the first so many of the peaks 1, 2, 3 and 4, where there are as many names; answers 1.
+    /// Sets the first so many of the peaks 1, 2, 3 and 4, but no more than there are names; returns 1.
     SetPeaks(usize),
 }
 
-/// A path, a call by it, and what is answered; `NoGroup` also where a call answers that with None or false.
+/// A path, a call by it, and the expected result. The result is `NoGroup` also if the call returns None or false for it.
 pub(crate) type Row<'a> = (&'a str, Call, Result<u64, TreeFault>);
 
 fn slot_of(attr_there: Attr) -> Result<u64, TreeFault> {
@@ -246,7 +246,7 @@ fn change_refusals<A: Allocator>(
     true
 }
 
-/// What the call answers.
+/// The result of the call.
 pub(crate) fn answer<A: Allocator + Clone>(
     tree: &mut GroupTree<A>,
     path: &GroupPath<Global>,
@@ -283,7 +283,7 @@ pub(crate) fn answer<A: Allocator + Clone>(
     }
 }
 
-/// Makes the calls one after another; the place of the first that is answered otherwise than its row has it.
+/// Makes the calls one after another, and returns the index of the first with another result than its row expects.
 pub(crate) fn first_other<A: Allocator + Clone>(
     alloc: Global,
     tree: &mut GroupTree<A>,

@@ -1,10 +1,10 @@
-//! The limits that a group has, and the first that a new group meets.
+//! The limits of a group, and the first one that a new group meets.
 
 use crate::calls::{Call, first_other_of_sample};
 use group_tree::{Attr, Limit, LimitFile, Limits, TreeFault};
 use std::test::Fail;
 
-/// Attributes with these limits of processes, of descendants and of depth.
+/// Attributes with these limits on processes, descendants and depth.
 pub(crate) fn limited(slot: u16, limits: [Limit; 3]) -> Attr {
     let [pids, descendants, depth] = limits;
     Attr {
@@ -20,7 +20,7 @@ pub(crate) fn limited(slot: u16, limits: [Limit; 3]) -> Attr {
     }
 }
 
-/// Whether a change of that limit to 1, where they are 4, 5 and 6, leaves these; a new group has none.
+/// Whether changing that limit to 1, from the limits 4, 5 and 6, leaves these limits. A new group has none.
 fn is_changed(file: LimitFile, pids: u32, descendants: u32, depth: u32) -> bool {
     let attr = limited(9, [Limit::At(4), Limit::At(5), Limit::At(6)]);
     let changed = attr.with_limit(file, Limit::At(1));
@@ -29,7 +29,7 @@ fn is_changed(file: LimitFile, pids: u32, descendants: u32, depth: u32) -> bool 
         == (limited(9, wanted), Limit::At(1), Limit::Unlimited)
 }
 
-/// A new group has no limits and event totals of 0; a limit that is changed leaves the other two, totals and slot.
+/// A new group has no limits and event totals of 0. Changing a limit keeps the other two, the totals and the slot.
 #[test]
 fn changes_limits(rt: HostRuntime) {
     assert_eq!(rt; Attr::new(9), limited(9, [Limit::Unlimited; 3]));
@@ -43,7 +43,7 @@ fn changes_limits(rt: HostRuntime) {
     }
 }
 
-/// The nearest group is asked first, and of one group its limit on descendants.
+/// The nearest group is tested first, and of one group its limit on descendants.
 #[test]
 fn meets_limits(rt: HostRuntime) -> Result<(), Fail> {
     let depth = LimitFile::MaxDepth;
@@ -71,7 +71,7 @@ fn meets_limits(rt: HostRuntime) -> Result<(), Fail> {
     Ok(())
 }
 
-/// Of the groups above, the root is asked last.
+/// Of the groups above, the root is tested last.
 #[test]
 fn meets_the_limit_of_the_root(rt: HostRuntime) -> Result<(), Fail> {
     let descendants = LimitFile::MaxDescendants;
@@ -85,7 +85,7 @@ fn meets_the_limit_of_the_root(rt: HostRuntime) -> Result<(), Fail> {
     Ok(())
 }
 
-/// A limit that is replaced is answered, and the others stay.
+/// Replacing a limit returns the old one and keeps the others.
 #[test]
 fn replaces_limits(rt: HostRuntime) -> Result<(), Fail> {
     let depth = LimitFile::MaxDepth;

@@ -12,7 +12,8 @@ fn compared(one: &GroupPath<&LocalHeap>, other: &GroupPath<Global>) -> (bool, bo
     (one.is_same(other), one.is_at_or_below(other))
 }
 
-/// Whether `/a/b` in the heap has its depth, its parent and a child there, and is its copy elsewhere until it is cut.
+/// Whether `/a/b` in the heap has its depth, its parent and a child there, and equals its copy in another allocator until it
+/// is cut.
 fn is_whole(alloc: Global, heap: &LocalHeap) -> Result<bool, Fail> {
     let mut group = GroupPath::read(heap, b"/a/b")?;
     let copy = group.copy(alloc)?;
@@ -33,19 +34,19 @@ fn over_a_small_heap(rt: HostRuntime) -> Result<(), Fail> {
     Ok(())
 }
 
-/// A call that makes a path over a heap, from one elsewhere.
+/// A call that makes a path in a heap, from a path in another allocator.
 #[derive(Clone, Copy)]
 enum Call {
     Root,
     Read,
-    /// Of another text.
+    /// Reads another text.
     ReadOther(&'static [u8]),
     Parent,
     Child(&'static [u8]),
     Copy,
 }
 
-/// What a path that was asked for, or its fault, is beside the text or the fault that is wanted.
+/// How a path, or the fault of making it, compares with the expected text or fault.
 fn compared_to(
     made: Result<GroupPath<&LocalHeap>, PathFault>,
     wanted: Result<&[u8], PathFault>,
@@ -65,7 +66,7 @@ fn compared_to(
     }
 }
 
-/// Makes the path of that call over the heap.
+/// Makes the path of that call in the heap.
 fn made<'a>(
     heap: &'a LocalHeap,
     path: &GroupPath<Global>,
@@ -91,8 +92,8 @@ fn made<'a>(
     }
 }
 
-/// How many refusals there are before the call is answered as wanted, as the room grows by a block at a time. Each leaves the
-/// path as it was, and the heap.
+/// How many times the call is refused before it gives the expected result, as the room grows one block at a time. Each
+/// refusal leaves the path and the heap unchanged.
 fn refusals(
     alloc: Global,
     heap: &LocalHeap,
@@ -116,7 +117,7 @@ fn refusals(
     Err(Fail::new("there is no answer in 1,024 bytes"))
 }
 
-/// The text of 30 letters below the root, that below it, and that with a child `c`.
+/// A path of 30 letters below the root, a path below it, and that with a child `c`.
 fn long_texts(alloc: Global) -> Result<[Vec<u8>; 3], AllocError> {
     let above = names_of_letters(alloc, 1, 30)?;
     let text = names_of_letters(alloc, 2, 30)?;
@@ -125,7 +126,7 @@ fn long_texts(alloc: Global) -> Result<[Vec<u8>; 3], AllocError> {
     Ok([above, text, below])
 }
 
-/// The calls on the second of these texts, and whether they ask for memory. A fault of the text or of the name comes first.
+/// The calls on the second of these texts, and whether they allocate. A fault of the text or of the name comes first.
 fn rows<'t>(
     above: &'t [u8],
     text: &'t [u8],
@@ -142,7 +143,7 @@ fn rows<'t>(
     ]
 }
 
-/// Each allocation of a call on a path of 62 bytes refused.
+/// Refuses each allocation of a call on a path of 62 bytes.
 #[test]
 fn each_allocation_of_a_path_refused(rt: HostRuntime) -> Result<(), Fail> {
     let heap = LocalHeap::new(rt.alloc(), 1024)?;
@@ -154,7 +155,8 @@ fn each_allocation_of_a_path_refused(rt: HostRuntime) -> Result<(), Fail> {
     Ok(())
 }
 
-/// Up to 23 bytes ask for none: of 24 bytes the parent alone is had in a full heap, of 23 all but the child, and of 21 all.
+/// Paths of up to 23 bytes allocate nothing. In a full heap, a path of 24 bytes has only its parent; with 23 bytes
+/// everything but the child works, and with 21 bytes everything.
 #[test]
 fn short_paths_in_a_full_heap(rt: HostRuntime) -> Result<(), Fail> {
     let heap = LocalHeap::new(rt.alloc(), 1024)?;

@@ -28,7 +28,7 @@ pub(crate) fn names_of_letters(
     Ok(text)
 }
 
-/// Whether this is the parent's text.
+/// Whether the parent has this text.
 pub(crate) fn has_parent<A: Allocator + Clone, B: Allocator + Clone>(
     alloc: B,
     path: &GroupPath<A>,
@@ -40,7 +40,7 @@ pub(crate) fn has_parent<A: Allocator + Clone, B: Allocator + Clone>(
     }
 }
 
-/// Whether this is the text of the child of this name.
+/// Whether the child with this name has this text.
 pub(crate) fn has_child<A: Allocator + Clone, B: Allocator + Clone>(
     alloc: B,
     path: &GroupPath<A>,
@@ -75,7 +75,7 @@ fn the_root(rt: HostRuntime) -> Result<(), Fail> {
     Ok(())
 }
 
-/// The place of the first text that has another fault than the one beside it.
+/// The index of the first text that has another fault than the one given beside it.
 fn first_other(alloc: Global, rows: &[(&[u8], Option<PathFault>)]) -> Option<usize> {
     let mut at = 0usize;
     for (text, wanted) in rows {
@@ -117,7 +117,7 @@ fn texts(rt: HostRuntime) {
     assert_eq!(rt; first_other(rt.alloc(), &rows), None);
 }
 
-/// The fault of so many names of so many letters each, one of so many more where there are any, and this behind them.
+/// The fault of so many names of so many letters each, then one of so many more if there are any, then this text.
 fn fault_of_names(
     alloc: Global,
     count: usize,
@@ -133,8 +133,8 @@ fn fault_of_names(
     Ok(GroupPath::read(alloc, &text).err())
 }
 
-/// Names of letters, so many of so many letters each, one of so many, and this behind them. A byte's fault comes before
-/// the length of its name, a name too many before its bytes, and the length of the text first.
+/// So many names of so many letters each, then one of so many, then this text. A bad byte comes before the length of its
+/// name, a name too many before its bytes, and the length of the text first.
 #[test]
 fn bounds(rt: HostRuntime) -> Result<(), Fail> {
     assert_eq!(rt; (DEPTH_MAX, NAME_MAX, TEXT_MAX), (32, 255, 4095));
@@ -158,7 +158,7 @@ fn bounds(rt: HostRuntime) -> Result<(), Fail> {
     Ok(())
 }
 
-/// Whether these are the names, each with a comma behind it.
+/// Whether these are the names, each followed by a comma.
 fn are_listed(names: Names<'_>, wanted: &[u8]) -> bool {
     let mut rest = wanted;
     for name in names {
@@ -186,7 +186,7 @@ fn names_from_the_root(rt: HostRuntime) -> Result<(), Fail> {
     Ok(())
 }
 
-/// Whether the path keeps these texts as it is cut to its first name and then to none; the root's child is then `c`.
+/// Whether the path has these texts when it is cut to its first name and then to none. The root's child is then `c`.
 fn is_cut(alloc: Global, path: GroupPath<Global>) -> bool {
     let mut path = path;
     if path.depth() == 0 {
@@ -198,7 +198,7 @@ fn is_cut(alloc: Global, path: GroupPath<Global>) -> bool {
     (is_first, path.text(), has_child(alloc, &path, b"c", b"/c")) == (true, b"/".as_slice(), true)
 }
 
-/// Whether the path of this text has that depth, this parent and this child `c`, a copy, and `/a` as its first name.
+/// Whether the path with this text has that depth, this parent, this child `c`, an equal copy, and `/a` as its first name.
 fn is_amid(
     alloc: Global,
     text: &[u8],
@@ -231,7 +231,7 @@ fn neighbours(rt: HostRuntime) -> Result<(), Fail> {
     Ok(())
 }
 
-/// The place of the first name whose child has another fault than the one beside it.
+/// The index of the first name whose child has another fault than the one given beside it.
 fn first_other_child(
     alloc: Global,
     group: &GroupPath<Global>,
@@ -262,7 +262,7 @@ fn faults_of_a_child(rt: HostRuntime) -> Result<(), Fail> {
     Ok(())
 }
 
-/// The fault of the child, of so many letters, of so many names of so many letters each.
+/// The fault of a child with so many letters, of a path with so many names of so many letters each.
 fn fault_of_a_child(
     alloc: Global,
     count: usize,
@@ -275,7 +275,7 @@ fn fault_of_a_child(
     Ok(group.child(alloc, &name).err())
 }
 
-/// So many names of so many letters each, and one more of so many. The name's faults come before those of the whole.
+/// So many names of so many letters each, then one of so many. The name's own faults come before those of the whole text.
 #[test]
 fn bounds_of_a_child(rt: HostRuntime) -> Result<(), Fail> {
     let rows = [
@@ -284,7 +284,7 @@ fn bounds_of_a_child(rt: HostRuntime) -> Result<(), Fail> {
         (1, 1, 256, Some(PathFault::NameTooLong)),
         (32, 1, 1, Some(PathFault::TooDeep)),
         (32, 1, 0, Some(PathFault::EmptyName)),
-        // A slash and 254 letters behind 3,840 bytes just fit.
+        // A slash and 254 letters after 3,840 bytes just fit.
         (15, 255, 254, None),
         (15, 255, 255, Some(PathFault::TooLong)),
     ];
@@ -295,7 +295,7 @@ fn bounds_of_a_child(rt: HostRuntime) -> Result<(), Fail> {
     Ok(())
 }
 
-/// Whether the child of the root that has this text has its name alone, and the root as its parent.
+/// Whether the child of the root with this text has only its name, and the root as its parent.
 fn is_child_of_the_root(alloc: Global, text: &[u8]) -> Result<bool, Fail> {
     let name = text.get(1..).unwrap_or_default();
     let root = GroupPath::root(alloc)?;
@@ -309,7 +309,7 @@ fn is_child_of_the_root(alloc: Global, text: &[u8]) -> Result<bool, Fail> {
     )
 }
 
-/// The child of the longest name, from its text and back.
+/// A child with the longest name, read from its text and back.
 #[test]
 fn child_of_the_longest_name(rt: HostRuntime) -> Result<(), Fail> {
     let text = names_of_letters(rt.alloc(), 1, 255)?;
@@ -317,8 +317,8 @@ fn child_of_the_longest_name(rt: HostRuntime) -> Result<(), Fail> {
     Ok(())
 }
 
-/// Whether the first is at or below the second or not, as wanted, and they are ordered so, and the same by `==` and by
-/// `is_same` where the order says so.
+/// Whether the first is at or below the second as expected, and whether the order, `==` and `is_same` agree with the
+/// expected order.
 fn are_compared(
     alloc: Global,
     one: &[u8],
@@ -339,8 +339,8 @@ fn are_compared(
     )
 }
 
-/// Two paths: whether the first is at or below the second, and how they are ordered. A group, those below it, and then
-/// its next sibling, although `!` comes before the slash.
+/// Two paths: whether the first is at or below the second, and how they are ordered. A group comes first, then the groups
+/// below it, then its next sibling, although `!` comes before the slash.
 #[test]
 fn pairs(rt: HostRuntime) -> Result<(), Fail> {
     let rows = [

@@ -14,7 +14,7 @@ fn reads(rt: HostRuntime) -> Result<(), Fail> {
         ("/a/b/c", Call::Find, Ok(3)),
         ("/a/d", Call::Find, Ok(4)),
         ("/a/c", Call::Find, none),
-        // A name that begins another is another name.
+        // A name that begins with another is a different name.
         ("/ab", Call::Find, none),
         ("/a/b/c/d", Call::Find, none),
         ("/", Call::Below, Ok(5)),
@@ -27,7 +27,7 @@ fn reads(rt: HostRuntime) -> Result<(), Fail> {
         ("/a/b/c", Call::FindWithBelow, Ok(30)),
         ("/a/x", Call::FindWithBelow, none),
         ("/", Call::All, Ok(5)),
-        // The first names of a path need not be a group's.
+        // The first names of a path may name a group even if the whole path doesn't.
         ("/a/b/x", Call::FindAt(0), Ok(0)),
         ("/a/b/x", Call::FindAt(1), Ok(1)),
         ("/a/b/x", Call::FindAt(2), Ok(2)),
@@ -45,7 +45,7 @@ fn reads(rt: HostRuntime) -> Result<(), Fail> {
     Ok(())
 }
 
-/// From the one below the root down, and no further than to the first that is missing.
+/// From the child of the root down, until the first group that is missing.
 #[test]
 fn comes_along(rt: HostRuntime) -> Result<(), Fail> {
     let rows = [
@@ -54,7 +54,7 @@ fn comes_along(rt: HostRuntime) -> Result<(), Fail> {
         ("/a/b/c", Call::Along, Ok(123)),
         ("/a/d", Call::Along, Ok(14)),
         ("/a/b/c/d", Call::Along, Ok(123)),
-        // A missing group ends the way, also where one of the names behind it stands here.
+        // A missing group ends the iteration, even if a later name exists here.
         ("/a/x/b", Call::Along, Ok(1)),
         ("/x/a", Call::Along, Ok(0)),
     ];
@@ -93,7 +93,7 @@ fn sets_at_first_names(rt: HostRuntime) -> Result<(), Fail> {
     Ok(())
 }
 
-/// Refused inserts, then refused removals, and two that are not; one makes the other possible.
+/// Refused inserts, then refused removals, then two that succeed; one makes the other possible.
 #[test]
 fn refuses_in_order(rt: HostRuntime) -> Result<(), Fail> {
     let rows = [
@@ -115,7 +115,7 @@ fn refuses_in_order(rt: HostRuntime) -> Result<(), Fail> {
     Ok(())
 }
 
-/// A copy is not changed with its source.
+/// A copy doesn't change with its source.
 #[test]
 fn copies(rt: HostRuntime) -> Result<(), Fail> {
     let mut tree = sample(rt.alloc(), false)?;
@@ -131,7 +131,7 @@ fn copies(rt: HostRuntime) -> Result<(), Fail> {
     Ok(())
 }
 
-/// The local total of the group that refused alone, and the totals of it and of those above it but the root.
+/// Only the local total of the group that refused, and the totals of it and of those above it other than the root.
 #[test]
 fn counts_refusals(rt: HostRuntime) -> Result<(), Fail> {
     let rows = [
@@ -147,7 +147,7 @@ fn counts_refusals(rt: HostRuntime) -> Result<(), Fail> {
         ("/a/b", Call::Unrefuse(2), Ok(1)),
         ("/a/b/c", Call::Events, Ok(12_01_11)),
         ("/a/d", Call::Events, Ok(12_00)),
-        // None that is 0 is lowered.
+        // No total of 0 is lowered.
         ("/a/d", Call::Unrefuse(2), Ok(1)),
         ("/a/b/c", Call::Events, Ok(11_01_11)),
         ("/a/d", Call::Events, Ok(11_00)),
@@ -156,7 +156,7 @@ fn counts_refusals(rt: HostRuntime) -> Result<(), Fail> {
     Ok(())
 }
 
-/// The first peak is that of the path's own group, and the root has none. A group that is missing is passed over.
+/// The first peak is that of the path's own group, and the root has none. A missing group is skipped.
 #[test]
 fn sets_peaks(rt: HostRuntime) -> Result<(), Fail> {
     let rows = [

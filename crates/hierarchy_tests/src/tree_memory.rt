@@ -8,13 +8,13 @@ use std::alloc::{AllocError, Allocator, Global};
 use std::test::Fail;
 use test_support::{Tried, all_but, path};
 
-/// Before its number a group's path has this: a name of 24 letters and more, which takes memory.
+/// What comes before the number in a group's path: a name of 24 letters or more, which needs an allocation.
 pub(crate) const LONG: &str = "/ggggggggggggggggggggggg";
 
-/// Or this, which takes none.
+/// A name that needs none.
 const SHORT: &str = "/g";
 
-/// What a call answers by the path of the group of this number.
+/// The result of a call by the path of the group with this number.
 pub(crate) fn call<A: Allocator + Clone>(
     alloc: Global,
     tree: &mut GroupTree<A>,
@@ -27,7 +27,7 @@ pub(crate) fn call<A: Allocator + Clone>(
     Ok(answer(tree, &path, call))
 }
 
-/// Whether the group of this number is there, with it as its slot.
+/// Whether the group with this number exists, with the number as its slot.
 pub(crate) fn is_found<A: Allocator + Clone>(
     alloc: Global,
     tree: &mut GroupTree<A>,
@@ -37,7 +37,7 @@ pub(crate) fn is_found<A: Allocator + Clone>(
     Ok(call(alloc, tree, stem, number, Call::Find)? == Ok(u64::from(number)))
 }
 
-/// Whether that many groups from number 0 on are there with their attributes, the next is not, and the count is right.
+/// Whether that many groups from number 0 on exist with their attributes, the next doesn't, and the count is right.
 fn has_first<A: Allocator + Clone>(
     alloc: Global,
     tree: &mut GroupTree<A>,
@@ -64,7 +64,7 @@ fn has_first<A: Allocator + Clone>(
     )
 }
 
-/// Makes groups from number 0 on until an allocation is refused or there are `most`; how many were made.
+/// Makes groups from number 0 on until an allocation is refused or there are `most`. Returns how many were made.
 fn filled<'a>(
     alloc: Global,
     heap: &'a LocalHeap,
@@ -83,8 +83,8 @@ fn filled<'a>(
     Ok(Some(most))
 }
 
-/// How many groups are made, of as many as `most`, in a heap of that size, and a refusal leaves those before it as they
-/// were; None where there is no heap or tree of that size.
+/// How many groups, up to `most`, can be made in a heap of that size. A refusal leaves those before it unchanged. None if no
+/// heap or tree of that size can be made.
 fn made_in(alloc: Global, size: usize, stem: &str, most: u16) -> Result<Option<u16>, Fail> {
     let heap = match LocalHeap::new(alloc, size) {
         Ok(heap) => heap,
@@ -110,8 +110,8 @@ fn in_1024_bytes(rt: HostRuntime) -> Result<(), Fail> {
     Ok(())
 }
 
-/// Whether the first group is made in the heap with its own slot in its chain, and a copy of the tree stands in other
-/// memory.
+/// Whether the first group is made in the heap with its own slot in its chain, and the tree can be copied into another
+/// allocator.
 fn has_a_copy(alloc: Global, heap: &LocalHeap, stem: &str) -> Result<bool, Fail> {
     let mut tree = GroupTree::new(heap, attr(9))?;
     let made = call(alloc, &mut tree, stem, 0, Call::Insert(0))?;
@@ -128,7 +128,7 @@ fn has_a_copy(alloc: Global, heap: &LocalHeap, stem: &str) -> Result<bool, Fail>
     )
 }
 
-/// Whether the chain of the group of number 0 has its slot alone.
+/// Whether the chain of the group with number 0 has only its slot.
 fn chain_of_the_first<A: Allocator>(
     alloc: Global,
     tree: &GroupTree<A>,
@@ -142,7 +142,7 @@ fn chain_of_the_first<A: Allocator>(
     }
 }
 
-/// In 65,536 bytes the first group is made; a copy of the tree stands in other memory.
+/// In 65,536 bytes the first group is made, and the tree can be copied into another allocator.
 #[test]
 fn in_65536_bytes(rt: HostRuntime) -> Result<(), Fail> {
     let heap = LocalHeap::new(rt.alloc(), 65536)?;
@@ -152,9 +152,9 @@ fn in_65536_bytes(rt: HostRuntime) -> Result<(), Fail> {
     Ok(())
 }
 
-/// A heap of each size in steps of eight bytes refuses the allocations of the first inserts one by one: that of
-/// the name, then that of the list of children, whose new node is given back. A name takes fewer than 64 bytes, so what
-/// is refused in a larger heap before the first group is there is the list.
+/// Heaps of each size in steps of eight bytes refuse the allocations of the first inserts one by one: that of the name, then
+/// that of the list of children, which frees the new node. A name needs fewer than 64 bytes, so what a larger heap refuses
+/// before the first group exists is the list.
 #[test]
 fn each_allocation_of_an_insert_refused(rt: HostRuntime) -> Result<(), Fail> {
     let mut is_refused_behind_the_name = false;
@@ -172,7 +172,7 @@ fn each_allocation_of_an_insert_refused(rt: HostRuntime) -> Result<(), Fail> {
     Ok(())
 }
 
-/// What a copy into the heap of a tree of three groups comes to.
+/// The result of copying a tree of three groups into the heap.
 fn copied(alloc: Global, tree: &GroupTree<Global>, heap: &LocalHeap) -> Result<Tried, Fail> {
     let mut copy = match tree.copy(heap) {
         Ok(copy) => copy,
@@ -185,8 +185,8 @@ fn copied(alloc: Global, tree: &GroupTree<Global>, heap: &LocalHeap) -> Result<T
     }
 }
 
-/// How many refusals there are before the tree of three groups is copied, as the room grows by a block at a time. Each leaves
-/// the heap and the tree as they were.
+/// How many times the copy is refused before the tree of three groups is copied, as the room grows one block at a time. Each
+/// refusal leaves the heap and the tree unchanged.
 fn copies_refused(
     alloc: Global,
     tree: &mut GroupTree<Global>,
@@ -207,8 +207,8 @@ fn copies_refused(
     Err(Fail::new("there is no copy in 4,096 bytes"))
 }
 
-/// Each allocation of a copy refused. Three names of 25 bytes take memory each, and so does the list of the groups: the last
-/// refusal came with room for what was asked for before it.
+/// Refuses each allocation of a copy. Each of three names of 25 bytes needs an allocation, and so does the list of groups.
+/// The last refusal came with room for everything allocated before it.
 #[test]
 fn each_allocation_of_a_copy_refused(rt: HostRuntime) -> Result<(), Fail> {
     let heap = LocalHeap::new(rt.alloc(), 4096)?;
@@ -222,8 +222,8 @@ fn each_allocation_of_a_copy_refused(rt: HostRuntime) -> Result<(), Fail> {
     Ok(())
 }
 
-/// A chain of nine groups needs memory. Among heaps of each size in steps of eight bytes, from 3,200 to 6,400, there is one
-/// that has the groups and no memory for their chain; the tree is then as it was.
+/// A chain of nine groups allocates. Of the heaps of each size in steps of eight bytes, from 3,200 to 6,400, one has room
+/// for the groups but not for their chain; the tree is then unchanged.
 #[test]
 fn chain_refused(rt: HostRuntime) -> Result<(), Fail> {
     let mut is_refused = false;
@@ -239,7 +239,7 @@ fn chain_refused(rt: HostRuntime) -> Result<(), Fail> {
     Ok(())
 }
 
-/// Whether the chain of nine nested groups was had in a heap of that size; None where they were not made.
+/// Whether a heap of that size has room for the chain of nine nested groups; None if the groups cannot be made.
 fn chained_in(alloc: Global, size: usize) -> Result<Option<bool>, Fail> {
     let heap = match LocalHeap::new(alloc, size) {
         Ok(heap) => heap,

@@ -1,4 +1,4 @@
-//! As many siblings as there are slots, and groups below one another as deep as a path may go.
+//! As many siblings as there are slots, and groups nested as deep as a path may go.
 
 use crate::calls::{Call, attr};
 use crate::limits::limited;
@@ -10,13 +10,13 @@ use std::alloc::{AllocError, Allocator, Global};
 use std::test::Fail;
 use test_support::path;
 
-/// The path of so many names, `/x/x` and so on.
+/// A path of so many names: `/x/x` and so on.
 pub(crate) fn deep(alloc: Global, depth: usize) -> Result<GroupPath<Global>, Fail> {
     let text = names_of_letters(alloc, depth, 1)?;
     Ok(GroupPath::read(alloc, &text)?)
 }
 
-/// Makes each group on the way to that path, with its depth as its slot; whether none was refused.
+/// Makes each group on the way to that path, with its depth as its slot. Returns whether all were made.
 pub(crate) fn nest<A: Allocator + Clone>(
     alloc: Global,
     tree: &mut GroupTree<A>,
@@ -47,7 +47,7 @@ pub(crate) fn is_ascending(slots: &[u16], depth: u16) -> bool {
     next == 0
 }
 
-/// Whether each group on the way to that path has as many below it as there are names to come.
+/// Whether each group on the way to that path has as many groups below it as names follow.
 fn counts_down<A: Allocator>(tree: &GroupTree<A>, deepest: &GroupPath<Global>) -> bool {
     let names = deepest.depth();
     for n in 0..names {
@@ -58,7 +58,7 @@ fn counts_down<A: Allocator>(tree: &GroupTree<A>, deepest: &GroupPath<Global>) -
     true
 }
 
-/// Whether that many groups come along the path, from the one below the root down.
+/// Whether that many groups come along the path, from the child of the root down.
 fn comes_along<A: Allocator>(tree: &GroupTree<A>, deepest: &GroupPath<Global>, depth: u16) -> bool {
     let mut last = 0u16;
     for attr in tree.along(deepest) {
@@ -78,7 +78,7 @@ fn has_chain<A: Allocator>(tree: &GroupTree<A>, deepest: &GroupPath<Global>, dep
     }
 }
 
-/// Whether that many nested groups have the chain, the counts and the way along that they must have.
+/// Whether that many nested groups have the right chain, counts and `along`.
 fn is_nested(alloc: Global, depth: u16) -> Result<bool, Fail> {
     let mut tree = GroupTree::new(alloc, attr(0))?;
     let deepest = deep(alloc, usize::from(depth))?;
@@ -94,7 +94,7 @@ fn is_nested(alloc: Global, depth: u16) -> Result<bool, Fail> {
     )
 }
 
-/// Up to eight slots stand in the value itself; a path has at most 32 names.
+/// Up to eight slots are stored in the value itself; a path has at most 32 names.
 #[test]
 fn nested(rt: HostRuntime) -> Result<(), Fail> {
     for depth in [1u16, 8, 9, 32] {
@@ -103,8 +103,8 @@ fn nested(rt: HostRuntime) -> Result<(), Fail> {
     Ok(())
 }
 
-/// What is said of a new group at this path of so many names, where the groups above it are there and the root has this
-/// limit on depth.
+/// Whether a new group at this path of so many names is possible, if the groups above it exist and the root has this limit
+/// on depth.
 fn admission_below(alloc: Global, depth: usize, most: u32) -> Result<Option<Admission>, Fail> {
     let mut tree = GroupTree::new(alloc, attr(0))?;
     let new = deep(alloc, depth)?;
@@ -121,7 +121,7 @@ fn admission_below(alloc: Global, depth: usize, most: u32) -> Result<Option<Admi
     }
 }
 
-/// A limit of the root on depth is met by the deepest group that a path can name, and not by its parent.
+/// The deepest group that a path can name meets the root's limit on depth; its parent doesn't.
 #[test]
 fn limit_of_the_root_at_the_deepest(rt: HostRuntime) -> Result<(), Fail> {
     let met = Admission::Met(MetLimit::Depth(0));
@@ -146,8 +146,8 @@ fn deepest(alloc: Global) -> Result<(GroupTree<Global>, GroupPath<Global>), Fail
     }
 }
 
-/// Removes the groups on the way to that path from below, each after the topmost was refused while others were below
-/// it; whether each had its depth as its slot.
+/// Removes the groups on the way to that path from below, each after the removal of the topmost group was refused because
+/// others were below it. Returns whether each had its depth as its slot.
 fn remove_from_below(
     tree: &mut GroupTree<Global>,
     top: &GroupPath<Global>,
@@ -167,7 +167,7 @@ fn remove_from_below(
     true
 }
 
-/// From the deepest group up each can be removed, and none before those below it.
+/// From the deepest group up, each can be removed, but none before those below it.
 #[test]
 fn removes_from_below(rt: HostRuntime) -> Result<(), Fail> {
     let (mut tree, mut deepest) = deepest(rt.alloc())?;
@@ -177,7 +177,7 @@ fn removes_from_below(rt: HostRuntime) -> Result<(), Fail> {
     Ok(())
 }
 
-/// Makes 256 siblings, out of their order; whether each was made.
+/// Makes 256 siblings, out of order. Returns whether each was made.
 fn make_all(alloc: Global, tree: &mut GroupTree<Global>) -> Result<bool, Fail> {
     for step in 0..256u16 {
         let number = (step * 77) % 256;
@@ -188,7 +188,7 @@ fn make_all(alloc: Global, tree: &mut GroupTree<Global>) -> Result<bool, Fail> {
     Ok(true)
 }
 
-/// How many of the 256 siblings of even numbers, and of odd ones, are there with their attributes.
+/// How many of the 256 siblings with even numbers, and with odd ones, exist with their attributes.
 fn counted(alloc: Global, tree: &mut GroupTree<Global>) -> Result<[u16; 2], Fail> {
     let mut even = 0u16;
     let mut odd = 0u16;
@@ -204,7 +204,7 @@ fn counted(alloc: Global, tree: &mut GroupTree<Global>) -> Result<[u16; 2], Fail
     Ok([even, odd])
 }
 
-/// Removes the siblings of even numbers; whether each was there with its attributes.
+/// Removes the siblings with even numbers. Returns whether each existed with its attributes.
 fn remove_even(alloc: Global, tree: &mut GroupTree<Global>) -> Result<bool, Fail> {
     for half in 0..128u16 {
         let number = half * 2;

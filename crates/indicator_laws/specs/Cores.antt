@@ -1,4 +1,4 @@
--- Small cores, each written out, at which the refusals are computed.
+-- Small cores, written out, for which the refusals are computed.
 use Rattle.std.specs.Prelude.{ℕ, List, [], ◌∷◌}
 use Rattle.snzi_core.specs.declared.event.At.{At}
 use Rattle.snzi_core.specs.declared.event.Token.{Token}
@@ -25,14 +25,14 @@ token slot leaf = record { slot = slot; leaf = leaf }
 abbrev pub full : ℕ
 full = 1099511627776
 
--- main and the helper have as many tokens at each node as they may, and no helper more may be out: with words that are zero, and that are 1
+-- main and the helper have as many tokens at each node as the cap, and no more helpers may be out; with all words zero, and with all words 1
 abbrev pub crowded : State
 crowded = core (0 ∷ 0 ∷ 0 ∷ 0 ∷ 0 ∷ []) 65535 (full ∷ full ∷ full ∷ 0 ∷ 0 ∷ []) (full ∷ full ∷ full ∷ 0 ∷ 0 ∷ [])
 
 abbrev pub filled : State
 filled = core (1 ∷ 1 ∷ 1 ∷ 0 ∷ 0 ∷ []) 65535 (full ∷ full ∷ full ∷ 0 ∷ 0 ∷ []) (full ∷ full ∷ full ∷ 0 ∷ 0 ∷ [])
 
--- main may have one token more at each node, and one helper more may be out; the helper has a token at each leaf
+-- main may have one more token at each node, and one more helper may be out; the helper has a token at each leaf
 abbrev pub roomy : State
 roomy = core (1 ∷ 1 ∷ 1 ∷ 0 ∷ 0 ∷ []) 65534 (1099511627775 ∷ 1099511627775 ∷ 1099511627775 ∷ 0 ∷ 0 ∷ []) (0 ∷ 1 ∷ 1 ∷ 0 ∷ 0 ∷ [])
 

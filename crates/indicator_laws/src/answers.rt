@@ -1,4 +1,4 @@
-//! The laws of answers: what each answer of a step says, and which refusal an event meets first.
+//! The laws of results: what each result of a step means, and which refusal an event meets first.
 ghost use Rattle.std.specs.Prelude.{◌≡◌, ◌≢◌, ℕ, ◌+◌, ◌*◌, ◌/◌, ◌%◌, ◌^◌, ◌<◌, ◌≤◌, ◌↔◌, ◌⊎◌, List, [], ◌∷◌, Some, None, true, length};
 ghost use denote.Bor.{Bor};
 ghost use Rattle.snzi_core.specs.declared.event.Event.{Event};
@@ -15,9 +15,8 @@ ghost use Rattle.snzi_core.specs.Lawful.{refusal, refuses_split};
 ghost use Rattle.snzi_core.specs.Effect.{Refuses, Runs, Stops, after, is_split};
 ghost use Rattle.indicator_laws.specs.Cores.{core, at, token, full, crowded, filled, roomy, main_with};
 
-/// An answer says one thing only. The refusal that an event meets is answered, and no other; where
-/// it meets none, out of memory alone may be answered, and only of a split, which alone makes a
-/// hand.
+/// A result means one thing only. The refusal that an event meets is returned, and no other. If it
+/// meets none, only out of memory may be returned, and only for a split, which alone makes a hand.
 pub fn refusals_are_told_apart()
     ensures told { (k : State) (e : Event) (u : Unlawful) → refusal k e ≡ Some u → Refuses u k e }
     ensures one { (k : State) (e : Event) (u v : Unlawful) → Refuses u k e → Refuses v k e → u ≡ v }
@@ -30,9 +29,9 @@ pub fn refusals_are_told_apart()
         → is_split e ≡ true ↔ length (after k e).hands ≡ length k.hands + 1 }
 {}
 
-/// An event that is wrong in several ways meets the first in the order: no node, no hand, a node
-/// that is zero, no token, a cap, a helper that still holds a token at a node that is no leaf. Each
-/// test is met just where it says: a number less, or more, and the event is lawful.
+/// An event that is wrong in several ways is refused for the first in this order: no node, no hand,
+/// a node that is zero, no token, a cap, a helper that still has a token at a node that is not a
+/// leaf. Each test is tight: with a number one less, or one more, the event is lawful.
 pub fn refusals_come_in_order()
     ensures node { (refusal crowded (Load 9 0 5) ≡ Some NoNode)
         × (refusal crowded (Load 9 1 0) ≡ Some NoNode)
@@ -74,7 +73,7 @@ pub fn refusals_come_in_order()
         × (refusal roomy (Join 1) ≡ None) }
 {}
 
-/// A split is refused for a token out of the shape, then for one that main lacks, then where 65,535
+/// A split is refused for a token outside the shape, then for one that main lacks, then if 65,535
 /// helpers are out or 2^32 - 1 hands were made.
 pub fn splits_are_refused_in_order()
     ensures share { (k : State) (share : Bor (List Token))
@@ -89,8 +88,8 @@ pub fn splits_are_refused_in_order()
     ensures room { (k : State) → length k.hands ≡ 4294967294 → out (hand_of k 0).role ≡ 65534 → refuses_split k [] ≡ None }
 {}
 
-/// A list of events comes to one core. Where it stops at a place, the core and the refusal are the
-/// only ones; a list whose events are all lawful stops when out of memory alone.
+/// A list of events leads to one core. If it stops at an index, the core and the refusal are
+/// unique. A list whose events are all lawful stops only when out of memory.
 pub fn lists_are_told_apart()
     ensures runs { (k a b : State) (es : List Event) → Runs k es a → Runs k es b → a ≡ b }
     ensures stops { (k a b : State) (es : List Event) (i : ℕ) (u v : Unlawful) → Stops k es i u a
@@ -103,7 +102,7 @@ pub fn lists_are_told_apart()
         → i < length es }
 {}
 
-/// How lists by the number of a word are changed, with numbers.
+/// How lists by the number of a word change, with numbers.
 pub fn lists_by_word_change()
     ensures put { (put [] 2 7 ≡ 0 ∷ 0 ∷ 7 ∷ []) × (put (1 ∷ 2 ∷ 3 ∷ []) 1 7 ≡ 1 ∷ 7 ∷ 3 ∷ []) }
     ensures added { (added [] ≡ 0) × (added (1 ∷ 20 ∷ 300 ∷ []) ≡ 321) }
@@ -114,7 +113,7 @@ pub fn lists_by_word_change()
         ≡ 18446744073709551615 ∷ 0 ∷ 3 ∷ [] }
 {}
 
-/// What each change makes of a hand, with numbers: main with two helpers out, three words, and what
+/// How each change affects a hand, with numbers: main with two helpers out, three words, and what
 /// it has at each.
 pub fn hands_change()
     ensures gains { gain (main_with 2 (4 ∷ 0 ∷ 6 ∷ []) (0 ∷ 9 ∷ 0 ∷ [])) 2 ≡ main_with 2 (4 ∷ 0 ∷ 7 ∷ []) (0 ∷ 9 ∷ 0 ∷ []) }
@@ -131,7 +130,7 @@ pub fn hands_change()
         × (out (Main n) ≡ n) × (out Helper ≡ 0) × (out Spent ≡ 0) }
 {}
 
-/// A core has an odd number of nodes in a slot, and words and tables for its shape; hand 0 is main.
+/// A core has an odd number of nodes in a slot, and words and tables to match; hand 0 is main.
 pub fn cores_are_exact()
     ensures words { (k : State) → IsCore k → length k.words ≡ k.slots * (k.nodes + (k.nodes + 1) / 2) }
     ensures odd { (k : State) → IsCore k → (k.nodes % 2 ≡ 1) × (length k.hands < 2 ^ 32) }

@@ -1,4 +1,4 @@
-//! The laws of steps: each step on a board is one event of the core that the board stands for.
+//! The laws of steps: each step on a board is one event of the core that the board represents.
 ghost use Rattle.std.specs.Prelude.{◌≡◌, ℕ, ◌+◌, ◌-◌, ◌*◌, ◌%◌, ◌^◌, ◌<◌, ◌≤◌, ◌==◌, List, [], slice_index, length, Some, None};
 ghost use denote.Bor.{Bor};
 ghost use mathlib.Core.Option.{none};
@@ -25,9 +25,9 @@ ghost use Rattle.snzi_tree.specs.Tell.{looked, queried, summed, root_added, chil
 ghost use Rattle.snzi_tree.specs.View.{BoardRule, Knows, IsBoard, Acts, first_view, kept, given, joined, spent_view};
 ghost use Rattle.indicator_laws.specs.Boards.{new_board, twice};
 
-/// Each step on a word is one event of the core, lawful there: it makes the core that the board
-/// stands for before the step into the one after it. A load is one that changes nothing, also where
-/// it puts a token into a share, and so is an exchange that finds another number.
+/// Each step on a word is one event of the core, lawful there: it leads from the core that the board represents before the
+/// step to the one after it. A load is an event that changes nothing, even if it puts a token into a share; so is an
+/// exchange that finds another number.
 pub fn steps_are_events()
     ensures looked { (g w l slots id j : ℕ) (me : Knows) → IsBoard g w l → Acts me.0 → j < g * (w + l)
         → IsEventOf g w l id me j (λ x. x) (looked (step slots j 0 0 none) me) (λ x. load_at w l id j) }
@@ -63,21 +63,19 @@ pub fn steps_are_events()
         → IsJoinOf g w l id v other u (joined v u) spent_view }
 {}
 
-/// Two adds at once are no event, whichever is named: a step that makes a node two more and gives two
-/// tokens for it.
+/// Two adds at once are not an event: no event makes a node two more and gives two tokens for it.
 pub fn two_adds_are_no_event()
     ensures board { BoardRule (1 * (1 + 1)) 1 1 new_board }
     ensures none { (event : ℕ → Event) → ¬ (IsEventOf 1 1 1 0 (first_view, []) 0 (λ x. (x + 2) % 2 ^ 64) twice event) }
 {}
 
-/// Cores that no number tells apart refuse the same events for the same causes, and go on alike.
+/// Cores whose hands hold the same refuse the same events for the same causes, and stay alike.
 pub fn alike_cores_go_on_alike()
     ensures { (k k' : Core) (e : Event) → Alike k k' → (refusal k e ≡ refusal k' e) × Alike (after k e) (after k' e) }
 {}
 
-/// A lawful event is one that the core does not refuse, as long as it has a number for the hand of a
-/// split; else it refuses the split for its cap. So a run to fewer than 2^32 hands is one that the core
-/// does itself.
+/// A lawful event is one that the core does not refuse, as long as it has a number for the hand of a split. Without one it
+/// refuses the split for its cap. So the core does every run to fewer than 2^32 hands.
 pub fn lawful_events_are_done()
     ensures some { (k : Core) (e : Event) → refusal k e ≡ None → IsLawful k e }
     ensures done { (k : Core) (e : Event) → IsLawful k e → length k.hands < 2 ^ 32 - 1 → refusal k e ≡ None }
@@ -86,7 +84,7 @@ pub fn lawful_events_are_done()
     ensures one { (k a b : Core) (events : List Event) → Comes k events a → Comes k events b → a ≡ b }
 {}
 
-/// What a board came to in no step is nothing: main has no token then, and no amount.
+/// A board with no steps holds nothing: main has no token and no amount.
 pub fn no_step_brings_nothing()
     ensures { (g w l : ℕ) (h : Holding) → HasEnded g w l 0 h → (i : ℕ) → (tokens_at i h ≡ 0) × (amount_at i h ≡ 0) }
 {}

@@ -1,20 +1,16 @@
-//! The laws of the definitions in `snzi_core` and `snzi_tree`, and examples that are computed from
-//! them.
+//! The laws of the definitions in `snzi_core` and `snzi_tree`, and examples computed from them.
 //!
-//! Each function is proof only: its contract is a law, so that a check of this crate proves
-//! it, of any core, board, hand or list unless the law says which.
+//! Each function is proof only: its contract is a law, which a check of this crate proves. A law holds for every core,
+//! board, hand and list unless it says otherwise.
 //!
-//! - `answers`: what each answer of the core says, which refusal an event meets first, and what a
-//!   list of events comes to; how hands and lists by word change.
-//! - `boards`: how deep leaves stand and what a call may take, what is counted where, what a board
-//!   and a view are.
-//! - `events`: each step of a board is one event of the core, a step of two adds is none, cores that no
-//!   number tells apart go on alike, a run to fewer than 2^32 hands is one that the core does, and a run
-//!   of no events leaves main with nothing.
+//! - `answers`: what each result of the core means, which refusal an event meets first, and where a list of events leads;
+//!   how hands and lists by word change.
+//! - `boards`: the depth of leaves and the cost of calls, what is counted where, what a board and a view are.
+//! - `events`: each step of a board is one event of the core; a step of two adds is not; cores whose hands hold the same
+//!   stay alike; the core does every run to fewer than 2^32 hands; a run of no events leaves main with nothing.
 //!
-//! The laws that say what each line of the core's events keeps stand in `snzi_core::laws`, where the
-//! board's rule uses them. Cores and boards written out are in `specs/`. No crate that runs stands on
-//! this one.
+//! The laws that say what each kind of event keeps are in `snzi_core::laws`, where the board's rule uses them. Cores and
+//! boards written out are in `specs/`. No program uses this crate.
 #![tactic(auto)]
 
 pub mod answers;

@@ -86,7 +86,7 @@ fn a_split_of_256_tokens(rt: HostRuntime) -> Result<(), Fail> {
     Ok(())
 }
 
-// A helper with nothing.
+// A helper that holds nothing.
 pub(crate) fn split_one(board: &Board<1, 7, 4>, main: &mut Hand) -> Hand
     requires here { IsHandOf board.now main.old × IsMain main.old }
     requires room { out (holds main.old).role < helper_cap }
@@ -97,7 +97,7 @@ pub(crate) fn split_one(board: &Board<1, 7, 4>, main: &mut Hand) -> Hand
     board.split(main, &[])
 }
 
-// Main takes back a helper that holds one token at most.
+// Main joins a helper that holds at most one token.
 pub(crate) fn join_one(board: &Board<1, 7, 4>, main: &mut Hand, helper: Hand)
     requires here { IsHandOf board.now main.old × IsMain main.old }
     requires helper { IsBack board.now helper }

@@ -1,4 +1,4 @@
-//! Worked rows of events, the cap on helpers, allocations refused in turn, and the memory of a spent hand.
+//! Worked rows of events, the cap on helpers, each allocation refused in turn, and the memory of a spent hand.
 ghost use Rattle.std.specs.Prelude.{◌≡◌};
 
 use linked_list_allocator::LocalHeap;
@@ -6,8 +6,8 @@ use snzi_core::{At, Core, Event, HELPER_CAP, Token, Unlawful};
 use std::alloc::Global;
 use std::test::Fail;
 
-// Does one event on a core of one slot with seven nodes. Says whether it was refused as told and
-// left these words at the root, at node 1 and at node 3.
+// Does one event on a core of one slot with seven nodes. Returns whether it was refused as expected and left these words at
+// the root, at node 1 and at node 3.
 fn gives(
     core: &mut Core<Global>,
     event: &Event<'_>,
@@ -205,7 +205,7 @@ fn no_more_helpers_than_the_cap(rt: HostRuntime) -> Result<(), Fail> {
     Ok(())
 }
 
-// The words that a core of one slot with seven nodes has at its nodes, added up, and its sum.
+// The sum of the words at the nodes of a core of one slot with seven nodes, and the core's sum.
 fn digest(core: &Core<&LocalHeap>) -> (u64, u64)
     requires { (core.now.slots ≡ 1) × (core.now.nodes ≡ 7) }
 {

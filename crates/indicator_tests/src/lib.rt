@@ -1,12 +1,11 @@
 //! Tests of the indicator: of the core over events, and of the board on atomic words with threads.
 //!
-//! They stand in a crate of their own, so that no other is proved twice for them, and ask what no
-//! contract says: that calls succeed where there is memory, what is answered where an allocation is
-//! refused, how many steps a call took when nobody else was there, and that the answers hold while
-//! threads run beside each other. What a contract says of every input is not tested here again.
+//! They are in a crate of their own so that no other crate is proved twice for them. They test what no contract says: that
+//! calls succeed if there is memory, what is returned if an allocation is refused, how many steps a call takes when no other
+//! hand acts, and that the results hold while threads run concurrently. They don't test again what a contract says of every
+//! input.
 //!
-//! - `events`: worked rows of events, the cap on helpers, allocations refused in turn, and the memory
-//!   of a spent hand.
+//! - `events`: worked rows of events, the cap on helpers, each allocation refused in turn, and the memory of a spent hand.
 //! - `calls`: the board on one thread: steps, what a helper sees, large splits.
 //! - `refusals`: each allocation of a new core and of a replay refused in turn.
 //! - `threads`: the board on four threads.

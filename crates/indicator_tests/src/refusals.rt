@@ -26,8 +26,8 @@ fn made(heap: &LocalHeap) -> Tried {
     }
 }
 
-// Three events with that room, of which the second asks for memory. Where it is refused the first stands, there is no helper,
-// and the other two can be done then.
+// Three events with that room. The second allocates. If it is refused, the first remains done and there is no helper, and
+// the other two can then be done.
 fn replayed(alloc: Global, heap: &LocalHeap, room: usize) -> Result<Tried, Fail> {
     let mut core = Core::new(heap, 1, 7)?;
     let events = [
@@ -60,7 +60,7 @@ fn replayed(alloc: Global, heap: &LocalHeap, room: usize) -> Result<Tried, Fail>
     }
 }
 
-// How many refusals there are before a core is made, as the room grows by a block at a time.
+// How many refusals there are before a core is made, as the room grows one block at a time.
 #[test]
 fn each_allocation_of_a_core_refused(rt: HostRuntime) -> Result<(), Fail> {
     let heap = LocalHeap::new(rt.alloc(), 4096)?;
@@ -77,7 +77,7 @@ fn each_allocation_of_a_core_refused(rt: HostRuntime) -> Result<(), Fail> {
         }
         refused = room + 1;
     }
-    // The words alone, of eight bytes each, are eleven.
+    // The eleven words alone need 88 bytes.
     assert!(rt; 88 / 16 < refused && refused < 200);
     Ok(())
 }

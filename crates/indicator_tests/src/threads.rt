@@ -11,7 +11,7 @@ use std::alloc::{AllocError, Global};
 use std::test::Fail;
 use std::thread::{Threads, join};
 
-// Rounds of one thread.
+// The rounds of one thread.
 const ROUNDS: u32 = 10_000;
 
 // A leaf and stripe of its own for each hand, or the first for all.
@@ -21,7 +21,7 @@ struct Place {
     keep: bool,
 }
 
-// What a run shows: that each query was true, and what main finds after the joins.
+// The result of a run: whether each query was true, and what main finds after the joins.
 #[derive(Clone, Copy, PartialEq, Eq)]
 struct Found {
     each: bool,
@@ -31,7 +31,7 @@ struct Found {
     ended: bool,
 }
 
-// Arrives, asks, adds, departs and takes: says whether the query was true.
+// Arrives, queries, adds, departs and takes. Returns whether the query was true.
 fn round(board: &Board<1, 7, 4>, hand: &mut Hand, leaf: u8) -> bool
     requires here { IsHandOf board.now hand.old × (leaf < 4) }
     requires room { held (holds hand.old) < HELD_MAX }
@@ -46,7 +46,7 @@ fn round(board: &Board<1, 7, 4>, hand: &mut Hand, leaf: u8) -> bool
     answer
 }
 
-// Many rounds, and a last token and amount that stay where they are to be kept.
+// Many rounds. If `keep`, a last token and amount stay.
 fn work(board: &Board<1, 7, 4>, mut hand: Hand, leaf: u8, keep: bool) -> (Hand, bool)
     requires here { IsFresh board.now hand × (leaf < 4) }
     ensures { IsBack board.now result.0 }
@@ -97,7 +97,7 @@ fn two<R: Threads + Sync>(
     (x.0, y.0, x.1 & y.1)
 }
 
-// Ends the board if no helper is out: says whether it did.
+// Ends the board if no helper is out. Returns whether it did.
 fn ends(board: Board<1, 7, 4>, main: Hand) -> bool
     requires here { IsHandOf board main }
     requires main { IsMain main }

@@ -1,22 +1,22 @@
-//! The bytes, where they lie, and how they are made and read.
+//! The type `InlineBytes`: its storage, its constructors and its reader.
 
 ghost use Rattle.std.specs.Prelude.{◌≡◌, ◌+◌, ◌<◌, ◌≤◌, ◌^◌, ◌∷◌, ◌++◌, IfOk, IsOk, length, take};
 
 use std::alloc::{AllocError, Allocator};
 use std::marker::Model;
 
-/// How many bytes lie in the value itself at most: with their number they take the room of a vector.
+/// The greatest number of bytes stored inline. With their length they fill the same space as a vector.
 pub const INLINE_MAX: usize = 23;
 
-/// Where the bytes lie.
+/// Where the bytes are stored.
 #[derive(Drop)]
 pub(crate) enum Place<A: Allocator> {
-    /// The first `len` of these.
+    /// Inline: the first `len` of these bytes.
     Inline { bytes: [u8; INLINE_MAX], len: u8 },
     Heap(Vec<u8, A>),
 }
 
-/// Bytes, of which up to `INLINE_MAX` lie in the value itself.
+/// A list of bytes. Up to `INLINE_MAX` of them are stored in the value itself.
 pub struct InlineBytes<A: Allocator> {
     place: Place<A>,
 }
@@ -32,7 +32,7 @@ impl<A: Allocator> Model for InlineBytes<A> {
     ghost invariant = { λ b. IsSound b.place };
 }
 
-// A drop of its own hides where the bytes lie: a function that drops such a value has one case, not two.
+// The explicit drop hides the storage, so the proof of a function that drops such a value has one case instead of two.
 impl<A: Allocator> Drop for InlineBytes<A> {
     fn drop(self) {
         let Self { place } = self;
@@ -41,11 +41,11 @@ impl<A: Allocator> Drop for InlineBytes<A> {
 }
 
 impl<A: Allocator> InlineBytes<A> {
-    /// The same bytes in a value of their own, in time linear in them.
+    /// Copies the bytes into a new value. Linear in their number.
     ///
     /// # Errors
     ///
-    /// `AllocError` where there are more than `INLINE_MAX` and no memory was had for them.
+    /// `AllocError` if there are more than `INLINE_MAX` bytes and their allocation fails.
     pub fn copy_of(alloc: A, bytes: &[u8]) -> Result<InlineBytes<A>, AllocError>
         ensures same { IfOk result (λ b. b ≡ bytes.now) }
         ensures few { length bytes.now ≤ INLINE_MAX → IsOk result }
@@ -58,11 +58,11 @@ impl<A: Allocator> InlineBytes<A> {
         Ok(InlineBytes::inline(bytes))
     }
 
-    /// The first bytes, one more and the last ones, in time linear in them.
+    /// Joins `front`, one byte and `back`. Linear in their length.
     ///
     /// # Errors
     ///
-    /// `AllocError` where there are more than `INLINE_MAX` and no memory was had for them.
+    /// `AllocError` if the result has more than `INLINE_MAX` bytes and its allocation fails.
     pub fn joined(
         alloc: A,
         front: &[u8],
@@ -85,7 +85,7 @@ impl<A: Allocator> InlineBytes<A> {
         Ok(InlineBytes::inline_joined(front, between, back))
     }
 
-    /// The bytes of this vector, which is given up where they are at most `INLINE_MAX`. It asks for no memory.
+    /// Converts a vector. At most `INLINE_MAX` bytes are moved inline and the vector is freed. Allocates nothing.
     pub fn of_vec(bytes: Vec<u8, A>) -> InlineBytes<A>
         ensures { result ≡ bytes.items }
     {
@@ -96,7 +96,7 @@ impl<A: Allocator> InlineBytes<A> {
         InlineBytes::inline(bytes.as_slice())
     }
 
-    /// The first bytes, one more and the last ones, where they are few.
+    /// Joins `front`, one byte and `back` inline, if they fit.
     fn inline_joined(front: &[u8], between: u8, back: &[u8]) -> InlineBytes<A>
         requires { length front.now + 1 + length back.now ≤ INLINE_MAX }
         ensures { result ≡ front.now ++ between ∷ back.now }
@@ -112,7 +112,7 @@ impl<A: Allocator> InlineBytes<A> {
         InlineBytes { place }
     }
 
-    /// The same few bytes.
+    /// Stores a few bytes inline.
     fn inline(few: &[u8]) -> InlineBytes<A>
         requires { length few.now ≤ INLINE_MAX }
         ensures { result ≡ few.now }
@@ -134,7 +134,7 @@ impl<A: Allocator> InlineBytes<A> {
         }
     }
 
-    /// Keeps the first `n` bytes, or all where there are no more.
+    /// Keeps the first `n` bytes, or all if there are no more than `n`.
     pub fn truncate(&mut self, n: usize)
         ensures { self.new ≡ take n self.old }
     {

@@ -1,4 +1,4 @@
-//! The laws of the bytes that a value has, wherever they lie.
+//! The laws of the definitions in `specs/Bytes.antt`.
 
 ghost use Rattle.std.specs.Prelude.{◌≡◌, ℕ, ◌↔◌, List, ◌++◌, length, Vec};
 ghost use Rattle.inline_bytes.specs.declared.bytes.TheConstants.{INLINE_MAX};
@@ -6,8 +6,8 @@ ghost use Rattle.inline_bytes.specs.declared.bytes.Place.{Place};
 ghost use Rattle.inline_bytes.specs.declared.bytes.Place.TheVariants.{Inline, Heap};
 ghost use Rattle.inline_bytes.specs.Bytes.{bytes_in, IsSound};
 
-/// The bytes in front of the end are the value's, and no others; on the heap all are. A value is sound exactly where it has
-/// as many bytes as it says.
+/// An inline value has the first `len` bytes of its array and no others; a value on the heap has all bytes of its vector. A
+/// value is sound exactly if it has as many bytes as it records.
 pub fn bytes_are_those_in_front()
     ensures in_front { (few behind : List ℕ) → bytes_in {A = Unit {0}} (Inline (few ++ behind) (length few)) ≡ few }
     ensures heap { (v : Vec ℕ (Unit {0})) → bytes_in {A = Unit {0}} (Heap v) ≡ v.items }

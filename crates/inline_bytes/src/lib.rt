@@ -1,13 +1,14 @@
-//! Bytes that lie in the value itself where they are few, and else in an allocation.
+//! Short byte strings that are stored in the value itself; longer ones are stored in an allocation.
 //!
-//! - `InlineBytes<A>` is a list of bytes. Up to `INLINE_MAX` of them take no memory; more lie in a vector over any allocator.
-//! - `copy_of` asks for memory, once, where there are more than `INLINE_MAX` bytes, and answers `AllocError` only where that was
-//!   refused. No other call asks for any.
-//! - No call takes more than time linear in the bytes.
+//! - `InlineBytes<A>` is a list of bytes. Up to `INLINE_MAX` bytes need no allocation; longer lists are stored in a vector
+//!   over any allocator.
+//! - Only `copy_of` and `joined` allocate: once, and only for more than `INLINE_MAX` bytes. They return `AllocError` only if
+//!   that allocation fails.
+//! - Every call is at most linear in the bytes.
 //!
-//! Not promised: that few bytes lie in the value after `truncate`.
+//! Not promised: that a list becomes inline when `truncate` makes it short.
 //!
-//! `specs/Bytes.antt` says which bytes a value has, and `laws` what that tells.
+//! `specs/Bytes.antt` defines the bytes of a value; the module `laws` says what that definition means.
 #![tactic(auto)]
 
 mod bytes;

@@ -1,4 +1,4 @@
--- What files and faults mean in the model.
+-- The files and faults of the code as those of the model.
 use Rattle.std.specs.Prelude.{Result, Ok, Err}
 use Rattle.flat_model.specs.File as model_file
 use Rattle.flat_model.specs.Values as model_values
@@ -26,7 +26,7 @@ value_fault_of NotANumber = model_values.NotANumber
 value_fault_of LeadingZero = model_values.LeadingZero
 value_fault_of OutOfRange = model_values.OutOfRange
 
--- what was read, with the fault as the model has it
+-- the result of a reading, with its fault as one of the model
 abbrev pub reading_of : {X : Type 0} → Result X ValueFault → Result X model_values.ValueFault
 reading_of (Ok x) = Ok x
 reading_of (Err fault) = Err (value_fault_of fault)

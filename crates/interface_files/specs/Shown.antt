@@ -1,4 +1,4 @@
--- What a text of a file, or of `/proc/PID/cgroup`, is. The first refusal is answered, out of memory last.
+-- What the text of a file or of `/proc/PID/cgroup` is. The first refusal is returned, out of memory last.
 use Rattle.std.specs.Prelude.{◌≡◌, ℕ, Some, None, Result, Ok, Err}
 use Rattle.std.specs.declared.vec.Vec.{Vec}
 use Rattle.flat_model.specs.Path.{Path}
@@ -10,7 +10,7 @@ use Rattle.flat_model.specs.Step.{refusal}
 use Rattle.interface_files.specs.declared.fault.ShowFault.{ShowFault}
 use Rattle.interface_files.specs.declared.fault.ShowFault.TheVariants.{NoGroup, NoFile, NotReadable, OutOfMemory, NoProcess}
 
--- the file of the group at p, where there may be `slots` groups beside the root
+-- the file of the group at p, if there may be `slots` groups besides the root
 abbrev pub Shows : {B : Type 0} → ℕ → State → Path → model_file.File → Result (Vec ℕ B) ShowFault → Type 0
 Shows slots s p file (Ok text) = (refusal slots s (model.Show p file) ≡ None) × (text.items ≡ file_text s p file)
 Shows slots s p file (Err NotReadable) = refusal slots s (model.Show p file) ≡ Some model.NotReadable

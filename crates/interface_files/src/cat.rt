@@ -1,4 +1,4 @@
-//! The reading of a file of a group.
+//! Reading a file of a group.
 
 ghost use Rattle.std.specs.Prelude.{◌≡◌, ◌≢◌, IfOk, MatchOption, None, OnErr, true};
 ghost use Rattle.flat_model.specs.Command.{Show};
@@ -16,15 +16,16 @@ use group_path::GroupPath;
 use pids_charge::{Charges, Meter};
 use std::alloc::{AllocError, Allocator};
 
-/// The text of a file of the group at the path. Nothing is changed: the charges are taken for writing because a meter
-/// is read that way.
+/// The text of a file of the group at the path. It changes nothing; it borrows the charges mutably because reading a meter
+/// requires it.
 ///
-/// `cgroup.procs` costs a walk over all processes. Each other file costs one descent of the tree, and a refusal two,
+/// `cgroup.procs` costs a walk over all processes. Every other file costs one descent of the tree, and a refusal two,
 /// however many groups and processes there are.
 ///
 /// # Errors
 ///
-/// `NotReadable` for `cgroup.kill`, then `NoGroup`, then `NoFile` for what the root has not, then `OutOfMemory`.
+/// The first of these that applies: `NotReadable` for `cgroup.kill`; `NoGroup`; `NoFile` for a file that the root doesn't
+/// have; `OutOfMemory`.
 pub fn render<A: Allocator + Clone, M: Meter, B: Allocator + Clone, P: Allocator + Clone>(
     alloc: B,
     charges: &mut Charges<A, M>,
@@ -45,7 +46,7 @@ pub fn render<A: Allocator + Clone, M: Meter, B: Allocator + Clone, P: Allocator
     }
 }
 
-// The text of a file that is read; None where there is no such group, or where it is the root and has no such file.
+// The text of a readable file; None if there is no such group, or if it is the root and lacks the file.
 fn text_of<A: Allocator + Clone, M: Meter, B: Allocator + Clone, P: Allocator + Clone>(
     alloc: B,
     charges: &mut Charges<A, M>,

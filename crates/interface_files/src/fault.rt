@@ -1,20 +1,20 @@
-//! Why a value is not taken, and why a file is not shown.
+//! Why a value is refused, and why a file is not shown.
 
 use thiserror::Error;
 
-/// Why a text is no value of a file.
+/// Why a text is not a value of a file.
 #[derive(Clone, Copy, Debug, PartialEq, Eq, Error)]
 pub enum ValueFault {
-    /// There is nothing but spaces.
+    /// The text is empty but for spaces.
     #[error("there is no value")]
     Empty,
-    /// A byte is no decimal digit.
+    /// A byte is not a decimal digit.
     #[error("a byte is no decimal digit")]
     NotANumber,
-    /// A zero stands before other digits.
+    /// A zero comes before other digits.
     #[error("a zero stands before other digits")]
     LeadingZero,
-    /// The number is below or above what the file takes, however many digits it has.
+    /// The number is below or above the file's range, however many digits it has.
     #[error("the number is out of its range")]
     OutOfRange,
 }
@@ -22,19 +22,19 @@ pub enum ValueFault {
 /// Why a file is not shown.
 #[derive(Clone, Copy, Debug, PartialEq, Eq, Error)]
 pub enum ShowFault {
-    /// There is no such group.
+    /// The group does not exist.
     #[error("there is no such group")]
     NoGroup,
-    /// The group has no such file: it is the root.
+    /// The root has no such file.
     #[error("the group has no such file")]
     NoFile,
-    /// The file is written only.
+    /// The file can only be written.
     #[error("the file cannot be read")]
     NotReadable,
-    /// There was no memory for the text.
+    /// The allocation of the text failed.
     #[error("out of memory")]
     OutOfMemory,
-    /// There is no such process.
+    /// The process does not exist.
     #[error("there is no such process")]
     NoProcess,
 }

@@ -1,4 +1,4 @@
-//! The interface files of a group: their names, and which of them a group has, is read, and is written.
+//! The interface files of a group: their names, which groups have them, and which can be read or written.
 
 ghost use Rattle.std.specs.Prelude.{◌≡◌, find, option_map};
 ghost use Rattle.flat_model.specs.File.{file_name, file_named, on_root, readable, writable};
@@ -8,17 +8,17 @@ ghost use Rattle.interface_files.specs.Meaning.{file_of};
 /// An interface file of a group (admin-guide, "Core Interface Files" and "PID Interface Files").
 #[derive(Clone, Copy, Debug, PartialEq, Eq)]
 pub enum File {
-    /// `cgroup.procs`: the processes of the group itself. A pid that is written moves that process there.
+    /// `cgroup.procs`: the processes of the group itself. Writing a pid moves that process to the group.
     Procs,
     /// `cgroup.events`: whether a process is in the group or below it. The root has none.
     Events,
-    /// `cgroup.stat`: how many groups are below it.
+    /// `cgroup.stat`: how many groups are below the group.
     Stat,
-    /// `cgroup.max.descendants`: how many groups may be below it.
+    /// `cgroup.max.descendants`: how many groups may be below the group.
     MaxDescendants,
-    /// `cgroup.max.depth`: how many levels may be below it.
+    /// `cgroup.max.depth`: how many levels may be below the group.
     MaxDepth,
-    /// `cgroup.kill`: writing `1` ends all processes in the group and below it. It is not read, and the root has none.
+    /// `cgroup.kill`: writing `1` ends all processes in the group and below it. It can't be read. The root has none.
     KillFile,
     /// `pids.max`: how many processes may be in the group and below it. The root has none.
     PidsMax,
@@ -26,9 +26,9 @@ pub enum File {
     PidsCurrent,
     /// `pids.peak`: the most processes that have been in the group and below it at once. The root has none.
     PidsPeak,
-    /// `pids.events`: how many forks its `pids.max`, or one below it, has refused. The root has none.
+    /// `pids.events`: how many forks the group's `pids.max`, or one below it, has refused. The root has none.
     PidsEvents,
-    /// `pids.events.local`: how many forks its own `pids.max` has refused. The root has none.
+    /// `pids.events.local`: how many forks the group's own `pids.max` has refused. The root has none.
     PidsEventsLocal,
 }
 
@@ -61,14 +61,14 @@ fn first_named(files: &[File], name: &[u8]) -> Option<File>
 }
 
 impl File {
-    /// The file of that name; None where no file has it. It takes no memory.
+    /// The file with that name; None if no file has it. Allocates nothing.
     pub fn read(name: &[u8]) -> Option<File>
         ensures { option_map file_of result ≡ file_named name.now }
     {
         first_named(&FILES, name)
     }
 
-    /// The name of the file in its group.
+    /// The name of the file.
     pub fn name(self) -> &'static [u8]
         ensures { result.now ≡ file_name (file_of self) }
     {
@@ -87,7 +87,7 @@ impl File {
         }
     }
 
-    /// Whether the root has it too.
+    /// Whether the root has the file too.
     pub fn on_root(self) -> bool
         ensures { result ≡ on_root (file_of self) }
     {
@@ -99,14 +99,15 @@ impl File {
         }
     }
 
-    /// Whether it is read: all but `cgroup.kill` are.
+    /// Whether the file can be read: all but `cgroup.kill` can.
     pub fn readable(self) -> bool
         ensures { result ≡ readable (file_of self) }
     {
         self != File::KillFile
     }
 
-    /// Whether it is written: a pid to `cgroup.procs`, `1` to `cgroup.kill`, and a limit to the files of limits.
+    /// Whether the file can be written: `cgroup.procs` takes a pid, `cgroup.kill` takes `1`, and the files of limits take a
+    /// limit.
     pub fn writable(self) -> bool
         ensures { result ≡ writable (file_of self) }
     {

@@ -1,4 +1,4 @@
-//! `/proc/PID/cgroup`: where a process is.
+//! `/proc/PID/cgroup`: the group of a process.
 
 ghost use Rattle.std.specs.Prelude.{◌≡◌, ◌++◌, IfOk, codes};
 ghost use Rattle.flat_model.specs.FileText.{line};
@@ -25,12 +25,12 @@ fn home_line<B: Allocator, P: Allocator + Clone>(
     Ok(text)
 }
 
-/// What `/proc/PID/cgroup` says of a process: `0::`, the path of its group, and a line feed. It costs
-/// O(log processes) and the path's length.
+/// The text of `/proc/PID/cgroup`: `0::`, the path of the process's group, and a line feed. Costs O(log processes) and the
+/// path's length.
 ///
 /// # Errors
 ///
-/// `NoProcess`, and then `OutOfMemory`.
+/// `NoProcess`, then `OutOfMemory`.
 pub fn render_home<A: Allocator + Clone, M: Meter, B: Allocator>(
     alloc: B,
     charges: &Charges<A, M>,

@@ -1,24 +1,24 @@
-//! The interface files of the groups: their names, the values that are written to them, and their texts.
+//! The interface files of the groups: their names, the values that can be written to them, and their texts.
 //!
 //! - There are eleven files (`File`). Every group has `cgroup.procs`, `cgroup.stat`, `cgroup.max.descendants` and
-//!   `cgroup.max.depth`; every group but the root has the others too. All but `cgroup.kill` are read. A pid is written to
-//!   `cgroup.procs`, `1` to `cgroup.kill`, and a limit to the three files of limits.
-//! - A value is decimal digits without a leading zero, with blanks, tabs, line feeds and carriage returns dropped at both
-//!   ends. A limit may also be `max`; for the two limits on groups 2,147,483,647 is `max` too. Signs, other bases and
-//!   other words are no numbers. Of several faults the first in the order of `ValueFault` is told, and a number is out of
-//!   its range however many digits it has.
-//! - `render` gives the text of a file, and `render_home` that of `/proc/PID/cgroup`. Every line ends with one line feed.
-//!   Neither changes anything. Refusals come first, in a fixed order; out of memory comes last, and is answered only
-//!   where an allocation was refused.
-//! - A number or a flag costs one descent of the tree, however many groups and processes there are, and a home one
+//!   `cgroup.max.depth`. Every group but the root has the others too. All but `cgroup.kill` can be read. `cgroup.procs`
+//!   takes a pid, `cgroup.kill` takes `1`, and the three files of limits take a limit.
+//! - A value is decimal digits without a leading zero. Blanks, tabs, line feeds and carriage returns at both ends are
+//!   dropped. A limit may also be `max`; for the two limits on groups 2,147,483,647 means `max` too. Signs, other bases and
+//!   other words are not numbers. If there are several faults, the first in the order of `ValueFault` is returned. A number
+//!   is out of range however many digits it has.
+//! - `render` returns the text of a file, and `render_home` that of `/proc/PID/cgroup`. Every line ends with one line feed.
+//!   Neither changes anything. Refusals come first, in a fixed order. Out of memory comes last, and only if an allocation
+//!   failed.
+//! - A number or a flag costs one descent of the tree, however many groups and processes there are. A home costs one
 //!   look-up. `cgroup.procs` costs a walk over all processes. A text is built once, in one buffer.
-//! - The names and the readers of values take no memory.
+//! - The names and the readers of values allocate nothing.
 //!
 //! Not promised: how often a buffer grows.
 //!
-//! The definitions stand in `flat_model`: `specs/File.antt` (names, and which group has what), `specs/Values.antt` (values and
-//! their faults), `specs/FileText.antt` (texts). `specs/Meaning.antt` here says which file and fault is which of the model's,
-//! `specs/Shown.antt` what `render` and `render_home` answer; `journal_laws` states their laws.
+//! The definitions are in `flat_model`: `specs/File.antt` (names, and which group has which file), `specs/Values.antt`
+//! (values and their faults), `specs/FileText.antt` (texts). `specs/Meaning.antt` in this crate maps files and faults to the
+//! model's, `specs/Shown.antt` says what `render` and `render_home` return. Their laws are in `journal_laws`.
 #![tactic(auto)]
 
 mod cat;

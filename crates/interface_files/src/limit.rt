@@ -16,13 +16,13 @@ use group_tree::{Limit, LimitFile};
 use itoa::Buffer;
 use std::alloc::{AllocError, Allocator};
 
-// The greatest number that `pids.max` takes.
+// The greatest number that `pids.max` accepts.
 const PIDS_MAX: u32 = 4_194_304;
 
-// The greatest number that the file of a limit on groups takes. It stands for no limit.
+// The greatest number that the file of a limit on groups accepts. It means no limit.
 const HIERARCHY_LIMIT_MAX: u32 = 2_147_483_647;
 
-// The greatest number that the file takes.
+// The greatest number that the file accepts.
 fn limit_max(file: LimitFile) -> u32
     ensures { result ≡ limit_max (limit_file_of file) }
 {
@@ -32,7 +32,7 @@ fn limit_max(file: LimitFile) -> u32
     }
 }
 
-// The limit that a number in the file's range is.
+// The limit of a number in the file's range.
 fn limit_from(file: LimitFile, most: u32) -> Limit
     ensures { limit_of result ≡ limit_from (limit_file_of file) most }
 {
@@ -54,13 +54,13 @@ fn is_max(word: &[u8]) -> bool
     word == b"max".as_slice()
 }
 
-/// Reads a limit: `max`, or decimal digits without a leading zero, up to 4,194,304 for `pids.max` and up to
-/// 2,147,483,647, which is no limit, for a limit on groups; and blanks, tabs, line feeds and carriage returns at both
-/// ends. It takes no memory.
+/// Reads a limit: `max`, or decimal digits without a leading zero. The greatest number is 4,194,304 for `pids.max`, and
+/// 2,147,483,647, which means no limit, for a limit on groups. Blanks, tabs, line feeds and carriage returns at both ends
+/// are dropped. Allocates nothing.
 ///
 /// # Errors
 ///
-/// The first that holds, in the order of `ValueFault`.
+/// The first that applies, in the order of `ValueFault`.
 pub fn read_limit(file: LimitFile, text: &[u8]) -> Result<Limit, ValueFault>
     ensures { map_ok limit_of (reading_of result) ≡ read_limit (limit_file_of file) text.now }
 {
@@ -83,7 +83,7 @@ pub fn limit_file_name(file: LimitFile) -> &'static [u8]
     }
 }
 
-/// A limit in text: `max`, or the number in decimal digits.
+/// The text of a limit: `max`, or the number in decimal digits.
 ///
 /// # Errors
 ///

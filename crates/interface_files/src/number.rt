@@ -1,4 +1,4 @@
-//! Decimal numbers in texts, and what is wrong with a text that is none.
+//! Decimal numbers in texts, and the faults of a text that is not a number.
 
 ghost use Rattle.std.specs.Prelude.{◌≡◌, ◌≤◌, ◌&&◌, not, nat_lt, true, length, reverse, SomeIff};
 ghost use Rattle.std.specs.Char.{is_ascii_digit};
@@ -22,7 +22,7 @@ fn text_start(text: &[u8]) -> Option<usize>
     text.iter().position(|b| !is_space(*b))
 }
 
-// How many bytes stand behind the last one that is no space.
+// The number of spaces at the end; None if the text has nothing else.
 fn text_end(text: &[u8]) -> Option<usize>
     ensures { result ≡ position (λ b. not (is_space b)) (reverse text.now) }
 {
@@ -54,7 +54,7 @@ pub(crate) fn trimmed(text: &[u8]) -> &[u8]
     without_end(without_front(text))
 }
 
-// Whether a zero stands before other digits.
+// Whether a zero comes before other digits.
 fn is_padded(digits: &[u8]) -> bool
     ensures { result ≡ (nat_lt 1 (length digits.now) && begins_with_zero digits.now) }
 {
@@ -67,7 +67,7 @@ fn are_digits(bytes: &[u8]) -> bool
     bytes.iter().all(|b| b.is_ascii_digit())
 }
 
-// The number that decimal digits write, if it is at most `high`: it stops at the digit that exceeds it.
+// The number of these decimal digits, if it is at most `high`. Stops at the digit that exceeds it.
 fn value_of(digits: &[u8], high: u32) -> Option<u32>
     requires { all_ascii_digits digits.now ≡ true }
     ensures { SomeIff result (digits_value 10 digits.now ≤ high) (digits_value 10 digits.now) }
@@ -83,7 +83,7 @@ fn value_of(digits: &[u8], high: u32) -> Option<u32>
     Some(value as u32)
 }
 
-// Reads a number from `low` to `high`: decimal digits without a leading zero, however many they are.
+// Reads a number from `low` to `high`: decimal digits without a leading zero, of any length.
 pub(crate) fn read_number(digits: &[u8], low: u32, high: u32) -> Result<u32, ValueFault>
     ensures { reading_of result ≡ read_number low high digits.now }
 {

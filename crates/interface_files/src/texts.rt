@@ -1,4 +1,4 @@
-//! The texts of the files of one value, and of the list of processes.
+//! The texts of files with one value, and of the list of processes.
 
 ghost use Rattle.std.specs.Prelude.{◌≡◌, ◌++◌, IfOk, codes, decimal, flat_map};
 ghost use Rattle.flat_model.specs.FileText.{line, limit_text, flag_text};
@@ -9,7 +9,7 @@ use itoa::Buffer;
 use pids_charge::Pid;
 use std::alloc::{AllocError, Allocator};
 
-// A line that is a number.
+// A line with a number.
 pub(crate) fn number_line<B: Allocator>(alloc: B, n: u64) -> Result<Vec<u8, B>, AllocError>
     ensures { IfOk result (λ text. text.items ≡ line (decimal n)) }
 {
@@ -20,7 +20,7 @@ pub(crate) fn number_line<B: Allocator>(alloc: B, n: u64) -> Result<Vec<u8, B>, 
     Ok(text)
 }
 
-// A line that is a limit.
+// A line with a limit.
 pub(crate) fn limit_line<B: Allocator>(alloc: B, limit: Limit) -> Result<Vec<u8, B>, AllocError>
     ensures { IfOk result (λ text. text.items ≡ line (limit_text (limit_of limit))) }
 {
@@ -30,7 +30,7 @@ pub(crate) fn limit_line<B: Allocator>(alloc: B, limit: Limit) -> Result<Vec<u8,
     }
 }
 
-// `pids.events` and `pids.events.local`: how many forks were refused.
+// `pids.events` or `pids.events.local` of a group that refused so many forks.
 pub(crate) fn events_line<B: Allocator>(alloc: B, refused: u64) -> Result<Vec<u8, B>, AllocError>
     ensures { IfOk result (λ text. text.items ≡ line (codes "max " ++ decimal refused)) }
 {
@@ -42,7 +42,8 @@ pub(crate) fn events_line<B: Allocator>(alloc: B, refused: u64) -> Result<Vec<u8
     Ok(text)
 }
 
-// `cgroup.stat` of a group with so many groups below it. A group that is removed is gone at once.
+// `cgroup.stat` of a group with so many groups below it. No group is ever dying, because a removed
+// group is gone at once.
 pub(crate) fn stat_text<B: Allocator>(alloc: B, below: u64) -> Result<Vec<u8, B>, AllocError>
     ensures { IfOk result (λ text. text.items ≡ line (codes "nr_descendants " ++ decimal below) ++ line (codes "nr_dying_descendants 0")) }
 {

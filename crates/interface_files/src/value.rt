@@ -1,4 +1,4 @@
-//! The values that are written to `cgroup.procs` and `cgroup.kill`.
+//! The values of `cgroup.procs` and `cgroup.kill`.
 
 ghost use Rattle.std.specs.Prelude.{◌≡◌};
 ghost use Rattle.flat_model.specs.Refuse.{map_ok};
@@ -9,12 +9,12 @@ use crate::fault::ValueFault;
 use crate::number::{read_number, trimmed};
 use pids_charge::{PID_MAX, Pid};
 
-/// Reads the number of a process: decimal digits without a leading zero, from 1 to `PID_MAX`, and blanks, tabs, line
-/// feeds and carriage returns at both ends. It takes no memory.
+/// Reads a pid: decimal digits without a leading zero, from 1 to `PID_MAX`. Blanks, tabs, line feeds and carriage returns at
+/// both ends are dropped. Allocates nothing.
 ///
 /// # Errors
 ///
-/// The first that holds, in the order of `ValueFault`.
+/// The first that applies, in the order of `ValueFault`.
 pub fn read_pid(text: &[u8]) -> Result<Pid, ValueFault>
     ensures { reading_of result ≡ read_pid text.now }
 {
@@ -25,11 +25,11 @@ pub fn read_pid(text: &[u8]) -> Result<Pid, ValueFault>
     }
 }
 
-/// Reads the one value of `cgroup.kill`: `1`, and spaces at both ends as for a pid. It takes no memory.
+/// Reads the one value of `cgroup.kill`: `1`, with spaces dropped at both ends as for a pid. Allocates nothing.
 ///
 /// # Errors
 ///
-/// The first that holds, in the order of `ValueFault`.
+/// The first that applies, in the order of `ValueFault`.
 pub fn read_kill(text: &[u8]) -> Result<(), ValueFault>
     ensures { reading_of result ≡ map_ok (λ _. tt) (read_kill text.now) }
 {

@@ -1,4 +1,4 @@
--- A call that is a command of the flat state.
+-- Calls that are commands of the flat state.
 use Rattle.std.specs.Prelude.{ℕ, ◌≡◌, Option, Some, None, Result, Ok, Err, take}
 use Rattle.flat_model.specs.Path.{Path}
 use Rattle.flat_model.specs.State.{State}
@@ -8,7 +8,7 @@ use Rattle.flat_model.specs.Step.{refusal, after, after_refusal}
 use Rattle.pids_charge.specs.declared.fault.ChargeFault.{ChargeFault}
 use Rattle.pids_charge.specs.declared.fault.ChargeFault.TheVariants.{Exists, NoGroup, Descendants, Depth, NoSlot, RootFixed, HasChildren, HasProcesses, NoProcess, PidInUse, PidsMax, OutOfMemory, NoFile}
 
--- the refusal that a fault is, where its numbers count names of p; out of memory is none
+-- the refusal of a fault, whose numbers count names of p; out of memory is not a refusal
 abbrev pub refusal_of_fault : Path → ChargeFault → Option Refusal
 refusal_of_fault p Exists = Some model.Exists
 refusal_of_fault p (NoGroup n) = Some (model.NoGroup (take n p))
@@ -24,17 +24,17 @@ refusal_of_fault p (PidsMax n) = Some (model.OverPidsMax (take n p))
 refusal_of_fault p OutOfMemory = None
 refusal_of_fault p NoFile = Some model.NoFile
 
--- a refusal leaves what it leaves; out of memory leaves all
+-- the state after a refusal; out of memory changes nothing
 abbrev pub after_fault : State → Option Refusal → State
 after_fault s None = s
 after_fault s (Some r) = after_refusal s r
 
--- the first refusal is answered, memory last; else the state is the command's
+-- the first refusal is returned, out of memory last; otherwise the new state is the command's
 abbrev pub Does : ℕ → State → Command → Path → {X : Type 0} → Result X ChargeFault → State → Type 0
 Does slots s c p (Ok x) new = (refusal slots s c ≡ None) × (new ≡ after s c)
 Does slots s c p (Err f) new = (refusal slots s c ≡ refusal_of_fault p f) × (new ≡ after_fault s (refusal_of_fault p f))
 
--- how many names of the path a fault counts; 0 where it names no group
+-- how many names of the path a fault counts; 0 if it names no group
 abbrev pub names_in : ChargeFault → ℕ
 names_in (NoGroup n) = n
 names_in (Descendants n) = n

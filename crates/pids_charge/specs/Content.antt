@@ -1,4 +1,4 @@
--- What a meter holds: a number for each slot and leaf.
+-- The content of a meter: a number for each slot and leaf.
 use Rattle.std.specs.Prelude.{◌≡◌, ℕ}
 
 -- a number for each slot and leaf

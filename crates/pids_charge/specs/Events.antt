@@ -1,4 +1,4 @@
--- Forks that limits refuse: which group refuses, and the event totals that count it.
+-- Forks that limits refuse: which group refuses, and which event totals count it.
 use Rattle.std.specs.Prelude.{ℕ, zero, suc, ◌+◌, ◌-◌, ◌^◌, ◌<◌, ◌≡◌, Bool, true, false, cond, Option, Some, None, take, IsSome}
 use Rattle.std.specs.FinMap as fin
 use Rattle.std.specs.Ordering.{nat_cmp}
@@ -14,12 +14,12 @@ use Rattle.group_tree.specs.declared.attr.Attr.{Attr}
 use Rattle.snzi_core.specs.Listed.{over_leaves}
 use Rattle.pids_charge.specs.Content.{Content}
 
--- one process more would bring the group past its `pids.max`, by what the meter holds
+-- by the meter's content, one more process would exceed the group's `pids.max`
 abbrev pub full_by : ℕ → Content → Option Attr → Bool
 full_by leaves content None = false
 full_by leaves content (Some attr) = exceeds (over_leaves leaves (content attr.slot) + 1) (limit_of attr.limits.pids)
 
--- the number of names of the longest prefix of 1 to n names that passes
+-- the number of names of the longest prefix of 1 to n names that passes the test
 abbrev pub longest : (Path → Bool) → Path → ℕ → Option ℕ
 longest test p zero = None
 longest test p (suc n) = cond (test (take (suc n) p)) (Some (suc n)) (longest test p n)
@@ -28,11 +28,11 @@ longest test p (suc n) = cond (test (take (suc n) p)) (Some (suc n)) (longest te
 abbrev pub flat_of : Groups → fin.FinMap nat_cmp Path → State
 flat_of tree home = record { groups = map_values group_of tree; home = home }
 
--- no event total is the greatest that there is
+-- no event total is the greatest u64
 abbrev pub HasRoomForEvents : State → Type 0
 HasRoomForEvents s = (p : Path) (attr : flat.Attr) → fin.get s.groups p ≡ Some attr → (attr.local < 2 ^ 64 - 1) × (attr.total < 2 ^ 64 - 1)
 
--- a is a group, and its event totals and those of the groups above it that count its refusals are positive
+-- a is a group; its event totals, and the totals of the groups above it that count its refusals, are positive
 pub record HasEvents (s : State) (a : Path) : Type 0 where
   pub there : IsSome (fin.get s.groups a)
   pub local : (attr : flat.Attr) → fin.get s.groups a ≡ Some attr → 0 < attr.local

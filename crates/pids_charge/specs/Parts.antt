@@ -1,25 +1,25 @@
--- A settlement in parts: each list of tokens is cut in as many runs, and a part does one run of each.
+-- A settlement in parts: each list of tokens is cut into as many runs, and a part does one run of each.
 use Rattle.std.specs.Prelude.{ℕ, zero, suc, ◌+◌, ◌-◌, ◌/◌, min, max, List, length, take, drop}
 use Rattle.snzi_core.specs.declared.event.Token.{Token}
 use Rattle.snzi_core.specs.Listed.{listed_at}
 use Rattle.pids_charge.specs.Content.{Content}
 
--- in how many parts so many tokens are settled
+-- how many parts settle so many tokens
 abbrev pub parts_for : ℕ → ℕ
 parts_for tokens = max 2 (min 8 tokens)
 
--- of n runs that differ in length by at most one, the longer first: all but the last, and the last
+-- n runs whose lengths differ by at most one, the longer first: all but the last run, and the last run
 abbrev pub but_last_run : ℕ → List Token → List Token
 but_last_run n ts = take (length ts - length ts / n) ts
 
 abbrev pub the_last_run : ℕ → List Token → List Token
 the_last_run n ts = drop (length ts - length ts / n) ts
 
--- the leaving tokens go and the arriving ones come
+-- the leaving tokens are removed and the arriving ones added
 abbrev pub in_one_part : List Token → List Token → Content → Content
 in_one_part leaving arriving at s j = at s j - listed_at leaving s j + listed_at arriving s j
 
--- the same in one part more than there are helpers, each after those before it
+-- the same in one part more than there are helpers, each part after those before it
 abbrev pub in_parts : ℕ → List Token → List Token → Content → Content
 in_parts zero leaving arriving at = in_one_part leaving arriving at
 in_parts (suc n) leaving arriving at =

@@ -13,16 +13,16 @@ abbrev pub peak_of : Option Attr → ℕ
 peak_of None = 0
 peak_of (Some attr) = attr.peak
 
--- the peak that it rises to: no lower than what the meter holds
+-- the group's peak after it rose: no lower than the meter's content
 abbrev pub reached_of : ℕ → Content → Option Attr → ℕ
 reached_of leaves content None = 0
 reached_of leaves content (Some attr) = max attr.peak (over_leaves leaves (content attr.slot))
 
--- the attributes of q with their peak risen so, where q counts what happens in a
+-- the attributes of q with their peak raised so, if q counts what happens in a
 abbrev pub raised_by : ℕ → Content → Path → Path → Attr → Attr
 raised_by leaves content a q attr = record attr { peak = cond (counts_for a q) (max attr.peak (over_leaves leaves (content attr.slot))) attr.peak }
 
--- what f makes of the groups from p upward, the root left out
+-- f applied to the groups from p upward, without the root
 pub record AreUpward (f : Option Attr → ℕ) (tree : Groups) (p : Path) (ns : List ℕ) : Type 0 where
   pub many : length ns ≡ length p
   pub each : (k : ℕ) → k < length p → get_or ns k 0 ≡ f (fin.get tree (take (length p - k) p))

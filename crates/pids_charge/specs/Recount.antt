@@ -1,4 +1,4 @@
--- What ties the charges of a meter to the groups and the processes.
+-- How the charges of a meter follow from the groups and the processes.
 use Rattle.std.specs.Prelude.{ℕ, zero, suc, ◌+◌, ◌^◌, ◌<◌, ◌≤◌, ◌≡◌, eqb, List, length, IsSome, is_some, map, take, count_by}
 use Rattle.std.specs.Map.{values_of, keys_of}
 use Rattle.std.specs.List.{sum_by, All}
@@ -15,11 +15,11 @@ use Rattle.pids_charge.specs.Content.{Content}
 use Rattle.pids_charge.specs.Lists.{Row}
 use Rattle.pids_charge.specs.declared.process.Process.{Process}
 
--- the slot of the group at a path, or 0 where there is none
+-- the slot of the group at a path, or 0 if there is no such group
 abbrev pub slot_at : Groups → Path → ℕ
 slot_at tree p = slot_of (fin.get tree p)
 
--- one charge with the leaf at the group of each prefix of 1 to n names
+-- one charge at the leaf for the group of each prefix of 1 to n names
 abbrev pub chain_at : Groups → Path → ℕ → ℕ → Content
 chain_at tree p zero leaf s j = 0
 chain_at tree p (suc n) leaf s j = chain_at tree p n leaf s j + one_at (slot_at tree (take (suc n) p)) leaf s j
@@ -28,15 +28,15 @@ chain_at tree p (suc n) leaf s j = chain_at tree p n leaf s j + one_at (slot_at 
 abbrev pub charges_at : Groups → Path → ℕ → Content
 charges_at tree p leaf = chain_at tree p (length p) leaf
 
--- each group beside the root has a slot of the meter
+-- each group other than the root has a slot of the meter
 abbrev pub SlotsBelow : ℕ → Groups → Type 0
 SlotsBelow slots tree = (p : Path) → 0 < length p → IsSome (fin.get tree p) → slot_at tree p < slots
 
--- groups beside the root have slots of their own
+-- no two groups other than the root have the same slot
 abbrev pub SlotsApart : Groups → Type 0
 SlotsApart tree = (p q : Path) → 0 < length p → 0 < length q → IsSome (fin.get tree p) → IsSome (fin.get tree q) → slot_at tree p ≡ slot_at tree q → p ≡ q
 
--- what a meter holds with the charges of one process more
+-- the content of a meter with the charges of one more process
 abbrev pub with_charges : Groups → Path → ℕ → Content → Content
 with_charges tree p leaf content s j = content s j + charges_at tree p leaf s j
 
@@ -46,7 +46,7 @@ pub record AreAllFree (slots : ℕ) (free : List ℕ) : Type 0 where
   pub in_range : (s : ℕ) → slots ≤ s → count_by (eqb s) free ≡ 0
   pub many : length free ≡ slots
 
--- groups beside the root have slots of their own, and the other slots are free, each once
+-- no two groups other than the root have the same slot, and the other slots are free, each once
 pub record HasSlots (slots : ℕ) (tree : Groups) (free : List ℕ) : Type 0 where
   pub few : slots < 2 ^ 16
   pub closed : IsClosed tree
@@ -58,7 +58,7 @@ pub record HasSlots (slots : ℕ) (tree : Groups) (free : List ℕ) : Type 0 whe
   pub unused : (p : Path) → 0 < length p → IsSome (fin.get tree p) → count_by (eqb (slot_at tree p)) free ≡ 0
   pub whole : fin.len tree + length free ≡ slots + 1
 
--- the same groups with the slots that they had
+-- the same groups with the same slots
 pub record SameSlots (old new : Groups) : Type 0 where
   pub closed : IsClosed new
   pub size : fin.len new ≡ fin.len old
@@ -69,16 +69,16 @@ module _ {A : Type 0} where
   abbrev pub charges_of : Groups → Process A → Content
   charges_of tree p = charges_at tree p.home p.leaf
 
-  -- the state that tree and processes stand for
+  -- the flat state of the tree and the processes
   abbrev pub state_of : Groups → List (Row A) → State
   state_of tree es = record { groups = map_values group_of tree; home = fin.from_sorted (map (λ e. (e.0, e.1.home)) es) }
 
-  -- a process that stands in the tree
+  -- the process is in a group of the tree
   pub record IsPlaced (leaves : ℕ) (tree : Groups) (p : Process A) : Type 0 where
     pub home : IsSome (fin.get tree p.home)
     pub leaf_below : p.leaf < leaves
 
-  -- each process stands in a group, and the meter holds each process's charges
+  -- each process is in a group, and the meter holds each process's charges
   pub record Recounted (leaves : ℕ) (tree : Groups) (es : List (Row A)) (content : Content) (held : ℕ) : Type 0 where
     pub ordered : IsStrictlySortedBy nat_cmp (keys_of es)
     pub pids_below : All (λ k. k < 2 ^ 22) (keys_of es)

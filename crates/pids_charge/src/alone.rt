@@ -1,4 +1,4 @@
-//! A settlement on the calling thread, and with it a kill and its undo, which ask for no runtime.
+//! A settlement on the calling thread, and a kill and its undo by it. None of them needs a runtime.
 
 ghost use Rattle.std.specs.Prelude.{◌≡◌, ℕ, ◌+◌, ◌<◌, ◌≤◌, IfOk, IfErr, IsSome, OnErr, OnOk, None, length, eqb, map};
 ghost use Rattle.std.specs.List.{All, IsDistinct};
@@ -20,7 +20,7 @@ use group_path::GroupPath;
 use snzi_core::Token;
 use std::alloc::{AllocError, Allocator};
 
-// Each charge goes by a call of its own.
+// Removes the charges one by one.
 fn uncharge_each<M: Meter>(meter: &mut M, stripe: u8, leaving: &[Token])
     requires within { IsWithin M.SLOTS M.LEAVES leaving.now }
     requires stripe { stripe < M.LEAVES }
@@ -33,7 +33,7 @@ fn uncharge_each<M: Meter>(meter: &mut M, stripe: u8, leaving: &[Token])
     }
 }
 
-// Each charge comes by a call of its own.
+// Adds the charges one by one.
 fn charge_each<M: Meter>(meter: &mut M, arriving: &[Token])
     requires within { IsWithin M.SLOTS M.LEAVES arriving.now }
     requires room { M.held meter.old + length arriving.now ≤ HELD_MAX }
@@ -45,8 +45,8 @@ fn charge_each<M: Meter>(meter: &mut M, arriving: &[Token])
     }
 }
 
-/// What `settle` of a meter does, on the calling thread: the leaving charges go and the arriving ones come. It calls no
-/// test hook, refuses nothing and waits for nobody.
+/// Does what a meter's `settle` does, on the calling thread: removes the leaving charges and adds the arriving ones. It
+/// calls no test hook, refuses nothing and waits for nobody.
 pub fn settle_alone<M: Meter>(meter: &mut M, stripe: u8, leaving: &[Token], arriving: &[Token])
     requires leaving_within { IsWithin M.SLOTS M.LEAVES leaving.now }
     requires arriving_within { IsWithin M.SLOTS M.LEAVES arriving.now }
@@ -117,7 +117,7 @@ impl<A: Allocator + Clone, M: Meter> Charges<A, M> {
         }
     }
 
-    // The same.
+    // The same for a slice.
     fn place_listed_alone<B: Allocator + Clone>(
         &mut self,
         who: u8,

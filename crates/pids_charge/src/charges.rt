@@ -15,8 +15,8 @@ use std::alloc::{AllocError, Allocator};
 use std::collections::BTreeMap;
 use std::marker::Model;
 
-/// Groups and processes, each process charged at its group and at every group above it but the root; seen as the flat
-/// state.
+/// Groups and processes. Each process is charged at its group and at every group above it other than the root. Contracts see
+/// the flat state.
 #[derive(Drop)]
 pub struct Charges<A: Allocator + Clone, M: Meter> {
     pub(crate) tree: GroupTree<A>,
@@ -42,7 +42,7 @@ impl<A: Allocator + Clone, M: Meter> Model for Charges<A, M> {
     ghost invariant = { λ c. IsWhole M.SLOTS M.LEAVES c.tree c.processes.entries c.free.items (vec_capacity c.free) (M.content c.meter) (M.held c.meter) };
 }
 
-/// All slots, in a table that holds as many.
+/// All slots, in a table with room for exactly these.
 fn all_slots<A: Allocator>(alloc: A, slots: u16) -> Result<Vec<u16, A>, AllocError>
     ensures free { IfOk result (λ free. AreAllFree slots free.items) }
     ensures room { IfOk result (λ free. slots ≤ vec_capacity free) }
@@ -55,11 +55,11 @@ fn all_slots<A: Allocator>(alloc: A, slots: u16) -> Result<Vec<u16, A>, AllocErr
 }
 
 impl<A: Allocator + Clone, M: Meter + Drop> Charges<A, M> {
-    /// The root alone, and process 1 in it, over an empty meter. All slots are free, in a table that is made whole here.
+    /// The root with process 1 in it, over an empty meter. All slots are free, in a table that is allocated here.
     ///
     /// # Errors
     ///
-    /// `AllocError` when out of memory; the meter is dropped then.
+    /// `AllocError` when out of memory; the meter is then dropped.
     pub fn new(alloc: A, meter: M) -> Result<Charges<A, M>, AllocError>
         requires { IsEmpty (M.content meter) (M.held meter) }
         ensures { IfOk result (λ c. c ≡ start) }

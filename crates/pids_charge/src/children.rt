@@ -1,4 +1,4 @@
-//! The names of the groups one name below a group.
+//! The names of a group's children.
 
 ghost use Rattle.std.specs.Prelude.{◌≡◌, true, false, map, MatchOption};
 ghost use Rattle.flat_model.specs.Counts as flat;
@@ -12,8 +12,8 @@ use group_tree::ChildNames;
 use std::alloc::Allocator;
 
 impl<A: Allocator + Clone, M: Meter> Charges<A, M> {
-    /// The names of the groups one name below a group, in the order of their bytes; None where there is no such group.
-    /// Costs one descent of the tree, and a step for each name. It takes no memory.
+    /// The names of a group's children, in the order of their bytes; None if there is no such group. Costs one descent of
+    /// the tree, and a step for each name. Allocates nothing.
     pub fn child_names<B: Allocator + Clone>(
         &self,
         path: &GroupPath<B>,

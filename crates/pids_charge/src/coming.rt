@@ -1,4 +1,4 @@
-//! A process that comes to a group, new or from another one: it is charged, and the peaks on its way rise, in one walk.
+//! A process that enters a group, new or from another group: one walk charges it and raises the peaks along its path.
 
 ghost use Rattle.std.specs.Prelude.{◌≡◌, None, true, length, IsSome, IfErr, IfOk, OnErr, OnOk};
 ghost use Rattle.std.specs.FinMap as fin;
@@ -17,8 +17,9 @@ use group_path::GroupPath;
 use std::alloc::Allocator;
 
 impl<A: Allocator + Clone, M: Meter> Charges<A, M> {
-    // Puts a new process into the group at a path of the table's own, charged at the leaf of `who`. The peaks of the group and
-    // of those above it but the root rise to their counts; those that they had are noted, from the group upward.
+    // Puts a new process into the group at `path`, charged at the leaf of `who`. The table takes over the path. The peaks of
+    // the group and of those above it other than the root rise to their counts. Their old peaks are noted, from the group
+    // upward.
     pub(crate) fn come(
         &mut self,
         who: u8,
@@ -53,7 +54,7 @@ impl<A: Allocator + Clone, M: Meter> Charges<A, M> {
         Ok(())
     }
 
-    // The same with a process of another group, which is answered: the path that the table had.
+    // The same with a process of another group. Returns its old path, which the table had.
     pub(crate) fn come_over<B: Allocator + Clone>(
         &mut self,
         who: u8,

@@ -1,4 +1,4 @@
-//! Charges copied into other memory, over plain numbers.
+//! Copying charges into another allocator, over plain numbers.
 
 ghost use Rattle.std.specs.Prelude.{◌≡◌, ℕ, ◌+◌, ◌%◌, ◌≤◌, IfOk, OnOk, IsSome, length, map};
 ghost use Rattle.std.specs.List.{All, sum_by};
@@ -20,7 +20,7 @@ use group_tree::GroupTree;
 use std::alloc::{AllocError, Allocator};
 use std::collections::BTreeMap;
 
-// The same slots in the same order, in a table that holds as many as there are slots.
+// The same slots in the same order, in a table with room for all slots.
 fn copy_slots<A: Allocator, B: Allocator>(
     free: &Vec<u16, A>,
     alloc: B,
@@ -34,7 +34,7 @@ fn copy_slots<A: Allocator, B: Allocator>(
     Ok(table)
 }
 
-// One process put into a table, charged along its path at its leaf modulo the leaves of the meter.
+// Inserts one process into a table, charged along its path at its leaf modulo the leaves of the meter.
 fn copy_one<T: Allocator, M: Meter, A: Allocator + Clone, B: Allocator + Clone>(
     tree: &GroupTree<T>,
     table: &mut BTreeMap<Pid, Process<B>, B>,
@@ -57,7 +57,7 @@ fn copy_one<T: Allocator, M: Meter, A: Allocator + Clone, B: Allocator + Clone>(
     Ok(())
 }
 
-// All processes put into a table, each charged so.
+// Inserts all processes into a table, each charged so.
 fn copy_each<T: Allocator, M: Meter, A: Allocator + Clone, B: Allocator + Clone>(
     tree: &GroupTree<T>,
     processes: &BTreeMap<Pid, Process<A>, A>,
@@ -80,13 +80,13 @@ fn copy_each<T: Allocator, M: Meter, A: Allocator + Clone, B: Allocator + Clone>
 }
 
 impl<A: Allocator + Clone, M: Meter> Charges<A, M> {
-    /// The same groups and processes in other memory, over plain numbers, each process charged along
-    /// its path at its leaf modulo the copy's leaves. The meter must have as many slots as the
-    /// copy's. It goes over all groups and processes; each process costs one descent of the tree.
+    /// Copies the groups and processes into another allocator, over plain numbers. Each process is charged along its path at
+    /// its leaf modulo the copy's leaves. The meter must have as many slots as the copy's. Visits all groups and processes;
+    /// each process costs one descent of the tree.
     ///
     /// # Errors
     ///
-    /// `AllocError` where there was no memory for the copy.
+    /// `AllocError` when out of memory.
     pub fn copy_plain<B: Allocator + Clone>(
         &self,
         alloc: B,

@@ -1,4 +1,4 @@
-//! The end of processes, and what takes it back.
+//! The exit of a process, and its undo.
 
 ghost use Rattle.std.specs.Prelude.{◌≡◌, [], None, IsSome, IsOk, IfOk, IfErr, OnErr, OnOk};
 ghost use Rattle.std.specs.FinMap as fin;
@@ -17,7 +17,7 @@ use group_path::GroupPath;
 use std::alloc::Allocator;
 
 impl<A: Allocator + Clone, M: Meter> Charges<A, M> {
-    /// Ends a process. Its group is answered. It takes no memory: the path is the table's own. Costs one descent of the
+    /// Removes a process and returns its group, by the path that the table had. Allocates nothing. Costs one descent of the
     /// tree.
     ///
     /// # Errors
@@ -42,7 +42,7 @@ impl<A: Allocator + Clone, M: Meter> Charges<A, M> {
         Ok(process.home)
     }
 
-    /// Puts a process into a group, charged at the leaf of `who`. No limit is asked. Costs one descent of the tree.
+    /// Puts a process into a group, charged at the leaf of `who`. Tests no limit. Costs one descent of the tree.
     ///
     /// # Errors
     ///
@@ -68,7 +68,7 @@ impl<A: Allocator + Clone, M: Meter> Charges<A, M> {
         self.settle_in(who, pid, home)
     }
 
-    // The same with a path of the table's own.
+    // The same with a path that the table takes over.
     pub(crate) fn settle_in(
         &mut self,
         who: u8,

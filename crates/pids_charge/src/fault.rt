@@ -3,44 +3,44 @@
 use crate::pid::Pid;
 use thiserror::Error;
 
-/// Why a call on charges is refused. A number is one of names: the group meant is that prefix of the given path, and for
-/// `PidsMax` of the path of the parent process.
+/// Why a call on charges is refused. A number counts names: the group is that prefix of the given path, or for `PidsMax` of
+/// the parent process's path.
 #[derive(Clone, Copy, Debug, PartialEq, Eq, Error)]
 pub enum ChargeFault {
-    /// There is such a group already.
+    /// The group exists already.
     #[error("there is such a group already")]
     Exists,
-    /// There is no such group. For a group that is to be made, this is the one to make it in.
+    /// The group does not exist. For a new group, this is its parent.
     #[error("there is no such group")]
     NoGroup(usize),
-    /// This group's limit on the groups below it is met.
+    /// This group has as many groups below it as its limit allows.
     #[error("a limit on descendants is met")]
     Descendants(usize),
-    /// This group's limit on the levels below it is met.
+    /// This group has as many levels below it as its limit allows.
     #[error("a limit on depth is met")]
     Depth(usize),
-    /// There are as many groups as there may be.
+    /// All slots are taken.
     #[error("there is no slot for another group")]
     NoSlot,
-    /// The root stays.
+    /// The root cannot be removed.
     #[error("the root cannot be removed")]
     RootFixed,
-    /// There are groups below it.
+    /// The group has groups below it.
     #[error("there are groups below it")]
     HasChildren,
-    /// There are processes in it.
+    /// The group has processes.
     #[error("there are processes in it")]
     HasProcesses,
-    /// There is no such process.
+    /// The process does not exist.
     #[error("there is no such process")]
     NoProcess(Pid),
-    /// There is such a process already.
+    /// The pid is in use.
     #[error("there is such a process already")]
     PidInUse(Pid),
-    /// One process more would exceed this group's `pids.max`.
+    /// One more process would exceed this group's `pids.max`.
     #[error("a limit on processes would be exceeded")]
     PidsMax(usize),
-    /// There was no memory for it.
+    /// An allocation failed.
     #[error("out of memory")]
     OutOfMemory,
     /// The group has no such file.

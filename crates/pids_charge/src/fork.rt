@@ -1,4 +1,4 @@
-//! The making of processes, the forks that a limit refuses, and what takes the count of a refusal back.
+//! Forks: making a process, counting a fork that a limit refuses, and undoing that count.
 
 ghost use Rattle.std.specs.Prelude.{◌≡◌, ◌≢◌, ℕ, ◌<◌, ◌≤◌, true, Some, None, IfSome, IfOk, IfErr, OnOk, OnErr, IsSome, MatchOption, length, take};
 ghost use Rattle.std.specs.FinMap as fin;
@@ -22,7 +22,7 @@ use group_path::GroupPath;
 use group_tree::{Attr, GroupTree, Limit};
 use std::alloc::Allocator;
 
-// Whether one process more would bring the group past its `pids.max`.
+// Whether one more process would exceed the group's `pids.max`.
 fn is_full<M: Meter>(meter: &mut M, attr: &Attr) -> bool
     requires slot { attr.now.slot < M.SLOTS }
     ensures answer { result ≡ full_by M.LEAVES (M.content meter.old) (Some attr.now) }
@@ -35,8 +35,8 @@ fn is_full<M: Meter>(meter: &mut M, attr: &Attr) -> bool
     }
 }
 
-// The number of names of the nearest group, from the path's upward, that one process more would bring past its
-// `pids.max`: the last that is found on the way down.
+// The nearest group, from the path's upward, whose `pids.max` one more process would exceed, as its number of names. It is
+// the last such group on the way down.
 fn limiting_group<T: Allocator, M: Meter, A: Allocator + Clone>(
     tree: &GroupTree<T>,
     meter: &mut M,
@@ -63,7 +63,7 @@ fn limiting_group<T: Allocator, M: Meter, A: Allocator + Clone>(
     nearest
 }
 
-// Counts one fork more that the group at the path's first `n` names refused.
+// Counts a fork that the group at the first `n` names of the path refused.
 fn count_refusal<T: Allocator, A: Allocator + Clone>(
     tree: &mut GroupTree<T>,
     path: &GroupPath<A>,
@@ -79,7 +79,7 @@ fn count_refusal<T: Allocator, A: Allocator + Clone>(
     tree.known();
 }
 
-// Takes back the count of one fork that the group at the path's first `n` names refused.
+// Undoes the count of a fork that the group at the first `n` names of the path refused.
 fn uncount_refusal<T: Allocator, A: Allocator + Clone>(
     tree: &mut GroupTree<T>,
     path: &GroupPath<A>,
@@ -94,8 +94,8 @@ fn uncount_refusal<T: Allocator, A: Allocator + Clone>(
 }
 
 impl<A: Allocator + Clone, M: Meter> Charges<A, M> {
-    /// What `fork` would refuse this with, memory aside: `NoProcess` of the parent, `PidInUse` of the child, or `PidsMax`. It
-    /// counts nothing and changes nothing. Costs one descent of the tree, which asks the limits, all up to the root.
+    /// The refusal that `fork` would return, apart from memory: `NoProcess` of the parent, `PidInUse` of the child, or
+    /// `PidsMax`. Counts nothing and changes nothing. Costs one descent of the tree, which tests all limits up to the root.
     pub fn refuses_fork(&mut self, parent: Pid, child: Pid) -> Option<ChargeFault>
         ensures first { MatchOption result (refusal M.SLOTS self.old (Fork parent child) ≡ None) (λ f. refusal M.SLOTS self.old (Fork parent child) ≡ refusal_of_fault (home_of self.old parent) f) }
         ensures inside { IfSome result (λ f. names_in f ≤ length (home_of self.old parent)) }
@@ -116,9 +116,9 @@ impl<A: Allocator + Clone, M: Meter> Charges<A, M> {
         None
     }
 
-    /// Makes a process that `fork` would not refuse, in the group of its parent, charged at the leaf of `who`, and raises the
-    /// peaks of that group and of those above it but the root. The peaks that they had are answered, from the group upward.
-    /// Costs one descent of the tree, and a second where a peak rises.
+    /// Makes a process that `fork` would not refuse, in the group of its parent, charged at the leaf of `who`. Raises the
+    /// peaks of that group and of those above it other than the root. Returns their old peaks, from the group upward. Costs
+    /// one descent of the tree, and a second if a peak rises.
     ///
     /// # Errors
     ///
@@ -153,9 +153,9 @@ impl<A: Allocator + Clone, M: Meter> Charges<A, M> {
         }
     }
 
-    /// Counts a fork that the group at the first `n` names of the parent's path refuses: one more in the local total of that
-    /// group, and in the totals of it and of the groups above it but the root. It takes no memory, and costs one descent of the
-    /// tree.
+    /// Counts a fork that the group at the first `n` names of the parent's path refuses. Adds one to the local total of that
+    /// group, and one to the totals of that group and of the groups above it other than the root. Allocates nothing. Costs
+    /// one descent of the tree.
     pub fn count_fork(&mut self, parent: Pid, n: usize)
         requires parent { has_process self.old parent ≡ true }
         requires below_root { 0 < n }
@@ -169,18 +169,18 @@ impl<A: Allocator + Clone, M: Meter> Charges<A, M> {
         count_refusal(&mut self.tree, &process.home, n);
     }
 
-    /// Makes a process in the group of its parent, charged at the leaf of `who`, and raises the peaks of that group and of
-    /// those above it but the root. The peaks that they had are answered, from the group upward. Costs two descents of the tree,
-    /// and a third where a peak rises: one asks the limits, all up to the root, and one charges and sees the peaks. A refusal
+    /// Makes a process in the group of its parent, charged at the leaf of `who`. Raises the peaks of that group and of those
+    /// above it other than the root. Returns their old peaks, from the group upward. Costs two descents of the tree: one
+    /// tests all limits up to the root, and one charges and reads the peaks. A third follows if a peak rises. A refusal
     /// costs two: the second counts it.
     ///
     /// # Errors
     ///
-    /// The first that holds, in this order: `NoProcess` of the parent, `PidInUse` of the child, `PidsMax`, `OutOfMemory`.
-    /// `PidsMax(n)` names the nearest group, from the parent's upward, whose `pids.max` one process more would exceed, by
-    /// the first n names of the parent's path. It counts the refused fork: one more in the local total of that group, and
-    /// in the totals of it and of the groups above it but the root. Nothing else has changed then, no peak either, and
-    /// nothing at all after the other three.
+    /// The first of these that applies: `NoProcess` of the parent, `PidInUse` of the child, `PidsMax`, `OutOfMemory`.
+    /// `PidsMax(n)` names the nearest group, from the parent's upward, whose `pids.max` one more process would exceed: its
+    /// path is the first n names of the parent's path. `PidsMax` counts the refused fork: it adds one to the local total of
+    /// that group, and one to the totals of that group and of the groups above it other than the root. Nothing else changes,
+    /// no peak either. The other three change nothing.
     pub fn fork(&mut self, who: u8, parent: Pid, child: Pid) -> Result<Peaks<A>, ChargeFault>
         requires { HasRoomForEvents self.old }
         ensures state { Does M.SLOTS self.old (Fork parent child) (home_of self.old parent) result self.new }
@@ -198,8 +198,9 @@ impl<A: Allocator + Clone, M: Meter> Charges<A, M> {
         }
     }
 
-    /// Takes back the count of one refused fork, whose group this is: its local total, and the totals of it and of the
-    /// groups above it but the root, become one less. It takes no memory, and costs one descent of the tree.
+    /// Undoes the count of one refused fork. `path` is the group that refused it. Subtracts one from its local total, and
+    /// one from the totals of it and of the groups above it other than the root. Allocates nothing. Costs one descent of the
+    /// tree.
     pub fn uncount<B: Allocator + Clone>(&mut self, path: &GroupPath<B>)
         requires { HasEvents self.old path.now }
         ensures { self.new ≡ back (Counted path.now) self.old }

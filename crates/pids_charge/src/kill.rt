@@ -1,4 +1,4 @@
-//! The kill of all processes of a group.
+//! Killing all processes of a group.
 
 ghost use Rattle.std.specs.Prelude.{◌≡◌, ℕ, ◌+◌, ◌<◌, ◌≤◌, ◌++◌, ◌∷◌, [], IfOk, IfErr, OnOk, length, map, filter, not};
 ghost use Rattle.std.specs.List.{All, sum_by};
@@ -28,14 +28,14 @@ use std::collections::BTreeMap;
 use std::sync::Wait;
 use std::thread::Threads;
 
-// What a kill takes: processes, and their charges.
+// The processes that a kill removes, and their charges.
 #[derive(Drop)]
 pub(crate) struct Gathered<A: Allocator + Clone> {
     pub(crate) lost: Vec<Lost<A>, A>,
     pub(crate) tokens: Vec<Token, A>,
 }
 
-// The process with its path copied, and a token for each of its charges.
+// Adds the process with a copy of its path, and a token for each of its charges.
 fn gather_one<M: Meter, T: Allocator, A: Allocator + Clone>(
     tree: &GroupTree<T>,
     gathered: &mut Gathered<A>,
@@ -57,7 +57,7 @@ fn gather_one<M: Meter, T: Allocator, A: Allocator + Clone>(
     Ok(())
 }
 
-// Those at or below the path, pids ascending.
+// The processes at or below the path, pids ascending, and their charges.
 pub(crate) fn gather<M: Meter, T: Allocator, A: Allocator + Clone, B: Allocator + Clone>(
     tree: &GroupTree<T>,
     processes: &BTreeMap<Pid, Process<A>, A>,
@@ -83,7 +83,7 @@ pub(crate) fn gather<M: Meter, T: Allocator, A: Allocator + Clone, B: Allocator 
     Ok(gathered)
 }
 
-// Takes out those at or below the path.
+// Removes the processes at or below the path.
 pub(crate) fn leave<A: Allocator + Clone, B: Allocator + Clone>(
     processes: &mut BTreeMap<Pid, Process<A>, A>,
     path: &GroupPath<B>,
@@ -95,12 +95,12 @@ pub(crate) fn leave<A: Allocator + Clone, B: Allocator + Clone>(
 }
 
 impl<A: Allocator + Clone, M: Meter> Charges<A, M> {
-    /// Takes all processes at or below the group out, each with its path; pids ascend. It goes over all processes, and gives
-    /// all charges to the meter at once. It may wait for the threads that do a part of the charges.
+    /// Removes all processes at or below the group, and returns each with its path; pids ascend. Visits all processes, and
+    /// passes all charges to the meter at once. It may wait for the threads that do parts of the settlement.
     ///
     /// # Errors
     ///
-    /// The first that holds, in this order: `NoFile` for the root, `NoGroup`, `OutOfMemory`. Nothing has changed then.
+    /// The first of these that applies: `NoFile` for the root, `NoGroup`, `OutOfMemory`. Nothing has changed then.
     pub fn kill<R: Threads + Wait + Sync, B: Allocator + Clone>(
         &mut self,
         rt: &R,

@@ -1,39 +1,39 @@
 //! Processes in groups, each counted at its group and at every group above it.
 //!
-//! - A `Charges` has the groups as a tree and the processes in a table. It starts with the root alone and process 1 in it.
-//!   Each group beside the root has a slot of a meter; a process is one charge at the slot of its group and at that of each
-//!   group above it but the root, at the leaf that the process remembers.
-//! - How many processes are at or below a group, and whether there is one, is what the meter answers at the group's slot:
-//!   no call but `members` and `kill` goes over the processes.
-//! - A fork is refused where one process more would exceed the `pids.max` of a group at or above the parent's. The nearest
-//!   such group is named, and its event totals rise: the local total of that group, and the total of it and of each group
-//!   above it but the root. Moves, and limits set below what there is, are never blocked.
-//! - The peak of a group beside the root is the most processes that were at or below it at once. A fork and a move raise the
-//!   peaks along the path that the process comes to, once it stands there; a refused fork raises none, and nothing lowers
-//!   one but `set_peaks`. Both answer the peaks that were there.
+//! - A `Charges` has the groups as a tree and the processes in a table. It starts with the root, and process 1 in it. Each
+//!   group other than the root has a slot of a meter. A process is one charge at the slot of its group, and one at that of
+//!   each group above it other than the root, at the leaf that the process remembers.
+//! - The meter's slot of a group says how many processes are at or below it, and whether there is one. Only `members` and
+//!   `kill` visit the processes.
+//! - A fork is refused if one more process would exceed the `pids.max` of a group at or above the parent's. The refusal
+//!   names the nearest such group and raises event totals: the local total of that group, and the total of it and of each
+//!   group above it other than the root. Moves are never refused by a limit, and a limit may be set below what there is.
+//! - The peak of a group other than the root is the most processes that were at or below it at once. A fork and a move raise
+//!   the peaks along the new path of the process, once it is there, and return the old peaks. A refused fork raises no peak.
+//!   Only `set_peaks` lowers one.
 //! - Refusals come in a fixed order, out of memory last, and change nothing but those totals.
-//! - Beside each command stands what takes it back without asking any limit: `restore` for a removal, `place` for an exit,
-//!   `place_all` for a kill, `uncount` for a refused fork, `rehome` for a move; and `set_peaks` for what a fork or a move
-//!   raised. A limit is taken back by itself. None of them raises a peak.
-//! - `refuses_mkdir`, `refuses_rmdir` and `refuses_fork` only decide. What a call does once it has decided stands beside it, for
-//!   a caller that asks for memory of its own in between: `make_group`, `take_group`, `make_process`, `count_fork`.
-//! - `exit`, `set_peaks`, `count_fork`, `uncount`, `rmdir`, `set_limit`, the readers and what only decides take no memory. The table of free
-//!   slots is made whole by `new`.
-//! - A walk along a path goes down the tree once, so that a fork, an exit and a move cost
-//!   O(log processes + depth · log children) comparisons; a path has at most 32 names.
-//! - `settle_alone` is the settlement of any meter on the calling thread, and `kill_alone` and `place_all_alone` are `kill` and
-//!   `place_all` over it: they ask for no runtime.
-//! - `child_names` gives the names of the groups one name below a group, in order.
-//! - Any meter serves that meets the law of `Meter`. `PlainMeter` keeps plain numbers, for one thread.
-//! - A kill, and what takes it back, give a meter all their charges at once, to be settled in 2 to 8 parts (`part_count`,
-//!   `last_run`); how many there are makes no difference to what is left.
-//! - `copy_plain` gives the same groups and processes in other memory, over a `PlainMeter`.
+//! - Each command has an undo that tests no limit: `restore` for a removal, `place` for an exit, `place_all` for a kill,
+//!   `uncount` for a refused fork, `rehome` for a move, and `set_peaks` for the peaks that a fork or a move raised. A limit
+//!   is undone by setting the old one. None of them raises a peak.
+//! - `refuses_mkdir`, `refuses_rmdir` and `refuses_fork` only decide. `make_group`, `take_group`, `make_process` and
+//!   `count_fork` only do what was decided. They are for a caller that allocates something of its own in between.
+//! - `exit`, `set_peaks`, `count_fork`, `uncount`, `rmdir`, `set_limit`, the readers and the calls that only decide allocate
+//!   nothing. `new` allocates the table of free slots.
+//! - A walk along a path descends the tree once, so a fork, an exit and a move cost O(log processes + depth · log children)
+//!   comparisons. A path has at most 32 names.
+//! - `settle_alone` is the settlement of any meter on the calling thread. `kill_alone` and `place_all_alone` are `kill` and
+//!   `place_all` over it; they need no runtime.
+//! - `child_names` returns the names of a group's children, in order.
+//! - Any meter that meets the law of `Meter` will do. `PlainMeter` keeps plain numbers, for one thread.
+//! - A kill and its undo pass all their charges to a meter at once, which settles them in 2 to 8 parts (`part_count`,
+//!   `last_run`). The number of parts doesn't change the result.
+//! - `copy_plain` copies the groups and processes into another allocator, over a `PlainMeter`.
 //!
-//! Not promised: which slot a group gets, and in which stripe of a meter an amount stands.
+//! Not promised: which slot a group gets, and in which stripe of a meter an amount is stored.
 //!
-//! `specs/Recount.antt` says what ties meter, tree and table, `specs/Answers.antt` what a call that is a command answers
-//! and leaves, `specs/Events.antt` what a limit refuses and what is counted, `specs/Peaks.antt` what peaks rise to,
-//! `specs/Parts.antt` what a settlement leaves in so many parts.
+//! `specs/Recount.antt` says how meter, tree and table agree. `specs/Answers.antt` says what a call that is a command
+//! returns and leaves. `specs/Events.antt` defines what a limit refuses and what is counted, `specs/Peaks.antt` to what
+//! peaks rise, and `specs/Parts.antt` what a settlement leaves in so many parts.
 #![tactic(auto)]
 
 mod alone;

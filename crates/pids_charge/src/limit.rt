@@ -1,4 +1,4 @@
-//! The setting of limits. It is taken back by setting the old limit.
+//! Setting limits. The undo sets the old limit.
 
 ghost use Rattle.std.specs.Prelude.{◌≡◌, ◌≤◌, ◌&&◌, None, IsOk, IfOk, IfErr, length};
 ghost use Rattle.flat_model.specs.Path.{is_root};
@@ -15,7 +15,7 @@ use group_path::GroupPath;
 use group_tree::{Limit, LimitFile};
 use std::alloc::Allocator;
 
-// Whether the group has no such file: the root has no `pids.max`.
+// Whether the group lacks the file: the root has no `pids.max`.
 fn is_missing<B: Allocator + Clone>(path: &GroupPath<B>, file: LimitFile) -> bool
     ensures { result ≡ (is_root path.now && is_pids_max (limit_file_of file)) }
 {
@@ -27,12 +27,12 @@ fn is_missing<B: Allocator + Clone>(path: &GroupPath<B>, file: LimitFile) -> boo
 }
 
 impl<A: Allocator + Clone, M: Meter> Charges<A, M> {
-    /// Sets a limit of a group, and answers the one that stood there. A limit may be below what there is now. It takes no
-    /// memory, and costs one descent of the tree.
+    /// Sets a limit of a group, and returns the old one. A limit may be below the present count. Allocates nothing. Costs
+    /// one descent of the tree.
     ///
     /// # Errors
     ///
-    /// `NoFile` for the `pids.max` of the root, and then `NoGroup`. Nothing has changed then.
+    /// `NoFile` for the `pids.max` of the root, then `NoGroup`. Nothing has changed then.
     pub fn set_limit<B: Allocator + Clone>(
         &mut self,
         path: &GroupPath<B>,

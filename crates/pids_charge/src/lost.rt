@@ -1,4 +1,4 @@
-//! The processes that a kill took.
+//! The processes that a kill removed.
 
 ghost use Rattle.std.specs.Prelude.{◌≡◌, IfOk};
 ghost use Rattle.pids_charge.specs.Lists.{row_of, rows_of};
@@ -8,14 +8,14 @@ use group_path::GroupPath;
 use std::alloc::{AllocError, Allocator};
 use std::marker::Model;
 
-/// A process that a kill took, and the group that it was in.
+/// A process that a kill removed, and its group.
 #[derive(Drop)]
 pub struct Lost<A: Allocator + Clone> {
     pub pid: Pid,
     pub path: GroupPath<A>,
 }
 
-/// The processes that a kill took, pids ascending; seen as pairs of a pid and a path.
+/// The processes that a kill removed, pids ascending. Contracts see pairs of a pid and a path.
 #[derive(Drop)]
 pub struct LostList<A: Allocator + Clone> {
     items: Vec<Lost<A>, A>,
@@ -61,21 +61,21 @@ fn copy_all<A: Allocator + Clone, B: Allocator + Clone>(
 }
 
 impl<A: Allocator + Clone> LostList<A> {
-    /// The list of these. It takes no memory.
+    /// Makes the list of these. Allocates nothing.
     pub fn of(items: Vec<Lost<A>, A>) -> LostList<A>
         ensures { result ≡ rows_of items.items }
     {
         LostList { items }
     }
 
-    /// The processes, as they were listed.
+    /// The processes, in the order of the list.
     pub fn as_slice(&self) -> &[Lost<A>]
         ensures { rows_of result.now ≡ self.now }
     {
         self.items.as_slice()
     }
 
-    /// The same list in other memory, in time linear in its paths.
+    /// Copies the list into another allocator. Linear in its paths.
     ///
     /// # Errors
     ///

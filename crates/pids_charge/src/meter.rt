@@ -1,4 +1,4 @@
-//! What charges are kept in.
+//! The trait of meters, which keep charges.
 
 ghost use Rattle.std.specs.Prelude.{◌≡◌, ℕ, ◌+◌, ◌-◌, ◌^◌, ◌<◌, ◌≤◌, ◌↔◌, IsTrue, length, List};
 ghost use Rattle.snzi_core.specs.Listed.{IsWithin, listed_at, one_at, over_leaves};
@@ -9,16 +9,16 @@ use crate::gate::Gate;
 use snzi_core::Token;
 use std::thread::Threads;
 
-/// The greatest number of charges that a meter is asked to hold: 2^40 - 8.
+/// The most charges that a meter may hold: 2^40 - 8.
 pub const HELD_MAX: u64 = 1_099_511_627_768;
 
-/// Charges at slots and leaves. The answers of a meter are those of one content, a number for each slot and leaf; in which
-/// stripe an amount stands is no part of it.
+/// Charges at slots and leaves. The results of a meter's calls are those of one content: a number for each slot and leaf. In
+/// which stripe an amount is stored is not part of the content.
 pub trait Meter {
-    /// How many slots there are.
+    /// The number of slots.
     const SLOTS: u16;
 
-    /// How many leaves each slot has, and as many stripes.
+    /// The number of leaves of each slot, and of its stripes.
     const LEAVES: u8;
 
     ghost SLOTS: { ℕ };
@@ -31,7 +31,7 @@ pub trait Meter {
     // the number of charges in all
     ghost held: { Self → ℕ };
 
-    /// One more at the slot and leaf.
+    /// Adds one charge at the slot and leaf.
     fn charge(&mut self, slot: u16, leaf: u8)
         requires slot_below { slot < SLOTS }
         requires leaf_below { leaf < LEAVES }
@@ -39,7 +39,7 @@ pub trait Meter {
         ensures content { (s j : ℕ) → content self.new s j ≡ content self.old s j + one_at slot leaf s j }
         ensures held { held self.new ≡ held self.old + 1 };
 
-    /// One less at the slot and leaf, taken from the stripe.
+    /// Removes one charge at the slot and leaf, subtracting it in the stripe.
     fn uncharge(&mut self, slot: u16, leaf: u8, stripe: u8)
         requires slot_below { slot < SLOTS }
         requires leaf_below { leaf < LEAVES }
@@ -48,23 +48,23 @@ pub trait Meter {
         ensures content { (s j : ℕ) → content self.new s j + one_at slot leaf s j ≡ content self.old s j }
         ensures held { held self.new + 1 ≡ held self.old };
 
-    /// The number at the slot.
+    /// The number of charges at the slot.
     fn current(&mut self, slot: u16) -> u64
         requires slot_below { slot < SLOTS }
         ensures answer { result ≡ over_leaves LEAVES (content self.old slot) }
         ensures content { content self.new ≡ content self.old }
         ensures held { held self.new ≡ held self.old };
 
-    /// Whether the number at the slot is positive.
+    /// Whether there is a charge at the slot.
     fn populated(&mut self, slot: u16) -> bool
         requires slot_below { slot < SLOTS }
         ensures answer { IsTrue result ↔ 0 < over_leaves LEAVES (content self.old slot) }
         ensures content { content self.new ≡ content self.old }
         ensures held { held self.new ≡ held self.old };
 
-    /// The leaving charges go and the arriving ones come, in the parts of `part_count`: each does one run of each list
-    /// (`last_run`), leaving ones first; before that it calls the test hook, also where its runs are empty. What is left is
-    /// what any number of parts would leave. It refuses nothing, and may wait for the threads that do a part.
+    /// Removes the leaving charges and adds the arriving ones, in as many parts as `part_count` says. A part does one run of
+    /// each list (`last_run`), the leaving ones first. Before that it calls the test hook, even if its runs are empty. The
+    /// result is the same for any number of parts. It refuses nothing. It may wait for the threads that do parts.
     fn settle<R: Threads>(
         &mut self,
         rt: &R,

@@ -1,4 +1,4 @@
-//! The moves of processes, and what takes one back.
+//! Moving processes, and undoing a move.
 
 ghost use Rattle.std.specs.Prelude.{◌≡◌, ◌≤◌, true, length, IsSome, IfOk, IfErr, OnOk, OnErr};
 ghost use Rattle.std.specs.FinMap as fin;
@@ -18,7 +18,7 @@ use crate::walk::{charge_along, uncharge_along};
 use group_path::GroupPath;
 use std::alloc::Allocator;
 
-/// What a move left behind: the group that the process was in, and the peaks that the groups along its new path had.
+/// What a move leaves behind: the old group of the process, and the old peaks of the groups along its new path.
 #[derive(Drop)]
 pub struct Shifted<A: Allocator + Clone> {
     pub path: GroupPath<A>,
@@ -26,15 +26,15 @@ pub struct Shifted<A: Allocator + Clone> {
 }
 
 impl<A: Allocator + Clone, M: Meter> Charges<A, M> {
-    /// Moves a process to the group, where it is charged at the leaf of `who`, and raises the peaks of the group and of those
-    /// above it but the root, once it is there. Its old group is answered, the path that the table had, and the peaks that
-    /// the groups along the new path had. No limit is asked. Costs three descents of the tree, and a fourth where a peak rises:
-    /// one sees that the group is there, one takes the charges along the old path, and one makes those along the new and sees
-    /// the peaks.
+    /// Moves a process to the group, where it is charged at the leaf of `who`, and then raises the peaks of the group and of
+    /// those above it other than the root. Returns its old group, by the path that the table had, and the old peaks of the
+    /// groups along the new path. Tests no limit. Costs three descents of the tree: one finds the group, one removes the
+    /// charges along the old path, and one adds those along the new path and reads the peaks. A fourth follows if a peak
+    /// rises.
     ///
     /// # Errors
     ///
-    /// The first that holds, in this order: `NoGroup`, `NoProcess`, `OutOfMemory`. Nothing has changed then.
+    /// The first of these that applies: `NoGroup`, `NoProcess`, `OutOfMemory`. Nothing has changed then.
     pub fn migrate<B: Allocator + Clone>(
         &mut self,
         who: u8,
@@ -64,8 +64,8 @@ impl<A: Allocator + Clone, M: Meter> Charges<A, M> {
         }
     }
 
-    /// Puts a process into another group, charged at the leaf of `who`, and raises no peak: with `set_peaks` it takes a move
-    /// back. Its old group is answered, the path that the table had. No limit is asked. Costs two descents of the tree.
+    /// Puts a process into another group, charged at the leaf of `who`, and raises no peak. Together with `set_peaks` it
+    /// undoes a move. Returns its old group, by the path that the table had. Tests no limit. Costs two descents of the tree.
     ///
     /// # Errors
     ///

@@ -1,4 +1,4 @@
-//! The making of groups.
+//! Making groups.
 
 ghost use Rattle.std.specs.Prelude.{◌≡◌, ◌≢◌, ◌≤◌, length, None, IfSome, IfErr, OnErr, OnOk, MatchOption};
 ghost use Rattle.flat_model.specs.Command.{MakeGroup};
@@ -13,8 +13,7 @@ use group_tree::{Admission, Attr, MetLimit};
 use std::alloc::Allocator;
 
 impl<A: Allocator + Clone, M: Meter> Charges<A, M> {
-    /// Why the group may not be made, if it may not: what `mkdir` would be refused, memory aside. It costs one descent of
-    /// the tree.
+    /// The refusal that `mkdir` would return, apart from memory. Costs one descent of the tree.
     pub fn refuses_mkdir<B: Allocator + Clone>(&self, path: &GroupPath<B>) -> Option<ChargeFault>
         ensures first { MatchOption result (refusal M.SLOTS self.now (MakeGroup path.now) ≡ None) (λ f. refusal M.SLOTS self.now (MakeGroup path.now) ≡ refusal_of_fault path.now f) }
         ensures inside { IfSome result (λ f. names_in f ≤ length path.now) }
@@ -31,8 +30,8 @@ impl<A: Allocator + Clone, M: Meter> Charges<A, M> {
         }
     }
 
-    /// Makes a group that `mkdir` would not refuse, with no limits and event totals of 0, on a free slot. Costs one
-    /// descent of the tree.
+    /// Makes a group that `mkdir` would not refuse, with no limits and event totals of 0, on a free slot. Costs one descent
+    /// of the tree.
     ///
     /// # Errors
     ///
@@ -49,13 +48,13 @@ impl<A: Allocator + Clone, M: Meter> Charges<A, M> {
         self.restore(path, Attr::new(0))
     }
 
-    /// Makes a group under one that is there, with no limits and event totals of 0, on a free slot. Costs two descents
-    /// of the tree: what stands against it, all limits above it too, is asked in one.
+    /// Makes a group under an existing one, with no limits and event totals of 0, on a free slot. Costs two descents of the
+    /// tree. One of them tests everything that can refuse the group, including all limits above it.
     ///
     /// # Errors
     ///
-    /// The first that holds, in this order: `Exists`, `NoGroup` of the parent, `Descendants` or `Depth` of the first group
-    /// from the parent upward whose limit is met, `NoSlot`, `OutOfMemory`. Nothing has changed then.
+    /// The first of these that applies: `Exists`; `NoGroup` of the parent; `Descendants` or `Depth` of the first group from
+    /// the parent upward whose limit is met; `NoSlot`; `OutOfMemory`. Nothing has changed then.
     pub fn mkdir<B: Allocator + Clone>(&mut self, path: &GroupPath<B>) -> Result<(), ChargeFault>
         ensures state { Does M.SLOTS self.old (MakeGroup path.now) path.now result self.new }
         ensures inside { IfErr result (λ f. names_in f ≤ length path.now) }

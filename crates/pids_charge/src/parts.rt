@@ -1,4 +1,4 @@
-//! In how many parts a settlement is done, and which tokens each part does.
+//! How many parts a settlement has, and which tokens each part does.
 
 ghost use Rattle.std.specs.Prelude.{◌≡◌, ℕ, ◌+◌, ◌<◌, length};
 ghost use Rattle.snzi_core.specs.Listed.{IsWithin, listed_at};
@@ -6,7 +6,7 @@ ghost use Rattle.pids_charge.specs.Parts.{parts_for, but_last_run, the_last_run}
 
 use snzi_core::Token;
 
-/// The number of parts of a settlement: that of its tokens, but 2 at least and 8 at most.
+/// The number of parts of a settlement: the number of its tokens, but at least 2 and at most 8.
 pub fn part_count(leaving: &[Token], arriving: &[Token]) -> u8
     ensures { result ≡ parts_for (length leaving.now + length arriving.now) }
 {
@@ -14,7 +14,7 @@ pub fn part_count(leaving: &[Token], arriving: &[Token]) -> u8
     tokens.clamp(2, 8) as u8
 }
 
-/// The first of `runs` runs but the last, and the last. Runs differ in length by at most one, the longer ones first.
+/// Cuts `runs` runs into all but the last, and the last. The lengths of runs differ by at most one, the longer runs first.
 pub fn last_run(tokens: &[Token], runs: u8) -> (&[Token], &[Token])
     requires { 0 < runs }
     ensures runs { (result.0.now ≡ but_last_run runs tokens.now) × (result.1.now ≡ the_last_run runs tokens.now) }

@@ -1,4 +1,4 @@
-//! The peaks of groups: raised along a path as a process comes, and set again.
+//! The peaks of groups: raised along a path when a process enters, and set again by an undo.
 
 ghost use Rattle.std.specs.Prelude.{◌≡◌, ℕ, ◌+◌, ◌<◌, ◌≤◌, false, length, get_or, IfOk, IsSome, option_map};
 ghost use Rattle.std.specs.FinMap as fin;
@@ -16,7 +16,7 @@ use group_tree::GroupTree;
 use std::alloc::{AllocError, Allocator};
 use std::marker::Model;
 
-/// Peaks of groups along a path, from the path's own group upward, the root left out; seen as a list of numbers.
+/// The peaks of groups along a path, from the path's own group upward, without the root. Contracts see a list of numbers.
 #[derive(Drop)]
 pub struct Peaks<A: Allocator + Clone> {
     items: Vec<u64, A>,
@@ -34,21 +34,21 @@ impl<A: Allocator + Clone> Model for Peaks<A> {
 }
 
 impl<A: Allocator + Clone> Peaks<A> {
-    /// The list of these. It takes no memory.
+    /// Makes the list of these. Allocates nothing.
     pub fn of(items: Vec<u64, A>) -> Peaks<A>
         ensures { result ≡ items.items }
     {
         Peaks { items }
     }
 
-    /// The peaks, as they were listed.
+    /// The peaks, in the order of the list.
     pub fn as_slice(&self) -> &[u64]
         ensures { result.now ≡ self.now }
     {
         self.items.as_slice()
     }
 
-    /// The same list in other memory.
+    /// Copies the list into another allocator.
     ///
     /// # Errors
     ///
@@ -72,8 +72,8 @@ pub(crate) fn room_for_peaks<A: Allocator + Clone, B: Allocator + Clone>(
     Ok(vec![in alloc.clone()?; 0; path.depth()]?)
 }
 
-// One charge at each group along the path; notes the peak of each, and the one that it rises to: no lower than its count.
-// Whether one rises.
+// Adds one charge at each group along the path. Notes the peak of each, and the peak to which it rises: no lower than its
+// count. Returns whether a peak rises.
 fn charge_and_note<T: Allocator, M: Meter, A: Allocator + Clone>(
     tree: &GroupTree<T>,
     meter: &mut M,
@@ -111,8 +111,8 @@ fn charge_and_note<T: Allocator, M: Meter, A: Allocator + Clone>(
     rises
 }
 
-// One charge at each group along the path, whose peaks rise to their counts where they are lower. The peaks that they had are
-// noted. It goes down once, and once more where a peak rises.
+// Adds one charge at each group along the path, and raises peaks that are lower than their counts. Notes the old peaks.
+// Descends once, and a second time if a peak rises.
 pub(crate) fn charge_and_raise<T: Allocator, M: Meter, A: Allocator + Clone>(
     tree: &mut GroupTree<T>,
     meter: &mut M,
@@ -158,9 +158,9 @@ fn set_along<T: Allocator, A: Allocator + Clone>(
 }
 
 impl<A: Allocator + Clone, M: Meter> Charges<A, M> {
-    /// Sets the peaks of the group at the path and of the groups above it, the root left out: one for each name of the path,
-    /// from the group upward. It asks nothing of the counts: a caller that gives no peak that is lower than its group's
-    /// count leaves none so. It takes no memory, and costs one descent of the tree.
+    /// Sets the peaks of the group at the path and of the groups above it, without the root: one for each name of the path,
+    /// from the group upward. It doesn't compare them with the counts. If no given peak is lower than its group's count,
+    /// none is afterwards. Allocates nothing. Costs one descent of the tree.
     pub fn set_peaks<B: Allocator + Clone>(&mut self, path: &GroupPath<B>, peaks: &[u64])
         requires { length peaks.now ≡ length path.now }
         ensures { self.new ≡ flat.set_peaks path.now peaks.now self.old }

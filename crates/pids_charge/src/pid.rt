@@ -1,14 +1,14 @@
-//! The numbers of processes.
+//! Pids.
 
 ghost use Rattle.std.specs.Prelude.{◌≡◌, MatchOption};
 ghost use Rattle.flat_model.specs.CommandText.{IsPid};
 
 use std::marker::Model;
 
-/// The greatest number of a process.
+/// The greatest pid.
 pub const PID_MAX: u32 = 4_194_303;
 
-/// The number of a process, from 1 to `PID_MAX`.
+/// A pid, from 1 to `PID_MAX`.
 #[derive(Clone, Copy, Debug, PartialEq, Eq, PartialOrd, Ord)]
 pub struct Pid {
     number: u32,
@@ -28,7 +28,7 @@ impl Model for Pid {
 }
 
 impl Pid {
-    /// The process of this number. None for 0 and for numbers past `PID_MAX`.
+    /// The pid with this number; None for 0 and for numbers greater than `PID_MAX`.
     pub fn new(number: u32) -> Option<Pid>
         ensures { MatchOption result (IsPid number → ⊥) (λ pid. pid ≡ number) }
     {
@@ -38,7 +38,7 @@ impl Pid {
         Some(Pid { number })
     }
 
-    // The process that is there at the start.
+    // The pid of the process that exists at the start.
     pub(crate) fn first() -> Pid
         ensures { result ≡ 1 }
     {

@@ -1,4 +1,4 @@
-//! Listed processes put where they were: what takes a kill back.
+//! Putting listed processes back: the undo of a kill.
 
 ghost use Rattle.std.specs.Prelude.{◌≡◌, ◌≤◌, ◌<◌, ◌^◌, ℕ, IfOk, IfErr, IsSome, OnErr, OnOk, None, length, drop, eqb, map};
 ghost use Rattle.std.specs.List.{All, sum_by, IsDistinct};
@@ -47,7 +47,7 @@ pub(crate) fn tokens_of<M: Meter, T: Allocator, A: Allocator + Clone, B: Allocat
     Ok(tokens)
 }
 
-// One listed process with its path copied.
+// Inserts one listed process with a copy of its path.
 fn place_one<A: Allocator + Clone, B: Allocator + Clone>(
     processes: &mut BTreeMap<Pid, Process<A>, A>,
     alloc: &A,
@@ -64,7 +64,7 @@ fn place_one<A: Allocator + Clone, B: Allocator + Clone>(
     Ok(())
 }
 
-// As many of the list's last processes as there is memory for. Answers the place of the first of them.
+// Inserts as many of the list's last processes as memory allows. Returns the index of the first of them.
 fn place_last<A: Allocator + Clone, B: Allocator + Clone>(
     processes: &mut BTreeMap<Pid, Process<A>, A>,
     alloc: &A,
@@ -85,7 +85,7 @@ fn place_last<A: Allocator + Clone, B: Allocator + Clone>(
     at
 }
 
-// Takes the list's processes from `at` on out of the table.
+// Removes the list's processes from index `at` on from the table.
 fn take_out<A: Allocator + Clone, B: Allocator + Clone>(
     processes: &mut BTreeMap<Pid, Process<A>, A>,
     list: &[Lost<B>],
@@ -99,7 +99,7 @@ fn take_out<A: Allocator + Clone, B: Allocator + Clone>(
     }
 }
 
-// All of them, or none.
+// Inserts all of them, or none.
 pub(crate) fn place_each<A: Allocator + Clone, B: Allocator + Clone>(
     processes: &mut BTreeMap<Pid, Process<A>, A>,
     alloc: &A,
@@ -122,8 +122,8 @@ pub(crate) fn place_each<A: Allocator + Clone, B: Allocator + Clone>(
 }
 
 impl<A: Allocator + Clone, M: Meter> Charges<A, M> {
-    /// Puts the listed processes where they were, charged at the leaf of `who`, or none of them. All charges go to the
-    /// meter at once. It may wait for the threads that do a part of the charges.
+    /// Puts the listed processes back into their groups, charged at the leaf of `who`, or none of them. Passes all charges
+    /// to the meter at once. It may wait for the threads that do parts of the settlement.
     ///
     /// # Errors
     ///
@@ -148,7 +148,7 @@ impl<A: Allocator + Clone, M: Meter> Charges<A, M> {
         }
     }
 
-    // The same.
+    // The same for a slice.
     fn place_listed<R: Threads, B: Allocator + Clone>(
         &mut self,
         rt: &R,

@@ -14,10 +14,10 @@ use std::marker::Model;
 use std::thread::Threads;
 use striped_adder::Stripes;
 
-/// How many slots there are.
+/// The number of slots.
 pub const SLOTS: usize = 1024;
 
-/// How many leaves a slot has, and as many stripes.
+/// The number of leaves of a slot, and of its stripes.
 pub const LEAVES: usize = 8;
 
 // The numbers at the leaves of one slot, and the stripes that add up to them.
@@ -80,7 +80,7 @@ impl Row {
     }
 }
 
-/// A meter of plain numbers: for each of 1,024 slots, a number for each of 8 leaves, and 8 stripes that add up to them.
+/// A meter of plain numbers: for each of 1,024 slots, a number for each of 8 leaves, and 8 stripes with the same sum.
 #[derive(Drop)]
 pub struct PlainMeter<A: Allocator> {
     rows: Vec<Row, A>,
@@ -99,7 +99,7 @@ impl<A: Allocator> Model for PlainMeter<A> {
 }
 
 impl<A: Allocator> PlainMeter<A> {
-    /// An empty meter, in one block.
+    /// An empty meter, in one allocation.
     ///
     /// # Errors
     ///
@@ -117,7 +117,7 @@ impl<A: Allocator> PlainMeter<A> {
 }
 
 impl<A: Allocator> PlainMeter<A> {
-    // Calls the test hook; then the leaving charges go before the arriving ones come.
+    // Calls the test hook, then removes the leaving charges, then adds the arriving ones.
     fn do_part(
         &mut self,
         gate: &(dyn Gate + Sync),
@@ -142,7 +142,7 @@ impl<A: Allocator> PlainMeter<A> {
         }
     }
 
-    // The parts from 1 to `parts`, one after another, and part 1 where that is 0.
+    // Does the parts 1 to `parts` one after another, or part 1 if that is 0.
     fn settle_parts(
         &mut self,
         gate: &(dyn Gate + Sync),

@@ -1,4 +1,4 @@
-//! What the table of processes keeps of a process beside its pid.
+//! What the table of processes stores for each pid.
 
 use group_path::GroupPath;
 use std::alloc::Allocator;

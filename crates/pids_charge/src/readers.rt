@@ -1,4 +1,4 @@
-//! What is read of groups and processes.
+//! Reading groups and processes.
 
 ghost use Rattle.std.specs.Prelude.{◌≡◌, ◌&&◌, ◌++◌, not, is_some, false, true, map, filter, IfOk, IsOk, IfSome, MatchOption, option_map};
 ghost use Rattle.std.specs.Option.{option_copied};
@@ -35,14 +35,14 @@ fn members_of<A: Allocator + Clone, B: Allocator, P: Allocator + Clone>(
 }
 
 impl<A: Allocator + Clone, M: Meter> Charges<A, M> {
-    /// What the group at the path has; None where there is no such group. Costs one descent of the tree.
+    /// The attributes of the group at the path; None if there is no such group. Costs one descent of the tree.
     pub fn attr<B: Allocator + Clone>(&self, path: &GroupPath<B>) -> Option<&Attr>
         ensures { option_map group_of (option_copied result) ≡ fin.get self.now.groups path.now }
     {
         self.tree.find(path)
     }
 
-    /// How many groups are strictly below the one at the path; None where there is no such group. The count is kept, so
+    /// How many groups are strictly below the group at the path; None if there is no such group. The number is stored, so
     /// this costs one descent of the tree.
     pub fn descendants<B: Allocator + Clone>(&self, path: &GroupPath<B>) -> Option<u64>
         ensures some { is_some result ≡ is_group self.now path.now }
@@ -52,7 +52,7 @@ impl<A: Allocator + Clone, M: Meter> Charges<A, M> {
         self.tree.descendants(path)
     }
 
-    /// The group of a process; None where there is no such process. In O(log processes).
+    /// The group of a process; None if there is no such process. O(log processes).
     pub fn home(&self, pid: Pid) -> Option<&GroupPath<A>>
         ensures { option_map (λ home. home.now) result ≡ fin.get self.now.home pid }
     {
@@ -62,11 +62,11 @@ impl<A: Allocator + Clone, M: Meter> Charges<A, M> {
         }
     }
 
-    /// The processes of the group itself, ascending; None where there is no such group. It goes over all processes.
+    /// The processes of the group itself, ascending; None if there is no such group. Visits all processes.
     ///
     /// # Errors
     ///
-    /// `AllocError` where there was no memory for the list. None is asked for where there is no such group.
+    /// `AllocError` if the allocation of the list fails. If there is no such group, nothing is allocated.
     pub fn members<B: Allocator, P: Allocator + Clone>(
         &self,
         alloc: B,
@@ -82,8 +82,8 @@ impl<A: Allocator + Clone, M: Meter> Charges<A, M> {
         Ok(Some(pids))
     }
 
-    /// How many processes are at or below a group; None for the root and where there is no such group. Costs one descent
-    /// of the tree.
+    /// How many processes are at or below a group; None for the root, and if there is no such group. Costs one descent of
+    /// the tree.
     pub fn current<B: Allocator + Clone>(&mut self, path: &GroupPath<B>) -> Option<u64>
         ensures some { is_some result ≡ (not (is_root path.now) && is_group self.old path.now) }
         ensures count { IfSome result (λ n. n ≡ flat.current self.old path.now) }
@@ -100,8 +100,8 @@ impl<A: Allocator + Clone, M: Meter> Charges<A, M> {
         Some(self.meter.current(slot))
     }
 
-    /// Whether there is a process at or below a group; None for the root and where there is no such group. Costs one
-    /// descent of the tree.
+    /// Whether a process is at or below a group; None for the root, and if there is no such group. Costs one descent of the
+    /// tree.
     pub fn populated<B: Allocator + Clone>(&mut self, path: &GroupPath<B>) -> Option<bool>
         ensures some { is_some result ≡ (not (is_root path.now) && is_group self.old path.now) }
         ensures told { IfSome result (λ b. b ≡ flat.populated self.old path.now) }

@@ -1,4 +1,4 @@
-//! The removal of groups, and what takes it back.
+//! Removing groups, and undoing a removal.
 
 ghost use Rattle.std.specs.Prelude.{◌≡◌, ◌≢◌, ◌≤◌, length, IsOk, Some, None, IsSome, IfSome, IfOk, IfErr, OnErr, OnOk, MatchOption};
 ghost use Rattle.std.specs.FinMap as fin;
@@ -17,7 +17,7 @@ use group_tree::Attr;
 use std::alloc::Allocator;
 
 impl<A: Allocator + Clone, M: Meter> Charges<A, M> {
-    /// Why the group may not be removed, if it may not: what `rmdir` would be refused. It costs one descent of the tree.
+    /// The refusal that `rmdir` would return. Costs one descent of the tree.
     pub fn refuses_rmdir<B: Allocator + Clone>(
         &mut self,
         path: &GroupPath<B>,
@@ -45,8 +45,8 @@ impl<A: Allocator + Clone, M: Meter> Charges<A, M> {
         None
     }
 
-    /// Takes out a group that `rmdir` would not refuse, and frees its slot. What it had is answered. It takes no memory, and
-    /// costs one descent of the tree.
+    /// Removes a group that `rmdir` would not refuse, frees its slot, and returns its attributes. Allocates nothing. Costs
+    /// one descent of the tree.
     pub fn take_group<B: Allocator + Clone>(&mut self, path: &GroupPath<B>) -> Attr
         requires { refusal M.SLOTS self.old (RemoveGroup path.now) ≡ None }
         ensures state { self.new ≡ after self.old (RemoveGroup path.now) }
@@ -63,14 +63,12 @@ impl<A: Allocator + Clone, M: Meter> Charges<A, M> {
         attr
     }
 
-    /// Removes a group that has no groups below it and no processes. What it had is answered. It takes no memory, and
-    /// costs two descents of the tree: that there are no processes is known from their count. The groups above it keep
-    /// their event totals.
+    /// Removes a group that has no groups below it and no processes, and returns its attributes. Allocates nothing. Costs
+    /// two descents of the tree: the count says whether there are processes. The groups above it keep their event totals.
     ///
     /// # Errors
     ///
-    /// The first that holds, in this order: `RootFixed`, `NoGroup`, `HasChildren`, `HasProcesses`. Nothing has changed
-    /// then.
+    /// The first of these that applies: `RootFixed`, `NoGroup`, `HasChildren`, `HasProcesses`. Nothing has changed then.
     pub fn rmdir<B: Allocator + Clone>(&mut self, path: &GroupPath<B>) -> Result<Attr, ChargeFault>
         ensures state { Does M.SLOTS self.old (RemoveGroup path.now) path.now result self.new }
         ensures inside { IfErr result (λ f. names_in f ≤ length path.now) }
@@ -83,8 +81,8 @@ impl<A: Allocator + Clone, M: Meter> Charges<A, M> {
         Ok(self.take_group(path))
     }
 
-    /// Puts a group back with its limits, event totals and peak, on any free slot: the slot in `attr` binds nothing. No limit
-    /// of the groups above it is asked. Costs one descent of the tree.
+    /// Puts a group back with its limits, event totals and peak, on any free slot; the slot in `attr` is ignored. Tests no
+    /// limit of the groups above it. Costs one descent of the tree.
     ///
     /// # Errors
     ///

@@ -1,4 +1,4 @@
-//! Walks along a path, over the parts of a `Charges`: each goes down the tree once.
+//! Walks along a path, over the parts of a `Charges`. Each descends the tree once.
 
 ghost use Rattle.std.specs.Prelude.{◌≡◌, ℕ, ◌+◌, ◌<◌, ◌≤◌, length, IsSome, OnOk};
 ghost use Rattle.std.specs.FinMap as fin;
@@ -11,7 +11,7 @@ use group_tree::GroupTree;
 use snzi_core::Token;
 use std::alloc::{AllocError, Allocator};
 
-// One charge at each group along the path.
+// Adds one charge at each group along the path.
 pub(crate) fn charge_along<T: Allocator, M: Meter, A: Allocator + Clone>(
     tree: &GroupTree<T>,
     meter: &mut M,
@@ -31,7 +31,7 @@ pub(crate) fn charge_along<T: Allocator, M: Meter, A: Allocator + Clone>(
     }
 }
 
-// One charge less at each group along the path.
+// Removes one charge at each group along the path.
 pub(crate) fn uncharge_along<T: Allocator, M: Meter, A: Allocator + Clone>(
     tree: &GroupTree<T>,
     meter: &mut M,
@@ -53,7 +53,7 @@ pub(crate) fn uncharge_along<T: Allocator, M: Meter, A: Allocator + Clone>(
     }
 }
 
-// A token for each group along the path.
+// Appends a token for each group along the path.
 pub(crate) fn push_tokens<M: Meter, T: Allocator, A: Allocator + Clone, B: Allocator>(
     tree: &GroupTree<T>,
     path: &GroupPath<A>,

@@ -1,4 +1,4 @@
--- The balance of words and hands, and what is present.
+-- The balance between words and hands, and which tokens are present.
 use Rattle.std.specs.Prelude.{◌≡◌, ◌≢◌, ℕ, zero, suc, ◌+◌, ◌%◌, ◌^◌, ◌<◌, ◌≤◌, List, [], ◌∷◌, slice_index}
 use mathlib.Core.Option.{some}
 use lib.ListN.{get_elem?}
@@ -13,12 +13,12 @@ abbrev pub total : (Holding → ℕ) → List Holding → ℕ
 total f [] = 0
 total f (h ∷ hs) = f h + total f hs
 
--- 1 where the number is not zero
+-- 1 if the number is not zero, else 0
 abbrev pub up : ℕ → ℕ
 up zero = 0
 up (suc n) = 1
 
--- the balance of one word: a node is the hands' tokens there and its children that are not zero, a stripe the hands' amounts
+-- the balance of one word: a node is the hands' tokens there plus its children that are not zero; a stripe is the hands' amounts
 abbrev pub Stands : List ℕ → List Holding → ℕ → Line → Type 0
 Stands words hands i (inner a b) = slice_index words i ≡ total (tokens_at i) hands + (up (slice_index words a) + up (slice_index words b))
 Stands words hands i leaf = slice_index words i ≡ total (tokens_at i) hands
@@ -37,12 +37,12 @@ helpers h = helper_weight h.role
 abbrev pub outs : Holding → ℕ
 outs h = out h.role
 
--- what holds of each hand
+-- P holds of each hand
 abbrev pub Each : (Holding → Type 0) → List Holding → Type 0
 Each P [] = Unit {0}
 Each P (h ∷ hs) = P h × Each P hs
 
--- a hand within the cap of tokens at a node; a spent one holds nothing
+-- a hand has at most the cap of tokens at each node; a spent one holds nothing
 abbrev pub Within : Holding → Type 0
 Within h = ((i : ℕ) → tokens_at i h ≤ token_cap) × (h.role ≡ Spent → (h.tokens ≡ []) × (h.amounts ≡ []))
 
@@ -54,7 +54,7 @@ Mustered hands = (total mains hands ≡ 1) × (total outs hands ≡ total helper
 abbrev pub Ruled : (ℕ → Line) → List ℕ → List Holding → Type 0
 Ruled kind words hands = Balanced kind words hands × Mustered hands
 
--- j is i or stands below it
+-- j is i or is below it
 pub data AtOrBelow (parent : ℕ → ℕ) (i : ℕ) : ℕ → Type 0 where
   here : AtOrBelow parent i i
   below : (j : ℕ) → parent j ≢ j → AtOrBelow parent i (parent j) → AtOrBelow parent i j

@@ -1,4 +1,4 @@
--- What an event changes in a hand, said for each word.
+-- How an event changes a hand, by the number of a word.
 use Rattle.std.specs.Prelude.{◌≡◌, ◌≢◌, ℕ, ◌+◌, ◌%◌, ◌^◌}
 use Rattle.snzi_core.specs.declared.holding.Holding.{Holding}
 use Rattle.snzi_core.specs.declared.holding.Role.TheVariants.{Helper}

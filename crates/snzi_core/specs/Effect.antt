@@ -1,4 +1,4 @@
--- What a lawful event makes of a core, and what a list of events does.
+-- The core after a lawful event, and after a list of events.
 use Rattle.std.specs.Prelude.{◌≡◌, ℕ, zero, suc, ◌+◌, ◌-◌, ◌%◌, ◌^◌, List, [], ◌∷◌, ◌++◌, map, take, length, replicate, slice_index, slice_set as set, Bool, true, false, cond, Some, None}
 use Rattle.std.specs.List.{range_with_len, slice_get}
 use Rattle.snzi_core.specs.declared.event.Event.{Event}
@@ -13,7 +13,7 @@ use Rattle.snzi_core.specs.Balance.{total}
 use Rattle.snzi_core.specs.State.{State, hand_of, node_of, parent_of, root_of, stripe_of}
 use Rattle.snzi_core.specs.Lawful.{count_at, is_zero, passes_up, refusal}
 
--- the core with x at the word i, and the hand as h
+-- the core with x at the word i, and with the hand replaced by h
 abbrev pub stepped : State → ℕ → ℕ → ℕ → Holding → State
 stepped k i x hand h = record { slots = k.slots; nodes = k.nodes; words = set k.words i x; hands = set k.hands hand h }
 
@@ -25,19 +25,19 @@ regrouped k hands = record { slots = k.slots; nodes = k.nodes; words = k.words; 
 abbrev pub arrived : State → ℕ → ℕ → State
 arrived k hand i = stepped k i (slice_index k.words i + 1) hand (gain (hand_of k hand) i)
 
--- one more at the word i, and a token there for that at p
+-- one more at the word i, and a token there instead of the one at p
 abbrev pub descended : State → ℕ → ℕ → ℕ → State
 descended k hand p i = stepped k i (slice_index k.words i + 1) hand (lose (gain (hand_of k hand) i) p)
 
--- one less at the word i, and no token there
+-- one less at the word i, and one token less there
 abbrev pub departed : State → ℕ → ℕ → State
 departed k hand i = stepped k i (slice_index k.words i - 1) hand (lose (hand_of k hand) i)
 
--- one less at the word i, and a token at p for that at i
+-- one less at the word i, and a token at p instead of the one at i
 abbrev pub ascended : State → ℕ → ℕ → ℕ → State
 ascended k hand p i = stepped k i (slice_index k.words i - 1) hand (gain (lose (hand_of k hand) i) p)
 
--- n more in the stripe at the word i, counted to the hand
+-- n more in the stripe at the word i, counted for the hand
 abbrev pub summed : State → ℕ → ℕ → ℕ → State
 summed k hand i n = stepped k i ((slice_index k.words i + n) % 2 ^ 64) hand (raise (hand_of k hand) i n)
 
@@ -45,11 +45,11 @@ summed k hand i n = stepped k i ((slice_index k.words i + n) % 2 ^ 64) hand (rai
 abbrev pub counts : State → List Token → List ℕ
 counts k share = map (count_at k share) (range_with_len 0 (length k.words))
 
--- main without the share, and a new hand that has it
+-- main without the share, and a new hand with the share
 abbrev pub split_off : State → List Token → State
 split_off k share = regrouped k (set k.hands 0 (keeper (hand_of k 0) (counts k share)) ++ helper_with (counts k share) (replicate (length k.words) 0) ∷ [])
 
--- main with what the helper has, and the helper's number spent
+-- main with the helper's tokens and amounts added, and the helper's number spent
 abbrev pub joined : State → ℕ → State
 joined k helper = regrouped k (set (set k.hands 0 (rejoined (hand_of k 0) (hand_of k helper))) helper (empty Spent))
 
@@ -74,7 +74,7 @@ is_split (StripeAdd hand slot stripe n) = false
 is_split (Split share) = true
 is_split (Join helper) = false
 
--- the event is refused so: out of memory is met by a lawful split alone
+-- the event is refused for this reason; only a lawful split can be out of memory
 abbrev pub Refuses : Unlawful → State → Event → Type 0
 Refuses NoHand k e = refusal k e ≡ Some NoHand
 Refuses NoToken k e = refusal k e ≡ Some NoToken
@@ -84,16 +84,16 @@ Refuses OutOfMemory k e = (refusal k e ≡ None) × (is_split e ≡ true)
 Refuses NoNode k e = refusal k e ≡ Some NoNode
 Refuses ZeroNode k e = refusal k e ≡ Some ZeroNode
 
--- the core after a list of events, each lawful where it comes
+-- the core after a list of events, each lawful at its turn
 abbrev pub Runs : State → List Event → State → Type 0
 Runs k [] k' = k' ≡ k
 Runs k (e ∷ es) k' = (refusal k e ≡ None) × Runs (after k e) es k'
 
--- the events before place i were done, and that at i is refused
+-- the events before index i were done, and the event at i is refused
 abbrev pub Stops : State → List Event → ℕ → Unlawful → State → Type 0
 Stops k es i u k' = Runs k (take i es) k' × (e : Event) × (slice_get es i ≡ Some e) × Refuses u k' e
 
--- what the hands have in the first n stripes of a slot
+-- the hands' amounts in the first n stripes of a slot
 abbrev pub slot_amounts : State → ℕ → ℕ → ℕ
 slot_amounts k slot zero = 0
 slot_amounts k slot (suc n) = slot_amounts k slot n + total (amount_at (stripe_of k slot n)) k.hands

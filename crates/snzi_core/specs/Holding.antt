@@ -4,25 +4,25 @@ use Rattle.snzi_core.specs.declared.holding.Holding.{Holding}
 use Rattle.snzi_core.specs.declared.holding.Role.{Role}
 use Rattle.snzi_core.specs.declared.holding.Role.TheVariants.{Main, Helper, Spent}
 
--- the list with x at i, after as many zeros as are missing
+-- the list with x at index i, padded with zeros if it is shorter
 abbrev pub put : List ℕ → ℕ → ℕ → List ℕ
 put [] zero x = x ∷ []
 put [] (suc i) x = 0 ∷ put [] i x
 put (y ∷ ys) zero x = x ∷ ys
 put (y ∷ ys) (suc i) x = y ∷ put ys i x
 
--- what a list has in all
+-- the sum of a list
 abbrev pub added : List ℕ → ℕ
 added [] = 0
 added (x ∷ xs) = x + added xs
 
--- what two lists have together
+-- two lists added, index by index
 abbrev pub merged : List ℕ → List ℕ → List ℕ
 merged [] ys = ys
 merged (x ∷ xs) [] = x ∷ xs
 merged (x ∷ xs) (y ∷ ys) = (x + y) ∷ merged xs ys
 
--- what is left of a list when another is taken from it
+-- one list less another, index by index
 abbrev pub without : List ℕ → List ℕ → List ℕ
 without [] ys = []
 without (x ∷ xs) [] = x ∷ xs
@@ -54,7 +54,7 @@ lose h i = record { role = h.role; tokens = put h.tokens i (slice_index h.tokens
 abbrev pub raise : Holding → ℕ → ℕ → Holding
 raise h i n = record { role = h.role; tokens = h.tokens; amounts = put h.amounts i ((slice_index h.amounts i + n) % 2 ^ 64) }
 
--- a hand with nothing
+-- a hand that holds nothing
 abbrev pub empty : Role → Holding
 empty r = record { role = r; tokens = []; amounts = [] }
 
@@ -68,7 +68,7 @@ helper_weight (Main n) = 0
 helper_weight Helper = 1
 helper_weight Spent = 0
 
--- the helpers that this hand has out
+-- how many helpers this hand has out
 abbrev pub out : Role → ℕ
 out (Main n) = n
 out Helper = 0
@@ -84,14 +84,14 @@ one_back (Main n) = Main (n - 1)
 one_back Helper = Helper
 one_back Spent = Spent
 
--- main, when a helper takes this share
+-- main after a helper took this share
 abbrev pub keeper : Holding → List ℕ → Holding
 keeper h share = record { role = one_out h.role; tokens = without h.tokens share; amounts = h.amounts }
 
--- a helper with a share of tokens, and these amounts
+-- a helper with a share of tokens and these amounts
 abbrev pub helper_with : List ℕ → List ℕ → Holding
 helper_with share amounts = record { role = Helper; tokens = share; amounts = amounts }
 
--- main, when it has a helper's tokens and amounts too
+-- main after a helper's tokens and amounts were added
 abbrev pub rejoined : Holding → Holding → Holding
 rejoined h k = record { role = one_back h.role; tokens = merged h.tokens k.tokens; amounts = wrapped (merged h.amounts k.amounts) }

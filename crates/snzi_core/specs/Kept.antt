@@ -1,4 +1,4 @@
--- What holds of every core.
+-- The invariant of a core.
 use Rattle.std.specs.Prelude.{◌≡◌, ℕ, ◌%◌, ◌<◌, ◌^◌, length, true}
 use Rattle.snzi_core.specs.declared.holding.Holding.{Holding}
 use Rattle.snzi_core.specs.Holding.{main_weight}

@@ -14,7 +14,7 @@ use Rattle.snzi_core.specs.Shape.{Line, inner, leaf, stripe, leaves}
 use Rattle.snzi_core.specs.Holding.{tokens_at, out}
 use Rattle.snzi_core.specs.State.{State, hand_of, node_of, parent_of, root_of, token_of, span, kind_of}
 
--- the names of an event are in the shape
+-- the slot, node, word or stripe that an event names is in the shape
 abbrev pub has_node : State → At → Bool
 has_node k at = nat_lt at.slot k.slots && nat_lt at.node k.nodes
 
@@ -27,7 +27,7 @@ has_stripe k slot s = nat_lt slot k.slots && nat_lt s (leaves k.nodes)
 abbrev pub has_token : State → Token → Bool
 has_token k t = nat_lt t.slot k.slots && nat_lt t.leaf (leaves k.nodes)
 
--- the hand is made and not spent
+-- the hand was made and is not spent
 abbrev pub lives : Role → Bool
 lives (Main n) = true
 lives Helper = true
@@ -41,7 +41,7 @@ helps Spent = false
 abbrev pub is_live : State → ℕ → Bool
 is_live k hand = lives (hand_of k hand).role
 
--- the hand has no token at the word, or as many as it may have
+-- the hand has no token at the word, or as many as the cap
 abbrev pub lacks : State → ℕ → ℕ → Bool
 lacks k hand i = nat_eq (tokens_at i (hand_of k hand)) 0
 
@@ -52,7 +52,7 @@ is_at_cap k hand i = nat_le token_cap (tokens_at i (hand_of k hand))
 abbrev pub is_zero : State → ℕ → Bool
 is_zero k i = nat_eq (slice_index k.words i) 0
 
--- a leave gives a token to the parent
+-- a leave moves a token to the parent
 abbrev pub passes_up : State → At → Bool
 passes_up k at = nat_eq (slice_index k.words (node_of k at)) 1 && not (nat_eq at.node 0)
 
@@ -60,7 +60,7 @@ passes_up k at = nat_eq (slice_index k.words (node_of k at)) 1 && not (nat_eq at
 abbrev pub count_at : State → List Token → ℕ → ℕ
 count_at k share i = count_by (λ t. nat_eq (token_of k t) i) share
 
--- main has as many tokens at the leaf as the share
+-- main has at least as many tokens at the leaf as the share
 abbrev pub main_covers : State → List Token → Token → Bool
 main_covers k share t = nat_le (count_at k share (token_of k t)) (tokens_at (token_of k t) (hand_of k 0))
 
@@ -68,7 +68,7 @@ main_covers k share t = nat_le (count_at k share (token_of k t)) (tokens_at (tok
 abbrev pub main_has : State → List Token → Bool
 main_has k share = list_all (main_covers k share) share
 
--- no helper more may be out, or no hand more be made
+-- no more helpers may be out, or no more hands may be made
 abbrev pub is_crowded : State → Bool
 is_crowded k = nat_le helper_cap (out (hand_of k 0).role) || nat_le (2 ^ 32 - 1) (length k.hands)
 
@@ -76,7 +76,7 @@ is_crowded k = nat_le helper_cap (out (hand_of k 0).role) || nat_le (2 ^ 32 - 1)
 abbrev pub some_word : State → (ℕ → Bool) → Bool
 some_word k test = list_any test (range_with_len 0 (length k.words))
 
--- main and the helper have more tokens at the word than one hand may have
+-- main and the helper together have more tokens at the word than one hand may have
 abbrev pub overflows : State → ℕ → ℕ → Bool
 overflows k helper i = nat_lt token_cap (tokens_at i (hand_of k 0) + tokens_at i (hand_of k helper))
 
@@ -85,15 +85,15 @@ is_inner (inner a b) = true
 is_inner leaf = false
 is_inner stripe = false
 
--- the hand has a token at a node that is no leaf
+-- the hand has a token at a node that is not a leaf
 abbrev pub stays : State → ℕ → ℕ → Bool
 stays k hand i = is_inner (kind_of k i) && nat_lt 0 (tokens_at i (hand_of k hand))
 
--- the first test that is met gives the refusal
+-- the refusal if the test holds, else the rest
 abbrev pub refuse : Bool → Unlawful → Option Unlawful → Option Unlawful
 refuse test refusal rest = cond test (Some refusal) rest
 
--- the refusal of an add in a stripe, whatever is added
+-- the refusal of an add in a stripe, whatever the amount
 abbrev pub refuses_stripe_add : State → ℕ → ℕ → ℕ → Option Unlawful
 refuses_stripe_add k hand slot s = refuse (not (has_stripe k slot s)) NoNode (refuse (not (is_live k hand)) NoHand None)
 
@@ -101,7 +101,7 @@ refuses_stripe_add k hand slot s = refuse (not (has_stripe k slot s)) NoNode (re
 abbrev pub refuses_split : State → List Token → Option Unlawful
 refuses_split k share = refuse (not (list_all (has_token k) share)) NoNode (refuse (not (main_has k share)) NoToken (refuse (is_crowded k) Cap None))
 
--- the refusal of an event, none where it is lawful within the caps
+-- the refusal of an event, or None if it is lawful within the caps
 abbrev pub refusal : State → Event → Option Unlawful
 refusal k (Load hand slot word) = refuse (not (has_word k slot word)) NoNode (refuse (not (is_live k hand)) NoHand None)
 refusal k (FastAdd hand at) =

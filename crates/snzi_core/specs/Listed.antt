@@ -11,7 +11,7 @@ one_at slot leaf s j = cond (eqb slot s && eqb leaf j) 1 0
 abbrev pub listed_at : List Token → ℕ → ℕ → ℕ
 listed_at tokens s j = sum_by (λ t. one_at t.slot t.leaf s j) tokens
 
--- each token is at a slot and a leaf below these
+-- each token is at a slot and a leaf below these numbers
 abbrev pub IsWithin : ℕ → ℕ → List Token → Type 0
 IsWithin slots leaves tokens = All (λ t. (t.slot < slots) × (t.leaf < leaves)) tokens
 

@@ -1,7 +1,7 @@
--- A slot's words: nodes in heap shape, then stripes.
+-- The words of a slot: nodes in heap order, then stripes.
 use Rattle.std.specs.Prelude.{◌≡◌, ◌≢◌, ℕ, ◌+◌, ◌-◌, ◌*◌, ◌/◌, ◌%◌, ◌<◌, ◌⊎◌, cond, nat_lt}
 
--- what a word is: a node with its two children, a node with none, or a stripe
+-- the kind of a word: a node with two children, a node with none, or a stripe
 pub data Line : Type 0 where
   inner : ℕ → ℕ → Line
   leaf : Line
@@ -18,24 +18,24 @@ line w s i = line_at w (i % s) i
 abbrev pub parent_at : ℕ → ℕ → ℕ → ℕ
 parent_at w k i = cond (nat_lt k w) (i - k + (k - 1) / 2) i
 
--- the parent's word; a root and a stripe are their own
+-- the parent's word; a root and a stripe are their own parents
 abbrev pub parent : ℕ → ℕ → ℕ → ℕ
 parent w s i = parent_at w (i % s) i
 
--- what the laws ask of a shape: two children have their node as parent, and a word with a parent is a child of it
+-- what the laws require of a shape: the parent of two children is their node, and a word with a parent is a child of it
 pub record Family (kind : ℕ → Line) (parent : ℕ → ℕ) : Type 0 where
   pub children : (i a b : ℕ) → kind i ≡ inner a b → (parent a ≡ i) × (parent b ≡ i) × (i < a) × (a < b) × (kind a ≢ stripe) × (kind b ≢ stripe)
   pub child : (j : ℕ) → parent j ≢ j → (x : ℕ) × ((kind (parent j) ≡ inner j x) ⊎ (kind (parent j) ≡ inner x j))
 
--- w nodes, of which each has two children or none, among s words of a slot
+-- w nodes, each with two children or none, among the s words of a slot
 abbrev pub IsShape : ℕ → ℕ → Type 0
 IsShape w s = (w % 2 ≡ 1) × (w < s)
 
--- the leaves, and the stripes, of w nodes
+-- the number of leaves, and of stripes, for w nodes
 abbrev pub leaves : ℕ → ℕ
 leaves w = (w + 1) / 2
 
--- the words of a node and of a stripe of a slot, where a slot has w nodes and l stripes
+-- the words of a node and of a stripe of a slot, if a slot has w nodes and l stripes
 abbrev pub node_word : ℕ → ℕ → ℕ → ℕ → ℕ
 node_word w l slot node = slot * (w + l) + node
 

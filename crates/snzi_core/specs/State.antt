@@ -1,4 +1,4 @@
--- A core as contracts see it: its words, and its hands by their numbers.
+-- A core as contracts see it: its words, and its hands by number.
 use Rattle.std.specs.Prelude.{◌≡◌, ℕ, ◌+◌, ◌-◌, ◌*◌, ◌/◌, List, [], ◌∷◌, replicate, slice_index_or}
 use Rattle.snzi_core.specs.declared.event.At.{At}
 use Rattle.snzi_core.specs.declared.event.Token.{Token}
@@ -9,7 +9,7 @@ use Rattle.snzi_core.specs.Shape.{Line, line, parent, leaves, node_word, stripe_
 use Rattle.snzi_core.specs.Holding.{empty}
 use Rattle.snzi_core.specs.Balance.{Ruled}
 
--- slots of nodes in heap shape and their stripes; words and hands by number
+-- slots of nodes in heap order and their stripes; words and hands by number
 pub record State : Type 0 where
   pub slots : ℕ
   pub nodes : ℕ
@@ -39,11 +39,11 @@ stripe_of k slot n = stripe_word k.nodes (leaves k.nodes) slot n
 abbrev pub token_of : State → Token → ℕ
 token_of k t = leaf_word k.nodes (leaves k.nodes) t.slot t.leaf
 
--- the hand of a number; one that was never made is spent
+-- the hand of a number; a number that was never made is spent
 abbrev pub hand_of : State → ℕ → Holding
 hand_of k id = slice_index_or k.hands id (empty Spent)
 
--- what each word of the core is, and the parent's word
+-- the kind of each word of the core, and the parent's word
 abbrev pub kind_of : State → ℕ → Line
 kind_of k = line k.nodes (span k)
 
@@ -54,14 +54,14 @@ above k = parent k.nodes (span k)
 abbrev pub fresh : ℕ → Role → Holding
 fresh n r = record { role = r; tokens = replicate n 0; amounts = replicate n 0 }
 
--- all words zero, and the main hand, which has nothing
+-- all words zero, and the main hand, which holds nothing
 abbrev pub start : ℕ → ℕ → State
 start slots nodes = record { slots = slots; nodes = nodes; words = replicate (size slots nodes) 0; hands = fresh (size slots nodes) (Main 0) ∷ [] }
 
--- the rule that a core keeps: the balance and the caps
+-- the invariant of a core: the balance and the caps
 abbrev pub IsRuled : State → Type 0
 IsRuled k = Ruled (kind_of k) k.words k.hands
 
--- the slots and nodes stay
+-- the number of slots and of nodes stays
 abbrev pub SameShape : State → State → Type 0
 SameShape k k' = (k'.slots ≡ k.slots) × (k'.nodes ≡ k.nodes)

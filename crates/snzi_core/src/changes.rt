@@ -1,4 +1,4 @@
-//! What a step does to a word and a hand.
+//! How a step changes a word and a hand.
 ghost use Rattle.std.specs.Prelude.{◌≡◌, ◌≢◌, ℕ, ◌+◌, ◌-◌, ◌*◌, ◌/◌, ◌%◌, ◌^◌, ◌<◌, ◌≤◌, length, slice_index, true};
 ghost use Rattle.snzi_core.specs.Caps.{token_cap};
 ghost use Rattle.snzi_core.specs.Holding.{tokens_at};
@@ -23,7 +23,7 @@ impl<A: Allocator + Clone> Core<A> {
         self.hands[hand as usize].gain(word);
     }
 
-    // One more at a word, and a token there for that at the parent.
+    // One more at a word, and a token there instead of the one at the parent.
     pub(crate) fn descend(&mut self, hand: u32, parent: usize, word: usize)
         requires place { (parent < length self.old.words) × (word < length self.old.words) × (parent ≢ word) }
         requires live { is_live self.old hand ≡ true }
@@ -36,7 +36,7 @@ impl<A: Allocator + Clone> Core<A> {
         self.hands[hand as usize].descend(parent, word);
     }
 
-    // One less at a word, and no token there.
+    // One less at a word, and one token less there.
     pub(crate) fn depart(&mut self, hand: u32, word: usize)
         requires place { word < length self.old.words }
         requires live { is_live self.old hand ≡ true }
@@ -48,7 +48,7 @@ impl<A: Allocator + Clone> Core<A> {
         self.hands[hand as usize].lose(word);
     }
 
-    // One less at a word, and a token at the parent for that at the word.
+    // One less at a word, and a token at the parent instead of the one at the word.
     pub(crate) fn ascend(&mut self, hand: u32, parent: usize, word: usize)
         requires place { (parent < length self.old.words) × (word < length self.old.words) × (parent ≢ word) }
         requires live { is_live self.old hand ≡ true }
@@ -61,7 +61,7 @@ impl<A: Allocator + Clone> Core<A> {
         self.hands[hand as usize].ascend(parent, word);
     }
 
-    // More in a stripe, counted to the hand.
+    // More in a stripe, counted for the hand.
     pub(crate) fn add(&mut self, hand: u32, word: usize, n: u64)
         requires place { word < length self.old.words }
         requires live { is_live self.old hand ≡ true }

@@ -1,4 +1,4 @@
-//! What an event asks of a core, test by test.
+//! The tests that decide whether an event is lawful.
 ghost use Rattle.std.specs.Prelude.{◌≡◌, ℕ, ◌+◌, ◌-◌, ◌*◌, ◌/◌, ◌%◌, ◌^◌, ◌<◌, ◌≤◌, length, slice_index, nat_lt};
 ghost use Rattle.std.specs.List.{list_all};
 ghost use Rattle.snzi_core.specs.Caps.{token_cap};
@@ -43,7 +43,7 @@ impl<A: Allocator + Clone> Core<A> {
         slot < self.slots
     }
 
-    // What a hand is; one that was never made is spent.
+    // The role of a hand; a number that was never made is spent.
     pub(crate) fn role(&self, hand: u32) -> Role
         ensures { result ≡ (hand_of self.now hand).role }
     {
@@ -100,7 +100,7 @@ impl<A: Allocator + Clone> Core<A> {
         self.words[word] == 0
     }
 
-    // Whether a leave gives a token to the parent.
+    // Whether a leave moves a token to the parent.
     pub(crate) fn passes_up(&self, at: At) -> bool
         requires { (at.slot < self.now.slots) × (at.node < self.now.nodes) }
         ensures { result ≡ passes_up self.now at }
@@ -136,7 +136,7 @@ impl<A: Allocator + Clone> Core<A> {
         share.iter().all(|token| self.has_token(*token))
     }
 
-    // Whether main has as many tokens at a leaf as a share.
+    // Whether main has at least as many tokens at a leaf as a share.
     pub(crate) fn main_covers(&self, share: &[Token], token: Token) -> bool
         ensures { result ≡ main_covers self.now share.now token }
     {
@@ -151,14 +151,14 @@ impl<A: Allocator + Clone> Core<A> {
         share.iter().all(|token| self.main_covers(share, *token))
     }
 
-    // Whether no helper more may be out, or no hand more be made.
+    // Whether no more helpers may be out, or no more hands may be made.
     pub(crate) fn is_crowded(&self) -> bool
         ensures { result ≡ is_crowded self.now }
     {
         HELPER_CAP <= self.helpers_out() || u32::MAX as usize <= self.hands.len()
     }
 
-    // Whether main and a helper have too many tokens together at some word.
+    // Whether main and a helper together have too many tokens at some word.
     pub(crate) fn overflows(&self, helper: u32) -> bool
         ensures { result ≡ some_word self.now (overflows self.now helper) }
     {
@@ -166,7 +166,7 @@ impl<A: Allocator + Clone> Core<A> {
             < self.tokens(0, word) + self.tokens(helper, word))
     }
 
-    // Whether a word is a node that is no leaf.
+    // Whether a word is a node that is not a leaf.
     pub(crate) fn is_inner(&self, word: usize) -> bool
         ensures { result ≡ is_inner (kind_of self.now word) }
     {
@@ -174,7 +174,7 @@ impl<A: Allocator + Clone> Core<A> {
         k + k + 2 < self.nodes as usize
     }
 
-    // Whether a hand has a token at a node that is no leaf.
+    // Whether a hand has a token at a node that is not a leaf.
     pub(crate) fn stays(&self, hand: u32) -> bool
         ensures { result ≡ some_word self.now (stays self.now hand) }
     {

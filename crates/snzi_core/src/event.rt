@@ -7,7 +7,7 @@ pub struct At {
     pub node: u8,
 }
 
-/// An arrival at a leaf of a slot. Of w nodes, leaf j is node (w - 1) / 2 + j.
+/// An arrival at a leaf of a slot. If the slot has w nodes, leaf j is node (w - 1) / 2 + j.
 #[derive(Clone, Copy)]
 pub struct Token {
     pub slot: u16,
@@ -17,46 +17,46 @@ pub struct Token {
 /// One step of one hand. Main is hand 0.
 #[derive(Clone, Copy)]
 pub enum Event<'a> {
-    /// Reads a word: of w nodes and l stripes, words 0 to w - 1 are nodes and w to w + l - 1 stripes.
+    /// Reads a word. If a slot has w nodes and l stripes, words 0 to w - 1 are nodes and words w to w + l - 1 are stripes.
     Load {
         hand: u32,
         slot: u16,
         word: u8,
     },
-    /// One more at a node that is not zero: a token there.
+    /// Adds one at a node that is not zero. The hand gets a token there.
     FastAdd {
         hand: u32,
         at: At,
     },
-    /// One more at a root: a token there.
+    /// Adds one at a root. The hand gets a token there.
     RootAdd {
         hand: u32,
         slot: u16,
     },
-    /// One more at a node below a root, by a hand with a token at the parent: a token at the node.
-    /// The parent's token is used up where the node was zero.
+    /// Adds one at a node below a root, by a hand with a token at the parent. The hand gets a token at the node. If the node
+    /// was zero, the parent's token is used up.
     ChildAdd {
         hand: u32,
         at: At,
     },
-    /// One less at a node, for one of the hand's tokens there. Where a node below a root becomes
-    /// zero, the hand has a token at the parent instead.
+    /// Subtracts one at a node, for one of the hand's tokens there. If a node below a root becomes zero, the hand gets a
+    /// token at the parent.
     Leave {
         hand: u32,
         at: At,
     },
-    /// `n` more in a stripe, modulo 2^64.
+    /// Adds `n` in a stripe, modulo 2^64.
     StripeAdd {
         hand: u32,
         slot: u16,
         stripe: u8,
         n: u64,
     },
-    /// Main gives these tokens to a new hand, which has the number of hands made before.
+    /// Main gives these tokens to a new hand, whose number is the number of hands made before.
     Split {
         share: &'a [Token],
     },
-    /// Main takes back what a helper has, and the helper's number is spent.
+    /// Main takes all that a helper has. The helper's number is then spent.
     Join {
         helper: u32,
     },

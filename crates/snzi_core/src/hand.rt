@@ -9,7 +9,7 @@ use crate::table::{add_each, subtract_each, wrapping_add_each};
 use std::alloc::{AllocError, Allocator};
 use std::marker::Model;
 
-// Tokens and amounts have an entry for each word, so that one number finds all of them. A spent hand has none.
+// Tokens and amounts have an entry for each word, so that one number finds all of them. A spent hand has no entries.
 #[derive(Drop)]
 pub(crate) struct Hand<A: Allocator> {
     role: Role,
@@ -76,7 +76,7 @@ impl<A: Allocator> Hand<A> {
         self.amounts[word] = self.amounts[word].wrapping_add(n);
     }
 
-    // A token at a word for that at its parent.
+    // Replaces a token at the parent of a word by one at the word.
     pub(crate) fn descend(&mut self, parent: usize, word: usize)
         requires place { (parent < length self.old.tokens) × (word < length self.old.tokens) × (parent ≢ word) }
         requires room { tokens_at word self.old < token_cap }
@@ -87,7 +87,7 @@ impl<A: Allocator> Hand<A> {
         self.lose(parent);
     }
 
-    // A token at the parent of a word for that at the word.
+    // Replaces a token at a word by one at its parent.
     pub(crate) fn ascend(&mut self, parent: usize, word: usize)
         requires place { (parent < length self.old.tokens) × (word < length self.old.tokens) × (parent ≢ word) }
         requires room { tokens_at parent self.old < token_cap }
@@ -98,7 +98,7 @@ impl<A: Allocator> Hand<A> {
         self.gain(parent);
     }
 
-    // Gives the tokens of a new helper away, which is out then.
+    // Gives away the tokens of a new helper, which is then out.
     pub(crate) fn give(&mut self, helper: &Hand<A>)
         requires len { length helper.now.tokens ≡ length self.old.tokens }
         requires enough { (i : ℕ) → tokens_at i helper.now ≤ tokens_at i self.old }
@@ -111,7 +111,7 @@ impl<A: Allocator> Hand<A> {
         }
     }
 
-    // Takes what a helper has, which is back then.
+    // Takes all that a helper has, which is then no longer out.
     pub(crate) fn absorb(&mut self, helper: &Hand<A>)
         requires tokens { length helper.now.tokens ≡ length self.old.tokens }
         requires amounts { length helper.now.amounts ≡ length self.old.amounts }
@@ -125,7 +125,7 @@ impl<A: Allocator> Hand<A> {
         }
     }
 
-    // Has nothing more, and gives its memory back.
+    // Gives up everything and frees the memory.
     pub(crate) fn spend(&mut self)
         ensures { self.new ≡ empty Role.Spent }
     {

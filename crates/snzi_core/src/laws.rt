@@ -1,7 +1,7 @@
-//! The laws of words and hands, each the contract of a function that is proof only.
+//! The laws of words and hands. Each is the contract of a function that is proof only.
 //!
-//! They speak of lists of words by flat number and of lists of hands as plain data
-//! (`specs/Laws.antt`), so that a rule over atomic words can use them as they stand.
+//! They are stated over lists of words and lists of hands as plain data (`specs/Laws.antt`), so
+//! that a rule over atomic words can use them unchanged.
 ghost use Rattle.snzi_core.specs.Laws.{LoadKeeps, FastAddKeeps, RootAddKeeps, ChildAddKeeps, LeaveKeeps, StripeAddKeeps, SplitKeeps, JoinKeeps, TellsPresence, MainKnows, WordsAreSmall, ListsKeep};
 
 /// A load keeps the balance and the caps.
@@ -44,17 +44,17 @@ pub fn join_keeps()
     ensures { JoinKeeps }
 {}
 
-/// A node's word is positive exactly where some hand has a token there or below.
+/// A node's word is positive exactly if some hand has a token at the node or below it.
 pub fn words_tell_presence()
     ensures { TellsPresence }
 {}
 
-/// Main with no helper out knows every sum, and where a token is present.
+/// Main with no helper out knows every sum, and at which nodes a token is present.
 pub fn main_knows()
     ensures { MainKnows }
 {}
 
-/// A node's word never comes near the greatest number.
+/// A node's word is always far below the greatest u64.
 pub fn words_are_small()
     ensures { WordsAreSmall }
 {}

@@ -1,29 +1,28 @@
 //! The counting core: an indicator tree and its stripes as a machine over events.
 //!
-//! A core has slots. Each slot has nodes in heap shape, of which each counts in one word, and as
-//! many stripes as leaves. The nodes are an indicator after the tree of "SNZI: Scalable NonZero
-//! Indicators" (Ellen, Lev, Luchangco, Moir, PODC 2007): a node arrives at its parent when it
-//! leaves zero and departs there when it returns to zero. The stripes keep one sum, as
-//! `LongAdder` of `java.util.concurrent.atomic` does. Hands act on them: main, which is hand 0, and
-//! the helpers that it splits off. A token is an arrival that a hand has made and not taken back.
-//! No word here is atomic: a core says, one event at a time, what a board of atomic words may do.
+//! A core has slots. Each slot has nodes in heap order, one word each, and as many stripes as
+//! leaves. The nodes are an indicator after "SNZI: Scalable NonZero Indicators" (Ellen, Lev,
+//! Luchangco, Moir, PODC 2007): a node arrives at its parent when it leaves zero, and departs there
+//! when it returns to zero. The stripes keep one sum, as `LongAdder` of
+//! `java.util.concurrent.atomic` does. Hands act on the slots: main, which is hand 0, and the
+//! helpers that it splits off. A token is an arrival of a hand that has not departed. No word here
+//! is atomic: a core says, one event at a time, what a board of atomic words may do.
 //!
 //! What a user can rely on:
-//! - `step` does an event where it is lawful within the caps, and else gives the first refusal and
-//!   changes nothing; `replay` stops at the first event that is refused;
-//! - after every event each node's word is the hands' tokens there and the number of its children
-//!   that are not zero, and each stripe is the hands' amounts there, modulo 2^64;
-//! - so `query`, which reads one word and no hand, tells whether some hand has a token at the node
-//!   or below it, and `sum` is what all hands have in the slot's stripes;
-//! - out of memory is answered by `new` and by a split alone, and leaves everything.
+//! - `step` does an event if it is lawful within the caps. Otherwise it returns the first refusal
+//!   and changes nothing. `replay` stops at the first event that is refused.
+//! - After every event each node's word is the hands' tokens there plus the number of its children
+//!   that are not zero, and each stripe is the hands' amounts there, modulo 2^64.
+//! - So `query`, which reads one word and no hand, says whether some hand has a token at the node
+//!   or below it, and `sum` is the hands' amounts in all stripes of the slot.
+//! - Only `new` and a split can be out of memory; then nothing changes.
 //!
-//! What is not promised: a retry loop, a version number or the half value of the published tree;
-//! anything about threads. A hand's number binds nothing outside the core.
+//! Not promised: the published tree's retry loop, version number and half value; anything about
+//! threads. A hand's number means nothing outside the core.
 //!
-//! The definitions stand in `specs/`: the shape of a slot (`Shape`), what a hand has and how it
-//! changes (`Holding`, `Changes`), the caps (`Caps`), the balance and
-//! presence (`Balance`), the state that
-//! contracts see (`State`), the table of refusals (`Lawful`) and of effects (`Effect`). The laws
+//! The definitions are in `specs/`: the shape of a slot (`Shape`), what a hand holds and how it
+//! changes (`Holding`, `Changes`), the caps (`Caps`), the balance and presence (`Balance`), the
+//! state that contracts see (`State`), the refusals (`Lawful`) and the effects (`Effect`). The laws
 //! that other rules over words can use are the contracts of the module `laws` (`specs/Laws`).
 #![tactic(auto)]
 

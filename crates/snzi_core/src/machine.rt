@@ -29,9 +29,8 @@ impl<A: Allocator + Clone> Model for Core<A> {
 }
 
 impl<A: Allocator + Clone> Core<A> {
-    /// A core of `slots` slots with `nodes` nodes each: all words zero, and main with nothing.
-    ///
-    /// Takes memory for three numbers a word. An error only where that is refused.
+    /// A core of `slots` slots with `nodes` nodes each: all words are zero, and main holds nothing.
+    /// Allocates three numbers for each word.
     ///
     /// # Errors
     ///

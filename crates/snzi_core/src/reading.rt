@@ -18,7 +18,7 @@ impl<A: Allocator + Clone> Core<A> {
         self.words[self.node_word(at)]
     }
 
-    /// Whether some hand has a token at the node or below it. Reads the node's word alone.
+    /// Whether some hand has a token at the node or below it. Reads only the node's word.
     pub fn query(&self, at: At) -> bool
         requires { (at.slot < self.now.slots) × (at.node < self.now.nodes) }
         ensures { IsTrue result ↔ Present (above self.now) self.now.hands (node_of self.now at) }
@@ -27,7 +27,7 @@ impl<A: Allocator + Clone> Core<A> {
         self.word(at) > 0
     }
 
-    /// What all hands have in the stripes of a slot, modulo 2^64. Reads each stripe once.
+    /// The hands' amounts in all stripes of a slot, modulo 2^64. Reads each stripe once.
     pub fn sum(&self, slot: u16) -> u64
         requires { slot < self.now.slots }
         ensures { result ≡ slot_amounts self.now slot (leaves self.now.nodes) % 2 ^ 64 }
@@ -39,14 +39,14 @@ impl<A: Allocator + Clone> Core<A> {
         all
     }
 
-    // The leaves, and the stripes, of a slot.
+    // The number of leaves, and of stripes, of a slot.
     pub(crate) fn leaves(&self) -> u8
         ensures { result ≡ leaves self.now.nodes }
     {
         ((u16::from(self.nodes) + 1) / 2) as u8
     }
 
-    // The words of a slot.
+    // The number of words of a slot.
     pub(crate) fn span(&self) -> u16
         ensures value { result ≡ span self.now }
         ensures bounds { (0 < result) × (result ≤ 383) }

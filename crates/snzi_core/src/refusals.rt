@@ -1,4 +1,4 @@
-//! Which refusal an event meets first, out of memory aside.
+//! Which refusal an event meets first, apart from out of memory.
 ghost use Rattle.std.specs.Prelude.{◌≡◌};
 ghost use Rattle.snzi_core.specs.Lawful.{refuses_split, refuses_stripe_add, refusal};
 ghost use Rattle.snzi_core.specs.Kept.{IsCore};
@@ -133,7 +133,7 @@ impl<A: Allocator + Clone> Core<A> {
         None
     }
 
-    // The refusal that an event meets first, none where it is lawful within the caps.
+    // The refusal that an event meets first, or None if it is lawful within the caps.
     pub(crate) fn refusal(&self, event: &Event<'_>) -> Option<Unlawful>
         ensures value { result ≡ refusal self.now event.now }
         ensures core { IsCore self.now }

@@ -1,4 +1,4 @@
-//! What a split and a join do to the hands.
+//! How a split and a join change the hands.
 ghost use Rattle.std.specs.Prelude.{◌≡◌, ◌≢◌, ℕ, ◌+◌, ◌-◌, ◌*◌, ◌/◌, ◌%◌, ◌^◌, ◌<◌, ◌≤◌, length, replicate, slice_index_or, slice_set, true, false, None, IfOk, MatchResult};
 ghost use Rattle.std.specs.List.{list_all};
 ghost use Rattle.snzi_core.specs.Holding.{tokens_at, empty, helper_with, rejoined};
@@ -13,7 +13,7 @@ use crate::holding::Role;
 use crate::machine::Core;
 use std::alloc::{AllocError, Allocator};
 
-// The first hand takes what another has, which is spent then.
+// The first hand takes all that another has, which is then spent.
 fn unite<A: Allocator>(hands: &mut [Hand<A>], helper: usize)
     requires place { (0 < helper) × (helper < length hands.old) }
     requires tokens { length (slice_index_or hands.old helper (empty Role.Spent)).tokens ≡ length (slice_index_or hands.old 0 (empty Role.Spent)).tokens }
@@ -41,7 +41,7 @@ impl<A: Allocator + Clone> Core<A> {
         Ok(helper)
     }
 
-    // Main gives a share to a new helper. The memory is made first.
+    // Main gives a share to a new helper. The helper's memory is allocated first.
     pub(crate) fn split(&mut self, share: &[Token]) -> Result<(), AllocError>
         requires { refuses_split self.old share.now ≡ None }
         ensures { MatchResult result (λ _. self.new ≡ split_off self.old share.now) (λ _. self.new ≡ self.old) }
@@ -53,7 +53,7 @@ impl<A: Allocator + Clone> Core<A> {
         Ok(())
     }
 
-    // Main takes what a helper has, whose number is spent.
+    // Main takes all that a helper has. The helper's number is then spent.
     pub(crate) fn join(&mut self, helper: u32)
         requires live { helps (hand_of self.old helper).role ≡ true }
         requires room { some_word self.old (overflows self.old helper) ≡ false }

@@ -65,7 +65,7 @@ impl<A: Allocator + Clone> Core<A> {
         self.add(hand, word, n);
     }
 
-    // Does a lawful event. Only a split may lack memory, and then nothing has changed.
+    // Does a lawful event. Only a split can be out of memory; then nothing has changed.
     fn apply(&mut self, event: &Event<'_>) -> Result<(), Unlawful>
         requires { refusal self.old event.now ≡ None }
         ensures ok { OnOk result (self.new ≡ after self.old event.now) }
@@ -93,16 +93,16 @@ impl<A: Allocator + Clone> Core<A> {
         Ok(())
     }
 
-    /// Does one event, where it is lawful within the caps; else it gives the first refusal and
+    /// Does one event if it is lawful within the caps. Otherwise returns the first refusal and
     /// changes nothing.
     ///
-    /// Only a split takes memory, two numbers a word, and compares each two tokens of its share; a
-    /// join reads each word's number of both hands. Every other event costs the same however many
-    /// words and hands there are.
+    /// Only a split allocates: two numbers for each word. It also compares every two tokens of its
+    /// share. A join reads each word's number of both hands. Every other event costs the same
+    /// however many words and hands there are.
     ///
     /// # Errors
     ///
-    /// The first refusal that holds, in the order that `Unlawful` gives.
+    /// The first refusal that applies, in the order that `Unlawful` gives.
     pub fn step(&mut self, event: &Event<'_>) -> Result<(), Unlawful>
         ensures ok { OnOk result ((refusal self.old event.now ≡ None) × (self.new ≡ after self.old event.now)) }
         ensures err { IfErr result (λ u. Refuses u self.old event.now × (self.new ≡ self.old)) }
@@ -115,12 +115,12 @@ impl<A: Allocator + Clone> Core<A> {
         }
     }
 
-    /// Does events in their order, up to the first that is refused, whose place it gives. The
-    /// earlier ones stand.
+    /// Does events in order, up to the first that is refused, and returns the index of that event.
+    /// The earlier events remain done.
     ///
     /// # Errors
     ///
-    /// The place of the first event that was refused, counted from 0, and its refusal.
+    /// The index of the first event that was refused, counted from 0, and its refusal.
     pub fn replay(&mut self, events: &[Event<'_>]) -> Result<(), (usize, Unlawful)>
         ensures runs { MatchResult result (λ _. Runs self.old events.now self.new) (λ stop. Stops self.old events.now stop.0 stop.1 self.new) }
         ensures shape { SameShape self.old self.new }

@@ -2,7 +2,7 @@
 ghost use Rattle.std.specs.Prelude.{◌≡◌, ℕ, ◌+◌, ◌-◌, ◌%◌, ◌^◌, ◌<◌, ◌≤◌, length, slice_index};
 ghost use Rattle.snzi_core.specs.Holding.{merged, without, wrapped};
 
-// Takes each number of `part` from the one at its place.
+// Subtracts each number of `part` from the one at its index.
 pub(crate) fn subtract_each(table: &mut [u64], part: &[u64])
     requires len { length part.now ≡ length table.old }
     requires enough { (i : ℕ) → slice_index part.now i ≤ slice_index table.old i }
@@ -13,7 +13,7 @@ pub(crate) fn subtract_each(table: &mut [u64], part: &[u64])
     }
 }
 
-// Adds each number of `part` to the one at its place.
+// Adds each number of `part` to the one at its index.
 pub(crate) fn add_each(table: &mut [u64], part: &[u64])
     requires len { length part.now ≡ length table.old }
     requires room { (i : ℕ) → slice_index table.old i + slice_index part.now i < 2 ^ 64 }
@@ -24,7 +24,7 @@ pub(crate) fn add_each(table: &mut [u64], part: &[u64])
     }
 }
 
-// Adds each number of `part` to the one at its place, modulo 2^64.
+// Adds each number of `part` to the one at its index, modulo 2^64.
 pub(crate) fn wrapping_add_each(table: &mut [u64], part: &[u64])
     requires { length part.now ≡ length table.old }
     ensures { table.new ≡ wrapped (merged table.old part.now) }

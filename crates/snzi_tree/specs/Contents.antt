@@ -27,7 +27,7 @@ content_of w l h s j = cond (nat_lt j l) (tokens_at (leaf_word w l s j) h) 0
 abbrev pub tokens_in : ℕ → ℕ → Holding → ℕ → ℕ
 tokens_in w l h s = over_leaves l (content_of w l h s)
 
--- no token stands above a leaf
+-- the hand has no token above a leaf
 abbrev pub AtLeaves : ℕ → ℕ → Holding → Type 0
 AtLeaves w l h = (s k : ℕ) → k < (w - 1) / 2 → tokens_at (node_word w l s k) h ≡ 0
 
@@ -35,7 +35,7 @@ AtLeaves w l h = (s k : ℕ) → k < (w - 1) / 2 → tokens_at (node_word w l s 
 abbrev pub HasIn : ℕ → ℕ → ℕ → Holding → Type 0
 HasIn w l slot h = (k : ℕ) × (k < w) × (0 < tokens_at (node_word w l slot k) h)
 
--- what the hand has in the first n stripes of the slot, and in all of them
+-- the hand's amounts in the first n stripes of the slot, and in all of them
 abbrev pub amounts_to : ℕ → ℕ → ℕ → Holding → ℕ → ℕ
 amounts_to w l slot h zero = 0
 amounts_to w l slot h (suc n) = amounts_to w l slot h n + amount_at (stripe_word w l slot n) h

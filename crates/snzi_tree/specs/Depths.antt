@@ -1,4 +1,4 @@
--- How deep a node stands, and how many steps a call may take.
+-- How deep a node is, and how many steps a call may take.
 use Rattle.std.specs.Prelude.{ℕ, zero, suc, ◌+◌, ◌-◌, ◌*◌, ◌/◌}
 use Rattle.snzi_core.specs.Balance.{AtOrBelow}
 
@@ -6,21 +6,21 @@ use Rattle.snzi_core.specs.Balance.{AtOrBelow}
 abbrev pub halved : ℕ → ℕ
 halved k = (k - 1) / 2
 
--- at is the node or stands above it
+-- `at` is the node or is above it
 abbrev pub OnPath : ℕ → ℕ → Type 0
 OnPath node at = AtOrBelow halved at node
 
--- how deep a node stands, if it is not deeper than n
+-- the depth of a node, if it is at most n
 abbrev pub depth_within : ℕ → ℕ → ℕ
 depth_within zero k = 0
 depth_within (suc n) zero = 0
 depth_within (suc n) (suc k) = suc (depth_within n (halved (suc k)))
 
--- how deep a node stands: a root 0 deep, and every other node one deeper than its parent
+-- the depth of a node: 0 for a root, and one more than its parent's for every other node
 abbrev pub depth : ℕ → ℕ
 depth k = depth_within k k
 
--- how deep a leaf of w nodes stands
+-- the depth of a leaf among w nodes
 abbrev pub leaf_depth : ℕ → ℕ → ℕ
 leaf_depth w leaf = depth ((w - 1) / 2 + leaf)
 

@@ -1,4 +1,4 @@
--- What contracts say of a hand.
+-- What contracts say about a hand.
 use Rattle.std.specs.Prelude.{◌≡◌, ◌≢◌, ℕ, ◌+◌, ◌-◌, ◌^◌, min}
 use Rattle.snzi_core.specs.declared.holding.Holding.{Holding}
 use Rattle.snzi_core.specs.declared.holding.Role.TheVariants.{Main, Helper}
@@ -11,18 +11,18 @@ use Rattle.snzi_tree.specs.declared.board.Hand.{Hand}
 abbrev pub holds : Hand → Holding
 holds hand = hand.seat.me.0.view.holding
 
--- how many events the hand has done, and how many those have done that it has joined
+-- how many events the hand has done, and how many were done by the hands that it has joined
 abbrev pub own_events : Hand → ℕ
 own_events hand = hand.seat.me.0.own
 
 abbrev pub joined_events : Hand → ℕ
 joined_events hand = hand.seat.me.0.joined
 
--- it is a hand of this board
+-- the hand belongs to this board
 abbrev pub IsHandOf : {G W L : ℕ} → Board G W L → Hand → Type 0
 IsHandOf board hand = hand.seat.table_id ≡ board.table.shared.table_id
 
--- it is the same hand of the same board
+-- the same hand of the same board
 abbrev pub SameHand : Hand → Hand → Type 0
 SameHand a b = (b.seat.table_id ≡ a.seat.table_id) × (b.seat.id ≡ a.seat.id)
 
@@ -36,11 +36,11 @@ IsAlone hand = (holds hand).role ≡ Main 0
 abbrev pub IsHelper : Hand → Type 0
 IsHelper hand = (holds hand).role ≡ Helper
 
--- n and k steps more, staying at the greatest u64
+-- n plus k steps, but at most the greatest u64
 abbrev pub counted : ℕ → ℕ → ℕ
 counted n k = min (n + k) (2 ^ 64 - 1)
 
--- what the words of a slot are
+-- the word is a node's
 abbrev pub IsNodeWord : ℕ → ℕ → ℕ → Type 0
 IsNodeWord w l i = line w (w + l) i ≢ stripe
 

@@ -1,4 +1,4 @@
--- The events that the hands of a board have come to: what each hand's seat counts, and the run that they make.
+-- The events of a board's hands: what each hand's seat counts, and the run of all of them.
 use Rattle.std.specs.Prelude.{◌≡◌, ℕ, ◌+◌, ◌*◌, List, [], ◌∷◌, map, length}
 use Rattle.atomic_table.specs.Table.{State as Table, Step, Me}
 use Rattle.snzi_core.specs.declared.event.Event.{Event}
@@ -31,41 +31,41 @@ abbrev pub all_events : List Tally → ℕ
 all_events [] = 0
 all_events (t ∷ ts) = events_in t + all_events ts
 
--- main, which has done nothing
+-- main, which has done no event
 abbrev pub first_tally : Tally
 first_tally = record { view = first_view; own = 0; joined = 0 }
 
--- main after a split, which is one event of it, and the helper, which has done nothing
+-- main after a split, which is one event of main, and the helper, which has done no event
 abbrev pub kept_tally : Tally → Tally
 kept_tally t = record { view = kept t.view; own = t.own + 1; joined = t.joined }
 
 abbrev pub given_tally : Tally → Tally
 given_tally t = record { view = given t.view; own = 0; joined = 0 }
 
--- main after a join, which is one event of it, with the events of the helper
+-- main after a join, which is one event of main, with the helper's events added
 abbrev pub joined_tally : Tally → Tally → Tally
 joined_tally t u = record { view = joined t.view u.view; own = t.own + 1; joined = t.joined + events_in u }
 
 abbrev pub spent_tally : Tally
 spent_tally = record { view = spent_view; own = 0; joined = 0 }
 
--- a hand that is spent counts nothing
+-- a spent hand counts no events
 abbrev pub SpentCountNothing : List Tally → Type 0
 SpentCountNothing [] = Unit {0}
 SpentCountNothing (t ∷ ts) = (t.view.holding.role ≡ Spent → events_in t ≡ 0) × SpentCountNothing ts
 
--- the step tells this, and is one event of the hand
+-- the step says this, and it is one event of the hand
 abbrev pub counts_one : (Step (Unit {0}) → Knows → ℕ → Knows → Type 0) → Step (Unit {0}) → Seated → ℕ → Seated → Type 0
 counts_one then st m r m' = then st (known m) r (known m') × (m'.0.own ≡ m.0.own + 1) × (m'.0.joined ≡ m.0.joined)
 
--- the step tells this, and counts as no event of the hand
+-- the step says this, and it counts as no event of the hand
 abbrev pub counts_none : (Step (Unit {0}) → Knows → ℕ → Knows → Type 0) → Step (Unit {0}) → Seated → ℕ → Seated → Type 0
 counts_none then st m r m' = then st (known m) r (known m') × (m'.0.own ≡ m.0.own) × (m'.0.joined ≡ m.0.joined)
 
--- a list of events, each lawful where it comes, made of a new core one like that of the board, and it has as many events as the hands count
+-- a list of events, each lawful at its turn, leads from a new core to one like the board's, and it has as many events as the hands count
 abbrev pub HasRun : ℕ → ℕ → Table (Unit {0}) Tally → Type 0
 HasRun g w s = (events : List Event) × (k : Core) × Comes (start g w) events k × Alike k (core_of g w (plain s)) × (length events ≡ all_events s.views)
 
--- the rule of a board, and the run of the core that the board has made
+-- the rule of a board, together with a run of the core that leads to the board
 abbrev pub RunRule : ℕ → ℕ → ℕ → Table (Unit {0}) Tally → Type 0
 RunRule g w l s = BoardRule (g * (w + l)) w l (plain s) × HasRun g w s × SpentCountNothing s.views

@@ -34,7 +34,7 @@ impl Play<(), View> for Look {
     ghost then = { looked };
 }
 
-// A load of a root, for its answer.
+// A load of a root, for the result of `query`.
 pub(crate) struct Query<const W: usize, const L: usize>;
 
 impl<const W: usize, const L: usize> Play<(), View> for Query<W, L> {
@@ -109,7 +109,7 @@ impl Play<(), View> for Unstage {
     ghost then = { unstaged };
 }
 
-// A load that puts a token into the share.
+// A load that adds a token to the share.
 pub(crate) struct Stage;
 
 impl Play<(), View> for Stage {
@@ -127,7 +127,7 @@ impl<const G: usize, const W: usize, const L: usize> Play<(), Tally> for Ended<G
     ghost then = { ended G W L };
 }
 
-// A split by the share, and a join.
+// A split by the share, or a join.
 pub(crate) struct Share;
 
 impl Split<Tally> for Share {

@@ -12,11 +12,11 @@ ghost use Rattle.snzi_tree.specs.Hands.{IsHandOf, holds, joined_events, counted,
 use crate::board::{Board, Hand};
 use snzi_core::{TOKEN_CAP, Token};
 
-/// A hand that holds as many tokens in all may not arrive.
+/// A hand that holds this many tokens in all may not arrive.
 pub const HELD_MAX: u64 = TOKEN_CAP - 8;
 
 impl<const G: usize, const W: usize, const L: usize> Board<G, W, L> {
-    // Departs from a node, and from its parent where that leaves it at zero.
+    // Departs from a node, and from its parent if the node becomes zero.
     fn depart_at(&self, hand: &mut Hand, slot: usize, node: usize)
         requires here { IsHandOf self.now hand.old }
         requires place { (slot < G) × (node < W) }
@@ -37,7 +37,7 @@ impl<const G: usize, const W: usize, const L: usize> Board<G, W, L> {
         }
     }
 
-    // Adds to a node that is not zero, in one try.
+    // Adds to a node that is not zero, with one attempt.
     fn try_fast(&self, hand: &mut Hand, word: usize) -> bool
         requires here { IsHandOf self.now hand.old × (word < self.now.table.shared.table_id.words) }
         requires node { IsNodeWord W L word }
@@ -56,7 +56,7 @@ impl<const G: usize, const W: usize, const L: usize> Board<G, W, L> {
         self.fast_add(hand, word, seen)
     }
 
-    // Climbs from a node until an arrival stands, and says where it does.
+    // Climbs from a node until an arrival succeeds, and returns the node of that arrival.
     fn climb(&self, hand: &mut Hand, slot: usize, node: usize) -> usize
         requires here { IsHandOf self.now hand.old }
         requires place { (slot < G) × (node < W) }
@@ -97,7 +97,7 @@ impl<const G: usize, const W: usize, const L: usize> Board<G, W, L> {
         }
     }
 
-    // Arrives at a node; where the node may be zero, at its parent first.
+    // Arrives at a node. If the node may be zero, arrives at its parent first.
     fn arrive_at(&self, hand: &mut Hand, slot: usize, node: usize)
         requires here { IsHandOf self.now hand.old }
         requires place { (slot < G) × (node < W) }
@@ -134,8 +134,8 @@ impl<const G: usize, const W: usize, const L: usize> Board<G, W, L> {
         }
     }
 
-    /// One more token at the leaf of `t`, in at most 1 + 3d + d(d+1)/2 steps at a leaf of depth d,
-    /// whatever other threads do: 10 with seven nodes, 16 with fifteen.
+    /// Adds one token at the leaf of `t`. Takes at most 1 + 3d + d(d+1)/2 steps at a leaf of depth
+    /// d, whatever other threads do: 10 with seven nodes, 16 with fifteen.
     pub fn arrive(&self, hand: &mut Hand, t: Token)
         requires here { IsHandOf self.now hand.old }
         requires place { (t.slot < G) × (t.leaf < L) }
@@ -151,8 +151,8 @@ impl<const G: usize, const W: usize, const L: usize> Board<G, W, L> {
         self.arrive_at(hand, t.slot as usize, (W - 1) / 2 + t.leaf as usize);
     }
 
-    /// One token less at the leaf of `t`, in at most d + 1 steps at a leaf of depth d: 3 with seven
-    /// nodes, 4 with fifteen.
+    /// Removes one token at the leaf of `t`. Takes at most d + 1 steps at a leaf of depth d: 3 with
+    /// seven nodes, 4 with fifteen.
     pub fn depart(&self, hand: &mut Hand, t: Token)
         requires here { IsHandOf self.now hand.old }
         requires place { (t.slot < G) × (t.leaf < L) }

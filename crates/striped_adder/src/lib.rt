@@ -1,20 +1,21 @@
 //! One sum, kept in several variables.
 //!
-//! A set of stripes counts as `LongAdder` of `java.util.concurrent.atomic` does: several variables
-//! together keep one sum that starts at zero, an add may go to any of them, and the sum is the
-//! total across them all. Which variable an amount stands in is no part of the value.
+//! A set of stripes counts like `LongAdder` of `java.util.concurrent.atomic`: several variables
+//! together keep one sum, which starts at zero. An add may go to any variable, and the sum is the
+//! total of all. In which variable an amount is stored is not part of the value.
 //!
 //! What a user can rely on:
-//! - a new set has the sum zero;
-//! - after any adds and takes, in any stripes, the sum is all adds less all takes, modulo 2^64;
-//! - a take may go to another stripe than the add that it takes back;
-//! - every call succeeds and takes no memory.
+//! - The sum of a new set is zero.
+//! - After any adds and takes, in any stripes, the sum is everything added less everything taken,
+//!   modulo 2^64.
+//! - A take may go to another stripe than the add that it undoes.
+//! - Every call succeeds and allocates nothing.
 //!
-//! What is not promised: the number of stripes never grows, and there is no reset and no
-//! sum-then-reset. Nothing here is atomic: a call borrows the whole set.
+//! Not promised: the number of stripes never grows, and there is no reset and no sum-then-reset.
+//! Nothing here is atomic: a call borrows the whole set.
 //!
-//! The number that a list of stripes stands for is `total`, in `specs/Total.antt`. Contracts see
-//! a `Stripes` as that number.
+//! `total` in `specs/Total.antt` is the sum of a list of stripes. Contracts see a `Stripes` as that
+//! number.
 #![tactic(auto)]
 
 mod stripes;

@@ -20,7 +20,7 @@ impl<const L: usize> Model for Stripes<L> {
 }
 
 impl<const L: usize> Stripes<L> {
-    /// Stripes whose sum is zero.
+    /// Stripes with the sum zero.
     pub fn new() -> Self
         ensures { result ≡ 0 }
     {
@@ -35,8 +35,8 @@ impl<const L: usize> Stripes<L> {
         self.words[stripe] = self.words[stripe].wrapping_add(n);
     }
 
-    /// Takes `n` from the sum, in the stripe `stripe`. It may be any stripe: the one that the
-    /// amount was added in, or another.
+    /// Subtracts `n` from the sum, in the stripe `stripe`. It need not be the stripe to which the
+    /// amount was added.
     pub fn take(&mut self, stripe: usize, n: u64)
         requires { stripe < L }
         ensures { self.new ≡ (self.old + (2 ^ 64 - n)) % 2 ^ 64 }
@@ -44,7 +44,7 @@ impl<const L: usize> Stripes<L> {
         self.words[stripe] = self.words[stripe].wrapping_sub(n);
     }
 
-    /// All adds less all takes, modulo 2^64. Reads each stripe once.
+    /// Everything added less everything taken, modulo 2^64. Reads each stripe once.
     pub fn sum(&self) -> u64
         ensures { result ≡ self.now }
     {

@@ -1,11 +1,11 @@
-//! What the crates of tests share: a path from its text, and a heap with little room left.
+//! What the crates of tests share: a path from its text, and a heap with little memory left.
 //!
-//! A test that refuses each allocation of a call in turn takes a heap's free memory by `all_but` with room for no block, for
-//! one, for two and so on, makes the call each time, and is done when the call is answered. So each allocation that the call
-//! asks for behind another one is refused too, without counting them. `Tried` is what one such call came to.
+//! A test that refuses each allocation of a call in turn fills a heap by `all_but` with room for no block, then for one,
+//! then for two and so on. It makes the call each time, and stops when the call succeeds. So every later allocation of the
+//! call is refused too, without counting them. `Tried` is the result of one such call.
 //!
-//! Not promised: that `all_but` finds memory that is free in pieces of fewer than sixteen bytes, or more than `BLOCKS_MAX`
-//! blocks. No product crate stands on this one.
+//! Not promised: that `all_but` finds free memory in pieces of fewer than sixteen bytes, or more than `BLOCKS_MAX` blocks.
+//! No program uses this crate.
 #![tactic(auto)]
 
 mod paths;

@@ -7,11 +7,11 @@ use group_path::GroupPath;
 use std::alloc::Global;
 use std::test::Fail;
 
-/// The path that the text says.
+/// The path with this text.
 ///
 /// # Errors
 ///
-/// `Fail` where the text is no path, or memory ran out.
+/// `Fail` if the text is not a path, or when out of memory.
 pub fn path(alloc: Global, text: &str) -> Result<GroupPath<Global>, Fail>
     ensures { IfOk result (λ p. IsPath p × (text.now ≡ path_text p)) }
 {

@@ -1,4 +1,4 @@
-//! A heap with little room left.
+//! A heap with little memory left.
 
 ghost use Rattle.std.specs.Prelude.{◌≤◌, ◌-◌, IfOk, length};
 ghost use Rattle.std.specs.List.{All};
@@ -7,29 +7,29 @@ ghost use Rattle.std.specs.Vec.{vec_capacity};
 use linked_list_allocator::LocalHeap;
 use std::alloc::{AllocError, Global};
 
-/// The bytes of a block: the least that a heap hands out.
+/// The bytes of a block: the least that a heap allocates.
 pub const BLOCK_SIZE: usize = 16;
 
-/// So many blocks are taken at most.
+/// The greatest number of blocks to fill.
 pub const BLOCKS_MAX: usize = 20_000;
 
-/// What a call came to in a heap with little room.
+/// The result of a call in a heap with little memory.
 #[derive(Clone, Copy, PartialEq, Eq, Debug)]
 pub enum Tried {
-    /// It answered that it is out of memory.
+    /// It returned out of memory.
     Refused,
-    /// It gave the answer that it gives where there is memory.
+    /// It returned the same as with enough memory.
     Answered,
     /// It did something else.
     Other,
 }
 
-/// Blocks that take the free memory of the heap, but for `room` of them, with room for `BLOCK_SIZE` bytes each. It is free
-/// again once they are dropped.
+/// Blocks that fill the free memory of the heap, except for `room` blocks of `BLOCK_SIZE` bytes each. Dropping them frees it
+/// again.
 ///
 /// # Errors
 ///
-/// `AllocError` where there was no memory for the list of blocks.
+/// `AllocError` if the list of blocks cannot be allocated.
 pub fn all_but<'a>(
     alloc: Global,
     heap: &'a LocalHeap,

@@ -40,7 +40,8 @@ ghost use Rattle.flat_model.specs.Command.{Move, SetLimit, Kill, Show, NotReadab
 ghost use Rattle.flat_model.specs.Step.{refusal};
 ghost use Rattle.flat_model.specs.Trace.{read_line, Run, Fault, BadDirection};
 
-/// The eleven files: the name, whether the root has it, whether it is read, whether it is written.
+/// The eleven files: the name, whether the root has it, whether it can be read, whether it can be
+/// written.
 pub fn table_of_files()
     ensures { map {B = List ℕ × Bool × Bool × Bool}
         (λ f. (file_name f, on_root f, readable f, writable f)) all_files
@@ -58,7 +59,8 @@ pub fn table_of_files()
         ∷ [] }
 {}
 
-/// What a line says that writes 1 to each of them, and one that shows it.
+/// The command or fault of a line that writes 1 to a file, and of a line that shows it, for each
+/// file.
 pub fn lines_of_files()
     ensures written { map (λ f. read_line (codes "write /a " ++ file_name f ++ codes " 1")) all_files
         ≡ Run (Move (codes "a" ∷ []) 1)
@@ -88,7 +90,7 @@ pub fn lines_of_files()
         ∷ [] }
 {}
 
-/// `cgroup.kill` is shown by no command, whether there is such a group or not.
+/// No command shows `cgroup.kill`, whether the group exists or not.
 pub fn kill_file_is_not_shown()
     ensures { (slots : ℕ) (s : State) (p : Path)
         → refusal slots s (Show p KillFile) ≡ Some NotReadable }

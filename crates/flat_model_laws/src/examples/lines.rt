@@ -1,4 +1,4 @@
-//! Worked examples of the lines of a trace, each with what it says.
+//! Worked examples of the lines of a trace, each with its meaning.
 
 ghost use Rattle.std.specs.Prelude.{◌≡◌, codes, replicate};
 ghost use Rattle.flat_model.specs.Command.{Fork};
@@ -14,7 +14,7 @@ ghost use Rattle.flat_model.specs.Trace.{
   BadValue,
 };
 
-/// Each line has its first fault: words, path, file, direction, value.
+/// The first fault of a line: words, path, file, direction, value.
 pub fn lines_refused()
     ensures path_first { read_line (codes "write a nofile x") ≡ Fault BadPath }
     ensures then_file { read_line (codes "write /a foo x") ≡ Fault BadFile }
@@ -27,8 +27,8 @@ pub fn lines_refused()
     ensures comment { read_line (codes "# note") ≡ Skip }
 {}
 
-/// Blanks stand between words and at both ends; a line without words, and a comment of any length,
-/// is skipped.
+/// Blanks may come between words and at both ends. A line without words and a comment of any length
+/// are skipped.
 pub fn blanks_and_comments()
     ensures no_bytes { read_line (codes "") ≡ Skip }
     ensures blanks_alone { read_line (codes " \t\r") ≡ Skip }

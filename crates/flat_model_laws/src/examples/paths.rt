@@ -1,4 +1,4 @@
-//! Worked examples of paths, each with what its text is read as.
+//! Worked examples of paths, each with the result of reading its text.
 
 ghost use Rattle.std.specs.Prelude.{◌≡◌, ◌++◌, [], ◌∷◌, Ok, Err, codes, replicate, flat_map, take};
 ghost use Rattle.flat_model.specs.Path.{parent};
@@ -25,7 +25,7 @@ pub fn paths_read()
         ≡ Ok (replicate 32 (codes "a")) }
 {}
 
-/// Texts that are no path, each with its first fault.
+/// Texts that are not paths, each with its first fault.
 pub fn paths_refused()
     ensures nothing { read_path (codes "") ≡ Err NotRooted }
     ensures no_slash { read_path (codes "a") ≡ Err NotRooted }
@@ -49,7 +49,7 @@ pub fn path_neighbours()
     ensures cut { path_text (take 1 (codes "a" ∷ codes "b" ∷ [])) ≡ codes "/a" }
 {}
 
-/// A text has the first fault of its list: its first byte, its length, and then name by name.
+/// The order of a text's faults: the first byte, the length, then name by name.
 pub fn path_faults_in_order()
     ensures rooted_first { read_path (replicate 4096 97) ≡ Err NotRooted }
     ensures then_length { read_path (codes "//" ++ replicate 4094 97) ≡ Err TooLong }
@@ -66,7 +66,8 @@ pub fn path_faults_in_order()
         ≡ Ok (replicate 15 (replicate 255 97) ++ replicate 254 97 ∷ []) }
 {}
 
-/// So does the name of a child: its own faults, then depth, then the length of the whole text.
+/// The order of the faults of a child's name: the name's own faults, then depth, then the length of
+/// the whole text.
 pub fn child_faults_in_order()
     ensures nothing { child_path (replicate 32 (codes "a")) [] ≡ Err EmptyName }
     ensures slash { child_path (replicate 32 (codes "a")) (codes "b/c") ≡ Err (BadByte 1) }

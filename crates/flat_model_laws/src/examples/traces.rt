@@ -1,4 +1,4 @@
-//! Worked examples of traces, each with what is answered.
+//! Worked examples of traces, each with its output.
 
 ghost use Rattle.std.specs.Prelude.{
   ◌≡◌,
@@ -21,27 +21,27 @@ ghost use Rattle.std.specs.List.{list_any, range_with_len};
 ghost use Rattle.flat_model.specs.Trace.{read_trace};
 ghost use Rattle.flat_model.specs.Replies.{answers, command_count, refused_count};
 
-/// Nothing is answered to nothing.
+/// The empty trace has no output.
 pub fn empty_trace()
     ensures answered { answers 256 [] ≡ [] }
     ensures commands { command_count (read_trace []) ≡ 0 }
     ensures refused { refused_count 256 (read_trace []) ≡ 0 }
 {}
 
-/// Fork, move, a reading and an undo.
+/// Fork, move, a read and an undo.
 pub fn first_trace()
     ensures { answers 256 (codes "mkdir /a\nfork 1 2\nwrite /a cgroup.procs 2\ncat /a pids.current\n"
         ++ codes "undo\ncat /a pids.current\n")
         ≡ codes "1 ok\n2 ok\n3 ok\n4 ok\n| 1\n5 ok\n| write /a cgroup.procs 2\n6 ok\n| 0\n" }
 {}
 
-/// An undo is refused where nothing is recorded, and what follows is numbered on.
+/// An undo is refused if nothing is recorded; the next command gets the next number.
 pub fn undo_without_journal()
     ensures { answers 256 (codes "undo\nmkdir /a\n")
         ≡ codes "1 refused nothing\n2 ok\n" }
 {}
 
-/// A fork refused by `pids.max` is counted at its group, and its undo takes the count back.
+/// A fork refused by `pids.max` is counted at its group, and its undo undoes the count.
 pub fn fork_counted_at_the_limit()
     ensures { answers 256 (codes "mkdir /a\nwrite /a pids.max 1\nwrite /a cgroup.procs 1\nfork 1 2\n"
         ++ codes "cat /a pids.events.local\ncat /a pids.events\nundo\n"
@@ -50,8 +50,8 @@ pub fn fork_counted_at_the_limit()
         ++ codes "| max 1\n7 ok\n| fork 1 2\n8 ok\n| max 0\n9 ok\n| max 0\n" }
 {}
 
-/// The refused fork is counted locally at the group whose limit is met, above the process's own, and in
-/// totals from there upward.
+/// The refused fork is counted in the local total of the group whose limit is met, which is above the process's own group,
+/// and in the totals from there upward.
 pub fn fork_counted_at_an_ancestor()
     ensures { answers 256 (codes "mkdir /a\nmkdir /a/b\nwrite /a pids.max 1\n"
         ++ codes "write /a/b cgroup.procs 1\nfork 1 2\ncat /a/b pids.events\n"
@@ -60,7 +60,7 @@ pub fn fork_counted_at_an_ancestor()
         ++ codes "7 ok\n| max 1\n8 ok\n| max 1\n" }
 {}
 
-/// A move passes `pids.max`, which only forks meet.
+/// A move may exceed `pids.max`, which only forks meet.
 pub fn move_past_a_limit()
     ensures { answers 256 (codes "mkdir /a\nwrite /a pids.max 0\nfork 1 2\nwrite /a cgroup.procs 1\n"
         ++ codes "write /a cgroup.procs 2\ncat /a pids.current\n"
@@ -68,8 +68,7 @@ pub fn move_past_a_limit()
         ≡ codes "1 ok\n2 ok\n3 ok\n4 ok\n5 ok\n6 ok\n| 2\n7 ok\n| 1\n| 2\n8 refused pidsmax /a\n" }
 {}
 
-/// An event total above a removed group stays, and the undo of the removal gives its limit and
-/// total back.
+/// An event total above a removed group stays. Undoing the removal restores the group's limit and total.
 pub fn totals_outlive_a_group()
     ensures { answers 256 (codes "mkdir /t\nmkdir /t/a\nwrite /t/a pids.max 1\n"
         ++ codes "write /t/a cgroup.procs 1\nfork 1 2\nexit 1\nrmdir /t/a\n"
@@ -80,7 +79,7 @@ pub fn totals_outlive_a_group()
         ++ codes "| max 1\n" }
 {}
 
-/// No group is made deeper than `cgroup.max.depth` below the group that holds it.
+/// No group is made deeper below a group than that group's `cgroup.max.depth`.
 pub fn depth_limit()
     ensures { answers 256 (codes "mkdir /a\nwrite /a cgroup.max.depth 0\nmkdir /a/b\nmkdir /b\n")
         ≡ codes "1 ok\n2 ok\n3 refused depth /a\n4 ok\n" }
@@ -94,7 +93,7 @@ pub fn descendants_limit()
         ++ codes "5 ok\n| nr_descendants 1\n| nr_dying_descendants 0\n" }
 {}
 
-/// A group with children, a group with processes, a removed group and the root are not removed.
+/// A group with children, a group with processes, a removed group and the root cannot be removed.
 pub fn rmdir_refusals_in_order()
     ensures { answers 256 (codes "mkdir /a\nmkdir /a/b\nwrite /a cgroup.procs 1\nrmdir /a\n"
         ++ codes "rmdir /a/b\nrmdir /a\nwrite / cgroup.procs 1\nrmdir /a\nrmdir /a\n"
@@ -104,7 +103,7 @@ pub fn rmdir_refusals_in_order()
         ++ codes "10 refused rootfixed\n" }
 {}
 
-/// A kill takes every process at or below the group, and its undo gives each back to its home.
+/// A kill removes every process at or below the group; its undo puts each back into its group.
 pub fn kill_and_its_undo()
     ensures { answers 256 (codes "mkdir /k\nmkdir /k/a\nmkdir /k/b\nfork 1 2\nfork 1 3\nfork 1 4\n"
         ++ codes "write /k cgroup.procs 2\nwrite /k/a cgroup.procs 3\n"
@@ -120,28 +119,28 @@ pub fn kill_and_its_undo()
         ++ codes "21 ok\n| 0::/k/a\n" }
 {}
 
-/// A fork needs its parent first, and then a free pid.
+/// A fork tests its parent first, then whether the pid is free.
 pub fn pids_checked_in_order()
     ensures { answers 256 (codes "fork 1 1\nfork 2 1\nfork 2 3\nfork 1 2\nfork 1 2\n")
         ≡ codes "1 refused pidinuse 1\n2 refused noprocess 2\n"
         ++ codes "3 refused noprocess 2\n4 ok\n5 refused pidinuse 2\n" }
 {}
 
-/// The last line counts as far as it goes.
+/// An incomplete last line counts as a line.
 pub fn cut_trace()
     ensures word { answers 256 (codes "mkdir /a\nmkdi") ≡ codes "1 ok\n2 refused syntax\n" }
     ensures root { answers 256 (codes "mkdir /a\nmkdir /") ≡ codes "1 ok\n2 refused exists\n" }
     ensures shorter_name { answers 256 (codes "mkdir /a\nmkdir /b") ≡ codes "1 ok\n2 ok\n" }
 {}
 
-/// A command has at most 8,192 bytes.
+/// A line with a command has at most 8,192 bytes.
 pub fn longest_line()
     ensures read { answers 256 (codes "mkdir /" ++ replicate 8185 97) ≡ codes "1 refused path\n" }
     ensures too_long { answers 256 (codes "mkdir /" ++ replicate 8186 97)
         ≡ codes "1 refused syntax\n" }
 {}
 
-/// Faults of the text come before refusals of the state, and a comment is not numbered.
+/// Text faults come before refusals. A comment gets no number.
 pub fn faults_before_refusals()
     ensures answered { answers 256 (codes "write a nofile x\nwrite /a foo x\nwrite /a pids.current x\n"
         ++ codes "write /a pids.max x\nwrite /a pids.max 5\ncat / pids.max\n"
@@ -171,7 +170,7 @@ pub fn faults_before_refusals()
         ++ codes "cat / cgroup.procs\n")) ≡ 14 }
 {}
 
-/// The group after the last slot is refused, and an undo frees a slot.
+/// When all slots are taken, a new group is refused; an undo frees a slot.
 pub fn slots_run_out()
     ensures { answers 256 (
         flat_map (λ n. codes "mkdir /g" ++ decimal n ++ codes "\n") (range_with_len 0 257)
@@ -191,8 +190,7 @@ pub fn every_byte()
         (codes "1 ok\n") (codes "1 refused path\n")) (range_with_len 0 256) }
 {}
 
-/// A new group is refused where it exists, where its parent does not, by a limit, and for want of a
-/// slot, in this order.
+/// A new group is refused if it exists, if its parent doesn't exist, by a limit, and if no slot is free, in this order.
 pub fn mkdir_refusals_in_order()
     ensures { answers 1 (codes "mkdir /a\nwrite / cgroup.max.descendants 1\nmkdir /a\nmkdir /x/y\n"
         ++ codes "mkdir /b\nwrite / cgroup.max.descendants max\nmkdir /b\n")
@@ -200,8 +198,8 @@ pub fn mkdir_refusals_in_order()
         ++ codes "5 refused descendants /\n6 ok\n7 refused noslot\n" }
 {}
 
-/// A limit of 0 at the root refuses the first group: on descendants, on both at once as on
-/// descendants, and on depth. A depth of 1 refuses a group in it.
+/// A limit of 0 at the root, on descendants or on depth, refuses the first group. If both are 0, the refusal names the limit
+/// on descendants. A depth of 1 refuses a group below the first one.
 pub fn first_group_is_refused()
     ensures { answers 256 (codes "write / cgroup.max.descendants 0\nmkdir /a\n"
         ++ codes "write / cgroup.max.depth 0\nmkdir /a\n"
@@ -211,7 +209,7 @@ pub fn first_group_is_refused()
         ++ codes "6 refused depth /\n7 ok\n8 ok\n9 refused depth /\n" }
 {}
 
-/// Of two limits that a new group meets, the nearest refuses it; at one group descendants do.
+/// If a new group meets two limits, the nearest refuses it; at one group, that on descendants.
 pub fn nearest_limit()
     ensures { answers 256 (codes "mkdir /a\nmkdir /a/b\nwrite / cgroup.max.descendants 2\n"
         ++ codes "write /a cgroup.max.depth 1\nmkdir /a/b/c\n"
@@ -222,8 +220,8 @@ pub fn nearest_limit()
         ++ codes "10 refused descendants /\n" }
 {}
 
-/// A refused fork raises the totals of all groups from the refusing one up to the top, and no
-/// other; a pid in use is refused before, and counts nothing.
+/// A refused fork raises the totals of all groups from the refusing one upward, and no others. A pid in use is refused
+/// before, and counts nothing.
 pub fn totals_up_to_the_top()
     ensures { answers 256 (codes "mkdir /t\nmkdir /t/a\nmkdir /t/a/b\nmkdir /t/c\n"
         ++ codes "write /t/a/b pids.max 1\nwrite /t/a/b cgroup.procs 1\nfork 1 1\n"
@@ -237,8 +235,8 @@ pub fn totals_up_to_the_top()
         ++ codes "| max 0\n" }
 {}
 
-/// A new group has no limits and event totals of 0, whatever its parent has, and is one descendant more of
-/// each group above it.
+/// A new group has no limits and event totals of 0, whatever its parent has. It is one more descendant of each group above
+/// it.
 pub fn new_group()
     ensures { answers 256 (codes "mkdir /a\nwrite /a pids.max 1\nwrite /a cgroup.max.depth 9\n"
         ++ codes "write /a cgroup.max.descendants 8\nwrite /a cgroup.procs 1\n"
@@ -255,8 +253,8 @@ pub fn new_group()
         ++ codes "| nr_dying_descendants 0\n" }
 {}
 
-/// The root has the files of its own processes, counts and hierarchy limits, and no other; a move
-/// asks for the group before the process.
+/// The root has the files for its own processes, counts and hierarchy limits, and no others. A move tests the group before
+/// the process.
 pub fn files_of_the_root()
     ensures { answers 256 (codes "write /b cgroup.procs 9\nwrite / cgroup.procs 9\n"
         ++ codes "write / pids.max 5\ncat / cgroup.procs\ncat / cgroup.events\n"
@@ -271,8 +269,8 @@ pub fn files_of_the_root()
         ++ codes "12 refused nofile\n13 ok\n14 ok\n| 3\n" }
 {}
 
-/// A peak stays where processes exit and move away. Undos give back what a fork and a move raised,
-/// and the root has no peak.
+/// A peak stays when processes exit and move away. Undos restore the peaks that a fork and a move raised. The root has no
+/// peak.
 pub fn peak_outlives_an_exit()
     ensures { answers 256 (codes "mkdir /a\ncat /a pids.peak\nwrite /a cgroup.procs 1\nfork 1 2\n"
         ++ codes "cat /a pids.peak\nexit 2\ncat /a pids.peak\n"
@@ -283,8 +281,8 @@ pub fn peak_outlives_an_exit()
         ++ codes "| exit 2\n13 ok\n| fork 1 2\n14 ok\n| 1\n15 refused nofile\n" }
 {}
 
-/// A fork that is refused raises no peak, at no group. The undo of the move gives back the peak of
-/// the group that the process came to, and nothing writes one.
+/// A refused fork raises no peak. Undoing a move restores the peak of the group that the process entered. A peak cannot be
+/// written.
 pub fn refused_fork_raises_no_peak()
     ensures { answers 256 (codes "mkdir /a\nmkdir /a/b\nwrite /a pids.max 1\n"
         ++ codes "write /a cgroup.procs 1\nwrite /a/b cgroup.procs 1\nfork 1 2\n"

@@ -1,4 +1,4 @@
-//! Worked examples of the values of files, each with what it is read as.
+//! Worked examples of the values of files, each with the result of reading it.
 
 ghost use Rattle.std.specs.Prelude.{◌≡◌, [], ◌∷◌, ◌++◌, Ok, Err, codes, map, replicate};
 ghost use Rattle.flat_model.specs.State.{Unlimited, At};
@@ -27,7 +27,7 @@ pub fn pids_max_values()
     ensures nothing { read_limit PidsMax (codes "") ≡ Err Empty }
 {}
 
-/// The greatest number of a hierarchy limit is no limit.
+/// The greatest number of a hierarchy limit means no limit.
 pub fn hierarchy_limit_values()
     ensures depth_below { read_limit MaxDepth (codes "2147483646") ≡ Ok (At 2147483646) }
     ensures depth_greatest { read_limit MaxDepth (codes "2147483647") ≡ Ok Unlimited }
@@ -55,8 +55,8 @@ pub fn kill_values()
     ensures leading_zero { read_kill (codes "01") ≡ Err LeadingZero }
 {}
 
-/// Spaces at both ends belong to no value: blank, tab, line feed, carriage return, and no other
-/// byte.
+/// Spaces at both ends are not part of a value: space, tab, line feed, carriage return, and no
+/// other byte.
 pub fn spaces_around_values()
     ensures pid { map (λ b. read_pid (b ∷ codes "7" ++ b ∷ [])) (0x20 ∷ 0x09 ∷ 0x0A ∷ 0x0D ∷ [])
         ≡ replicate 4 (Ok 7) }
@@ -72,7 +72,7 @@ pub fn spaces_around_values()
     ensures alone { read_limit PidsMax (codes " \t\r\n") ≡ Err Empty }
 {}
 
-/// Each value has its first fault: no text, no number, a leading zero, out of range.
+/// The first fault of a value: no text, not a number, a leading zero, out of range.
 pub fn value_faults_in_order()
     ensures number_first { read_pid (codes "0x5") ≡ Err NotANumber }
     ensures then_zero { read_pid (codes "00") ≡ Err LeadingZero }
