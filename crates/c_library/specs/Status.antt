@@ -4,6 +4,7 @@ use Rattle.flat_model.specs.Machine.{new_machine}
 use Rattle.flat_model.specs.Path.{Path}
 use Rattle.flat_model.specs.PathText.{PathFault}
 use Rattle.flat_model.specs.Trace.{Line}
+use Rattle.undo_journal.specs.Beginning.{forgotten}
 use Rattle.line_engine.specs.declared.answer.Answer.{Answer}
 use Rattle.line_engine.specs.declared.answer.Answer.TheVariants.{Skipped, Answered, TooSmall, OutOfMemory}
 use Rattle.line_engine.specs.declared.listing.Listing.{Listing}
@@ -69,6 +70,11 @@ IsClosed (Some e) status new = (status ≡ 0) × (new ≡ None)
 abbrev pub DepthAt : Option LineEngine → ℕ → ℕ → Option LineEngine → Type 0
 DepthAt None status depth new = (status ≡ 6) × (depth ≡ 0) × (new ≡ None)
 DepthAt (Some e) status depth new = (status ≡ 0) × (depth ≡ length e.engine.past) × (new ≡ Some e)
+
+-- the groups and processes stay, and nothing can be undone
+abbrev pub ForgetsAt : Option LineEngine → ℕ → Option LineEngine → Type 0
+ForgetsAt None status new = (status ≡ 6) × (new ≡ None)
+ForgetsAt (Some e) status new = (status ≡ 0) × (new ≡ Some (record { engine = forgotten e.engine }))
 
 -- ---- groups
 

@@ -3,7 +3,7 @@
 ghost use Rattle.std.specs.Prelude.{◌≡◌, codes};
 ghost use Rattle.flat_model.specs.PathText.{read_path};
 ghost use Rattle.flat_model.specs.Trace.{read_line};
-ghost use Rattle.c_library.specs.Status.{IsOpened, IsClosed, AnswersAt, DepthAt, ListsAt, ListsGroupsAt, FindsAt, told, too_small, status_of, status_of_code, info_of, listing_status, listing_info, found_status, found_info};
+ghost use Rattle.c_library.specs.Status.{IsOpened, IsClosed, AnswersAt, DepthAt, ForgetsAt, ListsAt, ListsGroupsAt, FindsAt, told, too_small, status_of, status_of_code, info_of, listing_status, listing_info, found_status, found_info};
 
 use crate::handle::Handle;
 use crate::info::Info;
@@ -204,6 +204,20 @@ pub extern "C" fn mk0_depth(alloc: Global, h: &mut Handle, depth: &mut usize) ->
         return CLOSED;
     };
     *depth = engine.depth();
+    h.put(alloc, engine);
+    DONE
+}
+
+/// Forgets the recorded commands.
+#[unsafe(no_mangle)]
+pub extern "C" fn mk0_forget(alloc: Global, h: &mut Handle) -> u32
+    ensures { ForgetsAt h.old.seal.held result h.new.seal.held }
+{
+    let Some(engine) = h.take(alloc) else {
+        return CLOSED;
+    };
+    let mut engine = engine;
+    engine.forget();
     h.put(alloc, engine);
     DONE
 }
