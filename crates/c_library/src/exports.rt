@@ -10,27 +10,27 @@ use crate::info::Info;
 use line_engine::{Answer, Found, LineEngine, Listing};
 use std::alloc::Global;
 
-const DONE: u32 = 0;
+pub(crate) const DONE: u32 = 0;
 
-const REFUSED: u32 = 1;
+pub(crate) const REFUSED: u32 = 1;
 
-const FAULT: u32 = 2;
+pub(crate) const FAULT: u32 = 2;
 
 const TOO_SMALL: u32 = 3;
 
-const OUT_OF_MEMORY: u32 = 4;
+pub(crate) const OUT_OF_MEMORY: u32 = 4;
 
 const SKIPPED: u32 = 5;
 
-const CLOSED: u32 = 6;
+pub(crate) const CLOSED: u32 = 6;
 
-const NO_GROUP: u32 = 2;
+pub(crate) const NO_GROUP: u32 = 2;
 
 const FIRST_FAULT: u32 = 32;
 
-const BAD_PATH: u32 = 33;
+pub(crate) const BAD_PATH: u32 = 33;
 
-fn told(len: usize, count: usize, code: u32) -> Info
+pub(crate) fn told(len: usize, count: usize, code: u32) -> Info
     ensures { result ≡ told len count code }
 {
     Info {

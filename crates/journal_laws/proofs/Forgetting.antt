@@ -45,7 +45,7 @@ module _ (slots : ℕ) (rest : Past) where
   tick_alike : (s : State) (past : Past) (c : model.Command) → length rest ≤ length (tick slots (over s past rest) c).0.past → Alike rest (tick slots (alone s past) c) (tick slots (over s past rest) c)
   tick_alike s past c l =
       elim (model.is_undo c) as (λ b. length rest ≤ length (cond b (undone s (past ++ rest)) (outcome (over s past rest) c (refusal slots s c))).0.past
-          → Alike rest (cond b (undone s past) (outcome (alone s past) c (refusal slots s c))) (cond b (undone s (past ++ rest)) (outcome (over s past rest) c (refusal slots s c)))) [
+      → Alike rest (cond b (undone s past) (outcome (alone s past) c (refusal slots s c))) (cond b (undone s (past ++ rest)) (outcome (over s past rest) c (refusal slots s c)))) [
         | true ↦ λ h. undone_alike rest s past h
         | false ↦ λ h. outcome_alike rest s past c (refusal slots s c)
       ] l
@@ -57,11 +57,11 @@ module _ (slots : ℕ) (rest : Past) where
       let one = tick_alike s past c own.0 in
       let more = run_alike cs one.state one.past (subst (λ (x : Machine × model.Reply). TakesBackItsOwn slots (length rest) x.0 cs) one.longer own.1) in (
         (λ k. (one.shorter k).1 ∷ replies slots (one.shorter k).0 cs)
-        ∙ ap (λ (rs : List model.Reply). one.reply ∷ rs) more.0
-        ∙ sym (λ k. (one.longer k).1 ∷ replies slots (one.longer k).0 cs),
+            ∙ ap (λ (rs : List model.Reply). one.reply ∷ rs) more.0
+            ∙ sym (λ k. (one.longer k).1 ∷ replies slots (one.longer k).0 cs),
         ap (λ (x : Machine × model.Reply). (end_of slots x.0 cs).state) one.shorter
-        ∙ more.1
-        ∙ sym (ap (λ (x : Machine × model.Reply). (end_of slots x.0 cs).state) one.longer),
+            ∙ more.1
+            ∙ sym (ap (λ (x : Machine × model.Reply). (end_of slots x.0 cs).state) one.longer),
       )
 
 -- so does one that has forgotten everything
