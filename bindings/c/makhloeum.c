@@ -217,6 +217,16 @@ PUBLIC uint32_t mk_depth(mk_handle *h, size_t *depth) {
     return status;
 }
 
+PUBLIC uint32_t mk_forget(mk_handle *h) {
+    mk0_handle *engine;
+    uint32_t status = enter(h, &engine);
+    if (status == MK_DONE) {
+        status = mk0_forget(engine);
+        leave(engine);
+    }
+    return status;
+}
+
 PUBLIC uint32_t mk_children(mk_handle *h, const uint8_t *path, size_t path_len, uint8_t *out, size_t out_size,
                             mk_info *info) {
     mk0_handle *engine;

@@ -135,6 +135,10 @@ uint32_t mk_undo(mk_handle *h, uint64_t number, uint8_t *out, size_t out_size, m
 /* How many recorded commands can be undone; 0 without an engine. MK_DONE, MK_CLOSED or MK_BUSY. */
 uint32_t mk_depth(mk_handle *h, size_t *depth);
 
+/* Forgets the recorded commands: groups, processes and counts stay, none of these commands can be undone any more, and
+   the memory of the journal is freed. Needs no memory. MK_DONE, MK_CLOSED or MK_BUSY. */
+uint32_t mk_forget(mk_handle *h);
+
 /* The names of the groups one name below the one at the path, in the order of their bytes, each ended by a zero byte:
    info->count names in info->len bytes. MK_DONE; MK_REFUSED with MK_NO_GROUP if there is no such group; MK_FAULT with
    MK_PATH if the text is no path; MK_TOO_SMALL, MK_OUT_OF_MEMORY, MK_CLOSED, MK_BUSY. Only MK_DONE returns names. */

@@ -227,3 +227,14 @@ func (h *Hierarchy) Depth() (int, error) {
 	}
 	return int(depth), nil
 }
+
+// Forget forgets the recorded commands and frees their memory: groups, processes and counts stay, and nothing earlier can
+// be undone.
+func (h *Hierarchy) Forget() error {
+	status := C.mk_forget(&h.handle)
+	runtime.KeepAlive(h)
+	if status != C.MK_DONE {
+		return failure(command{text: "forget"}, uint32(status), 0, nil)
+	}
+	return nil
+}

@@ -77,3 +77,24 @@ func TestMarks(t *testing.T) {
 		t.Error(groups, err)
 	}
 }
+
+func TestForget(t *testing.T) {
+	h := open(t)
+	do(t, h, "mkdir /a", "fork 1 2", "write /a cgroup.procs 2")
+	if err := h.Forget(); err != nil {
+		t.Fatal(err)
+	}
+	if depth, err := h.Depth(); err != nil || depth != 0 {
+		t.Error(depth, err)
+	}
+	if _, err := h.Undo(); !errors.Is(err, syscall.ENODATA) {
+		t.Error(err)
+	}
+	if current, err := h.Current("/a"); err != nil || current != 1 {
+		t.Error(current, err)
+	}
+	h.Close()
+	if err := h.Forget(); !errors.Is(err, syscall.EBADF) {
+		t.Error(err)
+	}
+}

@@ -1,10 +1,12 @@
-/* A hierarchy that is closed leaves no memory behind: each allocation and each free is counted. Link with
-   -Wl,--wrap=malloc,--wrap=calloc,--wrap=realloc,--wrap=free. Exits with 1 if something is left, and prints how many
-   hierarchies were opened and closed. */
+/* A hierarchy that is closed leaves no memory behind: each allocation and each free is counted. One that forgets a thousand
+   times after a thousand commands needs no more memory than after the first thousand. Link with
+   -Wl,--wrap=malloc,--wrap=calloc,--wrap=realloc,--wrap=free. Exits with 1 if something is left, with 3 if memory grows, and
+   prints how many hierarchies were opened and closed. */
 #include "makhloeum.h"
 #include <stdio.h>
 #include <stdlib.h>
 #include <string.h>
+#include <unistd.h>
 
 void *__real_malloc(size_t size);
 void *__real_calloc(size_t count, size_t size);
@@ -53,8 +55,39 @@ static bool use(mk_handle *h) {
     return mk_close(h) == MK_DONE;
 }
 
+/* The resident memory of this process, in bytes; 0 if it cannot be read. */
+static long resident(void) {
+    long pages = 0;
+    FILE *file = fopen("/proc/self/statm", "r");
+    if (file == NULL) return 0;
+    if (fscanf(file, "%*s %ld", &pages) != 1) pages = 0;
+    fclose(file);
+    return pages * sysconf(_SC_PAGESIZE);
+}
+
+/* A thousand limits, and then they are forgotten. */
+static bool forget_some(mk_handle *h) {
+    mk_info info;
+    size_t depth;
+    for (int i = 0; i < 1000; i++)
+        if (mk_write(h, "/", "cgroup.max.depth", "7", &info) != MK_DONE) return false;
+    return mk_depth(h, &depth) == MK_DONE && depth == 1000 && mk_forget(h) == MK_DONE && mk_depth(h, &depth) == MK_DONE && depth == 0;
+}
+
+/* How much memory a million commands take that are forgotten thousand by thousand, beside the first thousand; -1 if a call
+   fails. A million records take more than 100,000,000 bytes. */
+static long grown(void) {
+    mk_handle h = {0};
+    if (mk_open(&h) != MK_DONE || !forget_some(&h)) return -1;
+    long before = resident();
+    for (int i = 1; i < 1000; i++)
+        if (!forget_some(&h)) return -1;
+    long after = resident();
+    return mk_close(&h) == MK_DONE && before > 0 ? after - before : -1;
+}
+
 int main(void) {
-    enum { ROUNDS = 100 };
+    enum { ROUNDS = 100, ROOM = 2 * 1024 * 1024 };
     mk_handle first = {0}, second = {0};
     if (!use(&first) || !use(&second)) return 2;
     long before = live; /* the memory of the lock is kept */
@@ -63,6 +96,11 @@ int main(void) {
     if (before > 1 || live != before) {
         fprintf(stderr, "leaks.c: %ld allocations are left, and %ld more after %d hierarchies\n", before, live - before, 2 * ROUNDS);
         return 1;
+    }
+    long more = grown();
+    if (more < 0 || more > ROOM) {
+        fprintf(stderr, "leaks.c: %ld bytes more after a million forgotten commands\n", more);
+        return 3;
     }
     printf("%d\n", 2 * ROUNDS);
     return 0;

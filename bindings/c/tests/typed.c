@@ -110,18 +110,29 @@ static int marks(void) {
     return 0;
 }
 
+static int forgets(void) {
+    size_t depth;
+    CHECK(mk_forget(&h) == MK_DONE && done(mk_mkdir(&h, "/f", &info)) && done(mk_fork(&h, 1, 8, &info)));
+    CHECK(done(mk_attach(&h, "/f", 8, &info)) && done(mk_write(&h, "/f", "pids.max", "1", &info)));
+    CHECK(refused(mk_fork(&h, 8, 9, &info), MK_PIDS_MAX, EAGAIN) && mk_forget(&h) == MK_DONE);
+    CHECK(mk_depth(&h, &depth) == MK_DONE && depth == 0 && refused(mk_undo_to(&h, 1, &info), MK_NOTHING_TO_UNDO, ENODATA));
+    CHECK(reads("/f", "cgroup.procs", "8\n") && reads("/f", "pids.max", "1\n") && reads("/f", "pids.events", "max 1\n") && reads("/f", "pids.peak", "1\n"));
+    CHECK(done(mk_kill(&h, "/f", &info)) && done(mk_undo_to(&h, 0, &info)) && info.count == 1 && reads("/f", "cgroup.procs", "8\n"));
+    return 0;
+}
+
 static int closed(void) {
     uint64_t value = 9;
     uint32_t pid;
     CHECK(mk_close(&h) == MK_DONE);
     CHECK(mk_mkdir(&h, "/a", &info) == MK_CLOSED && info.error == EBADF && mk_read(&h, "/", "cgroup.procs", text, sizeof text, &info) == MK_CLOSED);
     CHECK(mk_current(&h, "/a", &value, &info) == MK_CLOSED && value == 0 && mk_processes(&h, "/", &pid, 1, &info) == MK_CLOSED);
-    CHECK(mk_undo_to(&h, 0, &info) == MK_CLOSED);
+    CHECK(mk_undo_to(&h, 0, &info) == MK_CLOSED && mk_forget(&h) == MK_CLOSED);
     return 0;
 }
 
 int main(void) {
-    int (*const parts[])(void) = {commands, words, small_texts, numbers, marks, closed};
+    int (*const parts[])(void) = {commands, words, small_texts, numbers, marks, forgets, closed};
     if (mk_open(&h) != MK_DONE) return 1;
     for (size_t i = 0; i < sizeof parts / sizeof *parts; i++) {
         int failed = parts[i]();

@@ -65,6 +65,7 @@ def _load() -> Any:
         "mk_line": (number, [handle, ctypes.c_uint64, text, size, buffer, size, info]),
         "mk_undo": (number, [handle, ctypes.c_uint64, buffer, size, info]),
         "mk_depth": (number, [handle, ctypes.POINTER(size)]),
+        "mk_forget": (number, [handle]),
         "mk_children": (number, [handle, text, size, buffer, size, info]),
         "mk_groups": (number, [handle, buffer, size, info]),
         "mk_has_group": (number, [handle, text, size, info]),

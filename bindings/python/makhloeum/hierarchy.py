@@ -203,6 +203,13 @@ class Hierarchy:
             _raise(status, 0, "", None, "depth")
         return depth.value
 
+    def forget(self) -> None:
+        """Forgets the recorded commands and frees their memory: groups, processes and counts stay, and nothing earlier can
+        be undone."""
+        status = library.mk_forget(self._at)
+        if status != DONE:
+            _raise(status, 0, "", None, "forget")
+
     def children(self, path: Path) -> list[str]:
         """The names of the groups one name below the group, in the order of their bytes."""
         text = _bytes(path)

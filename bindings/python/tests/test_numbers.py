@@ -55,6 +55,20 @@ def test_marks(hierarchy):
 
 
 @pytest.mark.parametrize("again", range(2))
+def test_forget(hierarchy):
+    hierarchy.mkdir("/a")
+    hierarchy.fork(1, 2)
+    hierarchy.write("/a", "cgroup.procs", 2)
+    hierarchy.forget()
+    assert hierarchy.depth() == 0
+    with pytest.raises(NothingToUndo):
+        hierarchy.undo()
+    assert hierarchy.current("/a") == 1
+    hierarchy.exit(2)
+    assert hierarchy.reset() == 1
+    assert hierarchy.where(2) == "0::/a\n"
+
+
 def test_each_test_has_its_own_hierarchy(hierarchy, again):
     assert hierarchy.groups() == ["/"]
     hierarchy.mkdir("/a")

@@ -3,7 +3,9 @@ use Rattle.std.specs.Prelude.{◌≡◌, ℕ, cond, nat_eq, nat_lt, List, Option
 use Rattle.flat_model.specs.Machine.{new_machine}
 use Rattle.flat_model.specs.Path.{Path}
 use Rattle.flat_model.specs.PathText.{PathFault}
+use Rattle.flat_model.specs.State.{State}
 use Rattle.flat_model.specs.Trace.{Line}
+use Rattle.undo_journal.specs.Beginning.{forgotten}
 use Rattle.line_engine.specs.declared.answer.Answer.{Answer}
 use Rattle.line_engine.specs.declared.answer.Answer.TheVariants.{Skipped, Answered, TooSmall, OutOfMemory}
 use Rattle.line_engine.specs.declared.listing.Listing.{Listing}
@@ -13,6 +15,9 @@ use Rattle.line_engine.specs.declared.listing.Found.TheVariants as found
 use Rattle.line_engine.specs.declared.engine.LineEngine.{LineEngine}
 use Rattle.line_engine.specs.Answers.{AnswersLine}
 use Rattle.line_engine.specs.Listings.{TellsChildren, TellsGroups, TellsGroup}
+use Rattle.line_engine.specs.Numbers.{TellsNumber}
+use Rattle.line_engine.specs.declared.numbers.Number.{Number}
+use Rattle.line_engine.specs.declared.numbers.Number.TheVariants as number
 use Rattle.c_library.specs.declared.info.Info.{Info}
 
 -- what a call says beside its status
@@ -69,6 +74,11 @@ IsClosed (Some e) status new = (status ≡ 0) × (new ≡ None)
 abbrev pub DepthAt : Option LineEngine → ℕ → ℕ → Option LineEngine → Type 0
 DepthAt None status depth new = (status ≡ 6) × (depth ≡ 0) × (new ≡ None)
 DepthAt (Some e) status depth new = (status ≡ 0) × (depth ≡ length e.engine.past) × (new ≡ Some e)
+
+-- the groups and processes stay, and nothing can be undone
+abbrev pub ForgetsAt : Option LineEngine → ℕ → Option LineEngine → Type 0
+ForgetsAt None status new = (status ≡ 6) × (new ≡ None)
+ForgetsAt (Some e) status new = (status ≡ 0) × (new ≡ Some (record { engine = forgotten e.engine }))
 
 -- ---- groups
 
@@ -132,3 +142,39 @@ pub record FoundAt (e : LineEngine) (path : Result Path PathFault) (status : ℕ
 abbrev pub FindsAt : Option LineEngine → Result Path PathFault → ℕ → Info → Option LineEngine → Type 0
 FindsAt None path status info new = (status ≡ 6) × (info ≡ told 0 0 0) × (new ≡ None)
 FindsAt (Some e) path status info new = FoundAt e path status info new
+
+-- ---- numbers
+
+abbrev pub number_status : Number → ℕ
+number_status (number.Told n) = 0
+number_status number.NoGroup = 1
+number_status number.NoFile = 1
+number_status number.BadPath = 2
+number_status number.OutOfMemory = 4
+
+abbrev pub number_info : Number → Info
+number_info (number.Told n) = told 0 0 0
+number_info number.NoGroup = told 0 0 2
+number_info number.NoFile = told 0 0 12
+number_info number.BadPath = told 0 0 33
+number_info number.OutOfMemory = told 0 0 0
+
+abbrev pub number_value : Number → ℕ
+number_value (number.Told n) = n
+number_value number.NoGroup = 0
+number_value number.NoFile = 0
+number_value number.BadPath = 0
+number_value number.OutOfMemory = 0
+
+-- the number of the group at the path is told so, and the engine stays
+pub record ToldAt (e : LineEngine) (number_of : State → Path → ℕ) (path : Result Path PathFault) (status value : ℕ) (info : Info) (new : Option LineEngine) : Type 0 where
+  pub answer : Number
+  pub new_is : new ≡ Some e
+  pub tells : TellsNumber e.engine.state number_of path answer
+  pub status_is : status ≡ number_status answer
+  pub value_is : value ≡ number_value answer
+  pub info_is : info ≡ number_info answer
+
+abbrev pub TellsAt : Option LineEngine → (State → Path → ℕ) → Result Path PathFault → ℕ → ℕ → Info → Option LineEngine → Type 0
+TellsAt None number_of path status value info new = (status ≡ 6) × (value ≡ 0) × (info ≡ told 0 0 0) × (new ≡ None)
+TellsAt (Some e) number_of path status value info new = ToldAt e number_of path status value info new

@@ -3,34 +3,34 @@
 ghost use Rattle.std.specs.Prelude.{◌≡◌, codes};
 ghost use Rattle.flat_model.specs.PathText.{read_path};
 ghost use Rattle.flat_model.specs.Trace.{read_line};
-ghost use Rattle.c_library.specs.Status.{IsOpened, IsClosed, AnswersAt, DepthAt, ListsAt, ListsGroupsAt, FindsAt, told, too_small, status_of, status_of_code, info_of, listing_status, listing_info, found_status, found_info};
+ghost use Rattle.c_library.specs.Status.{IsOpened, IsClosed, AnswersAt, DepthAt, ForgetsAt, ListsAt, ListsGroupsAt, FindsAt, told, too_small, status_of, status_of_code, info_of, listing_status, listing_info, found_status, found_info};
 
 use crate::handle::Handle;
 use crate::info::Info;
 use line_engine::{Answer, Found, LineEngine, Listing};
 use std::alloc::Global;
 
-const DONE: u32 = 0;
+pub(crate) const DONE: u32 = 0;
 
-const REFUSED: u32 = 1;
+pub(crate) const REFUSED: u32 = 1;
 
-const FAULT: u32 = 2;
+pub(crate) const FAULT: u32 = 2;
 
 const TOO_SMALL: u32 = 3;
 
-const OUT_OF_MEMORY: u32 = 4;
+pub(crate) const OUT_OF_MEMORY: u32 = 4;
 
 const SKIPPED: u32 = 5;
 
-const CLOSED: u32 = 6;
+pub(crate) const CLOSED: u32 = 6;
 
-const NO_GROUP: u32 = 2;
+pub(crate) const NO_GROUP: u32 = 2;
 
 const FIRST_FAULT: u32 = 32;
 
-const BAD_PATH: u32 = 33;
+pub(crate) const BAD_PATH: u32 = 33;
 
-fn told(len: usize, count: usize, code: u32) -> Info
+pub(crate) fn told(len: usize, count: usize, code: u32) -> Info
     ensures { result ≡ told len count code }
 {
     Info {
@@ -204,6 +204,20 @@ pub extern "C" fn mk0_depth(alloc: Global, h: &mut Handle, depth: &mut usize) ->
         return CLOSED;
     };
     *depth = engine.depth();
+    h.put(alloc, engine);
+    DONE
+}
+
+/// Forgets the recorded commands.
+#[unsafe(no_mangle)]
+pub extern "C" fn mk0_forget(alloc: Global, h: &mut Handle) -> u32
+    ensures { ForgetsAt h.old.seal.held result h.new.seal.held }
+{
+    let Some(engine) = h.take(alloc) else {
+        return CLOSED;
+    };
+    let mut engine = engine;
+    engine.forget();
     h.put(alloc, engine);
     DONE
 }

@@ -15,5 +15,6 @@
 mod exports;
 mod handle;
 mod info;
+mod numbers;
 mod parts;
 mod seal;

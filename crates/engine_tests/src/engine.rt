@@ -67,10 +67,10 @@ fn texts_of_commands(rt: HostRuntime) -> Result<(), Fail> {
 }
 
 /// Lines, what the engine answers to each, and how many records it has then.
-type Row = (&'static str, &'static str, usize);
+pub(crate) type Row = (&'static str, &'static str, usize);
 
 /// Answers the lines, and fails with the first that is answered otherwise or leaves another number of records.
-fn all_answered<R: Threads + Wait + Sync>(
+pub(crate) fn all_answered<R: Threads + Wait + Sync>(
     rt: &R,
     alloc: Global,
     engine: &mut Plain,

@@ -8,6 +8,7 @@
 //! - `engine_memory`: each allocation that a command asks for, refused in turn.
 //! - `undo_memory`: those of `undo_all`.
 //! - `ample_memory`: answers where there is memory, in the cases where a wrong reason could hide behind `OutOfMemory`.
+//! - `forgetting`: what stays when the records are forgotten.
 //! - `gates`: which parts of a kill over a plain meter pass the test hook.
 //! - `rehearsal`: rehearsals in an arena.
 //! - `lines`: lines answered into a buffer.
@@ -21,6 +22,8 @@ mod answers;
 mod engine;
 #[cfg(test)]
 mod engine_memory;
+#[cfg(test)]
+mod forgetting;
 #[cfg(test)]
 mod gates;
 #[cfg(test)]

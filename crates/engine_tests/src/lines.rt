@@ -165,12 +165,25 @@ fn other_than_refused(alloc: Global, lines: &mut LineEngine) -> Other {
     if is_right { None } else { Some("mkdir /a") }
 }
 
+/// A group is made and forgotten: it stays, and there is nothing to undo.
+fn other_than_forgotten(alloc: Global, lines: &mut LineEngine) -> Other {
+    let made = lines.answer(alloc, 1, b"mkdir /a", &mut [0u8; 5]);
+    lines.forget();
+    let nothing = lines.answer(alloc, 2, b"undo", &mut [0u8; 18]);
+    let is_right = made == (Answer::Answered { len: 5, code: 0 })
+        && nothing == (Answer::Answered { len: 18, code: 14 })
+        && lines.depth() == 0
+        && lines.has_group(alloc, b"/a") == Found::There;
+    if is_right { None } else { Some("forget") }
+}
+
 /// What is tried on a new engine.
 #[derive(Clone, Copy)]
 enum Trial {
     Kinds,
     WithoutWords,
     Groups,
+    Forgotten,
     OneLine,
 }
 
@@ -179,6 +192,7 @@ fn other_on(alloc: Global, lines: &mut LineEngine, trial: Trial) -> Other {
         Trial::Kinds => other_kind(alloc, lines),
         Trial::WithoutWords => other_than_skipped(alloc, lines),
         Trial::Groups => other_group(alloc, lines),
+        Trial::Forgotten => other_than_forgotten(alloc, lines),
         Trial::OneLine => other_than_refused(alloc, lines),
     }
 }
@@ -203,6 +217,12 @@ fn a_line_without_words(rt: HostRuntime) -> Result<(), Fail> {
 #[test]
 fn groups_and_their_children(rt: HostRuntime) -> Result<(), Fail> {
     assert_eq!(rt; other(rt.alloc(), Trial::Groups)?, None);
+    Ok(())
+}
+
+#[test]
+fn a_forgotten_line(rt: HostRuntime) -> Result<(), Fail> {
+    assert_eq!(rt; other(rt.alloc(), Trial::Forgotten)?, None);
     Ok(())
 }
 

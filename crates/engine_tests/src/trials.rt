@@ -4,6 +4,7 @@
 use crate::ample_memory::{are_answered, are_answered_alone, is_crowd_answered};
 use crate::answers::{Plain, plain};
 use crate::engine::{all_shown, all_slots_told, journaled, recorded, traced};
+use crate::forgetting::forgotten;
 use crate::gates::all_passed;
 use crate::rehearsal::{
     COUNTED, HOUSED, RECORDED, TAKEN_BACK, refused_and_left, rehearsed_and_applied, ten_rehearsed,
@@ -18,6 +19,8 @@ use std::thread::Threads;
 pub(crate) enum Trial {
     /// Lines in turn, and then all of them taken back.
     Trace,
+    /// Lines, and then all of them forgotten.
+    Forgotten,
     /// Files of groups, and those that are not read.
     Readings,
     /// The newest record.
@@ -52,6 +55,7 @@ fn passes_on<R: Threads + Wait + Sync>(
 ) -> Result<bool, Fail> {
     match trial {
         Trial::Trace => traced(rt, alloc, engine),
+        Trial::Forgotten => forgotten(rt, alloc, engine),
         Trial::Readings => all_shown(rt, alloc, engine),
         Trial::Newest => recorded(rt, alloc, engine),
         Trial::Slots => all_slots_told(rt, alloc, engine),

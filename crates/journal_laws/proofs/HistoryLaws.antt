@@ -1,17 +1,19 @@
 -- What a kept history says of a machine's past, and what as many undos as one likes leave.
 use Rattle.std.proofs.Common.{◌≡◌, ◌∙◌, ℕ, zero, suc, ◌+◌, ◌≤◌, List, [], ◌∷◌, ◌++◌, drop, length, Option, Some, None, refl, sym, ap, subst, arith}
-use Rattle.flat_model.specs.State.{State, start}
+use Rattle.flat_model.specs.State.{State}
 use Rattle.flat_model.specs.Command as model
 use Rattle.flat_model.specs.Inverse.{Inverse, back, inverse}
 use Rattle.flat_model.specs.Step.{refusal, after}
 use Rattle.flat_model.specs.Machine.{Machine, new_machine, tick, end_of, after_all, undos}
 use Rattle.flat_model.proofs.Reachable.{reached_well}
 use Rattle.flat_model.proofs.TakenBack.{back_accepted, back_refused}
-use Rattle.flat_model.proofs.Undoing.{all_undone}
 use Rattle.undo_journal.specs.Answer.{IsNewest, record_by, record_of, state_by, state_after}
+use Rattle.undo_journal.specs.Beginning.{first_state, beginning}
 use Rattle.undo_journal.specs.Headline.{IsReached, KeepsHistory}
 use Rattle.undo_journal.specs.History.{IsHistory}
+use Rattle.undo_journal.proofs.Beginnings.{tick_begins}
 use Rattle.undo_journal.proofs.Undone.{keeps_history}
+use Rattle.journal_laws.specs.Runs.{KeepsEach}
 
 module _ (slots : ℕ) where
   -- ---- machines that commands reach
@@ -21,8 +23,24 @@ module _ (slots : ℕ) where
   end-push m [] c = refl
   end-push m (d ∷ cs) c = end-push (tick slots m d).0 cs c
 
+  all_undone : (s : State) (past : List (model.Command × State)) → end_of slots (record { state = s; past = past }) (undos (length past)) ≡ record { state = first_state s past; past = [] }
+  all_undone s [] = refl
+  all_undone s (e ∷ past) = all_undone e.1 past
+
+  pub undone_is : (m : Machine) → end_of slots m (undos (length m.past)) ≡ beginning m
+  undone_is m = all_undone m.state m.past
+
   pub reached_is : (cs : List model.Command) → IsReached slots (after_all slots cs)
-  reached_is cs = record { well_formed = reached_well slots cs; all_undone = all_undone slots cs }
+  reached_is cs = record { well_formed = reached_well slots cs; all_undone = undone_is (after_all slots cs) }
+
+  -- where the past begins
+  pub run_begins : (m : Machine) (cs : List model.Command) → beginning (end_of slots m cs) ≡ beginning m
+  run_begins m [] = refl
+  run_begins m (c ∷ cs) = run_begins (tick slots m c).0 cs ∙ tick_begins slots m c
+
+  pub each_begins : (m : Machine) (steps : List (model.Command × Machine)) (last : Machine) → KeepsEach slots m steps last → beginning last ≡ beginning m
+  each_begins m [] last h = ap beginning h
+  each_begins m (e ∷ steps) last h = each_begins e.1 steps last h.1 ∙ h.0.begins
 
   pub step_keeps : (cs : List model.Command) (c : model.Command) → KeepsHistory slots (after_all slots cs) c (tick slots (after_all slots cs) c).0
   step_keeps cs c =
@@ -31,19 +49,18 @@ module _ (slots : ℕ) where
 
   -- ---- undos, one after another
 
-  to_last : (now s : State) (d : model.Command) (past : List (model.Command × State))
-      → end_of slots (record { state = now; past = past ++ (d, s) ∷ [] }) (undos (length (past ++ (d, s) ∷ []))) ≡ record { state = s; past = [] }
-  to_last now s d [] = refl
-  to_last now s d (e ∷ past) = to_last e.1 s d past
-
-  -- the oldest state that an undo can give back, where all undos give the start
+  -- the oldest state that an undo can give back
   pub oldest_is : (m : Machine) (d : model.Command) (s : State) (past : List (model.Command × State))
-      → end_of slots m (undos (length m.past)) ≡ new_machine → m.past ≡ past ++ (d, s) ∷ [] → s ≡ start
-  oldest_is m d s past all is =
-      ap (λ (x : Machine). x.state)
-      (sym (to_last m.state s d past)
-      ∙ sym (λ k. end_of slots (record { state = m.state; past = is k }) (undos (length (is k))))
-      ∙ all)
+      → m.past ≡ past ++ (d, s) ∷ [] → s ≡ (beginning m).state
+  oldest_is m d s past is = sym (ap (first_state m.state) is ∙ bottom m.state past)
+    where
+      bottom : (now : State) (past : List (model.Command × State)) → first_state now (past ++ (d, s) ∷ []) ≡ s
+      bottom now [] = refl
+      bottom now (e ∷ past) = bottom e.1 past
+
+  -- with no past it is the state now
+  pub nothing_is : (m : Machine) → m.past ≡ [] → m ≡ beginning m
+  nothing_is m is = λ k. record { state = first_state m.state (sym is k); past = is k }
 
   pub undos_drop : (n : ℕ) (s : State) (past : List (model.Command × State)) → n ≤ length past → (end_of slots (record { state = s; past = past }) (undos n)).past ≡ drop n past
   undos_drop zero s past l = refl
@@ -75,13 +92,13 @@ module _ (slots : ℕ) where
   pub newest_recorded : (m : Machine) (c : model.Command) (i : Inverse) → refusal slots m.state c ≡ None → inverse m.state c ≡ Some i → IsNewest slots (after m.state c) ((c, m.state) ∷ m.past) i
   newest_recorded m c i e is = (ap (record_by m.state c) e ∙ is, back_accepted slots m.state c i e is)
 
-  pub history_more : (s : State) (es : List (model.Command × Inverse)) (c : model.Command) (i : Inverse)
-      → IsHistory slots s es → record_of slots s c ≡ Some i → IsHistory slots (state_after slots s c) ((c, i) ∷ es)
-  history_more s es c i h is =
+  pub history_more : (gone : ℕ) (s : State) (es : List (model.Command × Inverse)) (c : model.Command) (i : Inverse)
+      → IsHistory slots gone s es → record_of slots s c ≡ Some i → IsHistory slots gone (state_after slots s c) ((c, i) ∷ es)
+  history_more gone s es c i h is =
       let b = given_back s c i is in (
         record {
           record_is = ap (λ (t : State). record_of slots t c) b ∙ is;
           state_is = ap (λ (t : State). state_after slots t c) b;
         },
-        subst (λ (t : State). IsHistory slots t es) (sym b) h,
+        subst (λ (t : State). IsHistory slots gone t es) (sym b) h,
       )

@@ -2,3 +2,4 @@ mod FileMeanings
 mod HistoryLaws
 mod MeaningLaws
 mod Said
+mod Forgetting

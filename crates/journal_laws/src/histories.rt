@@ -11,6 +11,7 @@ ghost use Rattle.std.specs.Prelude.{
   ◌∷◌,
   ◌+◌,
   ◌-◌,
+  ◌^◌,
   ℕ,
   true,
   false,
@@ -55,6 +56,7 @@ ghost use Rattle.flat_model.specs.Machine.{
   after_all,
   end_of,
   new_machine,
+  replies,
   tick,
   undos,
 };
@@ -72,9 +74,11 @@ ghost use Rattle.undo_journal.specs.Answer.{
   state_after,
   undoes_without_memory,
 };
+ghost use Rattle.undo_journal.specs.Beginning.{beginning, forgotten};
 ghost use Rattle.undo_journal.specs.Headline.{IsReached, KeepsHistory, UndoesAll};
 ghost use Rattle.undo_journal.specs.History.{IsHistory, IsReady, machine_of, records};
 ghost use Rattle.undo_journal.specs.Meaning.{command_of, inverse_of, reply_of};
+ghost use Rattle.journal_laws.specs.Runs.{KeepsEach};
 
 /// An answer is one: the machine goes to one machine only, and there is one reply, which is never
 /// out of memory.
@@ -107,16 +111,62 @@ pub fn history_is_kept()
         ≡ new }
 {}
 
-/// The oldest state in the past is the start; where there is no past, so is the state now.
-pub fn history_begins_at_the_start()
+/// The past begins with its oldest state; where there is no past, with the state now. No command moves
+/// that beginning, and undoing everything gives it.
+pub fn history_begins_where_it_began()
     ensures oldest { (slots : ℕ) (old new : Machine) (c d : model.Command) (s : State) (past : List (model.Command × State))
-        → KeepsHistory slots old c new → new.past ≡ past ++ (d, s) ∷ [] → s ≡ start }
+        → KeepsHistory slots old c new → new.past ≡ past ++ (d, s) ∷ [] → s ≡ (beginning old).state }
     ensures nothing { (slots : ℕ) (old new : Machine) (c : model.Command)
-        → KeepsHistory slots old c new → new.past ≡ [] → new ≡ new_machine }
+        → KeepsHistory slots old c new → new.past ≡ [] → new ≡ beginning old }
+    ensures run { (slots : ℕ) (m : Machine) (cs : List model.Command)
+        → beginning (end_of slots m cs) ≡ beginning m }
+    ensures all { (slots : ℕ) (m : Machine) → end_of slots m (undos (length m.past)) ≡ beginning m }
     ensures reached { (slots : ℕ) (cs : List model.Command) → IsReached slots (after_all slots cs) }
     ensures well_formed { (slots : ℕ) (m : Machine) → IsReached slots m → MachineWellFormed slots m }
     ensures first { (slots : ℕ) (m : Machine) (d : model.Command) (s : State) (past : List (model.Command × State))
-        → IsReached slots m → m.past ≡ past ++ (d, s) ∷ [] → s ≡ start }
+        → IsReached slots m → m.past ≡ past ++ (d, s) ∷ [] → s ≡ (beginning m).state }
+{}
+
+/// For an engine that never forgets the beginning is the start: a new one begins there, and each answered
+/// command keeps it so. Undoing everything gives the start then, and the oldest state in the past is the
+/// start. So it is after any run of answered commands from a new engine.
+pub fn history_begins_at_the_start()
+    ensures new { beginning new_machine ≡ new_machine }
+    ensures kept { (slots : ℕ) (old new : Machine) (c : model.Command)
+        → KeepsHistory slots old c new → beginning old ≡ new_machine → beginning new ≡ new_machine }
+    ensures undone { (slots : ℕ) (old new : Machine) (c : model.Command)
+        → KeepsHistory slots old c new → beginning old ≡ new_machine
+        → end_of slots new (undos (length new.past)) ≡ new_machine }
+    ensures oldest { (slots : ℕ) (old new : Machine) (c d : model.Command) (s : State) (past : List (model.Command × State))
+        → KeepsHistory slots old c new → beginning old ≡ new_machine → new.past ≡ past ++ (d, s) ∷ []
+        → s ≡ start }
+    ensures nothing { (slots : ℕ) (old new : Machine) (c : model.Command)
+        → KeepsHistory slots old c new → beginning old ≡ new_machine → new.past ≡ []
+        → new ≡ new_machine }
+    ensures run { (slots : ℕ) (steps : List (model.Command × Machine)) (last : Machine)
+        → KeepsEach slots new_machine steps last
+        → (beginning last ≡ new_machine) × (end_of slots last (undos (length last.past)) ≡ new_machine) }
+    ensures reached { (slots : ℕ) (cs : List model.Command) → beginning (after_all slots cs) ≡ new_machine }
+    ensures all { (slots n : ℕ) (old new : Machine) → beginning old ≡ new_machine
+        → UndoesAll {E = AllocError} slots old (Ok n) new → new ≡ new_machine }
+{}
+
+/// A machine that has forgotten has the same state and nothing to undo. It answers every command as if it
+/// had not forgotten, as long as no undo takes back what it forgot.
+pub fn forgetting_keeps_the_state()
+    ensures state { (m : Machine) → (forgotten m).state ≡ m.state }
+    ensures past { (m : Machine) → (forgotten m).past ≡ [] }
+    ensures nothing { (slots : ℕ) (m : Machine)
+        → tick slots (forgotten m) model.Undo ≡ (forgotten m, model.NothingToUndo) }
+    ensures begins { (m : Machine) → beginning (forgotten m) ≡ forgotten m }
+    ensures well_formed { (slots : ℕ) (m : Machine)
+        → MachineWellFormed slots m → MachineWellFormed slots (forgotten m) }
+    ensures replies { (slots : ℕ) (m : Machine) (cs : List model.Command)
+        → TakesBackItsOwn slots (length m.past) m cs
+        → replies slots (forgotten m) cs ≡ replies slots m cs }
+    ensures after { (slots : ℕ) (m : Machine) (cs : List model.Command)
+        → TakesBackItsOwn slots (length m.past) m cs
+        → (end_of slots (forgotten m) cs).state ≡ (end_of slots m cs).state }
 {}
 
 /// Each group counts its own members and what its children count, and no other process; it is
@@ -138,13 +188,13 @@ pub fn counts_are_kept()
         → current new.state g ≤ x.peak }
 {}
 
-/// Where everything was undone, the start is left and as many commands are told as were recorded.
-/// When out of memory, fewer are told; the others stand as they stood, and the state is the
+/// Where everything was undone, the state where the past began is left and as many commands are told as
+/// were recorded. When out of memory, fewer are told; the others stand as they stood, and the state is the
 /// one before the last that was undone.
 pub fn everything_undone()
     ensures all { (slots n : ℕ) (old new : Machine)
         → UndoesAll {E = AllocError} slots old (Ok n) new
-        ↔ ((n ≡ length old.past) × (new.state ≡ start) × (new.past ≡ [])) }
+        ↔ ((n ≡ length old.past) × (new.state ≡ (beginning old).state) × (new.past ≡ [])) }
     ensures fewer { (slots n : ℕ) (e : AllocError) (old new : Machine)
         → UndoesAll slots old (Err (n, e)) new → n < length old.past }
     ensures rest { (slots n : ℕ) (e : AllocError) (old new : Machine)
@@ -189,25 +239,28 @@ pub fn records_are_of_what_changes()
         → record_of slots m.state c ≡ None → (tick slots m c).0 ≡ m }
     ensures given_back { (slots : ℕ) (s : State) (c : model.Command) (i : Inverse)
         → record_of slots s c ≡ Some i → back i (state_after slots s c) ≡ s }
-    ensures history { (slots : ℕ) (s : State) (es : List (model.Command × Inverse)) (c : model.Command) (i : Inverse)
-        → IsHistory slots s es → record_of slots s c ≡ Some i
-        → IsHistory slots (state_after slots s c) ((c, i) ∷ es) }
+    ensures history { (slots gone : ℕ) (s : State) (es : List (model.Command × Inverse)) (c : model.Command) (i : Inverse)
+        → IsHistory slots gone s es → record_of slots s c ≡ Some i
+        → IsHistory slots gone (state_after slots s c) ((c, i) ∷ es) }
 {}
 
 /// A journal is read with its newest entry first, and the machine that it stands for is one that
-/// commands reach.
+/// commands reach. If none was forgotten, it begins at the start; it can be forgotten whole.
 pub fn journals_are_histories()
     ensures newest_first { (journal : List (Entry Global)) (e : Entry Global)
         → records (journal ++ e ∷ []) ≡ (command_of e.command, inverse_of e.inverse) ∷ records journal }
     ensures empty { records {A = Global} [] ≡ [] }
-    ensures start { (slots : ℕ) (s : State) → IsHistory slots s [] ↔ (s ≡ start) }
+    ensures start { (slots : ℕ) (s : State) → IsHistory slots 0 s [] ↔ (s ≡ start) }
+    ensures forgotten { (slots gone : ℕ) (s : State) (es : List (model.Command × Inverse))
+        → IsHistory slots gone s es → gone + length es < 2 ^ 64 - 1
+        → IsHistory slots (gone + length es) s [] }
     ensures state { (s : State) (journal : List (Entry Global)) → (machine_of s journal).state ≡ s }
     ensures past { (s : State) (journal : List (Entry Global)) (e : Entry Global)
         → (machine_of s (journal ++ e ∷ [])).past
         ≡ (command_of e.command, back (inverse_of e.inverse) s)
         ∷ (machine_of (back (inverse_of e.inverse) s) journal).past }
-    ensures reached { (slots : ℕ) (s : State) (journal : List (Entry Global))
-        → IsHistory slots s (records journal) → IsReached slots (machine_of s journal) }
+    ensures reached { (slots gone : ℕ) (s : State) (journal : List (Entry Global))
+        → IsHistory slots gone s (records journal) → IsReached slots (machine_of s journal) }
 {}
 
 /// What a record takes back could be done by a command: a group that was made removed, a process
@@ -229,8 +282,8 @@ pub fn records_can_be_taken_back()
         → (has_process s pid ≡ false) × (is_group s p ≡ true) }
     ensures counted { (slots : ℕ) (s : State) (a : Path) (x : Attr) → IsReady slots s (Counted a)
         → get s.groups a ≡ Some x → 1 ≤ x.local }
-    ensures newest { (slots : ℕ) (s : State) (c : model.Command) (i : Inverse) (es : List (model.Command × Inverse))
-        → IsHistory slots s ((c, i) ∷ es) → IsReady slots s i }
+    ensures newest { (slots gone : ℕ) (s : State) (c : model.Command) (i : Inverse) (es : List (model.Command × Inverse))
+        → IsHistory slots gone s ((c, i) ∷ es) → IsReady slots s i }
 {}
 
 /// To take back a group or a process that was made, a limit that was set or a fork that was counted

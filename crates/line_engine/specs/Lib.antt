@@ -3,3 +3,4 @@ pub mod Buffer
 pub mod Answers
 pub mod Ready
 pub mod Listings
+pub mod Numbers

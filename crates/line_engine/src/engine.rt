@@ -4,6 +4,7 @@ ghost use Rattle.std.specs.Prelude.{◌≡◌, IfOk, length};
 ghost use Rattle.flat_model.specs.Machine.{new_machine};
 ghost use Rattle.flat_model.specs.Trace.{read_line};
 ghost use Rattle.trace_lines.specs.Meaning.{text_fault_of};
+ghost use Rattle.undo_journal.specs.Beginning.{forgotten};
 ghost use Rattle.line_engine.specs.Answers.{AnswersFault, AnswersLine};
 
 use crate::answer::{Answer, code_of_fault};
@@ -71,5 +72,13 @@ impl LineEngine {
         ensures { result ≡ length self.now.engine.past }
     {
         self.engine.depth()
+    }
+
+    /// Forgets the recorded commands: the groups and processes stay, and nothing earlier can be undone. The memory of the
+    /// journal is freed. It takes no memory and cannot fail.
+    pub fn forget(&mut self)
+        ensures { self.new.engine ≡ forgotten self.old.engine }
+    {
+        self.engine.forget();
     }
 }

@@ -55,7 +55,7 @@ pub(crate) enum Unread {
     OutOfMemory,
 }
 
-fn read(alloc: Global, text: &[u8]) -> Result<GroupPath<Global>, Unread>
+pub(crate) fn read(alloc: Global, text: &[u8]) -> Result<GroupPath<Global>, Unread>
     ensures { ReadsPath result (read_path text.now) }
 {
     match GroupPath::read(alloc, text) {

@@ -1,5 +1,5 @@
 -- Whether a command has a refusal.
-use Rattle.std.specs.Prelude.{◌≡◌, ◌≢◌, refl, ℕ, Bool, true, false, ◌&&◌, ◌||◌, not, Option, None, Some, IfSome, MatchOption, is_none, is_some}
+use Rattle.std.specs.Prelude.{◌≡◌, ◌≢◌, refl, Bool, true, false, ◌&&◌, not, Option, None, Some, IfSome, MatchOption, is_none}
 use Rattle.std.proofs.Common.{sym, ap, ◌∙◌}
 use Rattle.flat_model.specs.Path.{Path}
 use Rattle.flat_model.specs.Command as model

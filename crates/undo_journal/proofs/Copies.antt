@@ -27,8 +27,8 @@ module _ {A B : Type 0} (s s' : State) (js : List (Entry A)) (js' : List (Entry 
   pub same_machine : machine_of s' js' ≡ machine_of s js
   same_machine = λ k. record { state = state k; past = model_inverse.past_of (state k) (reverse (entries k)) }
 
-  pub same_history : (slots : ℕ) → IsHistory slots s (records js) → IsHistory slots s' (records js')
-  same_history slots h = subst (λ (t : State). IsHistory slots t (records js')) (sym state) (subst (IsHistory slots s) (sym (ap reverse entries)) h)
+  pub same_history : (slots forgotten : ℕ) → IsHistory slots forgotten s (records js) → IsHistory slots forgotten s' (records js')
+  same_history slots forgotten h = subst (λ (t : State). IsHistory slots forgotten t (records js')) (sym state) (subst (IsHistory slots forgotten s) (sym (ap reverse entries)) h)
 
 -- ---- one command after another
 

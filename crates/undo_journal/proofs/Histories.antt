@@ -1,18 +1,18 @@
--- What a journal says of the states before: each step kept, each state well formed, all of it undone.
+-- What a journal says of the states before: each step kept, each state well formed, all of it undone; and a journal that is forgotten.
 use Rattle.std.proofs.Common.{◌≡◌, ℕ, suc, List, [], ◌∷◌, ◌++◌, map, reverse, length, Option, Some, None, refl, sym, ap, subst, ◌∙◌}
 use Rattle.std.proofs.lemmas.List.{map-append, reverse-append, length-reverse, length-map}
 use Rattle.flat_model.specs.State.{State}
 use Rattle.flat_model.specs.Command as model
 use Rattle.flat_model.specs.Inverse.{Inverse, back, past_of}
 use Rattle.flat_model.specs.Step.{refusal}
-use Rattle.flat_model.specs.Machine.{new_machine, recorded, end_of, undos}
+use Rattle.flat_model.specs.Machine.{recorded, end_of, undos}
 use Rattle.flat_model.specs.WellFormed.{WellFormed, PastWellFormed}
 use Rattle.flat_model.proofs.TakenBack.{back_accepted, back_refused}
 use Rattle.flat_model.proofs.Kept.{kept}
 use Rattle.flat_model.proofs.Limits.{kept_refused}
-use Rattle.flat_model.proofs.Reachable.{start_well_formed}
 use Rattle.undo_journal.specs.declared.journal.Entry.{Entry}
 use Rattle.undo_journal.specs.Answer.{record_of, record_by, state_after, state_by}
+use Rattle.undo_journal.specs.Beginning.{first_state}
 use Rattle.undo_journal.specs.Headline.{IsReached}
 use Rattle.undo_journal.specs.History.{journal_entry, records, machine_of, IsStep, IsHistory}
 
@@ -36,24 +36,24 @@ module _ (slots : ℕ) where
   step_keeps t c None e w = kept slots t c w e
   step_keeps t c (Some r) e w = kept_refused slots t c r w e
 
-  pub history_well : (s : State) (es : List (model.Command × Inverse)) → IsHistory slots s es → WellFormed slots s
-  history_well s [] h = subst (WellFormed slots) (sym h) (start_well_formed slots)
-  history_well s (e ∷ es) h = subst (WellFormed slots) h.0.state_is (step_keeps (back e.1 s) e.0 (refusal slots (back e.1 s) e.0) refl (history_well (back e.1 s) es h.1))
+  pub history_well : (forgotten : ℕ) (s : State) (es : List (model.Command × Inverse)) → IsHistory slots forgotten s es → WellFormed slots s
+  history_well forgotten s [] h = h.well_formed
+  history_well forgotten s (e ∷ es) h = subst (WellFormed slots) h.0.state_is (step_keeps (back e.1 s) e.0 (refusal slots (back e.1 s) e.0) refl (history_well forgotten (back e.1 s) es h.1))
 
-  past_well : (s : State) (es : List (model.Command × Inverse)) → IsHistory slots s es → PastWellFormed slots (past_of s es)
-  past_well s [] h = tt
-  past_well s (e ∷ es) h = (history_well (back e.1 s) es h.1, past_well (back e.1 s) es h.1)
+  past_well : (forgotten : ℕ) (s : State) (es : List (model.Command × Inverse)) → IsHistory slots forgotten s es → PastWellFormed slots (past_of s es)
+  past_well forgotten s [] h = tt
+  past_well forgotten s (e ∷ es) h = (history_well forgotten (back e.1 s) es h.1, past_well forgotten (back e.1 s) es h.1)
 
-  -- ---- and undoing everything gives the start
+  -- ---- and undoing everything gives the state where the past begins
 
-  all_undone : (s : State) (es : List (model.Command × Inverse)) → IsHistory slots s es → end_of slots (record { state = s; past = past_of s es }) (undos (length (past_of s es))) ≡ new_machine
-  all_undone s [] h = λ k. record { state = h k; past = [] }
-  all_undone s (e ∷ es) h = all_undone (back e.1 s) es h.1
+  all_undone : (s : State) (es : List (model.Command × Inverse)) → end_of slots (record { state = s; past = past_of s es }) (undos (length (past_of s es))) ≡ record { state = first_state s (past_of s es); past = [] }
+  all_undone s [] = refl
+  all_undone s (e ∷ es) = all_undone (back e.1 s) es
 
-  pub reached : {A : Type 0} (s : State) (journal : List (Entry A)) → IsHistory slots s (records journal) → IsReached slots (machine_of s journal)
-  reached s journal h = record {
-    well_formed = (history_well s (records journal) h, past_well s (records journal) h);
-    all_undone = all_undone s (records journal) h;
+  pub reached : {A : Type 0} (forgotten : ℕ) (s : State) (journal : List (Entry A)) → IsHistory slots forgotten s (records journal) → IsReached slots (machine_of s journal)
+  reached forgotten s journal h = record {
+    well_formed = (history_well forgotten s (records journal) h, past_well forgotten s (records journal) h);
+    all_undone = all_undone s (records journal);
   }
 
 -- ---- a record put in front
@@ -76,11 +76,11 @@ module _ {A : Type 0} (slots : ℕ) (s new : State) (journal : List (Entry A)) (
       (λ k. record { state = new_is k; past = past_of (new_is k) (records_are k) })
       ∙ (λ k. record { state = state_by s c o; past = (c, taken k) ∷ past_of (taken k) (records journal) })
 
-  pub recorded_history : IsHistory slots s (records journal) → IsHistory slots new (records (journal ++ e ∷ []))
-  recorded_history h =
-      subst (IsHistory slots new) (sym records_are)
-      (subst (λ (t : State). IsHistory slots t ((c, i) ∷ records journal)) (sym new_is)
-      (step_by slots s c i o first i_is, subst (λ (t : State). IsHistory slots t (records journal)) (sym taken) h))
+  pub recorded_history : (forgotten : ℕ) → IsHistory slots forgotten s (records journal) → IsHistory slots forgotten new (records (journal ++ e ∷ []))
+  recorded_history forgotten h =
+      subst (IsHistory slots forgotten new) (sym records_are)
+      (subst (λ (t : State). IsHistory slots forgotten t ((c, i) ∷ records journal)) (sym new_is)
+      (step_by slots s c i o first i_is, subst (λ (t : State). IsHistory slots forgotten t (records journal)) (sym taken) h))
 
 -- ---- how long the past is
 

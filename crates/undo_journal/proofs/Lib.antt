@@ -1,6 +1,7 @@
 mod Fronts
 pub mod Histories
-mod Totals
+pub mod Totals
+pub mod Beginnings
 mod Killing
 pub mod Ready
 mod Undos

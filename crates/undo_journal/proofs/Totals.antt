@@ -1,6 +1,6 @@
--- Each event total is at most the number of recorded commands.
-use Rattle.std.proofs.Common.{◌≡◌, ℕ, suc, ◌<◌, ◌≤◌, ◌-◌, ◌^◌, Bool, true, false, cond, List, [], ◌∷◌, length, Option, Some, None, refl, sym, subst, ◌∙◌, arith}
-use Rattle.std.specs.Prelude.{option_map, unwrap_or}
+-- Each event total is at most the number of commands that were ever recorded, those that were forgotten among them.
+use Rattle.std.proofs.Common.{◌≡◌, ℕ, suc, ◌<◌, ◌≤◌, ◌+◌, ◌-◌, ◌^◌, Bool, true, false, cond, List, [], ◌∷◌, length, Option, Some, None, refl, sym, subst, ◌∙◌, arith}
+use Rattle.std.specs.Prelude.{option_map, unwrap_or, min}
 use Rattle.std.specs.Ordering.{eq_by_cmp}
 use Rattle.std.specs.FinMap.{get, empty, insert, remove, get-insert, get-remove, get-empty}
 use Rattle.flat_model.specs.Path.{Path, path_cmp}
@@ -11,9 +11,12 @@ use Rattle.flat_model.specs.Inverse.{Inverse, back}
 use Rattle.flat_model.specs.Step.{refusal, after, after_refusal, home_of, attr_of, with_limit, count_up, counts_for, at_each, raise_peak}
 use Rattle.flat_model.proofs.PathLaws.{path_cmp-IsTotalOrder, path_cmp-IsAntisymmetric}
 use Rattle.flat_model.proofs.Maps.{get-each}
+use Rattle.flat_model.proofs.Reachable.{start_well_formed}
+use Rattle.flat_model.specs.Events.{HasEventsUpTo}
+use Rattle.flat_model.specs.WellFormed.{WellFormed}
 use Rattle.pids_charge.specs.Events.{HasRoomForEvents}
 use Rattle.undo_journal.specs.Answer.{state_by}
-use Rattle.undo_journal.specs.History.{IsHistory}
+use Rattle.undo_journal.specs.History.{IsFirst, IsHistory}
 use Rattle.undo_journal.proofs.Histories.{history_well}
 
 -- no group has a greater event total
@@ -104,14 +107,54 @@ stepped : (t : State) (n : ℕ) → AtMost t n → (c : model.Command) (o : Opti
 stepped t n h c None = more (after t c) n (accepted t n h c)
 stepped t n h c (Some r) = refused t n h r
 
-module _ (slots : ℕ) where
-  history_totals : (s : State) (es : List (model.Command × Inverse)) → IsHistory slots s es → AtMost s (length es)
-  history_totals s [] h = subst (λ (t : State). AtMost t 0) (sym h) at_start
-  history_totals s (e ∷ es) h = subst (λ (t : State). AtMost t (suc (length es))) h.0.state_is (stepped (back e.1 s) (length es) (history_totals (back e.1 s) es h.1) e.0 (refusal slots (back e.1 s) e.0))
+-- no event has been counted at the start
+pub start_up : HasEventsUpTo 0 start
+start_up q attr is =
+    let total = at_start q attr is in
+    let local = (start_well_formed 0).totals q attr is in
+    (omega (arith, total, local), total)
 
-  -- so none is the greatest u64 where the journal has room for one record more
-  pub countable : (s : State) (es : List (model.Command × Inverse)) → IsHistory slots s es → length es < 2 ^ 64 - 1 → HasRoomForEvents s
+-- the past may begin with the start
+pub start_first : (slots : ℕ) (s : State) → s ≡ start → IsFirst slots 0 s
+start_first slots s is = record {
+  well_formed = subst (WellFormed slots) (sym is) (start_well_formed slots);
+  unforgotten = λ z. is;
+  counted = λ room. subst (HasEventsUpTo 0) (sym is) start_up;
+}
+
+module _ (slots forgotten : ℕ) where
+  history_totals : (s : State) (es : List (model.Command × Inverse)) → IsHistory slots forgotten s es → forgotten < 2 ^ 64 - 1 → AtMost s (forgotten + length es)
+  history_totals s [] h room = λ p attr is. let l = (h.counted room p attr is).1 in omega (arith, l)
+  history_totals s (e ∷ es) h room =
+      let at : suc (forgotten + length es) ≡ forgotten + length (e ∷ es) = omega arith in
+      subst (AtMost s) at
+      (subst (λ (t : State). AtMost t (suc (forgotten + length es))) h.0.state_is
+      (stepped (back e.1 s) (forgotten + length es) (history_totals (back e.1 s) es h.1 room) e.0 (refusal slots (back e.1 s) e.0)))
+
+  up_to : (s : State) (es : List (model.Command × Inverse)) → IsHistory slots forgotten s es → forgotten < 2 ^ 64 - 1 → HasEventsUpTo (forgotten + length es) s
+  up_to s es h room p attr is =
+      let total = history_totals s es h room p attr is in
+      let local = (history_well slots forgotten s es h).totals p attr is in
+      (omega (arith, total, local), total)
+
+  -- so none is the greatest u64 where fewer commands than that were recorded
+  pub countable : (s : State) (es : List (model.Command × Inverse)) → IsHistory slots forgotten s es → forgotten + length es < 2 ^ 64 - 1 → HasRoomForEvents s
   countable s es h room p attr is =
-      let total = history_totals s es h p attr is in
-      let local = (history_well slots s es h).totals p attr is in
-      (omega (arith, room, total, local), omega (arith, room, total))
+      let up = up_to s es h (omega (arith, room)) p attr is in
+      (omega (arith, room, up.0), omega (arith, room, up.1))
+
+  -- nothing was recorded: the state is the one that the past began with
+  first_is : (s : State) (es : List (model.Command × Inverse)) → IsHistory slots forgotten s es → length es ≡ 0 → forgotten ≡ 0 → s ≡ start
+  first_is s [] h none z = h.unforgotten z
+  first_is s (e ∷ es) h none z = absurd (omega (arith, none))
+
+  -- what was recorded is forgotten too, and the count stops at the greatest u64
+  pub first_again : (s : State) (es : List (model.Command × Inverse)) → IsHistory slots forgotten s es → (more : ℕ) → more ≡ min (forgotten + length es) (2 ^ 64 - 1) → IsFirst slots more s
+  first_again s es h more is = record {
+    well_formed = history_well slots forgotten s es h;
+    unforgotten = λ z. first_is s es h (grind (arith, is, z)) (grind (arith, is, z));
+    counted = λ room p attr there.
+        let all : more ≡ forgotten + length es = grind (arith, is, room) in
+        let up = up_to s es h (omega (arith, room, all)) p attr there in
+        (omega (arith, all, up.0), omega (arith, all, up.1));
+  }

@@ -11,7 +11,9 @@ use Rattle.std.specs.Prelude.{IfOk, OnErr, IsOk}
 use Rattle.undo_journal.specs.declared.reply.Reply.{Reply}
 use Rattle.undo_journal.specs.Meaning.{reply_of}
 use Rattle.undo_journal.specs.Answer.{Answers}
+use Rattle.undo_journal.specs.Beginning.{beginning}
 use Rattle.undo_journal.specs.Headline.{IsReached, KeepsHistory}
+use Rattle.undo_journal.proofs.Beginnings.{tick_begins}
 
 module _ (slots : ℕ) where
   -- ---- one command and its undo
@@ -43,14 +45,17 @@ module _ (slots : ℕ) where
   -- ---- the headline
 
   pub keeps_history : (old : Machine) (c : model.Command) (new : Machine) → new ≡ (tick slots old c).0 → IsReached slots new → KeepsHistory slots old c new
-  keeps_history old c new is h = record {
-    command_undone = subst (λ (m : Machine). length old.past < length m.past → tick slots m model.Undo ≡ (old, model.Undone c)) (sym is) (tick_undone old c);
-    run_undone = run_undone slots new;
-    all_undone = h.all_undone;
-    counts = current_is slots new.state h.well_formed.0;
-    populations = populated_is new.state;
-    peaks = h.well_formed.0.peaks;
-  }
+  keeps_history old c new is h =
+      let begins : beginning new ≡ beginning old = ap beginning is ∙ tick_begins slots old c in
+      record {
+        command_undone = subst (λ (m : Machine). length old.past < length m.past → tick slots m model.Undo ≡ (old, model.Undone c)) (sym is) (tick_undone old c);
+        run_undone = run_undone slots new;
+        begins = begins;
+        all_undone = h.all_undone ∙ begins;
+        counts = current_is slots new.state h.well_formed.0;
+        populations = populated_is new.state;
+        peaks = h.well_formed.0.peaks;
+      }
 
   -- ---- an answer, or out of memory
 

@@ -67,15 +67,15 @@ module _ {A : Type 0} (slots : ℕ) (s : State) (journal rest : List (Entry A)) 
   records_are = ap (λ (js : List (Entry A)). records js) is ∙ records_push rest e
 
   -- the last record can be taken back
-  pub last_ready : IsHistory slots s (records journal) → IsReady slots s (journal_entry e).1
-  last_ready h =
-      let k = subst (IsHistory slots s) records_are h in
-      step_ready slots s (journal_entry e).0 (journal_entry e).1 (history_well slots (back (journal_entry e).1 s) (records rest) k.1) k.0
+  pub last_ready : (forgotten : ℕ) → IsHistory slots forgotten s (records journal) → IsReady slots s (journal_entry e).1
+  last_ready forgotten h =
+      let k = subst (IsHistory slots forgotten s) records_are h in
+      step_ready slots s (journal_entry e).0 (journal_entry e).1 (history_well slots forgotten (back (journal_entry e).1 s) (records rest) k.1) k.0
 
   -- an undo that asks for no memory has a record that asks for none
-  pub needs_none : IsHistory slots s (records journal) → undoes_without_memory slots (past_of s (records journal)) ≡ true → needs_no_memory (Some (journal_entry e).1) ≡ true
-  needs_none h u =
-      let k = subst (IsHistory slots s) records_are h in
+  pub needs_none : (forgotten : ℕ) → IsHistory slots forgotten s (records journal) → undoes_without_memory slots (past_of s (records journal)) ≡ true → needs_no_memory (Some (journal_entry e).1) ≡ true
+  needs_none forgotten h u =
+      let k = subst (IsHistory slots forgotten s) records_are h in
       ap needs_no_memory (sym k.0.record_is) ∙ subst (λ (es : List (model.Command × Inverse)). undoes_without_memory slots (past_of s es) ≡ true) records_are u
 
   module _ (new : State) (new_is : new ≡ back (journal_entry e).1 s) where
@@ -87,5 +87,5 @@ module _ {A : Type 0} (slots : ℕ) (s : State) (journal rest : List (Entry A)) 
     pub reply_is : (tick slots (machine_of s journal) model.Undo).1 ≡ model.Undone (journal_entry e).0
     reply_is = λ k. (undone s (past_of s (records_are k))).1
 
-    pub undone_history : IsHistory slots s (records journal) → IsHistory slots new (records rest)
-    undone_history h = subst (λ (t : State). IsHistory slots t (records rest)) (sym new_is) (subst (IsHistory slots s) records_are h).1
+    pub undone_history : (forgotten : ℕ) → IsHistory slots forgotten s (records journal) → IsHistory slots forgotten new (records rest)
+    undone_history forgotten h = subst (λ (t : State). IsHistory slots forgotten t (records rest)) (sym new_is) (subst (IsHistory slots forgotten s) records_are h).1

@@ -5,13 +5,14 @@ use Rattle.flat_model.specs.Path.{Path, is_root}
 use Rattle.flat_model.specs.State.{Attr}
 use Rattle.flat_model.specs.Counts.{current, populated, members, children, IsInhabited}
 use Rattle.flat_model.specs.Command.{Command, Undo, Undone}
-use Rattle.flat_model.specs.Machine.{Machine, new_machine, tick, end_of, undos, TakesBackItsOwn}
+use Rattle.flat_model.specs.Machine.{Machine, tick, end_of, undos, TakesBackItsOwn}
 use Rattle.flat_model.specs.WellFormed.{MachineWellFormed}
+use Rattle.undo_journal.specs.Beginning.{beginning}
 
--- the state is well formed, and so is each that an undo can give back, down to the start
+-- the state is well formed, and so is each that an undo can give back, down to where the past begins
 pub record IsReached (slots : ℕ) (m : Machine) : Type 0 where
   pub well_formed : MachineWellFormed slots m
-  pub all_undone : end_of slots m (undos (length m.past)) ≡ new_machine
+  pub all_undone : end_of slots m (undos (length m.past)) ≡ beginning m
 
 -- From the machine `old`, the command c has led to `new`.
 pub record KeepsHistory (slots : ℕ) (old : Machine) (c : Command) (new : Machine) : Type 0 where
@@ -21,8 +22,9 @@ pub record KeepsHistory (slots : ℕ) (old : Machine) (c : Command) (new : Machi
   -- as they left records, give `new` back
   pub run_undone : (run : List Command) → TakesBackItsOwn slots (length new.past) new run →
       end_of slots (end_of slots new run) (undos (length (end_of slots new run).past - length new.past)) ≡ new
-  -- undoing everything gives the start
-  pub all_undone : end_of slots new (undos (length new.past)) ≡ new_machine
+  -- the past begins where it began, and undoing everything gives that beginning: the start, if the engine has never forgotten
+  pub begins : beginning new ≡ beginning old
+  pub all_undone : end_of slots new (undos (length new.past)) ≡ beginning old
   -- the count of each group is its own members and what its children count
   pub counts : (g : Path) → current new.state g ≡ length (members new.state g) + sum_by (current new.state) (children new.state g)
   -- and a group is populated where some process is in it or below it
@@ -32,5 +34,5 @@ pub record KeepsHistory (slots : ℕ) (old : Machine) (c : Command) (new : Machi
 
 -- everything is undone, and this is how many commands that was; or the newest of them are, so many, and the rest stands
 abbrev pub UndoesAll : {E : Type 0} → ℕ → Machine → Result ℕ (ℕ × E) → Machine → Type 0
-UndoesAll slots old (Ok n) new = (n ≡ length old.past) × (new ≡ new_machine)
+UndoesAll slots old (Ok n) new = (n ≡ length old.past) × (new ≡ beginning old)
 UndoesAll slots old (Err e) new = (e.0 < length old.past) × (new ≡ end_of slots old (undos e.0))

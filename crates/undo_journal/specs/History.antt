@@ -1,5 +1,5 @@
 -- The machine that a state and a journal stand for, and what the journal says of the states before.
-use Rattle.std.specs.Prelude.{◌≡◌, ℕ, ◌≤◌, List, [], ◌∷◌, map, length, reverse, None, Some, IsSome, eqb}
+use Rattle.std.specs.Prelude.{◌≡◌, ℕ, ◌-◌, ◌^◌, ◌<◌, ◌≤◌, List, [], ◌∷◌, map, length, reverse, None, Some, IsSome, eqb}
 use Rattle.std.specs.List.{All, IsDistinct}
 use Rattle.std.specs.FinMap.{get, len}
 use Rattle.flat_model.specs.Path.{parent}
@@ -9,6 +9,8 @@ use Rattle.flat_model.specs.Step.{refusal, home_of}
 use Rattle.flat_model.specs.Inverse as model_inverse
 use Rattle.flat_model.specs.Inverse.{back, past_of}
 use Rattle.flat_model.specs.Machine.{Machine}
+use Rattle.flat_model.specs.WellFormed.{WellFormed}
+use Rattle.flat_model.specs.Events.{HasEventsUpTo}
 use Rattle.pids_charge.specs.Events.{HasEvents}
 use Rattle.undo_journal.specs.declared.journal.Entry.{Entry}
 use Rattle.undo_journal.specs.Meaning.{command_of, inverse_of}
@@ -31,10 +33,18 @@ pub record IsStep (slots : ℕ) (s : State) (c : model.Command) (i : model_inver
   pub record_is : record_of slots (back i s) c ≡ Some i
   pub state_is : state_after slots (back i s) c ≡ s
 
--- the recorded commands have led from the start to the state s
-abbrev pub IsHistory : ℕ → State → List (model.Command × model_inverse.Inverse) → Type 0
-IsHistory slots s [] = s ≡ start
-IsHistory slots s (e ∷ es) = IsStep slots s e.0 e.1 × IsHistory slots (back e.1 s) es
+-- the past may begin with the state s, where so many recorded commands were forgotten
+pub record IsFirst (slots forgotten : ℕ) (s : State) : Type 0 where
+  pub well_formed : WellFormed slots s
+  -- none was forgotten: it is the start
+  pub unforgotten : forgotten ≡ 0 → s ≡ start
+  -- the count stops at the greatest u64; below it, it bounds the event totals
+  pub counted : forgotten < 2 ^ 64 - 1 → HasEventsUpTo forgotten s
+
+-- the recorded commands have led to the state s, from the start or from where so many were forgotten
+abbrev pub IsHistory : ℕ → ℕ → State → List (model.Command × model_inverse.Inverse) → Type 0
+IsHistory slots forgotten s [] = IsFirst slots forgotten s
+IsHistory slots forgotten s (e ∷ es) = IsStep slots s e.0 e.1 × IsHistory slots forgotten (back e.1 s) es
 
 -- ---- what a record needs to be taken back
 

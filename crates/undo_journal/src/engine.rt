@@ -20,12 +20,14 @@ use std::marker::Model;
 use std::sync::Wait;
 use std::thread::Threads;
 
-/// The groups and processes with their charges, and the journal of the recorded commands, the newest last.
+/// The groups and processes with their charges, the journal of the recorded commands, the newest last, and how many
+/// recorded commands were forgotten; that number stops at the greatest `u64`.
 #[derive(Drop)]
 pub struct Engine<A: Allocator + Clone, M: Meter> {
     pub(crate) alloc: A,
     pub(crate) charges: Charges<A, M>,
     pub(crate) journal: Vec<Entry<A>, A>,
+    pub(crate) forgotten: u64,
 }
 
 impl<A: Allocator + Clone, M: Meter> Model for Engine<A, M> {
@@ -41,7 +43,7 @@ impl<A: Allocator + Clone, M: Meter> Model for Engine<A, M> {
 
     ghost view = { λ e. machine_of e.charges e.journal.items };
 
-    ghost invariant = { λ e. IsHistory M.SLOTS e.charges (records e.journal.items) };
+    ghost invariant = { λ e. IsHistory M.SLOTS e.forgotten e.charges (records e.journal.items) };
 }
 
 /// The reply, or out of memory.
@@ -73,6 +75,7 @@ impl<A: Allocator + Clone, M: Meter + Drop> Engine<A, M> {
             alloc,
             charges,
             journal,
+            forgotten: 0,
         })
     }
 }

@@ -59,6 +59,9 @@ impl<A: Allocator + Clone, M: Meter> Engine<A, M> {
         ensures ok { IfOk result (λ reply. Answers M.SLOTS self.old (model.Fork parent child) reply self.new) }
         ensures err { OnErr result (self.new ≡ self.old) }
     {
+        if u64::MAX - self.forgotten <= self.journal.len() as u64 {
+            return Err(AllocError);
+        }
         let mut limiting = self.home_copy(parent)?;
         limiting.cut(n);
         let counted = limiting.copy(self.alloc.clone()?)?;

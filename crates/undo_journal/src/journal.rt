@@ -1,4 +1,6 @@
-//! An entry of the journal.
+//! An entry of the journal, and the dropping of all entries.
+
+ghost use Rattle.std.specs.Prelude.{◌≡◌, [], vec_capacity};
 
 use crate::command::Command;
 use crate::inverse::Inverse;
@@ -9,4 +11,13 @@ use std::alloc::Allocator;
 pub(crate) struct Entry<A: Allocator + Clone> {
     pub(crate) command: Command<A>,
     pub(crate) inverse: Inverse<A>,
+}
+
+/// Drops all entries, and frees the memory that the journal kept for them.
+pub(crate) fn drop_entries<A: Allocator + Clone>(journal: &mut Vec<Entry<A>, A>)
+    ensures none { journal.new.items ≡ [] }
+    ensures freed { vec_capacity journal.new ≡ 0 }
+{
+    journal.clear();
+    journal.shrink_to_fit();
 }

@@ -41,6 +41,7 @@ mod command;
 mod engine;
 mod exit;
 mod faults;
+mod forget;
 mod fork;
 mod inverse;
 mod journal;

@@ -52,6 +52,7 @@ impl<A: Allocator + Clone, M: Meter> Engine<A, M> {
             alloc,
             charges,
             journal,
+            forgotten: self.forgotten,
         })
     }
 

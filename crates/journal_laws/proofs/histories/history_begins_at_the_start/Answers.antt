@@ -1,11 +1,25 @@
-use Rattle.journal_laws.proofs.HistoryLaws.{oldest_is, reached_is}
+use Rattle.std.proofs.Common.{◌∙◌, ap}
+use Rattle.flat_model.specs.Machine.{Machine, new_machine}
+use Rattle.journal_laws.proofs.HistoryLaws.{oldest_is, nothing_is, run_begins, each_begins, undone_is}
 use Rattle.journal_laws.proofs.histories.history_begins_at_the_start.Goals as goal
 
+pub returns-clause-kept : goal.returns-clause-kept
+returns-clause-kept c = λ slots old new d k is. k.begins ∙ is
+
+pub returns-clause-undone : goal.returns-clause-undone
+returns-clause-undone c = λ slots old new d k is. k.all_undone ∙ is
+
 pub returns-clause-oldest : goal.returns-clause-oldest
-returns-clause-oldest c = λ slots old new d e s past k is. oldest_is slots new e s past k.all_undone is
+returns-clause-oldest c = λ slots old new d e s past k first is. oldest_is slots new e s past is ∙ ap (λ (m : Machine). m.state) (k.begins ∙ first)
+
+pub returns-clause-nothing : goal.returns-clause-nothing
+returns-clause-nothing c = λ slots old new d k first is. nothing_is slots new is ∙ k.begins ∙ first
+
+pub returns-clause-run : goal.returns-clause-run
+returns-clause-run c = λ slots steps last h. let is = each_begins slots new_machine steps last h in (is, undone_is slots last ∙ is)
 
 pub returns-clause-reached : goal.returns-clause-reached
-returns-clause-reached c = reached_is
+returns-clause-reached c = λ slots cs. run_begins slots new_machine cs
 
-pub returns-clause-first : goal.returns-clause-first
-returns-clause-first c = λ slots m d s past r is. oldest_is slots m d s past r.all_undone is
+pub returns-clause-all : goal.returns-clause-all
+returns-clause-all c = λ slots n old new first h. h.1 ∙ first

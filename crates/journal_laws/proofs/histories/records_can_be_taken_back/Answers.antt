@@ -4,4 +4,4 @@ use Rattle.undo_journal.proofs.Ready.{step_ready}
 use Rattle.journal_laws.proofs.histories.records_can_be_taken_back.Goals as goal
 
 pub returns-clause-newest : goal.returns-clause-newest
-returns-clause-newest c = λ slots s d i es h. step_ready slots s d i (history_well slots (back i s) es h.1) h.0
+returns-clause-newest c = λ slots gone s d i es h. step_ready slots s d i (history_well slots gone (back i s) es h.1) h.0

@@ -9,8 +9,8 @@ entries g c = rw c.as_slice.ensures.value at c.in_ok-journal.ensures
 
 pub invariant_of-result : goal.invariant_of-result
 invariant_of-result g c =
-    same_history c.self.inside.charges c.in_ok-charges.charges c.self.inside.journal.items c.in_ok-journal.journal.items c.in_ok-charges.ensures (entries g c) SLOTS
-    (subst (λ (n : ℕ). IsHistory n c.self.inside.charges (records c.self.inside.journal.items)) c.requires c.self.invariant)
+    same_history c.self.inside.charges c.in_ok-charges.charges c.self.inside.journal.items c.in_ok-journal.journal.items c.in_ok-charges.ensures (entries g c) SLOTS c.self.inside.forgotten
+    (subst (λ (n : ℕ). IsHistory n c.self.inside.forgotten c.self.inside.charges (records c.self.inside.journal.items)) c.requires c.self.invariant)
 
 pub returns : goal.returns
 returns g c =

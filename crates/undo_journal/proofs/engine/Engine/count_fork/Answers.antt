@@ -30,7 +30,8 @@ count_fork-requires-clause-at g c = subst (λ (m : Machine). c.args.n ≤ length
 pub count_fork-requires-clause-room : goal.count_fork-requires-clause-room
 count_fork-requires-clause-room g c =
     let e = records_length c.self.inside.journal.items in
-    countable g.M.Meter.SLOTS c.self.inside.charges (records c.self.inside.journal.items) c.self.invariant (omega (arith, e, c.in_ok-reserve.ensures.len, c.in_ok-reserve.ensures.capacity, c.in_ok-reserve.ensures.ok))
+    let l : c.len.result ≡ length c.self.inside.journal.items = omega (arith, c.self.inside.journal.ok.0) in
+    countable g.M.Meter.SLOTS c.self.inside.forgotten c.self.inside.charges (records c.self.inside.journal.items) c.self.invariant (omega (arith, e, l, c.if-self-len.false))
 
 -- ---- the record
 
@@ -56,7 +57,7 @@ pub invariant_of-self-2 : goal.invariant_of-self-2
 invariant_of-self-2 g c =
     rw (journal_is g c)
     (recorded_history g.M.Meter.SLOTS c.self.inside.charges c.count_fork.new.self c.self.inside.journal.items (entry g c) (model.Fork c.args.parent c.args.child) (model_inverse.Counted (limiting g c)) (Some (model.OverPidsMax (limiting g c)))
-    (entry_is g c) (refused g c) refl c.count_fork.ensures c.self.invariant)
+    (entry_is g c) (refused g c) refl c.count_fork.ensures c.self.inside.forgotten c.self.invariant)
 
 pub returns-clause-ok : goal.returns-clause-ok
 returns-clause-ok g c =

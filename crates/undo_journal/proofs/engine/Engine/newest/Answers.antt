@@ -7,5 +7,5 @@ use Rattle.undo_journal.proofs.engine.Engine.newest.Goals as goal
 pub returns-in-Some : goal.returns-in-Some
 returns-in-Some g c =
     rw (← c.self.view_is)
-    (newest_is g.M.Meter.SLOTS c.self.inside.charges c.self.inside.journal.items c.in-Some.entry.now
+    (newest_is g.M.Meter.SLOTS c.self.inside.forgotten c.self.inside.charges c.self.inside.journal.items c.in-Some.entry.now
     (subst (λ (js : List (Entry g.row.A.Denot)). slice_get js (length js - 1) ≡ Some c.in-Some.entry.now) c.deref.ensures.value (sym c.in-Some.ensures.value)) c.self.invariant)

@@ -15,7 +15,7 @@ use Rattle.undo_journal.proofs.engine.Engine.take_newest_back_alone.Goals.{Joine
 pub take_back_alone-requires : goal.take_back_alone-requires
 take_back_alone-requires g c =
     let r = snoc_of c.self.inside.journal.items c.in-Some.entry.now (read_through c.self.inside.journal.items c.deref.result.now c.in-Some.entry.now c.deref.ensures.value c.in-Some.ensures.value) in
-    last_ready g.M.Meter.SLOTS c.self.inside.charges c.self.inside.journal.items r.0 c.in-Some.entry.now r.1 c.self.invariant
+    last_ready g.M.Meter.SLOTS c.self.inside.charges c.self.inside.journal.items r.0 c.in-Some.entry.now r.1 c.self.inside.forgotten c.self.invariant
 
 pub returns-in_err-take_back_alone-clause-err : goal.returns-in_err-take_back_alone-clause-err
 returns-in_err-take_back_alone-clause-err g c = on_err c.from_residual.result ((λ i. machine_of (c.in_err-take_back_alone.ensures.err i) c.self.inside.journal.items) ∙ c.self.view_is)
@@ -25,7 +25,7 @@ returns-in_err-take_back_alone-clause-certain g c =
     let r = snoc_of c.self.inside.journal.items c.in-Some.entry.now (read_through c.self.inside.journal.items c.deref.result.now c.in-Some.entry.now c.deref.ensures.value c.in-Some.ensures.value) in
     λ u.
     let f : false ≡ true = c.in_err-take_back_alone.ensures.certain
-    (needs_none g.M.Meter.SLOTS c.self.inside.charges c.self.inside.journal.items r.0 c.in-Some.entry.now r.1 c.self.invariant
+    (needs_none g.M.Meter.SLOTS c.self.inside.charges c.self.inside.journal.items r.0 c.in-Some.entry.now r.1 c.self.inside.forgotten c.self.invariant
     (subst (λ (m : Machine). undoes_without_memory g.M.Meter.SLOTS m.past ≡ true) (sym c.self.view_is) u)) in cc
 
 pub returns-in_default-clause-ok : goal.returns-in_default-clause-ok
@@ -34,7 +34,7 @@ returns-in_default-clause-ok g c =
     (nothing_undone g.M.Meter.SLOTS c.self.inside.charges c.self.inside.journal.items (empty_of c.self.inside.journal.items c.deref.result.now c.deref.ensures.value c.in_default.ensures.value))
 
 pub invariant_of-self : goal.invariant_of-self
-invariant_of-self g c = subst (λ (s : State). IsHistory g.M.Meter.SLOTS s (records c.self.inside.journal.items)) (sym c.in_err-take_back_alone.ensures.err) c.self.invariant
+invariant_of-self g c = subst (λ (s : State). IsHistory g.M.Meter.SLOTS c.self.inside.forgotten s (records c.self.inside.journal.items)) (sym c.in_err-take_back_alone.ensures.err) c.self.invariant
 
 new_is : (g : _) (c : Joined-newest g) → c.take_back_alone.new.charges ≡ back (inverse_of c.in-Some-pop.newest.inverse) c.self.inside.charges
 new_is g c =
@@ -44,7 +44,7 @@ new_is g c =
 
 pub invariant_of-self-2 : goal.invariant_of-self-2
 invariant_of-self-2 g c =
-    undone_history g.M.Meter.SLOTS c.self.inside.charges c.self.inside.journal.items c.pop.new.self.items c.in-Some-pop.newest c.in-Some-pop.ensures.items c.take_back_alone.new.charges (new_is g c) c.self.invariant
+    undone_history g.M.Meter.SLOTS c.self.inside.charges c.self.inside.journal.items c.pop.new.self.items c.in-Some-pop.newest c.in-Some-pop.ensures.items c.take_back_alone.new.charges (new_is g c) c.self.inside.forgotten c.self.invariant
 
 pub returns-clause-ok : goal.returns-clause-ok
 returns-clause-ok g c = record {

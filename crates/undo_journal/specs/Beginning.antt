@@ -1,0 +1,18 @@
+-- Where a past begins, and the machine that has forgotten its past.
+use Rattle.std.specs.Prelude.{List, [], ◌∷◌}
+use Rattle.flat_model.specs.State.{State}
+use Rattle.flat_model.specs.Command.{Command}
+use Rattle.flat_model.specs.Machine.{Machine}
+
+-- the state before the oldest recorded command, and with no past the state now
+abbrev pub first_state : State → List (Command × State) → State
+first_state s [] = s
+first_state s (e ∷ past) = first_state e.1 past
+
+-- what undoing everything leaves
+abbrev pub beginning : Machine → Machine
+beginning m = record { state = first_state m.state m.past; past = [] }
+
+-- the same state, and nothing to undo
+abbrev pub forgotten : Machine → Machine
+forgotten m = record { state = m.state; past = [] }

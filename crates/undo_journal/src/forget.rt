@@ -1,0 +1,24 @@
+//! `forget`: the state stays, and nothing earlier can be undone.
+
+ghost use Rattle.std.specs.Prelude.{◌≡◌};
+ghost use Rattle.undo_journal.specs.Beginning.{forgotten};
+
+use crate::engine::Engine;
+use crate::journal::drop_entries;
+use pids_charge::Meter;
+use std::alloc::Allocator;
+
+impl<A: Allocator + Clone, M: Meter> Engine<A, M> {
+    /// Forgets all recorded commands: the state stays, none of them can be undone, and the memory of their records is
+    /// freed. It takes no memory and cannot fail. Costs what dropping the records costs.
+    ///
+    /// After 2^64 - 1 commands that were recorded, those that are forgotten among them, an engine that has forgotten
+    /// counts no more refused forks: a fork that a `pids.max` refuses is then out of memory.
+    pub fn forget(&mut self)
+        ensures { self.new ≡ forgotten self.old }
+    {
+        let dropped = self.journal.len() as u64;
+        self.forgotten = self.forgotten.saturating_add(dropped);
+        drop_entries(&mut self.journal);
+    }
+}
