@@ -187,32 +187,38 @@ PUBLIC uint32_t mk_where(mk_handle *h, int64_t pid, char *text, size_t size, mk_
 
 /* ---- numbers */
 
-static uint32_t read_number(mk_handle *h, const char *path, const char *file, size_t skipped, uint64_t *value, mk_info *info) {
-    char text[128];
-    uint32_t status = mk_read(h, path, file, text, sizeof text, info);
-    *value = 0;
-    if (status == MK_DONE) *value = strncmp(text, "max", 3) == 0 ? MK_NO_LIMIT : strtoull(text + skipped, NULL, 10);
-    info->len = 0;
-    return status;
+typedef uint32_t number_call(mk0_handle *h, const uint8_t *path, size_t path_len, uint64_t *value, mk0_info *info);
+
+static uint32_t read_number(mk_handle *h, const char *path, number_call *call, uint64_t *value, mk_info *info) {
+    mk0_handle *engine;
+    mk0_info told = {0};
+    uint64_t found = 0;
+    uint32_t status = enter(h, &engine);
+    if (status == MK_DONE) {
+        status = call(engine, (const uint8_t *)path, strlen(path), &found, &told);
+        leave(engine);
+    }
+    *value = found;
+    return tell(info, status, &told);
 }
 
 PUBLIC uint32_t mk_current(mk_handle *h, const char *path, uint64_t *value, mk_info *info) {
-    return read_number(h, path, "pids.current", 0, value, info);
+    return read_number(h, path, mk0_current, value, info);
 }
 
 PUBLIC uint32_t mk_peak(mk_handle *h, const char *path, uint64_t *value, mk_info *info) {
-    return read_number(h, path, "pids.peak", 0, value, info);
+    return read_number(h, path, mk0_peak, value, info);
 }
 
 PUBLIC uint32_t mk_populated(mk_handle *h, const char *path, bool *populated, mk_info *info) {
     uint64_t value;
-    uint32_t status = read_number(h, path, "cgroup.events", strlen("populated "), &value, info);
+    uint32_t status = read_number(h, path, mk0_populated, &value, info);
     *populated = value != 0;
     return status;
 }
 
 PUBLIC uint32_t mk_limit(mk_handle *h, const char *path, uint64_t *value, mk_info *info) {
-    return read_number(h, path, "pids.max", 0, value, info);
+    return read_number(h, path, mk0_limit, value, info);
 }
 
 /* the answer to a cat, in memory of its own if it is long */

@@ -94,7 +94,7 @@ func TestForget(t *testing.T) {
 		t.Error(current, err)
 	}
 	h.Close()
-	if err := h.Forget(); !errors.Is(err, syscall.EBADF) {
+	if err := h.Forget(); !errors.Is(err, ErrClosed) {
 		t.Error(err)
 	}
 }

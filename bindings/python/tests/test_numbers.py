@@ -54,7 +54,6 @@ def test_marks(hierarchy):
     assert h.reset() == 1 and h.groups() == ["/"] and h.depth() == 0
 
 
-@pytest.mark.parametrize("again", range(2))
 def test_forget(hierarchy):
     hierarchy.mkdir("/a")
     hierarchy.fork(1, 2)
@@ -69,6 +68,7 @@ def test_forget(hierarchy):
     assert hierarchy.where(2) == "0::/a\n"
 
 
+@pytest.mark.parametrize("again", range(2))
 def test_each_test_has_its_own_hierarchy(hierarchy, again):
     assert hierarchy.groups() == ["/"]
     hierarchy.mkdir("/a")
