@@ -1,4 +1,4 @@
--- What a seal owns: the same as a box of the engine, or nothing.
+-- What a seal owns: what a box of the engine owns, or nothing.
 use Rattle.std.specs.Prelude.{Option, None, Some}
 use Rattle.std.specs.Coded.{coded_option}
 use base.Fml.{Fml, ftrue}

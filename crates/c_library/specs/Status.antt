@@ -1,4 +1,4 @@
--- What the calls of C answer and leave. A handle holds an engine, or none.
+-- What the calls from C return and leave. A handle has an engine, or none.
 use Rattle.std.specs.Prelude.{◌≡◌, ℕ, cond, nat_eq, nat_lt, List, Option, None, Some, length, Result}
 use Rattle.flat_model.specs.Machine.{new_machine}
 use Rattle.flat_model.specs.Path.{Path}
@@ -20,7 +20,7 @@ use Rattle.line_engine.specs.declared.numbers.Number.{Number}
 use Rattle.line_engine.specs.declared.numbers.Number.TheVariants as number
 use Rattle.c_library.specs.declared.info.Info.{Info}
 
--- what a call says beside its status
+-- what a call returns besides its status
 abbrev pub told : ℕ → ℕ → ℕ → Info
 told len count code = record { len = len; count = count; needed = 0; code = code }
 
@@ -46,7 +46,7 @@ info_of (Answered len code) = told len 0 code
 info_of (TooSmall needed) = too_small needed
 info_of OutOfMemory = told 0 0 0
 
--- the n-th line was answered so by the engine e, and left the handle with an engine
+-- the engine e answered the n-th line so, and the handle still has an engine
 pub record AnsweredAt (e : LineEngine) (n : ℕ) (line : Line) (out : List ℕ) (status : ℕ) (info : Info) (new : Option LineEngine) : Type 0 where
   pub engine : LineEngine
   pub answer : Answer
@@ -61,7 +61,7 @@ AnswersAt (Some e) n line out status info new = AnsweredAt e n line out status i
 
 -- ---- the engine of a handle
 
--- a handle that had none has a new one, unless out of memory; one that had one stays
+-- a handle without an engine gets a new one, unless out of memory; a handle with one keeps it
 abbrev pub IsOpened : Option LineEngine → ℕ → Option LineEngine → Type 0
 IsOpened (Some e) status new = (status ≡ 6) × (new ≡ Some e)
 IsOpened None status None = status ≡ 4
@@ -96,7 +96,7 @@ listing_info listing.BadPath = told 0 0 33
 listing_info (listing.TooSmall needed) = too_small needed
 listing_info listing.OutOfMemory = told 0 0 0
 
--- the children of the group at the path are told so, and the engine stays
+-- the children of the group at the path are listed so, and the engine stays
 pub record ListedAt (e : LineEngine) (path : Result Path PathFault) (out : List ℕ) (status : ℕ) (info : Info) (new : Option LineEngine) : Type 0 where
   pub answer : Listing
   pub new_is : new ≡ Some e
@@ -108,7 +108,7 @@ abbrev pub ListsAt : Option LineEngine → Result Path PathFault → List ℕ �
 ListsAt None path out status info new = (status ≡ 6) × (info ≡ told 0 0 0) × (new ≡ None)
 ListsAt (Some e) path out status info new = ListedAt e path out status info new
 
--- the groups that stand are told so, and the engine stays
+-- all groups are listed so, and the engine stays
 pub record GroupsListedAt (e : LineEngine) (out : List ℕ) (status : ℕ) (info : Info) (new : Option LineEngine) : Type 0 where
   pub answer : Listing
   pub new_is : new ≡ Some e

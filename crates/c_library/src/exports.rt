@@ -1,4 +1,4 @@
-//! What C calls. Each call takes the engine out of its handle and puts it back.
+//! The exports for C. Each call takes the engine out of its handle and puts it back.
 
 ghost use Rattle.std.specs.Prelude.{◌≡◌, codes};
 ghost use Rattle.flat_model.specs.PathText.{read_path};
@@ -180,7 +180,7 @@ pub extern "C" fn mk0_line(
     status_of(answer)
 }
 
-/// Takes the newest recorded command back.
+/// Undoes the newest recorded command.
 #[unsafe(no_mangle)]
 pub extern "C" fn mk0_undo(
     alloc: Global,
@@ -194,7 +194,7 @@ pub extern "C" fn mk0_undo(
     mk0_line(alloc, h, number, b"undo", out, info)
 }
 
-/// How many recorded commands can be taken back.
+/// How many recorded commands can be undone.
 #[unsafe(no_mangle)]
 pub extern "C" fn mk0_depth(alloc: Global, h: &mut Handle, depth: &mut usize) -> u32
     ensures { DepthAt h.old.seal.held result depth.new h.new.seal.held }
@@ -222,7 +222,7 @@ pub extern "C" fn mk0_forget(alloc: Global, h: &mut Handle) -> u32
     DONE
 }
 
-/// The names of the groups one name below a group.
+/// The names of a group's children.
 #[unsafe(no_mangle)]
 pub extern "C" fn mk0_children(
     alloc: Global,
@@ -243,7 +243,7 @@ pub extern "C" fn mk0_children(
     listing_status(listing)
 }
 
-/// The paths of the groups that stand.
+/// The paths of all groups.
 #[unsafe(no_mangle)]
 pub extern "C" fn mk0_groups(alloc: Global, h: &mut Handle, out: &mut [u8], info: &mut Info) -> u32
     ensures { ListsGroupsAt h.old.seal.held out.new result info.new h.new.seal.held }
@@ -258,7 +258,7 @@ pub extern "C" fn mk0_groups(alloc: Global, h: &mut Handle, out: &mut [u8], info
     listing_status(listing)
 }
 
-/// Whether there is such a group.
+/// Whether a group exists.
 #[unsafe(no_mangle)]
 pub extern "C" fn mk0_has_group(alloc: Global, h: &mut Handle, path: &[u8], info: &mut Info) -> u32
     ensures { FindsAt h.old.seal.held (read_path path.now) result info.new h.new.seal.held }

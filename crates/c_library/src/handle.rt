@@ -8,7 +8,7 @@ use line_engine::LineEngine;
 use std::alloc::Global;
 use std::{mem, ptr};
 
-/// An engine, or none. All bytes 0 is one with none.
+/// An engine, or none. All bytes 0 means none.
 #[repr(C)]
 #[derive(Drop)]
 pub struct Handle {

@@ -1,14 +1,14 @@
-//! What a call says beside its status.
+//! What a call returns besides its status.
 
-/// What a call says beside its status.
+/// What a call returns besides its status.
 #[repr(C)]
 #[derive(Clone, Copy)]
 pub struct Info {
-    /// How many bytes of the buffer are the answer or the names.
+    /// How many bytes of the buffer the output or the names take.
     pub len: usize,
-    /// How many names these are.
+    /// How many names there are.
     pub count: usize,
-    /// Where the buffer is too small, how many bytes the answer or the names have; else 0.
+    /// If the buffer is too small, the length of the output or the names; else 0.
     pub needed: usize,
     /// The code of a refusal or a fault.
     pub code: u32,

@@ -1,15 +1,14 @@
-//! The engine for C: the private calls `mk0_..`, on which the C code of `bindings/c` stands.
+//! The engine for C: the private calls `mk0_..`, which the C code of `bindings/c` uses.
 //!
-//! - A handle is C's. It holds an engine or none; all bytes 0 is one with none. Each call takes the engine out of its
-//!   handle, asks it, and puts it back.
-//! - For each line, from each state, the status, the code, the bytes of the answer and the state that is left are those of
-//!   the machine of `flat_model`, and the journal keeps its promise; a buffer that is too small and out of memory leave
-//!   the engine as it was.
-//! - No call starts a thread, takes a lock or waits. A handle is not proved to cross threads.
+//! - C owns a handle. It has an engine or none; all bytes 0 means none. Each call takes the engine out of its handle, uses
+//!   it, and puts it back.
+//! - For each line, from each state, the status, the code, the output and the new state are those of the machine of
+//!   `flat_model`, and the journal can undo. If the buffer is too small, or when out of memory, the engine stays unchanged.
+//! - No call starts a thread, takes a lock or waits. No proof says that a handle may cross threads.
 //!
-//! Not checked by anything but tests: that C declares these calls as they are, and that a caller keeps what they ask.
+//! Only tests check that C declares these calls correctly, and that a caller meets their conditions.
 //!
-//! `specs/Status.antt` says what each call answers and leaves, `specs/Sealed.antt` what a handle owns.
+//! `specs/Status.antt` says what each call returns and leaves, `specs/Sealed.antt` what a handle owns.
 #![tactic(auto)]
 
 mod exports;

@@ -1,4 +1,4 @@
-//! A box as a bare pointer, for C to keep; or none.
+//! A box as a bare pointer for C to keep; or none.
 ghost use Rattle.std.specs.Prelude.{◌≡◌, true, Option, None, Some, is_some};
 ghost use Rattle.line_engine.specs.declared.engine.LineEngine.{LineEngine};
 ghost use Rattle.c_library.specs.Sealed.{held_coded, seal_owns};
@@ -43,7 +43,7 @@ impl Seal {
         }
     }
 
-    /// It owns nothing.
+    /// A seal that owns nothing.
     pub(crate) fn empty(alloc: Global, at: *mut u8) -> Seal
         ensures { result.held ≡ None }
     {

@@ -1,8 +1,8 @@
 //! Answers each line of a trace before it reads the next: commands on standard input, their replies
 //! on standard output.
 //!
-//! All that the program does and leaves stands at `run_program` of `shell_main`, and its statuses
-//! at `exit_status`; a fault's message is its text.
+//! `run_program` of `shell_main` says what the program does and leaves, `exit_status` its statuses.
+//! The text of a fault is its message.
 #![tactic(auto)]
 
 use replay_main::{StreamSink, StreamSource, collect_arguments};

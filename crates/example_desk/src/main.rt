@@ -1,4 +1,5 @@
-//! A desk with two sessions, each in a thread of its own. The log says who ran what, in one order.
+//! A desk with two sessions, each in a thread of its own. The log says which session ran what, in
+//! one order.
 #![tactic(auto)]
 
 use anyhow::bail;

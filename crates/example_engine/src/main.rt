@@ -1,4 +1,4 @@
-//! An engine of one's own: commands by text and by call, a refusal, an undo, and a group that is read.
+//! A program with its own engine: commands by text and by call, a refusal, an undo, and reading a group.
 #![tactic(auto)]
 
 use makhloeum::{

@@ -1,5 +1,5 @@
-//! Each file, fault and reading of `interface_files` is one of the model's, and what `render` and
-//! `render_home` answer says one thing only.
+//! Each file, fault and reading of `interface_files` is one of the model's, and the results of
+//! `render` and `render_home` mean one thing only.
 
 ghost use Rattle.std.specs.Prelude.{◌≡◌, ◌≢◌, ℕ, ◌↔◌, ◌⊎◌, true, false, [], codes, Some, None, Result, Ok, Err};
 ghost use Rattle.std.specs.FinMap.{get};
@@ -45,8 +45,7 @@ ghost use Rattle.interface_files.specs.declared.file.File.TheVariants.{
   PidsEventsLocal,
 };
 
-/// Each file is one of the model's, and each of the model's is one of these, by the names that a
-/// group shows.
+/// Each file is one of the model's, and each of the model's is one of these, by their names.
 pub fn files_are_the_models()
     ensures apart { (f g : File) → file_of f ≡ file_of g → f ≡ g }
     ensures all { (m : model_file.File) → (f : File) × (file_of f ≡ m) }
@@ -68,8 +67,8 @@ pub fn files_are_the_models()
         ↔ (f ≡ Procs) ⊎ (f ≡ KillFile) ⊎ (f ≡ MaxDescendants) ⊎ (f ≡ MaxDepth) ⊎ (f ≡ PidsMax) }
 {}
 
-/// Each fault of a value is one of the model's, and each of the model's is one of these. What was
-/// read is the model's reading, and no two readings are one there.
+/// Each fault of a value is one of the model's, and each of the model's is one of these. The result
+/// of reading a value is the model's, and different results are different there.
 pub fn readings_are_the_models()
     ensures faults { (value_fault_of Empty ≡ model_values.Empty)
         × (value_fault_of NotANumber ≡ model_values.NotANumber)
@@ -83,8 +82,8 @@ pub fn readings_are_the_models()
     ensures one { (a b : Result ℕ ValueFault) → reading_of a ≡ reading_of b → a ≡ b }
 {}
 
-/// An answer to a file says one thing only: the text that the model has, where it refuses nothing,
-/// or the model's refusal, by a fault of its own. Out of memory aside, one answer fits.
+/// The result for a file means one thing only: the text of the model if it refuses nothing, or the
+/// model's refusal, each by its own fault. Apart from out of memory, exactly one result fits.
 pub fn faults_are_told_apart()
     ensures text { (slots : ℕ) (s : State) (p : Path) (file : model_file.File) (text : Vec ℕ ℕ)
         → Shows slots s p file (Ok text) → model.Text text.items ≡ accepted s (model.Show p file) }
@@ -104,8 +103,8 @@ pub fn faults_are_told_apart()
         → ¬ (Shows {B = ℕ} slots s p file (Err NoProcess)) }
 {}
 
-/// An answer to the group of a process says one thing only: the model's text where there is the
-/// process, and else that there is none. No file and no group is missing there.
+/// The result for the group of a process means one thing only: the model's text if the process
+/// exists, else that it doesn't. It never says that a file or a group is missing.
 pub fn homes_are_told_apart()
     ensures text { (slots : ℕ) (s : State) (pid : ℕ) (text : Vec ℕ ℕ)
         → ShowsHome slots s pid (Ok text) → model.Text text.items ≡ accepted s (model.Locate pid) }
@@ -120,7 +119,7 @@ pub fn homes_are_told_apart()
         × ¬ (ShowsHome {B = ℕ} slots s pid (Err NoFile)) }
 {}
 
-/// Out of memory comes last: only where the model refuses nothing, and there always possible.
+/// Out of memory comes last: only if the model refuses nothing, and then it is always possible.
 pub fn out_of_memory_comes_last()
     ensures shown { (slots : ℕ) (s : State) (p : Path) (file : model_file.File)
         → Shows {B = ℕ} slots s p file (Err OutOfMemory) ↔ refusal slots s (model.Show p file) ≡ None }

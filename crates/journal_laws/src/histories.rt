@@ -1,5 +1,4 @@
-//! The machine behind an engine: what is kept of its past, what an undo takes back and what memory it
-//! asks for.
+//! The machine of an engine: what is kept of its past, what an undo restores, and what allocates.
 
 ghost use Rattle.std.specs.Prelude.{
   ◌≡◌,
@@ -80,8 +79,7 @@ ghost use Rattle.undo_journal.specs.History.{IsHistory, IsReady, machine_of, rec
 ghost use Rattle.undo_journal.specs.Meaning.{command_of, inverse_of, reply_of};
 ghost use Rattle.journal_laws.specs.Runs.{KeepsEach};
 
-/// An answer is one: the machine goes to one machine only, and there is one reply, which is never
-/// out of memory.
+/// An answer is unique: the machine has one successor, and there is one reply, which is never out of memory.
 pub fn answers_are_one()
     ensures exactly { (slots : ℕ) (old new : Machine) (c : model.Command) (r : Reply Global)
         → Answers slots old c r new ↔ ((new ≡ (tick slots old c).0)
@@ -93,9 +91,8 @@ pub fn answers_are_one()
         → Answers slots old c r new → reply_of r ≢ None }
 {}
 
-/// Where a command is recorded, it and the state before it stand in front of the past that was
-/// there, so that an undo gives the machine before it back. From any machine that commands reach,
-/// the machine's own step keeps its history.
+/// If a command is recorded, it and the state before it come in front of the old past, so that an undo restores the machine.
+/// From any machine that commands reach, the machine's own step keeps its history.
 pub fn history_is_kept()
     ensures reached { (slots : ℕ) (cs : List model.Command) (c : model.Command)
         → KeepsHistory slots (after_all slots cs) c (tick slots (after_all slots cs) c).0 }
@@ -111,8 +108,8 @@ pub fn history_is_kept()
         ≡ new }
 {}
 
-/// The past begins with its oldest state; where there is no past, with the state now. No command moves
-/// that beginning, and undoing everything gives it.
+/// The past begins with its oldest state; if there is no past, with the present state. No command moves that beginning, and
+/// undoing everything restores it.
 pub fn history_begins_where_it_began()
     ensures oldest { (slots : ℕ) (old new : Machine) (c d : model.Command) (s : State) (past : List (model.Command × State))
         → KeepsHistory slots old c new → new.past ≡ past ++ (d, s) ∷ [] → s ≡ (beginning old).state }
@@ -127,9 +124,9 @@ pub fn history_begins_where_it_began()
         → IsReached slots m → m.past ≡ past ++ (d, s) ∷ [] → s ≡ (beginning m).state }
 {}
 
-/// For an engine that never forgets the beginning is the start: a new one begins there, and each answered
-/// command keeps it so. Undoing everything gives the start then, and the oldest state in the past is the
-/// start. So it is after any run of answered commands from a new engine.
+/// For an engine that never forgets, the beginning is the start: a new engine begins there, and no answered command moves
+/// the beginning. Then undoing everything restores the start, and the oldest state in the past is the start. This holds
+/// after any run of answered commands from a new engine.
 pub fn history_begins_at_the_start()
     ensures new { beginning new_machine ≡ new_machine }
     ensures kept { (slots : ℕ) (old new : Machine) (c : model.Command)
@@ -151,8 +148,8 @@ pub fn history_begins_at_the_start()
         → UndoesAll {E = AllocError} slots old (Ok n) new → new ≡ new_machine }
 {}
 
-/// A machine that has forgotten has the same state and nothing to undo. It answers every command as if it
-/// had not forgotten, as long as no undo takes back what it forgot.
+/// A machine that has forgotten has the same state and nothing to undo. It answers every command as if it had not forgotten,
+/// as long as no undo reaches what it forgot.
 pub fn forgetting_keeps_the_state()
     ensures state { (m : Machine) → (forgotten m).state ≡ m.state }
     ensures past { (m : Machine) → (forgotten m).past ≡ [] }
@@ -169,9 +166,8 @@ pub fn forgetting_keeps_the_state()
         → (end_of slots (forgotten m) cs).state ≡ (end_of slots m cs).state }
 {}
 
-/// Each group counts its own members and what its children count, and no other process; it is
-/// populated exactly where some process has its home in it or below it. No group but the root counts
-/// more than its peak.
+/// Each group counts its own members and what its children count, and no other process. It is populated exactly if some
+/// process is in it or below it. No group but the root counts more than its peak.
 pub fn counts_are_kept()
     ensures whole { (slots : ℕ) (old new : Machine) (c : model.Command) (g : Path)
         → KeepsHistory slots old c new
@@ -188,9 +184,9 @@ pub fn counts_are_kept()
         → current new.state g ≤ x.peak }
 {}
 
-/// Where everything was undone, the state where the past began is left and as many commands are told as
-/// were recorded. When out of memory, fewer are told; the others stand as they stood, and the state is the
-/// one before the last that was undone.
+/// If everything was undone, the machine is at the beginning of its past, and the number returned is that of the recorded
+/// commands. When out of memory, fewer are undone; the others remain recorded, and the state is the one before the last
+/// command that was undone.
 pub fn everything_undone()
     ensures all { (slots n : ℕ) (old new : Machine)
         → UndoesAll {E = AllocError} slots old (Ok n) new
@@ -210,8 +206,8 @@ pub fn everything_undone()
         → UndoesAll slots old (Err (n, e)) (end_of slots old (undos n)) }
 {}
 
-/// The newest recorded command is the one that an undo says it took back, and there is none where
-/// an undo says that there is nothing. Its record is one only, and gives back the state before it.
+/// The newest recorded command is the one that an undo says it has undone. There is none exactly if an undo says that there
+/// is nothing. Its record is unique, and restores the state before it.
 pub fn newest_is_the_last_recorded()
     ensures undone { (slots : ℕ) (m : Machine) (c : model.Command)
         → (newest_command m.past ≡ Some c) ↔ ((tick slots m model.Undo).1 ≡ model.Undone c) }
@@ -227,8 +223,8 @@ pub fn newest_is_the_last_recorded()
     ensures never { (slots : ℕ) (now : State) (i : Inverse) → IsNewest slots now [] i → ⊥ }
 {}
 
-/// A command but an undo leaves the state that the machine goes to, and a record exactly where the
-/// machine's past grows. The record gives back the state before.
+/// A command other than undo leaves the next state of the machine, and a record exactly if the machine's past grows. The
+/// record restores the state before.
 pub fn records_are_of_what_changes()
     ensures state { (slots : ℕ) (m : Machine) (c : model.Command) → model.is_undo c ≡ false
         → state_after slots m.state c ≡ (tick slots m c).0.state }
@@ -244,8 +240,8 @@ pub fn records_are_of_what_changes()
         → IsHistory slots gone (state_after slots s c) ((c, i) ∷ es) }
 {}
 
-/// A journal is read with its newest entry first, and the machine that it stands for is one that
-/// commands reach. If none was forgotten, it begins at the start; it can be forgotten whole.
+/// A journal is read with its newest entry first, and it describes a machine that commands reach. If nothing was forgotten,
+/// it begins at the start. A whole journal can be forgotten.
 pub fn journals_are_histories()
     ensures newest_first { (journal : List (Entry Global)) (e : Entry Global)
         → records (journal ++ e ∷ []) ≡ (command_of e.command, inverse_of e.inverse) ∷ records journal }
@@ -263,9 +259,8 @@ pub fn journals_are_histories()
         → IsHistory slots gone s (records journal) → IsReached slots (machine_of s journal) }
 {}
 
-/// What a record takes back could be done by a command: a group that was made removed, a process
-/// that was made ended, one that was moved moved back, a limit set. A removed group has a place, and
-/// a process that has ended a group and its number.
+/// What a record undoes could be done by a command: removing a group that was made, ending a process that was made, moving
+/// one back, setting a limit. A removed group has a place to return to, and an exited process has a group and its pid.
 pub fn records_can_be_taken_back()
     ensures made { (slots : ℕ) (m : Machine) (p : Path) → IsReady slots m.state (Made p)
         → (tick slots m (model.RemoveGroup p)).1 ≡ model.Done }
@@ -286,9 +281,8 @@ pub fn records_can_be_taken_back()
         → IsHistory slots gone s ((c, i) ∷ es) → IsReady slots s i }
 {}
 
-/// To take back a group or a process that was made, a limit that was set or a fork that was counted
-/// no memory is asked for, nor where there is nothing to take back. To take back a removal, an end,
-/// a move or a kill it may be.
+/// Undoing a new group, a new process, a limit or a counted fork allocates nothing, nor does an undo with nothing to undo.
+/// Undoing a removal, an exit, a move or a kill may allocate.
 pub fn undone_without_memory()
     ensures nothing { (slots : ℕ) → undoes_without_memory slots [] ≡ true }
     ensures made { (slots : ℕ) (s : State) (past : List (model.Command × State)) (p : Path)

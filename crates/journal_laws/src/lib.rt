@@ -1,16 +1,15 @@
-//! What the definitions say that stand between the model and an engine. Each function is proof only: its
-//! contract is a law.
+//! The laws of the definitions between the model and an engine. Each function is proof only: its contract is a law.
 //!
-//! - `files`: the files of a group, the readings of values, and what `render` and `render_home` answer, by
-//!   the definitions of `interface_files` (`specs/Meaning.antt`, `specs/Shown.antt`).
-//! - `meanings`: the commands, refusals, replies and records of `undo_journal`, by their lines, words and
-//!   answers (`specs/Meaning.antt` there).
-//! - `histories`: what is kept of an engine's past, what an undo takes back and what memory it asks for
-//!   (`specs/Answer.antt`, `specs/Headline.antt`, `specs/History.antt` there).
-//! - `lines`: the lines of a trace and the answers to them, by the definitions of `trace_lines`
-//!   (`specs/Meaning.antt`, `specs/Action.antt`, `specs/Cut.antt`, `specs/Replied.antt`).
+//! - `files`: the files of a group, the readings of values, and the results of `render` and `render_home`, by the
+//!   definitions of `interface_files` (`specs/Meaning.antt`, `specs/Shown.antt`).
+//! - `meanings`: the commands, refusals, replies and records of `undo_journal`, by their lines, words and output
+//!   (`specs/Meaning.antt` there).
+//! - `histories`: what is kept of an engine's past, what an undo restores, and what allocates (`specs/Answer.antt`,
+//!   `specs/Headline.antt`, `specs/History.antt` there).
+//! - `lines`: the lines of a trace and their output, by the definitions of `trace_lines` (`specs/Meaning.antt`,
+//!   `specs/Action.antt`, `specs/Cut.antt`, `specs/Replied.antt`).
 //!
-//! No running code stands on this crate.
+//! No program uses this crate.
 #![tactic(auto)]
 
 pub mod files;

@@ -1,4 +1,4 @@
-//! What each answer of `trace_lines` says is one thing of the model, and which may be out of memory.
+//! Each result of `trace_lines` means one thing in the model; and which results may be out of memory.
 
 ghost use Rattle.std.specs.Prelude.{◌≡◌, ◌≢◌, ℕ, ◌↔◌, ◌⊎◌, List, [], ◌∷◌, codes, Option, Some, None, Ok, Err, length};
 ghost use Rattle.std.specs.declared.alloc.AllocError.{AllocError};
@@ -17,8 +17,8 @@ ghost use Rattle.trace_lines.specs.Cut.{the_one, the_two, the_three};
 ghost use Rattle.trace_lines.specs.Meaning.{text_fault_of, Says};
 ghost use Rattle.trace_lines.specs.Replied.{AddsReply};
 
-/// Each text fault is one of the model's, and each of the model's is one of these. An answered line
-/// is the model's, and no two lines are one there.
+/// Each text fault is one of the model's, and each of the model's is one of these. A line that was read is the model's, and
+/// different lines are different there.
 pub fn lines_are_told_apart()
     ensures faults { (text_fault_of text.Syntax ≡ trace.BadSyntax)
         × (text_fault_of text.Path ≡ trace.BadPath) × (text_fault_of text.File ≡ trace.BadFile)
@@ -33,7 +33,7 @@ pub fn lines_are_told_apart()
         → (t : trace.TextFault) × (m ≡ trace.Fault t) × (text_fault_of f ≡ t) }
 {}
 
-/// Out of memory is answered only of a line that runs a command with a path, and may be of each.
+/// Only a line that runs a command with a path may be out of memory, and each such line may.
 pub fn out_of_memory_is_for_paths()
     ensures only { (e : AllocError) (m : trace.Line) → Says (Err e) m → (p : Path)
         × ((m ≡ trace.Run (model.MakeGroup p)) ⊎ (m ≡ trace.Run (model.RemoveGroup p))
@@ -49,8 +49,7 @@ pub fn out_of_memory_is_for_paths()
         × Says (Err e) (trace.Run (model.Kill p)) × Says (Err e) (trace.Run (model.Show p shown)) }
 {}
 
-/// Never out of memory are a fork, an exit, a look-up of a process and an undo, nor is a line that
-/// is refused or says nothing.
+/// A fork, an exit, a look-up of a process and an undo are never out of memory, nor is a line that is refused or skipped.
 pub fn some_have_no_path()
     ensures commands { (e : AllocError) (m n : ℕ) → ¬ (Says (Err e) (trace.Run (model.Fork m n)))
         × ¬ (Says (Err e) (trace.Run (model.Exit m))) × ¬ (Says (Err e) (trace.Run (model.Locate m)))
@@ -59,8 +58,8 @@ pub fn some_have_no_path()
         × ¬ (Says (Err e) (trace.Fault f)) }
 {}
 
-/// What stands behind a path that is read says at it what the words of the whole command say: file,
-/// direction and value, of which the first fault is told.
+/// The words after a path mean the same as in the words of the whole command: file, direction and value. The first fault is
+/// returned.
 #[tactic(auto, unfolding(flat_model::specs::Values::number_fault))]
 pub fn actions_are_told_apart()
     ensures write { (p : Path) (word file value : Word) → path_word word ≡ Ok p
@@ -79,7 +78,7 @@ pub fn actions_are_told_apart()
         × (show_at p (codes "cgroup.kill") ≡ Err trace.BadDirection) }
 {}
 
-/// Words are taken where there are just so many.
+/// Words are taken exactly if there is the right number of them.
 pub fn words_are_counted()
     ensures one { (ws : List Word) (p : Word) → the_one ws ≡ Some p ↔ ws ≡ p ∷ [] }
     ensures two { (ws : List Word) (p q : Word) → the_two ws ≡ Some (p, q) ↔ ws ≡ p ∷ q ∷ [] }
@@ -88,7 +87,7 @@ pub fn words_are_counted()
         × (the_two ws ≡ None ↔ length ws ≢ 2) × (the_three ws ≡ None ↔ length ws ≢ 3) }
 {}
 
-/// A reply appends one text to the bytes, and none when out of memory.
+/// A reply appends one text to the bytes; out of memory appends none.
 pub fn replies_are_told_apart()
     ensures one { (old a b : List ℕ) (n : ℕ) (r : Option model.Reply) → AddsReply old n r a
         → AddsReply old n r b → a ≡ b }

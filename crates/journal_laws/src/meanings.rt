@@ -1,5 +1,5 @@
-//! What the program's commands, replies and records mean: each is one of the model, and each of the
-//! model is one of the program.
+//! The meaning of the program's commands, replies and records: each is one of the model, and each
+//! of the model is one of the program.
 
 ghost use Rattle.std.specs.Prelude.{
   ◌≡◌,
@@ -38,7 +38,7 @@ ghost use Rattle.undo_journal.specs.declared.reply.Reply.{Reply};
 ghost use Rattle.undo_journal.specs.declared.reply.Reply.TheVariants as reply;
 ghost use Rattle.undo_journal.specs.Meaning.{command_of, inverse_of, refusal_of, reply_of};
 
-/// No two commands, refusals or replies over one allocator mean the same.
+/// Different commands, refusals or replies over one allocator have different meanings.
 pub fn meanings_are_apart()
     ensures commands { (c d : Command Global) → command_of c ≡ command_of d → c ≡ d }
     ensures refusals { (r q : Refusal Global) → refusal_of r ≡ refusal_of q → r ≡ q }
@@ -53,7 +53,7 @@ pub fn everything_is_meant()
     ensures replies { (m : model.Reply) → (r : Reply Global) × (reply_of r ≡ Some m) }
 {}
 
-/// The line that says each command.
+/// The line of each command.
 pub fn commands_by_their_lines()
     ensures make { command_text (command_of {A = Global} (command.MakeGroup (codes "a" ∷ [])))
         ≡ codes "mkdir /a" }
@@ -75,7 +75,7 @@ pub fn commands_by_their_lines()
     ensures undo { command_text (command_of {A = Global} command.Undo) ≡ codes "undo" }
 {}
 
-/// The words that say each refusal.
+/// The words of each refusal.
 pub fn refusals_by_their_words()
     ensures exists { refusal_text (refusal_of {A = Global} refusal.Exists) ≡ codes "exists" }
     ensures no_group { refusal_text (refusal_of {A = Global} (refusal.NoGroup (codes "a" ∷ [])))
@@ -101,7 +101,7 @@ pub fn refusals_by_their_words()
         ≡ codes "direction" }
 {}
 
-/// The answer to the seventh command by each reply. Out of memory has none.
+/// The output for the seventh command by each reply. Out of memory has none.
 pub fn replies_by_their_answers()
     ensures done { option_map (reply_bytes 7) (reply_of {A = Global} reply.Done)
         ≡ Some (codes "7 ok\n") }
@@ -116,10 +116,10 @@ pub fn replies_by_their_answers()
     ensures memory { option_map (reply_bytes 7) (reply_of {A = Global} reply.OutOfMemory) ≡ None }
 {}
 
-/// What each record gives back: a group that was made goes, a process that was made ends, one that
-/// was moved stands where it stood, and both give the peaks along the group that they leave back; a
-/// limit is set as it was; a removed group, a process that has ended and those that were killed
-/// stand where they stood, and a fork is no longer counted.
+/// What each record restores. A new group is removed. A new process ends. A moved process returns
+/// to its old group. Both of these restore the peaks along the group that the process leaves. A
+/// limit gets its old value. A removed group, an exited process and killed processes return to
+/// where they were. A fork is no longer counted.
 pub fn records_by_what_they_give_back()
     ensures made { (s : State) (p : Path)
         → back (inverse_of {A = Global} (kept.Made p)) s ≡ after s (model.RemoveGroup p) }

@@ -1,4 +1,4 @@
--- What a line is answered, and what it leaves.
+-- What answering a line returns and leaves.
 use Rattle.std.specs.Prelude.{◌≡◌, ℕ, Bool, true, false, List}
 use Rattle.flat_model.specs.Command.{Command}
 use Rattle.flat_model.specs.Machine.{Machine, tick}
@@ -11,7 +11,7 @@ use Rattle.line_engine.specs.Codes.{reply_code, fault_code}
 use Rattle.line_engine.specs.declared.answer.Answer.{Answer}
 use Rattle.line_engine.specs.declared.answer.Answer.TheVariants.{Skipped, Answered, TooSmall, OutOfMemory}
 
--- as many groups beside the root as a plain meter has slots
+-- the number of groups besides the root: as many as a plain meter has slots
 abbrev pub slots : ℕ
 slots = SLOTS
 
@@ -21,22 +21,22 @@ is_told (Answered len code) = true
 is_told (TooSmall needed) = false
 is_told OutOfMemory = false
 
--- the first len bytes of the buffer answer the n-th line, which is no command; or its answer is longer than the buffer
+-- the first len bytes of the buffer are the output for the n-th line, which is not a command; or the output is longer than the buffer
 abbrev pub AnswersFault : ℕ → TextFault → List ℕ → Answer → Type 0
 AnswersFault n f out Skipped = ⊥
 AnswersFault n f out (Answered len code) = Holds out len (fault_bytes n f) × (code ≡ fault_code f)
 AnswersFault n f out (TooSmall needed) = LacksRoom out needed (fault_bytes n f)
 AnswersFault n f out OutOfMemory = Unit {0}
 
--- the machine has run the command as the n-th, the first len bytes of the buffer are its answer, and this is its code
+-- the machine has run the command as the n-th, the first len bytes of the buffer are its output, and this is its code
 pub record Ran (m : Machine) (n : ℕ) (c : Command) (out : List ℕ) (len code : ℕ) (next : Machine) : Type 0 where
   pub goes : next ≡ (tick slots m c).0
   pub answered : Holds out len (reply_bytes n (tick slots m c).1)
   pub code_is : code ≡ reply_code (tick slots m c).1
-  -- what was recorded can be undone, one command or a whole run, and what is counted is there
+  -- what was recorded can be undone, one command or a whole run, and the counts are exact
   pub history : KeepsHistory slots m c next
 
--- so it was; or the machine is as it was, since its answer is longer than the buffer, or when out of memory
+-- the command has run so; or the machine is unchanged, because the output is longer than the buffer or when out of memory
 abbrev pub AnswersRun : Machine → ℕ → Command → List ℕ → Answer → Machine → Type 0
 AnswersRun m n c out Skipped next = ⊥
 AnswersRun m n c out (Answered len code) next = Ran m n c out len code next

@@ -18,7 +18,7 @@ refusal_code (OverPidsMax p) = 11
 refusal_code NoFile = 12
 refusal_code NotReadable = 13
 
--- 0 for what was done
+-- 0 for a command that was done
 abbrev pub reply_code : Reply → ℕ
 reply_code Done = 0
 reply_code (Text text) = 0

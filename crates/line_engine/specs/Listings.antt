@@ -1,4 +1,4 @@
--- What is told of groups.
+-- Listings of groups.
 use Rattle.std.specs.Prelude.{◌≡◌, ℕ, zero, suc, true, false, List, [], ◌∷◌, ◌++◌, map, flat_map, length, Result, Ok, Err}
 use Rattle.std.specs.Result.{IsOk, IsErr}
 use Rattle.flat_model.specs.Path.{Name, Path}
@@ -14,35 +14,35 @@ use Rattle.line_engine.specs.declared.listing.Found.TheVariants as found
 use Rattle.line_engine.specs.declared.listing.Unread.{Unread}
 use Rattle.line_engine.specs.declared.listing.Unread.TheVariants as unread
 
--- each name with a zero byte behind it
+-- each name followed by a zero byte
 abbrev pub names_bytes : List Name → List ℕ
 names_bytes names = flat_map (λ name. name ++ 0 ∷ []) names
 
--- the names of the groups one name below p, in order
+-- the names of the children of p, in order
 abbrev pub names_below : State → Path → List Name
 names_below s p = map last_name (children s p)
 
--- p, and behind it, child by child in order, the groups below it: so many levels of groups in all
+-- p, then the groups below it, child by child in order, down to so many levels in all
 abbrev pub groups_from : State → ℕ → Path → List Path
 groups_from s zero p = []
 groups_from s (suc n) p = p ∷ flat_map (λ name. groups_from s n (p ++ name ∷ [])) (names_below s p)
 
--- the groups that stand: a path has 32 names at most
+-- all groups; a path has at most 32 names
 abbrev pub all_groups : State → List Path
 all_groups s = groups_from s 33 []
 
--- each path with a zero byte behind it
+-- each path followed by a zero byte
 abbrev pub paths_bytes : List Path → List ℕ
 paths_bytes paths = flat_map (λ p. path_text p ++ 0 ∷ []) paths
 
--- the path that the grammar gives; else it gives none, or was out of memory
+-- the path of the grammar; otherwise no path, or out of memory
 abbrev pub ReadsPath : Result Path Unread → Result Path PathFault → Type 0
 ReadsPath (Ok path) m = m ≡ Ok path
 ReadsPath (Err unread.BadPath) m = IsErr m
 ReadsPath (Err unread.OutOfMemory) m = IsOk m
 
--- the first len bytes of the buffer are the names of the children of the group, of which there are so many; or there is no
--- such group; or they need more than the buffer has
+-- the first len bytes of the buffer are the names of the group's children, of which there are `count`; or there is no
+-- such group; or the names are longer than the buffer
 abbrev pub TellsChildrenAt : State → Path → List ℕ → Listing → Type 0
 TellsChildrenAt s p out (listing.Listed len count) = (is_group s p ≡ true) × Holds out len (names_bytes (names_below s p)) × (count ≡ length (children s p))
 TellsChildrenAt s p out listing.NoGroup = is_group s p ≡ false
@@ -50,7 +50,7 @@ TellsChildrenAt s p out listing.BadPath = ⊥
 TellsChildrenAt s p out (listing.TooSmall needed) = (is_group s p ≡ true) × LacksRoom out needed (names_bytes (names_below s p))
 TellsChildrenAt s p out listing.OutOfMemory = Unit {0}
 
--- the same of the group that the text names, where it is a path
+-- the same for the group at the text, if it is a path
 abbrev pub TellsChildren : State → Result Path PathFault → List ℕ → Listing → Type 0
 TellsChildren s (Ok p) out a = TellsChildrenAt s p out a
 TellsChildren s (Err f) out a = a ≡ listing.BadPath
@@ -65,8 +65,8 @@ abbrev pub TellsGroup : State → Result Path PathFault → Found → Type 0
 TellsGroup s (Ok p) a = TellsGroupAt s p a
 TellsGroup s (Err f) a = a ≡ found.BadPath
 
--- the first len bytes of the buffer are the paths of the groups that stand, of which there are so many; or they need more
--- than the buffer has
+-- the first len bytes of the buffer are the paths of all groups, of which there are `count`; or the paths are longer
+-- than the buffer
 abbrev pub TellsGroups : State → List ℕ → Listing → Type 0
 TellsGroups s out (listing.Listed len count) = Holds out len (paths_bytes (all_groups s)) × (count ≡ length (all_groups s))
 TellsGroups s out listing.NoGroup = ⊥

@@ -1,4 +1,4 @@
--- What is known of an answer before its command runs.
+-- What is known of the output before its command runs.
 use Rattle.std.specs.Prelude.{◌≡◌, ℕ, Bool, true, false, cond, List}
 use Rattle.flat_model.specs.Command.{Command, Reply, Done, Text, Undone, Refused, NothingToUndo, is_undo, is_counted}
 use Rattle.flat_model.specs.Machine.{Machine, undone}
@@ -8,11 +8,11 @@ use Rattle.line_engine.specs.Codes.{reply_code}
 use Rattle.line_engine.specs.declared.answer.Answer.{Answer}
 use Rattle.line_engine.specs.declared.answer.Answer.TheVariants.{Skipped, Answered, TooSmall, OutOfMemory}
 
--- the reply where the command changes the machine and is not refused
+-- the reply if the command changes the machine and is not refused
 abbrev pub ready_reply : Machine → Command → Reply
 ready_reply m c = cond (is_undo c) (undone m.state m.past).1 Done
 
--- a reply that an accepted change brings
+-- a reply of an accepted change
 abbrev pub is_loud : Reply → Bool
 is_loud Done = true
 is_loud (Text text) = false
@@ -28,7 +28,7 @@ is_counted_reply (Undone c) = false
 is_counted_reply (Refused r) = is_counted r
 is_counted_reply NothingToUndo = false
 
--- the first len bytes of the buffer are the reply; where it is not told, it is none that an accepted change brings
+-- the first len bytes of the buffer are the output for the reply; a reply that is not output is not that of an accepted change
 abbrev pub AnswersReply : ℕ → Reply → List ℕ → Answer → Type 0
 AnswersReply n r out Skipped = ⊥
 AnswersReply n r out (Answered len code) = Holds out len (reply_bytes n r) × (code ≡ reply_code r)

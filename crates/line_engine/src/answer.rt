@@ -1,4 +1,4 @@
-//! What a line came to, and the code of a refusal or a fault.
+//! The result of answering a line, and the codes of refusals and faults.
 
 ghost use Rattle.std.specs.Prelude.{◌≡◌, IfSome};
 ghost use Rattle.undo_journal.specs.Meaning.{reply_of, refusal_of};
@@ -9,24 +9,24 @@ use std::alloc::Global;
 use trace_lines::TextFault;
 use undo_journal::{Refusal, Reply};
 
-/// What a line came to.
+/// The result of answering a line.
 #[derive(Clone, Copy, Debug, PartialEq, Eq)]
 pub enum Answer {
-    /// It has no words or is a comment: it has no answer.
+    /// The line has no words or is a comment, and has no output.
     Skipped,
-    /// It is answered.
+    /// The line has output.
     Answered {
-        /// How many bytes of the buffer are the answer.
+        /// How many bytes of the buffer are the output.
         len: usize,
-        /// 0 where it was done, else the code of the refusal or of the fault.
+        /// 0 if the command was done, else the code of the refusal or fault.
         code: u32,
     },
     /// The buffer is too small. Nothing has changed.
     TooSmall {
-        /// How many bytes the answer has.
+        /// The length of the output.
         needed: usize,
     },
-    /// There is no memory for it. Nothing has changed.
+    /// An allocation failed. Nothing has changed.
     OutOfMemory,
 }
 
@@ -50,7 +50,7 @@ fn code_of_refusal(refusal: &Refusal<Global>) -> u32
     }
 }
 
-/// 0 where the command was done; else the code of its refusal.
+/// 0 if the command was done, else the code of its refusal.
 pub(crate) fn code_of_reply(reply: &Reply<Global>) -> u32
     ensures { IfSome (reply_of reply.now) (λ r. result ≡ reply_code r) }
 {
@@ -61,7 +61,7 @@ pub(crate) fn code_of_reply(reply: &Reply<Global>) -> u32
     }
 }
 
-/// The code of a line that is no command.
+/// The code of a line that is not a command.
 pub(crate) fn code_of_fault(fault: TextFault) -> u32
     ensures { result ≡ fault_code (text_fault_of fault) }
 {

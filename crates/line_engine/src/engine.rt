@@ -1,4 +1,4 @@
-//! The engine.
+//! The type `LineEngine`.
 
 ghost use Rattle.std.specs.Prelude.{◌≡◌, IfOk, length};
 ghost use Rattle.flat_model.specs.Machine.{new_machine};
@@ -14,14 +14,14 @@ use std::alloc::{AllocError, Global};
 use trace_lines::{Line, TextFault, parse_line, put_fault};
 use undo_journal::Engine;
 
-/// An engine that answers line by line.
+/// An engine that answers one line at a time.
 #[derive(Drop)]
 pub struct LineEngine {
     /// The groups, the processes and the journal.
     pub engine: Engine<Global, PlainMeter<Global>>,
 }
 
-/// The answer to a line that is no command.
+/// Puts the output for a line that is not a command into the buffer.
 fn answer_fault(alloc: Global, number: u64, fault: TextFault, out: &mut [u8]) -> Answer
     ensures { AnswersFault number (text_fault_of fault) out.new result }
 {
@@ -41,7 +41,7 @@ fn answer_fault(alloc: Global, number: u64, fault: TextFault, out: &mut [u8]) ->
 }
 
 impl LineEngine {
-    /// The root alone, and process 1 in it.
+    /// An engine with the root alone, and process 1 in it.
     ///
     /// # Errors
     ///
@@ -54,8 +54,8 @@ impl LineEngine {
         Ok(LineEngine { engine })
     }
 
-    /// Answers one line, given without its line feed, as the `number`-th of a trace, into the buffer's start. Costs what the
-    /// command costs, and is linear in the line and the answer.
+    /// Answers one line, given without its line feed, as the `number`-th of a trace, into the start of the buffer. Costs as
+    /// much as the command, and is linear in the line and the output.
     pub fn answer(&mut self, alloc: Global, number: u64, text: &[u8], out: &mut [u8]) -> Answer
         ensures { AnswersLine self.old.engine number (read_line text.now) out.new result self.new.engine }
     {
@@ -67,7 +67,7 @@ impl LineEngine {
         }
     }
 
-    /// How many recorded commands can be taken back.
+    /// How many recorded commands can be undone.
     pub fn depth(&self) -> usize
         ensures { result ≡ length self.now.engine.past }
     {

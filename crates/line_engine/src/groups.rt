@@ -1,4 +1,4 @@
-//! The paths of the groups that stand.
+//! The paths of all groups.
 
 ghost use Rattle.std.specs.Prelude.{◌≡◌, ◌++◌, IfOk, length};
 ghost use Rattle.line_engine.specs.Listings.{TellsGroups, groups_from, paths_bytes};
@@ -10,11 +10,11 @@ use group_path::GroupPath;
 use pids_charge::{Charges, PlainMeter};
 use std::alloc::{AllocError, Global};
 
-/// A path has 32 names at most: so there are 33 levels of groups, the root's among them.
+/// A path has at most 32 names, so there are 33 levels of groups, including the root's.
 const LEVELS: u8 = 33;
 
-// Puts the path, and those of all groups below it within so many levels, behind the bytes, each with a zero byte behind it,
-// and tells how many there are. Out of memory also stands for 2^64 paths or more.
+// Appends the path, and those of the groups below it down to so many levels, each followed by a zero byte. Returns how many
+// there are. It also returns out of memory for 2^64 paths or more.
 fn gather_groups(
     alloc: Global,
     charges: &Charges<Global, PlainMeter<Global>>,
@@ -48,8 +48,8 @@ fn gather_groups(
 }
 
 impl LineEngine {
-    /// Puts the paths of all groups into the buffer's start, each with a zero byte behind it: the root's, and behind each
-    /// group's those of the groups below it, child by child in the order of their names.
+    /// Puts the paths of all groups into the start of the buffer, each followed by a zero byte. The root comes first. After
+    /// each group come the groups below it, child by child in the order of their names.
     pub fn groups(&self, alloc: Global, out: &mut [u8]) -> Listing
         ensures { TellsGroups self.now.engine.state out.new result }
     {

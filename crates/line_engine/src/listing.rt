@@ -1,4 +1,4 @@
-//! What is told of groups.
+//! Listings of groups.
 
 ghost use Rattle.std.specs.Prelude.{◌≡◌, IfOk, length};
 ghost use Rattle.flat_model.specs.PathText.{read_path};
@@ -10,48 +10,48 @@ use group_path::{GroupPath, PathFault};
 use group_tree::ChildNames;
 use std::alloc::{AllocError, Global};
 
-/// The names of a group's children, or why there are none.
+/// The result of listing a group's children.
 #[derive(Clone, Copy, Debug, PartialEq, Eq)]
 pub enum Listing {
-    /// They stand in the buffer.
+    /// The names are in the buffer.
     Listed {
-        /// How many bytes of the buffer they are.
+        /// How many bytes of the buffer the names take.
         len: usize,
-        /// How many names these are.
+        /// How many names there are.
         count: usize,
     },
-    /// There is no such group.
+    /// The group does not exist.
     NoGroup,
-    /// The text is no path.
+    /// The text is not a path.
     BadPath,
     /// The buffer is too small.
     TooSmall {
-        /// How many bytes they have.
+        /// The length of the names.
         needed: usize,
     },
-    /// There is no memory for it.
+    /// An allocation failed.
     OutOfMemory,
 }
 
-/// Whether there is such a group.
+/// Whether a group exists.
 #[derive(Clone, Copy, Debug, PartialEq, Eq)]
 pub enum Found {
-    /// There is.
+    /// The group exists.
     There,
-    /// There is none.
+    /// The group does not exist.
     NoGroup,
-    /// The text is no path.
+    /// The text is not a path.
     BadPath,
-    /// There is no memory for the path.
+    /// The allocation of the path failed.
     OutOfMemory,
 }
 
 /// Why no path was read.
 #[derive(Clone, Copy, PartialEq, Eq)]
 pub(crate) enum Unread {
-    /// The text is no path.
+    /// The text is not a path.
     BadPath,
-    /// There was no memory for it.
+    /// The allocation failed.
     OutOfMemory,
 }
 
@@ -74,7 +74,7 @@ pub(crate) fn read(alloc: Global, text: &[u8]) -> Result<GroupPath<Global>, Unre
     }
 }
 
-// Each name with a zero byte behind it, and how many there are. Out of memory also stands for 2^64 names or more.
+// Collects each name followed by a zero byte, and how many there are. It also returns out of memory for 2^64 names or more.
 fn gather(alloc: Global, names: ChildNames<'_, Global>) -> Result<(Vec<u8>, usize), AllocError>
     ensures bytes { IfOk result (λ r. r.0.items ≡ names_bytes names.entry) }
     ensures count { IfOk result (λ r. r.1 ≡ length names.entry) }
@@ -110,8 +110,8 @@ impl LineEngine {
         }
     }
 
-    /// Puts the names of the groups one name below the one at the path into the buffer's start, in the order of their bytes,
-    /// each with a zero byte behind it.
+    /// Puts the names of the children of the group at the path into the start of the buffer, in the order of their bytes,
+    /// each followed by a zero byte.
     pub fn children(&self, alloc: Global, path: &[u8], out: &mut [u8]) -> Listing
         ensures { TellsChildren self.now.engine.state (read_path path.now) out.new result }
     {
@@ -122,7 +122,7 @@ impl LineEngine {
         }
     }
 
-    /// Whether there is such a group.
+    /// Whether the group exists.
     pub fn has_group(&self, alloc: Global, path: &[u8]) -> Found
         ensures { TellsGroup self.now.engine.state (read_path path.now) result }
     {

@@ -1,4 +1,4 @@
-//! A command with its answer: told, or else nothing has changed.
+//! Running a command only if its output fits; otherwise nothing changes.
 
 ghost use Rattle.std.specs.Prelude.{◌≡◌, ◌≤◌, true, cond, ltb, ◌&&◌, not, IfOk, IfSome, Some, is_some, length, option_map};
 ghost use Rattle.flat_model.specs.Command as model;
@@ -35,7 +35,7 @@ fn is_answered(reply: &Reply<Global>) -> bool
     }
 }
 
-/// Whether the reply is one that an accepted change brings.
+/// Whether the reply is that of an accepted change.
 fn is_loud_reply(reply: &Reply<Global>) -> bool
     ensures { IfSome (reply_of reply.now) (λ r. result ≡ is_loud r) }
 {
@@ -55,7 +55,7 @@ fn is_told(answer: Answer) -> bool
     matches!(answer, Answer::Answered { len: _, code: _ })
 }
 
-/// The answer to a command that has this reply; `ready` is its bytes if it is one that an accepted change brings.
+/// The result for a command with this reply. `ready` has the reply's bytes if it is that of an accepted change.
 fn answer_reply(
     alloc: Global,
     number: u64,
@@ -92,7 +92,7 @@ fn answer_reply(
 }
 
 impl LineEngine {
-    /// What the engine answers where the command changes it and is not refused.
+    /// The reply of the engine if the command changes it and is not refused.
     fn expected(
         &self,
         alloc: Global,
@@ -112,7 +112,7 @@ impl LineEngine {
         }
     }
 
-    /// The bytes that answer the command where it changes the engine and is not refused.
+    /// The output for the command if it changes the engine and is not refused.
     fn ready(
         &self,
         alloc: Global,
@@ -137,8 +137,8 @@ impl LineEngine {
         }
     }
 
-    /// Whether the command changes the engine and is not refused, and its answer, which has `needed` bytes then, has no
-    /// room in a buffer of so many.
+    /// Whether the command changes the engine and is not refused, and its output of `needed` bytes is longer than the
+    /// buffer.
     fn lacks_room(&mut self, command: &Command<Global>, needed: usize, room: usize) -> bool
         ensures told { result ≡ (ltb room needed && is_loud (tick slots self.old.engine (command_of command.now)).1) }
         ensures kept { self.new.engine ≡ self.old.engine }
@@ -149,7 +149,7 @@ impl LineEngine {
         self.is_changed_by(command)
     }
 
-    /// Takes a counted refusal back where it is not told. This asks for no memory.
+    /// Undoes a counted refusal whose output doesn't fit. Allocates nothing.
     fn take_untold_back(&mut self, reply: &Reply<Global>, answer: Answer)
         requires { IfSome (reply_of reply.now) (λ r. is_counted_reply r ≡ true → undoes_without_memory slots self.old.engine.past ≡ true) }
         ensures { IfSome (reply_of reply.now) (λ r. self.new.engine ≡ cond (is_counted_reply r && not (is_told answer)) (tick slots self.old.engine model.Undo).0 self.old.engine) }

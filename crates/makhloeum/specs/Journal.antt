@@ -1,4 +1,4 @@
--- What commands, replies and records mean, what an engine answers and keeps, and what it shows.
+-- The meaning of commands, replies and records, and what an engine answers, keeps and shows.
 pub use Rattle.pids_charge.specs.Content
 pub use Rattle.interface_files.specs.Shown
 pub use Rattle.undo_journal.specs.Meaning

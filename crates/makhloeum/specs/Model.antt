@@ -1,4 +1,4 @@
--- The definitions by which everything is measured.
+-- The definitions that contracts refer to.
 pub use Rattle.flat_model.specs.Path
 pub use Rattle.flat_model.specs.Refuse
 pub use Rattle.flat_model.specs.PathText

@@ -1,4 +1,4 @@
--- What a line says, the bytes of an answer, and what a replay leaves of its devices.
+-- The meaning of a line, the output for a command, and what a replay leaves of its devices.
 pub use Rattle.trace_lines.specs.Meaning
 pub use Rattle.trace_lines.specs.Replied
 pub use Rattle.replay_main.specs.Device

@@ -1,5 +1,5 @@
-//! What the definitions of `sessions` say of a call of a session, of what it leaves behind the lock,
-//! and of the answer of an audit.
+//! The laws of the definitions of `sessions`: what a call of a session leaves, in the session and behind the lock, and the
+//! result of an audit.
 
 ghost use Rattle.std.specs.Prelude.{
   ◌≡◌,
@@ -60,9 +60,8 @@ ghost use Rattle.sessions.specs.Served.{
   log_len,
 };
 
-/// A call that ran leaves the session its number and its receipts, and behind them one more, which
-/// is the one that is given and of the command that was run. A call that failed leaves the session
-/// as it was.
+/// A call that ran keeps the session's number and receipts, and appends one receipt: the one that it returns, of the command
+/// that was run. A call that failed leaves the session unchanged.
 pub fn receipts_of_a_call()
     ensures ran { (c : model.Command) (before after : Session) (r : Bor Receipt)
         → Ran c before after (Ok r) ↔ ((after.number ≡ before.number)
@@ -102,9 +101,8 @@ pub fn receipts_of_a_call_at_a_turn()
         × (after ≡ before ++ record { number = turn; command = c; reply = answer } ∷ [])) }
 {}
 
-/// A turn has passed where the log has an entry of its number: with five entries turn 4 has passed,
-/// and turn 5 has not. A call without a turn is never told that one has passed, and the other two
-/// faults say nothing of turns.
+/// A turn has passed if the log has an entry with its number: with five entries turn 4 has passed, and turn 5 has not. A
+/// call without a turn never returns that one has passed, and the other two faults say nothing about turns.
 pub fn turns_that_passed()
     ensures exactly { (turn len : ℕ) → IsLate turn (run_fault.TurnPassed len)
         ↔ ((k : ℕ) × (len ≡ turn + 1 + k)) }
@@ -117,8 +115,8 @@ pub fn turns_that_passed()
     ensures others { (turn : ℕ) (e : RunFault) → NamesNoTurn e → IsLate turn e }
 {}
 
-/// Of the faults but out of memory one at most is the first, and none is where the receipts are
-/// the log's entries. Where they are not, there is one. Out of memory may be told of any receipts.
+/// Apart from out of memory, at most one fault is the first; there is none exactly if the receipts are the log's entries.
+/// Out of memory is possible for any receipts.
 pub fn first_faults()
     ensures one { (n : ℕ) (log : List Entry) (ss : List Session) (f g : CloseFault)
         → f ≢ fault.OutOfMemory → g ≢ fault.OutOfMemory
@@ -131,8 +129,8 @@ pub fn first_faults()
         → IsFirstFault n log ss fault.OutOfMemory }
 {}
 
-/// Of three commands by the sessions 0, 1 and 0: a receipt taken out is missing, one with another
-/// reply differs, and one with a number past the log is its session's stranger.
+/// Three commands by the sessions 0, 1 and 0: a receipt left out is missing, one with another reply differs, and one with a
+/// number beyond the log makes its session a stranger.
 pub fn first_faults_of_three()
     ensures missing { (a b c : Exchange)
         → IsFirstFault 2 (three a b c) (session 0 (receipt 0 a ∷ [])
@@ -145,20 +143,19 @@ pub fn first_faults_of_three()
         ∷ session 1 (receipt 1 b ∷ []) ∷ []) (fault.Stranger 0) }
 {}
 
-/// A desk has as many slots as a plain meter, so a rehearsal is answered as a desk would answer.
+/// A desk has as many slots as a plain meter, so a rehearsal has the same replies as a desk.
 pub fn slots_of_a_desk()
     ensures { slots ≡ SLOTS }
 {}
 
-/// The answer in an entry or a receipt is the reply that was given.
+/// The reply in an entry or a receipt is the reply that was given.
 pub fn answers_that_are_kept()
     ensures same { (r : Reply Global) → reply_of r ≢ None → Some (answer_of r) ≡ reply_of r }
     ensures done { answer_of {A = Global} reply.Done ≡ model.Done }
     ensures nothing { answer_of {A = Global} reply.NothingToUndo ≡ model.NothingToUndo }
 {}
 
-/// The answer for the log and the one for the receipt are both the machine's, and so they are the
-/// same.
+/// The reply in the log and the reply in the receipt are both the machine's, so they are equal.
 pub fn answers_for_log_and_receipt()
     ensures both { (old new : Machine) (c : model.Command) (r q : Reply Global)
         → AnswersTwice old c r q new ↔ (Answers slots old c r new × Answers slots old c q new) }
@@ -166,8 +163,7 @@ pub fn answers_for_log_and_receipt()
         → AnswersTwice old c r q new → reply_of r ≡ reply_of q }
 {}
 
-/// A turn is early where the log has fewer entries; never at a halted desk or a closed one, and
-/// never where it has passed.
+/// A turn is early if the log has fewer entries. It is never early at a halted or closed desk, or after it has passed.
 pub fn turns_that_are_early()
     ensures exactly { (hall : Hall) (book : Book) (turn : ℕ) → hall.book ≡ Some book
         → IsEarly hall turn ↔ ((hall.is_halted ≡ false) × (vec_len book.log + 1 ≤ turn)) }
@@ -178,9 +174,8 @@ pub fn turns_that_are_early()
     ensures no_log { (hall : Hall) → hall.book ≡ None → log_len hall ≡ 0 }
 {}
 
-/// A desk serves until it is halted or closed. A call is told `Halted` exactly where nobody is
-/// served, and `TurnPassed` exactly where the log is longer than the turn, with its length. A call
-/// that ran leaves a log that is one entry longer.
+/// A desk serves until it is halted or closed. A call returns `Halted` exactly if the desk doesn't serve, and `TurnPassed`
+/// exactly if the log is longer than the turn, with the log's length. A call that ran leaves a log with one more entry.
 pub fn answers_behind_the_lock()
     ensures serving { (hall : Hall) (book : Book) → hall.book ≡ Some book
         → IsServing hall ↔ (hall.is_halted ≡ false) }
@@ -202,7 +197,7 @@ pub fn answers_behind_the_lock()
         → Served session c before after rs more → AppendsAt (log_len before) c rs more }
 {}
 
-/// The first number that is not marked is one at most, and is not past the marks.
+/// There is at most one first number without a mark, and it is not beyond the marks.
 pub fn marks_of_an_audit()
     ensures third { IsFirstClear (true ∷ true ∷ false ∷ false ∷ []) 2 }
     ensures one { (marks : List Bool) (i j : ℕ) → IsFirstClear marks i → IsFirstClear marks j

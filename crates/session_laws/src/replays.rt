@@ -1,5 +1,5 @@
-//! What the definitions of `replay_main` say of a replay, of the program and of its command line,
-//! where the devices tell their bytes.
+//! The laws of the definitions of `replay_main`: of a replay, of the program and of its command line, if the devices report
+//! their bytes.
 
 pub mod scripts;
 
@@ -63,9 +63,9 @@ ghost use Rattle.replay_main.specs.Device.{TakesFront, WholeRead, WholeWrite};
 ghost use Rattle.replay_main.specs.Program.{Ran, status_of};
 ghost use Rattle.replay_main.specs.Replayed.{EndsWork, IsAnswered, Replayed};
 
-/// Where source and sink tell their bytes, a replay that succeeded has put the answers to all that
-/// the source had behind what the sink had, no more and no less, and flushed them. Its two numbers
-/// are those of that trace, which has at most 16,777,216 bytes, and no read and no write failed.
+/// If source and sink report their bytes, a replay that succeeded has appended to the sink exactly the output for all that
+/// the source had, and flushed it. Its two counts are those of that trace, which has at most 16,777,216 bytes. No read and
+/// no write failed.
 pub fn answers_that_are_told()
     ensures exactly { (left before : List ℕ) (after : Option (List ℕ)) (read_failed write_failed flushed : Bool) (summary : Summary)
         → Replayed (Some left) read_failed (Some before) after write_failed flushed (Ok summary)
@@ -83,16 +83,16 @@ pub fn answers_that_are_told()
         × (summary.refused ≡ refused_count slots (read_trace trace))) }
 {}
 
-/// A replay of three lines into a sink that has one byte.
+/// A replay of three lines into a sink that has one byte already.
 pub fn worked_replay()
     ensures { Replayed (Some (codes "mkdir /a\nundo\nundo\n")) false (Some (codes "x"))
         (Some (codes "x1 ok\n2 ok\n| mkdir /a\n3 refused nothing\n")) false true
         (Ok (record { commands = 3; refused = 1 })) }
 {}
 
-/// After a fault of writing a prefix of these answers stands behind what the sink had. After each
-/// other fault the sink has what it had, and no write failed. Only a fault of reading says that a
-/// read failed. A trace is too long exactly past 16,777,216 bytes.
+/// After a fault of writing, a prefix of the output is appended to the sink. After any other fault the sink is unchanged,
+/// and no write failed. Only a fault of reading says that a read failed. A trace is too long exactly if it has more than
+/// 16,777,216 bytes.
 pub fn replays_that_ended()
     ensures write { (left before : List ℕ) (after : Option (List ℕ)) (read_failed write_failed flushed : Bool)
         → Replayed (Some left) read_failed (Some before) after write_failed flushed (Err fault.Write)
@@ -118,7 +118,7 @@ pub fn replays_that_ended()
         → EndsWork f ↔ ((f ≡ fault.OutOfMemory) ⊎ (f ≡ fault.Close)) }
 {}
 
-/// Where the source does not tell its bytes, they are those of some trace.
+/// If the source doesn't report its bytes, they are those of some trace.
 pub fn answers_to_an_untold_source()
     ensures answered { (before : List ℕ) (after : Option (List ℕ)) (read_failed write_failed flushed : Bool) (summary : Summary)
         → Replayed None read_failed (Some before) after write_failed flushed (Ok summary)
@@ -130,8 +130,8 @@ pub fn answers_to_an_untold_source()
         × Replayed (Some left) read_failed (Some before) after write_failed flushed (Err fault.Write)) }
 {}
 
-/// A whole read gives all that the source had, where it tells it, and at most 16,777,216 bytes. The
-/// input is too long exactly where the source had more. A read never ends as a write does.
+/// A complete read returns all that the source had, if it reports it, and at most 16,777,216 bytes. The input is too long
+/// exactly if the source had more. A read never ends as a write does.
 pub fn reads_that_are_told()
     ensures exactly { (left : List ℕ) (failed : Bool) (v : Vec ℕ Global)
         → WholeRead (Some left) failed (Ok v)
@@ -151,8 +151,8 @@ pub fn reads_that_are_told()
         → WholeRead left failed (Err fault.Close) → ⊥ }
 {}
 
-/// A whole write puts the bytes behind what the sink had, where it tells it, and flushes them. A
-/// write that failed puts a prefix of them there.
+/// A complete write appends the bytes to the sink, if it reports them, and flushes them. A failed write appends a prefix of
+/// them.
 pub fn writes_that_are_told()
     ensures exactly { (before bytes : List ℕ) (after : Option (List ℕ)) (failed flushed : Bool) (u : Unit {0})
         → WholeWrite (Some before) bytes after failed flushed (Ok u)
@@ -166,9 +166,9 @@ pub fn writes_that_are_told()
         ↔ ((front : List ℕ) × (front ++ rest ≡ bytes) × (after ≡ Some (before ++ front))) }
 {}
 
-/// By the words of the command line: without a fault in them the program does a replay, which is
-/// answered whole or ends by a fault of its own, and a rehearsal never ends by `Close`. Where help
-/// is called for, some text is written. Where the words ask for nothing, nothing is read or written.
+/// By the words of the command line: without a fault in them the program does a replay, which is answered completely or ends
+/// with a fault of its own; a rehearsal never ends with `Close`. If help is requested, some text is written. If the words
+/// request nothing, nothing is read or written.
 pub fn runs_that_are_told()
     ensures replayed { (words : List Text) (workers : ℕ) (left rest before after : Option (List ℕ)) (read_failed write_failed flushed : Bool) (u : Unit {0})
         → fault_of app words ≡ [] → workers_in words ≡ Some workers
@@ -203,8 +203,7 @@ pub fn runs_that_are_told()
         ↔ ((f ≡ fault.Write) × (rest ≡ left) × (read_failed ≡ false) × (write_failed ≡ true)) }
 {}
 
-/// The program ends with 0 where all was done, with 2 on a bad command line, and with 1 on each
-/// other fault.
+/// The program's status is 0 if everything was done, 2 for a bad command line, and 1 for any other fault.
 pub fn statuses()
     ensures done { (u : Unit {0}) → status_of (Ok u) ≡ 0 }
     ensures bad_line { status_of (Err (program.Line line.Bad)) ≡ 2 }
@@ -212,8 +211,8 @@ pub fn statuses()
     ensures replay { (f : ReplayFault) → status_of (Err (program.Replay f)) ≡ 1 }
 {}
 
-/// The value of `--workers` is one digit from 1 to 8, and says that number; one where it is left
-/// out. No other text says a number.
+/// The value of `--workers` is one digit from 1 to 8, and means that number. Without `--workers` the number is one. No other
+/// text means a number.
 pub fn digits_that_are_said()
     ensures exactly { (text : Text) (n : ℕ)
         → (digit_said text ≡ Some n) ↔ ((1 ≤ n) × (n ≤ 8) × (text ≡ (48 + n) ∷ [])) }
@@ -231,10 +230,9 @@ pub fn digits_that_are_said()
         → (rehearsal_said (Some text) ≡ true) ↔ (text ≡ codes "true") }
 {}
 
-/// Without words the program is asked for a replay by one worker. `--workers 3` asks for three, and
-/// `--rehearse` for a rehearsal; `--` says nothing. A number that is none from 1 to 8, a word that is
-/// not known, a number that is left out and one that stands twice are a bad line, and `--help` calls
-/// for help.
+/// Without words the program does a replay by one worker. `--workers 3` requests three, and `--rehearse` a rehearsal. `--`
+/// alone changes nothing. A number that is not from 1 to 8, an unknown word, a missing number and a repeated one are a bad
+/// line. `--help` requests help.
 pub fn words_that_ask()
     ensures none { Asks [] (Ok (ask.Run 1 false)) }
     ensures workers { Asks (codes "--workers" ∷ codes "3" ∷ []) (Ok (ask.Run 3 false)) }
@@ -254,8 +252,8 @@ pub fn words_that_ask()
     ensures help_alone { Asks (codes "--help" ∷ []) (Err line.Bad) → ⊥ }
 {}
 
-/// Words that ask for a run ask for that run alone: they are no bad line and call for no help, and
-/// the number of workers is from 1 to 8. Out of memory may be told of any words.
+/// Words that request a run request only that run: they are not a bad line and don't request help, and the number of workers
+/// is from 1 to 8. Out of memory is possible for any words.
 pub fn words_ask_for_one_run()
     ensures exactly { (words : List Text) (workers : ℕ) (rehearse : Bool)
         → Asks words (Ok (ask.Run workers rehearse))
@@ -275,7 +273,7 @@ pub fn words_ask_for_one_run()
     ensures memory { (words : List Text) → Asks words (Err line.OutOfMemory) }
 {}
 
-/// An error is a call for help or makes a bad line, never both, and out of memory is no bad line.
+/// An error is a request for help or makes a bad line, never both. Out of memory is not a bad line.
 pub fn errors_that_ask()
     ensures no_run { (k : ErrorKind) (workers : ℕ) (rehearse : Bool)
         → IsAskedBy k (Ok (ask.Run workers rehearse)) → ⊥ }
@@ -286,8 +284,8 @@ pub fn errors_that_ask()
     ensures no_bad_memory { IsAskedBy kind.OutOfMemory (Err line.Bad) → ⊥ }
 {}
 
-/// The arguments that are collected are exactly those that came, in their order. Where they came
-/// the line is not bad on their account; where they did not, none are given.
+/// The collected arguments are exactly those that were given, in order. If they could be collected, the line is not bad on
+/// their account; if not, there are none.
 pub fn arguments_that_came()
     ensures exactly { (args : IntoIter (String Global) Global) (v : Vec (String Global) Global)
         → into_iter_len args ≡ length (into_iter_items args)

@@ -1,4 +1,4 @@
-//! What a shell leaves, beside what a replay leaves, where the devices tell their bytes.
+//! What a shell leaves compared with a replay, if the devices report their bytes.
 
 ghost use Rattle.std.specs.Prelude.{
   ◌≡◌,
@@ -28,8 +28,8 @@ ghost use Rattle.shell_main.specs.declared.fault.ShellFault.TheVariants as fault
 ghost use Rattle.shell_main.specs.Shelled.{Shelled};
 ghost use Rattle.shell_main.specs.WholeLines.{HasNoFeed, ends_line};
 
-/// Of a source that a replay reads whole, a shell that is not ended by a fault leaves exactly what
-/// the replay leaves.
+/// For a source that a replay reads completely, a shell that no fault ends leaves exactly what the
+/// replay leaves.
 pub fn what_a_replay_says()
     ensures { (left : List ℕ) (rest before after : Option (List ℕ)) (read_failed write_failed flushed : Bool) (summary : Summary)
         → length left ≤ 16777216
@@ -37,20 +37,21 @@ pub fn what_a_replay_says()
         ↔ Replayed (Some left) read_failed before after write_failed flushed (Ok summary) }
 {}
 
-/// Whatever a shell answers, what it wrote is a prefix of the answers to all that the source had.
+/// Whatever the result of a shell, what it wrote is a prefix of the output for all that the source
+/// had.
 pub fn a_prefix_of_all_answers()
     ensures { (left before : List ℕ) (rest after : Option (List ℕ)) (read_failed write_failed flushed : Bool) (r : Result Summary ShellFault)
         → Shelled (Some left) rest read_failed (Some before) after write_failed flushed r
         → (front more : List ℕ) × (front ++ more ≡ answers slots left) × (after ≡ Some (before ++ front)) }
 {}
 
-/// The answers to whole lines come first in the answers to them and whatever follows.
+/// The output for whole lines is a prefix of the output for them and whatever follows.
 pub fn whole_lines_come_first()
     ensures { (lines more : List ℕ) → ends_line lines ≡ true
         → (rest : List ℕ) × (answers slots (lines ++ more) ≡ answers slots lines ++ rest) }
 {}
 
-/// At a failed read exactly the answers to the whole lines that were read are out.
+/// At a failed read, exactly the output for the whole lines that were read is flushed.
 pub fn what_is_out_at_a_failed_read()
     ensures { (left rest before : List ℕ) (after : Option (List ℕ)) (read_failed write_failed flushed : Bool)
         → Shelled (Some left) (Some rest) read_failed (Some before) after write_failed flushed (Err fault.Read)
@@ -58,7 +59,7 @@ pub fn what_is_out_at_a_failed_read()
         × HasNoFeed line × (after ≡ Some (before ++ answers slots lines)) × (flushed ≡ true) }
 {}
 
-/// Text of whole lines, by example.
+/// Texts of whole lines, by example.
 pub fn whole_lines()
     ensures nothing { ends_line [] ≡ true }
     ensures two { ends_line (codes "undo\nundo\n") ≡ true }

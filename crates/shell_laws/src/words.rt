@@ -1,4 +1,4 @@
-//! What a command line asks for, and how the program ends.
+//! What a command line requests, and the exit status.
 
 ghost use Rattle.std.specs.Prelude.{◌≡◌, [], ◌∷◌, Ok, Err, codes};
 ghost use Rattle.clap.specs.Words.{fault_of};
@@ -9,8 +9,7 @@ ghost use Rattle.shell_main.specs.declared.program.ProgramFault.TheVariants as p
 ghost use Rattle.shell_main.specs.Asks.{Asks, app};
 ghost use Rattle.shell_main.specs.Program.{status_of};
 
-/// Without words a shell is asked for, `--` says nothing, and `--help` calls for help. Any other word
-/// is a bad line.
+/// Without words a shell is requested; `--` alone changes nothing; `--help` requests help. Any other word is a bad line.
 pub fn words_that_ask()
     ensures none { fault_of app [] ≡ [] }
     ensures dashes { fault_of app (codes "--" ∷ []) ≡ [] }
@@ -21,8 +20,7 @@ pub fn words_that_ask()
     ensures stray { Asks (codes "x" ∷ []) (Err line.Bad) }
 {}
 
-/// The program ends with 0 where all was done, with 2 on a bad command line, and with 1 on each
-/// other fault.
+/// The program's status is 0 if everything was done, 2 for a bad command line, and 1 for any other fault.
 pub fn statuses()
     ensures done { (u : Unit {0}) → status_of (Ok u) ≡ 0 }
     ensures bad_line { status_of (Err (program.Line line.Bad)) ≡ 2 }

@@ -1,4 +1,4 @@
--- What the program leaves, and the status that it ends with.
+-- What the program leaves, and its exit status.
 use Rattle.std.specs.Prelude.{◌≡◌, ◌⊎◌, ℕ, List, [], Option, Bool, true, false, Result, Ok, Err}
 use Rattle.clap.specs.Words.{IsAmong, Text, fault_of}
 use Rattle.clap.specs.declared.error.kind.ErrorKind.TheVariants as kind
@@ -13,7 +13,7 @@ use Rattle.shell_main.specs.declared.program.ProgramFault.TheVariants.{Line, She
 use Rattle.shell_main.specs.Asks.{Asks, app}
 use Rattle.shell_main.specs.Shelled.{IsServed, Shelled}
 
--- the help text is called for; nothing was read, and all of a text was written and flushed
+-- help is requested; nothing was read, and all of a text was written and flushed
 pub record IsHelped (words : List Text) (left rest : Option (List ℕ)) (read_failed : Bool) (before after : Option (List ℕ)) (write_failed flushed : Bool) : Type 0 where
   pub called : IsAmong kind.DisplayHelp (fault_of app words)
   pub unread : IsUnread left rest read_failed
@@ -22,13 +22,13 @@ pub record IsHelped (words : List Text) (left rest : Option (List ℕ)) (read_fa
   pub good_writes : write_failed ≡ false
   pub is_out : flushed ≡ true
 
--- a shell is called for, and it was served to the end
+-- a shell is requested, and it ran to the end
 pub record IsShelled (words : List Text) (left before after : Option (List ℕ)) (read_failed write_failed flushed : Bool) : Type 0 where
   pub no_fault : fault_of app words ≡ []
   pub summary : Summary
   pub served : IsServed left before after read_failed write_failed flushed summary
 
--- by the words of the command line, what the program leaves of a source that had `left` and of a sink that had `before`, and why it ended before its end
+-- by the words of the command line: what the program leaves of a source that had `left` and of a sink that had `before`, and why it ended early
 abbrev pub Ran : List Text → Option (List ℕ) → Option (List ℕ) → Bool → Option (List ℕ) → Option (List ℕ) → Bool → Bool → Result (Unit {0}) ProgramFault → Type 0
 Ran words left rest read_failed before after write_failed flushed (Ok u) =
     IsShelled words left before after read_failed write_failed flushed
@@ -39,7 +39,7 @@ Ran words left rest read_failed before after write_failed flushed (Err (Shell fa
     ((fault_of app words ≡ []) × Shelled left rest read_failed before after write_failed flushed (Err fault))
     ⊎ (IsAmong kind.DisplayHelp (fault_of app words) × IsUnread left rest read_failed × (fault ≡ shell.Write) × (write_failed ≡ true))
 
--- 0 where all was done, 2 on a bad command line, and 1 on any other fault
+-- 0 if everything was done, 2 for a bad command line, and 1 for any other fault
 abbrev pub status_of : Result (Unit {0}) ProgramFault → ℕ
 status_of (Ok u) = 0
 status_of (Err (Line Bad)) = 2

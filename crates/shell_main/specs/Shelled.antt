@@ -17,7 +17,7 @@ abbrev pub BeginsWith : Option (List ℕ) → List ℕ → Type 0
 BeginsWith None front = Unit {0}
 BeginsWith (Some bytes) front = (rest : List ℕ) × (bytes ≡ front ++ rest)
 
--- Nothing is owed: these whole lines, and behind them a line that has not ended, are all that was read of a source that had `left`, and exactly the answers to the whole lines were written, and are out.
+-- Nothing is owed: these whole lines, then a line that has not ended, are all that was read of a source that had `left`; exactly the output for the whole lines was written and flushed.
 pub record NothingOwed (left rest before after : Option (List ℕ)) (failed flushed : Bool) (lines line : List ℕ) : Type 0 where
   pub whole : ends_line lines ≡ true
   pub short : HasShortLines lines
@@ -27,7 +27,7 @@ pub record NothingOwed (left rest before after : Option (List ℕ)) (failed flus
   pub good : failed ≡ false
   pub is_out : flushed ≡ true
 
--- The source was read to its end, and exactly the answers to all that it had were written and flushed.
+-- The source was read to its end, and exactly the output for all of it was written and flushed.
 pub record IsServed (left before after : Option (List ℕ)) (read_failed write_failed flushed : Bool) (summary : Summary) : Type 0 where
   pub trace : List ℕ
   pub is_input : IsInput left trace
@@ -38,7 +38,7 @@ pub record IsServed (left before after : Option (List ℕ)) (read_failed write_f
   pub good_writes : write_failed ≡ false
   pub is_out : flushed ≡ true
 
--- No device failed; these whole lines stand at the front of what the source had, and exactly their answers were written, and are out.
+-- No device failed; these whole lines are at the front of what the source had, and exactly their output was written and flushed.
 pub record IsStopped (left before after : Option (List ℕ)) (read_failed write_failed flushed : Bool) (lines : List ℕ) : Type 0 where
   pub whole : ends_line lines ≡ true
   pub short : HasShortLines lines
@@ -48,13 +48,13 @@ pub record IsStopped (left before after : Option (List ℕ)) (read_failed write_
   pub good_writes : write_failed ≡ false
   pub is_out : flushed ≡ true
 
--- The line behind these has more bytes than a line may have, or no number is left for it.
+-- The line after these has more bytes than a line may have, or no number is left for it.
 pub record IsTooLong (left : Option (List ℕ)) (lines line : List ℕ) : Type 0 where
   pub is_next : BeginsWith left (lines ++ line)
   pub unended : HasNoFeed line
   pub too_long : (trace_max < length line) ⊎ (number_max ≤ command_count (read_trace lines))
 
--- Lines stand at the front of what the source had, whole or all of it, and a prefix of their answers was written before a write or a flush failed, or a write took no bytes.
+-- Lines at the front of what the source had, or all of it, are answered; a prefix of their output was written before a write or a flush failed, or a write took no bytes.
 pub record IsBroken (left before after : Option (List ℕ)) (read_failed write_failed : Bool) : Type 0 where
   pub lines : List ℕ
   pub whole : (ends_line lines ≡ true) ⊎ IsInput left lines
@@ -65,7 +65,7 @@ pub record IsBroken (left before after : Option (List ℕ)) (read_failed write_f
   pub good_reads : read_failed ≡ false
   pub bad_write : write_failed ≡ true
 
--- What a shell leaves, by what it answers: the source had `left` and has `rest`, the sink had `before` and has `after`, and the marks stand so.
+-- What a shell leaves, by its result: the source had `left` and has `rest`, the sink had `before` and has `after`, and these are the marks.
 abbrev pub Shelled : Option (List ℕ) → Option (List ℕ) → Bool → Option (List ℕ) → Option (List ℕ) → Bool → Bool → Result Summary ShellFault → Type 0
 Shelled left rest read_failed before after write_failed flushed (Ok summary) = IsServed left before after read_failed write_failed flushed summary
 Shelled left rest read_failed before after write_failed flushed (Err Read) = (read_failed ≡ true) × ((lines line : List ℕ) × NothingOwed left rest before after write_failed flushed lines line)

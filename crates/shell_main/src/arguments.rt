@@ -9,12 +9,12 @@ use clap::{Command, Error};
 use replay_main::LineFault;
 use std::alloc::Global;
 
-/// What is asked for.
+/// What the command line requests.
 #[derive(Drop)]
 pub(crate) enum Ask {
     /// A shell.
     Serve,
-    /// A text that says how the program is called.
+    /// The help text.
     Help(String),
 }
 
@@ -37,7 +37,7 @@ fn without_name(args: &[String]) -> &[String]
     }
 }
 
-/// The program's arguments, as `clap` is told them.
+/// The program's arguments, as given to `clap`.
 fn program<'a>(alloc: Global) -> Command<'a>
     ensures { app_of result ≡ app }
 {

@@ -1,4 +1,4 @@
-//! The program over any source and sink, and the status that it ends with.
+//! The program over any source and sink, and its exit status.
 
 ghost use Rattle.std.specs.Prelude.{◌≡◌, drop, false, map, string_bytes, Err};
 ghost use Rattle.replay_main.specs.declared.arguments.LineFault.{LineFault};
@@ -13,24 +13,24 @@ use std::sync::Wait;
 use std::thread::Threads;
 use thiserror::Error;
 
-/// Why the program did not do what it was asked for.
+/// Why the program did not do what was requested.
 #[derive(Clone, Copy, Debug, PartialEq, Eq, Error)]
 pub enum ProgramFault {
-    /// Its command line asks for nothing.
+    /// The command line requests nothing.
     #[error(transparent)]
     Line(LineFault),
-    /// The shell, or the writing of the help text, ended before its end.
+    /// The shell, or writing the help text, ended early.
     #[error(transparent)]
     Shell(ShellFault),
 }
 
-/// Does what the arguments ask for, of which the first is the program's name: answers each line
-/// before it reads on, or writes the text that says how the program is called.
+/// Does what the arguments request; the first is the program's name. Answers each line before it
+/// reads on, or writes the help text.
 ///
 /// # Errors
 ///
-/// `Line` where the arguments ask for nothing; then reader and writer are as they were.
-/// `Shell` with the fault of the shell, or with `Write` where the help text was not written whole.
+/// `Line` if the arguments request nothing; reader and writer are then unchanged. `Shell` with the
+/// fault of the shell, or with `Write` if the help text was not written completely.
 pub fn run_program<R: Threads + Wait + Sync, S: Source, W: Sink>(
     rt: &R,
     alloc: Global,
@@ -60,7 +60,7 @@ pub fn run_program<R: Threads + Wait + Sync, S: Source, W: Sink>(
     }
 }
 
-/// The status that the program ends with. A fault's message is its text.
+/// The exit status of the program. The text of a fault is its message.
 pub fn exit_status(outcome: Result<(), ProgramFault>) -> u8
     ensures { result ≡ status_of outcome }
 {

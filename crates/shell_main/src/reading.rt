@@ -1,4 +1,4 @@
-//! The next bytes, once nothing is owed.
+//! Reading the next bytes, when nothing is owed.
 
 ghost use Rattle.std.specs.Prelude.{◌≡◌, ◌≤◌, ℕ, List, Option, true, length, is_err, if◌then◌else◌, IfOk};
 ghost use Rattle.std.specs.Io.KnownBytes.{ReadConsumes};
@@ -6,9 +6,9 @@ ghost use Rattle.shell_main.specs.Shelled.{NothingOwed};
 
 use replay_main::{DeviceFault, Sink, Source};
 
-/// Reads the next bytes, where exactly the whole lines that were read are answered, and the answers
-/// are out. It looks at nothing but the reader: the writer, and the line that has not ended, are
-/// here for the promise.
+/// Reads the next bytes. Requires that exactly the whole lines read before are answered and the
+/// output is flushed. It uses only the reader; the writer and the line that has not ended are
+/// parameters for the contract.
 pub(crate) fn next_chunk<S: Source, W: Sink>(
     reader: &mut S,
     writer: &W,

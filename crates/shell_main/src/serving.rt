@@ -1,4 +1,4 @@
-//! The shell: reads, answers, reads on.
+//! The shell: it reads, answers, and reads on.
 
 ghost use Rattle.std.specs.Prelude.{◌≡◌, ◌<◌, ◌≤◌, ◌++◌, ℕ, List, [], Option, Some, None, false, true, length, OnOk};
 ghost use Rattle.std.specs.List.{position};
@@ -15,17 +15,16 @@ use std::thread::Threads;
 
 /// Reads lines to the end of the source, and answers each before it reads on.
 ///
-/// Each answer is written and flushed at once; the writer is also flushed before the first read. It
-/// may wait for its devices, and for nobody else. It keeps the engine with its journal, and
-/// of what was read only the line that has not ended. Beside what the engine takes for each
-/// command, it takes time linear in the line and its answer.
+/// The output for each line is written and flushed at once. The writer is also flushed before the first read. It may wait
+/// for its devices, but for nothing else. It keeps the engine with its journal, and of the input only the line that has not
+/// ended. Apart from what the engine takes for each command, it is linear in the line and its output.
 ///
 /// # Errors
 ///
-/// `Read` where a read failed: exactly the whole lines that were read are answered. `InputTooLong`
-/// where the next line has more than `TRACE_MAX` bytes, or no number is left for it; `OutOfMemory`.
-/// In all these exactly the answers to whole lines were written, and are out. `Write` where a write
-/// or a flush failed or a write took no bytes; then a prefix of the answers was written.
+/// `Read` if a read failed; exactly the whole lines that were read are answered. `InputTooLong` if the next line has more
+/// than `TRACE_MAX` bytes, or no number is left for it. `OutOfMemory`. For all these, exactly the output for whole lines was
+/// written and flushed. `Write` if a write or a flush failed or a write took no bytes; then a prefix of the output was
+/// written.
 pub fn shell<R: Threads + Wait + Sync, S: Source, W: Sink>(
     rt: &R,
     alloc: Global,
@@ -47,7 +46,7 @@ pub fn shell<R: Threads + Wait + Sync, S: Source, W: Sink>(
     serve(rt, alloc, reader, writer, &mut talk)
 }
 
-/// Reads and answers, from the start on.
+/// Reads and answers, from the start.
 fn serve<R: Threads + Wait + Sync, S: Source, W: Sink>(
     rt: &R,
     alloc: Global,
@@ -71,8 +70,8 @@ fn serve<R: Threads + Wait + Sync, S: Source, W: Sink>(
     unreachable!()
 }
 
-/// Reads once, and answers the lines that end in what was read. True at the end of the source, where
-/// a last line that has not ended is answered too.
+/// Reads once, and answers the lines that end in what was read. Returns true at the end of the source, after answering a
+/// last line without a line feed.
 fn serve_read<R: Threads + Wait + Sync, S: Source, W: Sink>(
     rt: &R,
     alloc: Global,
@@ -110,7 +109,7 @@ fn serve_read<R: Threads + Wait + Sync, S: Source, W: Sink>(
     Ok(false)
 }
 
-/// Where the first line feed stands.
+/// The index of the first line feed.
 fn line_end(bytes: &[u8]) -> Option<usize>
     ensures { result ≡ position is_line_feed bytes.now }
 {
@@ -131,7 +130,7 @@ fn keep(line: &mut Vec<u8>, bytes: &[u8]) -> Result<(), ShellFault>
     }
 }
 
-/// Answers one line, and flushes the answer.
+/// Answers one line, and flushes the output.
 fn say<R: Threads + Wait + Sync, W: Sink>(
     rt: &R,
     alloc: Global,

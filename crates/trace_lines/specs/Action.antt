@@ -1,4 +1,4 @@
--- What the words behind a path say, in the model.
+-- The meaning of the words after a path, in the model.
 use Rattle.std.specs.Prelude.{Result, Ok, Err}
 use Rattle.group_tree.specs.Flat.{limit_of, limit_file_of}
 use Rattle.flat_model.specs.Refuse.{and_then}
@@ -14,21 +14,21 @@ use Rattle.trace_lines.specs.declared.fault.TextFault.{TextFault}
 use Rattle.trace_lines.specs.declared.fault.Unread.{Unread}
 use Rattle.trace_lines.specs.Meaning.{text_fault_of, ReadsPath, ReadsCommand}
 
--- what is said behind the path of a `write`, and of a `cat`
+-- the meaning of the words after the path of a `write`, and of a `cat`
 abbrev pub write_at : Path → Word → Word → Result model.Command trace.TextFault
 write_at path file value = and_then (file_word file) (λ f. write_of path f value)
 
 abbrev pub show_at : Path → Word → Result model.Command trace.TextFault
 show_at path file = and_then (file_word file) (show_of path)
 
--- the command that an action is at a path
+-- the command of an action on a path
 abbrev pub command_at : Path → Action → model.Command
 command_at path (Move pid) = model.Move path pid
 command_at path (SetLimit file value) = model.SetLimit path (limit_file_of file) (limit_of value)
 command_at path Kill = model.Kill path
 command_at path (Show file) = model.Show path (file_of file)
 
--- that command, or the fault in place of an action
+-- that command, or the fault instead of an action
 abbrev pub action_at : Path → Result Action TextFault → Result model.Command trace.TextFault
 action_at path (Ok action) = Ok (command_at path action)
 action_at path (Err fault) = Err (text_fault_of fault)

@@ -1,4 +1,4 @@
--- Words: what stands at the front of a text, and how many there are.
+-- Words: the first word of a text, and how many words there are.
 use Rattle.std.specs.Prelude.{ℕ, Bool, false, List, [], ◌∷◌, Option, Some, None}
 use Rattle.flat_model.specs.Trace.{Word, is_blank}
 

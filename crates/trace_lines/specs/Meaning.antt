@@ -1,4 +1,4 @@
--- What lines and words mean in the model.
+-- The meaning of lines and words in the model.
 use Rattle.std.specs.Prelude.{◌≡◌, Bool, true, false, Result, Ok, Err}
 use Rattle.std.specs.Result.{IsOk}
 use Rattle.std.specs.declared.alloc.AllocError.{AllocError}
@@ -52,19 +52,19 @@ runs_at_path (trace.Fault f) = false
 
 -- ---- what is read
 
--- the path or the fault that the model has; out of memory only in place of a path
+-- the path or the fault of the model; out of memory only instead of a path
 abbrev pub ReadsPath : Result model_path.Path Unread → Result model_path.Path trace.TextFault → Type 0
 ReadsPath (Ok path) m = m ≡ Ok path
 ReadsPath (Err (unread.Fault fault)) m = m ≡ Err (text_fault_of fault)
 ReadsPath (Err unread.OutOfMemory) m = IsOk m
 
--- the command or the fault that the model has; out of memory only in place of a command that has a path
+-- the command or the fault of the model; out of memory only instead of a command with a path
 abbrev pub ReadsCommand : {A : Type 0} → Result (Command A) Unread → Result model.Command trace.TextFault → Type 0
 ReadsCommand (Ok command) m = m ≡ Ok (command_of command)
 ReadsCommand (Err (unread.Fault fault)) m = m ≡ Err (text_fault_of fault)
 ReadsCommand (Err unread.OutOfMemory) m = is_at_path m ≡ true
 
--- the line that the model has; out of memory only in place of a command that has a path
+-- the line of the model; out of memory only instead of a command with a path
 abbrev pub Says : Result Line AllocError → trace.Line → Type 0
 Says (Ok line) m = trace_line_of line ≡ m
 Says (Err e) m = runs_at_path m ≡ true

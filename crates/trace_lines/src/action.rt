@@ -1,4 +1,4 @@
-//! What a `write` or a `cat` does to a file of a group, by the words behind the path.
+//! What a `write` or a `cat` does to a file of a group, by the words after the path.
 
 ghost use Rattle.std.specs.Prelude.{◌≡◌};
 ghost use Rattle.flat_model.specs.Path.{Path};
@@ -16,13 +16,13 @@ use pids_charge::Pid;
 /// A command that names a file, without its path.
 #[derive(Clone, Copy)]
 pub(crate) enum Action {
-    /// The process is moved to the group.
+    /// Moves the process to the group.
     Move(Pid),
-    /// The limit of the group is set.
+    /// Sets the limit of the group.
     SetLimit(LimitFile, Limit),
-    /// The processes of the group and below it are ended.
+    /// Kills the processes of the group and below it.
     Kill,
-    /// The file of the group is shown.
+    /// Shows the file of the group.
     Show(File),
 }
 
@@ -36,7 +36,8 @@ fn write_limit(file: LimitFile, value: &[u8]) -> Result<Action, TextFault>
     }
 }
 
-/// What a value does to a file. Whether the file is written at all comes before the value.
+/// The effect of writing a value to a file. A file that can't be written is reported before a fault
+/// of the value.
 fn write_value(file: File, value: &[u8]) -> Result<Action, TextFault>
     ensures { (path : Path) → action_at path result ≡ write_of path (file_of file) value.now }
 {
@@ -69,7 +70,7 @@ fn show_file(file: File) -> Result<Action, TextFault>
     }
 }
 
-/// What a `write` does, by the words behind its path.
+/// The effect of a `write`, by the words after its path.
 pub(crate) fn read_written(file: &[u8], value: &[u8]) -> Result<Action, TextFault>
     ensures { (path : Path) → action_at path result ≡ write_at path file.now value.now }
 {
@@ -79,7 +80,7 @@ pub(crate) fn read_written(file: &[u8], value: &[u8]) -> Result<Action, TextFaul
     }
 }
 
-/// What a `cat` does, by the word behind its path.
+/// The effect of a `cat`, by the word after its path.
 pub(crate) fn read_shown(file: &[u8]) -> Result<Action, TextFault>
     ensures { (path : Path) → action_at path result ≡ show_at path file.now }
 {

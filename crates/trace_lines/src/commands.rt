@@ -1,5 +1,5 @@
-//! The command of a line, by its words: their number is looked at first, then the path, the file,
-//! the direction and the value.
+//! The command of a line, by its words. The number of words is tested first, then the path, the
+//! file, the direction and the value.
 
 ghost use Rattle.std.specs.Prelude.{◌≡◌};
 ghost use Rattle.flat_model.specs.Trace.{path_word, mkdir_of, rmdir_of, fork_of, exit_of, write_words, cat_of, where_of, undo_of, command_of_words};
@@ -73,7 +73,7 @@ fn read_exit(rest: Words<'_>) -> Result<Command<Global>, Unread>
     Ok(Command::Exit(pid))
 }
 
-/// The action at its path.
+/// The command of an action on a path.
 fn command_at(path: GroupPath<Global>, action: Action) -> Command<Global>
     ensures { command_of result ≡ command_at path action }
 {
@@ -85,8 +85,8 @@ fn command_at(path: GroupPath<Global>, action: Action) -> Command<Global>
     }
 }
 
-/// The action at its path. A fault of the path comes first, then one of the action, and out of
-/// memory for the path last.
+/// The command of an action on a path. A fault of the path comes first, then a fault of the action,
+/// then out of memory for the path.
 fn read_action(
     path: Result<GroupPath<Global>, Unread>,
     action: Result<Action, TextFault>,
@@ -150,7 +150,7 @@ fn read_undo(rest: Words<'_>) -> Result<Command<Global>, Unread>
     }
 }
 
-/// The command of the first word and those behind it.
+/// The command of the first word and those after it.
 #[tactic(auto, unfolding(flat_model::specs::Trace::command_of_words))]
 pub(crate) fn read_command(
     alloc: Global,

@@ -1,34 +1,34 @@
-//! Why a line of a trace is no command.
+//! Why a line of a trace is not a command.
 
 use crate::LINE_MAX;
 use thiserror::Error;
 
-/// Why a line of a trace is no command. (What is wrong with the program's own command line is
-/// another type's matter.)
+/// Why a line of a trace is not a command. (A fault of the program's own command line has another
+/// type.)
 #[derive(Clone, Copy, Debug, PartialEq, Eq, Error)]
 pub enum TextFault {
-    /// It has more than `LINE_MAX` bytes, an unknown first word, or a wrong number of words.
+    /// The line has more than `LINE_MAX` bytes, an unknown first word, or a wrong number of words.
     #[error("an unknown first word, a wrong number of words, or more than {LINE_MAX} bytes")]
     Syntax,
-    /// A word is no path of the grammar.
+    /// A word is not a path of the grammar.
     #[error("a word is no path")]
     Path,
-    /// A word is no file's name.
+    /// A word is not the name of a file.
     #[error("a word is no file's name")]
     File,
     /// The file can't be written, or can't be read.
     #[error("the file is not written, or not read")]
     Direction,
-    /// A value is out of its range or no number.
+    /// A value is out of range or not a number.
     #[error("a value is out of its range, or no number")]
     Value,
 }
 
-/// Why the words of a line gave no command.
+/// Why the words of a line give no command.
 #[derive(Clone, Copy, PartialEq, Eq)]
 pub(crate) enum Unread {
-    /// Something is wrong with them.
+    /// The words have a fault.
     Fault(TextFault),
-    /// Nothing is wrong with them, and there was no memory for the path.
+    /// The words are right, but the allocation of the path failed.
     OutOfMemory,
 }

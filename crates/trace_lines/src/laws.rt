@@ -1,5 +1,5 @@
-//! The laws of what only this crate names: what was read of a word or of a line's words is one thing of
-//! the model, and its faults come in order. The laws of the others stand in `journal_laws`.
+//! The laws of what only this crate can name: the result of reading a word, or the words of a line, means one thing in the
+//! model, and faults come in order. The other laws are in `journal_laws`.
 
 ghost use Rattle.std.specs.Prelude.{◌≡◌, ◌↔◌, Result, Ok, Err};
 ghost use Rattle.std.specs.declared.alloc.AllocError.{AllocError};
@@ -24,8 +24,7 @@ ghost use Rattle.trace_lines.specs.declared.line.Line.TheVariants as lines;
 ghost use Rattle.trace_lines.specs.Action.{command_at, ReadsAction};
 ghost use Rattle.trace_lines.specs.Meaning.{text_fault_of, Says, ReadsPath, ReadsCommand};
 
-/// A path that was read is the model's, and so is a fault; out of memory comes only where the model
-/// has a path.
+/// A path that was read is the model's, and so is a fault. Out of memory comes only if the model has a path.
 pub fn paths_are_told_apart()
     ensures read { (p : Path) (m : Result Path trace.TextFault) → ReadsPath (Ok p) m ↔ m ≡ Ok p }
     ensures refused { (f : TextFault) (p : Path) (t : trace.TextFault)
@@ -35,8 +34,8 @@ pub fn paths_are_told_apart()
         × ¬ (ReadsPath (Err unread.OutOfMemory) (Err t)) }
 {}
 
-/// A command that was read is the model's, and so is a fault; out of memory comes just where it may be
-/// for the line that runs the command.
+/// A command that was read is the model's, and so is a fault. Out of memory comes exactly if it may come for a line that
+/// runs the command.
 pub fn commands_are_told_apart()
     ensures read { (c : Command Global) (m : Result model.Command trace.TextFault)
         → ReadsCommand (Ok c) m → Says (Ok (lines.Run c)) (line_of m) }
@@ -50,7 +49,7 @@ pub fn commands_are_told_apart()
         → ReadsCommand {A = Global} (Err unread.OutOfMemory) m ↔ Says (Err e) (line_of m) }
 {}
 
-/// An action at a path is a command, and no two are one.
+/// An action on a path is a command, and different actions are different commands.
 pub fn actions_are_commands()
     ensures one { (p q : Path) (a b : Action) → command_at p a ≡ command_at q b → (p ≡ q) × (a ≡ b) }
     ensures kinds { (p : Path) → (command_at p (actions.Move 7) ≡ model.Move p 7)
@@ -60,8 +59,8 @@ pub fn actions_are_commands()
         ≡ model.SetLimit p model_file.MaxDepth (model_state.At 5)) }
 {}
 
-/// A fault of the path comes before one of the action, and out of memory for the path comes last;
-/// a command is the action at the path.
+/// A fault of the path comes before a fault of the action, and out of memory for the path comes last. Otherwise the command
+/// is the action on the path.
 pub fn faults_come_in_order()
     ensures path { (f : TextFault) (action : Result Action TextFault) (r : Result (Command Global) Unread)
         → ReadsAction (Err (unread.Fault f)) action r → r ≡ Err (unread.Fault f) }

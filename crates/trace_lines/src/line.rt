@@ -1,4 +1,4 @@
-//! What a line of a trace says.
+//! The meaning of a line of a trace.
 
 ghost use Rattle.std.specs.Prelude.{◌≡◌};
 ghost use Rattle.flat_model.specs.Trace.{is_comment, read_line};
@@ -11,17 +11,17 @@ use crate::words::Words;
 use std::alloc::{AllocError, Global};
 use undo_journal::Command;
 
-/// The most bytes of a line that is a command.
+/// The most bytes of a line with a command.
 pub const LINE_MAX: usize = 8192;
 
-/// What a line of a trace says.
+/// The meaning of a line of a trace.
 #[derive(Drop)]
 pub enum Line {
-    /// Nothing: it has no words, or its first begins with `#`. It has no number.
+    /// Nothing: the line has no words, or its first word begins with `#`. It has no number.
     Skip,
     /// A command.
     Run(Command<Global>),
-    /// It is refused.
+    /// The line is refused.
     Fault(TextFault),
 }
 
@@ -31,15 +31,15 @@ fn is_comment(word: &[u8]) -> bool
     matches!(word, [b'#', ..])
 }
 
-/// Reads one line, in time linear in its bytes.
+/// Reads one line. Linear in its bytes.
 ///
-/// Memory is asked for the path of a command alone, and only where the words are right in number.
-/// The path of a `write` or a `cat` is read behind the other words; a fault of one of these is
-/// answered even where there was no memory for the path.
+/// Only the path of a command is allocated, and only if the number of words is right. The path of a
+/// `write` or a `cat` is read after the other words, so a fault of one of these is returned even if
+/// the path's allocation fails.
 ///
 /// # Errors
 ///
-/// `AllocError` where memory for the path was refused, and the line says a command that has one.
+/// `AllocError` if the allocation of the path fails, and the line is a command with a path.
 pub fn parse_line(alloc: Global, bytes: &[u8]) -> Result<Line, AllocError>
     ensures { Says result (read_line bytes.now) }
 {

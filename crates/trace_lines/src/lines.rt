@@ -1,4 +1,4 @@
-//! Texts cut into lines.
+//! Cutting a text into lines.
 
 ghost use Rattle.std.specs.Prelude.{◌≡◌};
 ghost use Rattle.std.specs.Iterator.{YieldsFirstBy, item_count};
@@ -7,8 +7,8 @@ ghost use Rattle.flat_model.specs.Trace.{is_line_feed};
 
 use std::marker::Model;
 
-/// The lines of a text, without their line feeds. Behind the last line feed stands a line if there
-/// is any byte.
+/// The lines of a text, without their line feeds. Bytes after the last line feed are a line, if
+/// there are any.
 #[derive(Drop)]
 pub struct Lines<'a> {
     rest: &'a [u8],
@@ -34,7 +34,7 @@ impl<'a> Lines<'a> {
     }
 }
 
-/// Where the first line feed stands.
+/// The index of the first line feed.
 fn line_end(bytes: &[u8]) -> Option<usize>
     ensures { result ≡ position is_line_feed bytes.now }
 {

@@ -1,4 +1,4 @@
-//! The bytes that answer a command.
+//! The output for a command.
 
 ghost use Rattle.std.specs.Prelude.{◌≡◌, ◌++◌, decimal, codes, false, None, IfSome, OnOk};
 ghost use Rattle.flat_model.specs.Replies.{refusal_text, fault_text, ok_line, bar_line, fault_bytes, is_refused, reply_bytes};
@@ -30,7 +30,7 @@ fn put_ok(bytes: &mut Vec<u8>, number: u64) -> Result<(), AllocError>
     bytes.extend_from_slice(b" ok\n")
 }
 
-/// Appends a line of an answer's text to the bytes.
+/// Appends a line of a reply's text to the bytes.
 fn put_bar_line(bytes: &mut Vec<u8>, text: &[u8]) -> Result<(), AllocError>
     ensures { OnOk result (bytes.new.items ≡ bytes.old.items ++ bar_line text.now) }
 {
@@ -90,7 +90,7 @@ fn put_refusal(bytes: &mut Vec<u8>, refusal: &Refusal<Global>) -> Result<(), All
     }
 }
 
-/// The word of a text fault.
+/// The word for a text fault.
 fn fault_word(fault: TextFault) -> &'static [u8]
     ensures { result.now ≡ fault_text (text_fault_of fault) }
 {
@@ -112,11 +112,11 @@ fn put_refused(bytes: &mut Vec<u8>, number: u64) -> Result<(), AllocError>
     bytes.extend_from_slice(b" refused ")
 }
 
-/// Appends the answer to a line that is no command to the bytes.
+/// Appends the output for a line that is not a command.
 ///
 /// # Errors
 ///
-/// `AllocError` when out of memory; a part of the answer may be appended then.
+/// `AllocError` when out of memory; a part of the output may have been appended.
 pub fn put_fault(bytes: &mut Vec<u8>, number: u64, fault: TextFault) -> Result<(), AllocError>
     ensures { OnOk result
         (bytes.new.items ≡ bytes.old.items ++ fault_bytes number (text_fault_of fault)) }
@@ -126,12 +126,11 @@ pub fn put_fault(bytes: &mut Vec<u8>, number: u64, fault: TextFault) -> Result<(
     bytes.extend_from_slice(b"\n")
 }
 
-/// Appends the answer to a command to the bytes.
+/// Appends the output for a command.
 ///
 /// # Errors
 ///
-/// `AllocError` when out of memory, here or for the reply itself; a part of the answer may be appended
-/// then.
+/// `AllocError` when out of memory, either here or in the reply itself; a part of the output may have been appended.
 pub fn put_reply(
     alloc: Global,
     bytes: &mut Vec<u8>,
@@ -164,7 +163,7 @@ pub fn put_reply(
     }
 }
 
-/// Whether the answer is `refused`. Out of memory is not.
+/// Whether the reply is a refusal. Out of memory is not one.
 pub fn is_refused(reply: &Reply<Global>) -> bool
     ensures refused { IfSome (reply_of reply.now) (λ r. result ≡ is_refused r) }
     ensures no_memory { reply_of reply.now ≡ None → result ≡ false }

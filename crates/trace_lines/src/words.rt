@@ -1,4 +1,4 @@
-//! Lines cut into words.
+//! Cutting a line into words.
 
 ghost use Rattle.std.specs.Prelude.{◌≡◌, not, false, option_map};
 ghost use Rattle.std.specs.Iterator.{YieldsFirstBy, item_count};
@@ -9,7 +9,7 @@ ghost use Rattle.trace_lines.specs.Cut.{begins_with_blank, the_one, the_two, the
 
 use std::marker::Model;
 
-/// The words of a line: the longest runs of bytes other than blank, tab and carriage return.
+/// The words of a line: the longest runs of bytes other than spaces, tabs and carriage returns.
 #[derive(Drop)]
 pub(crate) struct Words<'a> {
     rest: &'a [u8],
@@ -41,14 +41,14 @@ fn is_blank(b: u8) -> bool
     matches!(b, b' ' | b'\t' | b'\r')
 }
 
-/// Where the first word begins.
+/// The index at which the first word begins.
 fn word_start(bytes: &[u8]) -> Option<usize>
     ensures { result ≡ position (λ b. not (is_blank b)) bytes.now }
 {
     bytes.iter().position(|b| !is_blank(*b))
 }
 
-/// What stands behind the blanks at the front.
+/// The line without the blanks at its front.
 fn behind_blanks(line: &[u8]) -> &[u8]
     ensures words { words_in result.now ≡ words_in line.now }
     ensures first { begins_with_blank result.now ≡ false }
@@ -59,7 +59,7 @@ fn behind_blanks(line: &[u8]) -> &[u8]
     }
 }
 
-/// Where the first blank stands.
+/// The index of the first blank.
 fn word_end(bytes: &[u8]) -> Option<usize>
     ensures { result ≡ position is_blank bytes.now }
 {
@@ -98,7 +98,7 @@ pub(crate) fn is_word(word: &[u8], text: &[u8]) -> bool
     word == text
 }
 
-/// The word, where it is the only one.
+/// The word, if it is the only one.
 pub(crate) fn one_word<'a>(words: Words<'a>) -> Option<&'a [u8]>
     ensures { option_map (λ w. w.now) result ≡ the_one words.entry }
 {
@@ -110,7 +110,7 @@ pub(crate) fn one_word<'a>(words: Words<'a>) -> Option<&'a [u8]>
     }
 }
 
-/// The words, where there are two.
+/// The words, if there are exactly two.
 pub(crate) fn two_words<'a>(words: Words<'a>) -> Option<(&'a [u8], &'a [u8])>
     ensures { option_map (λ w. (w.0.now, w.1.now)) result ≡ the_two words.entry }
 {
@@ -123,7 +123,7 @@ pub(crate) fn two_words<'a>(words: Words<'a>) -> Option<(&'a [u8], &'a [u8])>
     }
 }
 
-/// The words, where there are three.
+/// The words, if there are exactly three.
 pub(crate) fn three_words<'a>(words: Words<'a>) -> Option<(&'a [u8], &'a [u8], &'a [u8])>
     ensures { option_map (λ w. (w.0.now, w.1.now, w.2.now)) result ≡ the_three words.entry }
 {

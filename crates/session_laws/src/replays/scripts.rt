@@ -1,5 +1,5 @@
-//! What stands on the lines of a trace that have a number, and the answers there by several workers
-//! or by replies that are at hand.
+//! What is at the numbered lines of a trace, and the output there, by several workers or from
+//! replies that are given.
 
 ghost use Rattle.std.specs.Prelude.{
   ◌≡◌,
@@ -38,9 +38,9 @@ ghost use Rattle.replay_main.specs.Script.{
   run_of,
 };
 
-/// The answers by places and replies are those of the model, where each command has its reply. So
-/// are the answers by replies that are at hand, as far as there are any; behind a command for which
-/// the workers were out of memory nothing is answered.
+/// The output by places and replies is that of the model, if each command has its reply. So is the
+/// output from the given replies, as far as there are any. After a command for which the workers
+/// were out of memory there is no output.
 pub fn answers_of_scripts()
     ensures model { (slots : ℕ) (lines : List trace.Line)
         → answers_from 1 (places_in lines) (line_replies slots lines) ≡ answers_to slots lines }
@@ -57,7 +57,7 @@ pub fn answers_of_scripts()
 {}
 
 /// Two workers with runs of two lines answer three: a command that is done, a bad path, and an undo
-/// of nothing. The second worker begins with the third number and the second reply.
+/// with nothing to undo. The second worker begins with the third number and the second reply.
 pub fn answers_of_workers()
     ensures first { run_answers 2 0 (None ∷ Some trace.BadPath ∷ None ∷ []) (model.Done ∷ model.NothingToUndo ∷ [])
         ≡ codes "1 ok\n2 refused path\n" }
@@ -71,7 +71,7 @@ pub fn answers_of_workers()
     ensures last_run { run_of {X = ℕ} 2 2 (10 ∷ 11 ∷ 12 ∷ 13 ∷ 14 ∷ []) ≡ 14 ∷ [] }
 {}
 
-/// A line with a command or a fault has a place, in order, and any other has none. A script has as
+/// A line with a command or a fault has a place, in order; no other line has one. A script has as
 /// many places as there are numbered lines, and as many commands as there are among them.
 pub fn places_of_scripts()
     ensures places { (c : model.Command) (f : trace.TextFault)
