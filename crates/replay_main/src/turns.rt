@@ -4,15 +4,16 @@
 //! A worker runs several commands in a row, so that few turns have to wake another thread. Which
 //! session runs a command does not depend on that.
 
-ghost use Rattle.std.specs.Prelude.{◌≡◌, ◌<◌, ◌≤◌, length, map, vec_len, IfOk, IfErr};
+ghost use Rattle.std.specs.Prelude.{◌≡◌, ◌*◌, ◌<◌, ◌≤◌, length, map, replicate, set, vec_len, false, true, IfOk, IfErr};
 ghost use Rattle.flat_model.specs.Machine.{new_machine, replies};
 ghost use Rattle.undo_journal.specs.Meaning.{command_of};
 ghost use Rattle.replay_main.specs.Replayed.{EndsWork};
+ghost use Rattle.replay_main.specs.Turns.{TakesTurns};
 ghost use Rattle.sessions.specs.Meaning.{slots};
 ghost use denote.Param.Send.{IsSync};
 
 use crate::ReplayFault;
-use crate::logged::has_commands;
+use crate::logged::{has_commands, takes_turns};
 use pids_charge::Gate;
 use sessions::{CloseFault, Desk, Entry, RunFault, Session};
 use std::alloc::{AllocError, Global};
@@ -23,7 +24,7 @@ use std::thread::Threads;
 use undo_journal::Command;
 
 /// Runs these commands at a desk of as many sessions as workers, and gives its log, which has these
-/// commands in their order.
+/// commands in their order, each run by its session.
 pub(crate) fn run_commands<R: Threads + Wait + Sync, G: Gate>(
     rt: &R,
     alloc: Global,
@@ -35,6 +36,7 @@ pub(crate) fn run_commands<R: Threads + Wait + Sync, G: Gate>(
     ensures log { IfOk result (λ log. map (λ e. e.reply) log.items
         ≡ replies slots new_machine (map command_of commands.now)) }
     ensures each { IfOk result (λ log. length log.items ≡ length commands.now) }
+    ensures turns { IfOk result (λ log. TakesTurns workers log.items) }
     ensures fault { IfErr result EndsWork }
 {
     let Ok((desk, sessions)) = open_desk(alloc, workers) else {
@@ -45,7 +47,8 @@ pub(crate) fn run_commands<R: Threads + Wait + Sync, G: Gate>(
     };
     match desk.close(rt, sessions) {
         Ok(closed) => {
-            if has_commands(closed.log.as_slice(), commands) {
+            let log = closed.log.as_slice();
+            if has_commands(log, commands) && takes_turns(log, usize::from(workers)) {
                 Ok(closed.log)
             } else {
                 Err(ReplayFault::Close)
@@ -141,6 +144,7 @@ fn serve_all<R: Threads + Wait + Sync, G: Gate>(
 /// Marks this worker alone.
 fn only(worker: usize) -> [bool; 8]
     requires { worker < 8 }
+    ensures { result ≡ set (replicate 8 false) worker true }
 {
     let mut is_mine = [false; 8];
     is_mine[worker] = true;
@@ -151,7 +155,9 @@ fn only(worker: usize) -> [bool; 8]
 /// 32 of them, else as many as give each at most 32 runs.
 fn run_length(len: usize, workers: usize) -> usize
     requires { (1 ≤ workers) × (workers ≤ 8) }
-    ensures { 0 < result }
+    ensures some { 0 < result }
+    ensures single { len ≤ 32 * workers → result ≡ 1 }
+    ensures few { len ≤ 32 * workers * result }
 {
     len.saturating_sub(1) / (32 * workers) + 1
 }
@@ -185,7 +191,13 @@ fn work_for<R: Threads + Wait + Sync, G: Gate>(
         if turn % size == 0 && desk.wait_for(rt, worker as u8, turn as u64).is_none() {
             break;
         }
-        if !run_one(rt, &mut seats[turn % workers].lock(rt), turn, command, is_short) {
+        if !run_one(
+            rt,
+            &mut seats[turn % workers].lock(rt),
+            turn,
+            command,
+            is_short,
+        ) {
             break;
         }
     }
