@@ -6,3 +6,4 @@ pub mod Asks
 pub mod Program
 pub mod Runs
 pub mod Script
+pub mod Turns

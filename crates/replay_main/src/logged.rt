@@ -1,7 +1,8 @@
-//! Whether a log has the commands of a trace, in their order.
+//! Whether a log has the commands of a trace, in their order, each run by the session whose turn it was.
 
-ghost use Rattle.std.specs.Prelude.{◌≡◌, length, map, IsTrue};
+ghost use Rattle.std.specs.Prelude.{◌≡◌, ◌<◌, length, map, IsTrue};
 ghost use Rattle.undo_journal.specs.Meaning.{command_of};
+ghost use Rattle.replay_main.specs.Turns.{TakesTurns};
 
 use sessions::Entry;
 use std::alloc::Global;
@@ -29,4 +30,18 @@ fn is_of(entry: &Entry, command: &Command<Global>) -> bool
     ensures { IsTrue result → entry.now.command ≡ command_of command.now }
 {
     entry.command.is(command)
+}
+
+/// Whether the i-th entry of a log is of session i mod `workers`.
+pub(crate) fn takes_turns(log: &[Entry], workers: usize) -> bool
+    requires { 0 < workers }
+    ensures { IsTrue result → TakesTurns workers log.now }
+{
+    for i in 0..log.len() {
+        let entry = &log[i];
+        if usize::from(entry.session) != i % workers {
+            return false;
+        }
+    }
+    true
 }

@@ -1,15 +1,19 @@
 //! The second phase: the commands are run at a desk, each by its session at its turn, with a thread
-//! for each session.
+//! for each worker.
+//!
+//! A worker runs several commands in a row, so that few turns have to wake another thread. Which
+//! session runs a command does not depend on that.
 
-ghost use Rattle.std.specs.Prelude.{◌≡◌, ◌<◌, ◌≤◌, length, map, vec_len, IfOk, IfErr};
+ghost use Rattle.std.specs.Prelude.{◌≡◌, ◌*◌, ◌<◌, ◌≤◌, length, map, replicate, set, vec_len, false, true, IfOk, IfErr};
 ghost use Rattle.flat_model.specs.Machine.{new_machine, replies};
 ghost use Rattle.undo_journal.specs.Meaning.{command_of};
 ghost use Rattle.replay_main.specs.Replayed.{EndsWork};
+ghost use Rattle.replay_main.specs.Turns.{TakesTurns};
 ghost use Rattle.sessions.specs.Meaning.{slots};
 ghost use denote.Param.Send.{IsSync};
 
 use crate::ReplayFault;
-use crate::logged::has_commands;
+use crate::logged::{has_commands, takes_turns};
 use pids_charge::Gate;
 use sessions::{CloseFault, Desk, Entry, RunFault, Session};
 use std::alloc::{AllocError, Global};
@@ -20,7 +24,7 @@ use std::thread::Threads;
 use undo_journal::Command;
 
 /// Runs these commands at a desk of as many sessions as workers, and gives its log, which has these
-/// commands in their order.
+/// commands in their order, each run by its session.
 pub(crate) fn run_commands<R: Threads + Wait + Sync, G: Gate>(
     rt: &R,
     alloc: Global,
@@ -32,17 +36,19 @@ pub(crate) fn run_commands<R: Threads + Wait + Sync, G: Gate>(
     ensures log { IfOk result (λ log. map (λ e. e.reply) log.items
         ≡ replies slots new_machine (map command_of commands.now)) }
     ensures each { IfOk result (λ log. length log.items ≡ length commands.now) }
+    ensures turns { IfOk result (λ log. TakesTurns workers log.items) }
     ensures fault { IfErr result EndsWork }
 {
     let Ok((desk, sessions)) = open_desk(alloc, workers) else {
         return Err(ReplayFault::OutOfMemory);
     };
-    let Ok(sessions) = serve(rt, alloc, gate, sessions, commands) else {
+    let Ok(sessions) = serve(rt, alloc, gate, &desk, sessions, commands) else {
         return Err(ReplayFault::OutOfMemory);
     };
     match desk.close(rt, sessions) {
         Ok(closed) => {
-            if has_commands(closed.log.as_slice(), commands) {
+            let log = closed.log.as_slice();
+            if has_commands(log, commands) && takes_turns(log, usize::from(workers)) {
                 Ok(closed.log)
             } else {
                 Err(ReplayFault::Close)
@@ -83,6 +89,7 @@ fn serve<R: Threads + Wait + Sync, G: Gate>(
     rt: &R,
     alloc: Global,
     gate: &G,
+    desk: &Desk,
     sessions: Vec<Session>,
     commands: &[Command<Global>],
 ) -> Result<Vec<Session>, AllocError>
@@ -93,7 +100,7 @@ fn serve<R: Threads + Wait + Sync, G: Gate>(
         .map(|session| Mutex::new(session))
         .collect(alloc)?;
     let is_short = AtomicBool::new(false);
-    serve_all(rt, gate, seats.as_slice(), commands, &is_short);
+    serve_all(rt, gate, desk, seats.as_slice(), commands, &is_short);
     if is_short.load(Ordering::SeqCst) {
         return Err(AllocError);
     }
@@ -107,6 +114,7 @@ fn serve<R: Threads + Wait + Sync, G: Gate>(
 fn serve_all<R: Threads + Wait + Sync, G: Gate>(
     rt: &R,
     gate: &G,
+    desk: &Desk,
     seats: &[Mutex<Session>],
     commands: &[Command<Global>],
     is_short: &AtomicBool,
@@ -119,50 +127,48 @@ fn serve_all<R: Threads + Wait + Sync, G: Gate>(
         |scope|
             requires { IsSync R.row × IsSync G.row × (1 ≤ length seats.now) × (length seats.now ≤ 8) }
         {
-            let mut is_mine = [true, false, false, false, false, false, false, false];
-            let mut is_alone = true;
+            let mut is_mine = only(0);
             for worker in 1..seats.len() {
                 let work = move ||
                     requires { (worker < length seats.now) × (length seats.now ≤ 8) }
-                { work_for_one(rt, gate, seats, commands, is_short, worker) };
+                { work_for(rt, gate, desk, seats, commands, is_short, &only(worker)) };
                 if scope.spawn(work).is_err() {
                     is_mine[worker] = true;
-                    is_alone = false;
                 }
             }
-            if is_alone {
-                work_for_one(rt, gate, seats, commands, is_short, 0);
-            } else {
-                work_for_many(rt, gate, seats, commands, is_short, &is_mine);
-            }
+            work_for(rt, gate, desk, seats, commands, is_short, &is_mine);
         },
     );
 }
 
-/// The work of one worker.
-fn work_for_one<R: Threads + Wait + Sync, G: Gate>(
-    rt: &R,
-    gate: &G,
-    seats: &[Mutex<Session>],
-    commands: &[Command<Global>],
-    is_short: &AtomicBool,
-    worker: usize,
-)
-    requires { (worker < length seats.now) × (length seats.now ≤ 8) }
+/// Marks this worker alone.
+fn only(worker: usize) -> [bool; 8]
+    requires { worker < 8 }
+    ensures { result ≡ set (replicate 8 false) worker true }
 {
-    gate.pass((seats.len() + worker + 1) as u8);
-    let mut session = seats[worker].lock(rt);
-    for (turn, command) in commands.iter().enumerate() {
-        if turn % seats.len() == worker && !run_one(rt, &mut session, turn, command, is_short) {
-            break;
-        }
-    }
+    let mut is_mine = [false; 8];
+    is_mine[worker] = true;
+    is_mine
 }
 
-/// The work of these workers, the commands in the order of their turns.
-fn work_for_many<R: Threads + Wait + Sync, G: Gate>(
+/// How many commands a worker runs before the next worker goes on: one where no worker has more than
+/// 32 of them, else as many as give each at most 32 runs.
+fn run_length(len: usize, workers: usize) -> usize
+    requires { (1 ≤ workers) × (workers ≤ 8) }
+    ensures some { 0 < result }
+    ensures single { len ≤ 32 * workers → result ≡ 1 }
+    ensures few { len ≤ 32 * workers * result }
+{
+    len.saturating_sub(1) / (32 * workers) + 1
+}
+
+/// The work of these workers, in the order of the turns: run r is that of worker r mod their number.
+/// Each command is run by its own session. No seat is held while it waits, since the sessions of the
+/// run that it waits for sit there.
+fn work_for<R: Threads + Wait + Sync, G: Gate>(
     rt: &R,
     gate: &G,
+    desk: &Desk,
     seats: &[Mutex<Session>],
     commands: &[Command<Global>],
     is_short: &AtomicBool,
@@ -170,14 +176,28 @@ fn work_for_many<R: Threads + Wait + Sync, G: Gate>(
 )
     requires { (1 ≤ length seats.now) × (length seats.now ≤ 8) }
 {
-    for worker in 0..seats.len() {
+    let workers = seats.len();
+    for worker in 0..workers {
         if is_mine[worker] {
-            gate.pass((seats.len() + worker + 1) as u8);
+            gate.pass((workers + worker + 1) as u8);
         }
     }
+    let size = run_length(commands.len(), workers);
     for (turn, command) in commands.iter().enumerate() {
-        let worker = turn % seats.len();
-        if is_mine[worker] && !run_one(rt, &mut seats[worker].lock(rt), turn, command, is_short) {
+        let worker = turn / size % workers;
+        if !is_mine[worker] {
+            continue;
+        }
+        if turn % size == 0 && desk.wait_for(rt, worker as u8, turn as u64).is_none() {
+            break;
+        }
+        if !run_one(
+            rt,
+            &mut seats[turn % workers].lock(rt),
+            turn,
+            command,
+            is_short,
+        ) {
             break;
         }
     }

@@ -12,6 +12,7 @@
 //! - `closing`: a desk that is closed while a session waits.
 //! - `threads`: sessions in threads of their own, in contention and by turns.
 //! - `waking`: eight sessions that sleep for their turns.
+//! - `sleeping`: threads that wait at the desk for a turn, and run no command.
 //! - `racing`: a close beside a command, a halt beside a turn, and a session that is dropped between its turns.
 //! - `memory`: one allocation refused at a time.
 //! - `calls`: commands as rows of a table; desks that are opened and closed.
@@ -30,6 +31,8 @@ mod memory;
 mod racing;
 #[cfg(test)]
 mod receipts;
+#[cfg(test)]
+mod sleeping;
 #[cfg(test)]
 mod threads;
 #[cfg(test)]

@@ -1,4 +1,4 @@
--- A session may cross threads. The search is made in steps, since one for the whole comes to its limit.
+-- A session may cross threads, and a desk may be shared by them. The search is made in steps, since one for the whole comes to its limit.
 use denote.RattleType.{RattleType}
 use denote.Hole.{as_row}
 use denote.Param.Send.{IsSend, IsSync, Frees, sendable}
@@ -21,6 +21,7 @@ use Rattle.sessions.specs.contracts.book.Book as Book
 use Rattle.sessions.specs.contracts.hall.Hall as Hall
 use Rattle.sessions.specs.contracts.shared.Shared as Shared
 use Rattle.sessions.specs.contracts.session.Session as Session
+use Rattle.sessions.specs.contracts.desk.Desk as Desk
 
 -- the name of a node
 name_send : (T : RattleType) → (g : Ghosts T.Denot) → IsSend T → Frees {D = T.Denot} {G = Ghosts T.Denot} g g.dealloc_token → IsSend (as_row (InlineBytes.the_field T g))
@@ -40,3 +41,6 @@ shared_sync = search (hall_send, sendable, crosses) depth 20
 
 pub session_send : IsSend Session.the_row
 session_send = search (receipt.the_send, shared_send, shared_sync, sendable, crosses) depth 20
+
+pub desk_sync : IsSync Desk.the_row
+desk_sync = search (global.the_sync, shared_send, shared_sync, sendable, crosses) depth 20

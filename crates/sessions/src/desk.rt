@@ -1,6 +1,6 @@
 //! The desk at which sessions are opened.
 
-ghost use Rattle.std.specs.Prelude.{◌≡◌, ◌<◌, ◌≤◌, [], IfOk};
+ghost use Rattle.std.specs.Prelude.{◌≡◌, ◌<◌, ◌≤◌, [], IfOk, IfSome};
 
 use crate::book::Book;
 use crate::hall::Hall;
@@ -8,7 +8,7 @@ use crate::session::Session;
 use crate::shared::Shared;
 use std::alloc::{AllocError, Global};
 use std::marker::Model;
-use std::sync::Arc;
+use std::sync::{Arc, Wait};
 
 /// A desk over one engine. Contracts see the number of its sessions, and which lock it shares with
 /// them; what lies behind the lock they do not see.
@@ -65,5 +65,18 @@ impl Desk {
             receipts: Vec::new(self.alloc),
             shared,
         })
+    }
+
+    /// Waits until the log has `turn` entries, and gives its length then: none if the desk is halted
+    /// or closed. It reserves nothing, so the log may be longer when the caller goes on.
+    ///
+    /// `sleeper`, modulo 8, chooses the condition variable to sleep on, as its number does for a
+    /// session in `run_at`. Threads that wait at once should choose different ones: else each wakes
+    /// for the others' turns too.
+    pub fn wait_for<R: Wait>(&self, rt: &R, sleeper: u8, turn: u64) -> Option<u64>
+        ensures { IfSome result (λ len. turn ≤ len) }
+    {
+        let hall = self.shared.wait_for(rt, sleeper, turn);
+        hall.reached()
     }
 }

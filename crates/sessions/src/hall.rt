@@ -61,7 +61,7 @@ impl Hall {
     }
 
     /// The length of the log; none where the desk is halted or closed.
-    fn reached(&self) -> Option<u64>
+    pub(crate) fn reached(&self) -> Option<u64>
         ensures { result ≡ reached_of self.now }
     {
         match &self.book {

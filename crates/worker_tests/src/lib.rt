@@ -5,6 +5,7 @@
 //!
 //! - `replays`: a trace with a kill and its undo by 1, 2, 3 and 8 workers, by a rehearsal, and
 //!   with a barrier.
+//! - `runs`: traces of so many lines that a worker runs several commands in a row.
 //! - `barrier`: where all parts of a phase have to meet.
 //! - `messages`: what is said of a line that is no command.
 #![tactic(auto)]
@@ -15,3 +16,5 @@ mod barrier;
 mod messages;
 #[cfg(test)]
 mod replays;
+#[cfg(test)]
+mod runs;
