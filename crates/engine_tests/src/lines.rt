@@ -1,7 +1,7 @@
 //! Lines answered into a buffer: that they are answered where there is memory, and what a buffer that is too small leaves.
 //! The answers are written by hand.
 
-use line_engine::{Answer, Found, LineEngine, Listing};
+use line_engine::{Answer, Found, LineEngine, Listing, Number};
 use std::alloc::{AllocError, Global};
 use std::test::Fail;
 
@@ -165,6 +165,65 @@ fn other_than_refused(alloc: Global, lines: &mut LineEngine) -> Other {
     if is_right { None } else { Some("mkdir /a") }
 }
 
+/// Lines that leave one process of two in a group with a limit, and a group that has neither.
+const NUMBERED: [&str; 7] = [
+    "mkdir /c",
+    "mkdir /a",
+    "fork 1 2",
+    "write /a cgroup.procs 2",
+    "fork 2 3",
+    "exit 3",
+    "write /a pids.max 5",
+];
+
+/// A text, and the group's count, whether it is populated, its peak and its limit then.
+const NUMBERS: [(&str, [Number; 4]); 5] = [
+    (
+        "/a",
+        [
+            Number::Told(1),
+            Number::Told(1),
+            Number::Told(2),
+            Number::Told(5),
+        ],
+    ),
+    (
+        "/c",
+        [
+            Number::Told(0),
+            Number::Told(0),
+            Number::Told(0),
+            Number::Told(18_446_744_073_709_551_615),
+        ],
+    ),
+    ("/b", [Number::NoGroup; 4]),
+    ("/", [Number::NoFile; 4]),
+    ("b", [Number::BadPath; 4]),
+];
+
+fn other_number(alloc: Global, lines: &mut LineEngine) -> Other {
+    for line in NUMBERED {
+        if lines.answer(alloc, 1, line.as_bytes(), &mut [0u8; 5])
+            != (Answer::Answered { len: 5, code: 0 })
+        {
+            return Some(line);
+        }
+    }
+    for (path, wanted) in NUMBERS {
+        let text = path.as_bytes();
+        let told = [
+            lines.current(alloc, text),
+            lines.populated(alloc, text),
+            lines.peak(alloc, text),
+            lines.limit(alloc, text),
+        ];
+        if told != wanted {
+            return Some(path);
+        }
+    }
+    None
+}
+
 /// A group is made and forgotten: it stays, and there is nothing to undo.
 fn other_than_forgotten(alloc: Global, lines: &mut LineEngine) -> Other {
     let made = lines.answer(alloc, 1, b"mkdir /a", &mut [0u8; 5]);
@@ -184,6 +243,7 @@ enum Trial {
     WithoutWords,
     Groups,
     Forgotten,
+    Numbers,
     OneLine,
 }
 
@@ -193,6 +253,7 @@ fn other_on(alloc: Global, lines: &mut LineEngine, trial: Trial) -> Other {
         Trial::WithoutWords => other_than_skipped(alloc, lines),
         Trial::Groups => other_group(alloc, lines),
         Trial::Forgotten => other_than_forgotten(alloc, lines),
+        Trial::Numbers => other_number(alloc, lines),
         Trial::OneLine => other_than_refused(alloc, lines),
     }
 }
@@ -217,6 +278,12 @@ fn a_line_without_words(rt: HostRuntime) -> Result<(), Fail> {
 #[test]
 fn groups_and_their_children(rt: HostRuntime) -> Result<(), Fail> {
     assert_eq!(rt; other(rt.alloc(), Trial::Groups)?, None);
+    Ok(())
+}
+
+#[test]
+fn numbers_of_a_group(rt: HostRuntime) -> Result<(), Fail> {
+    assert_eq!(rt; other(rt.alloc(), Trial::Numbers)?, None);
     Ok(())
 }
 
