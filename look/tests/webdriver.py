@@ -106,9 +106,16 @@ class Browser:
         acts += [{"type": "pointerDown", "button": 0}, {"type": "pointerUp", "button": 0}] if click else []
         self.call("POST", "/actions", actions=[{"type": "pointer", "id": "mouse", "actions": acts}])
 
+    def cdp(self, command: str, **words: Any) -> Any:
+        """A command of Chromium's own protocol."""
+        return self.call("POST", "/goog/cdp/execute", cmd=command, params=words)
+
     def dark(self, is_dark: bool) -> None:
-        features = [{"name": "prefers-color-scheme", "value": "dark" if is_dark else "light"}]
-        self.call("POST", "/goog/cdp/execute", cmd="Emulation.setEmulatedMedia", params={"features": features})
+        self.cdp("Emulation.setEmulatedMedia", features=[{"name": "prefers-color-scheme", "value": "dark" if is_dark else "light"}])
+
+    def busy(self) -> float:
+        """The seconds that the page's thread has worked, after Performance.enable."""
+        return float(next(one["value"] for one in self.cdp("Performance.getMetrics")["metrics"] if one["name"] == "TaskDuration"))
 
     def complaints(self) -> Any:
         """What the browser wrote to its console since the last look."""

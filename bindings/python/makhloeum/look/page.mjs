@@ -7,7 +7,7 @@ const run = new Run(JSON.parse(document.getElementById("run").textContent));
 const at = (id) => document.getElementById(id);
 const count = (number) => number.toLocaleString("en");
 const limitText = (value) => (value < 0 ? "max" : String(value));
-const PIDS_IN_ROW = 12, PIDS_IN_GROUP = 400;
+const PIDS_IN_ROW = 8, PIDS_IN_GROUP = 400;
 const folded = new Set(), unfolded = new Set();
 let moment = 0, rows = [], chosen = 0, matches = [], hits = new Set(), playing = null, plotted = [], plots = [], linking = null;
 
@@ -53,7 +53,7 @@ const tree = new Rows(at("tree"), "treeitem", (index) => {
     row.append(bar(numbers), cell(`${numbers[CURRENT]} / ${limitText(numbers[LIMIT])}`, CURRENT, LIMIT), cell(String(numbers[PEAK]), PEAK));
     row.append(make("span", { className: populated ? "yes" : "no" }, populated ? "● yes" : "○ no"), refused);
   }
-  row.append(make("span", {}, ...pidButtons(group, PIDS_IN_ROW, -1)));
+  row.append(make("span", {}, ...pids(group, PIDS_IN_ROW, "span")));
   return row;
 });
 
@@ -70,16 +70,15 @@ function bar(numbers) {
 }
 
 // If not all of them have room, those that the last command brought come first.
-function pidButtons(group, most, tabIndex) {
+function pids(group, most, tag) {
   const fresh = [...run.state.fresh].filter((pid) => group.pids.has(pid)).slice(0, most), few = new Set(fresh);
   for (const pid of group.pids) if (few.size < most) few.add(pid);
-  const buttons = sorted(few).map((pid) => {
-    const button = make("button", { className: "pid", tabIndex, title: `the life of process ${pid}` }, String(pid));
-    button.dataset.pid = pid;
-    button.classList.toggle("fresh", fresh.includes(pid));
-    return button;
+  const all = sorted(few).map((pid) => {
+    const one = make(tag, { className: fresh.includes(pid) ? "pid fresh" : "pid" }, String(pid));
+    one.dataset.pid = pid;
+    return one;
   });
-  return few.size < group.pids.size ? [...buttons, ` .. ${count(group.pids.size - few.size)} more`] : buttons;
+  return few.size < group.pids.size ? [...all, ` .. ${count(group.pids.size - few.size)} more`] : all;
 }
 
 // ---- one group, one process
@@ -90,7 +89,7 @@ function showGroup() {
   if (!group) line("There is no such group at this moment.");
   else {
     const n = group.numbers;
-    line("cgroup.procs", ...pidButtons(group, PIDS_IN_GROUP, 0));
+    line("cgroup.procs", ...pids(group, PIDS_IN_GROUP, "button"));
     if (chosen !== 0) {
       line("pids.max", limitText(n[LIMIT]));
       line("pids.current", String(n[CURRENT]));
@@ -263,9 +262,10 @@ document.addEventListener("keydown", onKey);
 addEventListener("hashchange", openLink);
 addEventListener("resize", showPlots);
 
-const sum = (test) => count(run.lines.filter((_, index) => test(index)).length);
-at("summary").textContent = `${count(run.length)} commands, ${sum((index) => run.isRefused(index))} refused, ` +
-  `${sum((index) => run.isKill(index))} kills, ${count(run.paths.length - 1)} groups`;
+const many = (number, one) => `${count(number)} ${one}${number === 1 ? "" : "s"}`;
+const those = (test) => run.lines.filter((_, index) => test(index)).length;
+at("summary").textContent = `${many(run.length, "command")}, ${count(those((index) => run.isRefused(index)))} refused, ` +
+  `${many(those((index) => run.isKill(index)), "kill")}, ${many(run.paths.length - 1, "group")}`;
 at("slider").max = run.length;
 plotted = run.busiest(2);
 showPlots();

@@ -14,26 +14,32 @@ export function makeSvg(tag, attributes, text = "") {
   return element;
 }
 
-// `draw` makes the row with a number; all have the same height.
+// `draw` makes the row with a number; all have the same height. Size and place of the box are remembered, since asking for them
+// after a change makes the browser lay out the page.
 export class Rows {
   constructor(box, role, draw) {
-    Object.assign(this, { box, role, draw, count: 0, height: 22, space: make("div") });
+    Object.assign(this, { box, role, draw, count: 0, height: 22, top: box.scrollTop, tall: box.clientHeight, space: make("div") });
     box.append(this.space);
-    box.addEventListener("scroll", () => this.show(this.count));
-    new ResizeObserver(() => this.show(this.count)).observe(box);
+    box.addEventListener("scroll", () => Math.abs(box.scrollTop - this.top) >= 1 && this.moveTo(box.scrollTop));
+    new ResizeObserver(() => (this.tall = box.clientHeight, this.moveTo(box.scrollTop))).observe(box);
+  }
+
+  moveTo(top) {
+    this.top = top;
+    this.show(this.count);
   }
 
   // If `reach` is the number of a row, scrolls so that it is in sight, and tells a screen reader that it is the one.
   show(count, reach = -1) {
-    const { box, height } = this, top = reach * height;
+    const { box, height, tall } = this, wanted = reach * height;
+    if (count !== this.count) this.space.style.height = `${count * height}px`;
     this.count = count;
-    this.space.style.height = `${count * height}px`;
     if (reach >= 0) box.setAttribute("aria-activedescendant", `${box.id}-${reach}`);
-    if (reach >= 0 && (top < box.scrollTop + height || top > box.scrollTop + box.clientHeight - 2 * height)) {
-      box.scrollTop = Math.max(0, top - box.clientHeight / 2);
+    if (reach >= 0 && (wanted < this.top + height || wanted > this.top + tall - 2 * height)) {
+      this.top = Math.round(Math.max(0, Math.min(wanted - tall / 2, count * height - tall)));
+      box.scrollTop = this.top;
     }
-    const first = Math.max(0, Math.floor(box.scrollTop / height) - 4);
-    const end = Math.min(count, first + Math.ceil(box.clientHeight / height) + 8);
+    const first = Math.max(0, Math.floor(this.top / height) - 2), end = Math.min(count, first + Math.ceil(tall / height) + 4);
     this.space.replaceChildren(...Array.from({ length: Math.max(0, end - first) }, (_, index) => this.row(first + index)));
   }
 

@@ -45,8 +45,9 @@ class State {
   }
 
   count(pid, group, by) {
-    if (by > 0) this.home.set(pid, group), group.pids.add(pid), this.fresh.add(pid);
-    else this.home.delete(pid), group.pids.delete(pid);
+    if (by > 0) this.home.set(pid, group), group.pids.add(pid);
+    if (by > 0 && this.before) this.fresh.add(pid);
+    if (by < 0) this.home.delete(pid), group.pids.delete(pid);
     for (let at = group; at; at = at.above) {
       const numbers = this.change(at).numbers;
       numbers[CURRENT] += by;
@@ -69,18 +70,17 @@ class State {
   // What the command changed. `before` keeps the earlier numbers if it is wanted.
   apply(command, before = null) {
     this.before = before;
-    this.fresh = new Set();
-    for (const [kind, a, b, c, d] of this.run.differences(command)) {
-      if (kind === MAKE) this.make(a);
-      else if (kind === GONE) this.gone(a);
-      else if (kind === BORN) this.count(a, this.groups.get(b), 1);
+    this.run.each(command, (kind, a, b, c, d) => {
+      if (kind === BORN) this.count(a, this.groups.get(b), 1);
       else if (kind === DIED) this.count(a, this.home.get(a), -1);
       else if (kind === MOVE) this.count(a, this.home.get(a), -1), this.count(a, this.groups.get(b), 1);
+      else if (kind === MAKE) this.make(a);
+      else if (kind === GONE) this.gone(a);
       else if (kind === KILL) this.kill(a, command);
       else if (kind === BACK) this.back(a);
       else if (kind === SET) this.change(this.groups.get(b)).numbers[a] = c;
       else for (let at = this.groups.get(b), left = c; left > 0; left--, at = at.above) this.change(at).numbers[a] += d;
-    }
+    });
     this.work++;
   }
 
@@ -131,9 +131,10 @@ export class Run {
     return this.lines.length;
   }
 
-  * differences(command) {
-    const at = this.starts[command], end = at + 1 + this.steps[at];
-    for (let i = at + 1; i < end; i += 1 + SIZES[this.steps[i]]) yield this.steps.slice(i, i + 1 + SIZES[this.steps[i]]);
+  // Calls `act` with each difference of a command: its kind and numbers.
+  each(command, act) {
+    const { steps } = this, start = this.starts[command], end = start + 1 + steps[start];
+    for (let i = start + 1; i < end; i += 1 + SIZES[steps[i]]) act(steps[i], steps[i + 1], steps[i + 2], steps[i + 3], steps[i + 4]);
   }
 
   fresh() {
@@ -215,13 +216,13 @@ export class Run {
     const add = (what, group, command) => (life.push({ what, group, moment: command + 1 }), home = what === "ended" ? -1 : group);
     if (pid === 1) add("born", 0, -1);
     for (let command = 0; command < this.length; command++) {
-      for (const [kind, a, b] of this.differences(command)) {
+      this.each(command, (kind, a, b) => {
         if (kind === BORN && a === pid) add("born", b, command);
         else if (kind === MOVE && a === pid) add("moved", b, command);
         else if (kind === DIED && a === pid) add("ended", home, command);
         else if (kind === KILL && home >= 0 && this.isWithin(home, a)) killed.set(command, home), add("ended", home, command);
         else if (kind === BACK && killed.has(a)) add("born", killed.get(a), command);
-      }
+      });
     }
     return life;
   }
@@ -245,16 +246,15 @@ export class Run {
 
   // For each group: the points at which its numbers change, and the marks of refused forks and of kills.
   series(ids) {
-    const state = this.fresh(), all = ids.map((id) => ({ id, points: [], refused: [], kills: [] }));
+    const state = this.fresh(), all = ids.map((id) => ({ id, points: [], refused: [], kills: [], last: {} })), none = NEW.map(() => -1);
     const look = (moment) => {
       for (const one of all) {
-        const group = state.groups.get(one.id), last = one.points[one.points.length - 1];
-        const [limit, peak, current, total] = group ? [LIMIT, PEAK, CURRENT, TOTAL].map((field) => group.numbers[field]) : [-1, -1, -1, 0];
-        if (moment > 0 && last && total > last.total && this.isRefused(moment - 1)) one.refused.push({ moment, current });
-        if (moment > 0 && last && current < last.current && this.isKill(moment - 1)) one.kills.push({ moment, current });
-        if (!last || limit !== last.limit || peak !== last.peak || current !== last.current || total !== last.total) {
-          one.points.push({ moment, limit, peak, current, total });
-        }
+        const group = state.groups.get(one.id), numbers = group ? group.numbers : none, last = one.last;
+        const [current, peak, limit, total] = [numbers[CURRENT], numbers[PEAK], numbers[LIMIT], numbers[TOTAL]];
+        if (current === last.current && peak === last.peak && limit === last.limit && total === last.total) continue;
+        if (total > last.total && this.isRefused(moment - 1)) one.refused.push({ moment, current });
+        if (current < last.current && this.isKill(moment - 1)) one.kills.push({ moment, current });
+        one.points.push(one.last = { moment, limit, peak, current, total });
       }
     };
     look(0);
@@ -266,10 +266,10 @@ export class Run {
   busiest(count) {
     const score = new Map(), add = (id, by) => id && score.set(id, (score.get(id) || 0) + by);
     for (let command = 0; command < this.length; command++) {
-      for (const [kind, a, b] of this.differences(command)) {
+      this.each(command, (kind, a, b) => {
         if (kind === BORN || kind === MOVE) add(b, 1);
         else if (kind === ADD && a === LOCAL) add(b, 1000);
-      }
+      });
     }
     return [...score].sort((a, b) => b[1] - a[1] || a[0] - b[0]).slice(0, count).map(([id]) => id);
   }
