@@ -171,6 +171,21 @@ def command(name: str, words: list[str]) -> int:
     return int(importlib.import_module(module).main(words))
 
 
+def view() -> int:
+    """makhloeum-view of a wheel."""
+    return command("view", sys.argv[1:])
+
+
+def tree() -> int:
+    """makhloeum-tree of a wheel."""
+    return command("tree", sys.argv[1:])
+
+
+def check() -> int:
+    """makhloeum-check of a wheel."""
+    return command("check", sys.argv[1:])
+
+
 def main(arguments: list[str]) -> int:
     if arguments and arguments[0] in COMMANDS:
         return command(arguments[0], arguments[1:])

@@ -18,10 +18,10 @@ export function makeSvg(tag, attributes, text = "") {
 // after a change makes the browser lay out the page.
 export class Rows {
   constructor(box, role, draw) {
-    Object.assign(this, { box, role, draw, count: 0, height: 22, top: box.scrollTop, tall: box.clientHeight, space: make("div") });
+    Object.assign(this, { box, role, draw, count: 0, reached: -1, height: 22, top: box.scrollTop, tall: box.clientHeight, space: make("div") });
     box.append(this.space);
     box.addEventListener("scroll", () => Math.abs(box.scrollTop - this.top) >= 1 && this.moveTo(box.scrollTop));
-    new ResizeObserver(() => (this.tall = box.clientHeight, this.moveTo(box.scrollTop))).observe(box);
+    new ResizeObserver(() => (this.tall = box.clientHeight, this.show(this.count, this.reached))).observe(box);
   }
 
   moveTo(top) {
@@ -34,6 +34,7 @@ export class Rows {
     const { box, height, tall } = this, wanted = reach * height;
     if (count !== this.count) this.space.style.height = `${count * height}px`;
     this.count = count;
+    this.reached = reach >= 0 ? reach : this.reached;
     if (reach >= 0) box.setAttribute("aria-activedescendant", `${box.id}-${reach}`);
     if (reach >= 0 && (wanted < this.top + height || wanted > this.top + tall - 2 * height)) {
       this.top = Math.round(Math.max(0, Math.min(wanted - tall / 2, count * height - tall)));
