@@ -96,11 +96,11 @@ function showGroup() {
       line("pids.peak", String(n[PEAK]));
       line("pids.events", `max ${n[TOTAL]}`);
       line("pids.events.local", `max ${n[LOCAL]}`);
-      line("cgroup.events", `populated ${n[CURRENT] > 0 ? 1 : 0}`);
+      line("populated", n[CURRENT] > 0 ? "1" : "0");
     }
     line("cgroup.max.depth", limitText(n[DEPTH]));
     line("cgroup.max.descendants", limitText(n[DESCENDANTS]));
-    line("cgroup.stat", `nr_descendants ${[...group.down()].length - 1}`);
+    line("nr_descendants", String([...group.down()].length - 1));
   }
   const plot = make("button", { onclick: () => choosePlot(chosen) }, plotted.includes(chosen) ? "Take off the plots" : "Plot");
   at("group").replaceChildren(heading, table, ...(chosen === 0 ? [] : [plot]));
@@ -150,7 +150,7 @@ function show() {
 function showAnswer() {
   if (moment === 0) return at("answer").replaceChildren("The start: the root, and process 1 in it.");
   const [word, ...text] = run.answerOf(moment - 1).split("\n"), className = run.isRefused(moment - 1) ? "refused" : "yes";
-  at("answer").replaceChildren(`${moment} ${run.lines[moment - 1]}\n`, make("span", { className }, word), ...text.map((line) => `\n${line}`));
+  at("answer").replaceChildren(`${moment} ${run.lines[moment - 1]}\n`, make("span", { className }, word), ["", ...text].join("\n"));
 }
 
 function go(wanted) {

@@ -87,7 +87,10 @@ class State {
   // A checkpoint: for each group, those above first, its id, numbers and pids.
   save() {
     const flat = [];
-    for (const group of this.groups.values()) flat.push(group.id, ...group.numbers, group.pids.size), flat.push(...group.pids);
+    for (const group of this.groups.values()) {
+      flat.push(group.id, ...group.numbers, group.pids.size);
+      for (const pid of group.pids) flat.push(pid); // too many to be arguments of one call
+    }
     return Int32Array.from(flat);
   }
 
@@ -106,14 +109,7 @@ class State {
 // A run: `lines` and `answers` by command, from 0. The moment m is that after m commands.
 export class Run {
   constructor(data) {
-    this.lines = data.lines === "" ? [] : data.lines.split("\n");
-    this.parents = data.parents;
-    this.names = data.names;
-    this.notes = data.notes;
-    this.steps = data.steps;
-    this.table = data.answers;
-    this.answer = data.answer;
-    this.paths = ["/"];
+    Object.assign(this, data, { lines: data.lines === "" ? [] : data.lines.split("\n"), paths: ["/"], starts: [], killed: new Map() });
     for (let id = 1; id < data.names.length; id++) {
       const above = data.parents[id];
       this.paths.push((above === 0 ? "" : this.paths[above]) + "/" + data.names[id]);
@@ -121,9 +117,7 @@ export class Run {
     this.ids = new Map(this.paths.map((path, id) => [path, id]));
     let now = 0;
     this.times = data.times && [0, ...data.times.map((later) => (now += later) / 1e6)]; // of each moment, in seconds
-    this.starts = [];
     for (let at = 0; at < this.steps.length; at += this.steps[at] + 1) this.starts.push(at);
-    this.killed = new Map();
     this.begin();
   }
 
@@ -143,7 +137,7 @@ export class Run {
     return state;
   }
 
-  // Plays the run once and keeps checkpoints: never more numbers than the work since the one before, so all of them together
+  // Plays the run and keeps checkpoints: never more numbers than the work since the one before, so all of them together
   // are no more than the run's differences, and a move restores one and applies a bounded part.
   begin() {
     const state = this.fresh();
@@ -185,7 +179,7 @@ export class Run {
   }
 
   wordsOf(command) {
-    return this.table[this.answer[command]];
+    return this.answers[this.answer[command]];
   }
 
   // The whole answer to the last command. A long list of processes is that of the state.
