@@ -29,8 +29,8 @@ test("each moment, forwards and backwards", () => {
     if (wanted[moment]) assert.deepStrictEqual(numbers(state), wanted[moment], `moment ${moment}`);
     else assert.ok(!state.groups.has(1));
   }
-  assert.deepStrictEqual([...there.go(4).groups.get(1).pids], [2]);
-  assert.deepStrictEqual([...there.go(4).groups.get(0).pids], [1]);
+  assert.deepStrictEqual(there.go(4).pidsOf(there.state.groups.get(1)), [2]);
+  assert.deepStrictEqual(there.state.pidsOf(there.state.groups.get(0)), [1]);
 });
 
 test("what the last command changed", () => {
@@ -85,7 +85,7 @@ test("a thousand groups side by side are folded", () => {
   assert.ok(some.some((row) => row.group && row.group.id === 777));
   assert.strictEqual(rows(new Set(), new Set([0]), new Set()).length, 1002);
   assert.strictEqual(rows(new Set([0]), new Set(), new Set()).length, 1);
-  assert.strictEqual(wide.checkpoints.length, 1, "no checkpoint is longer than the differences before it");
+  assert.strictEqual(wide.checkpoints.length, 1, "a checkpoint comes after work in proportion to its size");
 });
 
 test("shapes of plots", () => {
@@ -112,7 +112,7 @@ test("the page's state is the engine's at every moment", { skip: !file && "MAKHL
   for (const moment of [...order, ...[...order.keys()].reverse()]) {
     const state = there.go(moment), told = {};
     for (const [id, group] of state.groups) {
-      told[there.paths[id]] = [id === 0 ? [] : [LIMIT, PEAK, TOTAL, LOCAL, CURRENT].map((field) => group.numbers[field]), [...group.pids].sort((a, b) => a - b)];
+      told[there.paths[id]] = [id === 0 ? [] : [LIMIT, PEAK, TOTAL, LOCAL, CURRENT].map((field) => group.numbers[field]), state.pidsOf(group)];
     }
     assert.deepStrictEqual(told, moments[moment], `moment ${moment}`);
     if (moment > 0) assert.strictEqual(there.answerOf(moment - 1), data.answers_whole[moment - 1]);

@@ -71,14 +71,15 @@ function bar(numbers) {
 
 // If not all of them have room, those that the last command brought come first.
 function pids(group, most, tag) {
-  const fresh = [...run.state.fresh].filter((pid) => group.pids.has(pid)).slice(0, most), few = new Set(fresh);
-  for (const pid of group.pids) if (few.size < most) few.add(pid);
+  const inside = (pid) => run.state.home[run.places.get(pid)] === group.id;
+  const fresh = [...run.state.fresh].filter(inside).slice(0, most), few = new Set(fresh);
+  for (const pid of run.state.pidsOf(group, most)) if (few.size < most) few.add(pid);
   const all = sorted(few).map((pid) => {
     const one = make(tag, { className: fresh.includes(pid) ? "pid fresh" : "pid" }, String(pid));
     one.dataset.pid = pid;
     return one;
   });
-  return few.size < group.pids.size ? [...all, ` .. ${count(group.pids.size - few.size)} more`] : all;
+  return few.size < group.own ? [...all, ` .. ${count(group.own - few.size)} more`] : all;
 }
 
 // ---- one group, one process
@@ -136,7 +137,7 @@ function choosePlot(id) {
 function show() {
   run.go(moment);
   rows = treeRows(run.state, folded, unfolded, new Set([chosen, ...run.changed.keys()]));
-  list.show(run.length, moment - 1);
+  list.show(run.length, Math.max(0, moment - 1));
   tree.show(rows.length);
   const time = run.times ? `, at ${run.times[moment].toFixed(6)} s` : "";
   at("moment").textContent = `after ${count(moment)} of ${count(run.length)}${time}`;

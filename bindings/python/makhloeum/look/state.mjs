@@ -9,7 +9,7 @@ const STEPS_BETWEEN = 500;
 
 class Group {
   constructor(id, above) {
-    Object.assign(this, { id, above, numbers: NEW.slice(), pids: new Set(), below: new Map() });
+    Object.assign(this, { id, above, numbers: NEW.slice(), own: 0, below: new Map() });
   }
 
   * down() {
@@ -18,10 +18,18 @@ class Group {
   }
 }
 
-// All groups and processes at one moment. `before` has the numbers that the changed groups had.
+// All groups and processes at one moment. `home` has the group's id, or -1, for each pid of the run in ascending order.
+// `before` has the numbers that the changed groups had, `fresh` the pids that the last command brought.
 class State {
-  constructor(run) {
-    Object.assign(this, { run, groups: new Map(), home: new Map(), before: null, fresh: new Set(), work: 0 });
+  constructor(run, home) {
+    Object.assign(this, { run, home, groups: new Map(), before: null, fresh: new Set(), work: 0 });
+  }
+
+  // The pids of a group, ascending, of those from `most` on none.
+  pidsOf(group, most = Infinity) {
+    const pids = [], wanted = Math.min(most, group.own);
+    for (let at = 0; pids.length < wanted; at++) if (this.home[at] === group.id) pids.push(this.run.pids[at]);
+    return pids;
   }
 
   change(group) {
@@ -44,64 +52,58 @@ class State {
     this.groups.delete(id);
   }
 
-  count(pid, group, by) {
-    if (by > 0) this.home.set(pid, group), group.pids.add(pid);
-    if (by > 0 && this.before) this.fresh.add(pid);
-    if (by < 0) this.home.delete(pid), group.pids.delete(pid);
-    for (let at = group; at; at = at.above) {
-      const numbers = this.change(at).numbers;
+  count(at, id, by) {
+    const own = this.groups.get(id);
+    this.home[at] = by > 0 ? id : -1;
+    own.own += by;
+    if (by > 0 && this.before) this.fresh.add(this.run.pids[at]);
+    for (let group = own; group; group = group.above) {
+      const numbers = this.change(group).numbers;
       numbers[CURRENT] += by;
       if (numbers[CURRENT] > numbers[PEAK]) numbers[PEAK] = numbers[CURRENT];
     }
   }
 
-  kill(id, command) {
-    const ended = [];
-    for (const group of this.groups.get(id).down()) for (const pid of group.pids) ended.push(pid, group.id);
-    this.run.killed.set(command, ended);
-    for (let i = 0; i < ended.length; i += 2) this.count(ended[i], this.groups.get(ended[i + 1]), -1);
+  // Both are places in `home`.
+  move(at, id) {
+    this.count(at, this.home[at], -1);
+    this.count(at, id, 1);
   }
 
-  back(command) {
-    const ended = this.run.killed.get(command);
-    for (let i = 0; i < ended.length; i += 2) this.count(ended[i], this.groups.get(ended[i + 1]), 1);
+  kill(id, command) {
+    const ended = [];
+    this.home.forEach((home, at) => home >= 0 && this.run.isWithin(home, id) && ended.push([at, home]));
+    this.run.killed.set(command, ended);
+    for (const [at, home] of ended) this.count(at, home, -1);
   }
 
   // What the command changed. `before` keeps the earlier numbers if it is wanted.
   apply(command, before = null) {
     this.before = before;
     this.run.each(command, (kind, a, b, c, d) => {
-      if (kind === BORN) this.count(a, this.groups.get(b), 1);
-      else if (kind === DIED) this.count(a, this.home.get(a), -1);
-      else if (kind === MOVE) this.count(a, this.home.get(a), -1), this.count(a, this.groups.get(b), 1);
+      const at = kind === BORN || kind === DIED || kind === MOVE ? this.run.places.get(a) : -1;
+      if (kind === BORN) this.count(at, b, 1);
+      else if (kind === DIED) this.count(at, this.home[at], -1);
+      else if (kind === MOVE) this.move(at, b);
       else if (kind === MAKE) this.make(a);
       else if (kind === GONE) this.gone(a);
       else if (kind === KILL) this.kill(a, command);
-      else if (kind === BACK) this.back(a);
+      else if (kind === BACK) this.run.killed.get(a).forEach(([killed, home]) => this.count(killed, home, 1));
       else if (kind === SET) this.change(this.groups.get(b)).numbers[a] = c;
       else for (let at = this.groups.get(b), left = c; left > 0; left--, at = at.above) this.change(at).numbers[a] += d;
     });
     this.work++;
   }
 
-  // A checkpoint: for each group, those above first, its id, numbers and pids.
-  save() {
-    const flat = [];
-    for (const group of this.groups.values()) {
-      flat.push(group.id, ...group.numbers, group.pids.size);
-      for (const pid of group.pids) flat.push(pid); // too many to be arguments of one call
-    }
-    return Int32Array.from(flat);
+  // A checkpoint: the places of all processes, and for each group, those above first, its id, own count and numbers.
+  save(moment) {
+    const groups = [...this.groups.values()].map(({ id, own, numbers }) => ({ id, own, numbers: numbers.slice() }));
+    return { moment, home: this.home.slice(), groups };
   }
 
-  static restored(run, flat) {
-    const state = new State(run);
-    for (let at = 0; at < flat.length;) {
-      const group = state.make(flat[at]);
-      group.numbers = Array.from(flat.subarray(at + 1, at + 1 + NEW.length));
-      const first = at + 2 + NEW.length, end = first + flat[first - 1];
-      for (at = first; at < end; at++) group.pids.add(flat[at]), state.home.set(flat[at], group);
-    }
+  static restored(run, { home, groups }) {
+    const state = new State(run, home.slice());
+    for (const { id, own, numbers } of groups) Object.assign(state.make(id), { own, numbers: numbers.slice() });
     return state;
   }
 }
@@ -118,6 +120,10 @@ export class Run {
     let now = 0;
     this.times = data.times && [0, ...data.times.map((later) => (now += later) / 1e6)]; // of each moment, in seconds
     for (let at = 0; at < this.steps.length; at += this.steps[at] + 1) this.starts.push(at);
+    const pids = new Set([1]);
+    for (let command = 0; command < this.length; command++) this.each(command, (kind, pid) => kind === BORN && pids.add(pid));
+    this.pids = Int32Array.from(pids).sort();
+    this.places = new Map(Array.from(this.pids, (pid, at) => [pid, at]));
     this.begin();
   }
 
@@ -132,25 +138,24 @@ export class Run {
   }
 
   fresh() {
-    const state = new State(this);
-    state.count(1, state.make(0), 1);
+    const state = new State(this, new Int32Array(this.pids.length).fill(-1));
+    state.make(0);
+    state.count(0, 0, 1);
     return state;
   }
 
-  // Plays the run and keeps checkpoints: never more numbers than the work since the one before, so all of them together
-  // are no more than the run's differences, and a move restores one and applies a bounded part.
+  // Plays the run and keeps checkpoints, each after work in proportion to its size. So all of them are in proportion to the
+  // run's differences, and a move restores one and applies a bounded part.
   begin() {
     const state = this.fresh();
-    this.checkpoints = [{ moment: 0, flat: state.save() }];
-    let since = 0;
-    state.work = 0;
+    this.checkpoints = [state.save(0)];
+    let since = state.work = 0;
     for (let command = 0; command < this.length; command++) {
       state.apply(command);
       since++;
-      if (since >= STEPS_BETWEEN && state.work >= state.groups.size * (NEW.length + 2) + state.home.size) {
-        this.checkpoints.push({ moment: command + 1, flat: state.save() });
-        since = state.work = 0;
-      }
+      if (since < STEPS_BETWEEN || state.work < state.groups.size * NEW.length + this.pids.length / 8) continue;
+      this.checkpoints.push(state.save(command + 1));
+      since = state.work = 0;
     }
     this.go(0);
   }
@@ -167,7 +172,7 @@ export class Run {
     }
     const near = this.checkpoints[low];
     if (!this.state || this.moment > last || this.moment < near.moment) {
-      this.state = State.restored(this, near.flat);
+      this.state = State.restored(this, near);
       this.moment = near.moment;
     }
     while (this.moment < last) this.state.apply(this.moment++);
@@ -187,7 +192,7 @@ export class Run {
     const answer = this.wordsOf(command);
     if (answer !== "ok\n") return answer;
     const group = this.state.groups.get(this.ids.get(this.lines[command].split(/[ \t\r]+/)[1]));
-    return "ok" + sorted(group.pids).map((pid) => `\n| ${pid}`).join("");
+    return "ok" + this.state.pidsOf(group).map((pid) => `\n| ${pid}`).join("");
   }
 
   isRefused(command) {
