@@ -176,6 +176,36 @@ def test_watch_draws_again_on_a_change_and_ends(tmp_path):
     assert (process.returncode, rest) == (0, ""), "nothing is drawn without a change"
 
 
+@pytest.mark.skipif(not os.path.exists(PROGRAM) or not os.path.exists("/dev/fuse"), reason="there is no mount/out/makhloeum or no FUSE")
+def test_watch_follows_a_mount_by_poll(tmp_path):
+    at = tmp_path / "groups"
+    at.mkdir()
+    mount = subprocess.run([PROGRAM, "mount", str(at), "--control"], capture_output=True, text=True)
+    if mount.returncode == 2 and "does not allow" in mount.stderr:
+        pytest.skip(mount.stderr)
+    assert mount.returncode == 0, mount.stderr
+    try:
+        (at / "a").mkdir()
+        (at / ".makhloeum" / "fork").write_text("1 2\n")
+        command = [sys.executable, "-u", "-m", "makhloeum", "tree", str(at), "--watch", "300"]
+        process = subprocess.Popen(command, stdout=subprocess.PIPE, text=True, env=WORDS)
+        try:
+            assert process.stdout is not None
+            assert [process.stdout.readline().split()[-1] for _ in range(2)] == ["2", "empty"]
+            (at / "a" / "cgroup.procs").write_text("2\n")
+            again = [process.stdout.readline() for _ in range(3)]
+            assert again[1].rstrip().endswith("  1") and again[2].split()[2:] == ["1/max", "peak", "1", "populated", "2"]
+        finally:
+            process.send_signal(signal.SIGINT)
+            process.communicate(timeout=20)
+        assert process.returncode == 0
+    finally:
+        for _ in range(50):
+            if subprocess.run(["fusermount3", "-u", str(at)], stderr=subprocess.DEVNULL).returncode == 0:
+                break
+            time.sleep(0.1)
+
+
 # ---- makhloeum NAME
 
 
