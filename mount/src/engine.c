@@ -8,9 +8,10 @@
 #include <stdio.h>
 #include <stdlib.h>
 #include <string.h>
+#include <time.h>
 #include <unistd.h>
 
-enum { LINE_MAX = 8192, FIRST_ANSWER = 16384, FORGET_AT = 1024, REPLAYED_MAX = 16777216 };
+enum { LINE_MAX = 8192, TIME_MAX = 48, FIRST_ANSWER = 16384, FORGET_AT = 1024, REPLAYED_MAX = 16777216 };
 
 /* A library without it keeps what could be undone. */
 extern uint32_t mk_forget(mk_handle *h) __attribute__((weak));
@@ -23,6 +24,7 @@ static _Thread_local bool holds_lock;
 static uint64_t number = 1; /* of the next line that is kept */
 static char line[LINE_MAX];
 static size_t line_size;
+static struct timespec started;
 
 /* a buffer that grows */
 struct buffer {
@@ -51,6 +53,7 @@ bool engine_start(struct kept *trace_to, struct kept *answers_to, bool history)
 	trace = trace_to;
 	answers = answers_to;
 	has_history = history;
+	clock_gettime(CLOCK_MONOTONIC, &started);
 	return make_room(&answer, FIRST_ANSWER) && make_room(&text, FIRST_ANSWER) && make_room(&standing, LINE_MAX) &&
 	       make_room(&names, MK_CHILDREN_MAX) && mk_open(&engine) == MK_DONE;
 }
@@ -194,6 +197,20 @@ static void tell_long(void)
 	kept_add(trace, mark, sizeof mark - 1);
 }
 
+/* Keeps the first `*size` bytes of `line` behind a comment that says when, since the engine's start. `*size` is then that
+   of both. 0 or -errno */
+static int keep_line(size_t *size)
+{
+	static char both[TIME_MAX + LINE_MAX];
+	struct timespec now;
+	clock_gettime(CLOCK_MONOTONIC, &now);
+	long long passed = (now.tv_sec - started.tv_sec) * 1000000LL + (now.tv_nsec - started.tv_nsec) / 1000;
+	int n = snprintf(both, TIME_MAX, "# at %lld.%06lld\n", passed / 1000000, passed % 1000000);
+	memcpy(both + n, line, *size);
+	*size += (size_t)n;
+	return kept_add(trace, both, *size);
+}
+
 /* `line` has the text; 0 or -errno */
 static int ask_and_keep(void)
 {
@@ -206,7 +223,7 @@ static int ask_and_keep(void)
 		return -ENOMEM;
 	if (!has_history && mk_forget && engine_depth() >= FORGET_AT)
 		mk_forget(&engine);
-	if (trace->fd >= 0 && (fault = kept_add(trace, line, size)))
+	if (trace->fd >= 0 && (fault = keep_line(&size)))
 		return fault;
 	uint32_t status = ask(number, &code);
 	if (status != MK_DONE && status != MK_REFUSED && status != MK_FAULT)

@@ -1,6 +1,7 @@
-/* makhloeum mount, makhloeum run: the command line. */
+/* The command line: makhloeum mount, makhloeum run, and the commands that are programs of their own. */
 #include "run.h"
 #include "serve.h"
+#include "subcommand.h"
 #include <fcntl.h>
 #include <stdio.h>
 #include <string.h>
@@ -9,13 +10,18 @@
 static const char help[] =
 	"makhloeum mount DIR [--trace FILE] [--answers FILE] [--extra] [--adopt] [--control] [--foreground]\n"
 	"makhloeum run [--trace FILE] [--answers FILE] [--control] [--root] [--] PROGRAM ARGS..\n"
+	"makhloeum view TRACE [-o PAGE.html]\n"
+	"makhloeum tree DIR [--watch]\n"
+	"makhloeum check DIR\n"
 	"\n"
 	"mount lays a hierarchy of process groups over the directory DIR, as a cgroup2 file system looks. A process is a\n"
 	"number there. It returns once the mount is there; fusermount3 -u DIR, or the end of its process, takes it away.\n"
 	"run lays one over /sys/fs/cgroup in namespaces of its own and runs PROGRAM there: it sees a cgroup2 file system,\n"
 	"and its processes are those of the hierarchy. What it leaves behind ends with it. No privilege is needed.\n"
+	"view makes a page of a run from its trace. tree shows the groups of a directory. check compares a directory with the\n"
+	"engine. They are programs of their own: makhloeum NAME starts makhloeum-NAME.\n"
 	"\n"
-	"  --trace FILE    keep each line that was asked: `cgreplay < FILE` gives the same answers\n"
+	"  --trace FILE    keep each line that was asked, with its time: `cgreplay < FILE` gives the same answers\n"
 	"  --answers FILE  keep these answers\n"
 	"  --extra         files that clients look for and the hierarchy does not have (run: always). They are constants:\n"
 	"                  cgroup.controllers and cgroup.subtree_control `pids`, cgroup.type `domain`, cgroup.freeze `0`,\n"
@@ -80,12 +86,14 @@ int main(int argc, char **argv)
 		return 1;
 	if (argc == 2 && (strcmp(argv[1], "--help") == 0 || strcmp(argv[1], "-h") == 0))
 		return fputs(help, stdout) < 0 || fflush(stdout) ? 1 : 0;
+	if (argc >= 2 && strcmp(argv[1], "run") && strcmp(argv[1], "mount"))
+		return argv[1][0] == '-' ? bad() : subcommand_start(argv + 1);
 	if (argc < 3)
 		return bad();
 	int at = read_options(argc, argv, 2, &w);
 	if (strcmp(argv[1], "run") == 0)
 		return at < 0 || at == argc || w.adopt || w.foreground ? bad() : run_program(argv + at, &w);
-	if (strcmp(argv[1], "mount") != 0 || at < 0 || at == argc || w.as_root)
+	if (at < 0 || at == argc || w.as_root)
 		return bad();
 	const char *directory = argv[at];
 	at = read_options(argc, argv, at + 1, &w);

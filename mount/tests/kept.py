@@ -1,11 +1,13 @@
 """The files that a mount keeps, --trace and --answers: which may be given, and what happens when they can grow no more."""
 import os
+import re
 import resource
 import socket
 import stat
 import subprocess
 import sys
 import tempfile
+import time
 
 from support import CGREPLAY, CGSHELL, PATIENCE, PROGRAM, Mount, error_of, finish, read, same, step, until, write
 
@@ -61,6 +63,20 @@ def modes():
     m = Mount()
     same("the mode of a trace", stat.S_IMODE(os.stat(m.trace).st_mode), 0o600)
     same("of answers", stat.S_IMODE(os.stat(m.answers).st_mode), 0o600)
+    m.end()
+
+
+def times():
+    """Before each line of a trace is a comment with the time since the start."""
+    m = Mount()
+    os.mkdir(m.path("a"))
+    time.sleep(0.1)
+    write(m.control("fork"), b"1 2\n")
+    lines = open(m.trace).read().split("\n")
+    at = [re.fullmatch(r"# at ([0-9]+\.[0-9]{6})", line) for line in lines[:-1:2]]
+    same("the lines between the comments", lines[1::2], ["mkdir /a", "fork 1 2"])
+    step("each comment is a time", all(at), lines)
+    step("the times ascend with the clock", all(at) and 0 < float(at[0][1]) and 0.1 <= float(at[1][1]) - float(at[0][1]) < PATIENCE, lines)
     m.end()
 
 
@@ -126,9 +142,9 @@ def limited():
         limit_of(m, max(os.path.getsize(trace) + 60, os.path.getsize(m.answers)))
 
     for i in range(40):  # the answers get longer than the trace
-        read(m.path("cgroup.procs"))
         os.mkdir(m.path("d%d" % i))
-        read(m.path("cgroup.stat"))
+        for _ in range(8):
+            read(m.path("cgroup.stat"))
     step("the answers are longer than the trace", os.path.getsize(m.answers) > os.path.getsize(trace) + 100)
     recovers("the answers alone", m, stop, lambda: limit_of(m, None))
 
@@ -200,7 +216,7 @@ def long_trace():
 if sys.argv[1:] == ["small"]:
     small_device()
     finish()
-for test in (targets, modes, full_answers, limited, long_trace):
+for test in (targets, modes, times, full_answers, limited, long_trace):
     test()
 ran = subprocess.run(["unshare", "-Urm", sys.executable, ME, "small"], timeout=6 * PATIENCE)
 same("on a small device", ran.returncode, 0)

@@ -1,12 +1,15 @@
 """An interactive shell: python3 -m makhloeum [SCRIPT ...]
+Commands of their own: python3 -m makhloeum view|tree|check ... (--help after each says more)
 
-It answers the commands of the trace language, and: ls [PATH], tree [PATH], undo [NUMBER], source SCRIPT, help, quit.
+The shell answers the commands of the trace language, and: ls [PATH], tree [PATH], undo [NUMBER], source SCRIPT, help, quit.
 Scripts are answered in order, and then the shell ends; `-` is standard input. The status is 1 if a script's command failed.
 """
 
 from __future__ import annotations
 
 import cmd
+import importlib
+import importlib.util
 import shlex
 import sys
 from typing import Callable, TextIO
@@ -14,37 +17,13 @@ from typing import Callable, TextIO
 from . import __version__
 from .errors import Refused
 from .hierarchy import Hierarchy
+from .look.tree import draw, of_hierarchy, uses_colour
 
+COMMANDS = {"view": "makhloeum.look.view", "tree": "makhloeum.look.tree", "check": "makhloeum.check"}
 FILES = (
     *("cgroup.procs", "cgroup.events", "cgroup.stat", "cgroup.max.depth", "cgroup.max.descendants", "cgroup.kill"),
     *("pids.max", "pids.current", "pids.peak", "pids.events", "pids.events.local"),
 )
-
-
-def tree(h: Hierarchy, path: str = "/") -> str:
-    """The groups at and below the path, with pids.current and pids.max of each; for the root, with its own processes."""
-    lines = [path if path == "/" else path.rsplit("/", 1)[1]]
-    labels = [_label(h, path)]
-
-    def add(group: str, indent: str) -> None:
-        names = h.children(group)
-        for at, name in enumerate(names):
-            last = at == len(names) - 1
-            child = group.rstrip("/") + "/" + name
-            lines.append(indent + ("└─ " if last else "├─ ") + name)
-            labels.append(_label(h, child))
-            add(child, indent + ("   " if last else "│  "))
-
-    add(path, "")
-    width = max(map(len, lines))
-    return "".join(f"{line:<{width}}  {label}\n" for line, label in zip(lines, labels))
-
-
-def _label(h: Hierarchy, path: str) -> str:
-    if path == "/":
-        return f"{len(h.processes(path))} in the root"
-    limit = h.limit(path)
-    return f"{h.current(path)}/{'max' if limit is None else limit}"
 
 
 class Shell(cmd.Cmd):
@@ -127,8 +106,8 @@ class Shell(cmd.Cmd):
         self._try(lambda: "".join(f"{name}\n" for name in [child + "/" for child in self.h.children(path)] + files))
 
     def do_tree(self, words: str) -> None:
-        """tree [PATH]: the groups, with pids.current/pids.max"""
-        self._try(lambda: tree(self.h, words or "/"))
+        """tree [PATH]: the groups with pids.current/pids.max, peak, refused forks and processes"""
+        self._try(lambda: draw(of_hierarchy(self.h, words or "/"), uses_colour(self.stdout)))
 
     def do_source(self, words: str) -> None:
         """source SCRIPT: answer the commands of a file"""
@@ -183,7 +162,33 @@ def run_script(shell: Shell, file: str) -> None:
             shell.onecmd(line.rstrip("\n"))
 
 
+def command(name: str, words: list[str]) -> int:
+    """A command of its own: the `main` of its module."""
+    module = COMMANDS[name]
+    if importlib.util.find_spec(module) is None:
+        print(f"makhloeum: {name} is not part of this installation", file=sys.stderr)
+        return 2
+    return int(importlib.import_module(module).main(words))
+
+
+def view() -> int:
+    """makhloeum-view of a wheel."""
+    return command("view", sys.argv[1:])
+
+
+def tree() -> int:
+    """makhloeum-tree of a wheel."""
+    return command("tree", sys.argv[1:])
+
+
+def check() -> int:
+    """makhloeum-check of a wheel."""
+    return command("check", sys.argv[1:])
+
+
 def main(arguments: list[str]) -> int:
+    if arguments and arguments[0] in COMMANDS:
+        return command(arguments[0], arguments[1:])
     if arguments[:1] in (["-h"], ["--help"]):
         print((__doc__ or "").strip())
         return 0

@@ -7,7 +7,8 @@ import subprocess
 import sys
 
 import makhloeum
-from makhloeum.__main__ import Shell, tree
+from makhloeum.__main__ import Shell
+from makhloeum.look.tree import draw, of_hierarchy
 
 FOLDER = os.path.dirname(os.path.dirname(makhloeum.__file__))
 WORDS = dict(os.environ, PYTHONPATH=FOLDER, TERM="dumb")
@@ -37,8 +38,16 @@ def test_a_tree_has_counts_and_limits(hierarchy):
     h = hierarchy
     for line in ("mkdir /a", "mkdir /a/b", "mkdir /a/c", "mkdir /d", "write /a pids.max 10", "fork 1 2", "write /a/b cgroup.procs 2"):
         h.line(line)
-    assert tree(h) == "/        1 in the root\n├─ a     1/10\n│  ├─ b  1/max\n│  └─ c  0/max\n└─ d     0/max\n"
-    assert tree(h, "/a") == "a     1/10\n├─ b  1/max\n└─ c  0/max\n"
+    assert draw(of_hierarchy(h)) == (
+        "/                                                1\n"
+        "├─ a     [█|        ]   1/10  peak 1  populated\n"
+        "│  ├─ b                1/max  peak 1  populated  2\n"
+        "│  └─ c                0/max  peak 0  empty\n"
+        "└─ d                   0/max  peak 0  empty\n"
+    )
+    out = io.StringIO()
+    Shell(h, out).onecmd("tree /a/b")
+    assert out.getvalue() == "b                1/max  peak 1  populated  2\n"
 
 
 def test_completion(hierarchy):

@@ -1,0 +1,53 @@
+// The parts of the page that know no run: elements, and a list that draws only the rows in sight.
+
+// An element with properties and children. Texts become text, never markup.
+export function make(tag, properties = {}, ...children) {
+  const element = Object.assign(document.createElement(tag), properties);
+  element.append(...children);
+  return element;
+}
+
+export function makeSvg(tag, attributes, text = "") {
+  const element = document.createElementNS("http://www.w3.org/2000/svg", tag);
+  for (const [name, value] of Object.entries(attributes)) element.setAttribute(name, value);
+  element.textContent = text;
+  return element;
+}
+
+// `draw` makes the row with a number; all have the same height. Size and place of the box are remembered, since asking for them
+// after a change makes the browser lay out the page.
+export class Rows {
+  constructor(box, role, draw) {
+    Object.assign(this, { box, role, draw, count: 0, reached: -1, height: 22, top: box.scrollTop, tall: box.clientHeight, space: make("div") });
+    box.append(this.space);
+    box.addEventListener("scroll", () => Math.abs(box.scrollTop - this.top) >= 1 && this.moveTo(box.scrollTop));
+    new ResizeObserver(() => (this.tall = box.clientHeight, this.show(this.count, this.reached))).observe(box);
+  }
+
+  moveTo(top) {
+    this.top = top;
+    this.show(this.count);
+  }
+
+  // If `reach` is the number of a row, scrolls so that it is in sight, and tells a screen reader that it is the one.
+  show(count, reach = -1) {
+    const { box, height, tall } = this, wanted = reach * height;
+    if (count !== this.count) this.space.style.height = `${count * height}px`;
+    this.count = count;
+    this.reached = reach >= 0 ? reach : this.reached;
+    if (reach >= 0) box.setAttribute("aria-activedescendant", `${box.id}-${reach}`);
+    if (reach >= 0 && (wanted < this.top + height || wanted > this.top + tall - 2 * height)) {
+      this.top = Math.round(Math.max(0, Math.min(wanted - tall / 2, count * height - tall)));
+      box.scrollTop = this.top;
+    }
+    const first = Math.max(0, Math.floor(this.top / height) - 2), end = Math.min(count, first + Math.ceil(tall / height) + 4);
+    this.space.replaceChildren(...Array.from({ length: Math.max(0, end - first) }, (_, index) => this.row(first + index)));
+  }
+
+  row(at) {
+    const row = Object.assign(this.draw(at), { id: `${this.box.id}-${at}`, role: this.role });
+    row.style.top = `${at * this.height}px`;
+    row.dataset.at = at;
+    return row;
+  }
+}

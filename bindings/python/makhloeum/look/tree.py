@@ -1,0 +1,274 @@
+"""makhloeum tree DIR [--watch [SECONDS]]
+
+Shows the groups below DIR, a mounted cgroup2 directory, as a tree: for each group pids.current of pids.max as a bar with the
+peak, refused forks here and with those below, and its processes. With --watch it draws again whenever something has
+changed, until Ctrl-C: at once after a change that the kernel announces (poll on cgroup.events and pids.events), and it looks
+every SECONDS (0.5) for the others.
+"""
+
+from __future__ import annotations
+
+import os
+import select
+import sys
+import time
+from dataclasses import dataclass, field
+from typing import Callable, Dict, Iterator, List, Optional, TextIO, Tuple
+
+from ..hierarchy import Hierarchy
+
+BAR = 10
+PIDS_MOST = 16
+WATCHED_MOST = 200
+_EIGHTHS = " ▏▎▍▌▋▊▉█"
+
+
+@dataclass
+class Node:
+    """A group as the tree shows it; None is what its directory doesn't say."""
+
+    name: str
+    processes: List[int]
+    current: Optional[int] = None
+    limit: Optional[int] = None  # None: no limit
+    peak: Optional[int] = None
+    populated: Optional[bool] = None
+    here: Optional[int] = None
+    total: Optional[int] = None
+    below: List["Node"] = field(default_factory=list)
+
+
+# ---- from an engine, from a directory
+
+
+def of_hierarchy(h: Hierarchy, path: str = "/") -> Node:
+    """The group of an engine, with those below it."""
+    node = Node(path if path == "/" else path.rsplit("/", 1)[1], h.processes(path))
+    if path != "/":
+        node.current, node.limit, node.peak, node.populated = h.current(path), h.limit(path), h.peak(path), h.populated(path)
+        node.total, node.here = (int(h.read(path, file).split()[1]) for file in ("pids.events", "pids.events.local"))
+    node.below = [of_hierarchy(h, path.rstrip("/") + "/" + name) for name in h.children(path)]
+    return node
+
+
+def _read(folder: str, file: str) -> List[str]:
+    """The words of a file; none if the group or the file isn't there."""
+    try:
+        with open(os.path.join(folder, file), encoding="ascii", errors="replace") as it:
+            return it.read().split()
+    except (OSError, UnicodeError):
+        return []
+
+
+def _number(folder: str, file: str, key: str = "") -> Optional[int]:
+    """The number of a file, or that behind a key. `max` is none."""
+    words = _read(folder, file)
+    word = words[words.index(key) + 1] if key in words[:-1] else "" if key else "".join(words[:1])
+    return int(word) if word.isdigit() else None
+
+
+def of_directory(folder: str, name: Optional[str] = None) -> Node:
+    """The group that a directory is, with those below it."""
+    node = Node(folder if name is None else name, [int(pid) for pid in _read(folder, "cgroup.procs") if pid.isdigit()])
+    node.current, node.limit, node.peak = (_number(folder, "pids." + file) for file in ("current", "max", "peak"))
+    populated = _number(folder, "cgroup.events", "populated")
+    node.populated = None if populated is None else populated > 0
+    node.total, node.here = _number(folder, "pids.events", "max"), _number(folder, "pids.events.local", "max")
+    try:
+        entries = sorted(entry.name for entry in os.scandir(folder) if entry.is_dir(follow_symlinks=False))
+    except OSError:
+        entries = []  # removed meanwhile
+    for child in entries:
+        if not child.startswith(".") and os.path.exists(os.path.join(folder, child, "cgroup.procs")):
+            node.below.append(of_directory(os.path.join(folder, child), child))
+    return node
+
+
+# ---- as text
+
+_Paint = Callable[[str, str], str]
+COLOURS = {"name": "1", "bar": "34", "full": "31", "peak": "33", "yes": "32", "soft": "2", "refused": "1;31"}
+
+
+def _plain(text: str, kind: str) -> str:
+    return text
+
+
+def _coloured(text: str, kind: str) -> str:
+    return f"\x1b[{COLOURS[kind]}m{text}\x1b[0m" if text.strip() else text
+
+
+def _printable(name: str) -> str:
+    """A name may have bytes that move a terminal's cursor."""
+    text = os.fsencode(name).decode("utf-8", "backslashreplace")
+    return "".join(c if c.isprintable() else c.encode("unicode_escape").decode("ascii") for c in text)
+
+
+def _bar(node: Node, paint: _Paint) -> str:
+    """The count as a part of the limit, with a mark at the peak; without a limit nothing is a part of it."""
+    if node.current is None or node.limit is None:
+        return " " * (BAR + 2)
+    eighths = min(BAR * 8, node.current * BAR * 8 // max(node.limit, 1))
+    cells = ["█"] * (eighths // 8) + ([_EIGHTHS[eighths % 8]] if eighths % 8 else [])
+    cells += [" "] * (BAR - len(cells))
+    kind = "full" if node.current >= node.limit else "bar"
+    painted = [paint(cell, kind) for cell in cells]
+    at = min(BAR, node.peak * BAR // max(node.limit, 1)) if node.peak else 0
+    if at < BAR and node.peak and cells[at] == " ":
+        painted[at] = paint("|", "peak")
+    return "[" + "".join(painted) + "]"
+
+
+def _columns(node: Node, paint: _Paint) -> Tuple[str, ...]:
+    limit = "max" if node.limit is None else str(node.limit)
+    count = "" if node.current is None else f"{node.current}/{limit}"
+    peak = "" if node.peak is None else f"peak {node.peak}"
+    populated = {None: "", True: "populated", False: "empty"}[node.populated]
+    refused = f"refused {node.here or 0} here, {node.total or 0} in all" if node.total or node.here else ""
+    pids = [str(pid) for pid in node.processes[:PIDS_MOST]]
+    more = len(node.processes) - len(pids)
+    return count, peak, populated, refused, " ".join(pids + ([f".. {more} more"] if more else []))
+
+
+def _flat(node: Node, indent: str = "", mark: str = "") -> Iterator[Tuple[str, str, Node]]:
+    yield indent + mark, _printable(node.name), node
+    indent += {"": "", "├─ ": "│  ", "└─ ": "   "}[mark]
+    for at, below in enumerate(node.below):
+        yield from _flat(below, indent, "└─ " if at == len(node.below) - 1 else "├─ ")
+
+
+def draw(node: Node, colour: bool = False) -> str:
+    """The tree as text, one line for each group."""
+    paint = _coloured if colour else _plain
+    rows = [(lead, name, group, _columns(group, paint)) for lead, name, group in _flat(node)]
+    width = max(len(lead) + len(name) for lead, name, _, _ in rows)
+    sizes = [max(len(row[3][at]) for row in rows) for at in range(4)]
+    lines = []
+    for lead, name, group, (count, peak, populated, refused, pids) in rows:
+        parts = [lead + paint(name, "name") + " " * (width - len(lead) - len(name)), _bar(group, paint)]
+        parts.append(count.rjust(sizes[0]))
+        parts.append(paint(peak.ljust(sizes[1]), "peak"))
+        parts.append(paint(populated.ljust(sizes[2]), "yes" if group.populated else "soft"))
+        parts += [paint(refused.ljust(sizes[3]), "refused")] if sizes[3] else []
+        lines.append("  ".join([*parts, pids]).rstrip() + "\n")
+    return "".join(lines)
+
+
+# ---- the command
+
+
+class Watch:
+    """Waits for a change of a directory's groups."""
+
+    def __init__(self, folder: str) -> None:
+        self.folder = folder
+        self.files: Dict[str, int] = {}
+        self.poll = select.poll()
+
+    def follow(self, node: Node) -> None:
+        """Polls the event files of the groups that are there."""
+        wanted = set()
+        for path in list(_paths(self.folder, node))[:WATCHED_MOST]:
+            wanted |= {os.path.join(path, file) for file in ("cgroup.events", "pids.events")}
+        for path in set(self.files) - wanted:
+            self._drop(path)
+        for path in wanted - set(self.files):
+            try:
+                self.files[path] = os.open(path, os.O_RDONLY | os.O_CLOEXEC)
+            except OSError:
+                continue
+            self.poll.register(self.files[path], select.POLLPRI)
+
+    def _drop(self, path: str) -> None:
+        self.poll.unregister(self.files[path])
+        os.close(self.files.pop(path))
+
+    def wait(self, seconds: float) -> None:
+        """Until an event file changes, or the time is over."""
+        paths = {file: path for path, file in self.files.items()}
+        for file, _ in self.poll.poll(seconds * 1000):
+            try:
+                os.pread(file, 4096, 0)  # an event file that was read waits for the next change
+            except OSError:
+                self._drop(paths[file])
+
+    def close(self) -> None:
+        for path in list(self.files):
+            self._drop(path)
+
+
+def _paths(folder: str, node: Node) -> Iterator[str]:
+    yield folder
+    for below in node.below:
+        yield from _paths(os.path.join(folder, below.name), below)
+
+
+def uses_colour(out: TextIO) -> bool:
+    return out.isatty() and os.environ.get("TERM") != "dumb" and not os.environ.get("NO_COLOR")
+
+
+def watch(folder: str, seconds: float, out: TextIO) -> None:
+    """Draws again whenever the text changes, until the directory is gone."""
+    following, last = Watch(folder), None
+    try:
+        while os.path.exists(os.path.join(folder, "cgroup.procs")):
+            node = of_directory(folder)
+            following.follow(node)
+            text = draw(node, uses_colour(out))
+            if text != last:
+                out.write(("\x1b[H\x1b[2J" if out.isatty() else "" if last is None else "\n") + text)
+                out.flush()
+                last = text
+            start = time.monotonic()
+            following.wait(seconds)
+            time.sleep(max(0.0, min(0.02, seconds - (time.monotonic() - start))))  # changes that come together are one
+    finally:
+        following.close()
+
+
+def _words(words: List[str]) -> Optional[Tuple[str, Optional[float]]]:
+    """The directory, and the seconds of --watch; None on a bad command line."""
+    folders, seconds, rest = [], None, list(words)
+    while rest:
+        word = rest.pop(0)
+        if word == "--watch":
+            seconds = 0.5
+            if rest and rest[0].replace(".", "", 1).isdigit():
+                seconds = float(rest.pop(0))
+        elif word == "--":
+            folders += rest
+            rest = []
+        elif word.startswith("-"):
+            return None
+        else:
+            folders.append(word)
+    return (folders[0], seconds) if len(folders) == 1 and seconds != 0 else None
+
+
+def main(words: List[str]) -> int:
+    if words in (["--help"], ["-h"]):
+        print((__doc__ or "").strip())
+        return 0
+    wanted = _words(words)
+    if wanted is None:
+        print("makhloeum tree: bad command line; makhloeum tree --help shows it", file=sys.stderr)
+        return 2
+    folder, seconds = wanted
+    try:
+        os.close(os.open(os.path.join(folder, "cgroup.procs"), os.O_RDONLY))
+    except OSError as failure:
+        why = "it has no cgroup.procs" if os.path.isdir(folder) and not os.path.exists(failure.filename) else failure.strerror
+        print(f"makhloeum tree: {_printable(folder)} is no cgroup2 directory: {why}", file=sys.stderr)
+        return 2
+    try:
+        if seconds is None:
+            sys.stdout.write(draw(of_directory(folder), uses_colour(sys.stdout)))
+            sys.stdout.flush()
+        else:
+            watch(folder, seconds, sys.stdout)
+    except KeyboardInterrupt:
+        return 0
+    except OSError as failure:
+        print(f"makhloeum tree: {failure}", file=sys.stderr)
+        return 1
+    return 0

@@ -1,0 +1,94 @@
+"""makhloeum view TRACE [-o PAGE.html]
+
+Makes one page of a run: its commands with their answers, the tree of groups after each of them, and plots. Open it in a
+browser; it loads nothing. TRACE is what `makhloeum run` or `mount` kept with --trace, or any other trace; `-` is standard
+input. The page is TRACE.html unless -o names another; `-o -` is standard output.
+"""
+
+from __future__ import annotations
+
+import os
+import sys
+from typing import List, Optional, Tuple
+
+from ..hierarchy import Hierarchy
+from .history import History, shown
+from .page import page
+
+
+def _words(words: List[str]) -> Optional[Tuple[str, str]]:
+    """The trace and the page, or None on a bad command line."""
+    traces, to = [], None
+    rest = list(words)
+    while rest:
+        word = rest.pop(0)
+        if word == "-o" and rest and to is None:
+            to = rest.pop(0)
+        elif word.startswith("-o") and len(word) > 2 and to is None:
+            to = word[2:]
+        elif word == "--":
+            traces += rest
+            rest = []
+        elif word.startswith("-") and word != "-":
+            return None
+        else:
+            traces.append(word)
+    if len(traces) != 1:
+        return None
+    return traces[0], to or ("-" if traces[0] == "-" else traces[0] + ".html")
+
+
+def _read(trace: str) -> bytes:
+    if trace == "-":
+        return sys.stdin.buffer.read()
+    with open(trace, "rb") as file:
+        return file.read()
+
+
+def _write(to: str, text: str) -> None:
+    if to == "-":
+        sys.stdout.buffer.write(text.encode())
+        sys.stdout.buffer.flush()
+        return
+    with open(to, "w", encoding="utf-8", newline="\n") as file:
+        file.write(text)
+
+
+def _say(sentence: str) -> None:
+    print(f"makhloeum view: {sentence}", file=sys.stderr)
+
+
+def _is_same(trace: str, to: str) -> bool:
+    return "-" not in (trace, to) and os.path.exists(to) and os.path.samefile(trace, to)
+
+
+def main(words: List[str]) -> int:
+    if words in (["--help"], ["-h"]):
+        print((__doc__ or "").strip())
+        return 0
+    wanted = _words(words)
+    if wanted is None:
+        _say("bad command line; makhloeum view --help shows it")
+        return 2
+    trace, to = wanted
+    try:
+        with Hierarchy() as h:
+            history = History(h)
+            history.read(_read(trace))
+        if history.lines and all(history.answers[answer] == "refused syntax" for answer in history.answer):
+            _say(f"no line of {trace} is a command")
+            return 1
+        if _is_same(trace, to):
+            _say(f"the page would replace the trace {trace}")
+            return 2
+        name = "standard input" if trace == "-" else shown(os.fsencode(os.path.basename(trace)))
+        _write(to, page(history, name))
+    except OSError as failure:
+        _say(str(failure))
+        return 1
+    except MemoryError:
+        _say("out of memory")
+        return 1
+    if to != "-":
+        print(f"{to}: {len(history.lines)} commands, {history.refused} refused")
+    return 0

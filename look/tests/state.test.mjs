@@ -1,0 +1,120 @@
+// What has no document: the state at each moment, searches, lives, series, rows, and the shapes of plots.
+//   node --test look/tests/state.test.mjs
+// MAKHLOEUM_RUN is a file with a run as the page has it, and with what the engine said of every moment (test_page.py makes it).
+import assert from "node:assert";
+import { readFileSync } from "node:fs";
+import test from "node:test";
+
+const folder = new URL("../../bindings/python/makhloeum/look/", import.meta.url);
+const { LIMIT, PEAK, TOTAL, LOCAL, CURRENT, Run, treeRows } = await import(new URL("state.mjs", folder));
+const { columns, momentAt, scale, stepPath, ticks } = await import(new URL("plot.mjs", folder));
+
+// mkdir /a; write /a pids.max 1; fork 1 2; write /a cgroup.procs 2; fork 2 3 (refused); write /a cgroup.kill 1; undo; exit 2; rmdir /a
+const LINES = [
+  "mkdir /a", "write /a pids.max 1", "fork 1 2", "write /a cgroup.procs 2", "fork 2 3", "write /a cgroup.kill 1", "undo", "exit 2", "rmdir /a",
+];
+const STEPS = [[0, 1], [7, 0, 1, 1], [2, 2, 0], [4, 2, 1], [8, 2, 1, 1, 1, 8, 3, 1, 1, 1], [5, 1], [6, 5], [3, 2], [1, 1]];
+const run = () => new Run({
+  lines: LINES.join("\n"), names: ["/", "a"], parents: [0, 0], notes: { 4: "# too many" }, times: [1, 1, 1, 1, 1, 5, 5, 5, 5].map((n) => n * 1e6),
+  answers: ["ok", "refused pidsmax /a", "ok\n| write /a cgroup.kill 1"], answer: [0, 0, 0, 0, 1, 0, 2, 0, 0], steps: STEPS.flatMap((step) => [step.length, ...step]),
+});
+const numbers = (state, id = 1) => [LIMIT, PEAK, TOTAL, LOCAL, CURRENT].map((field) => state.groups.get(id).numbers[field]);
+
+test("each moment, forwards and backwards", () => {
+  const wanted = [undefined, [-1, 0, 0, 0, 0], [1, 0, 0, 0, 0], [1, 0, 0, 0, 0], [1, 1, 0, 0, 1], [1, 1, 1, 1, 1], [1, 1, 1, 1, 0], [1, 1, 1, 1, 1],
+    [1, 1, 1, 1, 0], undefined];
+  const there = run();
+  for (const moment of [...wanted.keys(), ...[...wanted.keys()].reverse(), 5, 2, 9, 0, 6, 7]) {
+    const state = there.go(moment);
+    if (wanted[moment]) assert.deepStrictEqual(numbers(state), wanted[moment], `moment ${moment}`);
+    else assert.ok(!state.groups.has(1));
+  }
+  assert.deepStrictEqual(there.go(4).pidsOf(there.state.groups.get(1)), [2]);
+  assert.deepStrictEqual(there.state.pidsOf(there.state.groups.get(0)), [1]);
+});
+
+test("what the last command changed", () => {
+  const there = run();
+  there.go(4);
+  assert.deepStrictEqual([...there.changed.keys()].sort(), [0, 1]);
+  assert.deepStrictEqual([...there.state.fresh], [2]);
+  assert.strictEqual(there.changed.get(1)[CURRENT], 0);
+  there.go(5);
+  assert.deepStrictEqual([...there.changed.keys()], [1]);
+  there.go(0);
+  assert.strictEqual(there.changed.size, 0);
+  there.go(1);
+  assert.strictEqual(there.changed.get(1), null);
+});
+
+test("a process's life", () => {
+  const told = run().life(2).map(({ what, group, moment }) => `${moment} ${what} ${group}`);
+  assert.deepStrictEqual(told, ["3 born 0", "4 moved 1", "6 ended 1", "7 born 1", "8 ended 1"]);
+  assert.deepStrictEqual(run().life(1), [{ what: "born", group: 0, moment: 0 }]);
+  assert.deepStrictEqual(run().life(3), []);
+});
+
+test("search by pid, path and word", () => {
+  assert.deepStrictEqual(run().search("2"), [3, 4, 5, 6, 7, 8]);
+  assert.deepStrictEqual(run().search("1"), [3], "a value is no pid");
+  assert.deepStrictEqual(run().search("/a"), [1, 2, 4, 5, 6, 7, 9]);
+  assert.deepStrictEqual(run().search("Too Many"), [5]);
+  assert.deepStrictEqual(run().search("refused"), [5]);
+  assert.deepStrictEqual(run().search(" "), []);
+});
+
+test("series with marks, and times", () => {
+  const [series] = run().series([1]);
+  assert.deepStrictEqual(series.refused.map(({ moment }) => moment), [5]);
+  assert.deepStrictEqual(series.kills.map(({ moment }) => moment), [6]);
+  assert.deepStrictEqual(series.points.map(({ moment, current }) => [moment, current]), [[0, -1], [1, 0], [2, 0], [4, 1], [5, 1], [6, 0], [7, 1], [8, 0], [9, -1]]);
+  assert.deepStrictEqual(run().times, [0, 1, 2, 3, 4, 5, 10, 15, 20, 25]);
+  assert.deepStrictEqual(run().busiest(2), [1]);
+});
+
+test("a thousand groups side by side are folded", () => {
+  const names = ["/", ...Array.from({ length: 1000 }, (_, at) => `g${at}`)];
+  const wide = new Run({
+    lines: names.slice(1).map((name) => `mkdir /${name}`).join("\n"), names, parents: names.map(() => 0), notes: {}, times: null, answers: ["ok"],
+    answer: names.slice(1).map(() => 0), steps: names.slice(1).flatMap((_, at) => [2, 0, at + 1]),
+  });
+  const rows = (...sets) => treeRows(wide.go(1000), ...sets);
+  const some = rows(new Set(), new Set(), new Set([777]));
+  assert.strictEqual(some.length, 1 + 20 + 1 + 1);
+  assert.strictEqual(some.at(-1).rest, 979);
+  assert.ok(some.some((row) => row.group && row.group.id === 777));
+  assert.strictEqual(rows(new Set(), new Set([0]), new Set()).length, 1002);
+  assert.strictEqual(rows(new Set([0]), new Set(), new Set()).length, 1);
+  assert.strictEqual(wide.checkpoints.length, 1, "a checkpoint comes after work in proportion to its size");
+});
+
+test("shapes of plots", () => {
+  const same = (value) => value;
+  const points = [{ moment: 0, n: -1 }, { moment: 2, n: 1 }, { moment: 5, n: 3 }, { moment: 8, n: -1 }, { moment: 9, n: 2 }];
+  assert.strictEqual(stepPath(points, "n", same, same, 10), "M2 1V1H5H5V3V3H8M9 2V2H10");
+  const many = Array.from({ length: 10000 }, (_, at) => ({ moment: at, n: at % 7 }));
+  assert.ok(stepPath(many, "n", (at) => at / 100, same, 100).length < 201 * 40, "no more than the columns of the picture");
+  assert.strictEqual(stepPath([], "n", same, same, 10), "");
+  assert.deepStrictEqual(ticks(10, 5), [0, 2, 4, 6, 8, 10]);
+  assert.deepStrictEqual(ticks(0.7, 8), [0, 0.1, 0.2, 0.3, 0.4, 0.5, 0.6, 0.7]);
+  assert.deepStrictEqual(ticks(0, 4), [0]);
+  assert.strictEqual(scale(0, 10, 100, 200)(5), 150);
+  assert.strictEqual(scale(3, 3, 7, 9)(3), 7);
+  assert.deepStrictEqual([[-1, 0], [0, 0], [2.5, 2], [9, 3]].map(([value]) => momentAt([0, 1, 2, 3], value)), [0, 0, 2, 3]);
+  assert.deepStrictEqual(columns([4, 5, 9].map((moment) => ({ moment })), same).map(({ at, count }) => [at, count]), [[4, 2], [8, 1]]);
+});
+
+const file = process.env.MAKHLOEUM_RUN;
+test("the page's state is the engine's at every moment", { skip: !file && "MAKHLOEUM_RUN names no run" }, () => {
+  const { data, moments } = JSON.parse(readFileSync(file, "utf8"));
+  const there = new Run(data), order = moments.map((_, at) => (at * 7919) % moments.length);
+  assert.ok(there.length + 1 === moments.length && there.checkpoints.length > 2);
+  for (const moment of [...order, ...[...order.keys()].reverse()]) {
+    const state = there.go(moment), told = {};
+    for (const [id, group] of state.groups) {
+      told[there.paths[id]] = [id === 0 ? [] : [LIMIT, PEAK, TOTAL, LOCAL, CURRENT].map((field) => group.numbers[field]), state.pidsOf(group)];
+    }
+    assert.deepStrictEqual(told, moments[moment], `moment ${moment}`);
+    if (moment > 0) assert.strictEqual(there.answerOf(moment - 1), data.answers_whole[moment - 1]);
+  }
+});

@@ -1,0 +1,238 @@
+"""The command lines: python3 -m makhloeum view, tree; makhloeum NAME."""
+
+import os
+import pty
+import shutil
+import signal
+import subprocess
+import sys
+import time
+
+import pytest
+from support import HERE, PYTHON
+
+import makhloeum
+from makhloeum import Hierarchy
+from makhloeum.look.tree import draw, of_directory, of_hierarchy
+
+WORDS = dict(os.environ, PYTHONPATH=os.path.realpath(PYTHON), PYTHONDONTWRITEBYTECODE="1")
+PROGRAM = os.environ.get("MAKHLOEUM") or os.path.join(HERE, "..", "..", "mount", "out", "makhloeum")
+
+
+def run(*words, text=b"", **how):
+    ran = subprocess.run([sys.executable, "-m", "makhloeum", *words], input=text, capture_output=True, env=WORDS, timeout=60, **how)
+    return ran.returncode, ran.stdout.decode(), ran.stderr.decode()
+
+
+# ---- view
+
+
+def test_view_makes_a_page(tmp_path):
+    trace = tmp_path / "run.trace"
+    trace.write_text("mkdir /a\nmkdir /a\n")
+    assert run("view", "run.trace", cwd=tmp_path) == (0, "run.trace.html: 2 commands, 1 refused\n", "")
+    whole = (tmp_path / "run.trace.html").read_text()
+    assert "<title>run.trace</title>" in whole
+    assert run("view", "-o", "x.html", "run.trace", cwd=tmp_path)[0] == 0 and (tmp_path / "x.html").read_text() == whole
+    status, said, _ = run("view", "-", text=b"mkdir /a\nmkdir /a\n")
+    assert status == 0 and said == whole.replace("run.trace", "standard input")
+    assert run("view", "--help")[0] == 0
+
+
+def test_view_says_in_one_sentence_what_is_wrong(tmp_path):
+    trace = tmp_path / "trace"
+    trace.write_text("mkdir /a\n")
+    bad = tmp_path / "bad"
+    bad.write_bytes(os.urandom(3000))
+    for words, status, said in (
+        ([], 2, "bad command line"),
+        ([trace, trace], 2, "bad command line"),
+        ([trace, "-x"], 2, "bad command line"),
+        ([trace, "-o"], 2, "bad command line"),
+        ([tmp_path / "none"], 1, "No such file"),
+        ([trace, "-o", trace], 2, "would replace the trace"),
+        ([trace, "-o", tmp_path / "no" / "page"], 1, "No such file"),
+        ([trace, "-o", "/dev/full"], 1, "No space left"),
+        ([bad], 1, "no line of"),
+    ):
+        got, out, error = run("view", *map(str, words))
+        assert (got, out) == (status, "") and said in error and error.count("\n") == 1, (words, got, error)
+    assert trace.read_text() == "mkdir /a\n"
+
+
+def test_commands_that_are_missing(tmp_path):
+    if os.path.exists(os.path.join(PYTHON, "makhloeum", "check.py")) or os.path.isdir(os.path.join(PYTHON, "makhloeum", "check")):
+        return
+    assert run("check", "x") == (2, "", "makhloeum: check is not part of this installation\n")
+
+
+# ---- tree
+
+
+def groups(tmp_path, files):
+    """A directory that looks like a hierarchy."""
+    for path, content in files.items():
+        folder = tmp_path / path
+        folder.mkdir(parents=True, exist_ok=True)
+        for name, text in content.items():
+            (folder / name).write_text(text)
+
+
+SMALL = {
+    "": {"cgroup.procs": "1\n"},
+    "a": {"cgroup.procs": "2\n3\n", "pids.max": "4\n", "pids.current": "3\n", "pids.peak": "4\n", "cgroup.events": "populated 1\nfrozen 0\n",
+          "pids.events": "max 5\n", "pids.events.local": "max 2\n"},
+    "a/b": {"cgroup.procs": "9\n", "pids.max": "max\n", "pids.current": "1\n", "pids.peak": "1\n", "cgroup.events": "populated 1\nfrozen 0\n",
+            "pids.events": "max 0\n", "pids.events.local": "max 0\n"},
+    "c": {"cgroup.procs": "", "cgroup.events": "populated 0\nfrozen 0\n"},
+    ".makhloeum": {"undo": ""},
+    "no-group": {"x": ""},
+}  # fmt: skip
+SMALL_TREE = (
+    "DIR                                                                           1\n"
+    "├─ a    [███████▌  ]    3/4  peak 4  populated  refused 2 here, 5 in all  2 3\n"
+)
+
+
+def test_a_directory_as_text(tmp_path):
+    groups(tmp_path, SMALL)
+    status, said, error = run("tree", str(tmp_path))
+    assert (status, error) == (0, "")
+    lines = said.split("\n")
+    assert [line.split()[:2] for line in lines[1:4]] == [["├─", "a"], ["│", "└─"], ["└─", "c"]] and len(lines) == 5
+    assert lines[0].startswith(str(tmp_path)) and lines[0].endswith("  1")
+    assert "[███████▌  ]    3/4  peak 4  populated  refused 2 here, 5 in all  2 3" in lines[1]
+    assert "1/max  peak 1  populated" in lines[2] and lines[2].endswith("  9")
+    assert lines[3].split() == ["└─", "c", "empty"]
+    assert "\x1b" not in said
+
+
+def test_the_tree_of_an_engine_is_that_of_its_directory(tmp_path):
+    """The shell's tree and that of a directory with the same files are the same text."""
+    with Hierarchy() as h:
+        for line in ("mkdir /a", "mkdir /a/b", "write /a pids.max 2", "fork 1 2", "write /a/b cgroup.procs 2", "fork 2 3"):
+            h.line(line)
+        with pytest.raises(makhloeum.PidsMax):
+            h.fork(2, 4)
+        for path in h.groups():
+            folder = tmp_path / path[1:]
+            folder.mkdir(exist_ok=True)
+            for file in ("cgroup.procs",) + (() if path == "/" else tuple(SMALL["a"])):
+                (folder / file).write_text(h.read(path, file))
+        node = of_directory(str(tmp_path))
+        node.name = "/"
+        assert draw(node) == draw(of_hierarchy(h))
+    assert "refused 1 here, 1 in all" in draw(node) and "refused 0 here" not in draw(node)
+
+
+def test_names_do_not_move_the_cursor(tmp_path):
+    groups(tmp_path, {"": {"cgroup.procs": ""}, "\x1b[31mred\n": {"cgroup.procs": ""}})
+    status, said, _ = run("tree", str(tmp_path))
+    assert status == 0 and "\\x1b[31mred\\n" in said and said.count("\n") == 2
+
+
+def test_colour_is_for_a_terminal(tmp_path):
+    groups(tmp_path, SMALL)
+    for more, coloured in (({"TERM": "xterm"}, True), ({"TERM": "dumb"}, False), ({"TERM": "xterm", "NO_COLOR": "1"}, False)):
+        ours, theirs = pty.openpty()
+        command = [sys.executable, "-m", "makhloeum", "tree", str(tmp_path)]
+        process = subprocess.Popen(command, stdout=theirs, stderr=theirs, env={**WORDS, **more}, close_fds=True)
+        os.close(theirs)
+        told = b""
+        try:
+            while True:
+                told += os.read(ours, 4096)
+        except OSError:
+            pass
+        os.close(ours)
+        assert process.wait(60) == 0 and (b"\x1b[" in told) == coloured, (more, told)
+
+
+def test_what_is_no_hierarchy(tmp_path):
+    for words, said in (
+        ([str(tmp_path)], "it has no cgroup.procs"),
+        ([str(tmp_path / "none")], "No such file"),
+        ([], "bad command line"),
+        ([str(tmp_path), "--wotch"], "bad command line"),
+        ([str(tmp_path), str(tmp_path)], "bad command line"),
+    ):
+        status, out, error = run("tree", *words)
+        assert (status, out) == (2, "") and said in error and error.count("\n") == 1, (words, error)
+
+
+def test_watch_draws_again_on_a_change_and_ends(tmp_path):
+    groups(tmp_path, SMALL)
+    command = [sys.executable, "-u", "-m", "makhloeum", "tree", str(tmp_path), "--watch", "0.1"]
+    process = subprocess.Popen(command, stdout=subprocess.PIPE, text=True, env=WORDS)
+    assert process.stdout is not None
+    first = [process.stdout.readline() for _ in range(4)]
+    assert "3/4" in first[1]
+    (tmp_path / "a" / "pids.current").write_text("4\n")
+    again = [process.stdout.readline() for _ in range(5)]
+    assert again[0] == "\n" and "[██████████]    4/4" in again[2]
+    time.sleep(0.5)
+    process.send_signal(signal.SIGINT)
+    rest, _ = process.communicate(timeout=20)
+    assert (process.returncode, rest) == (0, ""), "nothing is drawn without a change"
+
+
+@pytest.mark.skipif(not os.path.exists(PROGRAM) or not os.path.exists("/dev/fuse"), reason="there is no mount/out/makhloeum or no FUSE")
+def test_watch_follows_a_mount_by_poll(tmp_path):
+    at = tmp_path / "groups"
+    at.mkdir()
+    mount = subprocess.run([PROGRAM, "mount", str(at), "--control"], capture_output=True, text=True)
+    if mount.returncode == 2 and "does not allow" in mount.stderr:
+        pytest.skip(mount.stderr)
+    assert mount.returncode == 0, mount.stderr
+    try:
+        (at / "a").mkdir()
+        (at / ".makhloeum" / "fork").write_text("1 2\n")
+        command = [sys.executable, "-u", "-m", "makhloeum", "tree", str(at), "--watch", "300"]
+        process = subprocess.Popen(command, stdout=subprocess.PIPE, text=True, env=WORDS)
+        try:
+            assert process.stdout is not None
+            assert [process.stdout.readline().split()[-1] for _ in range(2)] == ["2", "empty"]
+            (at / "a" / "cgroup.procs").write_text("2\n")
+            again = [process.stdout.readline() for _ in range(3)]
+            assert again[1].rstrip().endswith("  1") and again[2].split()[2:] == ["1/max", "peak", "1", "populated", "2"]
+        finally:
+            process.send_signal(signal.SIGINT)
+            process.communicate(timeout=20)
+        assert process.returncode == 0
+    finally:
+        for _ in range(50):
+            if subprocess.run(["fusermount3", "-u", str(at)], stderr=subprocess.DEVNULL).returncode == 0:
+                break
+            time.sleep(0.1)
+
+
+# ---- makhloeum NAME
+
+
+@pytest.mark.skipif(not os.path.exists(PROGRAM), reason="mount/out/makhloeum has not been built")
+def test_the_program_starts_programs(tmp_path):
+    program = shutil.copy(PROGRAM, tmp_path / "makhloeum")
+    for name, text in (("hello", '#!/bin/sh\necho "$0" "$@"\nexit 7\n'), ("broken", "#!/no/such/interpreter\n")):
+        (tmp_path / f"makhloeum-{name}").write_text(text)
+    (tmp_path / "makhloeum-hello").chmod(0o755)
+    elsewhere = tmp_path / "path"
+    elsewhere.mkdir()
+    shutil.copy(tmp_path / "makhloeum-hello", elsewhere / "makhloeum-away")
+
+    def start(*words):
+        ran = subprocess.run([program, *words], capture_output=True, text=True, env={"PATH": f"{elsewhere}:/usr/bin:/bin"})
+        return ran.returncode, ran.stdout, ran.stderr
+
+    assert start("hello", "a b", "--help") == (7, f"{tmp_path}/makhloeum-hello a b --help\n", "")
+    assert start("away", "x") == (7, f"{elsewhere}/makhloeum-away x\n", "")
+    installed = tmp_path / "bin"
+    installed.mkdir()
+    shutil.move(program, installed / "makhloeum")
+    program = str(installed / "makhloeum")
+    (tmp_path / "libexec" / "makhloeum").mkdir(parents=True)
+    shutil.copy(tmp_path / "makhloeum-hello", tmp_path / "libexec" / "makhloeum" / "makhloeum-hello")
+    assert start("hello")[1].endswith("/libexec/makhloeum/makhloeum-hello\n")
+    for words in (["nothing"], ["broken"], ["../hello", "x"], [""], ["a/b"], ["x" * 5000], ["--wrong"], [], ["mount"]):
+        status, out, error = start(*words)
+        assert (status, out, error.count("\n")) == (2, "", 1) and len(error) < 5200, (words, status, error)
+    assert "'nothing' is no command" in start("nothing")[2]

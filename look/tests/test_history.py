@@ -1,0 +1,134 @@
+"""What the page gets of a run, against the engine; and the page as a file."""
+
+import json
+import os
+import random
+import re
+import shutil
+import subprocess
+
+import pytest
+from support import HERE, HOSTILE, FILES, history_of, long_trace, page_of, random_trace, wide_trace
+
+from makhloeum import Hierarchy, Refused
+from makhloeum.look.history import History, shown
+from makhloeum.look.page import data, script
+
+NODE = shutil.which("node") or shutil.which("nodejs")
+
+
+def said(h, path):
+    """What the engine says of a group: limit, peak, refused forks with those below and here, current; its processes."""
+    if path == "/":
+        return [[], h.processes("/")]
+    limit = h.limit(path)
+    events = [int(h.read(path, file).split()[1]) for file in ("pids.events", "pids.events.local")]
+    return [[-1 if limit is None else limit, h.peak(path), *events, h.current(path)], h.processes(path)]
+
+
+def answer(h, line):
+    try:
+        text = h.line(line)
+    except Refused as refused:
+        return f"refused {refused.reply}"
+    return "ok" + "".join(f"\n| {one}" for one in text.split("\n")[:-1])
+
+
+@pytest.mark.skipif(not NODE, reason="node is missing")
+@pytest.mark.parametrize("seed", range(3))
+def test_the_page_has_the_engines_state_at_every_moment(seed, tmp_path):
+    lines = random_trace(seed, 1600, pids=14 if seed else 80)
+    lines[46:46] = ["cat / cgroup.procs"] * (seed == 0)  # a list that is too long to be kept
+    history = history_of("\n".join(lines))
+    moments, answers = [], []
+    with Hierarchy() as h:
+        moments.append({path: said(h, path) for path in h.groups()})
+        for line in lines:
+            answers.append(answer(h, line))
+            moments.append({path: said(h, path) for path in h.groups()})
+    run = json.loads(data(history))
+    run["answers_whole"] = answers
+    file = tmp_path / "run"
+    file.write_text(json.dumps({"data": run, "moments": moments}))
+    words = dict(os.environ, MAKHLOEUM_RUN=str(file))
+    name = "the page's state is the engine's at every moment"
+    command = [NODE, "--test", "--test-name-pattern", name, os.path.join(HERE, "state.test.mjs")]
+    ran = subprocess.run(command, env=words, capture_output=True, text=True)
+    assert ran.returncode == 0 and re.search(r"^# fail 0$", ran.stdout, re.M), ran.stdout[-3000:]
+    if seed == 0:
+        assert "ok\n" in history.answers
+
+
+def test_every_command_is_audited():
+    for seed in range(15):
+        with Hierarchy() as h:
+            history = History(h)
+            for line in random_trace(seed, 150):
+                history.line(line.encode())
+                history.audit()
+
+
+def test_a_wrong_state_is_not_shown():
+    with Hierarchy() as h:
+        history = History(h)
+        history.line(b"mkdir /a")
+        h.fork(1, 2)
+        with pytest.raises(RuntimeError, match="after 1 commands"):
+            history.audit()
+
+
+def test_lines_comments_and_times():
+    history = history_of(b"# a run\n \t\r\n# at 0.5\nmkdir /a\n#at 7\n  # at 1.25\n\tmkdir   /a\r\n# at 1\nfork 1 2\n\xff\x00\n" + b"x" * 9000)
+    assert history.lines[:3] == ["mkdir /a", "mkdir   /a", "fork 1 2"]
+    assert history.lines[3] == "\\xff\\x00" and history.lines[4].endswith(" .. (9000 bytes)")
+    assert [history.answers[n] for n in history.answer] == ["ok", "refused exists", "ok", "refused syntax", "refused syntax"]
+    assert history.times == [500000, 1250000, 1250000, 1250000, 1250000], "a clock that goes back stands still"
+    assert history.notes == {0: "# a run", 1: "#at 7"}
+    assert (history.refused, history.kills) == (3, 0)
+    assert shown("a\u202eb\u2028\x1b".encode()) == "a\\u202eb\\u2028\\x1b"
+
+
+def test_times_are_comments_to_the_engine():
+    lines = random_trace(5, 300)
+    plain, timed = history_of("\n".join(lines)), history_of("".join(f"# at {n}.5\n{line}\n" for n, line in enumerate(lines)))
+    assert (plain.answer, plain.answers, plain.steps) == (timed.answer, timed.answers, timed.steps)
+    assert plain.times == [] and len(timed.times) == len(lines)
+
+
+DEEP = ["mkdir " + "/d" * level for level in range(1, 33)] + ["write " + "/d" * 32 + " cgroup.procs 1"]
+SHAPES = {
+    "times": long_trace(2000),
+    "no times": re.sub("#.*\n", "", long_trace(2000)),
+    "wide": wide_trace(),
+    "reads": "fork 1 2\n" + "".join(f"fork 1 {n}\ncat / cgroup.procs\n" for n in range(3, 400)),
+    "kills": "mkdir /a\nwrite /a cgroup.procs 1\n" + "".join(f"fork 1 {n}\n" for n in range(2, 200)) + "write /a cgroup.kill 1\nundo\n" * 300,
+    "deep": "\n".join(DEEP + [line for n in range(2, 300) for line in (f"fork 1 {n}", "undo")] * 2) + "\n",
+    "refused": "\n".join(DEEP + ["write /d/d pids.max 1"] + ["fork 1 2", "undo"] * 300) + "\n",
+    "random": "\n".join(random_trace(9, 2000)) + "\n",
+    "noise": "".join(random.Random(3).choices("<>\x01\x7f é\u202e", k=20000)).replace(" ", "\n"),
+    "moves": "mkdir /a\nmkdir /b\n" + "write /a cgroup.procs 1\nwrite /b cgroup.procs 1\n" * 500,
+    "cats": "mkdir /a\n" + "".join(f"cat /a {file}\n" for file in FILES) * 200,
+}
+
+
+@pytest.mark.parametrize("shape", SHAPES)
+def test_the_page_is_at_most_ten_times_the_trace(shape):
+    trace = SHAPES[shape]
+    empty, whole = len(page_of("").encode()), len(page_of(trace).encode())
+    assert empty < 60000
+    assert whole - empty <= 10 * len(trace.encode()), (whole - empty) / len(trace.encode())
+
+
+def test_nothing_of_the_trace_is_markup():
+    whole = page_of(HOSTILE, "<b>&\"'@DATA@")
+    assert whole.count("<script") == 2 and whole.count("</script") == 2
+    assert "<b>" not in whole.replace(script(), "") and "<img" not in whole and "\u202e" not in whole
+    run = json.loads(re.search(r'id="run">(.*?)</script>', whole).group(1))
+    assert "/<script>/&quot;" in run["lines"] and "@DATA@" in run["names"] and "$&" in run["names"]
+
+
+def test_the_page_loads_nothing():
+    whole = page_of("mkdir /a\n")
+    assert "default-src 'none'" in whole and not re.search(r"<(?:link|iframe|img|object|embed|base)|@import|url\(", whole)
+    assert re.sub(r"http://www\.w3\.org/2000/svg", "", whole).count("http") == 1  # http-equiv
+    assert not re.search(r"^\s*(?:import|export) ", script(), re.M)
