@@ -205,6 +205,11 @@ class BadValue(Fault):
     code, number = 36, errno.EINVAL
 
 
+def asked_for(number: int, command: str, path: str | None) -> OSError:
+    """The error of a call that `fail` was asked to let fail: the one that Python has for the errno, as for a real file."""
+    return OSError(number, f"{os.strerror(number)} (asked for by fail, at {command})", path)
+
+
 _KINDS: tuple[type[Refused], ...] = (
     *(Exists, NoGroup, Descendants, Depth, NoSlot, RootFixed, HasChildren, HasProcesses, NoProcess, PidInUse, PidsMax),
     *(NoFile, NotReadable, NothingToUndo, BadSyntax, BadPath, BadFile, BadDirection, BadValue),
