@@ -97,10 +97,12 @@ func pathFault(path string) (PathFault, int) {
 	return PathFault(fault), int(position)
 }
 
-func failure(what command, status uint32, code Code, answer []byte) error {
+func failure(what command, status uint32, info C.mk_info, answer []byte) error {
 	switch status {
 	case C.MK_REFUSED, C.MK_FAULT:
-		return refusal(what, code, answer)
+		return refusal(what, Code(info.code), answer)
+	case C.MK_FAILED:
+		return fmt.Errorf("%s: %w (asked for by Fail)", what.text, syscall.Errno(info.error))
 	case C.MK_CLOSED:
 		return fmt.Errorf("%s: %w", what.text, ErrClosed)
 	case C.MK_BUSY:

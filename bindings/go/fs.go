@@ -6,15 +6,18 @@ import (
 	"io"
 	"io/fs"
 	"path"
-	"strings"
 	"syscall"
 	"time"
 )
 
 // FS is the hierarchy as a file system, for code that reads a cgroup directory through fs.FS: os.DirFS("/sys/fs/cgroup")
-// in a service, FS in its tests. "." is the root group. It has the files of docs/FORMATS.md that can be read, and the
-// constant files that the mount adds with --extra. A file has the text that it had when it was opened.
-type FS struct{ h *Hierarchy }
+// in a service, FS in its tests. "." is the root group. It has the files of a mount with --extra (docs/MOUNT.md); as every file
+// of an fs.FS can be read, cgroup.kill is not among them, but WriteFile writes it. A file has the text that it had when it was
+// opened.
+type FS struct {
+	h    *Hierarchy
+	self int
+}
 
 var (
 	_ fs.ReadDirFS  = FS{}
@@ -22,44 +25,11 @@ var (
 	_ fs.StatFS     = FS{}
 )
 
-// FS gives the hierarchy as a file system.
-func (h *Hierarchy) FS() FS { return FS{h} }
+// FS gives the hierarchy as a file system, as process 1 has it.
+func (h *Hierarchy) FS() FS { return FS{h, 1} }
 
-// file is a row of the table of files.
-type file struct {
-	name     string
-	onRoot   bool
-	writable bool
-	constant string
-}
-
-// The files that can be read, in the order of their names.
-var files = []file{
-	{"cgroup.controllers", true, false, "pids\n"},
-	{"cgroup.events", false, false, ""},
-	{"cgroup.freeze", false, true, "0\n"},
-	{"cgroup.max.depth", true, true, ""},
-	{"cgroup.max.descendants", true, true, ""},
-	{"cgroup.procs", true, true, ""},
-	{"cgroup.stat", true, false, ""},
-	{"cgroup.subtree_control", true, true, "pids\n"},
-	{"cgroup.type", false, true, "domain\n"},
-	{"cpu.stat", true, false, "usage_usec 0\nuser_usec 0\nsystem_usec 0\n"},
-	{"pids.current", false, false, ""},
-	{"pids.events", false, false, ""},
-	{"pids.events.local", false, false, ""},
-	{"pids.max", false, true, ""},
-	{"pids.peak", false, false, ""},
-}
-
-func fileNamed(name, group string) (file, bool) {
-	for _, it := range files {
-		if it.name == name {
-			return it, it.onRoot || group != "/"
-		}
-	}
-	return file{}, false
-}
+// As is the same file system as another process has it: the one that moves when 0 is written to cgroup.procs.
+func (f FS) As(pid int) FS { return FS{f.h, pid} }
 
 // node is a group or a file, as it was found.
 type node struct {
@@ -85,10 +55,7 @@ func groupOf(name string) string {
 }
 
 func (f FS) fileNode(group string, it file) (*node, error) {
-	n := &node{name: it.name, mode: 0o444, text: it.constant}
-	if it.writable {
-		n.mode |= 0o200
-	}
+	n := &node{name: it.name, mode: it.mode(), text: it.constant}
 	if it.constant != "" {
 		return n, nil
 	}
@@ -134,10 +101,13 @@ func (f FS) node(name string) (*node, error) {
 // notFound turns a text that is no path of a group into one that does not exist.
 func notFound(err error) error {
 	var refused *Refused
-	if errors.As(err, &refused) && refused.Code == BadPath {
-		return syscall.ENOENT
+	if !errors.As(err, &refused) || refused.Code != BadPath {
+		return err
 	}
-	return err
+	if refused.PathFault == NameTooLong || refused.PathFault == PathTooLong {
+		return syscall.ENAMETOOLONG
+	}
+	return syscall.ENOENT
 }
 
 // Stat describes a group or a file.
@@ -243,48 +213,45 @@ func (o *openGroup) ReadDir(n int) ([]fs.DirEntry, error) {
 	return append([]fs.DirEntry{}, left...), nil
 }
 
-// WriteFile writes a file, as os.WriteFile does. A constant file takes the text that it has, and refuses any other with
-// EOPNOTSUPP, as the mount does.
+// WriteFile writes a file, as os.WriteFile does below a mount: numbers may be octal, hexadecimal or signed, a constant takes the
+// value that it has, and 0 in cgroup.procs is this process.
 func (f FS) WriteFile(name string, data []byte) error {
 	if !fs.ValidPath(name) || name == "." {
 		return &fs.PathError{Op: "open", Path: name, Err: fs.ErrInvalid}
 	}
-	group, base := groupOf(path.Dir(name)), path.Base(name)
-	it, _ := fileNamed(base, group)
-	var err error
-	switch {
-	case it.constant == "":
-		err = f.h.Write(group, base, string(data))
-	case !fileExists(f, name):
-		err = syscall.ENOENT
-	case !it.writable:
-		err = syscall.EINVAL
-	case strings.TrimPrefix(strings.TrimSpace(string(data)), "+") != strings.TrimSpace(it.constant):
-		err = syscall.EOPNOTSUPP
-	}
-	if err != nil {
+	if err := f.h.put(groupOf(path.Dir(name)), path.Base(name), data, f.self); err != nil {
 		return &fs.PathError{Op: "write", Path: name, Err: err}
 	}
 	return nil
 }
 
-func fileExists(f FS, name string) bool {
-	_, err := f.node(name)
-	return err == nil
+// Mkdir makes a group, as os.Mkdir does.
+func (f FS) Mkdir(name string) error {
+	if _, err := f.find("mkdir", name); err == nil {
+		return &fs.PathError{Op: "mkdir", Path: name, Err: syscall.EEXIST}
+	}
+	if fs.ValidPath(name) {
+		if _, err := f.node(path.Dir(name)); err != nil {
+			return &fs.PathError{Op: "mkdir", Path: name, Err: err}
+		}
+	}
+	return f.change("mkdir", name, f.h.Mkdir)
 }
 
-// Mkdir makes a group, as os.Mkdir does.
-func (f FS) Mkdir(name string) error { return f.change("mkdir", name, f.h.Mkdir) }
-
 // Remove removes a group, as os.Remove does.
-func (f FS) Remove(name string) error { return f.change("remove", name, f.h.Rmdir) }
+func (f FS) Remove(name string) error {
+	if n, err := f.find("remove", name); err == nil && !n.IsDir() {
+		return &fs.PathError{Op: "remove", Path: name, Err: syscall.EPERM}
+	}
+	return f.change("remove", name, f.h.Rmdir)
+}
 
 func (f FS) change(operation, name string, change func(string) error) error {
 	if !fs.ValidPath(name) {
 		return &fs.PathError{Op: operation, Path: name, Err: fs.ErrInvalid}
 	}
 	if err := change(groupOf(name)); err != nil {
-		return &fs.PathError{Op: operation, Path: name, Err: err}
+		return &fs.PathError{Op: operation, Path: name, Err: asMount(operation, err)}
 	}
 	return nil
 }
