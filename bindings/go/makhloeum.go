@@ -36,6 +36,7 @@ import (
 // Hierarchy is a hierarchy of groups: at first the root alone, and process 1 in it. Goroutines may share it: commands take
 // effect one after the other.
 type Hierarchy struct {
+	_      [0]sync.Mutex // go vet reports a copy, whose original the garbage collector would close
 	handle C.mk_handle
 }
 

@@ -20,18 +20,29 @@ _NO_WORD = b"?"  # neither a path nor a file nor a value, so the library refuses
 _FIRST_SIZE = 512
 
 
-def _bytes(text: Path | Value) -> bytes:
-    return text if isinstance(text, bytes) else str(text).encode("utf-8", "surrogateescape")
+def _bytes(text: Path) -> bytes:
+    text = os.fspath(text)
+    return text if isinstance(text, bytes) else text.encode("utf-8", "surrogateescape")
 
 
 def _text(text: Path | Value) -> str:
+    text = text if isinstance(text, int) else os.fspath(text)
     return text.decode("utf-8", "surrogateescape") if isinstance(text, bytes) else str(text)
 
 
-def _word(text: Path | Value) -> bytes:
+def _word(text: Path) -> bytes:
     """The text as one word of a line. A text that is not one word would be read as several."""
     word = _bytes(text)
     return word if _WORD.fullmatch(word) else _NO_WORD
+
+
+def _value(value: Value) -> bytes:
+    """A value as a word: without the blanks at its ends."""
+    if isinstance(value, int):
+        return _pid(value)
+    if not isinstance(value, (str, bytes)):
+        raise TypeError(f"a value is a str, bytes or an int, not {type(value).__name__}; no limit is 'max'")
+    return _word(_bytes(value).strip(_BLANKS))
 
 
 def _pid(number: int) -> bytes:

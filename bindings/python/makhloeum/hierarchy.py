@@ -11,7 +11,7 @@ from ._changes import Changes
 from ._faults import Faults
 from ._library import ANSWER_MAX, DONE, NO_LIMIT, SKIPPED, TOO_SMALL, Handle, Info, library
 from ._many import Many
-from ._words import _BLANKS, _FIRST_SIZE, _NO_WORD, Path, Value, _bytes, _path_refusal, _pid, _raise, _shown, _text, _word
+from ._words import _FIRST_SIZE, _NO_WORD, Path, Value, _bytes, _path_refusal, _pid, _raise, _shown, _text, _value, _word
 from .errors import BY_CODE, BadSyntax, NoGroup, Refused
 
 _Call = Callable[[Any, int, Any], int]
@@ -127,8 +127,7 @@ class Hierarchy(Changes, Faults, Many):
 
     def write(self, path: Path, file: str | bytes, value: Value) -> None:
         """Writes a file of the group: a pid to cgroup.procs, a limit or 'max' to a limit, 1 to cgroup.kill."""
-        word = _pid(value) if isinstance(value, int) else _word(_bytes(value).strip(_BLANKS))
-        line = b"write %b %b %b" % (_word(path), _word(file), word)
+        line = b"write %b %b %b" % (_word(path), _word(file), _value(value))
         self._line(line, f"write {_text(path)} {_text(file)} {_text(value)}", path)
 
     def where(self, pid: int) -> str:

@@ -4,6 +4,7 @@ import copy
 import errno
 import itertools
 import multiprocessing
+import pathlib
 import pickle
 
 import pytest
@@ -137,3 +138,34 @@ def test_blanks_around_a_value_are_dropped_as_in_a_file(h):
     for value in ("5\n", " 5", b"\t5\r\n", 5):
         h.write("/a", "pids.max", value)
         assert h.read("/a", "pids.max") == "5\n"
+
+
+def test_what_is_no_text_is_a_type_error_as_for_os(h):
+    """None, numbers and other objects are no paths: they don't become texts like 'None'."""
+    for wrong in (None, 5, 5.0, ["/a"], object()):
+        for call in (h.mkdir, h.rmdir, h.children, h.groups, h.has_group, h.current, h.processes, lambda it: h.read(it, "pids.max"),
+                     lambda it: h.read("/a", it), lambda it: h.write(it, "pids.max", 5), lambda it: h.write("/a", it, 5), h.line, h.vanish,
+                     lambda it: h.fail(it, errno.EIO), lambda it: h.read_many([(it, "pids.max")])):
+            with pytest.raises(TypeError):
+                call(wrong)
+    for wrong in (None, 5.0, ["5"], object()):
+        with pytest.raises(TypeError, match="no limit is 'max'"):
+            h.write("/a", "pids.max", wrong)
+    assert h.depth() == 2
+
+
+def test_paths_may_be_of_pathlib_and_bytes(h):
+    h.mkdir(pathlib.PurePosixPath("/a") / "x")
+    h.mkdir(b"/a/y")
+    assert h.children(pathlib.PurePosixPath("/a")) == h.children(b"/a") == ["x", "y"]
+    refused = refusal(lambda: h.mkdir(pathlib.PurePosixPath("/a")))
+    assert str(refused) == "mkdir /a: File exists (exists)" and refused.filename == "/a"
+
+
+def test_a_closed_hierarchy_names_the_call():
+    h = Hierarchy()
+    h.close()
+    for call, text in ((lambda: h.mkdir("/a"), "mkdir /a"), (lambda: h.current("/a"), "current /a"), (h.undo, "undo"), (h.groups, "groups /"),
+                       (lambda: h.read_many([("/a", "pids.max")]), "read_many"), (h.changes, "changes"), (lambda: h.wait(0), "wait")):
+        with pytest.raises(ValueError, match=f"^{text}: the hierarchy is closed$"):
+            call()
