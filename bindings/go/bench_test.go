@@ -2,6 +2,7 @@ package makhloeum
 
 import (
 	"fmt"
+	"os"
 	"testing"
 )
 
@@ -39,9 +40,13 @@ func BenchmarkCurrent(b *testing.B) {
 	}
 }
 
-// A sweep over 1,024 groups beside 100,000 processes, in one call.
+// A sweep over 1,024 groups beside 100,000 processes, in one call. It takes a thousand times as long as the others, so it runs for
+// bindings/bench alone.
 func BenchmarkSweep(b *testing.B) {
 	const groups, processes = 1024, 100_000
+	if os.Getenv("MAKHLOEUM_SWEEP") == "" {
+		b.Skip("MAKHLOEUM_SWEEP is not set")
+	}
 	h := open(b)
 	var files []File
 	for i := 0; i < groups; i++ {
