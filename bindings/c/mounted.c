@@ -1,5 +1,5 @@
-/* The files of a group as a mount shows them: one table, and values as the kernel reads them. The table and the reading of
- * numbers are those of the mount; bindings/c/tests/mounted.c compares them. */
+/* The files of a group as a mount shows them: one table, and values as the kernel reads them. Both are those of the mount:
+ * tests/mounted.c compares the values, and python/tests/test_mounted.py the table. */
 #include "lines.h"
 #include <errno.h>
 #include <limits.h>

@@ -28,8 +28,8 @@ func TestManyFilesInOneCall(t *testing.T) {
 		says(t, want, texts[i].Text, texts[i].Err)
 	}
 	for i, want := range map[int]string{2: "read /c pids.max: no such file or directory (nogroup /c)",
-		5: "read /\x00 x: invalid argument (path: a name cannot have this byte, at 1)", 6: "read /a cgroup.kill: invalid argument (direction)",
-		7: "read /a x\x00y: no such file or directory (file)"} {
+		5: "read /\x00 x: invalid argument (path: a name cannot have this byte, at 1)", 6: "read /a cgroup.kill: invalid argument (direction: the file cannot be read or written in this way)",
+		7: "read /a x\x00y: no such file or directory (file: there is no file of that name)"} {
 		if texts[i].Text != "" || texts[i].Err == nil || texts[i].Err.Error() != want {
 			t.Errorf("%v; not %s", texts[i], want)
 		}

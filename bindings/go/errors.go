@@ -75,7 +75,10 @@ type Refused struct {
 
 // Error is as "mkdir /b/c: no such file or directory (nogroup /b)".
 func (r *Refused) Error() string {
-	return fmt.Sprintf("%s: %v (%s)", r.Command, r.Errno(), r.Reply)
+	if r.Code < BadSyntax || r.Code == BadPath {
+		return fmt.Sprintf("%s: %v (%s)", r.Command, r.Errno(), r.Reply)
+	}
+	return fmt.Sprintf("%s: %v (%s: %s)", r.Command, r.Errno(), r.Reply, C.GoString(C.mk_message(C.uint32_t(r.Code))))
 }
 
 // Errno is what the kernel gives for it; where the kernel's differs by case, the first.

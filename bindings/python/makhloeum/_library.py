@@ -103,6 +103,7 @@ def _load() -> Any:
         "mk_put": (number, [handle, text, text, text, size, ctypes.c_int64, info]),
         "mk_path_errno": (ctypes.c_int, [number]),
         "mk_name": (text, [number]),
+        "mk_message": (text, [number]),
         "mk_path_fault": (number, [text, size, ctypes.POINTER(size)]),
         "mk_path_message": (text, [number]),
         "mk_version": (text, []),

@@ -11,6 +11,7 @@ import pytest
 
 import makhloeum
 from makhloeum import BadByte, BadFile, BadPath, BadValue, Hierarchy, NoGroup, Refused
+from makhloeum._library import library
 
 
 @pytest.fixture
@@ -33,8 +34,8 @@ TEXTS = [
     (lambda h: h.rmdir("/"), "rmdir /: Device or resource busy (rootfixed)"),
     (lambda h: h.fork(1, 1), "fork 1 1: File exists (pidinuse 1)"),
     (lambda h: h.exit(9), "exit 9: No such process (noprocess 9)"),
-    (lambda h: h.read("/a", "x"), "read /a x: No such file or directory (file)"),
-    (lambda h: h.write("/a", "pids.max", -1), "write /a pids.max -1: Invalid argument (value)"),
+    (lambda h: h.read("/a", "x"), "read /a x: No such file or directory (file: there is no file of that name)"),
+    (lambda h: h.write("/a", "pids.max", -1), "write /a pids.max -1: Invalid argument (value: the value is no number, or out of range)"),
     (lambda h: h.mkdir("/my service"), "mkdir /my service: Invalid argument (path: a name cannot have this byte, at 3)"),
     (lambda h: h.children("/x"), "children /x: No such file or directory (nogroup /x)"),
     (lambda h: h.groups("/x"), "groups /x: No such file or directory (nogroup /x)"),
@@ -101,6 +102,14 @@ def test_the_fault_of_a_path_and_its_place(h, path, kind, position):
         refused = refusal(lambda: call(path))
         assert type(refused) is kind and isinstance(refused, BadPath) and refused.position == position
         assert f"at {position}" in str(refused)
+
+
+def test_faults_are_explained_as_by_the_library(h):
+    for kind in (makhloeum.BadSyntax, BadFile, makhloeum.BadDirection, BadValue):
+        assert library.mk_message(kind.code).decode() == kind.explained
+    assert str(refusal(lambda: h.read("/a", "cgroup.kill"))) == (
+        "read /a cgroup.kill: Invalid argument (direction: the file cannot be read or written in this way)"
+    )
 
 
 WORDS = ["", " ", "/b ", " /b", "/b\t", "/b\n", "/b\r", "/b pids.max", "/b pids.max 5", "#", "x y", "pids.max ", "pids.max 5",
