@@ -34,12 +34,15 @@ static bool is_below(const char *group, const char *top) {
 }
 
 /* each group comes before those below it, so the last is removed first */
-static uint32_t remove_groups(mk0_handle *engine, const char *top, const char *groups, size_t count) {
-    if (count == 0) return MK_DONE;
-    uint32_t status = remove_groups(engine, top, groups + strlen(groups) + 1, count - 1);
-    if (status == MK_OUT_OF_MEMORY || !is_below(groups, top)) return status;
-    struct line line = begin_line("rmdir", groups);
-    return run(engine, &line);
+static uint32_t remove_groups(mk0_handle *engine, const char *top, const char *groups, size_t len) {
+    uint32_t status = MK_DONE;
+    while (len > 0 && status != MK_OUT_OF_MEMORY) {
+        for (len--; len > 0 && groups[len - 1] != 0;) len--;
+        if (!is_below(groups + len, top)) continue;
+        struct line line = begin_line("rmdir", groups + len);
+        status = run(engine, &line);
+    }
+    return status;
 }
 
 static uint32_t vanish(mk0_handle *engine, const char *path) {
@@ -51,11 +54,12 @@ static uint32_t vanish(mk0_handle *engine, const char *path) {
     if (status == MK_REFUSED) return MK_DONE; /* there is no such group */
     if (status != MK_DONE) return status;
     uint8_t none;
-    mk0_groups(engine, &none, 0, &told);
+    status = mk0_groups(engine, &none, 0, &told);
+    if (status != MK_TOO_SMALL) return status;
     uint8_t *groups = malloc(told.needed);
     if (groups == NULL) return MK_OUT_OF_MEMORY;
     status = mk0_groups(engine, groups, told.needed, &told);
-    if (status == MK_DONE) status = remove_groups(engine, path, (const char *)groups, told.count);
+    if (status == MK_DONE) status = remove_groups(engine, path, (const char *)groups, told.len);
     free(groups);
     return status == MK_OUT_OF_MEMORY ? status : (uint32_t)MK_DONE;
 }

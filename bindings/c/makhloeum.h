@@ -225,7 +225,8 @@ uint32_t mk_wait(mk_handle *h, uint64_t seen, uint32_t milliseconds, uint64_t *c
 uint32_t mk_fail(mk_handle *h, const char *path, uint64_t nth, int32_t error, mk_info *info);
 
 /* The group vanishes just before the nth call from now on that names it, as if another process had killed and removed it with all
-   groups below it: these are commands of their own, and recorded. Statuses as for mk_fail; MK_VALUE for the root. */
+   groups below it: these are commands of their own, and recorded. If that call returns MK_OUT_OF_MEMORY, some of them may be
+   missing. Statuses as for mk_fail; MK_VALUE for the root. */
 uint32_t mk_vanish(mk_handle *h, const char *path, uint64_t nth, mk_info *info);
 
 /* Drops the faults that have not come, and says how many they were. MK_DONE, MK_CLOSED or MK_BUSY. */

@@ -223,6 +223,13 @@ static int vanishing(void) {
         CHECK(status == MK_DONE && it[0].code == MK_NO_GROUP && it[1].status == MK_FAILED && it[1].error == EIO && it[2].code == MK_NO_GROUP);
         CHECK(mk_clear_faults(&h, &left) == MK_DONE && left == 0 && done(mk_undo_to(&h, before, &info)));
     }
+    /* a group with a thousand below it */
+    char path[32];
+    for (int i = 0; i < 1000; i++) {
+        snprintf(path, sizeof path, "/a/x/%d", i);
+        CHECK(done(mk_mkdir(&h, path, &info)));
+    }
+    CHECK(done(mk_vanish(&h, "/a", 1, &info)) && mk_rmdir(&h, "/a", &info) == MK_REFUSED && info.code == MK_NO_GROUP && done(mk_undo_to(&h, before, &info)));
     CHECK(done(mk_vanish(&h, "/none", 1, &info)) && mk_read(&h, "/none", "pids.max", text, sizeof text, &info) == MK_REFUSED && info.code == MK_NO_GROUP);
     CHECK(mk_vanish(&h, "/", 1, &info) == MK_FAULT && info.code == MK_VALUE && mk_vanish(&h, "/a", 0, &info) == MK_FAULT);
     /* a handle that is closed takes its faults along */
