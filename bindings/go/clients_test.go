@@ -4,6 +4,7 @@ import (
 	"context"
 	"errors"
 	"fmt"
+	"io/fs"
 	"reflect"
 	"strings"
 	"syscall"
@@ -168,4 +169,38 @@ func TestAGroupVanishesBetweenAListingAndARead(t *testing.T) {
 	}
 	text, err := h.Where(2)
 	says(t, "0::/a/b\n", text, err)
+}
+
+// Each operation on the file system is one call that names the group.
+func TestFaultsCountOperationsOnFiles(t *testing.T) {
+	h := open(t)
+	f := h.FS()
+	do(t, h, "mkdir /a")
+	for name, operation := range map[string]func() error{
+		"ReadFile":             func() error { _, err := f.ReadFile("a/pids.max"); return err },
+		"ReadFile, a constant": func() error { _, err := f.ReadFile("a/cpu.stat"); return err },
+		"Stat, a group":        func() error { _, err := f.Stat("a"); return err },
+		"Stat, a file":         func() error { _, err := f.Stat("a/pids.current"); return err },
+		"ReadDir":              func() error { _, err := f.ReadDir("a"); return err },
+		"Open, a group":        func() error { _, err := f.Open("a"); return err },
+		"Open, a file":         func() error { _, err := f.Open("a/pids.max"); return err },
+		"WriteFile":            func() error { return f.WriteFile("a/pids.max", []byte("5")) },
+		"Mkdir":                func() error { return f.Mkdir("a") },
+		"Remove":               func() error { return f.Remove("a") },
+	} {
+		for nth, fails := range map[uint64]bool{1: true, 2: false} {
+			if err := h.Fail("/a", nth, syscall.EIO); err != nil {
+				t.Fatal(err)
+			}
+			if err := operation(); errors.Is(err, syscall.EIO) != fails {
+				t.Errorf("%s: %v", name, err)
+			}
+			if left, err := h.ClearFaults(); err != nil || (left == 0) != fails {
+				t.Errorf("%s: %d, %v", name, left, err)
+			}
+		}
+		if err := f.Mkdir("a"); err != nil && !errors.Is(err, fs.ErrExist) {
+			t.Fatal(err)
+		}
+	}
 }

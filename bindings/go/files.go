@@ -5,7 +5,6 @@ package makhloeum
 import "C"
 
 import (
-	"errors"
 	"io/fs"
 	"runtime"
 	"strings"
@@ -79,14 +78,5 @@ func (h *Hierarchy) put(group, name string, data []byte, self int) error {
 	}
 }
 
-// asMount gives the errno of a mount for a group that cannot be made or removed.
-func asMount(operation string, err error) error {
-	var refused *Refused
-	if !errors.As(err, &refused) || refused.Code != BadPath {
-		return err
-	}
-	if operation != "mkdir" {
-		return notFound(err)
-	}
-	return syscall.Errno(C.mk_path_errno(C.uint32_t(refused.PathFault)))
-}
+// mkdirErrno is that of a mkdir of such a path in a mount.
+func (fault PathFault) mkdirErrno() error { return syscall.Errno(C.mk_path_errno(C.uint32_t(fault))) }

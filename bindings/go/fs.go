@@ -6,6 +6,7 @@ import (
 	"io"
 	"io/fs"
 	"path"
+	"sort"
 	"syscall"
 	"time"
 )
@@ -33,10 +34,9 @@ func (f FS) As(pid int) FS { return FS{f.h, pid} }
 
 // node is a group or a file, as it was found.
 type node struct {
-	name    string
-	mode    fs.FileMode
-	text    string
-	entries []fs.DirEntry
+	name string
+	mode fs.FileMode
+	text string
 }
 
 func (n *node) Name() string       { return n.name }
@@ -76,24 +76,27 @@ func (f FS) find(operation, name string) (*node, error) {
 	return n, nil
 }
 
+// node makes one call that names the group, so that Fail and Vanish count operations.
 func (f FS) node(name string) (*node, error) {
 	group, base := groupOf(path.Dir(name)), path.Base(name)
-	if it, ok := fileNamed(base, group); ok && name != "." {
-		there, err := f.h.HasGroup(group)
-		if err == nil && !there {
-			err = syscall.ENOENT
-		}
-		if err != nil {
-			return nil, notFound(err)
-		}
-		return f.fileNode(group, it)
+	it, isFile := fileNamed(base, group)
+	isFile = isFile && name != "."
+	if isFile && it.constant == "" {
+		n, err := f.fileNode(group, it)
+		return n, notFound(err)
 	}
-	there, err := f.h.HasGroup(groupOf(name))
+	if !isFile {
+		group = groupOf(name)
+	}
+	there, err := f.h.HasGroup(group)
 	if err == nil && !there {
 		err = syscall.ENOENT
 	}
 	if err != nil {
 		return nil, notFound(err)
+	}
+	if isFile {
+		return f.fileNode(group, it)
 	}
 	return &node{name: base, mode: fs.ModeDir | 0o755}, nil
 }
@@ -125,44 +128,41 @@ func (f FS) ReadFile(name string) ([]byte, error) {
 	return []byte(n.text), nil
 }
 
+// entry is a group or a file in a listing, which is looked at when Info is called.
+type entry struct {
+	f          FS
+	name, path string
+	mode       fs.FileMode
+}
+
+func (e entry) Name() string               { return e.name }
+func (e entry) IsDir() bool                { return e.mode.IsDir() }
+func (e entry) Type() fs.FileMode          { return e.mode.Type() }
+func (e entry) Info() (fs.FileInfo, error) { return e.f.Stat(e.path) }
+
 // ReadDir lists the files of a group and the groups one name below it, in the order of their names.
 func (f FS) ReadDir(name string) ([]fs.DirEntry, error) {
-	n, err := f.find("open", name)
-	if err != nil {
-		return nil, err
-	}
-	if !n.IsDir() {
-		return nil, &fs.PathError{Op: "readdir", Path: name, Err: syscall.ENOTDIR}
-	}
 	group := groupOf(name)
-	names, err := f.h.Children(group)
-	if err != nil {
-		return nil, &fs.PathError{Op: "readdir", Path: name, Err: err}
-	}
-	var entries []fs.DirEntry
-	rest := files
-	addFiles := func(before func(string) bool) error {
-		for ; len(rest) > 0 && before(rest[0].name); rest = rest[1:] {
-			if group == "/" && !rest[0].onRoot {
-				continue
-			}
-			it, err := f.fileNode(group, rest[0])
-			if err != nil {
-				return &fs.PathError{Op: "readdir", Path: name, Err: err}
-			}
-			entries = append(entries, fs.FileInfoToDirEntry(it))
-		}
-		return nil
-	}
-	for _, child := range names {
-		if err := addFiles(func(file string) bool { return file < child }); err != nil {
+	if !fs.ValidPath(name) || isFile(name) {
+		if _, err := f.find("open", name); err != nil {
 			return nil, err
 		}
-		entries = append(entries, fs.FileInfoToDirEntry(&node{name: child, mode: fs.ModeDir | 0o755}))
+		return nil, &fs.PathError{Op: "readdir", Path: name, Err: syscall.ENOTDIR}
 	}
-	if err := addFiles(func(string) bool { return true }); err != nil {
-		return nil, err
+	names, err := f.h.Children(group)
+	if err != nil {
+		return nil, &fs.PathError{Op: "open", Path: name, Err: notFound(err)}
 	}
+	var entries []fs.DirEntry
+	for _, child := range names {
+		entries = append(entries, entry{f, child, path.Join(name, child), fs.ModeDir | 0o755})
+	}
+	for _, it := range files {
+		if it.onRoot || group != "/" {
+			entries = append(entries, entry{f, it.name, path.Join(name, it.name), it.mode()})
+		}
+	}
+	sort.Slice(entries, func(i, j int) bool { return entries[i].Name() < entries[j].Name() })
 	return entries, nil
 }
 
@@ -172,13 +172,10 @@ func (f FS) Open(name string) (fs.File, error) {
 	if err != nil {
 		return nil, err
 	}
-	if !n.IsDir() {
-		return &openFile{bytes.NewReader([]byte(n.text)), n}, nil
+	if n.IsDir() {
+		return &openGroup{f: f, path: name, node: n}, nil
 	}
-	if n.entries, err = f.ReadDir(name); err != nil {
-		return nil, err
-	}
-	return &openGroup{node: n}, nil
+	return &openFile{bytes.NewReader([]byte(n.text)), n}, nil
 }
 
 type openFile struct {
@@ -189,28 +186,39 @@ type openFile struct {
 func (o *openFile) Stat() (fs.FileInfo, error) { return o.node, nil }
 func (o *openFile) Close() error               { return nil }
 
+// openGroup lists what is there at its first ReadDir.
 type openGroup struct {
-	node *node
-	read int
+	f       FS
+	path    string
+	node    *node
+	listed  bool
+	entries []fs.DirEntry
 }
 
 func (o *openGroup) Stat() (fs.FileInfo, error) { return o.node, nil }
 func (o *openGroup) Close() error               { return nil }
 
 func (o *openGroup) Read([]byte) (int, error) {
-	return 0, &fs.PathError{Op: "read", Path: o.node.name, Err: syscall.EISDIR}
+	return 0, &fs.PathError{Op: "read", Path: o.path, Err: syscall.EISDIR}
 }
 
 func (o *openGroup) ReadDir(n int) ([]fs.DirEntry, error) {
-	left := o.node.entries[o.read:]
-	if n > 0 && len(left) == 0 {
+	if !o.listed {
+		entries, err := o.f.ReadDir(o.path)
+		if err != nil {
+			return nil, err
+		}
+		o.entries, o.listed = entries, true
+	}
+	if n > 0 && len(o.entries) == 0 {
 		return nil, io.EOF
 	}
-	if n > 0 && n < len(left) {
-		left = left[:n]
+	if n <= 0 || n > len(o.entries) {
+		n = len(o.entries)
 	}
-	o.read += len(left)
-	return append([]fs.DirEntry{}, left...), nil
+	part := append([]fs.DirEntry{}, o.entries[:n]...)
+	o.entries = o.entries[n:]
+	return part, nil
 }
 
 // WriteFile writes a file, as os.WriteFile does below a mount: numbers may be octal, hexadecimal or signed, a constant takes the
@@ -225,22 +233,29 @@ func (f FS) WriteFile(name string, data []byte) error {
 	return nil
 }
 
+// isFile says whether the name is that of a file in some group.
+func isFile(name string) bool {
+	_, ok := fileNamed(path.Base(name), groupOf(path.Dir(name)))
+	return ok && name != "."
+}
+
 // Mkdir makes a group, as os.Mkdir does.
 func (f FS) Mkdir(name string) error {
-	if _, err := f.find("mkdir", name); err == nil {
-		return &fs.PathError{Op: "mkdir", Path: name, Err: syscall.EEXIST}
-	}
-	if fs.ValidPath(name) {
-		if _, err := f.node(path.Dir(name)); err != nil {
-			return &fs.PathError{Op: "mkdir", Path: name, Err: err}
+	if isFile(name) {
+		if _, err := f.find("mkdir", name); err != nil {
+			return err
 		}
+		return &fs.PathError{Op: "mkdir", Path: name, Err: syscall.EEXIST}
 	}
 	return f.change("mkdir", name, f.h.Mkdir)
 }
 
 // Remove removes a group, as os.Remove does.
 func (f FS) Remove(name string) error {
-	if n, err := f.find("remove", name); err == nil && !n.IsDir() {
+	if isFile(name) {
+		if _, err := f.find("remove", name); err != nil {
+			return err
+		}
 		return &fs.PathError{Op: "remove", Path: name, Err: syscall.EPERM}
 	}
 	return f.change("remove", name, f.h.Rmdir)
@@ -251,7 +266,22 @@ func (f FS) change(operation, name string, change func(string) error) error {
 		return &fs.PathError{Op: operation, Path: name, Err: fs.ErrInvalid}
 	}
 	if err := change(groupOf(name)); err != nil {
-		return &fs.PathError{Op: operation, Path: name, Err: asMount(operation, err)}
+		return &fs.PathError{Op: operation, Path: name, Err: f.asMount(operation, name, err)}
 	}
 	return nil
+}
+
+// asMount gives the errno of a mount for a name that no group can have: a missing parent comes first.
+func (f FS) asMount(operation, name string, err error) error {
+	var refused *Refused
+	if !errors.As(err, &refused) || refused.Code != BadPath {
+		return err
+	}
+	if operation != "mkdir" {
+		return notFound(err)
+	}
+	if _, err := f.node(path.Dir(name)); err != nil {
+		return err
+	}
+	return refused.PathFault.mkdirErrno()
 }

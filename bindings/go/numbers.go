@@ -5,6 +5,7 @@ package makhloeum
 import "C"
 
 import (
+	"fmt"
 	"runtime"
 	"strings"
 	"unsafe"
@@ -103,7 +104,7 @@ func (h *Hierarchy) UndoTo(mark int) error {
 	if status == C.MK_DONE {
 		return nil
 	}
-	return failure(command{text: "undo to a mark"}, uint32(status), info, nil)
+	return failure(command{text: fmt.Sprint("undo to ", mark)}, uint32(status), info, nil)
 }
 
 // Reset undoes all recorded commands.
