@@ -39,7 +39,8 @@ static uint32_t remove_groups(mk0_handle *engine, const char *top, const char *g
     while (len > 0 && status != MK_OUT_OF_MEMORY) {
         for (len--; len > 0 && groups[len - 1] != 0;) len--;
         if (!is_below(groups + len, top)) continue;
-        struct line line = begin_line("rmdir", groups + len);
+        struct line line;
+        begin_line(&line, "rmdir", groups + len);
         status = run(engine, &line);
     }
     return status;
@@ -47,7 +48,8 @@ static uint32_t remove_groups(mk0_handle *engine, const char *top, const char *g
 
 static uint32_t vanish(mk0_handle *engine, const char *path) {
     mk0_info told = {0};
-    struct line line = begin_line("write", path);
+    struct line line;
+    begin_line(&line, "write", path);
     add(&line, "cgroup.kill");
     add(&line, "1");
     uint32_t status = run(engine, &line);

@@ -18,16 +18,14 @@ void add(struct line *line, const char *text) {
     line->len += len;
 }
 
-struct line command_line(const char *command) {
-    struct line line = {.len = 0};
-    add(&line, command);
-    return line;
+void command_line(struct line *line, const char *command) {
+    line->len = 0;
+    add(line, command);
 }
 
-struct line begin_line(const char *command, const char *path) {
-    struct line line = command_line(command);
-    add(&line, is_word(path, PATH_BYTES) ? path : NO_WORD);
-    return line;
+void begin_line(struct line *line, const char *command, const char *path) {
+    command_line(line, command);
+    add(line, is_word(path, PATH_BYTES) ? path : NO_WORD);
 }
 
 void add_word(struct line *line, const char *word) { add(line, is_word(word, WORD_BYTES) ? word : NO_WORD); }

@@ -20,9 +20,9 @@ struct line {
     size_t len;
 };
 
-/* An empty line; or one with a command and a path. */
-struct line begin_line(const char *command, const char *path);
-struct line command_line(const char *command);
+/* A line with a command; or with a command and a path. */
+void command_line(struct line *line, const char *command);
+void begin_line(struct line *line, const char *command, const char *path);
 
 /* Adds a word: any text that is one, a text as it is, a pid, a value without the blanks at its ends. */
 void add_word(struct line *line, const char *word);

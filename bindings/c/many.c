@@ -3,7 +3,8 @@
 #include <string.h>
 
 static uint32_t next(mk0_handle *engine, const char *path, const char *file, char *out, size_t size, mk0_info *told) {
-    struct line line = begin_line("cat", path);
+    struct line line;
+    begin_line(&line, "cat", path);
     add_word(&line, file);
     *told = (mk0_info){0};
     return ask(engine, &line, out, size, told);

@@ -157,7 +157,8 @@ static uint32_t put(mk0_handle *engine, const char *path, const char *name, cons
     char out[ANSWER_BYTES], said[SAID_BYTES];
     const struct file *file = find(name, strcmp(path, "/") == 0);
     /* whether there is such a group; with the faults that were asked for */
-    struct line line = begin_line("cat", path);
+    struct line line;
+    begin_line(&line, "cat", path);
     add(&line, "cgroup.stat");
     uint32_t status = ask(engine, &line, out, sizeof out, told);
     if (status != MK_DONE) return status;
@@ -166,7 +167,7 @@ static uint32_t put(mk0_handle *engine, const char *path, const char *name, cons
     if (*error != 0) return MK_FAULT;
     *told = (mk0_info){0};
     if (said[0] == 0) return MK_DONE;
-    line = begin_line("write", path);
+    begin_line(&line, "write", path);
     add(&line, name);
     add(&line, said);
     return mk0_line(engine, 0, (const uint8_t *)line.text, line.len, (uint8_t *)out, sizeof out, told);

@@ -21,44 +21,51 @@ static uint32_t run(mk_handle *h, const struct line *line, mk_info *info) {
 /* ---- commands */
 
 PUBLIC uint32_t mk_mkdir(mk_handle *h, const char *path, mk_info *info) {
-    struct line line = begin_line("mkdir", path);
+    struct line line;
+    begin_line(&line, "mkdir", path);
     return run(h, &line, info);
 }
 
 PUBLIC uint32_t mk_rmdir(mk_handle *h, const char *path, mk_info *info) {
-    struct line line = begin_line("rmdir", path);
+    struct line line;
+    begin_line(&line, "rmdir", path);
     return run(h, &line, info);
 }
 
 PUBLIC uint32_t mk_fork(mk_handle *h, int64_t parent, int64_t child, mk_info *info) {
-    struct line line = command_line("fork");
+    struct line line;
+    command_line(&line, "fork");
     add_pid(&line, parent);
     add_pid(&line, child);
     return run(h, &line, info);
 }
 
 PUBLIC uint32_t mk_exit(mk_handle *h, int64_t pid, mk_info *info) {
-    struct line line = command_line("exit");
+    struct line line;
+    command_line(&line, "exit");
     add_pid(&line, pid);
     return run(h, &line, info);
 }
 
 PUBLIC uint32_t mk_attach(mk_handle *h, const char *path, int64_t pid, mk_info *info) {
-    struct line line = begin_line("write", path);
+    struct line line;
+    begin_line(&line, "write", path);
     add(&line, "cgroup.procs");
     add_pid(&line, pid);
     return run(h, &line, info);
 }
 
 PUBLIC uint32_t mk_write(mk_handle *h, const char *path, const char *file, const char *value, mk_info *info) {
-    struct line line = begin_line("write", path);
+    struct line line;
+    begin_line(&line, "write", path);
     add_word(&line, file);
     add_value(&line, value);
     return run(h, &line, info);
 }
 
 PUBLIC uint32_t mk_kill(mk_handle *h, const char *path, mk_info *info) {
-    struct line line = begin_line("write", path);
+    struct line line;
+    begin_line(&line, "write", path);
     add(&line, "cgroup.kill");
     add(&line, "1");
     return run(h, &line, info);
@@ -94,13 +101,15 @@ static uint32_t read_text(mk_handle *h, const struct line *line, char *text, siz
 }
 
 PUBLIC uint32_t mk_read(mk_handle *h, const char *path, const char *file, char *text, size_t size, mk_info *info) {
-    struct line line = begin_line("cat", path);
+    struct line line;
+    begin_line(&line, "cat", path);
     add_word(&line, file);
     return read_text(h, &line, text, size, info);
 }
 
 PUBLIC uint32_t mk_where(mk_handle *h, int64_t pid, char *text, size_t size, mk_info *info) {
-    struct line line = command_line("where");
+    struct line line;
+    command_line(&line, "where");
     add_pid(&line, pid);
     return read_text(h, &line, text, size, info);
 }
@@ -150,7 +159,8 @@ PUBLIC uint32_t mk_processes(mk_handle *h, const char *path, uint32_t *pids, siz
     mk0_handle *engine;
     mk0_info told = {0};
     char first[ANSWER_BYTES], *answer;
-    struct line line = begin_line("cat", path);
+    struct line line;
+    begin_line(&line, "cat", path);
     add(&line, "cgroup.procs");
     uint32_t status = enter(h, &engine);
     if (status != MK_DONE) return tell(info, status, &told);
