@@ -10,18 +10,11 @@
  */
 #include "makhloeum.h"
 #include "private.h"
-#include <pthread.h>
+#include "lines.h"
 #include <signal.h>
 #include <stdatomic.h>
 #include <stdlib.h>
-
-struct slot {
-    mk0_handle engine; /* the first field: a slot is found from its engine */
-    pthread_mutex_t lock;
-    uint64_t serial; /* 0: closed */
-    struct slot *next;
-    struct slot *next_free;
-};
+#include <time.h>
 
 /* Guards what follows it here. It is taken before the lock of a slot, never behind it. */
 static pthread_mutex_t registry = PTHREAD_MUTEX_INITIALIZER;
@@ -61,10 +54,24 @@ uint32_t enter(const mk_handle *h, mk0_handle **engine) {
     return MK_CLOSED;
 }
 
-void leave(mk0_handle *engine) {
-    struct slot *slot = (struct slot *)engine;
+/* Each command that changes the hierarchy is recorded, and each undo takes a record away. */
+static void look_for_a_change(struct slot *slot) {
+    size_t depth;
+    mk0_depth(&slot->engine, &depth);
+    if (depth == slot->depth) return;
+    slot->depth = depth;
+    slot->changes++;
+    pthread_cond_broadcast(&slot->changed);
+}
+
+void leave_closed(struct slot *slot) {
     pthread_mutex_unlock(&slot->lock);
     end();
+}
+
+void leave(mk0_handle *engine) {
+    look_for_a_change(slot_of(engine));
+    leave_closed(slot_of(engine));
 }
 
 uint32_t tell(mk_info *info, uint32_t status, const mk0_info *told) {
@@ -73,6 +80,10 @@ uint32_t tell(mk_info *info, uint32_t status, const mk0_info *told) {
                       .needed = told->needed,
                       .code = told->code,
                       .error = mk_status_errno(status, told->code)};
+    if (status == MK_FAILED) {
+        info->error = (int32_t)told->code;
+        info->code = 0;
+    }
     return status;
 }
 
@@ -88,6 +99,21 @@ static bool is_open(const mk_handle *h) {
     return open;
 }
 
+static bool init_condition(pthread_cond_t *condition) {
+    pthread_condattr_t clock;
+    if (pthread_condattr_init(&clock) != 0) return false;
+    bool done = pthread_condattr_setclock(&clock, CLOCK_MONOTONIC) == 0 && pthread_cond_init(condition, &clock) == 0;
+    pthread_condattr_destroy(&clock);
+    return done;
+}
+
+static bool init_slot(struct slot *slot) {
+    if (pthread_mutex_init(&slot->lock, NULL) != 0) return false;
+    if (init_condition(&slot->changed)) return true;
+    pthread_mutex_destroy(&slot->lock);
+    return false;
+}
+
 /* with the registry locked: a slot that no handle has */
 static struct slot *take_slot(void) {
     struct slot *slot = free_slots;
@@ -97,7 +123,7 @@ static struct slot *take_slot(void) {
     }
     slot = calloc(1, sizeof *slot);
     if (slot == NULL) return NULL;
-    if (pthread_mutex_init(&slot->lock, NULL) != 0) {
+    if (!init_slot(slot)) {
         free(slot);
         return NULL;
     }
@@ -117,7 +143,10 @@ static uint32_t fill(mk_handle *h) {
     if (slot == NULL) return MK_OUT_OF_MEMORY;
     pthread_mutex_lock(&slot->lock);
     uint32_t status = mk0_open(&slot->engine);
-    if (status == MK_DONE) slot->serial = ++last_serial;
+    if (status == MK_DONE) {
+        slot->serial = ++last_serial;
+        slot->changes = slot->depth = 0;
+    }
     pthread_mutex_unlock(&slot->lock);
     if (status != MK_DONE) {
         give_slot(slot);
@@ -143,9 +172,11 @@ PUBLIC uint32_t mk_close(mk_handle *h) {
     mk0_handle *engine;
     uint32_t status = enter(h, &engine);
     if (status != MK_DONE) return status;
-    struct slot *slot = (struct slot *)engine;
+    struct slot *slot = slot_of(engine);
     status = mk0_close(engine);
     slot->serial = 0;
+    faults_drop(slot);
+    pthread_cond_broadcast(&slot->changed);
     pthread_mutex_unlock(&slot->lock);
     pthread_mutex_lock(&registry);
     give_slot(slot);
@@ -166,18 +197,25 @@ static void before_fork(void) {
     for (struct slot *slot = slots; slot != NULL; slot = slot->next) pthread_mutex_lock(&slot->lock);
 }
 
-static void after_fork(void) {
+static void unlock_all(bool in_child) {
     if (skipped_forks > 0) {
         skipped_forks--;
         return;
     }
-    for (struct slot *slot = slots; slot != NULL; slot = slot->next) pthread_mutex_unlock(&slot->lock);
+    for (struct slot *slot = slots; slot != NULL; slot = slot->next) {
+        /* threads that waited are not in the child, and a condition that counts them would wait for them */
+        if (in_child) init_condition(&slot->changed);
+        pthread_mutex_unlock(&slot->lock);
+    }
     pthread_mutex_unlock(&registry);
     end();
 }
 
+static void after_fork(void) { unlock_all(false); }
+static void after_fork_in_child(void) { unlock_all(true); }
+
 __attribute__((constructor)) static void watch_forks(void) {
-    forks_are_watched = pthread_atfork(before_fork, after_fork, after_fork) == 0;
+    forks_are_watched = pthread_atfork(before_fork, after_fork, after_fork_in_child) == 0;
 }
 
 /* ---- calls */
@@ -188,7 +226,7 @@ PUBLIC uint32_t mk_line(mk_handle *h, uint64_t number, const uint8_t *line, size
     mk0_info told = {0};
     uint32_t status = enter(h, &engine);
     if (status == MK_DONE) {
-        status = mk0_line(engine, number, line, line_len, out, out_size, &told);
+        status = answer_line(engine, number, line, line_len, out, out_size, &told);
         leave(engine);
     }
     return tell(info, status, &told);
@@ -233,7 +271,9 @@ PUBLIC uint32_t mk_children(mk_handle *h, const uint8_t *path, size_t path_len, 
     mk0_info told = {0};
     uint32_t status = enter(h, &engine);
     if (status == MK_DONE) {
-        status = mk0_children(engine, path, path_len, out, out_size, &told);
+        status = faults_before(engine, path, path_len, &told);
+        if (status == MK_DONE) status = mk0_children(engine, path, path_len, out, out_size, &told);
+        if (status == MK_TOO_SMALL) faults_again(engine, path, path_len);
         leave(engine);
     }
     return tell(info, status, &told);
@@ -255,7 +295,8 @@ PUBLIC uint32_t mk_has_group(mk_handle *h, const uint8_t *path, size_t path_len,
     mk0_info told = {0};
     uint32_t status = enter(h, &engine);
     if (status == MK_DONE) {
-        status = mk0_has_group(engine, path, path_len, &told);
+        status = faults_before(engine, path, path_len, &told);
+        if (status == MK_DONE) status = mk0_has_group(engine, path, path_len, &told);
         leave(engine);
     }
     return tell(info, status, &told);

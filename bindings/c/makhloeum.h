@@ -51,7 +51,7 @@ typedef struct {
     size_t count;  /* how many names these are */
     size_t needed; /* with MK_TOO_SMALL: a buffer of so many bytes is large enough for this call in this state */
     uint32_t code; /* with MK_REFUSED and MK_FAULT: which refusal or fault */
-    int32_t error; /* the errno for status and code: see mk_status_errno */
+    int32_t error; /* the errno for status and code: see mk_status_errno; for mk_put and MK_FAILED it is said there */
 } mk_info;
 
 /* The status of a call. */
@@ -63,7 +63,9 @@ enum {
     MK_OUT_OF_MEMORY = 4, /* out of memory; nothing has changed */
     MK_SKIPPED = 5,       /* a comment, or a line without words: it has no answer; nothing has changed */
     MK_CLOSED = 6,        /* the handle has no engine (for mk_open: it has one); nothing has changed */
-    MK_BUSY = 7           /* called by a signal handler that interrupted a call of this thread; nothing has changed */
+    MK_BUSY = 7,          /* called by a signal handler that interrupted a call of this thread; nothing has changed */
+    MK_TIMED_OUT = 8,     /* mk_wait: nothing has changed in that time */
+    MK_FAILED = 9         /* a fault that mk_fail asked for, with info->error; nothing has changed */
 };
 
 /* The code of a refusal (MK_REFUSED): why the state refuses the command. */
@@ -191,6 +193,68 @@ uint32_t mk_processes(mk_handle *h, const char *path, uint32_t *pids, size_t roo
    already. With MK_OUT_OF_MEMORY the commands that were undone so far stay undone. */
 uint32_t mk_undo_to(mk_handle *h, size_t mark, mk_info *info);
 
+/* ---- many files in one call */
+
+/* A text in the buffer: len bytes from at on, and a zero byte. status, code and error are as for mk_read. */
+typedef struct {
+    size_t at;
+    size_t len;
+    uint32_t status;
+    uint32_t code;
+    int32_t error;
+} mk_text;
+
+/* Reads count files, all of one state: no other call comes in between. names has a path and a file for each, each ended by a zero
+   byte. MK_DONE if each text has its own status: a file of a group that is not there is MK_REFUSED, and has no bytes.
+   MK_TOO_SMALL with info->needed, MK_OUT_OF_MEMORY, MK_CLOSED, MK_BUSY. */
+uint32_t mk_read_many(mk_handle *h, const char *names, size_t count, mk_text *texts, char *out, size_t size, mk_info *info);
+
+/* ---- waiting for a change */
+
+/* How many calls have changed the hierarchy, undos included; 0 without an engine. MK_DONE, MK_CLOSED or MK_BUSY. */
+uint32_t mk_changes(mk_handle *h, uint64_t *changes);
+
+/* Waits until the number of changes is another one than seen, and returns it: MK_DONE. MK_TIMED_OUT after so many milliseconds,
+   MK_CLOSED when the handle is closed, MK_BUSY. Other threads' calls go on meanwhile. */
+#define MK_FOREVER UINT32_MAX
+uint32_t mk_wait(mk_handle *h, uint64_t seen, uint32_t milliseconds, uint64_t *changes);
+
+/* ---- faults, for tests of programs that use a hierarchy. Calls that name a path are mk_line with a path, mk_children,
+   mk_has_group, mk_read_many for each of its files, and every call here with a path but mk_fail, mk_vanish and mk_path_fault. A
+   call that returns MK_TOO_SMALL does not count. Of several faults that meet one call the newest comes, and the others are
+   gone. */
+
+/* The nth call from now on that names the path fails: it returns MK_FAILED with that errno. nth is 1 for the next. MK_DONE;
+   MK_FAULT with MK_PATH, or with MK_VALUE if nth or the errno is not positive; MK_OUT_OF_MEMORY, MK_CLOSED, MK_BUSY. */
+uint32_t mk_fail(mk_handle *h, const char *path, uint64_t nth, int32_t error, mk_info *info);
+
+/* The group vanishes just before the nth call from now on that names it, as if another process had killed and removed it with all
+   groups below it: these are commands of their own, and recorded. If that call returns MK_OUT_OF_MEMORY, some of them may be
+   missing. Statuses as for mk_fail; MK_VALUE for the root. */
+uint32_t mk_vanish(mk_handle *h, const char *path, uint64_t nth, mk_info *info);
+
+/* Drops the faults that have not come, and says how many they were. MK_DONE, MK_CLOSED or MK_BUSY. */
+uint32_t mk_clear_faults(mk_handle *h, size_t *left);
+
+/* ---- the files of a group as a mount shows them, for adapters that serve a hierarchy as files */
+
+typedef struct {
+    const char *name;
+    bool on_root, readable, writable;
+    const char *constant; /* the text of a file that a mount adds with --extra; NULL for a file of the hierarchy */
+} mk_file;
+
+/* The i-th file, in the order of the names; NULL behind the last. */
+const mk_file *mk_file_at(size_t i);
+
+/* Writes a file as a write to a mount's does (docs/MOUNT.md, "Files"): numbers may be octal, hexadecimal or signed, a constant
+   takes the value that it has, and a pid of 0 is self. Statuses as for mk_write; info->error is the mount's errno, which for
+   MK_VALUE is ERANGE, ESRCH, E2BIG or EOPNOTSUPP where the kernel's or the mount's is. */
+uint32_t mk_put(mk_handle *h, const char *path, const char *file, const char *data, size_t size, int64_t self, mk_info *info);
+
+/* The errno of a mkdir of a text with this fault of mk_path_fault in a mount; 0 for 0. */
+int mk_path_errno(uint32_t fault);
+
 /* What is wrong with a text that is no path, and where: 0 if it is a path. *position is the place, from 0, of the byte at
    fault, of the first byte of the name at fault, or of the first byte too many. The order is that of docs/FORMATS.md,
    "Paths". */
@@ -237,7 +301,7 @@ static inline int mk_errno(uint32_t code) {
 }
 
 /* The errno for a status with its code: mk_errno of the code for MK_REFUSED and MK_FAULT, 0 for MK_DONE and MK_SKIPPED,
-   ERANGE for MK_TOO_SMALL, ENOMEM, EBADF for MK_CLOSED, EDEADLK for MK_BUSY. */
+   ERANGE for MK_TOO_SMALL, ENOMEM, EBADF for MK_CLOSED, EDEADLK for MK_BUSY, ETIMEDOUT, EIO for MK_FAILED. */
 static inline int mk_status_errno(uint32_t status, uint32_t code) {
     switch (status) {
     case MK_REFUSED:
@@ -251,6 +315,10 @@ static inline int mk_status_errno(uint32_t status, uint32_t code) {
         return EBADF;
     case MK_BUSY:
         return EDEADLK;
+    case MK_TIMED_OUT:
+        return ETIMEDOUT;
+    case MK_FAILED:
+        return EIO;
     default:
         return 0;
     }

@@ -4,15 +4,44 @@
 
 #include "makhloeum.h"
 #include "proved.h"
+#include <pthread.h>
 
 /* An exported name; the libraries hide every other one. */
 #define PUBLIC __attribute__((visibility("default")))
+
+struct fault;
+
+/* An engine with its lock. */
+struct slot {
+    mk0_handle engine; /* the first field: a slot is found from its engine */
+    pthread_mutex_t lock;
+    uint64_t serial; /* 0: closed */
+    pthread_cond_t changed;
+    uint64_t changes;
+    size_t depth; /* as of the newest change */
+    struct fault *faults;
+    struct slot *next;
+    struct slot *next_free;
+};
+
+static inline struct slot *slot_of(mk0_handle *engine) { return (struct slot *)engine; }
 
 /* MK_DONE with *engine, which no other call uses until leave; or MK_CLOSED or MK_BUSY, and then there is nothing to leave. */
 uint32_t enter(const mk_handle *h, mk0_handle **engine);
 void leave(mk0_handle *engine);
 
+/* The end of a call whose engine may have been closed meanwhile: no change is looked for. */
+void leave_closed(struct slot *slot);
+
 /* Fills the caller's info. Returns the status. */
 uint32_t tell(mk_info *info, uint32_t status, const mk0_info *told);
+
+/* What mk_fail and mk_vanish asked for, at a call that names the path: MK_DONE if the call goes on; else what it returns,
+   with the errno in told->code for MK_FAILED. */
+uint32_t faults_before(mk0_handle *engine, const uint8_t *path, size_t len, mk0_info *told);
+
+/* The call returned MK_TOO_SMALL and will be made again: it does not count. */
+void faults_again(mk0_handle *engine, const uint8_t *path, size_t len);
+void faults_drop(struct slot *slot);
 
 #endif

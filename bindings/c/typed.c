@@ -1,70 +1,8 @@
-/* A call for each command, and for each number of a group, over the lines of the trace language.
- *
- * Arguments become words of a line. One that is not one word would be read as several, so NO_WORD stands for it: it is
- * neither a path nor a file nor a value, and the engine refuses it in the order in which it refuses words. */
+/* A call for each command, and for each number of a group, over the lines of the trace language. */
+#include "lines.h"
 #include "private.h"
-#include <inttypes.h>
-#include <stdio.h>
 #include <stdlib.h>
 #include <string.h>
-
-#define NO_WORD "?"
-
-enum {
-    PATH_BYTES = 4095,
-    WORD_BYTES = 255,
-    LINE_BYTES = PATH_BYTES + 2 * WORD_BYTES + 16,
-    /* longer than each answer but a long file's: a path, a command, or a few numbers */
-    ANSWER_BYTES = LINE_BYTES + 64,
-};
-
-struct line {
-    char text[LINE_BYTES];
-    size_t len;
-};
-
-static bool is_word(const char *text, size_t most) {
-    size_t len = strnlen(text, most + 1);
-    return len > 0 && len <= most && strcspn(text, " \t\r\n") == len;
-}
-
-static void add(struct line *line, const char *text) {
-    size_t len = strlen(text);
-    if (line->len > 0) line->text[line->len++] = ' ';
-    memcpy(line->text + line->len, text, len);
-    line->len += len;
-}
-
-static struct line begin_line(const char *command, const char *path) {
-    struct line line = {.len = 0};
-    add(&line, command);
-    add(&line, is_word(path, PATH_BYTES) ? path : NO_WORD);
-    return line;
-}
-
-static void add_word(struct line *line, const char *word) { add(line, is_word(word, WORD_BYTES) ? word : NO_WORD); }
-
-static void add_pid(struct line *line, int64_t pid) {
-    char digits[24];
-    snprintf(digits, sizeof digits, "%" PRId64, pid);
-    add(line, digits);
-}
-
-/* a value as a file takes it: without the blanks at its ends */
-static void add_value(struct line *line, const char *value) {
-    char word[WORD_BYTES + 1];
-    value += strspn(value, " \t\r\n");
-    size_t len = strnlen(value, WORD_BYTES * 2);
-    while (len > 0 && strchr(" \t\r\n", value[len - 1]) != NULL) len--;
-    if (len > WORD_BYTES) len = 0;
-    memcpy(word, value, len);
-    word[len] = 0;
-    add_word(line, word);
-}
-
-static uint32_t ask(mk0_handle *engine, const struct line *line, char *out, size_t size, mk0_info *told) {
-    return mk0_line(engine, 0, (const uint8_t *)line->text, line->len, (uint8_t *)out, size, told);
-}
 
 /* a command whose answer is one line */
 static uint32_t run(mk_handle *h, const struct line *line, mk_info *info) {
@@ -83,67 +21,57 @@ static uint32_t run(mk_handle *h, const struct line *line, mk_info *info) {
 /* ---- commands */
 
 PUBLIC uint32_t mk_mkdir(mk_handle *h, const char *path, mk_info *info) {
-    struct line line = begin_line("mkdir", path);
+    struct line line;
+    begin_line(&line, "mkdir", path);
     return run(h, &line, info);
 }
 
 PUBLIC uint32_t mk_rmdir(mk_handle *h, const char *path, mk_info *info) {
-    struct line line = begin_line("rmdir", path);
+    struct line line;
+    begin_line(&line, "rmdir", path);
     return run(h, &line, info);
 }
 
 PUBLIC uint32_t mk_fork(mk_handle *h, int64_t parent, int64_t child, mk_info *info) {
-    struct line line = {.len = 0};
-    add(&line, "fork");
+    struct line line;
+    command_line(&line, "fork");
     add_pid(&line, parent);
     add_pid(&line, child);
     return run(h, &line, info);
 }
 
 PUBLIC uint32_t mk_exit(mk_handle *h, int64_t pid, mk_info *info) {
-    struct line line = {.len = 0};
-    add(&line, "exit");
+    struct line line;
+    command_line(&line, "exit");
     add_pid(&line, pid);
     return run(h, &line, info);
 }
 
 PUBLIC uint32_t mk_attach(mk_handle *h, const char *path, int64_t pid, mk_info *info) {
-    struct line line = begin_line("write", path);
+    struct line line;
+    begin_line(&line, "write", path);
     add(&line, "cgroup.procs");
     add_pid(&line, pid);
     return run(h, &line, info);
 }
 
 PUBLIC uint32_t mk_write(mk_handle *h, const char *path, const char *file, const char *value, mk_info *info) {
-    struct line line = begin_line("write", path);
+    struct line line;
+    begin_line(&line, "write", path);
     add_word(&line, file);
     add_value(&line, value);
     return run(h, &line, info);
 }
 
 PUBLIC uint32_t mk_kill(mk_handle *h, const char *path, mk_info *info) {
-    struct line line = begin_line("write", path);
+    struct line line;
+    begin_line(&line, "write", path);
     add(&line, "cgroup.kill");
     add(&line, "1");
     return run(h, &line, info);
 }
 
 /* ---- texts */
-
-/* The text behind the first line of an answer, without the mark before each line; may be in the same memory. */
-static size_t take_text(const char *answer, size_t len, char *text) {
-    const char *end = answer + len, *from = memchr(answer, '\n', len);
-    size_t taken = 0;
-    if (from == NULL) return 0;
-    for (from++; from < end;) {
-        const char *feed = memchr(from, '\n', (size_t)(end - from));
-        size_t size = (size_t)(feed - from) - 1;
-        memmove(text + taken, from + 2, size);
-        taken += size;
-        from = feed + 1;
-    }
-    return taken;
-}
 
 /* An answer that is short goes by way of a buffer here, so that exactly the text need fit into the caller's. */
 static uint32_t read_text(mk_handle *h, const struct line *line, char *text, size_t size, mk_info *info) {
@@ -173,14 +101,15 @@ static uint32_t read_text(mk_handle *h, const struct line *line, char *text, siz
 }
 
 PUBLIC uint32_t mk_read(mk_handle *h, const char *path, const char *file, char *text, size_t size, mk_info *info) {
-    struct line line = begin_line("cat", path);
+    struct line line;
+    begin_line(&line, "cat", path);
     add_word(&line, file);
     return read_text(h, &line, text, size, info);
 }
 
 PUBLIC uint32_t mk_where(mk_handle *h, int64_t pid, char *text, size_t size, mk_info *info) {
-    struct line line = {.len = 0};
-    add(&line, "where");
+    struct line line;
+    command_line(&line, "where");
     add_pid(&line, pid);
     return read_text(h, &line, text, size, info);
 }
@@ -236,7 +165,8 @@ PUBLIC uint32_t mk_processes(mk_handle *h, const char *path, uint32_t *pids, siz
     mk0_handle *engine;
     mk0_info told = {0};
     char first[ANSWER_BYTES], *answer;
-    struct line line = begin_line("cat", path);
+    struct line line;
+    begin_line(&line, "cat", path);
     add(&line, "cgroup.procs");
     uint32_t status = enter(h, &engine);
     if (status != MK_DONE) return tell(info, status, &told);

@@ -46,6 +46,8 @@ static const char *const statuses[] = {
     [MK_SKIPPED] = "a line without a command",
     [MK_CLOSED] = "the handle is closed, or for mk_open open",
     [MK_BUSY] = "a call of this thread is running",
+    [MK_TIMED_OUT] = "nothing has changed in that time",
+    [MK_FAILED] = "a fault that mk_fail asked for",
 };
 
 static const char *const path_faults[] = {

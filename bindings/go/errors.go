@@ -75,7 +75,10 @@ type Refused struct {
 
 // Error is as "mkdir /b/c: no such file or directory (nogroup /b)".
 func (r *Refused) Error() string {
-	return fmt.Sprintf("%s: %v (%s)", r.Command, r.Errno(), r.Reply)
+	if r.Code < BadSyntax || r.Code == BadPath {
+		return fmt.Sprintf("%s: %v (%s)", r.Command, r.Errno(), r.Reply)
+	}
+	return fmt.Sprintf("%s: %v (%s: %s)", r.Command, r.Errno(), r.Reply, C.GoString(C.mk_message(C.uint32_t(r.Code))))
 }
 
 // Errno is what the kernel gives for it; where the kernel's differs by case, the first.
@@ -97,10 +100,12 @@ func pathFault(path string) (PathFault, int) {
 	return PathFault(fault), int(position)
 }
 
-func failure(what command, status uint32, code Code, answer []byte) error {
+func failure(what command, status uint32, info C.mk_info, answer []byte) error {
 	switch status {
 	case C.MK_REFUSED, C.MK_FAULT:
-		return refusal(what, code, answer)
+		return refusal(what, Code(info.code), answer)
+	case C.MK_FAILED:
+		return fmt.Errorf("%s: %w (asked for by Fail)", what.text, syscall.Errno(info.error))
 	case C.MK_CLOSED:
 		return fmt.Errorf("%s: %w", what.text, ErrClosed)
 	case C.MK_BUSY:

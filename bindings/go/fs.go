@@ -6,15 +6,19 @@ import (
 	"io"
 	"io/fs"
 	"path"
-	"strings"
+	"sort"
 	"syscall"
 	"time"
 )
 
 // FS is the hierarchy as a file system, for code that reads a cgroup directory through fs.FS: os.DirFS("/sys/fs/cgroup")
-// in a service, FS in its tests. "." is the root group. It has the files of docs/FORMATS.md that can be read, and the
-// constant files that the mount adds with --extra. A file has the text that it had when it was opened.
-type FS struct{ h *Hierarchy }
+// in a service, FS in its tests. "." is the root group. It has the files of a mount with --extra (docs/MOUNT.md); as every file
+// of an fs.FS can be read, cgroup.kill is not among them, but WriteFile writes it. A file has the text that it had when it was
+// opened.
+type FS struct {
+	h    *Hierarchy
+	self int
+}
 
 var (
 	_ fs.ReadDirFS  = FS{}
@@ -22,51 +26,17 @@ var (
 	_ fs.StatFS     = FS{}
 )
 
-// FS gives the hierarchy as a file system.
-func (h *Hierarchy) FS() FS { return FS{h} }
+// FS gives the hierarchy as a file system, as process 1 has it.
+func (h *Hierarchy) FS() FS { return FS{h, 1} }
 
-// file is a row of the table of files.
-type file struct {
-	name     string
-	onRoot   bool
-	writable bool
-	constant string
-}
-
-// The files that can be read, in the order of their names.
-var files = []file{
-	{"cgroup.controllers", true, false, "pids\n"},
-	{"cgroup.events", false, false, ""},
-	{"cgroup.freeze", false, true, "0\n"},
-	{"cgroup.max.depth", true, true, ""},
-	{"cgroup.max.descendants", true, true, ""},
-	{"cgroup.procs", true, true, ""},
-	{"cgroup.stat", true, false, ""},
-	{"cgroup.subtree_control", true, true, "pids\n"},
-	{"cgroup.type", false, true, "domain\n"},
-	{"cpu.stat", true, false, "usage_usec 0\nuser_usec 0\nsystem_usec 0\n"},
-	{"pids.current", false, false, ""},
-	{"pids.events", false, false, ""},
-	{"pids.events.local", false, false, ""},
-	{"pids.max", false, true, ""},
-	{"pids.peak", false, false, ""},
-}
-
-func fileNamed(name, group string) (file, bool) {
-	for _, it := range files {
-		if it.name == name {
-			return it, it.onRoot || group != "/"
-		}
-	}
-	return file{}, false
-}
+// As is the same file system as another process has it: the one that moves when 0 is written to cgroup.procs.
+func (f FS) As(pid int) FS { return FS{f.h, pid} }
 
 // node is a group or a file, as it was found.
 type node struct {
-	name    string
-	mode    fs.FileMode
-	text    string
-	entries []fs.DirEntry
+	name string
+	mode fs.FileMode
+	text string
 }
 
 func (n *node) Name() string       { return n.name }
@@ -85,10 +55,7 @@ func groupOf(name string) string {
 }
 
 func (f FS) fileNode(group string, it file) (*node, error) {
-	n := &node{name: it.name, mode: 0o444, text: it.constant}
-	if it.writable {
-		n.mode |= 0o200
-	}
+	n := &node{name: it.name, mode: it.mode(), text: it.constant}
 	if it.constant != "" {
 		return n, nil
 	}
@@ -109,24 +76,27 @@ func (f FS) find(operation, name string) (*node, error) {
 	return n, nil
 }
 
+// node makes one call that names the group, so that Fail and Vanish count operations.
 func (f FS) node(name string) (*node, error) {
 	group, base := groupOf(path.Dir(name)), path.Base(name)
-	if it, ok := fileNamed(base, group); ok && name != "." {
-		there, err := f.h.HasGroup(group)
-		if err == nil && !there {
-			err = syscall.ENOENT
-		}
-		if err != nil {
-			return nil, notFound(err)
-		}
-		return f.fileNode(group, it)
+	it, isFile := fileNamed(base, group)
+	isFile = isFile && name != "."
+	if isFile && it.constant == "" {
+		n, err := f.fileNode(group, it)
+		return n, notFound(err)
 	}
-	there, err := f.h.HasGroup(groupOf(name))
+	if !isFile {
+		group = groupOf(name)
+	}
+	there, err := f.h.HasGroup(group)
 	if err == nil && !there {
 		err = syscall.ENOENT
 	}
 	if err != nil {
 		return nil, notFound(err)
+	}
+	if isFile {
+		return f.fileNode(group, it)
 	}
 	return &node{name: base, mode: fs.ModeDir | 0o755}, nil
 }
@@ -134,10 +104,13 @@ func (f FS) node(name string) (*node, error) {
 // notFound turns a text that is no path of a group into one that does not exist.
 func notFound(err error) error {
 	var refused *Refused
-	if errors.As(err, &refused) && refused.Code == BadPath {
-		return syscall.ENOENT
+	if !errors.As(err, &refused) || refused.Code != BadPath {
+		return err
 	}
-	return err
+	if refused.PathFault == NameTooLong || refused.PathFault == PathTooLong {
+		return syscall.ENAMETOOLONG
+	}
+	return syscall.ENOENT
 }
 
 // Stat describes a group or a file.
@@ -155,44 +128,41 @@ func (f FS) ReadFile(name string) ([]byte, error) {
 	return []byte(n.text), nil
 }
 
+// entry is a group or a file in a listing, which is looked at when Info is called.
+type entry struct {
+	f          FS
+	name, path string
+	mode       fs.FileMode
+}
+
+func (e entry) Name() string               { return e.name }
+func (e entry) IsDir() bool                { return e.mode.IsDir() }
+func (e entry) Type() fs.FileMode          { return e.mode.Type() }
+func (e entry) Info() (fs.FileInfo, error) { return e.f.Stat(e.path) }
+
 // ReadDir lists the files of a group and the groups one name below it, in the order of their names.
 func (f FS) ReadDir(name string) ([]fs.DirEntry, error) {
-	n, err := f.find("open", name)
-	if err != nil {
-		return nil, err
-	}
-	if !n.IsDir() {
-		return nil, &fs.PathError{Op: "readdir", Path: name, Err: syscall.ENOTDIR}
-	}
 	group := groupOf(name)
-	names, err := f.h.Children(group)
-	if err != nil {
-		return nil, &fs.PathError{Op: "readdir", Path: name, Err: err}
-	}
-	var entries []fs.DirEntry
-	rest := files
-	addFiles := func(before func(string) bool) error {
-		for ; len(rest) > 0 && before(rest[0].name); rest = rest[1:] {
-			if group == "/" && !rest[0].onRoot {
-				continue
-			}
-			it, err := f.fileNode(group, rest[0])
-			if err != nil {
-				return &fs.PathError{Op: "readdir", Path: name, Err: err}
-			}
-			entries = append(entries, fs.FileInfoToDirEntry(it))
-		}
-		return nil
-	}
-	for _, child := range names {
-		if err := addFiles(func(file string) bool { return file < child }); err != nil {
+	if !fs.ValidPath(name) || isFile(name) {
+		if _, err := f.find("open", name); err != nil {
 			return nil, err
 		}
-		entries = append(entries, fs.FileInfoToDirEntry(&node{name: child, mode: fs.ModeDir | 0o755}))
+		return nil, &fs.PathError{Op: "readdir", Path: name, Err: syscall.ENOTDIR}
 	}
-	if err := addFiles(func(string) bool { return true }); err != nil {
-		return nil, err
+	names, err := f.h.Children(group)
+	if err != nil {
+		return nil, &fs.PathError{Op: "open", Path: name, Err: notFound(err)}
 	}
+	var entries []fs.DirEntry
+	for _, child := range names {
+		entries = append(entries, entry{f, child, path.Join(name, child), fs.ModeDir | 0o755})
+	}
+	for _, it := range files {
+		if it.onRoot || group != "/" {
+			entries = append(entries, entry{f, it.name, path.Join(name, it.name), it.mode()})
+		}
+	}
+	sort.Slice(entries, func(i, j int) bool { return entries[i].Name() < entries[j].Name() })
 	return entries, nil
 }
 
@@ -202,13 +172,10 @@ func (f FS) Open(name string) (fs.File, error) {
 	if err != nil {
 		return nil, err
 	}
-	if !n.IsDir() {
-		return &openFile{bytes.NewReader([]byte(n.text)), n}, nil
+	if n.IsDir() {
+		return &openGroup{f: f, path: name, node: n}, nil
 	}
-	if n.entries, err = f.ReadDir(name); err != nil {
-		return nil, err
-	}
-	return &openGroup{node: n}, nil
+	return &openFile{bytes.NewReader([]byte(n.text)), n}, nil
 }
 
 type openFile struct {
@@ -219,72 +186,102 @@ type openFile struct {
 func (o *openFile) Stat() (fs.FileInfo, error) { return o.node, nil }
 func (o *openFile) Close() error               { return nil }
 
+// openGroup lists what is there at its first ReadDir.
 type openGroup struct {
-	node *node
-	read int
+	f       FS
+	path    string
+	node    *node
+	listed  bool
+	entries []fs.DirEntry
 }
 
 func (o *openGroup) Stat() (fs.FileInfo, error) { return o.node, nil }
 func (o *openGroup) Close() error               { return nil }
 
 func (o *openGroup) Read([]byte) (int, error) {
-	return 0, &fs.PathError{Op: "read", Path: o.node.name, Err: syscall.EISDIR}
+	return 0, &fs.PathError{Op: "read", Path: o.path, Err: syscall.EISDIR}
 }
 
 func (o *openGroup) ReadDir(n int) ([]fs.DirEntry, error) {
-	left := o.node.entries[o.read:]
-	if n > 0 && len(left) == 0 {
+	if !o.listed {
+		entries, err := o.f.ReadDir(o.path)
+		if err != nil {
+			return nil, err
+		}
+		o.entries, o.listed = entries, true
+	}
+	if n > 0 && len(o.entries) == 0 {
 		return nil, io.EOF
 	}
-	if n > 0 && n < len(left) {
-		left = left[:n]
+	if n <= 0 || n > len(o.entries) {
+		n = len(o.entries)
 	}
-	o.read += len(left)
-	return append([]fs.DirEntry{}, left...), nil
+	part := append([]fs.DirEntry{}, o.entries[:n]...)
+	o.entries = o.entries[n:]
+	return part, nil
 }
 
-// WriteFile writes a file, as os.WriteFile does. A constant file takes the text that it has, and refuses any other with
-// EOPNOTSUPP, as the mount does.
+// WriteFile writes a file, as os.WriteFile does below a mount: numbers may be octal, hexadecimal or signed, a constant takes the
+// value that it has, and 0 in cgroup.procs is this process.
 func (f FS) WriteFile(name string, data []byte) error {
 	if !fs.ValidPath(name) || name == "." {
 		return &fs.PathError{Op: "open", Path: name, Err: fs.ErrInvalid}
 	}
-	group, base := groupOf(path.Dir(name)), path.Base(name)
-	it, _ := fileNamed(base, group)
-	var err error
-	switch {
-	case it.constant == "":
-		err = f.h.Write(group, base, string(data))
-	case !fileExists(f, name):
-		err = syscall.ENOENT
-	case !it.writable:
-		err = syscall.EINVAL
-	case strings.TrimPrefix(strings.TrimSpace(string(data)), "+") != strings.TrimSpace(it.constant):
-		err = syscall.EOPNOTSUPP
-	}
-	if err != nil {
+	if err := f.h.put(groupOf(path.Dir(name)), path.Base(name), data, f.self); err != nil {
 		return &fs.PathError{Op: "write", Path: name, Err: err}
 	}
 	return nil
 }
 
-func fileExists(f FS, name string) bool {
-	_, err := f.node(name)
-	return err == nil
+// isFile says whether the name is that of a file in some group.
+func isFile(name string) bool {
+	_, ok := fileNamed(path.Base(name), groupOf(path.Dir(name)))
+	return ok && name != "."
 }
 
 // Mkdir makes a group, as os.Mkdir does.
-func (f FS) Mkdir(name string) error { return f.change("mkdir", name, f.h.Mkdir) }
+func (f FS) Mkdir(name string) error {
+	if isFile(name) {
+		if _, err := f.find("mkdir", name); err != nil {
+			return err
+		}
+		return &fs.PathError{Op: "mkdir", Path: name, Err: syscall.EEXIST}
+	}
+	return f.change("mkdir", name, f.h.Mkdir)
+}
 
 // Remove removes a group, as os.Remove does.
-func (f FS) Remove(name string) error { return f.change("remove", name, f.h.Rmdir) }
+func (f FS) Remove(name string) error {
+	if isFile(name) {
+		if _, err := f.find("remove", name); err != nil {
+			return err
+		}
+		return &fs.PathError{Op: "remove", Path: name, Err: syscall.EPERM}
+	}
+	return f.change("remove", name, f.h.Rmdir)
+}
 
 func (f FS) change(operation, name string, change func(string) error) error {
 	if !fs.ValidPath(name) {
 		return &fs.PathError{Op: operation, Path: name, Err: fs.ErrInvalid}
 	}
 	if err := change(groupOf(name)); err != nil {
-		return &fs.PathError{Op: operation, Path: name, Err: err}
+		return &fs.PathError{Op: operation, Path: name, Err: f.asMount(operation, name, err)}
 	}
 	return nil
+}
+
+// asMount gives the errno of a mount for a name that no group can have: a missing parent comes first.
+func (f FS) asMount(operation, name string, err error) error {
+	var refused *Refused
+	if !errors.As(err, &refused) || refused.Code != BadPath {
+		return err
+	}
+	if operation != "mkdir" {
+		return notFound(err)
+	}
+	if _, err := f.node(path.Dir(name)); err != nil {
+		return err
+	}
+	return refused.PathFault.mkdirErrno()
 }

@@ -3,10 +3,8 @@ package makhloeum
 import (
 	"errors"
 	"io/fs"
-	"os"
-	"reflect"
-	"regexp"
 	"sort"
+	"strings"
 	"syscall"
 	"testing"
 	"testing/fstest"
@@ -58,29 +56,49 @@ func TestFileSystemChanges(t *testing.T) {
 	}
 }
 
-// The table is that of the mount, as far as both have a file.
-func TestFilesOfTheMount(t *testing.T) {
-	source, err := os.ReadFile("../../mount/src/files.c")
-	if err != nil {
-		t.Skip(err)
-	}
-	row := regexp.MustCompile(`\{ "([a-z_.]+)", +(true|false), +(true|false), +([A-Z_]+), +(?:true|false), +(?:"([^"]*)"|NULL)`)
-	mount := map[string][]string{}
-	for _, found := range row.FindAllStringSubmatch(string(source), -1) {
-		mount[found[1]] = found
-	}
-	compared := 0
-	for _, it := range files {
-		found, ok := mount[it.name]
-		if !ok {
-			continue
+func TestWritesAreThoseOfAMount(t *testing.T) {
+	h := open(t)
+	do(t, h, "mkdir /a", "fork 1 2")
+	f := h.FS()
+	for _, row := range []struct {
+		name, data string
+		want       error
+		text       string
+	}{
+		{"a/pids.max", "0x10\n", nil, "16\n"}, {"a/pids.max", "010", nil, "8\n"}, {"a/pids.max", " +5\t", nil, "5\n"}, {"a/pids.max", "-1", syscall.EINVAL, "5\n"},
+		{"a/pids.max", "9223372036854775808", syscall.ERANGE, "5\n"}, {"a/pids.max", strings.Repeat("1", 5000), syscall.E2BIG, "5\n"},
+		{"a/cgroup.max.depth", "2147483648", syscall.ERANGE, "max\n"}, {"a/cgroup.procs", "9", syscall.ESRCH, ""}, {"a/cgroup.procs", "x", syscall.EINVAL, ""},
+		{"a/cgroup.procs", "0\n", nil, "1\n"}, {"cgroup.subtree_control", "+memory", syscall.EOPNOTSUPP, "pids\n"},
+	} {
+		err := f.WriteFile(row.name, []byte(row.data))
+		if (row.want == nil) != (err == nil) || !errors.Is(err, row.want) {
+			t.Errorf("%s %.20q: %v; not %v", row.name, row.data, err, row.want)
 		}
-		compared++
-		constant := regexp.MustCompile(`\\n`).ReplaceAllString(found[5], "\n")
-		want := []interface{}{found[2] == "true", found[3] == "true", found[4] != "NOTHING", constant}
-		if got := []interface{}{it.onRoot, true, it.writable, it.constant}; !reflect.DeepEqual(got, want) {
-			t.Errorf("%s: %v; the mount has %v", it.name, got, want)
+		text, err := f.ReadFile(row.name)
+		says(t, row.text, string(text), err)
+	}
+	if err := f.As(2).WriteFile("a/cgroup.procs", []byte("0")); err != nil {
+		t.Error(err)
+	}
+	text, err := f.ReadFile("a/cgroup.procs")
+	says(t, "1\n2\n", string(text), err)
+	if err := f.WriteFile("a/cgroup.kill", []byte("1")); err != nil {
+		t.Error(err)
+	}
+	text, err = f.ReadFile("a/cgroup.procs")
+	says(t, "", string(text), err)
+	deep := ""
+	for i := 0; i < 32; i++ {
+		deep += "/d"
+		do(t, h, "mkdir "+deep)
+	}
+	for _, row := range []struct{ err, want error }{
+		{f.Mkdir("pids.x"), syscall.EINVAL}, {f.Mkdir("a b"), syscall.EINVAL}, {f.Mkdir(strings.Repeat("x", 256)), syscall.ENAMETOOLONG},
+		{f.Mkdir(deep[1:] + "/d"), syscall.EAGAIN}, {f.Mkdir("e/" + deep[1:]), syscall.ENOENT}, {f.Mkdir("a/pids.max"), syscall.EEXIST}, {f.Remove("a/pids.max"), syscall.EPERM},
+		{f.Remove("a b"), syscall.ENOENT}, {f.Remove("."), syscall.EBUSY}, {f.WriteFile("a/x\x00y", nil), syscall.ENOENT},
+	} {
+		if !errors.Is(row.err, row.want) {
+			t.Errorf("%v; not %v", row.err, row.want)
 		}
 	}
-	t.Logf("%d files compared", compared)
 }

@@ -182,26 +182,3 @@ func TestEndsAndEmptyLines(t *testing.T) {
 		t.Error(err)
 	}
 }
-
-func BenchmarkCat(b *testing.B) {
-	h := open(b)
-	do(b, h, "mkdir /a", "fork 1 2", "write /a cgroup.procs 2")
-	b.ResetTimer()
-	for i := 0; i < b.N; i++ {
-		if _, err := h.Read("/a", "pids.current"); err != nil {
-			b.Fatal(err)
-		}
-	}
-}
-
-func BenchmarkForkAndUndo(b *testing.B) {
-	h := open(b)
-	for i := 0; i < b.N; i++ {
-		if err := h.Fork(1, 2); err != nil {
-			b.Fatal(err)
-		}
-		if _, err := h.Undo(); err != nil {
-			b.Fatal(err)
-		}
-	}
-}

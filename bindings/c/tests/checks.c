@@ -141,7 +141,7 @@ static int names_of_codes(void) {
     CHECK(strcmp(mk_name(0), "ok") == 0 && strcmp(mk_name(MK_NO_GROUP), "nogroup") == 0 && strcmp(mk_name(MK_VALUE), "value") == 0);
     CHECK(mk_name(15) == NULL && mk_name(31) == NULL && mk_name(37) == NULL && mk_message(37) == NULL);
     for (uint32_t status = MK_DONE; status <= MK_BUSY; status++) CHECK(mk_status_message(status) != NULL);
-    CHECK(mk_status_message(MK_BUSY + 1) == NULL && mk_path_message(MK_RESERVED + 1) == NULL);
+    CHECK(mk_status_message(MK_FAILED + 1) == NULL && mk_path_message(MK_RESERVED + 1) == NULL);
     CHECK(strcmp(mk_version(), MK_VERSION) == 0);
     CHECK(mk_status_errno(MK_DONE, 0) == 0 && mk_status_errno(MK_CLOSED, 0) == EBADF && mk_status_errno(MK_OUT_OF_MEMORY, 0) == ENOMEM);
     CHECK(mk_status_errno(MK_REFUSED, MK_EXISTS) == EEXIST && mk_status_errno(MK_SKIPPED, 0) == 0 && mk_status_errno(MK_BUSY, 0) == EDEADLK);

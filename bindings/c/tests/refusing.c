@@ -67,6 +67,38 @@ static const char *const lines[] = {
     "write /a cgroup.kill 1", "undo", "exit 3", "undo", "write /a cgroup.procs 3", "undo", "mkdir a", "cat /a x", "undo",
     "rmdir /a-group-with-a-long-name-that-takes-memory", "undo", "undo", "undo", "undo", "undo", "undo", "undo", "undo"};
 
+/* a fault that could not be noted does not come; one whose groups could not all be removed has come */
+static int clients_calls(void) {
+    static const char names[] = "/a\0pids.max\0/a/b\0cgroup.procs";
+    size_t left_over, depth;
+    mk_text texts[2];
+    for (int call = 0; call < 3; call++) {
+        tell();
+        for (long n = 0;; n++) {
+            left = n;
+            uint32_t status = call == 0   ? mk_fail(&h, "/a", 1, EIO, &info)
+                              : call == 1 ? mk_vanish(&h, "/a", 1, &info)
+                                          : mk_read_many(&h, names, 2, texts, (char *)out, sizeof out, &info);
+            left = -1;
+            if (mk_clear_faults(&h, &left_over) != MK_DONE || left_over != (status == MK_DONE && call < 2)) return 10;
+            if (status == MK_DONE) break;
+            refused++;
+            if (status != MK_OUT_OF_MEMORY || info.len != 0 || n > 50 || !is_kept()) return 11;
+        }
+    }
+    if (texts[0].status != MK_DONE || texts[1].status != MK_DONE || mk_depth(&h, &depth) != MK_DONE) return 12;
+    for (long n = 0;; n++) {
+        if (mk_vanish(&h, "/a", 1, &info) != MK_DONE) return 13;
+        left = n;
+        uint32_t status = mk_has_group(&h, (const uint8_t *)"/a", 2, &info);
+        left = -1;
+        if (mk_clear_faults(&h, &left_over) != MK_DONE || left_over != 0 || mk_undo_to(&h, depth, &info) != MK_DONE || !is_kept()) return 14;
+        if (status == MK_REFUSED) return 0;
+        refused++;
+        if (status != MK_OUT_OF_MEMORY || n > 100) return 15;
+    }
+}
+
 int main(void) {
     for (;; refused++) {
         left = refused;
@@ -107,6 +139,8 @@ int main(void) {
         if (status != MK_OUT_OF_MEMORY || info.len != 0 || info.count != 0 || !is_kept()) return 7;
     }
     if (info.count != 3 || info.len != 10 || memcmp(out, "/\0/a\0/a/b", 10) != 0) return 8;
+    int wrong = clients_calls();
+    if (wrong != 0) return wrong;
     if (mk_close(&h) != MK_DONE) return 9;
     printf("%d\n", refused);
     return 0;

@@ -1,6 +1,6 @@
 /* A handle that threads share, signal handlers interrupt and forks copy.
  *   threads PART SECONDS
- * PART is one of own, mixed, close, signal, fork. Exits with 1 at the first check that fails; prints how many held. */
+ * PART is one of own, mixed, close, wait, signal, fork. Exits with 1 at the first check that fails; prints how many held. */
 #include "makhloeum.h"
 #include <pthread.h>
 #include <signal.h>
@@ -177,6 +177,36 @@ static void closing(double seconds) {
     }
 }
 
+/* ---- threads that wait for changes until the handle is closed */
+
+static void *wait_until_closed(void *unused) {
+    uint64_t seen = 0, changes;
+    uint32_t status;
+    (void)unused;
+    while ((status = mk_wait(&h, seen, 20000, &changes)) == MK_DONE) {
+        CHECK(changes > seen);
+        seen = changes;
+    }
+    CHECK(status == MK_CLOSED && changes == 0 && seen > 0);
+    return NULL;
+}
+
+static void waiting(double seconds) {
+    static struct asked it;
+    pthread_t threads[THREADS];
+    uint64_t rounds = 0, changes;
+    for (int i = 0; i < THREADS; i++) CHECK(pthread_create(&threads[i], NULL, wait_until_closed, NULL) == 0);
+    for (double end = now() + seconds; now() < end; rounds++) {
+        CHECK(ask(&it, "mkdir /a") == MK_DONE && ask(&it, "mkdir /a") == MK_REFUSED && ask(&it, "rmdir /a") == MK_DONE);
+        if (rounds % 16 == 0) pause_for(0.0002);
+    }
+    CHECK(mk_changes(&h, &changes) == MK_DONE && changes == 2 * rounds);
+    pause_for(0.05);
+    CHECK(mk_close(&h) == MK_DONE);
+    for (int i = 0; i < THREADS; i++) CHECK(pthread_join(threads[i], NULL) == 0);
+    CHECK(mk_open(&h) == MK_DONE);
+}
+
 /* ---- a handler that calls while a call of its own thread is running */
 
 static atomic_long busy, answered;
@@ -267,7 +297,7 @@ int main(int argc, char **argv) {
     static const struct {
         const char *name;
         void (*run)(double seconds);
-    } parts[] = {{"own", own}, {"mixed", mixed}, {"close", closing}, {"signal", signals}, {"fork", forks}};
+    } parts[] = {{"own", own}, {"mixed", mixed}, {"close", closing}, {"wait", waiting}, {"signal", signals}, {"fork", forks}};
     if (argc != 3) return 2;
     for (size_t i = 0; i < sizeof parts / sizeof *parts; i++)
         if (strcmp(argv[1], parts[i].name) == 0) {

@@ -15,13 +15,15 @@
             str(refused)                      # 'rmdir /a: Device or resource busy (hasprocesses)'
         h.undo()                              # 'write /a cgroup.procs 2'
 
-It calls libmakhloeum.so by ctypes. The library is looked for at MAKHLOEUM_LIBRARY, in this package, where bindings/build
+mounted_at serves a hierarchy to code that opens files itself, pytest_plugin has a fixture, and strategies has what Hypothesis
+needs. It calls libmakhloeum.so by ctypes. The library is looked for at MAKHLOEUM_LIBRARY, in this package, where bindings/build
 leaves it, and then where the system keeps libraries.
 """
 
 from . import errors
 from .errors import *  # noqa: F403
 from .hierarchy import Hierarchy
+from .mounted import mounted_at
 
 __version__ = "1.0.0"
-__all__ = ["Hierarchy", *errors.__all__]
+__all__ = ["Hierarchy", "mounted_at", *errors.__all__]

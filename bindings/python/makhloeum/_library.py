@@ -1,7 +1,7 @@
 """The C library: where it is, and the types of its calls.
 
 PyDLL keeps the interpreter's lock during a call. A call takes about a microsecond, and the library waits only for a call of
-another thread, which no thread of this interpreter can be in meanwhile.
+another thread, which no thread of this interpreter can be in meanwhile. `waiting` has the one call that waits, without it.
 """
 
 from __future__ import annotations
@@ -10,7 +10,7 @@ import ctypes
 import os
 from typing import Any, Iterator
 
-DONE, REFUSED, FAULT, TOO_SMALL, OUT_OF_MEMORY, SKIPPED, CLOSED, BUSY = range(8)
+DONE, REFUSED, FAULT, TOO_SMALL, OUT_OF_MEMORY, SKIPPED, CLOSED, BUSY, TIMED_OUT, FAILED = range(10)
 ANSWER_MAX = 32 + 10 * 4194303  # MK_ANSWER_MAX
 NO_LIMIT = (1 << 64) - 1  # MK_NO_LIMIT
 
@@ -28,6 +28,26 @@ class Info(ctypes.Structure):
         ("needed", ctypes.c_size_t),
         ("code", ctypes.c_uint32),
         ("error", ctypes.c_int32),
+    ]
+
+
+class Text(ctypes.Structure):
+    _fields_ = [
+        ("at", ctypes.c_size_t),
+        ("len", ctypes.c_size_t),
+        ("status", ctypes.c_uint32),
+        ("code", ctypes.c_uint32),
+        ("error", ctypes.c_int32),
+    ]
+
+
+class File(ctypes.Structure):
+    _fields_ = [
+        ("name", ctypes.c_char_p),
+        ("on_root", ctypes.c_bool),
+        ("readable", ctypes.c_bool),
+        ("writable", ctypes.c_bool),
+        ("constant", ctypes.c_char_p),
     ]
 
 
@@ -75,7 +95,16 @@ def _load() -> Any:
         "mk_populated": (number, [handle, text, ctypes.POINTER(ctypes.c_bool), info]),
         "mk_processes": (number, [handle, text, ctypes.POINTER(ctypes.c_uint32), size, info]),
         "mk_undo_to": (number, [handle, size, info]),
+        "mk_read_many": (number, [handle, text, size, ctypes.POINTER(Text), buffer, size, info]),
+        "mk_changes": (number, [handle, ctypes.POINTER(ctypes.c_uint64)]),
+        "mk_fail": (number, [handle, text, ctypes.c_uint64, ctypes.c_int32, info]),
+        "mk_vanish": (number, [handle, text, ctypes.c_uint64, info]),
+        "mk_clear_faults": (number, [handle, ctypes.POINTER(size)]),
+        "mk_file_at": (ctypes.POINTER(File), [size]),
+        "mk_put": (number, [handle, text, text, text, size, ctypes.c_int64, info]),
+        "mk_path_errno": (ctypes.c_int, [number]),
         "mk_name": (text, [number]),
+        "mk_message": (text, [number]),
         "mk_path_fault": (number, [text, size, ctypes.POINTER(size)]),
         "mk_path_message": (text, [number]),
         "mk_version": (text, []),
@@ -90,3 +119,7 @@ def _load() -> Any:
 
 
 library = _load()
+
+waiting = ctypes.CDLL(library._name).mk_wait
+waiting.restype = ctypes.c_uint32
+waiting.argtypes = [ctypes.POINTER(Handle), ctypes.c_uint64, ctypes.c_uint32, ctypes.POINTER(ctypes.c_uint64)]

@@ -16,6 +16,7 @@ class Refused(OSError):
 
     code = 0
     number = errno.EINVAL
+    explained = ""
 
     def __init__(self, reply: str, path: str | None = None, command: str = "") -> None:
         super().__init__(self.number, os.strerror(self.number), path)
@@ -23,7 +24,7 @@ class Refused(OSError):
         self.command = command
 
     def __str__(self) -> str:
-        text = f"{self.strerror} ({self.reply})"
+        text = f"{self.strerror} ({self.reply}{self.explained and ': ' + self.explained})"
         return f"{self.command}: {text}" if self.command else text
 
     def __reduce__(self) -> tuple[Any, ...]:
@@ -128,6 +129,7 @@ class BadSyntax(Fault):
     """An unknown command, a wrong number of words, or more than 8,192 bytes."""
 
     code, number = 32, errno.EINVAL
+    explained = "an unknown command, a wrong number of words, or a line that is too long"
 
 
 class BadPath(Fault):
@@ -191,18 +193,26 @@ class BadFile(Fault, FileNotFoundError):
     """There is no file of that name."""
 
     code, number = 34, errno.ENOENT
+    explained = "there is no file of that name"
 
 
 class BadDirection(Fault):
     """The file cannot be written, or cannot be read."""
 
     code, number = 35, errno.EINVAL
+    explained = "the file cannot be read or written in this way"
 
 
 class BadValue(Fault):
     """A value is no number, or outside its range."""
 
     code, number = 36, errno.EINVAL
+    explained = "the value is no number, or out of range"
+
+
+def asked_for(number: int, command: str, path: str | None) -> OSError:
+    """The error of a call that `fail` was asked to let fail: the one that Python has for the errno, as for a real file."""
+    return OSError(number, f"{os.strerror(number)} (asked for by fail, at {command})", path)
 
 
 _KINDS: tuple[type[Refused], ...] = (

@@ -4,75 +4,20 @@ from __future__ import annotations
 
 import ctypes
 import operator
-import os
-import re
 import warnings
-from typing import Any, Callable, NoReturn, Union
+from typing import Any, Callable, NoReturn
 
-from ._library import ANSWER_MAX, BUSY, CLOSED, DONE, NO_LIMIT, OUT_OF_MEMORY, SKIPPED, TOO_SMALL, Handle, Info, library
-from .errors import BY_CODE, BY_FAULT, BadPath, BadSyntax, NoGroup, Refused
-
-Path = Union[str, bytes, "os.PathLike[str]"]
-Value = Union[str, bytes, int]
-
-_WORD = re.compile(rb"[^ \t\r\n]{1,4095}")
-_BLANKS = b" \t\r\n"
-_NO_WORD = b"?"  # neither a path nor a file nor a value, so the library refuses it as what it stands for
-_FIRST_SIZE = 512
-
-
-def _bytes(text: Path | Value) -> bytes:
-    return text if isinstance(text, bytes) else str(text).encode("utf-8", "surrogateescape")
-
-
-def _text(text: Path | Value) -> str:
-    return text.decode("utf-8", "surrogateescape") if isinstance(text, bytes) else str(text)
-
-
-def _word(text: Path | Value) -> bytes:
-    """The text as one word of a line. A text that is not one word would be read as several."""
-    word = _bytes(text)
-    return word if _WORD.fullmatch(word) else _NO_WORD
-
-
-def _pid(number: int) -> bytes:
-    number = operator.index(number)
-    return b"%d" % number if 0 <= number < 1 << 64 else _NO_WORD
-
-
-def _shown(answer: bytes) -> str:
-    """The text behind an answer's first line."""
-    return "".join(line[2:] + "\n" for line in answer.decode().split("\n")[1:-1])
-
-
-def _path_refusal(path: bytes, command: str) -> BadPath:
-    position = ctypes.c_size_t()
-    fault = library.mk_path_fault(path, len(path), ctypes.byref(position))
-    if fault == 0:
-        return BadPath("path", _text(path), command)
-    message = library.mk_path_message(fault).decode()
-    refused = BY_FAULT[fault](f"path: {message}, at {position.value}", _text(path), command)
-    refused.position = position.value
-    return refused
-
-
-def _raise(status: int, code: int, words: str, path: Path | None, command: str) -> NoReturn:
-    if status == OUT_OF_MEMORY:
-        raise MemoryError(f"{command}: out of memory")
-    if status == CLOSED:
-        raise ValueError("the hierarchy is closed")
-    if status == BUSY:
-        raise RuntimeError("a call of this thread is running")
-    kind = BY_CODE[code]
-    if kind is BadPath and path is not None:
-        raise _path_refusal(_bytes(path), command)
-    raise kind(words, None if path is None else _text(path), command)
-
+from ._changes import Changes
+from ._faults import Faults
+from ._library import ANSWER_MAX, DONE, NO_LIMIT, SKIPPED, TOO_SMALL, Handle, Info, library
+from ._many import Many
+from ._words import _FIRST_SIZE, _NO_WORD, Path, Value, _bytes, _path_refusal, _pid, _raise, _shown, _text, _value, _word
+from .errors import BY_CODE, BadSyntax, NoGroup, Refused
 
 _Call = Callable[[Any, int, Any], int]
 
 
-class Hierarchy:
+class Hierarchy(Changes, Faults, Many):
     """A hierarchy of groups: at first the root alone, and process 1 in it.
 
     A context manager, once: its end frees the engine. Paths are texts as '/' and '/a/b', pids numbers. Threads may share a
@@ -143,7 +88,7 @@ class Hierarchy:
                 break
             size = 1 << max(info.needed - 1, size).bit_length()
         words = buffer[: info.len].decode().rstrip("\n").split(" ", 2)
-        _raise(status, info.code, words[2] if len(words) > 2 else "", path, _text(command))
+        _raise(status, info.code, words[2] if len(words) > 2 else "", path, _text(command), info.error)
 
     def _line(self, line: bytes, command: str | bytes, path: Path | None = None) -> str:
         answer = self._told(
@@ -182,8 +127,7 @@ class Hierarchy:
 
     def write(self, path: Path, file: str | bytes, value: Value) -> None:
         """Writes a file of the group: a pid to cgroup.procs, a limit or 'max' to a limit, 1 to cgroup.kill."""
-        word = _pid(value) if isinstance(value, int) else _word(_bytes(value).strip(_BLANKS))
-        line = b"write %b %b %b" % (_word(path), _word(file), word)
+        line = b"write %b %b %b" % (_word(path), _word(file), _value(value))
         self._line(line, f"write {_text(path)} {_text(file)} {_text(value)}", path)
 
     def where(self, pid: int) -> str:
@@ -245,30 +189,30 @@ class Hierarchy:
         word = _NO_WORD if b"\0" in word else word
         status = call(self._at, word, ctypes.byref(value), ctypes.byref(info))
         if status != DONE:
-            self._refuse(status, info.code, operation, path)
+            self._refuse(status, info, operation, path)
         return value.value
 
-    def _refuse(self, status: int, code: int, operation: str, path: Path) -> NoReturn:
-        name = (library.mk_name(code) or b"").decode()
-        words = f"{name} {_text(path)}" if BY_CODE.get(code) is NoGroup else name
-        _raise(status, code, words, path, f"{operation} {_text(path)}")
+    def _refuse(self, status: int, info: Any, operation: str, path: Path) -> NoReturn:
+        name = (library.mk_name(info.code) or b"").decode()
+        words = f"{name} {_text(path)}" if BY_CODE.get(info.code) is NoGroup else name
+        _raise(status, info.code, words, path, operation, info.error)
 
     def current(self, path: Path) -> int:
         """pids.current: the number of processes of the group and of the groups below it."""
-        return int(self._number(library.mk_current, ctypes.c_uint64(), "current", path))
+        return int(self._number(library.mk_current, ctypes.c_uint64(), f"current {_text(path)}", path))
 
     def peak(self, path: Path) -> int:
         """pids.peak: the largest pids.current so far."""
-        return int(self._number(library.mk_peak, ctypes.c_uint64(), "peak", path))
+        return int(self._number(library.mk_peak, ctypes.c_uint64(), f"peak {_text(path)}", path))
 
     def limit(self, path: Path) -> int | None:
         """pids.max; None if there is no limit."""
-        value = int(self._number(library.mk_limit, ctypes.c_uint64(), "limit", path))
+        value = int(self._number(library.mk_limit, ctypes.c_uint64(), f"limit {_text(path)}", path))
         return None if value == NO_LIMIT else value
 
     def populated(self, path: Path) -> bool:
         """Whether the group or a group below it has a process."""
-        return bool(self._number(library.mk_populated, ctypes.c_bool(), "populated", path))
+        return bool(self._number(library.mk_populated, ctypes.c_bool(), f"populated {_text(path)}", path))
 
     def processes(self, path: Path) -> list[int]:
         """The pids of the group itself, ascending."""
@@ -280,7 +224,7 @@ class Hierarchy:
             if status == DONE:
                 return pids[: info.count]
             if status != TOO_SMALL:
-                self._refuse(status, info.code, "processes", path)
+                self._refuse(status, info, f"processes {_text(path)}", path)
             room = 1 << (info.needed - 1).bit_length()
 
     def mark(self) -> int:

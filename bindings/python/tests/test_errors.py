@@ -4,12 +4,14 @@ import copy
 import errno
 import itertools
 import multiprocessing
+import pathlib
 import pickle
 
 import pytest
 
 import makhloeum
 from makhloeum import BadByte, BadFile, BadPath, BadValue, Hierarchy, NoGroup, Refused
+from makhloeum._library import library
 
 
 @pytest.fixture
@@ -32,8 +34,8 @@ TEXTS = [
     (lambda h: h.rmdir("/"), "rmdir /: Device or resource busy (rootfixed)"),
     (lambda h: h.fork(1, 1), "fork 1 1: File exists (pidinuse 1)"),
     (lambda h: h.exit(9), "exit 9: No such process (noprocess 9)"),
-    (lambda h: h.read("/a", "x"), "read /a x: No such file or directory (file)"),
-    (lambda h: h.write("/a", "pids.max", -1), "write /a pids.max -1: Invalid argument (value)"),
+    (lambda h: h.read("/a", "x"), "read /a x: No such file or directory (file: there is no file of that name)"),
+    (lambda h: h.write("/a", "pids.max", -1), "write /a pids.max -1: Invalid argument (value: the value is no number, or out of range)"),
     (lambda h: h.mkdir("/my service"), "mkdir /my service: Invalid argument (path: a name cannot have this byte, at 3)"),
     (lambda h: h.children("/x"), "children /x: No such file or directory (nogroup /x)"),
     (lambda h: h.groups("/x"), "groups /x: No such file or directory (nogroup /x)"),
@@ -102,6 +104,14 @@ def test_the_fault_of_a_path_and_its_place(h, path, kind, position):
         assert f"at {position}" in str(refused)
 
 
+def test_faults_are_explained_as_by_the_library(h):
+    for kind in (makhloeum.BadSyntax, BadFile, makhloeum.BadDirection, BadValue):
+        assert library.mk_message(kind.code).decode() == kind.explained
+    assert str(refusal(lambda: h.read("/a", "cgroup.kill"))) == (
+        "read /a cgroup.kill: Invalid argument (direction: the file cannot be read or written in this way)"
+    )
+
+
 WORDS = ["", " ", "/b ", " /b", "/b\t", "/b\n", "/b\r", "/b pids.max", "/b pids.max 5", "#", "x y", "pids.max ", "pids.max 5",
          "\n", "/c\nmkdir /d", "1 2", "cgroup.procs 1", "max\x0b", "5 #", "\x0b5"]
 
@@ -137,3 +147,34 @@ def test_blanks_around_a_value_are_dropped_as_in_a_file(h):
     for value in ("5\n", " 5", b"\t5\r\n", 5):
         h.write("/a", "pids.max", value)
         assert h.read("/a", "pids.max") == "5\n"
+
+
+def test_what_is_no_text_is_a_type_error_as_for_os(h):
+    """None, numbers and other objects are no paths: they don't become texts like 'None'."""
+    for wrong in (None, 5, 5.0, ["/a"], object()):
+        for call in (h.mkdir, h.rmdir, h.children, h.groups, h.has_group, h.current, h.processes, lambda it: h.read(it, "pids.max"),
+                     lambda it: h.read("/a", it), lambda it: h.write(it, "pids.max", 5), lambda it: h.write("/a", it, 5), h.line, h.vanish,
+                     lambda it: h.fail(it, errno.EIO), lambda it: h.read_many([(it, "pids.max")])):
+            with pytest.raises(TypeError):
+                call(wrong)
+    for wrong in (None, 5.0, ["5"], object()):
+        with pytest.raises(TypeError, match="no limit is 'max'"):
+            h.write("/a", "pids.max", wrong)
+    assert h.depth() == 2
+
+
+def test_paths_may_be_of_pathlib_and_bytes(h):
+    h.mkdir(pathlib.PurePosixPath("/a") / "x")
+    h.mkdir(b"/a/y")
+    assert h.children(pathlib.PurePosixPath("/a")) == h.children(b"/a") == ["x", "y"]
+    refused = refusal(lambda: h.mkdir(pathlib.PurePosixPath("/a")))
+    assert str(refused) == "mkdir /a: File exists (exists)" and refused.filename == "/a"
+
+
+def test_a_closed_hierarchy_names_the_call():
+    h = Hierarchy()
+    h.close()
+    for call, text in ((lambda: h.mkdir("/a"), "mkdir /a"), (lambda: h.current("/a"), "current /a"), (h.undo, "undo"), (h.groups, "groups /"),
+                       (lambda: h.read_many([("/a", "pids.max")]), "read_many"), (h.changes, "changes"), (lambda: h.wait(0), "wait")):
+        with pytest.raises(ValueError, match=f"^{text}: the hierarchy is closed$"):
+            call()

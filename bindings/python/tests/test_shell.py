@@ -27,7 +27,8 @@ def test_standard_input_and_scripts(tmp_path):
     ran = run(text=f"source {script}\nls /a/\nmkdir /a\nnonsense\n")
     assert ran.returncode == 1
     assert ran.stdout.endswith(
-        "children /a/: Invalid argument (path: a name is empty, at 3)\nmkdir /a: File exists (exists)\nnonsense: Invalid argument (syntax)\n"
+        "children /a/: Invalid argument (path: a name is empty, at 3)\nmkdir /a: File exists (exists)\n"
+        "nonsense: Invalid argument (syntax: an unknown command, a wrong number of words, or a line that is too long)\n"
     )
     ran = run(str(tmp_path / "missing"))
     assert ran.returncode == 1 and "No such file" in ran.stderr

@@ -1,0 +1,41 @@
+/* Lines of the trace language, made of arguments, and the texts of their answers.
+ *
+ * Arguments become words of a line. One that is not one word would be read as several, so NO_WORD stands for it: it is
+ * neither a path nor a file nor a value, and the engine refuses it in the order in which it refuses words. */
+#ifndef MAKHLOEUM_LINES_H
+#define MAKHLOEUM_LINES_H
+
+#include "private.h"
+
+enum {
+    PATH_BYTES = 4095,
+    WORD_BYTES = 255,
+    LINE_BYTES = PATH_BYTES + 2 * WORD_BYTES + 16,
+    /* longer than each answer but a long file's: a path, a command, or a few numbers */
+    ANSWER_BYTES = LINE_BYTES + 64,
+};
+
+struct line {
+    char text[LINE_BYTES];
+    size_t len;
+};
+
+/* A line with a command; or with a command and a path. */
+void command_line(struct line *line, const char *command);
+void begin_line(struct line *line, const char *command, const char *path);
+
+/* Adds a word: any text that is one, a text as it is, a pid, a value without the blanks at its ends. */
+void add_word(struct line *line, const char *word);
+void add(struct line *line, const char *text);
+void add_pid(struct line *line, int64_t pid);
+void add_value(struct line *line, const char *value);
+
+/* mk0_line, with the faults that were asked for. */
+uint32_t answer_line(mk0_handle *engine, uint64_t number, const uint8_t *line, size_t len, uint8_t *out, size_t size,
+                     mk0_info *told);
+uint32_t ask(mk0_handle *engine, const struct line *line, char *out, size_t size, mk0_info *told);
+
+/* The text behind the first line of an answer, without the mark before each line; may be in the same memory. Its length. */
+size_t take_text(const char *answer, size_t len, char *text);
+
+#endif

@@ -1,0 +1,75 @@
+/* The texts of many files in one call, all of one state. */
+#include "lines.h"
+#include <string.h>
+
+static uint32_t next(mk0_handle *engine, const char *path, const char *file, char *out, size_t size, mk0_info *told) {
+    struct line line;
+    begin_line(&line, "cat", path);
+    add_word(&line, file);
+    *told = (mk0_info){0};
+    return ask(engine, &line, out, size, told);
+}
+
+/* One text behind `used` bytes of the buffer. Returns how many bytes it takes there, or more than are left. */
+static size_t read_one(mk0_handle *engine, const char *path, const char *file, char *out, size_t used, size_t size,
+                       mk_text *text) {
+    char answer[ANSWER_BYTES];
+    mk0_info told;
+    size_t left = used < size ? size - used : 0, len = 0;
+    char *from = answer;
+    uint32_t status = next(engine, path, file, answer, sizeof answer, &told);
+    if (status == MK_TOO_SMALL) { /* a long answer is made where its text goes */
+        from = out + used;
+        status = left > 0 ? next(engine, path, file, from, left, &told) : status;
+        if (status == MK_TOO_SMALL) {
+            *text = (mk_text){.status = status};
+            return told.needed;
+        }
+    }
+    if (status == MK_DONE) len = take_text(from, told.len, from);
+    mk_info info;
+    tell(&info, status, &told);
+    *text = (mk_text){.at = used, .len = len, .status = status, .code = info.code, .error = info.error};
+    if (len + 1 > left) return len + 1;
+    if (from == answer) memcpy(out + used, answer, len);
+    out[used + len] = 0;
+    return len + 1;
+}
+
+/* Returns how many bytes all texts take; with MK_OUT_OF_MEMORY they are not all there. */
+static size_t read_all(mk0_handle *engine, const char *names, size_t count, mk_text *texts, char *out, size_t size,
+                       uint32_t *status) {
+    size_t used = 0;
+    for (size_t i = 0; i < count && *status == MK_DONE; i++) {
+        const char *path = names, *file = path + strlen(path) + 1;
+        names = file + strlen(file) + 1;
+        used += read_one(engine, path, file, out, used, size, &texts[i]);
+        if (texts[i].status == MK_OUT_OF_MEMORY) *status = MK_OUT_OF_MEMORY;
+    }
+    return used;
+}
+
+PUBLIC uint32_t mk_read_many(mk_handle *h, const char *names, size_t count, mk_text *texts, char *out, size_t size,
+                             mk_info *info) {
+    mk0_handle *engine;
+    mk0_info told = {0};
+    uint32_t status = enter(h, &engine);
+    if (status != MK_DONE) return tell(info, status, &told);
+    struct slot *slot = slot_of(engine);
+    struct fault *faults = slot->faults;
+    /* Faults come once, so a call that will be made again must not meet them: without them no text is shorter. */
+    slot->faults = NULL;
+    size_t used = read_all(engine, names, count, texts, out, size, &status);
+    slot->faults = faults;
+    if (status == MK_DONE && used <= size && faults != NULL)
+        used = read_all(engine, names, count, texts, out, size, &status);
+    leave(engine);
+    if (status == MK_DONE && used > size) {
+        told.needed = used;
+        status = MK_TOO_SMALL;
+    } else if (status == MK_DONE) {
+        told.len = used;
+        told.count = count;
+    }
+    return tell(info, status, &told);
+}

@@ -1,0 +1,51 @@
+package makhloeum
+
+// #include "makhloeum.h"
+import "C"
+
+import (
+	"context"
+	"runtime"
+	"time"
+)
+
+// A wait looks at its context once in such a time.
+const slice = 50 * time.Millisecond
+
+// Changes returns how many calls have changed the hierarchy, undos included.
+func (h *Hierarchy) Changes() (uint64, error) {
+	var changes C.uint64_t
+	status := C.mk_changes(&h.handle, &changes)
+	runtime.KeepAlive(h)
+	if status != C.MK_DONE {
+		return 0, failure(command{text: "changes"}, uint32(status), C.mk_info{}, nil)
+	}
+	return uint64(changes), nil
+}
+
+// Wait waits until Changes is another number than seen, and returns it. The error is that of the context when it ends, or
+// ErrClosed when the hierarchy is closed. Each wait keeps a thread.
+func (h *Hierarchy) Wait(ctx context.Context, seen uint64) (uint64, error) {
+	defer runtime.KeepAlive(h)
+	for {
+		var changes C.uint64_t
+		left := slice
+		if end, ok := ctx.Deadline(); ok && time.Until(end) < left {
+			left = time.Until(end)
+		}
+		if left < 0 {
+			left = 0
+		}
+		milliseconds := (left + time.Millisecond - 1) / time.Millisecond
+		status := C.mk_wait(&h.handle, C.uint64_t(seen), C.uint32_t(milliseconds), &changes)
+		if status == C.MK_DONE {
+			return uint64(changes), nil
+		}
+		if status != C.MK_TIMED_OUT {
+			return 0, failure(command{text: "wait"}, uint32(status), C.mk_info{}, nil)
+		}
+		if err := ctx.Err(); err != nil {
+			return 0, err
+		}
+	}
+}

@@ -1,0 +1,51 @@
+package makhloeum
+
+// #include "makhloeum.h"
+// #include <stdlib.h>
+import "C"
+
+import (
+	"fmt"
+	"runtime"
+	"syscall"
+	"unsafe"
+)
+
+// Fail lets the nth call from now on that names the path fail with the errno; it changes nothing. nth is 1 for the next. It is
+// for tests of programs that use a hierarchy.
+func (h *Hierarchy) Fail(path string, nth uint64, errno syscall.Errno) error {
+	return h.plan(fmt.Sprintf("fail %s", path), path, func(text *C.char, info *C.mk_info) C.uint32_t {
+		return C.mk_fail(&h.handle, text, C.uint64_t(nth), C.int32_t(errno), info)
+	})
+}
+
+// Vanish lets the group vanish just before the nth call from now on that names it, as if another process had killed and removed
+// it with all groups below it: after Vanish("/a", 1), Children("/") lists it and Read("/a", ..) is refused with NoGroup.
+func (h *Hierarchy) Vanish(path string, nth uint64) error {
+	return h.plan(fmt.Sprintf("vanish %s", path), path, func(text *C.char, info *C.mk_info) C.uint32_t {
+		return C.mk_vanish(&h.handle, text, C.uint64_t(nth), info)
+	})
+}
+
+func (h *Hierarchy) plan(what, path string, plan func(*C.char, *C.mk_info) C.uint32_t) error {
+	text := cPath(path)
+	defer C.free(unsafe.Pointer(text))
+	var info C.mk_info
+	status := plan(text, &info)
+	runtime.KeepAlive(h)
+	if status == C.MK_DONE {
+		return nil
+	}
+	return failure(command{text: what, path: path, hasPath: true}, uint32(status), info, nil)
+}
+
+// ClearFaults drops the faults that have not come, and returns how many they were.
+func (h *Hierarchy) ClearFaults() (int, error) {
+	var left C.size_t
+	status := C.mk_clear_faults(&h.handle, &left)
+	runtime.KeepAlive(h)
+	if status != C.MK_DONE {
+		return 0, failure(command{text: "clear faults"}, uint32(status), C.mk_info{}, nil)
+	}
+	return int(left), nil
+}

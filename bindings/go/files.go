@@ -1,0 +1,82 @@
+package makhloeum
+
+// #include "makhloeum.h"
+// #include <stdlib.h>
+import "C"
+
+import (
+	"io/fs"
+	"runtime"
+	"strings"
+	"syscall"
+	"unsafe"
+)
+
+// file is a row of the library's table of files.
+type file struct {
+	name     string
+	onRoot   bool
+	writable bool
+	constant string
+}
+
+// The files of a mount with --extra that can be read, in the order of their names.
+var files = readableFiles()
+
+func readableFiles() []file {
+	var all []file
+	for i := C.size_t(0); ; i++ {
+		it := C.mk_file_at(i)
+		if it == nil {
+			return all
+		}
+		if !it.readable {
+			continue
+		}
+		row := file{name: C.GoString(it.name), onRoot: bool(it.on_root), writable: bool(it.writable)}
+		if it.constant != nil {
+			row.constant = C.GoString(it.constant)
+		}
+		all = append(all, row)
+	}
+}
+
+func (it file) mode() fs.FileMode {
+	if it.writable {
+		return 0o644
+	}
+	return 0o444
+}
+
+func fileNamed(name, group string) (file, bool) {
+	for _, it := range files {
+		if it.name == name {
+			return it, it.onRoot || group != "/"
+		}
+	}
+	return file{}, false
+}
+
+// put writes a file as a write to a mount's does. The error is an errno of the mount, and for a refusal a *Refused beside it.
+func (h *Hierarchy) put(group, name string, data []byte, self int) error {
+	if strings.Contains(name, "\x00") {
+		return syscall.ENOENT
+	}
+	path, file := cPath(group), C.CString(name)
+	defer C.free(unsafe.Pointer(path))
+	defer C.free(unsafe.Pointer(file))
+	var info C.mk_info
+	status := C.mk_put(&h.handle, path, file, (*C.char)(unsafe.Pointer(at(data))), C.size_t(len(data)), C.int64_t(self), &info)
+	runtime.KeepAlive(h)
+	switch status {
+	case C.MK_DONE:
+		return nil
+	case C.MK_REFUSED, C.MK_FAULT, C.MK_FAILED:
+		return syscall.Errno(info.error)
+	default:
+		return failure(command{text: "write"}, uint32(status), info, nil)
+	}
+}
+
+// mkdirErrno is that of a mkdir of such a path in a mount.
+func (fault PathFault) mkdirErrno() error { return syscall.Errno(C.mk_path_errno(C.uint32_t(fault))) }

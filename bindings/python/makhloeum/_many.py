@@ -1,0 +1,53 @@
+"""Many files in one call."""
+
+from __future__ import annotations
+
+import ctypes
+from typing import Any, Iterable
+
+from ._library import DONE, TOO_SMALL, Info, Text, library
+from ._words import _NO_WORD, Path, _bytes, _raise, _text
+from .errors import BY_CODE, NoGroup, Refused
+
+_BYTES_EACH = 64
+
+
+def _part(text: Path) -> bytes:
+    """A text that ends with a zero byte, and has no other."""
+    part = _bytes(text)
+    return (_NO_WORD if b"\0" in part else part) + b"\0"
+
+
+class Many:
+    _at: Any
+
+    def read_many(self, files: Iterable[tuple[Path, str]]) -> list[str | Refused | OSError]:
+        """The texts of many files, given as pairs of a path and a file's name. All are of one state: no other thread's command
+        comes in between. A file that can't be read has the exception in the place of its text, so a group that was removed since it was
+        listed takes nothing from the others."""
+        pairs = list(files)
+        names = b"".join(_part(path) + _part(file) for path, file in pairs)
+        texts, size = (Text * len(pairs))(), _BYTES_EACH * len(pairs) + 64
+        while True:
+            out, info = ctypes.create_string_buffer(size), Info()
+            status = library.mk_read_many(self._at, names, len(pairs), texts, out, size, ctypes.byref(info))
+            if status == DONE:
+                break
+            if status != TOO_SMALL:
+                _raise(status, info.code, "", None, "read_many")
+            size = info.needed + _BYTES_EACH
+        told = out.raw
+        return [_text_of(told, text, *pair) for text, pair in zip(texts, pairs)]
+
+
+def _text_of(told: bytes, text: Text, path: Path, file: str) -> str | Refused | OSError:
+    return told[text.at : text.at + text.len].decode() if text.status == DONE else _error(text, path, file)
+
+
+def _error(text: Text, path: Path, file: str) -> Refused | OSError:
+    name = (library.mk_name(text.code) or b"").decode()
+    words = f"{name} {_text(path)}" if BY_CODE.get(text.code) is NoGroup else name
+    try:
+        _raise(text.status, text.code, words, path, f"read {_text(path)} {_text(file)}", text.error)
+    except OSError as error:
+        return error

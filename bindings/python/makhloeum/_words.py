@@ -1,0 +1,81 @@
+"""Words of a command, texts of an answer, and the exceptions for a status."""
+
+from __future__ import annotations
+
+import ctypes
+import operator
+import os
+import re
+from typing import NoReturn, Union
+
+from ._library import BUSY, CLOSED, FAILED, OUT_OF_MEMORY, library
+from .errors import BY_CODE, BY_FAULT, BadPath, asked_for
+
+Path = Union[str, bytes, "os.PathLike[str]"]
+Value = Union[str, bytes, int]
+
+_WORD = re.compile(rb"[^ \t\r\n]{1,4095}")
+_BLANKS = b" \t\r\n"
+_NO_WORD = b"?"  # neither a path nor a file nor a value, so the library refuses it as what it stands for
+_FIRST_SIZE = 512
+
+
+def _bytes(text: Path) -> bytes:
+    text = os.fspath(text)
+    return text if isinstance(text, bytes) else text.encode("utf-8", "surrogateescape")
+
+
+def _text(text: Path | Value) -> str:
+    text = text if isinstance(text, int) else os.fspath(text)
+    return text.decode("utf-8", "surrogateescape") if isinstance(text, bytes) else str(text)
+
+
+def _word(text: Path) -> bytes:
+    """The text as one word of a line. A text that is not one word would be read as several."""
+    word = _bytes(text)
+    return word if _WORD.fullmatch(word) else _NO_WORD
+
+
+def _value(value: Value) -> bytes:
+    """A value as a word: without the blanks at its ends."""
+    if isinstance(value, int):
+        return _pid(value)
+    if not isinstance(value, (str, bytes)):
+        raise TypeError(f"a value is a str, bytes or an int, not {type(value).__name__}; no limit is 'max'")
+    return _word(_bytes(value).strip(_BLANKS))
+
+
+def _pid(number: int) -> bytes:
+    number = operator.index(number)
+    return b"%d" % number if 0 <= number < 1 << 64 else _NO_WORD
+
+
+def _shown(answer: bytes) -> str:
+    """The text behind an answer's first line."""
+    return "".join(line[2:] + "\n" for line in answer.decode().split("\n")[1:-1])
+
+
+def _path_refusal(path: bytes, command: str) -> BadPath:
+    position = ctypes.c_size_t()
+    fault = library.mk_path_fault(path, len(path), ctypes.byref(position))
+    if fault == 0:
+        return BadPath("path", _text(path), command)
+    message = library.mk_path_message(fault).decode()
+    refused = BY_FAULT[fault](f"path: {message}, at {position.value}", _text(path), command)
+    refused.position = position.value
+    return refused
+
+
+def _raise(status: int, code: int, words: str, path: Path | None, command: str, error: int = 0) -> NoReturn:
+    if status == OUT_OF_MEMORY:
+        raise MemoryError(f"{command}: out of memory")
+    if status == CLOSED:
+        raise ValueError(f"{command}: the hierarchy is closed")
+    if status == BUSY:
+        raise RuntimeError(f"{command}: a call of this thread is running")
+    if status == FAILED:
+        raise asked_for(error, command, None if path is None else _text(path))
+    kind = BY_CODE[code]
+    if kind is BadPath and path is not None:
+        raise _path_refusal(_bytes(path), command)
+    raise kind(words, None if path is None else _text(path), command)

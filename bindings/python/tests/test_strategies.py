@@ -1,0 +1,97 @@
+"""The Hypothesis strategies, and the state machine beside the plain model."""
+
+import pytest
+
+hypothesis = pytest.importorskip("hypothesis")
+
+from flat_model import Model, No  # noqa: E402
+from hypothesis import HealthCheck, given, settings  # noqa: E402
+from hypothesis import strategies as st  # noqa: E402
+from hypothesis.stateful import invariant, run_state_machine_as_test  # noqa: E402
+
+from makhloeum import Hierarchy, Refused  # noqa: E402
+from makhloeum.strategies import HierarchyMachine, commands, limits, names, paths, pids  # noqa: E402
+
+FEW = settings(max_examples=200, deadline=None, database=None, derandomize=True, suppress_health_check=list(HealthCheck))
+
+
+@FEW
+@given(names(), names())
+def test_names_are_names(first, second):
+    with Hierarchy() as h:
+        h.mkdir(f"/{first}")
+        h.mkdir(f"/{first}/{second}")
+        assert h.children("/") == [first]
+
+
+@FEW
+@given(paths(32, names(255)), pids(), limits())
+def test_paths_pids_and_limits_are_accepted(path, pid, limit):
+    with Hierarchy() as h:
+        if len(path) < 4096:
+            assert h.has_group(path) == (path == "/")
+        h.mkdir("/a")
+        h.write("/a", "pids.max", limit)
+        if pid != 1:
+            h.fork(1, pid)
+            assert h.processes("/") == [1, pid]
+
+
+@FEW
+@given(st.lists(commands(paths(3, st.sampled_from("ab")), pids(6)), max_size=40))
+def test_commands_are_answered_as_by_the_model(lines):
+    model = Model()
+    with Hierarchy() as h:
+        for line in lines:
+            try:
+                assert h.line(line) == model.line(line)
+            except Refused as refused:
+                with pytest.raises(No) as no:
+                    model.line(line)
+                assert str(no.value) == refused.reply
+            except No as no:
+                pytest.fail(f"{line}: the model refuses it: {no}")
+
+
+class BesideTheModel(HierarchyMachine):
+    def __init__(self):
+        super().__init__()
+        self.model = Model()
+        self.kinds = KINDS
+
+    def do(self, line):
+        told = super().do(line)
+        try:
+            want = self.model.line(line)
+        except No as no:
+            assert isinstance(told, Refused) and told.reply == str(no)
+        else:
+            assert told == want
+        self.kinds.add(line.split()[0] + (" refused" if isinstance(told, Refused) else ""))
+        return told
+
+    @invariant()
+    def groups_and_counts_are_the_models(self):
+        assert self.h.groups() == self.model.listed() and self.h.depth() == len(self.model.past)
+        for group in self.h.groups()[1:]:
+            assert (self.h.current(group), self.h.peak(group)) == (self.model.current(group), self.model.groups[group]["peak"])
+
+
+KINDS = set()
+
+
+def test_the_state_machine_reaches_everything():
+    run_state_machine_as_test(BesideTheModel, settings=settings(FEW, max_examples=60, stateful_step_count=40))
+    assert KINDS >= {word + end for word in ("mkdir", "rmdir", "fork", "exit", "write", "undo") for end in ("", " refused")}
+
+
+def test_a_wrong_monitor_is_found():
+    """An invariant of a subclass that doesn't hold is found, and the hierarchy is closed."""
+
+    class Wrong(HierarchyMachine):
+        @invariant()
+        def no_process_ever_joins_a_group(self):
+            assert not any(self.h.populated(group) for group in self.h.groups()[1:])
+
+    with pytest.raises(AssertionError):
+        run_state_machine_as_test(Wrong, settings=settings(FEW, max_examples=100, stateful_step_count=30, print_blob=False))
