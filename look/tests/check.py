@@ -93,7 +93,7 @@ def faulty(name, *more):
     return Mount(FAULTY, "-s", "-f", *more, "AT", FAULT=name)
 
 
-def check(directory, *words, seconds=120):
+def check(directory, *words, seconds=300):
     ran = subprocess.run([*CHECK, directory, *words], capture_output=True, text=True, timeout=seconds)
     return ran.returncode, ran.stdout, ran.stderr
 
@@ -151,7 +151,7 @@ def caught(name):
     """What went wrong, or ''; and how long it took."""
     began = time.monotonic()
     with faulty(name) as m:
-        status, out, said = check(m.at, "--most", "1", "--shorten", "15", "--time", "50", "--count", "100000", seconds=100)
+        status, out, said = check(m.at, "--no-worked", "--most", "1", "--shorten", "15", "--time", "50", "--count", "100000")
         seconds, script = time.monotonic() - began, script_of(out)
         if status != 1 or not script:
             return f"status {status}: {out}{said}", seconds
@@ -239,6 +239,7 @@ def unusable():
     with Mount(MAKHLOEUM, "mount", "AT", "--foreground") as m:
         refused("a mount that takes no real process", m.at, "cannot be moved")
         step("nothing is left in it either", m.groups() == [], m.groups())
+    os.chmod(locked, 0o755)
     shutil.rmtree(home)
 
 

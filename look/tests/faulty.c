@@ -59,9 +59,9 @@ static const struct kind *cut(const char *path, char group[PATH_MAX])
 	const char *name = strrchr(path, '/') + 1;
 	snprintf(group, PATH_MAX, "%s", path);
 	for (size_t i = 0; i < sizeof kinds / sizeof *kinds; i++)
-		if (strcmp(kinds[i].name, name) == 0) {
-			group[name - path - (name - path > 1)] = 0;
-			return kinds[i].on_root || strcmp(group, "/") ? &kinds[i] : NULL;
+		if (strcmp(kinds[i].name, name) == 0 && (kinds[i].on_root || name > path + 1)) {
+			group[name > path + 1 ? name - path - 1 : 1] = 0;
+			return &kinds[i];
 		}
 	return NULL;
 }

@@ -109,7 +109,7 @@ class _Check:
         return lambda engine: None if self._end is not None and time.monotonic() > self._end else following(engine)
 
     def _retry(self, way: str, commands: list[Words]) -> Optional[Difference]:
-        return self._player.play(way, listed(commands), Counts())
+        return self._player.play(way, listed(commands))
 
     def _show(self, name: str, found: Difference) -> None:
         if found.kind() in self._kinds:
@@ -117,11 +117,13 @@ class _Check:
         self._kinds.add(found.kind())
         self.progress.clear()
         self._player.on_operation = lambda: None
+        began = time.monotonic()
         if found.hangs:
             short = found._replace(played=[words for words in found.played[:-1] if words[0] != "cat"] + found.played[-1:])
         else:
             short = shorten(found, lambda commands: self._retry(found.way, commands), self._options.shorten)
         self._player.on_operation = self.progress
+        self.counts.began += time.monotonic() - began  # the rate is that of what is counted
         self._kinds.add(short.kind())
         print(f"difference: {' '.join(short.played[-1])}: {'; '.join(explained(short))}")
         print(f"({name}; {len(found.played)} operations, made {len(short.played)})")

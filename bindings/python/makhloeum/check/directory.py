@@ -23,7 +23,6 @@ from .watching import Watch
 
 CGROUP2_MAGIC, FUSE_MAGIC = 0x63677270, 0x65735546
 NO_PID = 4194303
-_CHANGE_SECONDS = 2.0
 
 
 def file_read(path: str) -> str:
@@ -74,9 +73,10 @@ def _remove_once(path: str) -> list[str]:
 
 
 class Groups:
-    """The groups and processes of one sequence."""
+    """The groups and processes of one sequence. `patience` is how many seconds a change and a kill may take."""
 
-    def __init__(self, own: str, number: int, way: str, keep: list[socket.socket]) -> None:
+    def __init__(self, own: str, number: int, way: str, patience: float, keep: list[socket.socket]) -> None:
+        self._patience = patience
         self.way, self._controlled = way, os.path.exists(os.path.join(own, "cgroup.subtree_control"))
         self.top, self.home = os.path.join(own, f"top{number}"), os.path.join(own, f"home{number}")
         self.processes: dict[int, Process] = {}
@@ -170,7 +170,7 @@ class Groups:
 
     def _killed(self, dying: list[int]) -> str:
         """The processes that are alive after a kill."""
-        wait_for_end([self.processes[number].pid for number in dying if number in self.processes], _CHANGE_SECONDS)
+        wait_for_end([self.processes[number].pid for number in dying if number in self.processes], self._patience)
         alive = sorted(number for number, process in self.processes.items() if is_alive(process.pid))
         for number in set(self.processes) - set(alive):
             self.processes.pop(number).end(0)
@@ -198,7 +198,7 @@ class Groups:
         return ""
 
     def told(self, path: str, is_due: bool) -> str:
-        return self.watches[path].take(is_due, _CHANGE_SECONDS)
+        return self.watches[path].take(is_due, self._patience)
 
     def unmake(self, path: str) -> str:
         """Removes a group that the engine refused to make."""

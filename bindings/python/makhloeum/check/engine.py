@@ -15,6 +15,7 @@ FILES = (
 )
 ON_ROOT = ("cgroup.procs", "cgroup.stat", "cgroup.max.descendants", "cgroup.max.depth")
 MOST_PROCESSES = 48
+DEEPEST, LONGEST = 24, 3000  # names and bytes of a path: the directory's own path has some before it
 EVENTS = "cgroup.events"
 Words = List[str]
 
@@ -88,9 +89,9 @@ class Engine:
             return self._can_live(words)
         path = words[1]
         if kind in ("watch", "told"):
-            return path != "/" and self._is_group(path) and (kind == "watch" or path in self.changes)
+            return path != "/" and self._is_group(path) and (kind == "told") == (path in self.changes)
         if kind in ("mkdir", "rmdir"):
-            return path != "/" and self._keeps_to_leaves(words)
+            return path != "/" and path.count("/") <= DEEPEST and len(path) <= LONGEST and self._keeps_to_leaves(words)
         return self._can_use(words) and self._keeps_to_leaves(words)
 
     def _can_live(self, words: Words) -> bool:

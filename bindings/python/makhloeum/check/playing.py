@@ -14,6 +14,8 @@ from .opening import Unusable
 from .worker import Hang, Worker
 
 NO_ANSWER = "no answer"
+# seconds that a change and a kill may take, and those when a difference is shown anew
+PATIENCE, SHORT_PATIENCE = 2.0, 0.3
 Next = Callable[[Engine], Optional[Words]]
 
 
@@ -55,17 +57,27 @@ class Player:
         self.limit = limit
         self.counts = Counts()
         self.sequences = 0
+        self.patience = PATIENCE
         self.left: list[str] = []
         self.on_operation: Callable[[], None] = lambda: None
         self._worker = Worker(limit)
         self.found: dict[str, Any] = {}
         self._own = os.path.join(directory, f"makhloeum-check-{os.getpid()}")
         try:
-            error, self.found = self._worker.ask("open", directory, os.path.basename(self._own))
+            self.found = self._open(directory)
+        except BaseException:
+            self._worker.leave()
+            raise
+
+    def _open(self, directory: str) -> dict[str, Any]:
+        try:
+            error, found = self._worker.ask("open", directory, os.path.basename(self._own))
         except Hang:
-            raise Unusable(f"it does not answer within {limit:g} seconds") from None
-        if error != "ok" or "fault" in self.found:
-            raise Unusable(self.found["fault"] if self.found else error)
+            raise Unusable(f"it does not answer within {self.limit:g} seconds") from None
+        if error != "ok" or "fault" in found:
+            raise Unusable(found["fault"] if found else error)
+        answer: dict[str, Any] = found
+        return answer
 
     # ---- the worker
 
@@ -96,7 +108,9 @@ class Player:
     # ---- sequences
 
     def play(self, way: str, following: Next, counts: Optional[Counts] = None) -> Optional[Difference]:
-        """Plays the commands that `following` gives for the state of the engine, until it gives None or the two differ."""
+        """Plays the commands that `following` gives for the state of the engine, until it gives None or the two differ.
+        Without counts it is one that was played before."""
+        self.patience = PATIENCE if counts else SHORT_PATIENCE
         counts = counts or Counts()
         self.sequences += 1
         engine = Engine(way, self.found["missing"], self.found["kind"] == "cgroup2")
@@ -114,7 +128,7 @@ class Player:
 
     def _begun(self, way: str, engine: Engine, following: Next, counts: Counts) -> Optional[Difference]:
         try:
-            error, _ = self._ask("begin", way)
+            error, _ = self._ask("begin", way, self.patience)
         except Hang:
             return Difference(way, [["mkdir", "/"]], Answer("ok"), Answer(NO_ANSWER))
         if error != "ok":

@@ -34,6 +34,8 @@ def explained(difference: Difference) -> list[str]:
 
 
 class _Script:
+    _FIRST = 'mkfifo $d/1; p 1 & p1=$!; k="$k $!"'
+
     def __init__(self, difference: Difference, directory: str, has_control: bool) -> None:
         self._difference, self._directory = difference, directory
         self._controls = has_control and difference.way in ("D", "T")
@@ -45,10 +47,15 @@ class _Script:
         self._group = {"1": "/"}
         self._children: dict[str, int] = {}
         self._lines: list[str] = []
+        self._starts_at_move = False
 
     @staticmethod
     def _is_about_first(words: Words) -> bool:
         return words[:2] == ["exit", "1"] or words[2:] == ["cgroup.procs", "1"] or words[:3] == ["cat", "/", "cgroup.procs"]
+
+    def _first_use(self) -> str:
+        """The kind of the first command that is about process 1 and needs it."""
+        return next((words[0] for words in self._difference.played if "1" in words[1:3] or self._is_about_first(words)), "")
 
     # ---- words of the shell
 
@@ -110,6 +117,9 @@ class _Script:
         else:
             value = shlex.quote(value)
         line = f"echo {value} >{self._file(path, name, writes=True)}"
+        if self._starts_at_move and words[2:] == ["cgroup.procs", "1"]:
+            self._starts_at_move = False
+            line = f"{self._FIRST}; {line}"
         if name == "cgroup.procs" and words[3] in self._group:
             self._group[words[3]] = path
         return line + (self._reap(path) if name == "cgroup.kill" else "")
@@ -143,7 +153,7 @@ class _Script:
         """The last command so that it shows what is answered: a shell's own echo prints no errno."""
         line = self._command(words)
         if words[0] == "write":
-            line = line.replace("echo ", "/bin/echo ", 1)
+            line = "/bin/echo ".join(line.rsplit("echo ", 1))
         theirs, ours = self._difference.theirs, self._difference.ours
         if theirs.error == ours.error == "ok" and words[0] in ("fork", "exit"):
             line += f"; cat {self._file(self._group.get(words[1], '/'), 'cgroup.procs')}"
@@ -154,8 +164,10 @@ class _Script:
     def _body(self) -> None:
         """Commands that belong together stand in one line."""
         commands = self._difference.played
-        if self._own_first:
-            self._lines.append("mkfifo $d/1; p 1 & p1=$!; k=\"$k $!\"; echo $p1 >../home/cgroup.procs")
+        is_moved_first = self._first_use() == "write"
+        if self._own_first and not is_moved_first:
+            self._lines.append(self._FIRST + "; echo $p1 >../home/cgroup.procs")
+        self._starts_at_move = self._own_first and is_moved_first
         before: Optional[Words] = None
         for at, words in enumerate(commands):
             line = self._last(words) if at == len(commands) - 1 else self._command(words)

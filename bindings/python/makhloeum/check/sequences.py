@@ -64,7 +64,7 @@ class Random:
         return self._command(engine)
 
     def _command(self, engine: Engine) -> Words:
-        kinds = {"mkdir": 9, "rmdir": 5, "fork": 12, "exit": 5, "move": 13, "pids": 8, "bound": 4, "kill": 3, "cat": 16, "told": 6}
+        kinds = {"mkdir": 9, "rmdir": 5, "fork": 12, "exit": 5, "move": 13, "pids": 8, "bound": 4, "kill": 4, "cat": 16, "told": 6}
         kinds.update({"where": 1, "wrong": 2})
         kind = self._choice.choices(list(kinds), list(kinds.values()))[0]
         command: Words = getattr(self, "_" + kind)(engine)
@@ -124,8 +124,11 @@ class Random:
         return ["write", self._group(engine), file, str(self._choice.choice([0, 1, 2, 3, "max", "max"]))]
 
     def _kill(self, engine: Engine) -> Words:
+        """Of a group that has processes below it, where there is one."""
         self._waiting = [["cat", group, "pids.current"] for group in engine.h.groups()[1:]]
-        return ["write", self._group(engine, beside_root=True), "cgroup.kill", "1"]
+        full = [group for group in engine.h.groups()[1:] if len(engine.alive(group)) > len(engine.h.processes(group))]
+        group = self._choice.choice(full) if full and self._choice.random() < 0.7 else self._group(engine, beside_root=True)
+        return ["write", group, "cgroup.kill", "1"]
 
     def _cat(self, engine: Engine) -> Words:
         return ["cat", self._group(engine, beside_root=True), self._choice.choice(FILES)]

@@ -72,9 +72,9 @@ class _Worker:
         """Takes the group that an earlier worker made."""
         self._own, self._sequences = own, sequences
 
-    def begin(self, way: str) -> None:
+    def begin(self, way: str, patience: float) -> None:
         self._sequences += 1
-        self._groups = Groups(self._own, self._sequences, way, [self._lines.at])
+        self._groups = Groups(self._own, self._sequences, way, patience, [self._lines.at])
 
     def play(self, command: str, *words: Any) -> str:
         assert self._groups
