@@ -120,7 +120,9 @@ def test_each_worked_sequence_is_played_once():
 def test_a_difference_is_made_short():
     """Halves and then single commands: what stays is what is needed."""
     text = "\n".join(f"mkdir /x{number}" for number in range(40))
-    long = commands_of(text + "\nmkdir /c\nfork 1 4\nfork 4 2\ncat /c cgroup.procs\nwrite /c cgroup.procs 2\ncat /c pids.peak\nrmdir /c")
+    long = commands_of(
+        text + "\nmkdir /c\nfork 1 4\nfork 4 2\ncat /c cgroup.procs\nwrite /c cgroup.procs 2\ncat /c pids.peak\nrmdir /c"
+    )
 
     def retry(commands):
         has = [["mkdir", "/c"], ["write", "/c", "cgroup.procs", "2"], ["rmdir", "/c"]]

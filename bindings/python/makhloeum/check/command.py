@@ -80,7 +80,7 @@ class _Check:
 
     def _is_over(self) -> bool:
         late = self._end is not None and time.monotonic() > self._end
-        return late or len(self._kinds) >= self._options.most
+        return late or len(self._kinds) >= int(self._options.most)
 
     def _sequences(self) -> Iterator[tuple[str, str, Next]]:
         ways = self._player.found["ways"]
@@ -132,7 +132,9 @@ class _Check:
     def told(self) -> str:
         counts = self.counts
         seconds = time.monotonic() - counts.began
-        lines = [f"{counts.operations} operations in {seconds:.1f} s ({counts.rate():.0f} a second), {counts.differences} differences"]
+        lines = [
+            f"{counts.operations} operations in {seconds:.1f} s ({counts.rate():.0f} a second), {counts.differences} differences"
+        ]
         for name, count in sorted(counts.known.items(), key=lambda it: -it[1]):
             lines.append(f"{count:8} known: {name}")
         return "\n".join(lines)

@@ -62,7 +62,9 @@ def _of_values(words: Words, error: str) -> Optional[str]:
     is_pid = name == "cgroup.procs"
     if error == "ok":
         return known.TAKES_MORE if not is_pid else None
-    outside = number != 1 if name == "cgroup.kill" else not 0 <= number < (_GREATEST_PIDS_LIMIT if name == "pids.max" else 1 << 31)
+    outside = (
+        number != 1 if name == "cgroup.kill" else not 0 <= number < (_GREATEST_PIDS_LIMIT if name == "pids.max" else 1 << 31)
+    )
     if error == "ERANGE" and not is_pid and outside:
         return known.OTHER_ERRNO
     return known.OTHER_ERRNO if error == "ESRCH" and is_pid and number > 0 else None

@@ -109,7 +109,13 @@ class Engine:
         if name == "cgroup.kill" and self._way == "T":
             return words[0] == "write" and words[3] == "1"
         # the writer itself, and numbers that mean another process to a kernel
-        return name != "cgroup.procs" or words[0] == "cat" or words[3].isdecimal() and words[3][0] != "0" or kernel_number(words[3]) is None
+        return (
+            name != "cgroup.procs"
+            or words[0] == "cat"
+            or words[3].isdecimal()
+            and words[3][0] != "0"
+            or kernel_number(words[3]) is None
+        )
 
     def _keeps_to_leaves(self, words: Words) -> bool:
         if self._way != "D":
@@ -166,8 +172,8 @@ class Engine:
         if answer.error != "ok" or words[0] in ("cat", "where", "mkdir"):
             return
         if words[0] == "rmdir":
-            for kept in (self.changes, self._populated):
-                kept.pop(words[1], None)
+            self.changes.pop(words[1], None)
+            self._populated.pop(words[1], None)
         for path, before in self._populated.items():
             now = self.h.read(path, EVENTS)
             self.changes[path] += now != before

@@ -56,7 +56,11 @@ def _look(directory: str) -> None:
 
 def _room(directory: str) -> None:
     """Refuses a directory whose own limits would answer for the check's."""
-    for name, used, wanted in (("pids.max", "pids.current", ROOM), ("cgroup.max.descendants", "", 4 * ROOM), ("cgroup.max.depth", "", 12)):
+    for name, used, wanted in (
+        ("pids.max", "pids.current", ROOM),
+        ("cgroup.max.descendants", "", 4 * ROOM),
+        ("cgroup.max.depth", "", 12),
+    ):
         if os.path.exists(_file(directory, name)):
             limit = file_read(_file(directory, name)).strip()
             taken = int(file_read(_file(directory, used))) if used else 0

@@ -12,7 +12,7 @@ from .playing import NO_ANSWER, Difference
 
 _POLL = (
     "python3 -c 'import os,select as s,sys; f=os.open(sys.argv[1],0); os.read(f,99); p=s.poll(); p.register(f,s.POLLPRI); "
-    "print(\"poll\", p.poll(2000) and \"came\" or \"nothing\")' {file} & w=$!; inotifywait -q -t 2 -e modify {file} & v=$!; sleep 0.5"
+    'print("poll", p.poll(2000) and "came" or "nothing")\' {file} & w=$!; inotifywait -q -t 2 -e modify {file} & v=$!; sleep 0.5'
 )
 
 
@@ -42,20 +42,32 @@ class _Script:
         self._has_control = has_control
         commands = difference.played
         self._forkers = {words[1] for words in commands if words[0] == "fork"}
-        self._own_first = any(self._is_about_first(words) for words in commands)
+        self._own_first = any(self._is_about_first(words) for words in commands) or self._ends_in_root(commands)
         self._parent: dict[str, str] = {}
         self._group = {"1": "/"}
         self._children: dict[str, int] = {}
         self._lines: list[str] = []
-        self._starts_at_move = False
+        self._at = 0
+        self._starting: dict[str, str] = {}  # what starts a process, until it is moved
 
     @staticmethod
     def _is_about_first(words: Words) -> bool:
         return words[:2] == ["exit", "1"] or words[2:] == ["cgroup.procs", "1"] or words[:3] == ["cat", "/", "cgroup.procs"]
 
-    def _first_use(self) -> str:
-        """The kind of the first command that is about process 1 and needs it."""
-        return next((words[0] for words in self._difference.played if "1" in words[1:3] or self._is_about_first(words)), "")
+    def _ends_in_root(self, commands: list[Words]) -> bool:
+        """Whether the processes of the root are compared last."""
+        last = commands[-1]
+        group = [words[1] for words in commands if words[0] == "write" and words[2:] == ["cgroup.procs", last[1]]]
+        return last[0] in ("fork", "exit") and self._difference.ours.error == "ok" and group[-1:] in ([], ["/"])
+
+    def _use(self, pid: str, at: int) -> str:
+        """The kind of the next command that is about the process, "write" for its move."""
+        for words in self._difference.played[at:]:
+            if words[2:] == ["cgroup.procs", pid]:
+                return "write"
+            if words[0] in ("fork", "exit", "where") and pid in words[1:] or words[:1] + words[2:] == ["cat", "cgroup.procs"]:
+                return words[0]
+        return ""
 
     # ---- words of the shell
 
@@ -78,8 +90,8 @@ class _Script:
     def _born(self, pid: str) -> str:
         """Starts a process of the script's shell."""
         if pid in self._forkers:
-            return f"mkfifo $d/{pid}; p {pid} & p{pid}=$!; k=\"$k $!\""
-        return f"sleep 99 & p{pid}=$!; k=\"$k $!\""
+            return f'mkfifo $d/{pid}; p {pid} & p{pid}=$!; k="$k $!"'
+        return f'sleep 99 & p{pid}=$!; k="$k $!"'
 
     # ---- commands
 
@@ -99,15 +111,20 @@ class _Script:
         parent, child = words[1:3]
         self._parent[child] = parent
         self._group[child] = self._group.get(parent, "/")
-        return self._born(child) if self._is_shell(parent) else f"f {parent} {child}"
+        if not self._is_shell(parent):
+            return f"f {parent} {child}"
+        if self._use(child, self._at + 1) == "write":
+            self._starting[child] = self._born(child)
+            return ""
+        return self._born(child)
 
     def _exit(self, words: Words) -> str:
         pid = words[1]
         parent = self._parent.get(pid)
+        self._group.pop(pid, None)
         if parent is None or self._is_shell(parent):
             return f"kill -9 $p{pid}; wait $p{pid}"
         reaped = f"{self._tell(parent, f'wait $p{pid}')}; " if parent in self._group else ""
-        self._group.pop(pid, None)
         return f"kill -9 $p{pid}; {reaped}sleep 0.2"
 
     def _write(self, words: Words) -> str:
@@ -117,9 +134,8 @@ class _Script:
         else:
             value = shlex.quote(value)
         line = f"echo {value} >{self._file(path, name, writes=True)}"
-        if self._starts_at_move and words[2:] == ["cgroup.procs", "1"]:
-            self._starts_at_move = False
-            line = f"{self._FIRST}; {line}"
+        if name == "cgroup.procs" and words[3] in self._starting:
+            line = f"{self._starting.pop(words[3])}; {line}"
         if name == "cgroup.procs" and words[3] in self._group:
             self._group[words[3]] = path
         return line + (self._reap(path) if name == "cgroup.kill" else "")
@@ -151,36 +167,40 @@ class _Script:
 
     def _last(self, words: Words) -> str:
         """The last command so that it shows what is answered: a shell's own echo prints no errno."""
+        group = self._group.get(words[1], "/")
         line = self._command(words)
         if words[0] == "write":
             line = "/bin/echo ".join(line.rsplit("echo ", 1))
         theirs, ours = self._difference.theirs, self._difference.ours
         if theirs.error == ours.error == "ok" and words[0] in ("fork", "exit"):
-            line += f"; cat {self._file(self._group.get(words[1], '/'), 'cgroup.procs')}"
+            line += f"; cat {self._file(group, 'cgroup.procs')}"
         if words[0] == "write" and words[2] == "cgroup.kill" and ours.text != theirs.text:
-            line += "; ps -o pid= -p \"$(echo $k | tr ' ' ,)\""
+            # not waited for, since it may be alive
+            line = line.split("; ")[0] + '; sleep 0.5; ps -o pid=,stat= -p "$k"'
         return line
 
     def _body(self) -> None:
         """Commands that belong together stand in one line."""
         commands = self._difference.played
-        is_moved_first = self._first_use() == "write"
-        if self._own_first and not is_moved_first:
+        if self._own_first and self._use("1", 0) == "write":
+            self._starting["1"] = self._FIRST
+        elif self._own_first:
             self._lines.append(self._FIRST + "; echo $p1 >../home/cgroup.procs")
-        self._starts_at_move = self._own_first and is_moved_first
         before: Optional[Words] = None
-        for at, words in enumerate(commands):
-            line = self._last(words) if at == len(commands) - 1 else self._command(words)
-            if before and at < len(commands) - 1 and self._belongs(before, words):
+        for self._at, words in enumerate(commands):
+            is_last = self._at == len(commands) - 1
+            line = self._last(words) if is_last else self._command(words)
+            if not line:
+                continue
+            if before and not is_last and self._belongs(before, words):
                 self._lines[-1] += "; " + line
             else:
                 self._lines.append(line)
             before = words
 
     def _belongs(self, before: Words, words: Words) -> bool:
-        is_one_place = before[0] == "mkdir" and words[0] == "write" and words[1] == before[1]
-        is_moved = before[0] == "fork" and words[2:] == ["cgroup.procs", before[2]]
-        return is_one_place or is_moved or (before[0], words[0]) in (("mkdir", "mkdir"), ("rmdir", "rmdir"))
+        is_one_place = before[0] == "mkdir" and words[0] == "write" and words[1] == before[1] and words[2] != "cgroup.procs"
+        return is_one_place or (before[0], words[0]) in (("mkdir", "mkdir"), ("rmdir", "rmdir"))
 
     def lines(self) -> list[str]:
         self._body()

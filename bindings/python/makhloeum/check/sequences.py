@@ -29,7 +29,7 @@ def worked(ways: list[str]) -> Iterator[tuple[str, str, list[Words]]]:
                 continue
             way, commands = _read(os.path.join(folder or "", kind, name))
             way = "free" if ways == ["free"] else way
-            key = (way, *map(tuple, commands))
+            key = (way, *(tuple(words) for words in commands))
             if way in ways and key not in seen:
                 seen.add(key)
                 yield f"{kind}/{name[:-6]}", way, commands
@@ -64,7 +64,18 @@ class Random:
         return self._command(engine)
 
     def _command(self, engine: Engine) -> Words:
-        kinds = {"mkdir": 9, "rmdir": 5, "fork": 12, "exit": 5, "move": 13, "pids": 8, "bound": 4, "kill": 4, "cat": 16, "told": 6}
+        kinds = {
+            "mkdir": 9,
+            "rmdir": 5,
+            "fork": 12,
+            "exit": 5,
+            "move": 13,
+            "pids": 8,
+            "bound": 4,
+            "kill": 4,
+            "cat": 16,
+            "told": 6,
+        }
         kinds.update({"where": 1, "wrong": 2})
         kind = self._choice.choices(list(kinds), list(kinds.values()))[0]
         command: Words = getattr(self, "_" + kind)(engine)

@@ -109,6 +109,10 @@ def _live(at: socket.socket) -> NoReturn:
     status = 1
     try:
         os.setsid()
+        # whoever waits for the end of what the check prints does not wait for a worker that hangs
+        nowhere = os.open(os.devnull, os.O_RDWR)
+        for stream in range(3):
+            os.dup2(nowhere, stream)
         for number in (signal.SIGINT, signal.SIGTERM, signal.SIGHUP):
             signal.signal(number, signal.SIG_DFL)
         leave_no_zombies()
