@@ -181,12 +181,19 @@ def catch_all():
 
 
 def hanging():
-    began = time.monotonic()
     with faulty("hang") as m:
-        status, out, said = check(m.at, "--limit", "2", "--count", "2000")
-        step("a directory that hangs", status == 1 and "it hangs" in out, out + said)
+        status, out, said = check(m.at, "--limit", "2")
+        step(
+            "a directory that hangs at first: one sentence",
+            status == 2 and "does not answer" in said and said.count("\n") == 1,
+            out + said,
+        )
+    began = time.monotonic()
+    with faulty("hang_kill") as m:
+        status, out, said = check(m.at, "--limit", "2", "--no-worked")
+        step("a directory that hangs", status == 1 and "it hangs" in out and "cgroup.kill" in script_of(out)[-1], out + said)
         step("what could not be removed is named", "could not be removed" in said, said)
-    step("it ends in time", time.monotonic() - began < 40)
+    step("it ends in time", time.monotonic() - began < 60)
     step("no process is left once the directory is gone", until(lambda: not workers()), workers())
 
 

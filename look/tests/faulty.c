@@ -320,6 +320,8 @@ static int kill_group(const char *group, const char *value)
 {
 	if (strcmp(value, "1"))
 		return -EINVAL;
+	if (has("hang_kill"))
+		pause();
 	snprintf(killed, sizeof killed, "%s", group);
 	return adopted_kill(&engine, group, has("kill_flat"));
 }

@@ -73,7 +73,7 @@ class Player:
         try:
             error, found = self._worker.ask("open", directory, os.path.basename(self._own))
         except Hang:
-            raise Unusable(f"it does not answer within {self.limit:g} seconds") from None
+            raise Unusable(f"it does not answer within {self.limit:g} seconds; {self._own} may be left") from None
         if error != "ok" or "fault" in found:
             raise Unusable(found["fault"] if found else error)
         answer: dict[str, Any] = found

@@ -91,17 +91,24 @@ class _Worker:
         return remove_groups(self._own, 3) if self._own else []
 
     def serve(self) -> None:
-        while True:
-            request = self._lines.get()
-            if request is None:
-                self.close()
-                return
-            number, method, *words = request
-            try:
-                answer = [number, "ok", getattr(self, method)(*words)]
-            except OSError as no:
-                answer = [number, error_name(no), ""]
-            self._lines.put(answer)
+        """Until the checking process ends: then all is removed."""
+        try:
+            while self._answer(self._lines.get()):
+                pass
+        except (BrokenPipeError, ConnectionResetError):
+            pass
+        self.close()
+
+    def _answer(self, request: Any) -> bool:
+        if request is None:
+            return False
+        number, method, *words = request
+        try:
+            answer = [number, "ok", getattr(self, method)(*words)]
+        except OSError as no:
+            answer = [number, error_name(no), ""]
+        self._lines.put(answer)
+        return True
 
 
 def _live(at: socket.socket) -> NoReturn:
