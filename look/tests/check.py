@@ -258,9 +258,9 @@ def unusable():
 
 def progress():
     with adopting() as m:
-        _, out, said = check(m.at, "--time", "7", "--count", "1000000")
+        _, out, said = check(m.at, "--no-worked", "--time", "7", "--count", "1000000")
         step("progress", re.search(r"^\d+ operations, 0 differences, \d+ a second$", said, re.M), said)
-        step("--time ends it", re.search(r"operations in [78]\.\d s", out), out)
+        step("--time ends it", re.search(r"operations in ([789]|1\d)\.\d s", out), out)
 
 
 unusable()

@@ -80,6 +80,13 @@ def test_changes_of_populated_are_counted():
         engine.play(["fork", "1", "4"])
         engine.play(["write", "/a", "cgroup.procs", "4"])
         assert engine.changes == {"/a": 2}
+        told, late = ["told", "/a"], Answer("ok", "inotify")
+        assert difference(told, engine.play(told), Answer("ok", "poll inotify"), engine, FOUND) is None
+        # the notification of the second change may come later, but no third
+        assert difference(told, engine.play(told), late, engine, FOUND) is None
+        assert difference(told, engine.play(told), late, engine, FOUND) == CONTRADICTION
+        engine.play(["exit", "4"])
+        assert difference(told, engine.play(told), Answer("ok", "poll inotify, again inotify"), engine, FOUND) == CONTRADICTION
     finally:
         engine.close()
 

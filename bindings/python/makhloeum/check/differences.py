@@ -22,16 +22,20 @@ def difference(words: Words, ours: Answer, theirs: Answer, engine: Engine, direc
     if ours.error != "ok":
         return None
     if words[0] == "told":
-        return None if _told_alike(ours, theirs) else CONTRADICTION
+        return None if _told_alike(words[1], ours, theirs, engine) else CONTRADICTION
     if words[0] == "cat":
         return _of_texts(words, ours.text, theirs.text, engine, directory)
     return None if ours.text == theirs.text else CONTRADICTION
 
 
-def _told_alike(ours: Answer, theirs: Answer) -> bool:
-    """Several changes may be reported at once, or the last of them later; one is reported once."""
-    several = ours.reply.partition(" ")[0] not in ("", "0")
-    return theirs.text == ours.text or (several and theirs.text.startswith(ours.text + ", again"))
+def _told_alike(path: str, ours: Answer, theirs: Answer, engine: Engine) -> bool:
+    """One change is notified once. Several may be notified at once, or some of them later."""
+    if theirs.text == ours.text:
+        return True
+    if not ours.reply or (ours.text != "nothing" and not theirs.text.startswith(ours.text)):
+        return False
+    engine.came_late(path)
+    return True
 
 
 def _of_errors(words: Words, ours: Answer, theirs: Answer) -> Optional[str]:

@@ -59,7 +59,9 @@ def remove_groups(path: str, seconds: float) -> list[str]:
 
 def _remove_once(path: str) -> list[str]:
     try:
-        below = [entry.path for entry in os.scandir(path) if entry.is_dir(follow_symlinks=False)]
+        # what is a file by its name is not asked for its type, which some file systems do not list
+        entries = [entry for entry in os.scandir(path) if not entry.name.startswith(("cgroup.", "pids."))]
+        below = [entry.path for entry in entries if entry.is_dir(follow_symlinks=False)]
     except FileNotFoundError:
         return []
     left = [group for child in below for group in _remove_once(child)]

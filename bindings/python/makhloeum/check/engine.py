@@ -45,6 +45,7 @@ class Engine:
         self.peaks = {way: Peaks(*way) for way in WAYS}
         self.changes: dict[str, int] = {}  # of each watched group since it was last asked for
         self._populated: dict[str, str] = {}
+        self._late: dict[str, int] = {}  # how many notifications may still come, since several changes may have one or more
 
     def close(self) -> None:
         self.h.close()
@@ -165,7 +166,13 @@ class Engine:
 
     def _told(self, path: str) -> Answer:
         changes, self.changes[path] = self.changes[path], 0
-        return Answer("ok", "poll inotify" if changes else "nothing", f"{changes} changes" if changes != 1 else "")
+        self._late[path] = self._late.get(path, 0) + max(0, changes - 1)
+        several = "several changes" if self._late[path] else ""
+        return Answer("ok", "poll inotify" if changes else "nothing", several)
+
+    def came_late(self, path: str) -> None:
+        """A notification of several changes that came after the others."""
+        self._late[path] -= 1
 
     def _note(self, words: Words, answer: Answer) -> None:
         """Counts the changes of watched groups."""
@@ -174,6 +181,7 @@ class Engine:
         if words[0] == "rmdir":
             self.changes.pop(words[1], None)
             self._populated.pop(words[1], None)
+            self._late.pop(words[1], None)
         for path, before in self._populated.items():
             now = self.h.read(path, EVENTS)
             self.changes[path] += now != before

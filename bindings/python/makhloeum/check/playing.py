@@ -15,7 +15,7 @@ from .worker import Hang, Worker
 
 NO_ANSWER = "no answer"
 # seconds that a change and a kill may take, and those when a difference is shown anew
-PATIENCE, SHORT_PATIENCE = 2.0, 0.3
+PATIENCE, SHORT_PATIENCE = 5.0, 0.3
 Next = Callable[[Engine], Optional[Words]]
 
 

@@ -18,8 +18,6 @@ class Watch:
 
     def __init__(self, path: str) -> None:
         self._file = os.open(path, os.O_RDONLY)
-        self._poll = select.poll()
-        self._poll.register(self._file, select.POLLPRI)
         libc = ctypes.CDLL(None, use_errno=True)
         self._inotify = libc.inotify_init1(os.O_NONBLOCK | os.O_CLOEXEC)
         if self._inotify < 0 or libc.inotify_add_watch(self._inotify, os.fsencode(path), _IN_MODIFY) < 0:
@@ -49,30 +47,34 @@ class Watch:
             at += _HEAD.size + size
         return found
 
-    def _came(self, seconds: float, wanted: int) -> set[str]:
-        """What comes in these seconds, at most so many of the two."""
+    def _came(self, seconds: float) -> set[str]:
+        """What comes in these seconds; it waits no longer once both have come."""
         came: set[str] = set()
         end = time.monotonic() + seconds
-        while len(came) < wanted:
-            if self._modified():
-                came.add("inotify")
-            if "poll" not in came and self._poll.poll(0):
-                came.add("poll")
-            left = end - time.monotonic()
-            if left <= 0:
+        while len(came) < 2:
+            waiting = select.poll()
+            if "poll" not in came:
+                waiting.register(self._file, select.POLLPRI)
+            if "inotify" not in came:
+                waiting.register(self._inotify, select.POLLIN)
+            ready = waiting.poll(max(0.0, 1000 * (end - time.monotonic())))
+            if not ready:
                 break
-            if len(came) < wanted:
-                time.sleep(min(left, 0.002))
+            for descriptor, _ in ready:
+                if descriptor == self._file:
+                    came.add("poll")
+                elif self._modified():
+                    came.add("inotify")
         return came
 
     def take(self, is_due: bool, seconds: float) -> str:
         """What came, as 'poll inotify', and what comes again after the file was read, as 'poll inotify, again poll'. A change
         that is due is waited for."""
-        came = self._came(seconds, 2) if is_due else self._came(_NO_MORE, 3)
+        came = self._came(seconds if is_due else _NO_MORE)
         if not came:
             return "nothing"
         self._see()
-        again = self._came(_NO_MORE, 3)
+        again = self._came(_NO_MORE)
         if again:
             self._see()
         return " ".join(sorted(came, reverse=True)) + (", again " + " ".join(sorted(again, reverse=True)) if again else "")
