@@ -1,0 +1,7 @@
+"""python3 -m makhloeum.check DIR"""
+
+import sys
+
+from . import main
+
+sys.exit(main(sys.argv[1:]))

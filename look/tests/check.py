@@ -1,0 +1,277 @@
+"""makhloeum check, on a mount of ours and on a small file system with planted faults."""
+import concurrent.futures
+import os
+import re
+import shutil
+import signal
+import subprocess
+import sys
+import tempfile
+import time
+
+CHECK = [sys.executable, "-W", "error", "-m", "makhloeum.check"]
+MAKHLOEUM, FAULTY = os.environ["MAKHLOEUM"], os.environ["FAULTY"]
+OPERATIONS = 3000
+LINES_AT_MOST, SECONDS_AT_MOST = 10, 60
+# Each planted fault, and what the directory does.
+FAULTS = {
+    "one_too_few": "pids.current above a killed group is one too few",
+    "peak": "pids.peak is forgotten after a kill",
+    "einval": "rmdir of a busy group is EINVAL",
+    "silent": "no notification",
+    "poll_only": "inotify does not notify",
+    "inotify_only": "poll does not notify",
+    "twice": "each change is notified twice",
+    "chatter": "a fork is notified, though nothing changed",
+    "local_deep": "pids.events.local counts the refused forks below",
+    "events_flat": "pids.events does not count those below",
+    "populated_flat": "populated does not look below",
+    "kill_flat": "cgroup.kill leaves the groups below alone",
+    "stat_flat": "nr_descendants counts children only",
+    "depth": "cgroup.max.depth admits one more",
+    "max_kept": "max is accepted and keeps the limit",
+    "limit_errno": "mkdir at a limit is ENOSPC",
+    "procs_short": "cgroup.procs leaves out the last process",
+    "move_limited": "pids.max refuses a move",
+    "no_feed": "pids.current has no line feed",
+    "removes": "rmdir removes a group with processes",
+    "child_in_root": "a child begins in the root",
+    "exit_late": "an exit is counted late",
+    "esrch": "a process that is not there is EINVAL",
+}
+# What a script cannot show by its text alone, since it depends on how long it waits.
+NOT_REPLAYED = {"twice", "chatter", "silent", "poll_only", "inotify_only", "exit_late"}
+passed, failed = 0, 0
+
+
+def step(name, right, told=""):
+    global passed, failed
+    passed, failed = passed + bool(right), failed + (not right)
+    if os.environ.get("STEPS") or not right:
+        print(f"  {name:<62} {'ok' if right else f'FAILED {told}'}", flush=True)
+
+
+def until(what, seconds=20.0):
+    end = time.monotonic() + seconds
+    while time.monotonic() < end:
+        if what():
+            return True
+        time.sleep(0.02)
+    return False
+
+
+class Mount:
+    def __init__(self, *command, **environment):
+        self.home = tempfile.mkdtemp()
+        self.at = os.path.join(self.home, "at")
+        os.mkdir(self.at)
+        command = [self.at if word == "AT" else word for word in command]
+        self.process = subprocess.Popen(command, stderr=subprocess.PIPE, env=dict(os.environ, **environment))
+        if not until(lambda: self.process.poll() is not None or os.path.ismount(self.at)) or not os.path.ismount(self.at):
+            raise SystemExit(f"no mount: {self.process.stderr.read().decode()}")
+
+    def groups(self):
+        return [entry.name for entry in os.scandir(self.at) if entry.is_dir() and entry.name != ".makhloeum"]
+
+    def __enter__(self):
+        return self
+
+    def __exit__(self, *failure):
+        subprocess.run(["fusermount3", "-u", "-z", self.at], stderr=subprocess.DEVNULL)
+        try:
+            self.process.wait(5)
+        except subprocess.TimeoutExpired:
+            self.process.kill()
+        shutil.rmtree(self.home, ignore_errors=True)
+
+
+def adopting(*more):
+    return Mount(MAKHLOEUM, "mount", "AT", "--foreground", "--adopt", *more)
+
+
+def faulty(name, *more):
+    return Mount(FAULTY, "-s", "-f", *more, "AT", FAULT=name)
+
+
+def check(directory, *words, seconds=300):
+    ran = subprocess.run([*CHECK, directory, *words], capture_output=True, text=True, timeout=seconds)
+    return ran.returncode, ran.stdout, ran.stderr
+
+
+def workers():
+    """The processes of a check that are still there."""
+    found = []
+    for pid in filter(str.isdecimal, os.listdir("/proc")):
+        try:
+            with open(f"/proc/{pid}/cmdline", "rb") as it:
+                if b"makhloeum.check" in it.read():
+                    found.append(int(pid))
+        except OSError:
+            pass
+    return found
+
+
+# ---- no difference
+
+
+def same_on(name, mount, count):
+    with mount as m:
+        status, out, said = check(m.at, "--count", str(count), "--seed", "7")
+        told = re.search(r"^(\d+) operations in .*, (\d+) differences$", out, re.M)
+        step(f"{name}: no difference", status == 0 and told and told[2] == "0", out + said)
+        step(f"{name}: {told and told[1]} operations", told and int(told[1]) >= count, out)
+        step(f"{name}: nothing is left", m.groups() == [], m.groups())
+
+
+# ---- planted faults
+
+
+def script_of(out):
+    lines = out.split("\n")
+    if "#!/bin/sh" not in lines:
+        return []
+    script = lines[lines.index("#!/bin/sh") :]
+    return script[: script.index("")]
+
+
+def shows(m, script):
+    """What the script prints is what the directory said."""
+    said = re.search(r"; the directory: (.*)$", script[1])[1]
+    ran = subprocess.run(["sh", "-c", "\n".join(script)], capture_output=True, text=True, timeout=60)
+    wanted = re.search(r"\((.*)\)$", said)
+    if said == "ok":
+        return ran.returncode == 0, ran
+    if wanted:
+        return wanted[1] in ran.stderr, ran
+    text = eval(said)
+    return "alive: " in text or ran.stdout.endswith(text) or len(ran.stdout.split()) == len(text.split()), ran
+
+
+def caught(name):
+    """What went wrong, or ''; and how long it took."""
+    began = time.monotonic()
+    with faulty(name) as m:
+        status, out, said = check(m.at, "--no-worked", "--most", "1", "--shorten", "15", "--time", "50", "--count", "100000")
+        seconds, script = time.monotonic() - began, script_of(out)
+        if status != 1 or not script:
+            return f"status {status}: {out}{said}", seconds
+        if len(script) > LINES_AT_MOST or seconds > SECONDS_AT_MOST:
+            return f"{len(script)} lines, {seconds:.0f} s: " + "\n".join(script), seconds
+        if m.groups():
+            return f"left: {m.groups()}", seconds
+        if name not in NOT_REPLAYED:
+            right, ran = shows(m, script)
+            if not right:
+                return "the script shows something else:\n" + "\n".join(script) + f"\n{ran.stdout}{ran.stderr}", seconds
+        return "", seconds
+
+
+def catch_all():
+    """Two at a time. FAULTS names those that are tried: all."""
+    names = os.environ.get("FAULTS", "").split() or list(FAULTS)
+    with concurrent.futures.ThreadPoolExecutor(2) as pool:
+        slowest = 0.0
+        for name, (wrong, seconds) in zip(names, pool.map(caught, names)):
+            step(f"caught in {seconds:.0f} s: {FAULTS[name]}", not wrong, wrong)
+            slowest = max(slowest, seconds)
+    print(f"  {len(names)} planted faults, the slowest in {slowest:.0f} s")
+
+
+# ---- what ends it
+
+
+def hanging():
+    with faulty("hang") as m:
+        status, out, said = check(m.at, "--limit", "2")
+        step(
+            "a directory that hangs at first: one sentence",
+            status == 2 and "does not answer" in said and said.count("\n") == 1,
+            out + said,
+        )
+    began = time.monotonic()
+    with faulty("hang_kill") as m:
+        status, out, said = check(m.at, "--limit", "2", "--no-worked")
+        step("a directory that hangs", status == 1 and "it hangs" in out and "cgroup.kill" in script_of(out)[-1], out + said)
+        step("what could not be removed is named", "could not be removed" in said, said)
+    step("it ends in time", time.monotonic() - began < 60)
+    step("no process is left once the directory is gone", until(lambda: not workers()), workers())
+
+
+def signalled(number, status):
+    with adopting() as m:
+        running = subprocess.Popen(
+            [*CHECK, m.at, "--count", "1000000"], stdout=subprocess.PIPE, stderr=subprocess.PIPE, text=True
+        )
+        step("it runs", until(lambda: m.groups() != []))
+        time.sleep(1)
+        running.send_signal(number)
+        out, said = running.communicate(timeout=30)
+        name = signal.Signals(number).name
+        step(f"{name}: its status", running.returncode == status, running.returncode)
+        step(f"{name}: nothing is left", until(lambda: m.groups() == []), m.groups())
+        if status == 2:
+            step(f"{name}: one sentence, and the counts", said.endswith("interrupted\n") and "operations in" in out, out + said)
+        step(f"{name}: no process is left", until(lambda: not workers()), workers())
+
+
+# ---- what cannot be checked
+
+
+def refused(name, directory, *wanted):
+    status, out, said = check(directory)
+    right = status == 2 and out == "" and said.count("\n") == 1 and all(word in said for word in wanted)
+    step(f"{name}: one sentence", right, f"{status}: {out}{said}")
+
+
+def unusable():
+    home = tempfile.mkdtemp()
+
+    def folder(name, **files):
+        at = os.path.join(home, name)
+        os.mkdir(at)
+        for file, text in files.items():
+            with open(os.path.join(at, file.replace("__", ".")), "w") as it:
+                it.write(text)
+        return at
+
+    refused("a path that is not there", os.path.join(home, "none"), "No such file")
+    refused("a file", os.path.join(folder("f", x=""), "x"), "not a directory")
+    refused("a plain directory", folder("plain"), "not a cgroup2 directory")
+    refused(
+        "another controller", folder("other", cgroup__procs="", cgroup__controllers="cpu memory\n"), "pids", "cgroup.controllers"
+    )
+    off = folder("off", cgroup__procs="", cgroup__controllers="pids\n", cgroup__subtree_control="\n")
+    refused("the controller is off", off, "+pids")
+    refused("no files of the controller", folder("bare", cgroup__procs=""), "pids.")
+    step("nothing is left in it", os.listdir(os.path.join(home, "bare")) == ["cgroup.procs"])
+    locked = folder("locked", cgroup__procs="")
+    os.chmod(locked, 0o555)
+    refused("a directory that is not writable", locked, "not writable")
+    with faulty("none", "-o", "ro") as m:
+        refused("a mount that is read-only", m.at, "not writable")
+    with Mount(MAKHLOEUM, "mount", "AT", "--foreground") as m:
+        refused("a mount that takes no real process", m.at, "cannot be moved")
+        step("nothing is left in it either", m.groups() == [], m.groups())
+    os.chmod(locked, 0o755)
+    shutil.rmtree(home)
+
+
+def progress():
+    with adopting() as m:
+        _, out, said = check(m.at, "--no-worked", "--time", "7", "--count", "1000000")
+        step("progress", re.search(r"^\d+ operations, 0 differences, \d+ a second$", said, re.M), said)
+        step("--time ends it", re.search(r"operations in ([789]|1\d)\.\d s", out), out)
+
+
+unusable()
+same_on("mount --adopt", adopting(), OPERATIONS)
+same_on("mount --adopt --extra", adopting("--extra"), 300)
+same_on("the small file system", faulty("none"), 1000)
+progress()
+catch_all()
+hanging()
+signalled(signal.SIGINT, 2)
+signalled(signal.SIGTERM, 2)
+signalled(signal.SIGKILL, -signal.SIGKILL)
+print(f"{passed} passed, {failed} failed")
+sys.exit(1 if failed else 0)
