@@ -1,0 +1,97 @@
+//! A page: the cells of 64 pids that follow each other.
+
+ghost use Rattle.std.specs.Prelude.{◌≡◌, ℕ, ◌<◌, ◌≤◌, [], None, Some, OnOk, length, option_map, slice_set};
+ghost use Rattle.std.specs.List.{slice_index_or};
+ghost use Rattle.std.specs.Option.{option_copied};
+ghost use Rattle.process_table.specs.Cells.{at_place};
+
+use crate::process::Cell;
+use std::alloc::{AllocError, Allocator};
+use std::marker::Model;
+use std::mem;
+
+// How many pids a page is for.
+pub(crate) const CELLS: usize = 64;
+
+// The cells of a page, or none where the page has not been made.
+#[derive(Drop)]
+pub(crate) struct Page<A: Allocator + Clone> {
+    cells: Vec<Option<Cell<A>>, A>,
+}
+
+impl<A: Allocator + Clone> Model for Page<A> {
+    ghost use Rattle.std.specs.Prelude.{List, Option};
+    ghost use Rattle.process_table.specs.declared.process.Cell.{Cell};
+
+    ghost Value = { List (Option (Cell A)) };
+
+    ghost view = { λ p. p.cells.items };
+}
+
+impl<A: Allocator + Clone> Page<A> {
+    // A page that has not been made. It takes no memory.
+    pub(crate) fn unmade(alloc: A) -> Page<A>
+        ensures { result ≡ [] }
+    {
+        Page {
+            cells: Vec::new(alloc),
+        }
+    }
+
+    // Makes the page whole, in one block. The cells that it has stay.
+    pub(crate) fn fill(&mut self) -> Result<(), AllocError>
+        ensures whole { OnOk result (CELLS ≤ length self.new) }
+        ensures same { (k : ℕ) → slice_index_or self.new k None ≡ slice_index_or self.old k None }
+    {
+        let len = self.cells.len();
+        if len < CELLS {
+            self.cells.reserve(CELLS - len)?;
+        }
+        for _at in len..CELLS {
+            self.cells.push(None)?;
+        }
+        Ok(())
+    }
+
+    pub(crate) fn get(&self, at: usize) -> Option<&Cell<A>>
+        ensures { option_copied result ≡ slice_index_or self.now at None }
+    {
+        if at < self.cells.len() {
+            self.cells[at].as_ref()
+        } else {
+            None
+        }
+    }
+
+    // Puts a cell in; the one that was there comes back.
+    pub(crate) fn put(&mut self, at: usize, cell: Cell<A>) -> Option<Cell<A>>
+        requires { at < length self.old }
+        ensures before { result ≡ slice_index_or self.old at None }
+        ensures after { self.new ≡ slice_set self.old at (Some cell) }
+    {
+        mem::replace(&mut self.cells[at], Some(cell))
+    }
+
+    // Takes a cell out.
+    pub(crate) fn take(&mut self, at: usize) -> Option<Cell<A>>
+        ensures before { result ≡ slice_index_or self.old at None }
+        ensures after { self.new ≡ slice_set self.old at None }
+    {
+        if at < self.cells.len() {
+            self.cells[at].take()
+        } else {
+            None
+        }
+    }
+
+    // Notes another place in the cell, if there is one.
+    pub(crate) fn set_place(&mut self, at: usize, place: usize)
+        ensures { self.new ≡ slice_set self.old at (option_map (at_place place) (slice_index_or self.old at None)) }
+    {
+        if at < self.cells.len() {
+            if let Some(cell) = &mut self.cells[at] {
+                cell.place = place;
+            }
+        }
+    }
+}
