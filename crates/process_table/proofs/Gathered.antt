@@ -30,11 +30,11 @@ one_more a n t =
     elim (eqb a n) as (λ b. eqb a n ≡ b → choose (ltb a (n + 1)) ≡ choose (ltb a n) + choose (eqb a n)) [
       | true ↦ λ e. let same : a ≡ n = eqb-true a n e in omega (arith, ap choose (lt-ltb a (n + 1) (omega arith)), ap choose (le-ltb a n (omega arith)), ap choose e)
       | false ↦ λ e.
-        let ne : a ≢ n = eqb-false a n e in
-        elim (ltb a n) as (λ b. ltb a n ≡ b → choose (ltb a (n + 1)) ≡ choose (ltb a n) + choose (eqb a n)) [
-          | true ↦ λ f. let lt : a < n = ltb-true a n f in omega (arith, ap choose (lt-ltb a (n + 1) (omega arith)), ap choose f, ap choose e)
-          | false ↦ λ f. let ge : n ≤ a = ltb-false a n f in omega (arith, ap choose (le-ltb a (n + 1) (omega arith)), ap choose f, ap choose e)
-        ] refl
+          let ne : a ≢ n = eqb-false a n e in
+          elim (ltb a n) as (λ b. ltb a n ≡ b → choose (ltb a (n + 1)) ≡ choose (ltb a n) + choose (eqb a n)) [
+            | true ↦ λ f. let lt : a < n = ltb-true a n f in omega (arith, ap choose (lt-ltb a (n + 1) (omega arith)), ap choose f, ap choose e)
+            | false ↦ λ f. let ge : n ≤ a = ltb-false a n f in omega (arith, ap choose (le-ltb a (n + 1) (omega arith)), ap choose f, ap choose e)
+          ] refl
     ] refl
 
 module _ {A : Type 0} where

@@ -29,21 +29,21 @@ module _ {X : Type 0} (pages : List (List (Option X))) where
 
   -- one cell of one page
   pub one_cell : (pid : ℕ) (v : Option X) → pid / 64 < length pages → get_or (set (get_or pages (pid / 64) []) (pid % 64) v) (pid % 64) None ≡ v
-    → (q : ℕ) → cell_at (set pages (pid / 64) (set (get_or pages (pid / 64) []) (pid % 64) v)) q ≡ cond (eqb pid q) v (cell_at pages q)
+      → (q : ℕ) → cell_at (set pages (pid / 64) (set (get_or pages (pid / 64) []) (pid % 64) v)) q ≡ cond (eqb pid q) v (cell_at pages q)
   unfolding cell_at
   one_cell pid v listed kept q =
       let page = set (get_or pages (pid / 64) []) (pid % 64) v in
       elim (eqb pid q) as (λ b. eqb pid q ≡ b → get_or (get_or (set pages (pid / 64) page) (q / 64) []) (q % 64) None ≡ cond b v (get_or (get_or pages (q / 64) []) (q % 64) None)) [
         | true ↦ λ e. rw (← eqb-true pid q e) (rw get_or-set_same kept)
         | false ↦ λ e.
-          let apart : pid ≢ q = eqb-false pid q e in
-          elim (eqb (q / 64) (pid / 64)) as (λ b. eqb (q / 64) (pid / 64) ≡ b → get_or (get_or (set pages (pid / 64) page) (q / 64) []) (q % 64) None ≡ get_or (get_or pages (q / 64) []) (q % 64) None) [
-            | true ↦ λ f.
-              let same : q / 64 ≡ pid / 64 = eqb-true _ _ f in
-              let ne : q % 64 ≢ pid % 64 = omega arith in
-              rw same (rw (get_or-set_same, get_or-set_other) refl)
-            | false ↦ λ f. let ne : q / 64 ≢ pid / 64 = eqb-false _ _ f in rw get_or-set_other refl
-          ] refl
+            let apart : pid ≢ q = eqb-false pid q e in
+            elim (eqb (q / 64) (pid / 64)) as (λ b. eqb (q / 64) (pid / 64) ≡ b → get_or (get_or (set pages (pid / 64) page) (q / 64) []) (q % 64) None ≡ get_or (get_or pages (q / 64) []) (q % 64) None) [
+              | true ↦ λ f.
+                  let same : q / 64 ≡ pid / 64 = eqb-true _ _ f in
+                  let ne : q % 64 ≢ pid % 64 = omega arith in
+                  rw same (rw (get_or-set_same, get_or-set_other) refl)
+              | false ↦ λ f. let ne : q / 64 ≢ pid / 64 = eqb-false _ _ f in rw get_or-set_other refl
+            ] refl
       ] refl
 
   -- the pid's page is not listed
@@ -60,6 +60,21 @@ module _ {X : Type 0} (pages : List (List (Option X))) where
       ] refl
 
 module _ {X : Type 0} where
+  -- pages that read alike, in the place of one page
+  reads_alike : (pages : List (List (Option X))) (p : ℕ) (a b : List (Option X)) → p < length pages → ((k : ℕ) → get_or a k None ≡ get_or b k None) → (q : ℕ) → cell_at (set pages p a) q ≡ cell_at (set pages p b) q
+  unfolding cell_at
+  reads_alike pages p a b within h q =
+      elim (eqb (q / 64) p) as (λ e. eqb (q / 64) p ≡ e → get_or (get_or (set pages p a) (q / 64) []) (q % 64) None ≡ get_or (get_or (set pages p b) (q / 64) []) (q % 64) None) [
+        | true ↦ λ e.
+            let at : q / 64 ≡ p = eqb-true (q / 64) p e in
+            let left : get_or (set pages p a) (q / 64) [] ≡ a = rw at (get_or-set_same pages p a [] within) in
+            let right : get_or (set pages p b) (q / 64) [] ≡ b = rw at (get_or-set_same pages p b [] within) in
+            ap (λ l. get_or l (q % 64) None) left ∙ h (q % 64) ∙ ap (λ l. get_or l (q % 64) None) (sym right)
+        | false ↦ λ e.
+            let ne : q / 64 ≢ p = eqb-false (q / 64) p e in
+            ap (λ l. get_or l (q % 64) None) (get_or-set_other pages p (q / 64) a [] ne ∙ sym (get_or-set_other pages p (q / 64) b [] ne))
+      ] refl
+
   -- a write that reads back
   pub kept_within : (xs : List (Option X)) (k : ℕ) (v : Option X) → k < length xs → get_or (set xs k v) k None ≡ v
   kept_within xs k v h = get_or-set_same xs k v None h
@@ -86,3 +101,7 @@ module _ {X : Type 0} where
 
     pub wrote_alike : (after : List (Option X)) → ((k : ℕ) → get_or after k None ≡ get_or page k None) → (q : ℕ) → cell_at (set pages (pid / 64) after) q ≡ cell_at pages q
     wrote_alike after h = same_page pages (pid / 64) after listed (λ k. h k ∙ ap (λ l. get_or l k None) (sym is_page))
+
+    -- the same with a page that reads as after the write
+    pub wrote_as : (v : Option X) (after : List (Option X)) → get_or (set page (pid % 64) v) (pid % 64) None ≡ v → ((k : ℕ) → get_or after k None ≡ get_or (set page (pid % 64) v) k None) → (q : ℕ) → cell_at (set pages (pid / 64) after) q ≡ cond (eqb pid q) v (cell_at pages q)
+    wrote_as v after kept h q = reads_alike pages (pid / 64) after (set page (pid % 64) v) listed h q ∙ wrote v kept q

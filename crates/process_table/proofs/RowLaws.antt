@@ -79,9 +79,9 @@ module _ {X : Type 0} where
         elim (f k) as (λ o. count (filter p (cons_row k o (rows_from f (suc k) n))) ≡ 0) [
           | None ↦ rest
           | Some y ↦ elim (p (k, y)) as (λ b. count (cond b ((k, y) ∷ filter p (rows_from f (suc k) n)) (filter p (rows_from f (suc k) n))) ≡ 0) [
-              | true ↦ count-other q k (map (λ e. e.0) (filter p (rows_from f (suc k) n))) other ∙ rest
-              | false ↦ rest
-            ]
+            | true ↦ count-other q k (map (λ e. e.0) (filter p (rows_from f (suc k) n))) other ∙ rest
+            | false ↦ rest
+          ]
         ]
 
     above : (j k n : ℕ) → j < k → AllByRecursion (λ y. nat_cmp j y ≡ Less) (keys_of (rows_from f k n))
@@ -114,11 +114,11 @@ module _ {X : Type 0} where
     rows_found q k (suc n) le past =
         elim (eqb q k) as (λ b. eqb q k ≡ b → lookup (is_at (nat_cmp q)) (cons_row k (f k) (rows_from f (suc k) n)) ≡ f q) [
           | true ↦ λ e.
-            rw (eqb-true q k e) (elim (f k) as (λ o. lookup (is_at (nat_cmp k)) (cons_row k o (rows_from f (suc k) n)) ≡ o) [ None ↦ found_below k (suc k) n (omega arith) | Some x ↦ rw (cmp_same k) refl ])
+              rw (eqb-true q k e) (elim (f k) as (λ o. lookup (is_at (nat_cmp k)) (cons_row k o (rows_from f (suc k) n)) ≡ o) [ None ↦ found_below k (suc k) n (omega arith) | Some x ↦ rw (cmp_same k) refl ])
           | false ↦ λ e.
-            let ne : q ≢ k = eqb-false q k e in
-            let rest = rows_found q (suc k) n (omega arith) (λ h. past (omega arith)) in
-            elim (f k) as (λ o. lookup (is_at (nat_cmp q)) (cons_row k o (rows_from f (suc k) n)) ≡ f q) [ None ↦ rest | Some x ↦ rw (cmp_greater q k (omega arith)) rest ]
+              let ne : q ≢ k = eqb-false q k e in
+              let rest = rows_found q (suc k) n (omega arith) (λ h. past (omega arith)) in
+              elim (f k) as (λ o. lookup (is_at (nat_cmp q)) (cons_row k o (rows_from f (suc k) n)) ≡ f q) [ None ↦ rest | Some x ↦ rw (cmp_greater q k (omega arith)) rest ]
         ] refl
 
     pub rows_counted : (p : ℕ × X → Bool) (q k n : ℕ) → k ≤ q → (k + n ≤ q → f q ≡ None) → count_by (eqb q) (map (λ e. e.0) (filter p (rows_from f k n))) ≡ counted p q (f q)
@@ -128,26 +128,26 @@ module _ {X : Type 0} where
         let count : List (ℕ × X) → ℕ = λ es. count_by (eqb q) (map (λ e. e.0) es) in
         elim (eqb q k) as (λ b. eqb q k ≡ b → count (filter p (cons_row k (f k) (rows_from f (suc k) n))) ≡ counted p q (f q)) [
           | true ↦ λ e.
-            let same : q ≡ k = eqb-true q k e in
-            let rest = counted_below p q (suc k) n (omega arith) in
-            subst (λ j. count (filter p (cons_row j (f j) (rows_from f (suc k) n))) ≡ counted p q (f q)) same
-            (elim (f q) as (λ o. count (filter p (cons_row q o (rows_from f (suc k) n))) ≡ counted p q o) [
-              | None ↦ rest
-              | Some x ↦ elim (p (q, x)) as (λ b. count (cond b ((q, x) ∷ filter p (rows_from f (suc k) n)) (filter p (rows_from f (suc k) n))) ≡ cond b 1 0) [
+              let same : q ≡ k = eqb-true q k e in
+              let rest = counted_below p q (suc k) n (omega arith) in
+              subst (λ j. count (filter p (cons_row j (f j) (rows_from f (suc k) n))) ≡ counted p q (f q)) same
+              (elim (f q) as (λ o. count (filter p (cons_row q o (rows_from f (suc k) n))) ≡ counted p q o) [
+                | None ↦ rest
+                | Some x ↦ elim (p (q, x)) as (λ b. count (cond b ((q, x) ∷ filter p (rows_from f (suc k) n)) (filter p (rows_from f (suc k) n))) ≡ cond b 1 0) [
                   | true ↦ let one = count-same q q (map (λ e. e.0) (filter p (rows_from f (suc k) n))) (eq-eqb q q refl) in omega (arith, one, rest)
                   | false ↦ rest
                 ]
-            ])
+              ])
           | false ↦ λ e.
-            let ne : q ≢ k = eqb-false q k e in
-            let rest = rows_counted p q (suc k) n (omega arith) (λ h. past (omega arith)) in
-            elim (f k) as (λ o. count (filter p (cons_row k o (rows_from f (suc k) n))) ≡ counted p q (f q)) [
-              | None ↦ rest
-              | Some x ↦ elim (p (k, x)) as (λ b. count (cond b ((k, x) ∷ filter p (rows_from f (suc k) n)) (filter p (rows_from f (suc k) n))) ≡ counted p q (f q)) [
+              let ne : q ≢ k = eqb-false q k e in
+              let rest = rows_counted p q (suc k) n (omega arith) (λ h. past (omega arith)) in
+              elim (f k) as (λ o. count (filter p (cons_row k o (rows_from f (suc k) n))) ≡ counted p q (f q)) [
+                | None ↦ rest
+                | Some x ↦ elim (p (k, x)) as (λ b. count (cond b ((k, x) ∷ filter p (rows_from f (suc k) n)) (filter p (rows_from f (suc k) n))) ≡ counted p q (f q)) [
                   | true ↦ count-other q k (map (λ e. e.0) (filter p (rows_from f (suc k) n))) e ∙ rest
                   | false ↦ rest
                 ]
-            ]
+              ]
         ] refl
 
   -- ---- one row more, or another one
@@ -157,15 +157,15 @@ module _ {X : Type 0} where
   rows_put f g q x here others k (suc n) le lt =
       elim (eqb q k) as (λ b. eqb q k ≡ b → cons_row k (g k) (rows_from g (suc k) n) ≡ insert_entry nat_cmp (cons_row k (f k) (rows_from f (suc k) n)) q x) [
         | true ↦ λ e.
-          let same : q ≡ k = eqb-true q k e in
-          let rest = alike_from f g (suc k) n (λ r h. others r (omega arith)) in
-          subst (λ j. cons_row j (g j) (rows_from g (suc k) n) ≡ insert_entry nat_cmp (cons_row j (f j) (rows_from f (suc k) n)) q x) same
-          (rw (here, rest) (elim (f q) as (λ o. (q, x) ∷ rows_from f (suc k) n ≡ insert_entry nat_cmp (cons_row q o (rows_from f (suc k) n)) q x) [ None ↦ sym (put_below f q x (suc k) n (omega arith)) | Some y ↦ rw (cmp_same q) refl ]))
+            let same : q ≡ k = eqb-true q k e in
+            let rest = alike_from f g (suc k) n (λ r h. others r (omega arith)) in
+            subst (λ j. cons_row j (g j) (rows_from g (suc k) n) ≡ insert_entry nat_cmp (cons_row j (f j) (rows_from f (suc k) n)) q x) same
+            (rw (here, rest) (elim (f q) as (λ o. (q, x) ∷ rows_from f (suc k) n ≡ insert_entry nat_cmp (cons_row q o (rows_from f (suc k) n)) q x) [ None ↦ sym (put_below f q x (suc k) n (omega arith)) | Some y ↦ rw (cmp_same q) refl ]))
         | false ↦ λ e.
-          let ne : k ≢ q = λ h. eqb-false q k e (sym h) in
-          let greater = cmp_greater q k (omega arith) in
-          rw (others k ne, rows_put f g q x here others (suc k) n (omega arith) (omega arith))
-          (elim (f k) as (λ o. cons_row k o (insert_entry nat_cmp (rows_from f (suc k) n) q x) ≡ insert_entry nat_cmp (cons_row k o (rows_from f (suc k) n)) q x) [ None ↦ refl | Some y ↦ rw greater refl ])
+            let ne : k ≢ q = λ h. eqb-false q k e (sym h) in
+            let greater = cmp_greater q k (omega arith) in
+            rw (others k ne, rows_put f g q x here others (suc k) n (omega arith) (omega arith))
+            (elim (f k) as (λ o. cons_row k o (insert_entry nat_cmp (rows_from f (suc k) n) q x) ≡ insert_entry nat_cmp (cons_row k o (rows_from f (suc k) n)) q x) [ None ↦ refl | Some y ↦ rw greater refl ])
       ] refl
 
   -- ---- one row less
@@ -175,13 +175,13 @@ module _ {X : Type 0} where
   rows_taken f g q here others k (suc n) le =
       elim (eqb q k) as (λ b. eqb q k ≡ b → cons_row k (g k) (rows_from g (suc k) n) ≡ remove_entry (is_at (nat_cmp q)) (cons_row k (f k) (rows_from f (suc k) n))) [
         | true ↦ λ e.
-          let same : q ≡ k = eqb-true q k e in
-          let rest = alike_from f g (suc k) n (λ r h. others r (omega arith)) in
-          subst (λ j. cons_row j (g j) (rows_from g (suc k) n) ≡ remove_entry (is_at (nat_cmp q)) (cons_row j (f j) (rows_from f (suc k) n))) same
-          (rw (here, rest) (elim (f q) as (λ o. rows_from f (suc k) n ≡ remove_entry (is_at (nat_cmp q)) (cons_row q o (rows_from f (suc k) n))) [ None ↦ sym (taken_below f q (suc k) n (omega arith)) | Some y ↦ rw (cmp_same q) refl ]))
+            let same : q ≡ k = eqb-true q k e in
+            let rest = alike_from f g (suc k) n (λ r h. others r (omega arith)) in
+            subst (λ j. cons_row j (g j) (rows_from g (suc k) n) ≡ remove_entry (is_at (nat_cmp q)) (cons_row j (f j) (rows_from f (suc k) n))) same
+            (rw (here, rest) (elim (f q) as (λ o. rows_from f (suc k) n ≡ remove_entry (is_at (nat_cmp q)) (cons_row q o (rows_from f (suc k) n))) [ None ↦ sym (taken_below f q (suc k) n (omega arith)) | Some y ↦ rw (cmp_same q) refl ]))
         | false ↦ λ e.
-          let ne : k ≢ q = λ h. eqb-false q k e (sym h) in
-          let greater = cmp_greater q k (omega arith) in
-          rw (others k ne, rows_taken f g q here others (suc k) n (omega arith))
-          (elim (f k) as (λ o. cons_row k o (remove_entry (is_at (nat_cmp q)) (rows_from f (suc k) n)) ≡ remove_entry (is_at (nat_cmp q)) (cons_row k o (rows_from f (suc k) n))) [ None ↦ refl | Some y ↦ rw greater refl ])
+            let ne : k ≢ q = λ h. eqb-false q k e (sym h) in
+            let greater = cmp_greater q k (omega arith) in
+            rw (others k ne, rows_taken f g q here others (suc k) n (omega arith))
+            (elim (f k) as (λ o. cons_row k o (remove_entry (is_at (nat_cmp q)) (rows_from f (suc k) n)) ≡ remove_entry (is_at (nat_cmp q)) (cons_row k o (rows_from f (suc k) n))) [ None ↦ refl | Some y ↦ rw greater refl ])
       ] refl

@@ -37,11 +37,11 @@ same_numbers (x ∷ xs) (y ∷ ys) a b h =
     let down : x ≤ y = counted_from x y (x ∷ xs) (first_least x xs a) (subst (λ n. 0 < n) (sym (h y)) (count_first y ys)) in
     let same : x ≡ y = omega arith in
     let rest : xs ≡ ys = same_numbers xs ys (rest_up x xs a) (rest_up y ys b) (λ q.
-        let l = count_by-cons (eqb q) x xs in
-        let r = count_by-cons (eqb q) y ys in
-        let weight : ℕ → ℕ = λ z. cond (eqb q z) 1 0 in
-        let e : weight x ≡ weight y = ap weight same in
-        omega (arith, l, r, e, h q)) in
+    let l = count_by-cons (eqb q) x xs in
+    let r = count_by-cons (eqb q) y ys in
+    let weight : ℕ → ℕ = λ z. cond (eqb q z) 1 0 in
+    let e : weight x ≡ weight y = ap weight same in
+    omega (arith, l, r, e, h q)) in
     rw (same, rest) refl
 
 -- a sort

@@ -43,7 +43,7 @@ module _ {A : Type 0} where
   tied_alike cells same lists after t h l = record {
     counted = λ s q. ap (count_by (eqb q)) (l s) ∙ t.counted s q ∙ sym (ap (in_slot s) (h q));
     placed = λ q c is. subst (λ xs. IsAt xs c.place q) (sym (l c.process.slot)) (t.placed q c (sym (h q) ∙ is));
-    few = λ q le. h q ∙ t.few q le
+    few = λ q le. h q ∙ t.few q le;
   }
 
   -- no pages, no lists
@@ -51,7 +51,7 @@ module _ {A : Type 0} where
   empty_tied pages lists e f = subst (λ ps. IsTied (cell_at ps) lists) (sym e) (subst (IsTied (cell_at [])) (sym f) (record {
     counted = λ s q. sym (ap (in_slot {A = A} s) (no_page [] q (omega arith)));
     placed = λ q c is. absurd (none q c is);
-    few = λ q _. no_page [] q (omega arith)
+    few = λ q _. no_page [] q (omega arith);
   }))
     where
       none : (q : ℕ) (c : Cell A) → cell_at [] q ≡ Some c → ⊥

@@ -70,8 +70,7 @@ module _ {A : Type 0} where
 
   -- ---- a pid leaves a list
   module _ (cells : ℕ → Option (Cell A)) (lists after : List (List ℕ)) (slot place p : ℕ) (moved : Option ℕ)
-    (o : Owes cells lists slot place p) (left : HasLeft (list_at lists slot) place moved (list_at after slot)) (others : (s : ℕ) → s ≢ slot → list_at after s ≡ list_at lists s) where
-
+      (o : Owes cells lists slot place p) (left : HasLeft (list_at lists slot) place moved (list_at after slot)) (others : (s : ℕ) → s ≢ slot → list_at after s ≡ list_at lists s) where
     -- the list without it
     fewer_counts : (q : ℕ) → count_by (eqb q) (list_at lists slot) ≡ cond (eqb q p) 1 0 + count_by (eqb q) (list_at after slot)
     fewer_counts q =
@@ -83,13 +82,13 @@ module _ {A : Type 0} where
     left_counts s q =
         elim (eqb s slot) as (λ b. eqb s slot ≡ b → count_by (eqb q) (list_at after s) ≡ in_slot s (cells q)) [
           | true ↦ λ e.
-            let mine : owed slot p slot q ≡ one_if (eqb q p) = ap (λ b. cond (eqb q p) (one_if b) 0) (eq-eqb slot slot refl) in
-            subst (λ t. count_by (eqb q) (list_at after t) ≡ in_slot t (cells q)) (sym (eqb-true s slot e)) (omega (arith, fewer_counts q, o.counted slot q, mine))
+              let mine : owed slot p slot q ≡ one_if (eqb q p) = ap (λ b. cond (eqb q p) (one_if b) 0) (eq-eqb slot slot refl) in
+              subst (λ t. count_by (eqb q) (list_at after t) ≡ in_slot t (cells q)) (sym (eqb-true s slot e)) (omega (arith, fewer_counts q, o.counted slot q, mine))
           | false ↦ λ e.
-            let ne : s ≢ slot = eqb-false s slot e in
-            let apart : slot ≢ s = λ h. ne (sym h) in
-            let none : owed slot p s q ≡ 0 = ap (λ b. cond (eqb q p) (one_if b) 0) (ne_eqb slot s apart) ∙ none_for (eqb q p) 0 in
-            ap (count_by (eqb q)) (others s ne) ∙ omega (arith, o.counted s q, none)
+              let ne : s ≢ slot = eqb-false s slot e in
+              let apart : slot ≢ s = λ h. ne (sym h) in
+              let none : owed slot p s q ≡ 0 = ap (λ b. cond (eqb q p) (one_if b) 0) (ne_eqb slot s apart) ∙ none_for (eqb q p) 0 in
+              ap (count_by (eqb q)) (others s ne) ∙ omega (arith, o.counted s q, none)
         ] refl
 
     -- another pid of that slot does not stand at the place
@@ -105,9 +104,9 @@ module _ {A : Type 0} where
     stays q c is last =
         elim (eqb c.process.slot slot) as (λ b. eqb c.process.slot slot ≡ b → IsAt (list_at after c.process.slot) c.place q) [
           | true ↦ λ e.
-            let same : c.process.slot ≡ slot = eqb-true c.process.slot slot e in
-            subst (λ t. IsAt (list_at after t) c.place q) (sym same)
-            (still_at (list_at lists slot) (list_at after slot) place moved c.place q left (subst (λ t. IsAt (list_at lists t) c.place q) same (o.placed q c is)) (elsewhere q c is same) (last same))
+              let same : c.process.slot ≡ slot = eqb-true c.process.slot slot e in
+              subst (λ t. IsAt (list_at after t) c.place q) (sym same)
+              (still_at (list_at lists slot) (list_at after slot) place moved c.place q left (subst (λ t. IsAt (list_at lists t) c.place q) same (o.placed q c is)) (elsewhere q c is same) (last same))
           | false ↦ λ e. subst (λ l. IsAt l c.place q) (sym (others c.process.slot (eqb-false c.process.slot slot e))) (o.placed q c is)
         ] refl
 
@@ -118,7 +117,7 @@ module _ {A : Type 0} where
       placed = λ q c is. stays q c is (λ same at.
           let past : length (list_at after slot) ≤ place = subst (IsRead (list_at after slot) place) none left.comes in
           elsewhere q c is same (omega (arith, past, at, left.fewer, o.here.within)));
-      few = o.few
+      few = o.few;
     }
 
     module _ (m : ℕ) (some : moved ≡ Some m) where
@@ -135,7 +134,7 @@ module _ {A : Type 0} where
       left_moved changed h = record {
         counted = λ s q. left_counts s q ∙ sym (counts s q);
         placed = places;
-        few = fews
+        few = fews;
       }
         where
           counts : (s q : ℕ) → in_slot s (changed q) ≡ in_slot s (cells q)
@@ -153,15 +152,15 @@ module _ {A : Type 0} where
           places q c is =
               elim (eqb m q) as (λ b. eqb m q ≡ b → IsAt (list_at after c.process.slot) c.place q) [
                 | true ↦ λ e.
-                  let it : m ≡ q = eqb-true m q e in
-                  let new : option_map (at_place place) (cells m) ≡ Some c = sym (written cells changed m (option_map (at_place place) (cells m)) h) ∙ ap changed it ∙ is in
-                  subst (λ r. IsAt (list_at after c.process.slot) c.place r) it (mapped (cells m) c refl new)
+                    let it : m ≡ q = eqb-true m q e in
+                    let new : option_map (at_place place) (cells m) ≡ Some c = sym (written cells changed m (option_map (at_place place) (cells m)) h) ∙ ap changed it ∙ is in
+                    subst (λ r. IsAt (list_at after c.process.slot) c.place r) it (mapped (cells m) c refl new)
                 | false ↦ λ e.
-                  let ne = eqb-false m q e in
-                  let was : cells q ≡ Some c = sym (unwritten cells changed m (option_map (at_place place) (cells m)) h q (λ it. ne (sym it))) ∙ is in
-                  stays q c was (λ same at.
-                      let there : IsAt (list_at lists slot) c.place q = subst (λ t. IsAt (list_at lists t) c.place q) same (o.placed q c was) in
-                      ne (sym stands.here ∙ left.last stands.within ∙ ap (λ n. get_or (list_at lists slot) n 0) (sym at) ∙ there.here))
+                    let ne = eqb-false m q e in
+                    let was : cells q ≡ Some c = sym (unwritten cells changed m (option_map (at_place place) (cells m)) h q (λ it. ne (sym it))) ∙ is in
+                    stays q c was (λ same at.
+                    let there : IsAt (list_at lists slot) c.place q = subst (λ t. IsAt (list_at lists t) c.place q) same (o.placed q c was) in
+                    ne (sym stands.here ∙ left.last stands.within ∙ ap (λ n. get_or (list_at lists slot) n 0) (sym at) ∙ there.here))
               ] refl
 
           fews : (q : ℕ) → pid_count ≤ q → changed q ≡ None
@@ -225,10 +224,9 @@ module _ {A : Type 0} where
 
   -- ---- a pid comes to a slot that it was not in
   module _ (cells changed : ℕ → Option (Cell A)) (lists after : List (List ℕ)) (p : ℕ) (d : Cell A) (t : IsTied cells lists) (small : p < pid_count)
-    (place : d.place ≡ length (list_at lists d.process.slot))
-    (pushed : (s : ℕ) → list_at after s ≡ cond (eqb d.process.slot s) (list_at lists s ++ p ∷ []) (list_at lists s))
-    (h : (q : ℕ) → changed q ≡ cond (eqb p q) (Some d) (cells q)) where
-
+      (place : d.place ≡ length (list_at lists d.process.slot))
+      (pushed : (s : ℕ) → list_at after s ≡ cond (eqb d.process.slot s) (list_at lists s ++ p ∷ []) (list_at lists s))
+      (h : (q : ℕ) → changed q ≡ cond (eqb p q) (Some d) (cells q)) where
     new : changed p ≡ Some d
     new = written cells changed p (Some d) h
 
@@ -255,9 +253,9 @@ module _ {A : Type 0} where
 
     longer : (s k q : ℕ) → IsAt (list_at lists s) k q → IsAt (list_at after s) k q
     longer s k q at = subst (λ l. IsAt l k q) (sym (pushed s)) (elim (eqb d.process.slot s) as (λ b. IsAt (cond b (list_at lists s ++ p ∷ []) (list_at lists s)) k q) [
-        | true ↦ record { within = omega (arith, at.within, length-append (list_at lists s) (p ∷ [])); here = get_or_append_left (list_at lists s) (p ∷ []) 0 k at.within ∙ at.here }
-        | false ↦ at
-      ])
+      | true ↦ record { within = omega (arith, at.within, length-append (list_at lists s) (p ∷ [])); here = get_or_append_left (list_at lists s) (p ∷ []) 0 k at.within ∙ at.here }
+      | false ↦ at
+    ])
 
     at_end : IsAt (list_at after d.process.slot) d.place p
     at_end = subst (λ l. IsAt l d.place p) (sym (pushed d.process.slot ∙ ap (λ b. cond b (list_at lists d.process.slot ++ p ∷ []) (list_at lists d.process.slot)) (eq-eqb d.process.slot d.process.slot refl)))
@@ -275,16 +273,16 @@ module _ {A : Type 0} where
     new_tied none = record {
       counted = λ s. by {P = λ q. count_by (eqb q) (list_at after s) ≡ in_slot s (changed q)} (omega (arith, counts_here s, ap (in_slot s) none)) (counts_apart s);
       placed = places;
-      few = fews
+      few = fews;
     }
 
     pub new_owes : (c : Cell A) → cells p ≡ Some c → c.process.slot ≢ d.process.slot → Owes changed after c.process.slot c.place p
     new_owes c is apart = record {
       counted = λ s. by {P = λ q. count_by (eqb q) (list_at after s) ≡ in_slot s (changed q) + owed c.process.slot p s q}
-        (omega (arith, counts_here s, ap (in_slot s) is, is_owed s p c))
-        (λ q ne. omega (arith, counts_apart s q ne, not_owed c.process.slot p s q ne));
+          (omega (arith, counts_here s, ap (in_slot s) is, is_owed s p c))
+          (λ q ne. omega (arith, counts_apart s q ne, not_owed c.process.slot p s q ne));
       placed = places;
       few = fews;
       here = longer c.process.slot c.place p (t.placed p c is);
-      gone = ap (in_slot c.process.slot) new ∙ ap one_if (ne_eqb d.process.slot c.process.slot (λ e. apart (sym e)))
+      gone = ap (in_slot c.process.slot) new ∙ ap one_if (ne_eqb d.process.slot c.process.slot (λ e. apart (sym e)));
     }

@@ -9,15 +9,16 @@
 //! - `insert` is the only call that asks for memory for the table. If it was refused some, nothing that can be read has
 //!   changed.
 //!
-//! A page has the cells of 64 pids that follow each other, and is made when one of them is put in. A search is two loads,
-//! whatever the pids are. A hash table with a fixed seed would have a worst case: a trace that chooses its pids could make
-//! each search long. A page of row numbers over dense rows would take 256 bytes in place of 3,584 for a lone pid, and one
-//! load more for each search.
+//! A page has the cells of 64 pids that follow each other. It is made when one of them is put in, and given back with the
+//! last of them. A search is two loads, whatever the pids are. A hash table with a fixed seed would have a worst case: a
+//! trace that chooses its pids could make each search long. Pids that ascend fill their pages; a lone pid takes a page of
+//! 3,584 bytes. Pages of row numbers over dense rows would take less for scattered pids, and one load more for each search.
 //!
 //! Each slot has a list of its pids, in no order, and a cell notes the place of its pid in the list. So a process leaves its
 //! slot in constant time: the last pid of the list comes to its place.
 //!
-//! Not promised: where a process lies in memory, and in which order a list is. Pages are kept until the table is dropped.
+//! Not promised: where a process lies in memory, and in which order a list is. The lists of pages and of slots, and the lists
+//! of pids, keep their memory until the table is dropped.
 //!
 //! `specs/Rows.antt` says which list a table is, `specs/Tied.antt` what ties cells and lists.
 #![tactic(auto)]

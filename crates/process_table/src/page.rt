@@ -1,6 +1,6 @@
 //! A page: the cells of 64 pids that follow each other.
 
-ghost use Rattle.std.specs.Prelude.{◌≡◌, ℕ, ◌<◌, ◌≤◌, [], None, Some, OnOk, length, option_map, slice_set};
+ghost use Rattle.std.specs.Prelude.{◌≡◌, ℕ, ◌<◌, ◌≤◌, [], None, Some, IsTrue, OnOk, length, option_map, slice_set};
 ghost use Rattle.std.specs.List.{slice_index_or};
 ghost use Rattle.std.specs.Option.{option_copied};
 ghost use Rattle.process_table.specs.Cells.{at_place};
@@ -13,10 +13,23 @@ use std::mem;
 // How many pids a page is for.
 pub(crate) const CELLS: usize = 64;
 
+fn are_all_empty<A: Allocator + Clone>(cells: &[Option<Cell<A>>]) -> bool
+    ensures { IsTrue result → (k : ℕ) → k < length cells.now → slice_index_or cells.now k None ≡ None }
+{
+    for cell in cells {
+        if cell.is_some() {
+            return false;
+        }
+    }
+    true
+}
+
 // The cells of a page, or none where the page has not been made.
 #[derive(Drop)]
 pub(crate) struct Page<A: Allocator + Clone> {
     cells: Vec<Option<Cell<A>>, A>,
+    // How many cells are in use. It only says when to look whether all are empty.
+    used: u32,
 }
 
 impl<A: Allocator + Clone> Model for Page<A> {
@@ -35,6 +48,7 @@ impl<A: Allocator + Clone> Page<A> {
     {
         Page {
             cells: Vec::new(alloc),
+            used: 0,
         }
     }
 
@@ -69,19 +83,39 @@ impl<A: Allocator + Clone> Page<A> {
         ensures before { result ≡ slice_index_or self.old at None }
         ensures after { self.new ≡ slice_set self.old at (Some cell) }
     {
-        mem::replace(&mut self.cells[at], Some(cell))
+        let before = mem::replace(&mut self.cells[at], Some(cell));
+        if before.is_none() {
+            self.used = self.used.wrapping_add(1);
+        }
+        before
     }
 
-    // Takes a cell out.
+    // Gives the memory of an empty page back.
+    fn free(&mut self)
+        ensures { (k : ℕ) → slice_index_or self.new k None ≡ slice_index_or self.old k None }
+    {
+        if are_all_empty(self.cells.as_slice()) {
+            self.cells.clear();
+            self.cells.shrink_to_fit();
+        }
+    }
+
+    // Takes a cell out. The page is given back with its last one.
     pub(crate) fn take(&mut self, at: usize) -> Option<Cell<A>>
         ensures before { result ≡ slice_index_or self.old at None }
-        ensures after { self.new ≡ slice_set self.old at None }
+        ensures after { (k : ℕ) → slice_index_or self.new k None ≡ slice_index_or (slice_set self.old at None) k None }
     {
-        if at < self.cells.len() {
-            self.cells[at].take()
-        } else {
-            None
+        if at >= self.cells.len() {
+            return None;
         }
+        let taken = self.cells[at].take();
+        if taken.is_some() {
+            self.used = self.used.wrapping_sub(1);
+        }
+        if self.used == 0 {
+            self.free();
+        }
+        taken
     }
 
     // Notes another place in the cell, if there is one.

@@ -31,21 +31,34 @@ fn each_call_in_ample_memory(rt: HostRuntime) -> Result<(), Fail> {
     let alloc = rt.alloc();
     let mut table = Homed::new(alloc, alloc)?;
     for (pid, slot, leaf, before) in PUT {
-        assert!(rt; table.put(pid, slot, leaf)? == before && table.read(pid) == Some((slot, leaf)), "at {pid}");
+        assert!(rt;
+            table.put(pid, slot, leaf)? == before && table.read(pid) == Some((slot, leaf)),
+            "at {pid}"
+        );
     }
     for (slot, (members, inside)) in LISTS.iter().enumerate() {
         let slot = slot as u16;
         let listed = table.members(alloc, slot)?.as_slice() == *members;
-        assert!(rt; listed && table.inside(alloc, slot)?.as_slice() == *inside, "in slot {slot}");
+        assert!(rt;
+            listed && table.inside(alloc, slot)?.as_slice() == *inside,
+            "in slot {slot}"
+        );
     }
     assert!(rt; table.members(alloc, u16::MAX)?.is_empty());
-    for (pid, slot, home) in [(64u32, 2u16, HOMES[2]), (4_194_303, 3, HOMES[3]), (65, 1, HOMES[1])] {
+    for (pid, slot, home) in [
+        (64u32, 2u16, HOMES[2]),
+        (4_194_303, 3, HOMES[3]),
+        (65, 1, HOMES[1]),
+    ] {
         let taken = table.take(pid);
         let is_it = match &taken {
             Some(process) => process.slot == slot && process.home.text() == home.as_bytes(),
             None => false,
         };
-        assert!(rt; is_it && table.read(pid).is_none() && table.take(pid).is_none(), "at {pid}");
+        assert!(rt;
+            is_it && table.read(pid).is_none() && table.take(pid).is_none(),
+            "at {pid}"
+        );
     }
     assert!(rt; table.inside(alloc, 0)?.as_slice() == [1, 63].as_slice());
     Ok(())

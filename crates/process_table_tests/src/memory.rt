@@ -71,7 +71,10 @@ fn each_allocation_refused(rt: HostRuntime) -> Result<(), Fail> {
     let mut table = Homed::new(alloc, &heap)?;
     for (pid, slot, before, asks) in PUT {
         let refused = refusals(alloc, &heap, &mut table, (pid, slot, before))?;
-        assert!(rt; refused.is_some() && (refused > Some(0)) == asks, "at {pid} in {slot}");
+        assert!(rt;
+            refused.is_some() && (refused > Some(0)) == asks,
+            "at {pid} in {slot}"
+        );
     }
     Ok(())
 }
@@ -91,6 +94,31 @@ fn lists_without_memory(rt: HostRuntime) -> Result<(), Fail> {
     let taken = table.take(3).is_some() && table.take(9).is_some();
     drop(blocks);
     assert!(rt; refused && empty && taken);
-    assert!(rt; table.members(&heap, 2)?.as_slice() == [5].as_slice() && table.inside(&heap, 0)?.as_slice() == [5].as_slice());
+    assert!(rt;
+        table.members(&heap, 2)?.as_slice() == [5].as_slice()
+            && table.inside(&heap, 0)?.as_slice() == [5].as_slice()
+    );
+    Ok(())
+}
+
+#[test]
+fn an_empty_page_is_given_back(rt: HostRuntime) -> Result<(), Fail> {
+    let alloc = rt.alloc();
+    let heap = LocalHeap::new(alloc, 65_536)?;
+    let mut table = Homed::new(alloc, &heap)?;
+    // The lists of pages and of slots keep what they have.
+    assert!(rt; table.put(640, 1, 0)?.is_none() && table.take(640).is_some());
+    let kept = heap.used();
+    for pid in [640u32, 1, 700, 64] {
+        assert!(rt;
+            table.put(pid, 1, 0)?.is_none() && table.put(pid, 1, 1)?.is_some(),
+            "at {pid}"
+        );
+        assert!(rt; kept + 2048 < heap.used(), "at {pid}");
+        assert!(rt;
+            table.take(pid).is_some() && heap.used() == kept,
+            "at {pid}"
+        );
+    }
     Ok(())
 }

@@ -85,7 +85,10 @@ fn many_calls_beside_a_list(rt: HostRuntime) -> Result<(), Fail> {
     let mut state = 1u64;
     for round in 0..20_000u32 {
         let number = next(&mut state);
-        assert!(rt; is_step_same(&mut table, &mut rows, number)?, "at call {round}");
+        assert!(rt;
+            is_step_same(&mut table, &mut rows, number)?,
+            "at call {round}"
+        );
         if round % 64 == 0 {
             assert!(rt; are_same(alloc, &table, &rows)?, "after call {round}");
         }

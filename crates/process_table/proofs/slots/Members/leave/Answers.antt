@@ -10,12 +10,12 @@ left_by : (xs ys : List ℕ) (place x : ℕ) (moved : Option ℕ) → place < le
     → ((d : ℕ) → place + 1 < length xs → get_or ys place d ≡ get_or xs (length xs - 1) d) → ((k d : ℕ) → k ≢ place → k + 1 < length xs → get_or ys k d ≡ get_or xs k d)
     → IsRead ys place moved → HasLeft xs place moved ys
 left_by xs ys place x moved within value items len last stay comes = record {
-    fewer = len;
-    others = subst (λ l. IsPermutation xs (get_or xs place 0 ∷ l)) (sym items) (subst (λ y. IsPermutation xs (y ∷ swap_remove xs place x)) (get_or_read xs place x within value 0) (IsPermutation-swap_remove xs place x within value));
-    stay = λ k ne lt. stay k 0 ne (omega (arith, len));
-    last = λ lt. last 0 (omega (arith, len)) ∙ ap (λ n. get_or xs n 0) (omega (arith, len));
-    comes = comes
-  }
+  fewer = len;
+  others = subst (λ l. IsPermutation xs (get_or xs place 0 ∷ l)) (sym items) (subst (λ y. IsPermutation xs (y ∷ swap_remove xs place x)) (get_or_read xs place x within value 0) (IsPermutation-swap_remove xs place x within value));
+  stay = λ k ne lt. stay k 0 ne (omega (arith, len));
+  last = λ lt. last 0 (omega (arith, len)) ∙ ap (λ n. get_or xs n 0) (omega (arith, len));
+  comes = comes;
+}
 
 pub returns : goal.returns
 returns g c =
