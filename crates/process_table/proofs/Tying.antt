@@ -1,0 +1,288 @@
+-- The cells and the lists stay tied when a process comes, changes its slot or leaves.
+use Rattle.std.proofs.Common.{◌≡◌, ◌≢◌, ℕ, zero, suc, ◌+◌, ◌<◌, ◌≤◌, Bool, true, false, cond, eqb, Option, Some, None, List, [], ◌∷◌, ◌++◌, length, count_by, get_or, refl, sym, ap, ◌∙◌, subst, arith, length-append}
+use Rattle.std.specs.Option.{option_map, MatchOption}
+use Rattle.std.specs.List.Sorted.{IsPermutation}
+use Rattle.std.proofs.lemmas.Bool.{eqb-true, eqb-false, eq-eqb, ne_eqb}
+use Rattle.std.proofs.lemmas.List.{get_or_append_left, get_or_push}
+use Rattle.process_table.specs.declared.process.Cell.{Cell}
+use Rattle.process_table.specs.Cells.{at_place}
+use Rattle.process_table.specs.Rows.{pid_count}
+use Rattle.process_table.specs.Lists.{list_at, IsAt, IsRead, HasLeft}
+use Rattle.process_table.specs.Tied.{in_slot, owed, IsTied, Owes}
+use Rattle.process_table.proofs.RowLaws.{count_by-cons, count-same, count-other}
+use Rattle.process_table.proofs.SameNumbers.{count-IsPermutation}
+
+-- ---- lists of numbers
+pub count-push : (q x : ℕ) (xs : List ℕ) → count_by (eqb q) (xs ++ x ∷ []) ≡ count_by (eqb q) xs + cond (eqb q x) 1 0
+count-push q x [] = let e = count_by-cons (eqb q) x [] in omega (arith, e)
+count-push q x (y ∷ xs) = let a = count_by-cons (eqb q) y (xs ++ x ∷ []) in let b = count_by-cons (eqb q) y xs in let rest = count-push q x xs in omega (arith, a, b, rest)
+
+pub count-at : (xs : List ℕ) (k q : ℕ) → IsAt xs k q → 0 < count_by (eqb q) xs
+count-at [] k q h = absurd (omega (arith, h.within))
+count-at (x ∷ xs) zero q h = let e = count-same q x xs (eq-eqb q x (sym h.here)) in omega (arith, e)
+count-at (x ∷ xs) (suc k) q h =
+    let rest = count-at xs k q (record { within = omega (arith, h.within); here = h.here }) in
+    let e = count_by-cons (eqb q) x xs in
+    omega (arith, e, rest)
+
+abbrev one_if : Bool → ℕ
+one_if b = cond b 1 0
+
+pub not_owed : (slot p s q : ℕ) → q ≢ p → owed slot p s q ≡ 0
+not_owed slot p s q ne = rw (ne_eqb q p ne) refl
+
+none_for : (b : Bool) (n : ℕ) → cond b n n ≡ n
+none_for true n = refl
+none_for false n = refl
+
+-- a place that stays
+still_at : (xs ys : List ℕ) (place : ℕ) (moved : Option ℕ) (k q : ℕ) → HasLeft xs place moved ys → IsAt xs k q → k ≢ place → k ≢ length ys → IsAt ys k q
+still_at xs ys place moved k q h at ne last =
+    let within : k < length ys = omega (arith, h.fewer, at.within) in
+    record { within = within; here = h.stay k ne within ∙ at.here }
+
+module _ {X : Type 0} where
+  -- a write of one number, by its cases
+  pub written : (f g : ℕ → Option X) (p : ℕ) (v : Option X) → ((q : ℕ) → g q ≡ cond (eqb p q) v (f q)) → g p ≡ v
+  written f g p v h = h p ∙ rw (eq-eqb p p refl) refl
+
+  pub unwritten : (f g : ℕ → Option X) (p : ℕ) (v : Option X) → ((q : ℕ) → g q ≡ cond (eqb p q) v (f q)) → (q : ℕ) → q ≢ p → g q ≡ f q
+  unwritten f g p v h q ne = let other : eqb p q ≡ false = ne_eqb p q (λ e. ne (sym e)) in h q ∙ rw other refl
+
+module _ {A : Type 0} where
+  -- a cell that counts in a slot is in it
+  pub its_slot : (s : ℕ) (c : Cell A) → 0 < in_slot s (Some c) → c.process.slot ≡ s
+  its_slot s c h =
+      elim (eqb c.process.slot s) as (λ b. eqb c.process.slot s ≡ b → 0 < cond b 1 0 → c.process.slot ≡ s) [
+        | true ↦ λ e _. eqb-true c.process.slot s e
+        | false ↦ λ _ l. absurd (omega (arith, l))
+      ] refl h
+
+  counts_one : (s : ℕ) (c : Cell A) → c.process.slot ≡ s → in_slot s (Some c) ≡ 1
+  counts_one s c e = rw (eq-eqb c.process.slot s e) refl
+
+  same_slot : (s place : ℕ) (o : Option (Cell A)) → in_slot s (option_map (at_place place) o) ≡ in_slot s o
+  same_slot s place None = refl
+  same_slot s place (Some c) = refl
+
+  pub is_owed : (s p : ℕ) (c : Cell A) → owed c.process.slot p s p ≡ in_slot s (Some c)
+  is_owed s p c = rw (eq-eqb p p refl) refl
+
+  -- ---- a pid leaves a list
+  module _ (cells : ℕ → Option (Cell A)) (lists after : List (List ℕ)) (slot place p : ℕ) (moved : Option ℕ)
+      (o : Owes cells lists slot place p) (left : HasLeft (list_at lists slot) place moved (list_at after slot)) (others : (s : ℕ) → s ≢ slot → list_at after s ≡ list_at lists s) where
+    -- the list without it
+    fewer_counts : (q : ℕ) → count_by (eqb q) (list_at lists slot) ≡ cond (eqb q p) 1 0 + count_by (eqb q) (list_at after slot)
+    fewer_counts q =
+        sym (count-IsPermutation q _ _ left.others)
+        ∙ count_by-cons (eqb q) (get_or (list_at lists slot) place 0) (list_at after slot)
+        ∙ ap (λ x. cond (eqb q x) 1 0 + count_by (eqb q) (list_at after slot)) o.here.here
+
+    left_counts : (s q : ℕ) → count_by (eqb q) (list_at after s) ≡ in_slot s (cells q)
+    left_counts s q =
+        elim (eqb s slot) as (λ b. eqb s slot ≡ b → count_by (eqb q) (list_at after s) ≡ in_slot s (cells q)) [
+          | true ↦ λ e.
+              let mine : owed slot p slot q ≡ one_if (eqb q p) = ap (λ b. cond (eqb q p) (one_if b) 0) (eq-eqb slot slot refl) in
+              subst (λ t. count_by (eqb q) (list_at after t) ≡ in_slot t (cells q)) (sym (eqb-true s slot e)) (omega (arith, fewer_counts q, o.counted slot q, mine))
+          | false ↦ λ e.
+              let ne : s ≢ slot = eqb-false s slot e in
+              let apart : slot ≢ s = λ h. ne (sym h) in
+              let none : owed slot p s q ≡ 0 = ap (λ b. cond (eqb q p) (one_if b) 0) (ne_eqb slot s apart) ∙ none_for (eqb q p) 0 in
+              ap (count_by (eqb q)) (others s ne) ∙ omega (arith, o.counted s q, none)
+        ] refl
+
+    -- another pid of that slot does not stand at the place
+    elsewhere : (q : ℕ) (c : Cell A) → cells q ≡ Some c → c.process.slot ≡ slot → c.place ≢ place
+    elsewhere q c is same at =
+        let there : IsAt (list_at lists slot) place q = subst (λ n. IsAt (list_at lists slot) n q) at (subst (λ t. IsAt (list_at lists t) c.place q) same (o.placed q c is)) in
+        let it : p ≡ q = sym o.here.here ∙ there.here in
+        let none : in_slot slot (cells p) ≡ 1 = ap (λ r. in_slot slot (cells r)) it ∙ ap (in_slot slot) is ∙ counts_one slot c same in
+        omega (arith, none, o.gone)
+
+    -- a pid that the last one of the list is not
+    stays : (q : ℕ) (c : Cell A) → cells q ≡ Some c → (c.process.slot ≡ slot → c.place ≢ length (list_at after slot)) → IsAt (list_at after c.process.slot) c.place q
+    stays q c is last =
+        elim (eqb c.process.slot slot) as (λ b. eqb c.process.slot slot ≡ b → IsAt (list_at after c.process.slot) c.place q) [
+          | true ↦ λ e.
+              let same : c.process.slot ≡ slot = eqb-true c.process.slot slot e in
+              subst (λ t. IsAt (list_at after t) c.place q) (sym same)
+              (still_at (list_at lists slot) (list_at after slot) place moved c.place q left (subst (λ t. IsAt (list_at lists t) c.place q) same (o.placed q c is)) (elsewhere q c is same) (last same))
+          | false ↦ λ e. subst (λ l. IsAt l c.place q) (sym (others c.process.slot (eqb-false c.process.slot slot e))) (o.placed q c is)
+        ] refl
+
+    -- no other pid comes to the place
+    pub left_alone : moved ≡ None → IsTied cells after
+    left_alone none = record {
+      counted = left_counts;
+      placed = λ q c is. stays q c is (λ same at.
+          let past : length (list_at after slot) ≤ place = subst (IsRead (list_at after slot) place) none left.comes in
+          elsewhere q c is same (omega (arith, past, at, left.fewer, o.here.within)));
+      few = o.few;
+    }
+
+    module _ (m : ℕ) (some : moved ≡ Some m) where
+      stands : IsAt (list_at after slot) place m
+      stands = subst (IsRead (list_at after slot) place) some left.comes
+
+      -- the pid that comes to the place
+      came : (c : Cell A) → cells m ≡ Some c → IsAt (list_at after c.process.slot) place m
+      came c is =
+          let positive : 0 < in_slot slot (cells m) = subst (λ n. 0 < n) (left_counts slot m) (count-at (list_at after slot) place m stands) in
+          subst (λ t. IsAt (list_at after t) place m) (sym (its_slot slot c (subst (λ r. 0 < in_slot slot r) is positive))) stands
+
+      pub left_moved : (changed : ℕ → Option (Cell A)) → ((q : ℕ) → changed q ≡ cond (eqb m q) (option_map (at_place place) (cells m)) (cells q)) → IsTied changed after
+      left_moved changed h = record {
+        counted = λ s q. left_counts s q ∙ sym (counts s q);
+        placed = places;
+        few = fews;
+      }
+        where
+          counts : (s q : ℕ) → in_slot s (changed q) ≡ in_slot s (cells q)
+          counts s q =
+              elim (eqb m q) as (λ b. eqb m q ≡ b → in_slot s (changed q) ≡ in_slot s (cells q)) [
+                | true ↦ λ e. let it : m ≡ q = eqb-true m q e in subst (λ r. in_slot s (changed r) ≡ in_slot s (cells r)) it (ap (in_slot s) (written cells changed m (option_map (at_place place) (cells m)) h) ∙ same_slot s place (cells m))
+                | false ↦ λ e. ap (in_slot s) (unwritten cells changed m (option_map (at_place place) (cells m)) h q (λ it. eqb-false m q e (sym it)))
+              ] refl
+
+          mapped : (o : Option (Cell A)) (c : Cell A) → cells m ≡ o → option_map (at_place place) o ≡ Some c → IsAt (list_at after c.process.slot) c.place m
+          mapped None c is e = cc
+          mapped (Some d) c is e = let it : at_place place d ≡ c = cc in subst (λ (c : Cell A). IsAt (list_at after c.process.slot) c.place m) it (came d is)
+
+          places : (q : ℕ) (c : Cell A) → changed q ≡ Some c → IsAt (list_at after c.process.slot) c.place q
+          places q c is =
+              elim (eqb m q) as (λ b. eqb m q ≡ b → IsAt (list_at after c.process.slot) c.place q) [
+                | true ↦ λ e.
+                    let it : m ≡ q = eqb-true m q e in
+                    let new : option_map (at_place place) (cells m) ≡ Some c = sym (written cells changed m (option_map (at_place place) (cells m)) h) ∙ ap changed it ∙ is in
+                    subst (λ r. IsAt (list_at after c.process.slot) c.place r) it (mapped (cells m) c refl new)
+                | false ↦ λ e.
+                    let ne = eqb-false m q e in
+                    let was : cells q ≡ Some c = sym (unwritten cells changed m (option_map (at_place place) (cells m)) h q (λ it. ne (sym it))) ∙ is in
+                    stays q c was (λ same at.
+                    let there : IsAt (list_at lists slot) c.place q = subst (λ t. IsAt (list_at lists t) c.place q) same (o.placed q c was) in
+                    ne (sym stands.here ∙ left.last stands.within ∙ ap (λ n. get_or (list_at lists slot) n 0) (sym at) ∙ there.here))
+              ] refl
+
+          fews : (q : ℕ) → pid_count ≤ q → changed q ≡ None
+          fews q h2 =
+              elim (eqb m q) as (λ b. eqb m q ≡ b → changed q ≡ None) [
+                | true ↦ λ e. let it : m ≡ q = eqb-true m q e in subst (λ r. changed r ≡ None) it (written cells changed m (option_map (at_place place) (cells m)) h ∙ ap (option_map (at_place place)) (o.few m (subst (λ n. pid_count ≤ n) (sym it) h2)))
+                | false ↦ λ e. unwritten cells changed m (option_map (at_place place) (cells m)) h q (λ it. eqb-false m q e (sym it)) ∙ o.few q h2
+              ] refl
+
+  -- ---- a pid goes out of the cells
+  pub taken_owes : (cells changed : ℕ → Option (Cell A)) (lists : List (List ℕ)) (p : ℕ) (c : Cell A) → IsTied cells lists → cells p ≡ Some c → ((q : ℕ) → changed q ≡ cond (eqb p q) None (cells q)) → Owes changed lists c.process.slot c.place p
+  taken_owes cells changed lists p c t is h = record { counted = counts; placed = places; few = fews; here = t.placed p c is; gone = ap (in_slot c.process.slot) gone }
+    where
+      gone : changed p ≡ None
+      gone = written cells changed p None h
+
+      by : {P : ℕ → Type 0} → P p → ((q : ℕ) → q ≢ p → P q) → (q : ℕ) → P q
+      by {P} here apart q = elim (eqb q p) as (λ b. eqb q p ≡ b → P q) [ true ↦ λ e. subst P (sym (eqb-true q p e)) here | false ↦ λ e. apart q (eqb-false q p e) ] refl
+
+      counts : (s q : ℕ) → count_by (eqb q) (list_at lists s) ≡ in_slot s (changed q) + owed c.process.slot p s q
+      counts s = by {P = λ q. count_by (eqb q) (list_at lists s) ≡ in_slot s (changed q) + owed c.process.slot p s q}
+          (omega (arith, t.counted s p, ap (in_slot s) is, ap (in_slot s) gone, is_owed s p c))
+          (λ q ne. omega (arith, t.counted s q, ap (in_slot s) (unwritten cells changed p None h q ne), not_owed c.process.slot p s q ne))
+
+      places : (q : ℕ) (d : Cell A) → changed q ≡ Some d → IsAt (list_at lists d.process.slot) d.place q
+      places = by {P = λ q. (d : Cell A) → changed q ≡ Some d → IsAt (list_at lists d.process.slot) d.place q}
+          (λ d e. cc gone)
+          (λ q ne d e. t.placed q d (sym (unwritten cells changed p None h q ne) ∙ e))
+
+      fews : (q : ℕ) → pid_count ≤ q → changed q ≡ None
+      fews = by {P = λ q. pid_count ≤ q → changed q ≡ None} (λ _. gone) (λ q ne le. unwritten cells changed p None h q ne ∙ t.few q le)
+
+  -- ---- a pid gets another process of the same slot
+  pub kept_tied : (cells changed : ℕ → Option (Cell A)) (lists : List (List ℕ)) (p : ℕ) (c d : Cell A) → IsTied cells lists → cells p ≡ Some c → d.process.slot ≡ c.process.slot → d.place ≡ c.place → ((q : ℕ) → changed q ≡ cond (eqb p q) (Some d) (cells q)) → IsTied changed lists
+  kept_tied cells changed lists p c d t is slot place h = record { counted = counts; placed = places; few = fews }
+    where
+      new : changed p ≡ Some d
+      new = written cells changed p (Some d) h
+
+      by : {P : ℕ → Type 0} → P p → ((q : ℕ) → q ≢ p → P q) → (q : ℕ) → P q
+      by {P} here apart q = elim (eqb q p) as (λ b. eqb q p ≡ b → P q) [ true ↦ λ e. subst P (sym (eqb-true q p e)) here | false ↦ λ e. apart q (eqb-false q p e) ] refl
+
+      counts : (s q : ℕ) → count_by (eqb q) (list_at lists s) ≡ in_slot s (changed q)
+      counts s = by {P = λ q. count_by (eqb q) (list_at lists s) ≡ in_slot s (changed q)}
+          (t.counted s p ∙ ap (in_slot s) is ∙ ap (λ n. one_if (eqb n s)) (sym slot) ∙ sym (ap (in_slot s) new))
+          (λ q ne. t.counted s q ∙ sym (ap (in_slot s) (unwritten cells changed p (Some d) h q ne)))
+
+      at_d : IsAt (list_at lists d.process.slot) d.place p
+      at_d = subst (λ s. IsAt (list_at lists s) d.place p) (sym slot) (subst (λ n. IsAt (list_at lists c.process.slot) n p) (sym place) (t.placed p c is))
+
+      places : (q : ℕ) (e : Cell A) → changed q ≡ Some e → IsAt (list_at lists e.process.slot) e.place q
+      places = by {P = λ q. (e : Cell A) → changed q ≡ Some e → IsAt (list_at lists e.process.slot) e.place q}
+          (λ e f. let it : d ≡ e = cc new in subst (λ (e : Cell A). IsAt (list_at lists e.process.slot) e.place p) it at_d)
+          (λ q ne e f. t.placed q e (sym (unwritten cells changed p (Some d) h q ne) ∙ f))
+
+      fews : (q : ℕ) → pid_count ≤ q → changed q ≡ None
+      fews = by {P = λ q. pid_count ≤ q → changed q ≡ None} (λ le. absurd (taken (cells p) (t.few p le))) (λ q ne le. unwritten cells changed p (Some d) h q ne ∙ t.few q le)
+        where
+          taken : (o : Option (Cell A)) → cells p ≡ None → ⊥
+          taken o e = cc is
+
+  -- ---- a pid comes to a slot that it was not in
+  module _ (cells changed : ℕ → Option (Cell A)) (lists after : List (List ℕ)) (p : ℕ) (d : Cell A) (t : IsTied cells lists) (small : p < pid_count)
+      (place : d.place ≡ length (list_at lists d.process.slot))
+      (pushed : (s : ℕ) → list_at after s ≡ cond (eqb d.process.slot s) (list_at lists s ++ p ∷ []) (list_at lists s))
+      (h : (q : ℕ) → changed q ≡ cond (eqb p q) (Some d) (cells q)) where
+    new : changed p ≡ Some d
+    new = written cells changed p (Some d) h
+
+    by : {P : ℕ → Type 0} → P p → ((q : ℕ) → q ≢ p → P q) → (q : ℕ) → P q
+    by {P} here apart q = elim (eqb q p) as (λ b. eqb q p ≡ b → P q) [ true ↦ λ e. subst P (sym (eqb-true q p e)) here | false ↦ λ e. apart q (eqb-false q p e) ] refl
+
+    count_after : (s q : ℕ) → count_by (eqb q) (list_at after s) ≡ count_by (eqb q) (list_at lists s) + cond (eqb d.process.slot s) (cond (eqb q p) 1 0) 0
+    count_after s q =
+        ap (count_by (eqb q)) (pushed s)
+        ∙ elim (eqb d.process.slot s) as (λ b. count_by (eqb q) (cond b (list_at lists s ++ p ∷ []) (list_at lists s)) ≡ count_by (eqb q) (list_at lists s) + cond b (cond (eqb q p) 1 0) 0) [ true ↦ count-push q p (list_at lists s) | false ↦ omega arith ]
+
+    -- what p was counted as, and what it is counted as
+    counts_here : (s : ℕ) → count_by (eqb p) (list_at after s) ≡ in_slot s (cells p) + in_slot s (changed p)
+    counts_here s =
+        let joins : ℕ → ℕ = λ q. cond (eqb d.process.slot s) (one_if (eqb q p)) 0 in
+        let one : joins p ≡ one_if (eqb d.process.slot s) = ap (λ b. cond (eqb d.process.slot s) (one_if b) 0) (eq-eqb p p refl) in
+        omega (arith, count_after s p, t.counted s p, one, ap (in_slot s) new)
+
+    counts_apart : (s q : ℕ) → q ≢ p → count_by (eqb q) (list_at after s) ≡ in_slot s (changed q)
+    counts_apart s q ne =
+        let joins : ℕ → ℕ = λ q. cond (eqb d.process.slot s) (one_if (eqb q p)) 0 in
+        let none : joins q ≡ 0 = ap (λ b. cond (eqb d.process.slot s) (one_if b) 0) (ne_eqb q p ne) ∙ none_for (eqb d.process.slot s) 0 in
+        omega (arith, count_after s q, t.counted s q, none, ap (in_slot s) (unwritten cells changed p (Some d) h q ne))
+
+    longer : (s k q : ℕ) → IsAt (list_at lists s) k q → IsAt (list_at after s) k q
+    longer s k q at = subst (λ l. IsAt l k q) (sym (pushed s)) (elim (eqb d.process.slot s) as (λ b. IsAt (cond b (list_at lists s ++ p ∷ []) (list_at lists s)) k q) [
+      | true ↦ record { within = omega (arith, at.within, length-append (list_at lists s) (p ∷ [])); here = get_or_append_left (list_at lists s) (p ∷ []) 0 k at.within ∙ at.here }
+      | false ↦ at
+    ])
+
+    at_end : IsAt (list_at after d.process.slot) d.place p
+    at_end = subst (λ l. IsAt l d.place p) (sym (pushed d.process.slot ∙ ap (λ b. cond b (list_at lists d.process.slot ++ p ∷ []) (list_at lists d.process.slot)) (eq-eqb d.process.slot d.process.slot refl)))
+        (record { within = omega (arith, place, length-append (list_at lists d.process.slot) (p ∷ [])); here = get_or_push (list_at lists d.process.slot) p 0 d.place (sym place) })
+
+    places : (q : ℕ) (e : Cell A) → changed q ≡ Some e → IsAt (list_at after e.process.slot) e.place q
+    places = by {P = λ q. (e : Cell A) → changed q ≡ Some e → IsAt (list_at after e.process.slot) e.place q}
+        (λ e f. let it : d ≡ e = cc new in subst (λ (e : Cell A). IsAt (list_at after e.process.slot) e.place p) it at_end)
+        (λ q ne e f. longer e.process.slot e.place q (t.placed q e (sym (unwritten cells changed p (Some d) h q ne) ∙ f)))
+
+    fews : (q : ℕ) → pid_count ≤ q → changed q ≡ None
+    fews = by {P = λ q. pid_count ≤ q → changed q ≡ None} (λ le. absurd (omega (arith, le))) (λ q ne le. unwritten cells changed p (Some d) h q ne ∙ t.few q le)
+
+    pub new_tied : cells p ≡ None → IsTied changed after
+    new_tied none = record {
+      counted = λ s. by {P = λ q. count_by (eqb q) (list_at after s) ≡ in_slot s (changed q)} (omega (arith, counts_here s, ap (in_slot s) none)) (counts_apart s);
+      placed = places;
+      few = fews;
+    }
+
+    pub new_owes : (c : Cell A) → cells p ≡ Some c → c.process.slot ≢ d.process.slot → Owes changed after c.process.slot c.place p
+    new_owes c is apart = record {
+      counted = λ s. by {P = λ q. count_by (eqb q) (list_at after s) ≡ in_slot s (changed q) + owed c.process.slot p s q}
+          (omega (arith, counts_here s, ap (in_slot s) is, is_owed s p c))
+          (λ q ne. omega (arith, counts_apart s q ne, not_owed c.process.slot p s q ne));
+      placed = places;
+      few = fews;
+      here = longer c.process.slot c.place p (t.placed p c is);
+      gone = ap (in_slot c.process.slot) new ∙ ap one_if (ne_eqb d.process.slot c.process.slot (λ e. apart (sym e)));
+    }

@@ -1,0 +1,6 @@
+use Rattle.std.proofs.Common.{[], ap, ◌∙◌, get_or}
+use Rattle.process_table.proofs.Paged.{read-padded}
+use Rattle.process_table.proofs.pages.Pages.lengthen.Goals as goal
+
+pub loop-self-preserved : goal.loop-self-preserved
+loop-self-preserved g c = λ p. rw (c.in_ok-push.ensures.items, c.unmade.ensures) (read-padded c.loop-self.self-inside.pages.items [] p ∙ c.loop-self.invariant p)

@@ -1,0 +1,101 @@
+//! All cells, in pages that are made when they are needed.
+
+ghost use Rattle.std.specs.Prelude.{◌≡◌, ℕ, ◌<◌, [], None, Some, OnOk, eqb, if◌then◌else◌, length, option_map};
+ghost use Rattle.std.specs.List.{slice_index_or};
+ghost use Rattle.std.specs.Option.{option_copied};
+ghost use Rattle.process_table.specs.Cells.{at_place, cell_at, HasPage};
+
+use crate::page::{CELLS, Page};
+use crate::process::Cell;
+use std::alloc::{AllocError, Allocator};
+use std::marker::Model;
+
+// The cell of a pid is in the page `pid / CELLS`.
+#[derive(Drop)]
+pub(crate) struct Pages<A: Allocator + Clone> {
+    pages: Vec<Page<A>, A>,
+}
+
+impl<A: Allocator + Clone> Model for Pages<A> {
+    ghost use Rattle.std.specs.Prelude.{List, Option};
+    ghost use Rattle.process_table.specs.declared.process.Cell.{Cell};
+
+    ghost Value = { List (List (Option (Cell A))) };
+
+    ghost view = { λ p. p.pages.items };
+}
+
+impl<A: Allocator + Clone> Pages<A> {
+    // No pages. It takes no memory.
+    pub(crate) fn new(alloc: A) -> Pages<A>
+        ensures { result ≡ [] }
+    {
+        Pages {
+            pages: Vec::new(alloc),
+        }
+    }
+
+    pub(crate) fn get(&self, pid: u32) -> Option<&Cell<A>>
+        ensures { option_copied result ≡ cell_at self.now pid }
+    {
+        let page = pid as usize / CELLS;
+        if page < self.pages.len() {
+            self.pages[page].get(pid as usize % CELLS)
+        } else {
+            None
+        }
+    }
+
+    // Lengthens the list of pages by pages that are not made.
+    fn lengthen(&mut self, alloc: &A, page: usize) -> Result<(), AllocError>
+        ensures listed { OnOk result (page < length self.new) }
+        ensures same { (p : ℕ) → slice_index_or self.new p [] ≡ slice_index_or self.old p [] }
+    {
+        while self.pages.len() <= page {
+            self.pages.push(Page::unmade(alloc.clone()?))?;
+        }
+        Ok(())
+    }
+
+    // Makes the page of a pid.
+    pub(crate) fn grow(&mut self, alloc: &A, pid: u32) -> Result<(), AllocError>
+        ensures made { OnOk result (HasPage self.new pid) }
+        ensures same { (q : ℕ) → cell_at self.new q ≡ cell_at self.old q }
+    {
+        let page = pid as usize / CELLS;
+        self.lengthen(alloc, page)?;
+        self.pages[page].fill()
+    }
+
+    // Puts a cell in; the one that was there comes back.
+    pub(crate) fn put(&mut self, pid: u32, cell: Cell<A>) -> Option<Cell<A>>
+        requires { HasPage self.old pid }
+        ensures before { result ≡ cell_at self.old pid }
+        ensures after { (q : ℕ) → cell_at self.new q ≡ (if eqb pid q then Some cell else cell_at self.old q) }
+    {
+        self.pages[pid as usize / CELLS].put(pid as usize % CELLS, cell)
+    }
+
+    // Takes a cell out.
+    pub(crate) fn take(&mut self, pid: u32) -> Option<Cell<A>>
+        ensures before { result ≡ cell_at self.old pid }
+        ensures after { (q : ℕ) → cell_at self.new q ≡ (if eqb pid q then None else cell_at self.old q) }
+    {
+        let page = pid as usize / CELLS;
+        if page < self.pages.len() {
+            self.pages[page].take(pid as usize % CELLS)
+        } else {
+            None
+        }
+    }
+
+    // Notes another place in the cell of a pid, if there is one.
+    pub(crate) fn set_place(&mut self, pid: u32, place: usize)
+        ensures { (q : ℕ) → cell_at self.new q ≡ (if eqb pid q then option_map (at_place place) (cell_at self.old pid) else cell_at self.old q) }
+    {
+        let page = pid as usize / CELLS;
+        if page < self.pages.len() {
+            self.pages[page].set_place(pid as usize % CELLS, place);
+        }
+    }
+}

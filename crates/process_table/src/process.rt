@@ -1,0 +1,19 @@
+//! What the table keeps of a process.
+
+use group_path::GroupPath;
+use std::alloc::Allocator;
+
+/// A process: its group, the slot of that group, and the leaf at which the process is charged.
+#[derive(Drop)]
+pub struct Process<A: Allocator + Clone> {
+    pub home: GroupPath<A>,
+    pub slot: u16,
+    pub leaf: u8,
+}
+
+// A process, and its place in the list of its slot.
+#[derive(Drop)]
+pub(crate) struct Cell<A: Allocator + Clone> {
+    pub(crate) process: Process<A>,
+    pub(crate) place: usize,
+}

@@ -1,0 +1,160 @@
+//! The pids of the processes of each slot.
+
+ghost use Rattle.std.specs.Prelude.{◌≡◌, ◌≢◌, ℕ, ◌<◌, [], ◌∷◌, ◌++◌, IfOk, OnOk, OnErr, eqb, if◌then◌else◌, length};
+ghost use Rattle.process_table.specs.Lists.{list_at, IsRead, HasLeft};
+
+use std::alloc::{AllocError, Allocator};
+use std::marker::Model;
+
+// The pid at a place, if there is one.
+fn read(pids: &[u32], place: usize) -> Option<u32>
+    ensures { IsRead pids.now place result }
+{
+    if place < pids.len() {
+        Some(pids[place])
+    } else {
+        None
+    }
+}
+
+// The pids of the processes of one slot, in no order.
+#[derive(Drop)]
+struct Members<A: Allocator + Clone> {
+    pids: Vec<u32, A>,
+}
+
+impl<A: Allocator + Clone> Model for Members<A> {
+    ghost use Rattle.std.specs.Prelude.{ℕ, List};
+
+    ghost Value = { List ℕ };
+
+    ghost view = { λ m. m.pids.items };
+}
+
+impl<A: Allocator + Clone> Members<A> {
+    fn new(alloc: A) -> Members<A>
+        ensures { result ≡ [] }
+    {
+        Members {
+            pids: Vec::new(alloc),
+        }
+    }
+
+    // Adds a pid; its place is the result.
+    fn push(&mut self, pid: u32) -> Result<usize, AllocError>
+        ensures place { IfOk result (λ n. n ≡ length self.old) }
+        ensures pushed { OnOk result (self.new ≡ self.old ++ pid ∷ []) }
+        ensures kept { OnErr result (self.new ≡ self.old) }
+    {
+        let place = self.pids.len();
+        self.pids.push(pid)?;
+        Ok(place)
+    }
+
+    // Takes out the pid at a place. The last one comes to that place; if it is another one, it is the result.
+    fn leave(&mut self, place: usize) -> Option<u32>
+        requires { place < length self.old }
+        ensures { HasLeft self.old place result self.new }
+    {
+        let _ = self.pids.swap_remove(place);
+        read(self.pids.as_slice(), place)
+    }
+
+    fn first(&self) -> Option<u32>
+        ensures { IsRead self.now 0 result }
+    {
+        read(self.pids.as_slice(), 0)
+    }
+
+    fn as_slice(&self) -> &[u32]
+        ensures { result.now ≡ self.now }
+    {
+        self.pids.as_slice()
+    }
+}
+
+// The lists of the slots that a process has been in, and of those below.
+#[derive(Drop)]
+pub(crate) struct Slots<A: Allocator + Clone> {
+    lists: Vec<Members<A>, A>,
+}
+
+impl<A: Allocator + Clone> Model for Slots<A> {
+    ghost use Rattle.std.specs.Prelude.{ℕ, List};
+
+    ghost Value = { List (List ℕ) };
+
+    ghost view = { λ s. s.lists.items };
+}
+
+impl<A: Allocator + Clone> Slots<A> {
+    // No lists. It takes no memory.
+    pub(crate) fn new(alloc: A) -> Slots<A>
+        ensures { result ≡ [] }
+    {
+        Slots {
+            lists: Vec::new(alloc),
+        }
+    }
+
+    pub(crate) fn len(&self) -> usize
+        ensures { result ≡ length self.now }
+    {
+        self.lists.len()
+    }
+
+    // Makes the list of a slot.
+    pub(crate) fn grow(&mut self, alloc: &A, slot: u16) -> Result<(), AllocError>
+        ensures listed { OnOk result (slot < length self.new) }
+        ensures same { (s : ℕ) → list_at self.new s ≡ list_at self.old s }
+    {
+        while self.lists.len() <= usize::from(slot) {
+            self.lists.push(Members::new(alloc.clone()?))?;
+        }
+        Ok(())
+    }
+
+    // Adds a pid to a slot; its place is the result.
+    pub(crate) fn push(&mut self, slot: u16, pid: u32) -> Result<usize, AllocError>
+        requires { slot < length self.old }
+        ensures place { IfOk result (λ n. n ≡ length (list_at self.old slot)) }
+        ensures pushed { OnOk result ((s : ℕ) → list_at self.new s ≡ (if eqb slot s then list_at self.old s ++ pid ∷ [] else list_at self.old s)) }
+        ensures kept { OnErr result ((s : ℕ) → list_at self.new s ≡ list_at self.old s) }
+    {
+        self.lists[usize::from(slot)].push(pid)
+    }
+
+    // Takes out the pid at a place of a slot. The one that comes to that place, if one does, is the result.
+    pub(crate) fn leave(&mut self, slot: u16, place: usize) -> Option<u32>
+        requires { place < length (list_at self.old slot) }
+        ensures left { HasLeft (list_at self.old slot) place result (list_at self.new slot) }
+        ensures others { (s : ℕ) → s ≢ slot → list_at self.new s ≡ list_at self.old s }
+    {
+        self.lists[usize::from(slot)].leave(place)
+    }
+
+    // A pid of the slot, if there is one.
+    pub(crate) fn first(&self, slot: usize) -> Option<u32>
+        ensures { IsRead (list_at self.now slot) 0 result }
+    {
+        if slot < self.lists.len() {
+            self.lists[slot].first()
+        } else {
+            None
+        }
+    }
+
+    // Appends the pids of a slot.
+    pub(crate) fn append_to<B: Allocator>(
+        &self,
+        slot: usize,
+        pids: &mut Vec<u32, B>,
+    ) -> Result<(), AllocError>
+        ensures { OnOk result (pids.new.items ≡ pids.old.items ++ list_at self.now slot) }
+    {
+        if slot < self.lists.len() {
+            pids.extend_from_slice(self.lists[slot].as_slice())?;
+        }
+        Ok(())
+    }
+}

@@ -1,0 +1,146 @@
+//! The table.
+
+ghost use Rattle.std.specs.Prelude.{◌≡◌, [], map, filter, eqb, is_some, IfOk, OnOk, OnErr};
+ghost use Rattle.std.specs.BTreeMap.{insert_entry, is_at};
+ghost use Rattle.std.specs.List.Sorted.{IsStrictlySortedBy};
+ghost use Rattle.std.specs.Map.{keys_of, lookup, remove_entry};
+ghost use Rattle.std.specs.Option.{option_copied};
+ghost use Rattle.std.specs.Ordering.{nat_cmp};
+ghost use Rattle.flat_model.specs.Path.{at_or_below};
+ghost use Rattle.process_table.specs.Chosen.{HaveOneHome};
+
+use crate::gather::gather;
+use crate::pages::Pages;
+use crate::process::Process;
+use crate::slots::Slots;
+use crate::tied::{put_in, take_out};
+use group_path::GroupPath;
+use std::alloc::{AllocError, Allocator};
+use std::marker::Model;
+
+/// Processes by their pids and by the slots of their groups; seen as the list of pids with processes, pids ascending.
+#[derive(Drop)]
+pub struct ProcessTable<A: Allocator + Clone> {
+    pages: Pages<A>,
+    slots: Slots<A>,
+    alloc: A,
+}
+
+impl<A: Allocator + Clone> Model for ProcessTable<A> {
+    ghost use Rattle.std.specs.Prelude.{ℕ, List};
+    ghost use Rattle.process_table.specs.declared.process.Process.{Process};
+    ghost use Rattle.process_table.specs.Cells.{cell_at};
+    ghost use Rattle.process_table.specs.Rows.{table_of};
+    ghost use Rattle.process_table.specs.Tied.{IsTied};
+
+    ghost Value = { List (ℕ × Process A) };
+
+    ghost view = { λ t. table_of t.pages };
+
+    ghost invariant = { λ t. IsTied (cell_at t.pages) t.slots };
+}
+
+impl<A: Allocator + Clone> ProcessTable<A> {
+    /// An empty table. It asks for no memory.
+    ///
+    /// # Errors
+    ///
+    /// `AllocError` where the allocator could not be copied.
+    pub fn new(alloc: A) -> Result<ProcessTable<A>, AllocError>
+        ensures { IfOk result (λ t. t ≡ []) }
+    {
+        let pages = Pages::new(alloc.clone()?);
+        let slots = Slots::new(alloc.clone()?);
+        Ok(ProcessTable {
+            pages,
+            slots,
+            alloc,
+        })
+    }
+
+    /// Tells callers that pids ascend. It is proof only.
+    pub fn known(&self)
+        ensures { IsStrictlySortedBy nat_cmp (keys_of self.now) }
+    {
+        let _ = &self.pages;
+    }
+
+    /// The process with this pid. In constant time.
+    pub fn get(&self, pid: u32) -> Option<&Process<A>>
+        ensures { option_copied result ≡ lookup (is_at (nat_cmp pid)) self.now }
+    {
+        match self.pages.get(pid) {
+            Some(cell) => Some(&cell.process),
+            None => None,
+        }
+    }
+
+    /// Whether there is a process with this pid. In constant time.
+    pub fn has(&self, pid: u32) -> bool
+        ensures { result ≡ is_some (lookup (is_at (nat_cmp pid)) self.now) }
+    {
+        self.get(pid).is_some()
+    }
+
+    /// Puts a process in. The one that had this pid comes back. In constant time, but for the memory that it asks for.
+    ///
+    /// # Errors
+    ///
+    /// `AllocError` when out of memory; the table is as it was, and the process is dropped.
+    pub fn insert(
+        &mut self,
+        pid: u32,
+        process: Process<A>,
+    ) -> Result<Option<Process<A>>, AllocError>
+        ensures old { IfOk result (λ old. old ≡ lookup (is_at (nat_cmp pid)) self.old) }
+        ensures entries { OnOk result (self.new ≡ insert_entry nat_cmp self.old pid process) }
+        ensures kept { OnErr result (self.new ≡ self.old) }
+        ensures ordered { IsStrictlySortedBy nat_cmp (keys_of self.new) }
+    {
+        self.pages.grow(&self.alloc, pid)?;
+        self.slots.grow(&self.alloc, process.slot)?;
+        put_in(&mut self.pages, &mut self.slots, pid, process)
+    }
+
+    /// Takes a process out. It takes no memory. In constant time.
+    pub fn take(&mut self, pid: u32) -> Option<Process<A>>
+        ensures value { result ≡ lookup (is_at (nat_cmp pid)) self.old }
+        ensures entries { self.new ≡ remove_entry (is_at (nat_cmp pid)) self.old }
+        ensures ordered { IsStrictlySortedBy nat_cmp (keys_of self.new) }
+    {
+        take_out(&mut self.pages, &mut self.slots, pid)
+    }
+
+    /// The pids of the processes in a slot, ascending. For n of them in O(n log n), whatever else there is.
+    ///
+    /// # Errors
+    ///
+    /// `AllocError` when out of memory.
+    pub fn members<B: Allocator>(&self, alloc: B, slot: u16) -> Result<Vec<u32, B>, AllocError>
+        ensures { IfOk result (λ pids. pids.items ≡ map (λ e. e.0) (filter (λ e. eqb e.1.slot slot) self.now)) }
+    {
+        let mut pids = Vec::new(alloc);
+        self.slots.append_to(usize::from(slot), &mut pids)?;
+        pids.sort_unstable();
+        Ok(pids)
+    }
+
+    /// The pids of the processes at or below a group, ascending, where the processes of a slot are in one group. For n of
+    /// them in O(n log n), and one test of a path for each slot that has been used.
+    ///
+    /// # Errors
+    ///
+    /// `AllocError` when out of memory.
+    pub fn inside<B: Allocator, P: Allocator + Clone>(
+        &self,
+        alloc: B,
+        path: &GroupPath<P>,
+    ) -> Result<Vec<u32, B>, AllocError>
+        requires { HaveOneHome (λ q. lookup (is_at (nat_cmp q)) self.now) }
+        ensures { IfOk result (λ pids. pids.items ≡ map (λ e. e.0) (filter (λ e. at_or_below e.1.home path.now) self.now)) }
+    {
+        let mut pids = gather(&self.pages, &self.slots, alloc, path)?;
+        pids.sort_unstable();
+        Ok(pids)
+    }
+}

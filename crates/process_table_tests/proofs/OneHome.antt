@@ -1,0 +1,18 @@
+-- Processes whose groups are those of a list, one for each slot.
+use Rattle.std.proofs.Common.{◌≡◌, ℕ, Bool, Option, Some, List, [], get_or, sym, ap, ◌∙◌, subst}
+use Rattle.std.specs.BTreeMap.{is_at}
+use Rattle.std.specs.List.{All}
+use Rattle.std.specs.Map.{values_of, lookup}
+use Rattle.std.specs.Option.{IfSome}
+use Rattle.std.specs.Ordering.{nat_cmp}
+use Rattle.std.proofs.lemmas.Map.Views.{IfSome-lookup_from_All}
+use Rattle.flat_model.specs.Path.{Path}
+use Rattle.process_table.specs.declared.process.Process.{Process}
+use Rattle.process_table.specs.Chosen.{HaveOneHome}
+
+module _ {A : Type 0} (homes : List Path) (rows : List (ℕ × Process A)) (all : All (λ p. p.home ≡ get_or homes p.slot []) (values_of rows)) where
+  its_home : (q : ℕ) (x : Process A) → lookup (is_at (nat_cmp q)) rows ≡ Some x → x.home ≡ get_or homes x.slot []
+  its_home q x is = subst (λ o. IfSome o (λ p. p.home ≡ get_or homes p.slot [])) is (IfSome-lookup_from_All (λ p. p.home ≡ get_or homes p.slot []) (is_at (nat_cmp q)) rows all)
+
+  pub one_home : HaveOneHome (λ q. lookup (is_at (nat_cmp q)) rows)
+  one_home p q x y a b same = its_home p x a ∙ ap (λ s. get_or homes s []) same ∙ sym (its_home q y b)
