@@ -16,7 +16,8 @@ export function plotOf(run, series, wide, tip, go, off) {
   const points = series.points.map((point) => (point.limit > most ? { ...point, limit: -1 } : point));
   const across = scale(0, last, LEFT, end), x = (moment) => across(place(moment)), up = scale(0, most, floor, TOP);
   const y = (value) => Math.round(up(value) * 10) / 10;
-  const svg = makeSvg("svg", { viewBox: `0 0 ${width} ${HEIGHT}`, preserveAspectRatio: "none", role: "img", "aria-label": `pids.current of ${name}` });
+  const attributes = { viewBox: `0 0 ${width} ${HEIGHT}`, preserveAspectRatio: "none", role: "img", "aria-label": `pids.current of ${name}` };
+  const svg = makeSvg("svg", attributes);
   for (const tick of ticks(most, 4).filter(Number.isInteger)) {
     svg.append(makeSvg("path", { class: "grid", d: `M${LEFT} ${y(tick)}H${end}` }));
     svg.append(makeSvg("text", { x: LEFT - 6, y: y(tick) + 4, "text-anchor": "end" }, tick.toLocaleString("en")));

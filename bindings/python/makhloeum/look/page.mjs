@@ -46,8 +46,9 @@ const tree = new Rows(at("tree"), "treeitem", (index) => {
   row.classList.toggle("chosen", group.id === chosen);
   const twist = make("span", { className: "twist" }, children ? (closed ? "▸" : "▾") : "");
   row.append(make("span", { title: run.paths[group.id] }, indent, twist, run.names[group.id]));
-  if (group.id === 0) row.append(make("span"), cell(`${count(numbers[CURRENT])} in all`, CURRENT), make("span"), make("span"), make("span"));
-  else {
+  if (group.id === 0) {
+    row.append(make("span"), cell(`${count(numbers[CURRENT])} in all`, CURRENT), make("span"), make("span"), make("span"));
+  } else {
     const populated = numbers[CURRENT] > 0, refused = cell(`${numbers[LOCAL]} / ${numbers[TOTAL]}`, LOCAL, TOTAL);
     refused.classList.toggle("refused", numbers[TOTAL] > 0);
     row.append(bar(numbers), cell(`${numbers[CURRENT]} / ${limitText(numbers[LIMIT])}`, CURRENT, LIMIT), cell(String(numbers[PEAK]), PEAK));

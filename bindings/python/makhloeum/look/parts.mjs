@@ -18,7 +18,8 @@ export function makeSvg(tag, attributes, text = "") {
 // after a change makes the browser lay out the page.
 export class Rows {
   constructor(box, role, draw) {
-    Object.assign(this, { box, role, draw, count: 0, reached: -1, height: 22, top: box.scrollTop, tall: box.clientHeight, space: make("div") });
+    Object.assign(this, { box, role, draw, count: 0, reached: -1, height: 22, space: make("div") });
+    Object.assign(this, { top: box.scrollTop, tall: box.clientHeight });
     box.append(this.space);
     box.addEventListener("scroll", () => Math.abs(box.scrollTop - this.top) >= 1 && this.moveTo(box.scrollTop));
     new ResizeObserver(() => (this.tall = box.clientHeight, this.show(this.count, this.reached))).observe(box);
