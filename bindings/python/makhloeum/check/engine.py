@@ -108,7 +108,8 @@ class Engine:
         if name.startswith("pids.") and self._way == "N":
             return False
         if name == "cgroup.kill" and self._way == "T":
-            return words[0] == "write" and words[3] == "1"
+            # played by signals, so the group's own file answers nothing
+            return words[0] == "write" and words[3] == "1" and self._is_group(path)
         # the writer itself, and numbers that mean another process to a kernel
         return (
             name != "cgroup.procs"

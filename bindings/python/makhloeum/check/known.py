@@ -28,7 +28,6 @@ AT_THE_OPEN = "the kernel refuses at the open"
 LONG_NAMES = "the kernel has its own bounds of names"
 MORE_KEYS = "the kernel's cgroup.stat has more keys"
 OLD_EVENTS = "before Linux 6.11 a refused fork is counted at the group of the process"
-NO_PEAK = "before Linux 6.8 there is no pids.peak"
 NOT_STOPPED = "a file system of FUSE counts a refused fork and cannot stop it"
 
 # What the kernel says with one errno, and the words of it here.
