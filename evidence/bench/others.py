@@ -104,7 +104,8 @@ def go(top, folder):
 
 def pipes(top, _):
     """cgshell, a line and its answer at a time."""
-    shell = subprocess.Popen([os.path.join(top, "crates/cgshell/out/cgshell")], stdin=subprocess.PIPE, stdout=subprocess.PIPE, bufsize=0)
+    program = os.path.join(top, "crates/cgshell/out/cgshell")
+    shell = subprocess.Popen([program], stdin=subprocess.PIPE, stdout=subprocess.PIPE, bufsize=0)
     answers = os.fdopen(os.dup(shell.stdout.fileno()), "rb")
 
     def ask(line, lines):

@@ -1,4 +1,4 @@
--- What a meter holds, as a list of tokens.
+-- The content of a meter, as a list of tokens.
 use Rattle.std.specs.Prelude.{◌≡◌, ℕ, ◌+◌, ◌-◌, List, length}
 use Rattle.snzi_core.specs.declared.event.Token.{Token}
 use Rattle.snzi_core.specs.declared.holding.Holding.{Holding}
@@ -7,11 +7,11 @@ use Rattle.snzi_core.specs.Listed.{listed_at}
 use Rattle.pids_charge.specs.Content.{Content}
 use Rattle.pids_charge.specs.declared.plain.TheConstants.{LEAVES}
 
--- the content of a meter over a board, whose trees have one node less than twice as many as leaves
+-- the content of a meter over a board, whose trees have one node less than twice the number of leaves
 abbrev pub board_content : Holding → Content
 board_content h = content_of (LEAVES + LEAVES - 1) LEAVES h
 
--- the charges are one for each of the tokens
+-- there is one charge for each of the tokens
 pub record Holds (tokens : List Token) (at : Content) (count : ℕ) : Type 0 where
   pub content : (s j : ℕ) → at s j ≡ listed_at tokens s j
   pub held : count ≡ length tokens

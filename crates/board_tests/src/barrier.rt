@@ -3,14 +3,13 @@
 use pids_charge::Gate;
 use std::sync::atomic::{AtomicBool, Ordering};
 
-/// A part polls another's flag as often at most.
+/// A part polls another's flag at most this often.
 const TURNS: u32 = 100_000_000;
 
 /// The most parts of a settlement.
 const MOST: usize = 8;
 
-/// A barrier at which each of so many parts sets its flag and waits for those of all the others, for a
-/// bounded time.
+/// A barrier at which each of so many parts sets its flag and waits for the flags of all others, for a bounded time.
 #[derive(Drop)]
 pub(crate) struct Barrier {
     flags: [AtomicBool; MOST],
@@ -19,7 +18,7 @@ pub(crate) struct Barrier {
 }
 
 impl Barrier {
-    /// So many parts are to come, and none has.
+    /// A barrier for so many parts, none of which has arrived.
     pub(crate) fn new(parts: usize) -> Barrier {
         Barrier {
             flags: [
@@ -37,12 +36,12 @@ impl Barrier {
         }
     }
 
-    // Whether the part at this place has come.
+    // Whether the part with this index has arrived.
     fn has_come(&self, at: usize) -> bool {
         at < MOST && self.flags[at].load(Ordering::SeqCst)
     }
 
-    // Waits for the part at this place, and says whether it came.
+    // Waits for the part with this index. Returns whether it arrived.
     fn sees(&self, at: usize) -> bool {
         for _turn in 0..TURNS {
             if self.has_come(at) {
@@ -53,7 +52,7 @@ impl Barrier {
         false
     }
 
-    /// Whether all parts came and no other, and none missed another.
+    /// Whether exactly these parts arrived, and none missed another.
     pub(crate) fn met(&self) -> bool {
         let mut met = !self.missed.load(Ordering::SeqCst);
         for at in 0..MOST {

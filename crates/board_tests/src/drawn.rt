@@ -1,4 +1,4 @@
-//! Both meters over charges drawn by a generator of numbers.
+//! Both meters with charges from a generator of numbers.
 ghost use Rattle.std.specs.Prelude.{[], ◌≡◌, ℕ, ◌<◌, ◌≤◌};
 ghost use Rattle.snzi_core.specs.Holding.{held};
 ghost use Rattle.pids_charge.specs.Table.{table_at, table_held};
@@ -13,7 +13,7 @@ use std::thread::Threads;
 
 const ROUNDS: u32 = 300;
 
-// The number after this one, in a linear congruence modulo 2^64.
+// The next number, by a linear congruence modulo 2^64.
 fn next(number: u64) -> u64 {
     number
         .wrapping_mul(6_364_136_223_846_793_005)
@@ -33,7 +33,7 @@ fn drawn(alloc: Global, from: u64) -> Result<Vec<Token>, AllocError> {
     Ok(tokens)
 }
 
-// Whether both meters answer the same at each slot below `slots`.
+// Whether both meters have the same counts at each slot below `slots`.
 fn alike<M: Meter, N: Meter>(one: &mut M, other: &mut N, slots: u16) -> bool
     requires slots { (slots ≤ M.SLOTS) × (slots ≤ N.SLOTS) }
     ensures one { (M.content one.new ≡ M.content one.old) × (M.held one.new ≡ M.held one.old) }
@@ -48,8 +48,9 @@ fn alike<M: Meter, N: Meter>(one: &mut M, other: &mut N, slots: u16) -> bool
     same
 }
 
-// How many rounds both meters, which start with nothing, answer alike: in each the charges of the
-// round before go, and those drawn come, by calls in every third and by a settlement in the others.
+// How many rounds both meters, which start empty, agree. In each round the charges of the round
+// before are removed and those drawn are added: by calls in every third round, by a settlement in
+// the others.
 fn rounds_alike<R: Threads>(
     rt: &R,
     alloc: Global,

@@ -1,4 +1,4 @@
-//! A kill, and its undo, are each done by eight threads.
+//! Eight threads do a kill, and eight its undo.
 
 use crate::barrier::Barrier;
 use crate::replies::{Issued, answers};
@@ -49,10 +49,11 @@ const ANSWERS: [&[u8]; 3] = [
 5 ok\n| populated 1\n| frozen 0\n6 ok\n| 0::/k/a\n7 ok\n| 5\n",
 ];
 
-// How often the kill is done and undone, by a new engine each time.
+// How often the kill is done and undone, with a new engine each time.
 const RUNS: u32 = 5;
 
-// Whether the eight parts of the kill met, and the eight of its undo, and all was answered so.
+// Whether the eight parts of the kill met, and the eight of its undo, and all replies are as
+// expected.
 fn is_done_by_eight<R: Threads + Wait + Sync>(rt: &R, alloc: Global) -> Result<bool, Fail> {
     let mut engine = Engine::new(alloc, BoardMeter::new(alloc)?)?;
     let before = answers(rt, alloc, &OpenGate, &mut engine, &BEFORE)?;
@@ -64,7 +65,7 @@ fn is_done_by_eight<R: Threads + Wait + Sync>(rt: &R, alloc: Global) -> Result<b
     Ok(answered & barrier.met() & other.met())
 }
 
-/// The five processes are charged nine times, and so a kill of them has eight parts.
+/// The five processes have nine charges, so a kill of them has eight parts.
 #[test]
 fn the_parts_of_a_kill_meet(rt: HostRuntime) -> Result<(), Fail> {
     for run in 0..RUNS {
@@ -73,7 +74,7 @@ fn the_parts_of_a_kill_meet(rt: HostRuntime) -> Result<(), Fail> {
     Ok(())
 }
 
-/// A kill of an empty group passes the barrier as well, in two parts.
+/// A kill of an empty group passes the barrier too, in two parts.
 #[test]
 fn a_kill_of_nobody(rt: HostRuntime) -> Result<(), Fail> {
     let mut engine = Engine::new(rt.alloc(), BoardMeter::new(rt.alloc())?)?;

@@ -1,18 +1,18 @@
-//! Tests of the meter over a board of atomic words, and of an engine over it, in a crate of their
-//! own so that no other is proved twice for them.
+//! Tests of the meter over a board of atomic words, and of an engine over it. They are in a crate
+//! of their own so that no other crate is proved twice for them.
 //!
-//! They ask what no contract says: that `new` succeeds where there is memory, and that the parts of
-//! a settlement, of a kill and of its undo run beside each other. That both meters answer alike
-//! follows from the law of `Meter`; tables of calls and lines show it on the machine too, with
-//! answers that were written by hand.
+//! They test what no contract says: that `new` succeeds if there is memory, and that the parts of a
+//! settlement, of a kill and of its undo run at the same time. The law of `Meter` implies that both
+//! meters agree; tables of calls and lines show it on the machine too, with replies that were
+//! written by hand.
 //!
 //! - `barrier`: where the parts of a settlement wait for one another.
-//! - `drawn`: both meters over charges drawn by a generator of numbers.
+//! - `drawn`: both meters with charges from a generator of numbers.
 //! - `kills`: a kill and its undo at such a barrier.
 //! - `meeting`: settlements at such a barrier.
 //! - `meters`: a plain meter and one over a board, side by side, on a table of calls.
-//! - `replies`: what an engine answers to lines.
-//! - `swap`: what both meters do: the charges of one list go, and those of another come.
+//! - `replies`: an engine's replies to lines.
+//! - `swap`: removing the charges of one list from a meter, and adding those of another.
 //! - `users`: two users of one engine over a board.
 #![tactic(auto)]
 

@@ -1,4 +1,4 @@
-//! The parts of a settlement run beside one another.
+//! The parts of a settlement run at the same time.
 ghost use Rattle.std.specs.Prelude.{◌≡◌, ◌≤◌, length};
 ghost use Rattle.snzi_core.specs.Listed.{IsWithin};
 
@@ -10,8 +10,8 @@ use std::alloc::{AllocError, Global};
 use std::test::Fail;
 use std::thread::Threads;
 
-// What a settlement there and one back show: whether the parts met in both, and what there is at
-// slots 0 and 1 and at the last after the first and after the second.
+// The result of a settlement there and one back: whether the parts met in both, and the counts at slots 0 and 1 and at the
+// last slot after the first and after the second.
 #[derive(Clone, Copy, PartialEq, Eq)]
 struct Seen {
     met: [bool; 2],
@@ -19,7 +19,7 @@ struct Seen {
     back: [u64; 3],
 }
 
-// A new meter; the tokens come by one settlement and go by another, each with a barrier of its own.
+// A new meter. One settlement adds the tokens and another removes them, each with a barrier of its own.
 fn there_and_back<R: Threads>(
     rt: &R,
     alloc: Global,
@@ -43,7 +43,7 @@ fn there_and_back<R: Threads>(
     })
 }
 
-// The first tokens of those.
+// The first of these tokens.
 fn first(tokens: &[Token], number: usize) -> &[Token] {
     &tokens[..number.min(tokens.len())]
 }
@@ -60,8 +60,8 @@ const TOKENS: [Token; 9] = [
     Token { slot: 0, leaf: 0 },
 ];
 
-// Of no token, or one, there are two parts; a part or both have nothing to do, and pass the barrier all
-// the same. Of nine there are eight.
+// For no token, or one, there are two parts; one or both have nothing to do, and pass the barrier all the same. For nine
+// tokens there are eight.
 #[test]
 fn the_parts_meet(rt: HostRuntime) -> Result<(), Fail> {
     for (number, parts, there) in [

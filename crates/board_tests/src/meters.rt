@@ -11,8 +11,8 @@ use std::alloc::Global;
 use std::test::Fail;
 use std::thread::Threads;
 
-// A step of both meters: the charges of the row before go and those of this one come, in this way,
-// and the numbers at slots 0 and 1 and at the last are then these.
+// A step of both meters: the charges of the row before are removed and those of this one are added,
+// in this way; then these are the counts at slots 0 and 1 and at the last slot.
 #[derive(Clone, Copy)]
 struct Row<'t> {
     way: Way,
@@ -21,7 +21,7 @@ struct Row<'t> {
     counts: [u64; 3],
 }
 
-// Whether there is one at slots 0 and 1 and at the last.
+// Whether there is a charge at slots 0 and 1 and at the last slot.
 fn flags<M: Meter>(meter: &mut M) -> [bool; 3]
     requires { LAST < M.SLOTS }
     ensures content { M.content meter.new ≡ M.content meter.old }
@@ -34,7 +34,7 @@ fn flags<M: Meter>(meter: &mut M) -> [bool; 3]
     ]
 }
 
-// Whether the meter answers these numbers, and that there is one where a number is positive.
+// Whether the meter returns these counts, and that there is a charge where a count is positive.
 fn answers<M: Meter>(meter: &mut M, wanted: [u64; 3]) -> bool
     requires { LAST < M.SLOTS }
     ensures content { M.content meter.new ≡ M.content meter.old }
@@ -46,7 +46,7 @@ fn answers<M: Meter>(meter: &mut M, wanted: [u64; 3]) -> bool
     counted && flagged
 }
 
-// How many rows both meters, which start with nothing, answer as they should.
+// How many rows both meters, which start empty, answer as expected.
 fn rows_answered<R: Threads>(
     rt: &R,
     plain: &mut PlainMeter<Global>,

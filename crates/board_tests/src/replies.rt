@@ -1,4 +1,4 @@
-//! What an engine answers to the lines of a trace, in the bytes of a replay.
+//! An engine's replies to the lines of a trace, as bytes of a replay.
 
 use pids_charge::{Gate, Meter};
 use std::alloc::Global;
@@ -8,7 +8,7 @@ use std::thread::Threads;
 use trace_lines::{Line, parse_line, put_reply};
 use undo_journal::{Command, Engine};
 
-/// The command that a line says.
+/// The command of a line.
 pub(crate) fn command(alloc: Global, line: &str) -> Result<Command<Global>, Fail> {
     match parse_line(alloc, line.as_bytes())? {
         Line::Run(command) => Ok(command),
@@ -16,7 +16,7 @@ pub(crate) fn command(alloc: Global, line: &str) -> Result<Command<Global>, Fail
     }
 }
 
-/// Appends the answer to line `number`, issued by the user `who`, to the bytes.
+/// Appends the output for line `number`, issued by the user `who`, to the bytes.
 pub(crate) fn put_answer<R: Threads + Wait + Sync, M: Meter>(
     rt: &R,
     alloc: Global,
@@ -36,7 +36,7 @@ pub(crate) fn put_answer<R: Threads + Wait + Sync, M: Meter>(
 /// A line, and the number of the user who issues it.
 pub(crate) type Issued = (u8, &'static str);
 
-/// The answers to these lines, with this test hook, numbered from 1.
+/// The output for these lines, numbered from 1, with this test hook.
 pub(crate) fn answers<R: Threads + Wait + Sync, M: Meter>(
     rt: &R,
     alloc: Global,

@@ -1,4 +1,5 @@
-//! The charges of one list go and those of another come, by single calls or by a settlement.
+//! Removing the charges of one list and adding those of another, by single calls or by a
+//! settlement.
 ghost use Rattle.std.specs.Prelude.{◌≡◌, ℕ, ◌+◌, ◌<◌, ◌≤◌, length, IsTrue};
 ghost use Rattle.snzi_core.specs.Listed.{IsWithin, listed_at};
 ghost use Rattle.board_tests.specs.Tokens.{Holds};
@@ -9,7 +10,7 @@ use std::thread::Threads;
 /// The last slot of both meters.
 pub(crate) const LAST: u16 = SLOTS as u16 - 1;
 
-/// Whether the tokens are at slots and leaves of both meters, and a thousand at most.
+/// Whether the tokens are at slots and leaves of both meters, and at most a thousand.
 pub(crate) fn fits(tokens: &[Token]) -> bool
     ensures within { IsTrue result → IsWithin SLOTS LEAVES tokens.now }
     ensures few { IsTrue result → length tokens.now ≤ 1000 }
@@ -18,7 +19,7 @@ pub(crate) fn fits(tokens: &[Token]) -> bool
         && tokens.iter().all(|t| usize::from(t.slot) < SLOTS && usize::from(t.leaf) < LEAVES)
 }
 
-// Each charge goes by a call of its own.
+// Removes the charges one by one.
 fn uncharge_each<M: Meter>(meter: &mut M, stripe: u8, leaving: &[Token])
     requires within { IsWithin M.SLOTS M.LEAVES leaving.now }
     requires stripe { stripe < M.LEAVES }
@@ -31,7 +32,7 @@ fn uncharge_each<M: Meter>(meter: &mut M, stripe: u8, leaving: &[Token])
     }
 }
 
-// Each charge comes by a call of its own.
+// Adds the charges one by one.
 fn charge_each<M: Meter>(meter: &mut M, arriving: &[Token])
     requires within { IsWithin M.SLOTS M.LEAVES arriving.now }
     requires room { M.held meter.old + length arriving.now ≤ HELD_MAX }
@@ -43,14 +44,14 @@ fn charge_each<M: Meter>(meter: &mut M, arriving: &[Token])
     }
 }
 
-/// How charges go and come: each by a call, or all by a settlement.
+/// How charges are removed and added: each by a call, or all by a settlement.
 #[derive(Clone, Copy)]
 pub(crate) enum Way {
     Calls,
     Settlement,
 }
 
-/// The leaving charges, which are all that there are, go and the arriving ones come.
+/// Removes the leaving charges, which are all that there are, and adds the arriving ones.
 pub(crate) fn swap<R: Threads, M: Meter>(
     rt: &R,
     meter: &mut M,
@@ -74,7 +75,7 @@ pub(crate) fn swap<R: Threads, M: Meter>(
     }
 }
 
-/// The numbers at slots 0 and 1 and at the last.
+/// The counts at slots 0 and 1 and at the last slot.
 pub(crate) fn counts<M: Meter>(meter: &mut M) -> [u64; 3]
     requires { LAST < M.SLOTS }
     ensures content { M.content meter.new ≡ M.content meter.old }

@@ -6,8 +6,8 @@ use pids_charge::OpenGate;
 use std::test::Fail;
 use undo_journal::Engine;
 
-// User 0 makes two groups, forks and moves; user 1 has a process exit, removes a group and makes
-// another, into which user 0 moves. Then user 1 takes three commands back, the first of user 0.
+// User 0 makes two groups, forks and moves; user 1 ends a process, removes a group and makes
+// another, into which user 0 moves. Then user 1 undoes three commands, the first of them user 0's.
 const LINES: [Issued; 23] = [
     (0, "mkdir /a"),
     (0, "mkdir /b"),
@@ -41,8 +41,8 @@ const ANSWERS: &[u8] = b"1 ok\n2 ok\n3 ok\n4 ok\n5 ok\n6 ok\n7 ok\n8 ok\n9 ok\n\
 18 refused nogroup /a/c\n19 ok\n| populated 0\n| frozen 0\n20 ok\n| 2\n21 ok\n| 0::/a\n\
 22 refused noprocess 3\n23 ok\n| nr_descendants 2\n| nr_dying_descendants 0\n";
 
-// User 0 makes a group and moves a process in; user 1 has it exit, removes the group, makes another
-// and takes the three back.
+// User 0 makes a group and moves a process in; user 1 ends it, removes the group, makes another and
+// undoes the three.
 const TAKEN_BACK: [Issued; 13] = [
     (0, "mkdir /a"),
     (0, "fork 1 2"),
@@ -65,7 +65,7 @@ const TAKEN_BACK_ANSWERS: &[u8] = b"1 ok\n2 ok\n3 ok\n4 ok\n5 ok\n6 ok\n\
 12 ok\n| 1\n13 ok\n| populated 1\n| frozen 0\n";
 
 // User 0 makes a group and moves a process in; user 1 moves it out, removes the group and makes
-// another, which may have the slot of the first.
+// another, which may get the slot of the first.
 const REMADE: [Issued; 11] = [
     (0, "mkdir /a"),
     (0, "fork 1 2"),
@@ -83,7 +83,7 @@ const REMADE: [Issued; 11] = [
 const REMADE_ANSWERS: &[u8] = b"1 ok\n2 ok\n3 ok\n4 ok\n5 ok\n6 ok\n\
 7 ok\n| populated 0\n| frozen 0\n8 ok\n9 ok\n| 1\n10 ok\n11 ok\n| populated 0\n| frozen 0\n";
 
-/// What one user has left in the slot of a group that is gone is counted for no other group.
+/// What one user has left in the slot of a removed group counts for no other group.
 #[test]
 fn slot_of_another_user(rt: HostRuntime) -> Result<(), Fail> {
     let mut engine = Engine::new(rt.alloc(), BoardMeter::new(rt.alloc())?)?;
@@ -92,7 +92,7 @@ fn slot_of_another_user(rt: HostRuntime) -> Result<(), Fail> {
     Ok(())
 }
 
-/// What one user left is given back by the undos of another.
+/// The undos of one user restore what another left.
 #[test]
 fn taken_back_by_another_user(rt: HostRuntime) -> Result<(), Fail> {
     let mut engine = Engine::new(rt.alloc(), BoardMeter::new(rt.alloc())?)?;
@@ -101,7 +101,7 @@ fn taken_back_by_another_user(rt: HostRuntime) -> Result<(), Fail> {
     Ok(())
 }
 
-/// The six commands that are left are then taken back at once.
+/// The six remaining commands are then undone at once.
 #[test]
 fn two_users(rt: HostRuntime) -> Result<(), Fail> {
     let mut engine = Engine::new(rt.alloc(), BoardMeter::new(rt.alloc())?)?;

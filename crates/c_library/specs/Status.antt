@@ -166,7 +166,7 @@ number_value number.NoFile = 0
 number_value number.BadPath = 0
 number_value number.OutOfMemory = 0
 
--- the number of the group at the path is told so, and the engine stays
+-- the number of the group at the path is returned so, and the engine stays
 pub record ToldAt (e : LineEngine) (number_of : State → Path → ℕ) (path : Result Path PathFault) (status value : ℕ) (info : Info) (new : Option LineEngine) : Type 0 where
   pub answer : Number
   pub new_is : new ≡ Some e

@@ -1,5 +1,5 @@
-//! Calls that are answered where there is memory. A made-up `OutOfMemory` would pass every contract, so tests
-//! ask where a wrong reason could hide behind it.
+//! Calls that are answered if there is memory. A made-up `OutOfMemory` would satisfy every contract, so these tests call
+//! whatever could hide a wrong reason behind it.
 
 use crate::answers::{Plain, all_undone, answer, answer_alone};
 use crate::rehearsal::{all_answered, are_replies, commands};
@@ -9,7 +9,7 @@ use std::sync::Wait;
 use std::test::Fail;
 use std::thread::Threads;
 
-/// Lines and their answers. Limits stand below what an exit, a kill, a move and a removal give back.
+/// Lines and their replies. Limits are below what the undo of an exit, a kill, a move and a removal restores.
 const ROWS: [(&str, &str); 26] = [
     ("mkdir /a", "ok"),
     ("mkdir /a/b", "ok"),
@@ -42,7 +42,7 @@ const ROWS: [(&str, &str); 26] = [
     ("cat / cgroup.procs", "1\n65536\n4194303\n"),
 ];
 
-/// What is rehearsed at the start, where nothing is recorded.
+/// What is rehearsed at the start, when nothing is recorded.
 const AT_THE_START: [(&str, &str); 4] = [
     ("undo", "nothing"),
     ("mkdir /a", "ok"),
@@ -50,7 +50,7 @@ const AT_THE_START: [(&str, &str); 4] = [
     ("undo", "nothing"),
 ];
 
-/// What is rehearsed after the lines above: it begins with undos of what they have recorded.
+/// What is rehearsed after the lines above. It begins with undos of these lines.
 const AFTERWARDS: [(&str, &str); 8] = [
     ("undo", "fork 1 4194303"),
     ("undo", "write / cgroup.max.descendants 0"),
@@ -62,7 +62,7 @@ const AFTERWARDS: [(&str, &str); 8] = [
     ("cat /a pids.current", "1\n"),
 ];
 
-/// Whether a rehearsal of the lines replies what stands beside them.
+/// Whether a rehearsal of the lines gives the replies beside them.
 pub(crate) fn is_rehearsed<R: Threads + Wait + Sync>(
     rt: &R,
     alloc: Global,
@@ -74,7 +74,7 @@ pub(crate) fn is_rehearsed<R: Threads + Wait + Sync>(
     Ok(are_replies(alloc, replies.as_slice(), rows)?)
 }
 
-/// Whether the fork of this process is done; its row is added to the list.
+/// Whether process 1 can fork this process. Its row is added to the list.
 fn is_forked<R: Threads + Wait + Sync>(
     rt: &R,
     alloc: Global,
@@ -101,8 +101,8 @@ const KILLED: [(&str, &str); 5] = [
     ("cat /a pids.current", "1001\n"),
 ];
 
-/// Whether a thousand forks, one of them that of process 65,536, are answered each; whether their group's text then
-/// has them all; whether all are killed and given back, first by a rehearsal; and whether all is taken back at once.
+/// Whether a thousand forks, one of them of process 65,536, succeed; whether the text of their group then lists all of them;
+/// whether all are killed and restored, first in a rehearsal; and whether everything is undone at once.
 pub(crate) fn is_crowd_answered<R: Threads + Wait + Sync>(
     rt: &R,
     alloc: Global,
@@ -122,7 +122,7 @@ pub(crate) fn is_crowd_answered<R: Threads + Wait + Sync>(
     Ok(is_rehearsed && text == listed)
 }
 
-/// Whether the lines are answered as they should be, and what is rehearsed before and after them.
+/// Whether the lines get their replies, and so does what is rehearsed before and after them.
 pub(crate) fn are_answered<R: Threads + Wait + Sync>(
     rt: &R,
     alloc: Global,
@@ -134,7 +134,7 @@ pub(crate) fn are_answered<R: Threads + Wait + Sync>(
     Ok(is_start_right && is_end_right)
 }
 
-/// Whether the lines are answered as they should be on the calling thread.
+/// Whether the lines get their replies on the calling thread.
 pub(crate) fn are_answered_alone(alloc: Global, engine: &mut Plain) -> Result<bool, Fail> {
     for (line, wanted) in ROWS {
         if answer_alone(alloc, engine, line)?.as_slice() != wanted.as_bytes() {

@@ -1,4 +1,4 @@
-//! A new engine, and what it answers to a line, in the words of a replay.
+//! A new engine, and its replies to lines, in the words of a replay.
 
 use group_path::GroupPath;
 use pids_charge::{Meter, Pid, PlainMeter};
@@ -9,7 +9,7 @@ use std::thread::Threads;
 use trace_lines::{Line, parse_line};
 use undo_journal::{Command, Engine, Refusal, Reply};
 
-/// The command that a line says.
+/// The command of a line.
 pub(crate) fn command(alloc: Global, line: &str) -> Result<Command<Global>, Fail> {
     match parse_line(alloc, line.as_bytes())? {
         Line::Run(command) => Ok(command),
@@ -78,7 +78,7 @@ pub(crate) fn plain(alloc: Global) -> Result<Plain, Fail> {
     Ok(Engine::new(alloc, meter)?)
 }
 
-/// A copy of the command that a line says.
+/// A copy of the command of a line.
 fn command_copied(alloc: Global, line: &str) -> Result<Command<Global>, Fail> {
     let command = command(alloc, line)?;
     Ok(command.copy(alloc)?)
@@ -93,7 +93,7 @@ pub(crate) fn said_by_a_copy<A: Allocator + Clone>(
     said(alloc, &reply)
 }
 
-/// What the engine answers to a line, said from a copy of the reply to a copy of the command.
+/// The engine's reply to a line, written from a copy of the reply to a copy of the command.
 pub(crate) fn answer<R: Threads + Wait + Sync, A: Allocator + Clone, M: Meter>(
     rt: &R,
     alloc: Global,
@@ -105,14 +105,14 @@ pub(crate) fn answer<R: Threads + Wait + Sync, A: Allocator + Clone, M: Meter>(
     Ok(said_by_a_copy(alloc, &reply)?)
 }
 
-/// What the engine answers to a line on the calling thread.
+/// The engine's reply to a line on the calling thread.
 pub(crate) fn answer_alone(alloc: Global, engine: &mut Plain, line: &str) -> Result<Vec<u8>, Fail> {
     let command = command(alloc, line)?;
     let reply = engine.apply_alone(0, &command);
     Ok(said(alloc, &reply)?)
 }
 
-/// Takes back everything, and fails where that is another number of commands.
+/// Undoes everything, and fails if the number of undone commands is another.
 pub(crate) fn all_undone<R: Threads + Wait + Sync>(
     rt: &R,
     engine: &mut Plain,

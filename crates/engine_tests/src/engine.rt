@@ -1,4 +1,4 @@
-//! Commands by their lines, what the engine answers, and what it keeps of them.
+//! Commands by their lines, the engine's replies, and what it keeps of them.
 
 use crate::ample_memory::is_rehearsed;
 use crate::answers::{Plain, all_undone, answer, command, said, said_by_a_copy};
@@ -27,7 +27,7 @@ fn bytes_of_a_vec(rt: HostRuntime) -> Result<(), AllocError> {
     Ok(())
 }
 
-/// Whether the text of the command that the line says is the line.
+/// Whether the text of the line's command is the line.
 fn is_its_text(alloc: Global, line: &str) -> Result<bool, Fail> {
     let command = command(alloc, line)?;
     let text = command.text(alloc)?;
@@ -66,10 +66,10 @@ fn texts_of_commands(rt: HostRuntime) -> Result<(), Fail> {
     Ok(())
 }
 
-/// Lines, what the engine answers to each, and how many records it has then.
+/// Lines, the engine's reply to each, and the number of records afterwards.
 pub(crate) type Row = (&'static str, &'static str, usize);
 
-/// Answers the lines, and fails with the first that is answered otherwise or leaves another number of records.
+/// Runs the lines, and fails at the first with another reply or another number of records.
 pub(crate) fn all_answered<R: Threads + Wait + Sync>(
     rt: &R,
     alloc: Global,
@@ -85,7 +85,7 @@ pub(crate) fn all_answered<R: Threads + Wait + Sync>(
     Ok(())
 }
 
-/// A process is made, moved and moved back; all is undone and made again, and the process killed.
+/// A process is made, moved and moved back; everything is undone and done again, and the process killed.
 const LINES: [Row; 17] = [
     ("undo", "nothing", 0),
     ("mkdir /a", "ok", 1),
@@ -106,7 +106,7 @@ const LINES: [Row; 17] = [
     ("where 2", "noprocess 2", 4),
 ];
 
-/// What an engine of which everything was taken back answers.
+/// Lines and replies of an engine after everything was undone.
 const START: [Row; 2] = [
     ("cat / cgroup.procs", "1\n", 0),
     (
@@ -128,14 +128,14 @@ pub(crate) fn traced<R: Threads + Wait + Sync>(
     Ok(true)
 }
 
-/// Then everything is taken back at once.
+/// Then everything is undone at once.
 #[test]
 fn one_trace(rt: HostRuntime) -> Result<(), Fail> {
     assert!(rt; passes(&rt, rt.alloc(), Trial::Trace)?);
     Ok(())
 }
 
-/// What the engine answers to a reading of the file of the group at the path of this text, said from a copy of the reply.
+/// The engine's reply to reading the file of the group at this path, written from a copy of the reply.
 fn shown<R: Threads + Wait + Sync>(
     rt: &R,
     alloc: Global,
@@ -148,7 +148,7 @@ fn shown<R: Threads + Wait + Sync>(
     Ok(said_by_a_copy(alloc, &reply)?)
 }
 
-/// A path, a file, and what a reading of it is answered.
+/// A path, a file, and the reply to reading it.
 const READINGS: [(&str, File, &str); 7] = [
     ("/", File::KillFile, "direction"),
     ("/b", File::KillFile, "direction"),
@@ -173,7 +173,7 @@ pub(crate) fn all_shown<R: Threads + Wait + Sync>(
     Ok(true)
 }
 
-/// That a file is not read comes before its group, and the group before what the root has not.
+/// That a file can't be read is reported before a missing group, and this before a file that the root lacks.
 #[test]
 fn refusals_of_a_reading(rt: HostRuntime) -> Result<(), Fail> {
     assert!(rt; passes(&rt, rt.alloc(), Trial::Readings)?);
@@ -191,7 +191,7 @@ fn has_no_record(engine: &Plain) -> bool {
     engine.newest().is_none() && engine.newest_command().is_none()
 }
 
-/// What the engine says of the newest command, which it takes back.
+/// The engine's reply to the undo of the newest command.
 fn undone<R: Threads + Wait + Sync>(
     rt: &R,
     alloc: Global,
@@ -214,14 +214,14 @@ pub(crate) fn recorded<R: Threads + Wait + Sync>(
     Ok(was_empty && is_made && is_undone)
 }
 
-/// The newest record and its command, and the undo that takes it back.
+/// The newest record and its command, and the undo that undoes it.
 #[test]
 fn newest_record(rt: HostRuntime) -> Result<(), Fail> {
     assert!(rt; passes(&rt, rt.alloc(), Trial::Newest)?);
     Ok(())
 }
 
-/// Whether the group of this number is made, or refused where there are as many as there may be.
+/// Whether the group with this number is made, or refused if there are as many groups as possible.
 fn is_slot_told<R: Threads + Wait + Sync>(
     rt: &R,
     alloc: Global,
@@ -234,7 +234,7 @@ fn is_slot_told<R: Threads + Wait + Sync>(
     Ok(said.as_slice() == wanted.as_bytes())
 }
 
-/// What is rehearsed where there are as many groups as there may be.
+/// What is rehearsed if there are as many groups as possible.
 const FULL: [(&str, &str); 3] = [
     ("undo", "mkdir /g1023"),
     ("mkdir /h", "ok"),
@@ -260,10 +260,10 @@ fn slots(rt: HostRuntime) -> Result<(), Fail> {
     Ok(())
 }
 
-/// How often a command is applied, and taken back.
+/// How often a command is applied, and undone.
 const TIMES: u32 = 65_537;
 
-/// Whether the command is done each time, and so many are recorded.
+/// Whether the command is done each time, and that many are recorded.
 fn is_recorded<R: Threads + Wait + Sync>(
     rt: &R,
     engine: &mut Plain,
@@ -277,7 +277,7 @@ fn is_recorded<R: Threads + Wait + Sync>(
     all & (engine.depth() == 65_537)
 }
 
-/// Whether a limit is taken back each time, and nothing is recorded then.
+/// Whether a limit is undone each time, and nothing is recorded then.
 fn is_taken_back<R: Threads + Wait + Sync>(rt: &R, engine: &mut Plain) -> bool {
     let mut all = true;
     for _ in 0..TIMES {
@@ -287,7 +287,7 @@ fn is_taken_back<R: Threads + Wait + Sync>(rt: &R, engine: &mut Plain) -> bool {
     all & engine.newest().is_none()
 }
 
-/// What is rehearsed behind all of them.
+/// What is rehearsed after all of them.
 const DEEP: [(&str, &str); 1] = [("undo", "write / cgroup.max.depth 7")];
 
 pub(crate) fn journaled<R: Threads + Wait + Sync>(
@@ -301,7 +301,7 @@ pub(crate) fn journaled<R: Threads + Wait + Sync>(
     Ok(is_recorded && is_rehearsed && is_taken_back(rt, engine))
 }
 
-/// More than 65,536 commands are recorded, and each is taken back.
+/// More than 65,536 commands are recorded, and each is undone.
 #[test]
 fn long_journal(rt: HostRuntime) -> Result<(), Fail> {
     assert!(rt; passes(&rt, rt.alloc(), Trial::Journal)?);

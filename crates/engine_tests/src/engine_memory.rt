@@ -1,4 +1,4 @@
-//! Each allocation that a command asks for, refused in turn.
+//! Refuses each allocation of a command in turn.
 
 use crate::answers::{answer, command, plain, said};
 use crate::undo_memory::{Ended, undone_or_resumed};
@@ -11,7 +11,7 @@ use std::thread::Threads;
 use test_support::all_but;
 use undo_journal::{Command, Engine, Reply};
 
-/// The newest recorded command; no text where there is none.
+/// The newest recorded command; no text if there is none.
 fn newest<A: Allocator + Clone, M: Meter>(
     alloc: Global,
     engine: &Engine<A, M>,
@@ -22,8 +22,8 @@ fn newest<A: Allocator + Clone, M: Meter>(
     }
 }
 
-/// What can be seen of an engine in which no groups but two were made, of 24 letters each: how many commands
-/// are recorded, the newest, and the files of the groups.
+/// What can be seen of an engine in which no groups but two were made, with names of 24 letters: how many commands are
+/// recorded, the newest, and the files of the groups.
 pub(crate) fn seen<R: Threads + Wait + Sync, A: Allocator + Clone, M: Meter>(
     rt: &R,
     alloc: Global,
@@ -49,16 +49,16 @@ pub(crate) fn seen<R: Threads + Wait + Sync, A: Allocator + Clone, M: Meter>(
     Ok(text)
 }
 
-/// An engine over this heap, its meter apart.
+/// An engine in this heap, with its meter elsewhere.
 pub(crate) type InHeap<'a> = Engine<&'a LocalHeap, PlainMeter<Global>>;
 
-/// A new engine over this heap.
+/// A new engine in this heap.
 fn in_heap(alloc: Global, heap: &LocalHeap) -> Result<InHeap<'_>, AllocError> {
     let meter = PlainMeter::new(alloc)?;
     Engine::new(heap, meter)
 }
 
-/// The reply with that many blocks of sixteen bytes left in the heap.
+/// The reply when that many blocks of sixteen bytes are left in the heap.
 fn reply_in<'a, R: Threads + Wait + Sync>(
     rt: &R,
     alloc: Global,
@@ -71,7 +71,7 @@ fn reply_in<'a, R: Threads + Wait + Sync>(
     Ok(engine.apply(rt, 0, command))
 }
 
-/// A reply in the words of a replay; None where it is out of memory.
+/// A reply in the words of a replay; None if it is out of memory.
 fn said_with_memory<A: Allocator + Clone>(
     alloc: Global,
     reply: &Reply<A>,
@@ -82,7 +82,7 @@ fn said_with_memory<A: Allocator + Clone>(
     }
 }
 
-/// The answer with that many blocks of sixteen bytes left in the heap.
+/// The reply to a line when that many blocks of sixteen bytes are left in the heap.
 fn answer_in<'a, R: Threads + Wait + Sync>(
     rt: &R,
     alloc: Global,
@@ -96,9 +96,8 @@ fn answer_in<'a, R: Threads + Wait + Sync>(
     Ok(said_with_memory(alloc, &reply)?)
 }
 
-/// The first answer that is not out of memory, as the room grows by a block at a time; and
-/// whether it was out of memory before. Each time that it was, what can be seen of the engine
-/// stayed.
+/// The first reply that is not out of memory, as the room grows one block at a time, and whether it was out of memory
+/// before. Each time it was, what can be seen of the engine has not changed.
 fn first_answer<'a, R: Threads + Wait + Sync>(
     rt: &R,
     alloc: Global,
@@ -119,9 +118,8 @@ fn first_answer<'a, R: Threads + Wait + Sync>(
     Err(Fail::new("there is no answer in 1,600 bytes"))
 }
 
-/// The lines, their answers, and whether memory is asked for, as it is for names as long as these.
-/// A fork in the root asks for none where the table and the journal have room, nor does taking
-/// back a fork, a mkdir, a limit, or a move from the root.
+/// The lines, their replies, and whether they allocate, as they do for names this long. A fork in the root allocates nothing
+/// if the table and the journal have room, nor does the undo of a fork, a mkdir, a limit, or a move from the root.
 const ROWS: [(&str, &str, bool); 38] = [
     ("mkdir /aaaaaaaaaaaaaaaaaaaaaaaa", "ok", true),
     (
@@ -165,7 +163,7 @@ const ROWS: [(&str, &str, bool); 38] = [
     ("fork 2 3", "pidsmax /aaaaaaaaaaaaaaaaaaaaaaaa", true),
     ("undo", "fork 2 3", false),
     ("undo", "write /aaaaaaaaaaaaaaaaaaaaaaaa pids.max 1", false),
-    // The table of processes takes the path of 25 bytes once more.
+    // The table of processes copies the path of 25 bytes once more.
     ("fork 2 3", "ok", true),
     ("undo", "fork 2 3", false),
     (
@@ -180,7 +178,7 @@ const ROWS: [(&str, &str, bool); 38] = [
     ),
     ("undo", "fork 1 2", false),
     ("undo", "mkdir /aaaaaaaaaaaaaaaaaaaaaaaa", false),
-    // A kill of two processes, and both back.
+    // A kill of two processes, and the undo of both.
     ("mkdir /aaaaaaaaaaaaaaaaaaaaaaaa", "ok", true),
     ("fork 1 3", "ok", false),
     ("fork 1 2", "ok", false),
@@ -233,12 +231,12 @@ pub(crate) fn seen_at_the_start<R: Threads + Wait + Sync>(
     seen(rt, alloc, &mut engine)
 }
 
-/// What is tried on a new engine over a heap of its own.
+/// What is tested on a new engine in a heap of its own.
 #[derive(Clone, Copy)]
 pub(crate) enum Trial {
-    /// The rows above, each with each of its allocations refused.
+    /// The rows above, with each of their allocations refused.
     Commands,
-    /// `undo_all` behind these lines, with that many blocks of sixteen bytes left.
+    /// `undo_all` after these lines, with that many blocks of sixteen bytes left.
     Undos(&'static Ended, usize),
 }
 
@@ -255,7 +253,8 @@ fn tried_on<'a, R: Threads + Wait + Sync>(
     }
 }
 
-/// How many rows were answered, or commands undone; None where `undo_all` was refused and has left what it should.
+/// How many rows got their replies, or how many commands were undone; None if `undo_all` was refused and has left what it
+/// should.
 pub(crate) fn tried<R: Threads + Wait + Sync>(
     rt: &R,
     alloc: Global,
@@ -272,7 +271,7 @@ fn each_allocation_of_a_command_refused(rt: HostRuntime) -> Result<(), Fail> {
     Ok(())
 }
 
-/// Whether an engine is made in a heap of that size, its meter apart.
+/// Whether an engine, with its meter elsewhere, can be made in a heap of that size.
 fn is_made_in(alloc: Global, size: usize) -> Result<bool, AllocError> {
     let heap = LocalHeap::new(alloc, size)?;
     match Engine::new(&heap, PlainMeter::new(alloc)?) {
@@ -281,7 +280,7 @@ fn is_made_in(alloc: Global, size: usize) -> Result<bool, AllocError> {
     }
 }
 
-/// An engine is made where its memory is there.
+/// An engine is made if there is memory for it.
 #[test]
 fn engine_in_a_small_heap(rt: HostRuntime) -> Result<(), Fail> {
     let mut sizes_refused = 0;

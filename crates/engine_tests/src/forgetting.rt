@@ -1,4 +1,5 @@
-//! Forgetting what was recorded: what every file says stays, and nothing earlier is undone. The answers are written by hand.
+//! Forgetting what was recorded: the text of every file stays, and nothing earlier can be undone. The expected replies were
+//! written by hand.
 
 use crate::answers::{Plain, all_undone};
 use crate::engine::{Row, all_answered};
@@ -8,7 +9,7 @@ use std::sync::Wait;
 use std::test::Fail;
 use std::thread::Threads;
 
-/// Each kind of change but a removal; the last one stays counted.
+/// One change of each kind except a removal; the last one stays counted.
 const BEFORE: [Row; 7] = [
     ("mkdir /a", "ok", 1),
     ("fork 1 2", "ok", 2),
@@ -19,7 +20,7 @@ const BEFORE: [Row; 7] = [
     ("fork 2 3", "pidsmax /a", 7),
 ];
 
-/// What stays, and the commands that come after are undone like any other.
+/// What stays. The commands that come afterwards are undone like any others.
 const AFTER: [Row; 14] = [
     ("undo", "nothing", 0),
     ("cat /a cgroup.procs", "2\n", 0),
@@ -37,7 +38,7 @@ const AFTER: [Row; 14] = [
     ("cat /a pids.current", "0\n", 1),
 ];
 
-/// Everything is undone: what is left is what was forgotten, and not the start.
+/// After everything is undone, the state is the one at the forgetting, not the start.
 const BACK: [Row; 2] = [("where 2", "0::/a\n", 0), ("cat /a pids.current", "1\n", 0)];
 
 pub(crate) fn forgotten<R: Threads + Wait + Sync>(

@@ -1,4 +1,4 @@
-//! The test hook of a kill and of its undo over a plain meter, whose parts are done one after another.
+//! The test hook of a kill and of its undo over a plain meter, which does the parts one after another.
 
 use crate::answers::{Plain, command, said};
 use crate::trials::{Trial, passes};
@@ -23,7 +23,7 @@ impl Gate for Passed {
     }
 }
 
-/// Lines, their answers, and the parts that pass: as many as there are charges, but 2 at least and 8 at most.
+/// Lines, their replies, and the parts that pass: as many as there are charges, but at least 2 and at most 8.
 const ROWS: [(&str, &str, u64); 14] = [
     ("mkdir /a", "ok", 0),
     ("write /a cgroup.kill 1", "ok", 12),
@@ -41,7 +41,7 @@ const ROWS: [(&str, &str, u64); 14] = [
     ("cat /a pids.current", "5\n", 0),
 ];
 
-/// What is answered to a line, and the parts that passed.
+/// The reply to a line, and the parts that passed.
 fn answer_gated<R: Threads + Wait + Sync>(
     rt: &R,
     alloc: Global,

@@ -1,13 +1,12 @@
-//! Tests of the engine: that its calls succeed where there is memory, what each answers where an allocation is refused,
-//! and worked examples whose answers were written by hand. What a contract says of every input is not tested here once
-//! more.
+//! Tests of the engine: that its calls succeed if there is memory, what each returns if an allocation is refused, and worked
+//! examples whose replies were written by hand. They don't test again what a contract says of every input.
 //!
-//! - `answers`: what an engine answers to a line.
-//! - `trials`: what is tried on a new engine.
+//! - `answers`: an engine's replies to lines.
+//! - `trials`: what is tested on a new engine.
 //! - `engine`: commands, their texts, and what the engine keeps of them.
-//! - `engine_memory`: each allocation that a command asks for, refused in turn.
-//! - `undo_memory`: those of `undo_all`.
-//! - `ample_memory`: answers where there is memory, in the cases where a wrong reason could hide behind `OutOfMemory`.
+//! - `engine_memory`: each allocation of a command refused in turn.
+//! - `undo_memory`: the same for `undo_all`.
+//! - `ample_memory`: replies if there is memory, in the cases in which a wrong reason could hide behind `OutOfMemory`.
 //! - `forgetting`: what stays when the records are forgotten.
 //! - `gates`: which parts of a kill over a plain meter pass the test hook.
 //! - `rehearsal`: rehearsals in an arena.

@@ -1,14 +1,14 @@
-//! Lines answered into a buffer: that they are answered where there is memory, and what a buffer that is too small leaves.
-//! The answers are written by hand.
+//! Lines answered into a buffer: that they are answered if there is memory, and what a buffer that is too small leaves. The
+//! expected output was written by hand.
 
 use line_engine::{Answer, Found, LineEngine, Listing, Number};
 use std::alloc::{AllocError, Global};
 use std::test::Fail;
 
-/// The first line or call that is answered otherwise than it should be.
+/// The first line or call with another result than expected.
 type Other = Option<&'static str>;
 
-/// Lines with their answers and codes, numbered from 1: one of each kind of answer.
+/// Lines with their output and codes, numbered from 1: one of each kind of result.
 const ROWS: [(&str, &str, u32); 11] = [
     ("mkdir /a", "1 ok\n", 0),
     ("mkdir /a", "2 refused exists\n", 1),
@@ -27,7 +27,7 @@ const ROWS: [(&str, &str, u32); 11] = [
     ("cat /a pids.events", "11 ok\n| max 0\n", 0),
 ];
 
-/// Whether a line whose answer has `len` bytes is answered `TooSmall` with that length, and leaves the engine as it was.
+/// Whether a line whose output has `len` bytes returns `TooSmall` with that length, and leaves the engine unchanged.
 fn is_too_small(
     alloc: Global,
     lines: &mut LineEngine,
@@ -41,8 +41,8 @@ fn is_too_small(
     told == Answer::TooSmall { needed: len } && lines.depth() == depth
 }
 
-/// Whether a line is answered so: not in an empty buffer, nor in one that is one byte too small, which leave the engine as
-/// it was, and then in one that is just large enough.
+/// Whether a line has the expected output: not in an empty buffer, nor in one that is one byte too small, both of which
+/// leave the engine unchanged; then in one that is just large enough.
 fn is_answered(alloc: Global, lines: &mut LineEngine, number: u64, row: (&str, &str, u32)) -> bool {
     let (line, wanted, code) = row;
     let mut buffer = [0u8; 64];
@@ -71,7 +71,7 @@ fn other_kind(alloc: Global, lines: &mut LineEngine) -> Other {
     }
 }
 
-/// Lines that have no answer, and an undo behind them that finds nothing.
+/// Lines without output, then an undo with nothing to undo.
 fn other_than_skipped(alloc: Global, lines: &mut LineEngine) -> Other {
     for line in ["", " \t", "# mkdir /a"] {
         if lines.answer(alloc, 1, line.as_bytes(), &mut []) != Answer::Skipped {
@@ -86,7 +86,7 @@ fn other_than_skipped(alloc: Global, lines: &mut LineEngine) -> Other {
     }
 }
 
-/// A text, the size of a buffer, what is told of the children of the group at the text, and their names in the buffer.
+/// A text, the size of a buffer, the result of listing the children of the group at the text, and their names in the buffer.
 const CHILDREN: [(&str, usize, Listing, &[u8]); 4] = [
     ("/", 4, Listing::Listed { len: 4, count: 2 }, b"a\0b\0"),
     ("/", 3, Listing::TooSmall { needed: 4 }, b""),
@@ -94,7 +94,7 @@ const CHILDREN: [(&str, usize, Listing, &[u8]); 4] = [
     ("a", 0, Listing::BadPath, b""),
 ];
 
-/// The size of a buffer, what is told of all groups, and their paths in the buffer.
+/// The size of a buffer, the result of listing all groups, and their paths in the buffer.
 const GROUPS: [(usize, Listing, &[u8]); 2] = [
     (
         13,
@@ -236,7 +236,7 @@ fn other_than_forgotten(alloc: Global, lines: &mut LineEngine) -> Other {
     if is_right { None } else { Some("forget") }
 }
 
-/// What is tried on a new engine.
+/// What is tested on a new engine.
 #[derive(Clone, Copy)]
 enum Trial {
     Kinds,

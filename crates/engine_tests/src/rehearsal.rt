@@ -10,10 +10,10 @@ use std::test::Fail;
 use std::thread::Threads;
 use undo_journal::{Command, Reply};
 
-/// What an engine has answered before it rehearses.
+/// Lines and replies of an engine before it rehearses.
 const BEFORE: [(&str, &str); 2] = [("mkdir /a", "ok"), ("fork 1 2", "ok")];
 
-/// What it rehearses, with the replies.
+/// The lines that it rehearses, with their replies.
 const TEN: [(&str, &str); 10] = [
     ("undo", "fork 1 2"),
     ("undo", "mkdir /a"),
@@ -27,7 +27,7 @@ const TEN: [(&str, &str); 10] = [
     ("where 2", "noprocess 2"),
 ];
 
-/// Commands of which each leaves a record of another kind.
+/// Commands, each of which leaves a record of another kind.
 pub(crate) const RECORDED: [(&str, &str); 11] = [
     ("mkdir /a", "ok"),
     ("mkdir /b", "ok"),
@@ -42,7 +42,7 @@ pub(crate) const RECORDED: [(&str, &str); 11] = [
     ("rmdir /b", "ok"),
 ];
 
-/// All of them taken back, with files read in between.
+/// The undos of all of them, with reads of files in between.
 pub(crate) const TAKEN_BACK: [(&str, &str); 16] = [
     ("undo", "rmdir /b"),
     ("undo", "write /b cgroup.kill 1"),
@@ -72,7 +72,7 @@ pub(crate) const HOUSED: [(&str, &str); 6] = [
     ("write /a/b cgroup.procs 3", "ok"),
 ];
 
-/// What is counted of them as they go.
+/// The counts of these processes as they go.
 pub(crate) const COUNTED: [(&str, &str); 10] = [
     ("cat /a pids.current", "2\n"),
     ("cat /a/b pids.current", "1\n"),
@@ -86,7 +86,7 @@ pub(crate) const COUNTED: [(&str, &str); 10] = [
     ("cat / cgroup.procs", "1\n"),
 ];
 
-/// The commands that the lines say.
+/// The commands of the lines.
 pub(crate) fn commands(alloc: Global, rows: &[(&str, &str)]) -> Result<Vec<Command<Global>>, Fail> {
     let mut commands = Vec::new(alloc);
     for (line, _) in rows {
@@ -95,7 +95,7 @@ pub(crate) fn commands(alloc: Global, rows: &[(&str, &str)]) -> Result<Vec<Comma
     Ok(commands)
 }
 
-/// Answers the lines, and fails with the first that is answered otherwise.
+/// Runs the lines, and fails at the first with another reply.
 pub(crate) fn all_answered<R: Threads + Wait + Sync>(
     rt: &R,
     alloc: Global,
@@ -125,7 +125,7 @@ pub(crate) fn are_replies(
     Ok(replies.len() == rows.len())
 }
 
-/// Fails where another number of commands is recorded.
+/// Fails if another number of commands is recorded.
 fn is_deep(engine: &Plain, depth: usize) -> Result<(), Fail> {
     if engine.depth() == depth {
         return Ok(());
@@ -133,7 +133,7 @@ fn is_deep(engine: &Plain, depth: usize) -> Result<(), Fail> {
     Err(Fail::new("another number of commands is recorded"))
 }
 
-/// The replies of a rehearsal in an arena over the heap, and how many bytes of the heap were used for it.
+/// The replies of a rehearsal in an arena over the heap, and how many bytes of the heap it used.
 fn rehearsed_in<R: Threads + Wait + Sync>(
     rt: &R,
     alloc: Global,
@@ -146,7 +146,7 @@ fn rehearsed_in<R: Threads + Wait + Sync>(
     Ok((replies, heap.used()))
 }
 
-/// Whether the ten commands are rehearsed in an arena over this heap, which is empty again then.
+/// Whether the ten commands are rehearsed in an arena over this heap, which is empty afterwards.
 fn is_heap_emptied<R: Threads + Wait + Sync>(
     rt: &R,
     alloc: Global,
@@ -159,7 +159,7 @@ fn is_heap_emptied<R: Threads + Wait + Sync>(
     Ok(is_emptied && are_replies(alloc, replies.as_slice(), &TEN)?)
 }
 
-/// The same over a heap of its own.
+/// The same in a heap of its own.
 fn is_own_heap_emptied<R: Threads + Wait + Sync>(
     rt: &R,
     alloc: Global,
@@ -169,7 +169,7 @@ fn is_own_heap_emptied<R: Threads + Wait + Sync>(
     is_heap_emptied(rt, alloc, &heap, engine)
 }
 
-/// What is left as it was by the rehearsal of the ten.
+/// What the rehearsal of the ten commands leaves unchanged.
 const UNTOUCHED: [(&str, &str); 1] = [("cat /a pids.current", "0\n")];
 
 pub(crate) fn ten_rehearsed<R: Threads + Wait + Sync>(
@@ -185,8 +185,8 @@ pub(crate) fn ten_rehearsed<R: Threads + Wait + Sync>(
     Ok(is_emptied)
 }
 
-/// Undos of what stood before and of what is rehearsed. Then the engine is as it was, and the heap
-/// under the arena is empty; and `apply` answers as the rehearsal did.
+/// Undos of what was done before and of what is rehearsed. Then the engine is unchanged, and the heap under the arena is
+/// empty; `apply` gives the same replies as the rehearsal.
 #[test]
 fn ten_commands(rt: HostRuntime) -> Result<(), Fail> {
     assert!(rt; passes(&rt, rt.alloc(), Trial::Ten)?);
@@ -206,8 +206,8 @@ fn is_rehearsed<R: Threads + Wait + Sync>(
     Ok(are_replies(alloc, replies.as_slice(), rows)?)
 }
 
-/// After one list of lines another is rehearsed and answered so, and once more by `apply`: the
-/// rehearsal has left the engine as it was.
+/// After one list of lines, another is rehearsed with these replies, and then done by `apply` with the same replies: the
+/// rehearsal has left the engine unchanged.
 pub(crate) fn rehearsed_and_applied<R: Threads + Wait + Sync>(
     rt: &R,
     alloc: Global,
@@ -222,7 +222,7 @@ pub(crate) fn rehearsed_and_applied<R: Threads + Wait + Sync>(
     Ok(is_right)
 }
 
-/// A record of each kind is copied, and taken back on the copy.
+/// A record of each kind is copied, and undone on the copy.
 #[test]
 fn each_record_rehearsed(rt: HostRuntime) -> Result<(), Fail> {
     assert!(rt; passes(&rt, rt.alloc(), Trial::Records)?);
@@ -251,7 +251,7 @@ fn is_arena_empty<R: Threads + Wait + Sync>(
     Ok(is_refused && arena.reset() == Ok(()))
 }
 
-/// What is left as it was by the refused rehearsal.
+/// What the refused rehearsal leaves unchanged.
 const LEFT: [(&str, &str); 2] = [("cat /a pids.current", "0\n"), ("where 2", "0::/\n")];
 
 pub(crate) fn refused_and_left<R: Threads + Wait + Sync>(

@@ -1,5 +1,5 @@
-//! What is tried on a new engine. One function makes the engine for all tests, since a proof grows with the places at which a
-//! function that has an engine may end.
+//! What is tested on a new engine. One function makes the engine for all tests, because a proof grows with the number of
+//! places at which a function that has an engine may end.
 
 use crate::ample_memory::{are_answered, are_answered_alone, is_crowd_answered};
 use crate::answers::{Plain, plain};
@@ -14,24 +14,24 @@ use std::sync::Wait;
 use std::test::Fail;
 use std::thread::Threads;
 
-/// What is tried on a new engine.
+/// What is tested on a new engine.
 #[derive(Clone, Copy)]
 pub(crate) enum Trial {
-    /// Lines in turn, and then all of them taken back.
+    /// Lines in turn, then the undo of all of them.
     Trace,
     /// Lines, and then all of them forgotten.
     Forgotten,
-    /// Files of groups, and those that are not read.
+    /// Files of groups, and those that can't be read.
     Readings,
     /// The newest record.
     Newest,
-    /// As many groups as there may be, and one more.
+    /// As many groups as possible, and one more.
     Slots,
-    /// More records than a number of sixteen bits counts.
+    /// More records than a number of sixteen bits can count.
     Journal,
     /// A thousand processes.
     Crowd,
-    /// Answers where a wrong reason could hide behind `OutOfMemory`.
+    /// Replies in which a wrong reason could hide behind `OutOfMemory`.
     Answers,
     /// The same on the calling thread.
     Alone,
@@ -39,11 +39,11 @@ pub(crate) enum Trial {
     Parts,
     /// A rehearsal of ten commands.
     Ten,
-    /// One in which a record of each kind is taken back.
+    /// One in which a record of each kind is undone.
     Records,
     /// One with processes in two groups.
     Processes,
-    /// One in an arena that has no room.
+    /// One in an arena without room.
     Refused,
 }
 

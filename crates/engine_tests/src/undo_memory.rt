@@ -1,4 +1,4 @@
-//! Each allocation that `undo_all` asks for, refused in turn.
+//! Refuses each allocation of `undo_all` in turn.
 
 use crate::answers::answer;
 use crate::engine_memory::{InHeap, Trial, seen, seen_at_the_start, tried};
@@ -10,20 +10,20 @@ use std::thread::Threads;
 use test_support::all_but;
 use undo_journal::Inverse;
 
-/// Lines of which the last forks process 3 and the last but one ends process 2, and the group that process 2 was in.
+/// Lines of which the last forks process 3 and the last but one ends process 2, and the group of process 2.
 #[derive(Clone, Copy)]
 pub(crate) struct Ended {
     lines: &'static [&'static str],
     home: &'static str,
 }
 
-/// In the root no undo asks for memory: its path lies in the value itself, and the table keeps its room.
+/// In the root no undo allocates: its path is stored in the value itself, and the table keeps its room.
 const IN_THE_ROOT: Ended = Ended {
     lines: &["fork 1 2", "exit 2", "fork 1 3"],
     home: "/",
 };
 
-/// The undo of the exit asks for a copy of this group's path, which takes more than the undo of the fork gives back.
+/// The undo of the exit copies this group's path, which needs more than the undo of the fork frees.
 const IN_A_GROUP: Ended = Ended {
     lines: &[
         "mkdir /gggggggggggggggggggggggggggggggggggggggggggggggggggggggggggg",
@@ -35,7 +35,7 @@ const IN_A_GROUP: Ended = Ended {
     home: "/gggggggggggggggggggggggggggggggggggggggggggggggggggggggggggg",
 };
 
-/// What `undo_all` answers with that many blocks of sixteen bytes left in the heap, after the lines.
+/// The result of `undo_all` after the lines, when that many blocks of sixteen bytes are left in the heap.
 fn undone_with<'a, R: Threads + Wait + Sync>(
     rt: &R,
     alloc: Global,
@@ -51,8 +51,8 @@ fn undone_with<'a, R: Threads + Wait + Sync>(
     Ok(engine.undo_all(rt, 0))
 }
 
-/// What `undo_all` answers with that many blocks of sixteen bytes left in the heap. When out of
-/// memory, the newest fork alone is undone, and with memory the other records are.
+/// The result of `undo_all` when that many blocks of sixteen bytes are left in the heap. When out of memory, only the newest
+/// fork is undone; with memory, the other records are undone too.
 pub(crate) fn undone_or_resumed<'a, R: Threads + Wait + Sync>(
     rt: &R,
     alloc: Global,
@@ -68,7 +68,7 @@ pub(crate) fn undone_or_resumed<'a, R: Threads + Wait + Sync>(
     }
 }
 
-/// Whether what can be seen of the engine is that of a new one.
+/// Whether the engine looks like a new one.
 fn is_start<'a, R: Threads + Wait + Sync>(
     rt: &R,
     alloc: Global,
@@ -79,7 +79,7 @@ fn is_start<'a, R: Threads + Wait + Sync>(
     Ok(seen == start)
 }
 
-/// Whether process 1 is alone, and the end of process 2 in its group is the newest of all records but one.
+/// Whether process 1 is alone, and the exit of process 2 in its group is the newest of all records but one.
 fn is_fork_alone_undone<'a, R: Threads + Wait + Sync>(
     rt: &R,
     alloc: Global,
@@ -100,7 +100,7 @@ fn is_fork_alone_undone<'a, R: Threads + Wait + Sync>(
     )
 }
 
-/// Whether the newest fork alone is undone, and all other records are then.
+/// Whether only the newest fork is undone, and then all other records.
 fn is_resumed<'a, R: Threads + Wait + Sync>(
     rt: &R,
     alloc: Global,
@@ -113,7 +113,7 @@ fn is_resumed<'a, R: Threads + Wait + Sync>(
     Ok(is_right && undone == Ok(ended.lines.len().saturating_sub(1)) && is_start)
 }
 
-/// How many refusals there are as the room grows by a block at a time, and how many commands are undone then.
+/// How many refusals there are as the room grows one block at a time, and how many commands are then undone.
 fn refusals<R: Threads + Wait + Sync>(
     rt: &R,
     alloc: Global,
@@ -128,7 +128,7 @@ fn refusals<R: Threads + Wait + Sync>(
     Ok((100, None))
 }
 
-/// Each allocation refused in turn.
+/// Refuses each allocation in turn.
 #[test]
 fn each_allocation_of_undoing_all_refused(rt: HostRuntime) -> Result<(), Fail> {
     assert_eq!(rt; refusals(&rt, rt.alloc(), &IN_THE_ROOT)?, (0, Some(3)));

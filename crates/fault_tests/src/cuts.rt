@@ -21,7 +21,7 @@ fn is_answered<R: Threads + Wait + Sync>(
     answer.is_ok() && rehearsed == answer && sink.bytes() == wanted && copied.bytes() == wanted
 }
 
-/// Whether the lines before and this text behind them are answered by the answers before and this one.
+/// Whether the lines before, followed by this text, have the output before, followed by this output.
 fn is_cut<R: Threads + Wait + Sync>(
     rt: &R,
     alloc: Global,
@@ -37,8 +37,8 @@ fn is_cut<R: Threads + Wait + Sync>(
     Ok(is_answered(rt, alloc, trace.as_slice(), wanted.as_slice()))
 }
 
-/// How many first bytes of the text are answered otherwise behind the lines before, from so many on: all of them by the
-/// second answer, and fewer by the first.
+/// The first length, from `from` on, for which the text cut to it has other output than expected after the lines before. The
+/// whole text has the second output, and a shorter one the first.
 fn first_cut_of_text<R: Threads + Wait + Sync>(
     rt: &R,
     alloc: Global,
@@ -58,7 +58,7 @@ fn first_cut_of_text<R: Threads + Wait + Sync>(
     Ok(None)
 }
 
-/// The first row, and how many of its first bytes, that are answered otherwise; or the whole trace.
+/// The first row, and how many of its first bytes, with other output than expected; or the whole trace.
 fn first_cut<R: Threads + Wait + Sync>(
     rt: &R,
     alloc: Global,

@@ -1,11 +1,11 @@
-//! Devices that give or take one byte at a time, and fail where a test wants it.
+//! Devices that give or take one byte at a time, and fail when a test says so.
 
 ghost use Rattle.std.specs.Prelude.{◌≡◌, None, false};
 
 use replay_main::{DeviceFault, Sink, Source};
 use std::alloc::Global;
 
-/// Gives its bytes one at a time, and ends or fails behind them.
+/// Gives its bytes one at a time, then ends or fails.
 #[derive(Drop)]
 pub(crate) struct Dripping<'a> {
     rest: &'a [u8],
@@ -46,7 +46,7 @@ impl<'a> Source for Dripping<'a> {
     }
 }
 
-/// Fills each buffer with the byte `#`, without an end. It never fails.
+/// Fills each buffer with the byte `#`, endlessly. It never fails.
 #[derive(Drop)]
 pub(crate) struct Endless {
     before: usize,
@@ -85,7 +85,7 @@ impl Source for Endless {
     }
 }
 
-/// Takes bytes one at a time, as long as there is room, and fails then.
+/// Takes bytes one at a time as long as there is room, then fails.
 #[derive(Drop)]
 pub(crate) struct Narrow {
     bytes: Vec<u8>,
@@ -111,7 +111,7 @@ impl Narrow {
         self.bytes.as_slice()
     }
 
-    /// Whether all that was taken is out.
+    /// Whether everything that was taken is flushed.
     pub(crate) fn is_flushed(&self) -> bool {
         self.is_flushed
     }

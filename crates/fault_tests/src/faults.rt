@@ -1,4 +1,4 @@
-//! Each read and each write that fails.
+//! Each read and each write fails in turn.
 
 use crate::devices::{Dripping, Endless, Narrow};
 use crate::traces::{KILL, LINE_FAULTS, UNDONE_MOVE, whole};
@@ -24,7 +24,7 @@ const WAYS: [Way; 4] = [
     Way::Rehearsal,
 ];
 
-/// Answers a trace that comes byte by byte, and ends or fails, at a sink with so much room.
+/// Answers a trace that comes byte by byte and then ends or fails, into a sink with so much room.
 fn answered<R: Threads + Wait + Sync>(
     rt: &R,
     alloc: Global,
@@ -44,7 +44,7 @@ fn answered<R: Threads + Wait + Sync>(
     (answer, sink)
 }
 
-/// The first read that is answered otherwise where it fails.
+/// The first read whose failure has another result than expected.
 fn first_read<R: Threads + Wait + Sync>(
     rt: &R,
     alloc: Global,
@@ -76,7 +76,7 @@ fn each_read_fails(rt: HostRuntime) -> Result<(), Fail> {
     Ok(())
 }
 
-/// Whether a trace is answered by these bytes, as far as there is room; with room for all they are flushed.
+/// Whether the output for a trace is these bytes, as far as there is room; with room for all, they are flushed.
 fn is_prefix<R: Threads + Wait + Sync>(
     rt: &R,
     alloc: Global,
@@ -95,7 +95,7 @@ fn is_prefix<R: Threads + Wait + Sync>(
     is_right && Some(sink.bytes()) == answers.get(..room)
 }
 
-/// The first write that is answered otherwise where it fails; behind the last none does.
+/// The first write whose failure has another result than expected; after the last write none fails.
 fn first_write<R: Threads + Wait + Sync>(
     rt: &R,
     alloc: Global,
@@ -123,7 +123,7 @@ fn each_write_fails(rt: HostRuntime) -> Result<(), Fail> {
     Ok(())
 }
 
-/// Of the long traces for one worker and for a rehearsal.
+/// For the long traces by one worker and by a rehearsal.
 #[test]
 fn each_write_of_many_fails(rt: HostRuntime) -> Result<(), Fail> {
     for rows in [KILL.as_slice(), LINE_FAULTS.as_slice()] {
@@ -138,7 +138,7 @@ fn each_write_of_many_fails(rt: HostRuntime) -> Result<(), Fail> {
     Ok(())
 }
 
-/// Of a trace that is too long no more is read than the read that is past the limit.
+/// A trace that is too long is read no further than the read that exceeds the limit.
 #[test]
 fn too_long_traces(rt: HostRuntime) {
     for way in [Way::OneWorker, Way::Rehearsal] {

@@ -1,11 +1,11 @@
 //! Tests of a replay and of a rehearsal whose trace is cut after each byte, and whose reads and writes fail one after
-//! another. They ask what no contract says: that each of these faults comes, and that all is answered without one. The
-//! bytes that are looked for are worked answers, written by hand.
+//! another. They test what no contract says: that each of these faults is returned, and that everything is answered without
+//! one. The expected bytes were written by hand.
 //!
 //! - `cuts`: traces that are cut after each byte.
 //! - `faults`: each read and each write that fails, over devices that take and give one byte at a time.
 //! - `devices`: these devices.
-//! - `traces`: worked traces with their answers.
+//! - `traces`: worked traces with their output.
 #![tactic(auto)]
 
 #[cfg(test)]

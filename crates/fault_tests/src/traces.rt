@@ -1,12 +1,13 @@
-//! Worked traces that grow byte by byte, with their answers written by hand. A semicolon stands for a line feed.
+//! Worked traces that grow byte by byte, with their output written by hand. A semicolon means a line feed.
 
 use std::alloc::{AllocError, Global};
 
-/// The bytes of a line up to a place, and what is answered behind the lines before it from there on, up to the next row. With a
-/// semicolon behind it the line is whole, and the next row begins another; before the first row of a line there is no answer.
+/// The bytes of a line up to some point, and the output after that of the lines before, from this row to the next. With a
+/// semicolon at the end the line is whole, and the next row begins another. Before the first row of a line there is no
+/// output.
 pub(crate) type Row = (&'static str, &'static str);
 
-/// A process that is moved to a group, and back.
+/// A process is moved to a group, and back.
 pub(crate) const UNDONE_MOVE: [Row; 15] = [
     ("m", "1 refused syntax"),
     ("mkdir /", "1 refused exists"),
@@ -131,7 +132,7 @@ pub(crate) const LINE_FAULTS: [Row; 44] = [
     ("cat / cgroup.procs;", "18 ok"),
 ];
 
-/// Words between blanks of each kind, a line of blanks, and notes.
+/// Words between blanks of each kind, a line of blanks, and comments.
 pub(crate) const BLANKS: [Row; 12] = [
     ("\tm", "1 refused syntax"),
     ("\tmkdir\t/", "1 refused exists"),
@@ -155,7 +156,7 @@ pub(crate) fn put_text(bytes: &mut Vec<u8>, text: &str) -> Result<(), AllocError
     Ok(())
 }
 
-/// Appends an answer with its line feeds, or nothing where there is no answer.
+/// Appends an output with its line feeds, or nothing if there is no output.
 pub(crate) fn put_answer(bytes: &mut Vec<u8>, answer: &str) -> Result<(), AllocError> {
     put_text(bytes, answer)?;
     if !answer.is_empty() {
@@ -164,7 +165,7 @@ pub(crate) fn put_answer(bytes: &mut Vec<u8>, answer: &str) -> Result<(), AllocE
     Ok(())
 }
 
-/// The whole lines, and their answers.
+/// The whole lines, and their output.
 pub(crate) fn whole(alloc: Global, rows: &[Row]) -> Result<(Vec<u8>, Vec<u8>), AllocError> {
     let mut trace = Vec::new(alloc);
     let mut answers = Vec::new(alloc);

@@ -1,4 +1,4 @@
-//! The command line, what the program does by it, and how it ends.
+//! The command line, what the program does for it, and how it ends.
 
 use crate::faults::{ANSWERS, TRACE};
 use replay_main::{
@@ -11,7 +11,7 @@ use std::sync::Wait;
 use std::test::Fail;
 use std::thread::Threads;
 
-/// Words, and the number of workers and whether the trace is rehearsed; or why they are no command line.
+/// Words, with the number of workers and whether the trace is rehearsed; or why they are not a command line.
 pub(crate) type Line = (&'static [&'static str], Result<(u8, bool), LineFault>);
 
 /// The first of these words that are read otherwise.
@@ -31,7 +31,7 @@ pub(crate) fn first_misread(alloc: Global, lines: &[Line]) -> Option<usize> {
 
 const BAD: Result<(u8, bool), LineFault> = Err(LineFault::Bad);
 
-/// What no option says, and one that is spelled with a value that it has not.
+/// An unknown option, and one with a value that it doesn't have.
 const LINES: [Line; 7] = [
     (&[], Ok((1, false))),
     (&["--bogus"], BAD),
@@ -42,7 +42,7 @@ const LINES: [Line; 7] = [
     (&["--rehearse=false"], BAD),
 ];
 
-/// Whether `--help` is answered with these words among others.
+/// Whether `--help` returns a text with these words among others.
 fn is_help(alloc: Global) -> bool {
     match command_line(alloc, &["--help"]) {
         Ok(Ask::Help(text)) => {
@@ -64,7 +64,7 @@ fn command_lines(rt: HostRuntime) {
     );
 }
 
-/// A digit from 1 to 8 is a number of workers, and nothing else is one.
+/// A digit from 1 to 8 is a number of workers, and nothing else is.
 const NUMBERS: [Line; 12] = [
     (&["--workers", "1"], Ok((1, false))),
     (&["--workers", "2"], Ok((2, false))),
@@ -80,13 +80,13 @@ const NUMBERS: [Line; 12] = [
     (&["--workers=3"], Ok((3, false))),
 ];
 
-/// A digit from 1 to 8 is a number of workers, and nothing else is one.
+/// A digit from 1 to 8 is a number of workers, and nothing else is.
 #[test]
 fn numbers_of_workers(rt: HostRuntime) {
     assert_eq!(rt; first_misread(rt.alloc(), &NUMBERS), None);
 }
 
-/// The number of workers is read where the trace is rehearsed, too.
+/// The number of workers is read even if the trace is rehearsed.
 const REHEARSALS: [Line; 7] = [
     (&["--rehearse"], Ok((1, true))),
     (&["--workers", "3"], Ok((3, false))),
@@ -97,7 +97,7 @@ const REHEARSALS: [Line; 7] = [
     (&["--rehearse", "--rehearse"], BAD),
 ];
 
-/// The number of workers is read where the trace is rehearsed, too.
+/// The number of workers is read even if the trace is rehearsed.
 #[test]
 fn rehearsals(rt: HostRuntime) {
     assert_eq!(rt; first_misread(rt.alloc(), &REHEARSALS), None);
@@ -111,7 +111,7 @@ fn owned(alloc: Global, words: &[&str]) -> Result<Vec<String>, AllocError> {
     Ok(args)
 }
 
-/// What the program comes to with these arguments, where the trace is what it reads; with what it left there, and what it
+/// The result of the program with these arguments if the trace is its input, with what it left of the input and what it
 /// wrote.
 pub(crate) fn ran<R: Threads + Wait + Sync>(
     rt: &R,
@@ -125,7 +125,7 @@ pub(crate) fn ran<R: Threads + Wait + Sync>(
     Ok((outcome, reader, writer))
 }
 
-/// Arguments, what the program comes to, and what it writes.
+/// Arguments, the program's result, and what it writes.
 type Program = (
     &'static [&'static str],
     Result<(), ProgramFault>,
@@ -150,7 +150,7 @@ const PROGRAMS: [Program; 8] = [
     (&["cgreplay", "--bogus"], BAD_LINE, b""),
 ];
 
-/// The first of these arguments with which the program does something else.
+/// The first of these arguments with another result.
 fn first_otherwise<R: Threads + Wait + Sync>(
     rt: &R,
     alloc: Global,
@@ -171,7 +171,7 @@ fn programs(rt: HostRuntime) -> Result<(), Fail> {
     Ok(())
 }
 
-/// Whether the program writes how it is used.
+/// Whether the program writes the help text.
 fn is_help_written<R: Threads + Wait + Sync>(rt: &R, alloc: Global) -> Result<bool, AllocError> {
     let (outcome, _, writer) = ran(rt, alloc, &["cgreplay", "--help"])?;
     Ok(outcome == Ok(()) && writer.bytes().starts_with(b"Usage: cgreplay"))
@@ -206,7 +206,7 @@ const ENDINGS: [(ProgramFault, u8, &str); 7] = [
     (ProgramFault::Replay(ReplayFault::Close), 1, "close failed"),
 ];
 
-/// The first fault that ends otherwise.
+/// The first fault with another status or message.
 fn first_other_ending(alloc: Global) -> Result<Option<usize>, AllocError> {
     for (at, (fault, status, message)) in ENDINGS.iter().enumerate() {
         let text = format!(in alloc; "{fault}")?;
@@ -242,7 +242,7 @@ fn arguments_that_came(rt: HostRuntime) -> Result<(), Fail> {
     Ok(())
 }
 
-/// Whether that is what arguments come to that this kept from coming.
+/// Whether this is the fault if such an error keeps the arguments from being collected.
 fn is_told(alloc: Global, kind: io::ErrorKind, wanted: LineFault) -> bool {
     match collect_arguments(alloc, Err(io::Error::from(kind))) {
         Ok(_) => false,

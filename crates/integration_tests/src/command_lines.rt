@@ -1,5 +1,5 @@
-//! Command lines that another program might read otherwise, and what is read where nothing is asked
-//! for.
+//! Command lines that another program might read otherwise, and what is read if nothing is
+//! requested.
 
 use crate::arguments::{Line, first_misread, ran};
 use crate::faults::TRACE;
@@ -11,7 +11,7 @@ use std::thread::Threads;
 
 const BAD: Result<(u8, bool), LineFault> = Err(LineFault::Bad);
 
-/// A number of workers that stands twice, one behind `=`, and `--` alone.
+/// A repeated number of workers, one after `=`, and `--` alone.
 const LINES: [Line; 9] = [
     (&["--workers", "2", "--workers", "3"], BAD),
     (&["--workers", "2", "--workers", "2"], BAD),
@@ -24,7 +24,7 @@ const LINES: [Line; 9] = [
     (&["--workers", "--"], BAD),
 ];
 
-/// A number of workers that stands twice, one behind `=`, and `--` alone.
+/// A repeated number of workers, one after `=`, and `--` alone.
 #[test]
 fn lines_of_few_words(rt: HostRuntime) {
     assert_eq!(rt; first_misread(rt.alloc(), &LINES), None);

@@ -1,4 +1,4 @@
-//! Lines that are cut, and traces of few bytes.
+//! Lines that are cut, and traces of a few bytes.
 
 use crate::traces::replayed;
 use std::alloc::Global;
@@ -6,7 +6,7 @@ use std::sync::Wait;
 use std::test::Fail;
 use std::thread::Threads;
 
-/// Two lines that are cut in different places, without a line feed.
+/// Two lines that are cut at different places, without a line feed.
 const CUTS: [(&str, &str); 5] = [
     ("mkdir /a\nmkdi", "1 ok\n2 refused syntax\n"),
     ("mkdir /a\nmkdir ", "1 ok\n2 refused syntax\n"),
@@ -15,7 +15,7 @@ const CUTS: [(&str, &str); 5] = [
     ("mkdir /a\nmkdir /bc", "1 ok\n2 ok\n"),
 ];
 
-/// The first text that is answered otherwise.
+/// The first text with other output.
 fn first_wrong<R: Threads + Wait + Sync>(
     rt: &R,
     alloc: Global,
@@ -36,7 +36,7 @@ fn two_lines_cut(rt: HostRuntime) -> Result<(), Fail> {
     Ok(())
 }
 
-/// What a trace of one byte is answered: nothing where it is blank, a line feed, or begins a comment.
+/// The output for a trace of one byte: none if the byte is blank, a line feed, or begins a comment.
 fn answer_to_byte(byte: u8) -> &'static [u8] {
     match byte {
         b'\t' | b'\n' | b'\r' | b' ' | b'#' => b"",
@@ -44,7 +44,7 @@ fn answer_to_byte(byte: u8) -> &'static [u8] {
     }
 }
 
-/// What the line `mkdir /a` is answered with a byte behind it: ok where the byte may stand in a name or is blank.
+/// The output for the line `mkdir /a` followed by a byte: ok if the byte is allowed in a name or is blank.
 fn answer_to_name(byte: u8) -> &'static [u8] {
     match byte {
         b'/' => b"1 refused path\n",
@@ -53,7 +53,7 @@ fn answer_to_name(byte: u8) -> &'static [u8] {
     }
 }
 
-/// The first byte whose trace is answered otherwise, where it stands alone or in a name.
+/// The first byte with other output, alone or in a name.
 fn first_byte<R: Threads + Wait + Sync>(rt: &R, alloc: Global) -> Result<Option<u8>, Fail> {
     for byte in 0..=255 {
         let (_, alone) = replayed(rt, alloc, &[byte])?;

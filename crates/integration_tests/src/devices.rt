@@ -5,7 +5,7 @@ ghost use Rattle.std.specs.Prelude.{◌≡◌, None, false};
 use replay_main::{DeviceFault, Sink, Source};
 use std::io;
 
-/// A byte so often, or without an end. It never fails.
+/// Gives one byte so many times, or endlessly. It never fails.
 #[derive(Drop)]
 pub(crate) struct Repeated {
     pub(crate) byte: u8,
@@ -68,16 +68,16 @@ impl<'a> Source for Torn<'a> {
     }
 }
 
-/// What a narrow sink does where it has no room, and at a flush.
+/// What a narrow sink does when it has no room, and at a flush.
 #[derive(Clone, Copy)]
 pub(crate) struct Manners {
-    /// A write without room takes none, where it would fail.
+    /// A write without room takes no bytes instead of failing.
     pub(crate) takes_none: bool,
     /// A flush fails.
     pub(crate) flush_fails: bool,
 }
 
-/// Takes three bytes at a time into an array, as many as there is room for.
+/// Takes three bytes at a time into an array, as long as there is room.
 #[derive(Drop)]
 pub(crate) struct Narrow {
     bytes: [u8; 128],
@@ -108,7 +108,7 @@ impl Narrow {
     }
 }
 
-/// Writes the bytes from that place on, as far as there is place.
+/// Writes the bytes from that index on, as far as there is room.
 fn put(places: &mut [u8], start: usize, bytes: &[u8]) {
     for (place, byte) in places.iter_mut().skip(start).zip(bytes) {
         *place = *byte;

@@ -27,7 +27,7 @@ const SIX: Summary = Summary {
     refused: 0,
 };
 
-/// Whether what this source gives comes to that, with these answers in memory.
+/// Whether a replay of this source has that result, with this output in memory.
 fn is_answered<R: Threads + Wait + Sync, S: Source>(
     rt: &R,
     alloc: Global,
@@ -63,8 +63,8 @@ fn a_failing_read(rt: HostRuntime) {
     }
 }
 
-/// The room, whether a write without room takes none, whether the flush fails; what is answered,
-/// and the bytes that are written.
+/// The room, whether a write without room takes none, whether the flush fails; the result, and the
+/// bytes that are written.
 const WRITES: [(usize, bool, bool, Result<Summary, ReplayFault>, &[u8]); 5] = [
     (10, false, false, Err(ReplayFault::Write), b"1 ok\n2 ok\n"),
     (10, true, false, Err(ReplayFault::Write), b"1 ok\n2 ok\n"),
@@ -73,7 +73,7 @@ const WRITES: [(usize, bool, bool, Result<Summary, ReplayFault>, &[u8]); 5] = [
     (128, false, false, Ok(SIX), ANSWERS),
 ];
 
-/// What a trace comes to where a narrow sink takes the answers, and what that took.
+/// The result of a trace whose output goes to a narrow sink, and what the sink took.
 fn answered_narrowly<R: Threads + Wait + Sync>(
     rt: &R,
     alloc: Global,
@@ -99,7 +99,7 @@ fn a_failing_write(rt: HostRuntime) {
     }
 }
 
-/// Nothing is read and nothing is written, and yet the flush is asked for.
+/// Nothing is read and nothing is written, but the flush is still called.
 #[test]
 fn a_flush_of_nothing(rt: HostRuntime) {
     let manners = Manners {
@@ -110,7 +110,7 @@ fn a_flush_of_nothing(rt: HostRuntime) {
     assert!(rt; answer == Err(ReplayFault::Write));
 }
 
-/// A reader of std that is at its end, and one that has a trace left.
+/// A reader of std that is at its end, and one with a trace left.
 #[test]
 fn readers_to_their_end(rt: HostRuntime) {
     for (trace, wanted, answers) in [
@@ -130,12 +130,12 @@ fn a_writer_whose_flush_fails(rt: HostRuntime) {
     assert!(rt; answer == Err(ReplayFault::Write));
 }
 
-/// Whether the fault is out of memory, or that of a sink which has none.
+/// Whether the fault is out of memory, or that of a sink without memory.
 fn is_out_of_memory(fault: ReplayFault) -> bool {
     matches!(fault, ReplayFault::OutOfMemory | ReplayFault::Write)
 }
 
-/// With any one allocation refused, either all is answered or nothing is written.
+/// With any one allocation refused, either everything is answered or nothing is written.
 #[test]
 fn a_refused_allocation(rt: HostRuntime) {
     let is_right = match replayed(&rt, rt.alloc(), TRACE) {
@@ -145,7 +145,8 @@ fn a_refused_allocation(rt: HostRuntime) {
     assert!(rt; is_right);
 }
 
-/// With any one allocation refused, all is answered, or out of memory is: a fault, or a sink's.
+/// With any one allocation refused, everything is answered, or the fault is out of memory, here or
+/// in a sink.
 #[test]
 fn a_refused_allocation_of_a_rehearsal(rt: HostRuntime) {
     let is_right = match rehearsed(&rt, rt.alloc(), TRACE) {

@@ -1,4 +1,4 @@
-//! Traces of files, kills and `where`, with their answers.
+//! Traces of files, kills and `where`, with their output.
 
 /// Every file of three groups before a kill, after it, and after its undo.
 pub(crate) const EVERY_FILE: (&str, &str) = (
@@ -56,7 +56,7 @@ pub(crate) const EVERY_FILE: (&str, &str) = (
      102 refused pidsmax /k",
 );
 
-/// Lines of text faults and of refusals, with one of each word.
+/// Lines with text faults and with refusals: one with each word.
 pub(crate) const LINE_FAULTS: (&str, &str) = (
     "write a nofile x;write /a foo x;write /a pids.current x;write /a pids.max x;\
      write /a pids.max 5;cat / pids.max;cat /a cgroup.kill;write / cgroup.kill 1;\
@@ -68,9 +68,9 @@ pub(crate) const LINE_FAULTS: (&str, &str) = (
      13 refused exists;14 refused noprocess 2;15 ok;| 0::/;16 ok;| 1;17 ok;18 ok",
 );
 
-/// Each trace with its answers, as in `traces`: a semicolon stands for a line feed.
+/// Each trace with its output, as in `traces`: a semicolon means a line feed.
 pub(crate) const FILE_TRACES: [(&str, &str); 28] = [
-    // A fork that its own group's limit refuses, and what it has counted taken back.
+    // A fork that its own group's limit refuses; the undo of its count.
     (
         "mkdir /a;write /a pids.max 1;write /a cgroup.procs 1;fork 1 2;\
          cat /a pids.events.local;cat /a pids.events;undo;cat /a pids.events.local;\
@@ -78,7 +78,7 @@ pub(crate) const FILE_TRACES: [(&str, &str); 28] = [
         "1 ok;2 ok;3 ok;4 refused pidsmax /a;5 ok;| max 1;6 ok;| max 1;7 ok;| fork 1 2;8 ok;\
          | max 0;9 ok;| max 0",
     ),
-    // The limit of a group above counts there, and not below.
+    // A refusal by the limit of a group above counts there, not below.
     (
         "mkdir /a;mkdir /a/b;write /a pids.max 1;write /a/b cgroup.procs 1;fork 1 2;\
          cat /a/b pids.events;cat /a pids.events;cat /a pids.events.local",
@@ -92,13 +92,13 @@ pub(crate) const FILE_TRACES: [(&str, &str); 28] = [
         "1 ok;2 ok;3 ok;4 ok;5 refused pidsmax /t/a;6 refused pidsmax /t/a;7 ok;| max 2;8 ok;\
          | max 2;9 ok;| max 2;10 ok;| max 0;11 ok;| fork 1 3;12 ok;| fork 1 2;13 ok;| max 0",
     ),
-    // A limit below the count lets moves in, and no fork.
+    // A limit below the count permits moves, but no fork.
     (
         "mkdir /a;write /a pids.max 0;fork 1 2;write /a cgroup.procs 1;write /a cgroup.procs 2;\
          cat /a pids.current;cat /a cgroup.procs;fork 2 3",
         "1 ok;2 ok;3 ok;4 ok;5 ok;6 ok;| 2;7 ok;| 1;| 2;8 refused pidsmax /a",
     ),
-    // The totals above outlive a group, and its undo gives the group its own back.
+    // The totals above a group stay when it is removed; the undo restores the group's own.
     (
         "mkdir /t;mkdir /t/a;write /t/a pids.max 1;write /t/a cgroup.procs 1;fork 1 2;exit 1;\
          rmdir /t/a;cat /t pids.events;cat /t pids.events.local;undo;cat /t/a pids.max;\
@@ -125,7 +125,7 @@ pub(crate) const FILE_TRACES: [(&str, &str); 28] = [
         "1 ok;2 ok;3 ok;4 ok;| write /a cgroup.kill 1;5 ok;| mkdir /a;6 refused nofile;\
          7 refused nogroup /a;8 refused value;9 refused nothing",
     ),
-    // A kill leaves the groups above and beside, and the killed numbers are free.
+    // A kill leaves the groups above and the siblings; the killed pids are free.
     (
         "mkdir /a;mkdir /a/b;mkdir /a/c;mkdir /ab;fork 1 2;fork 1 3;fork 1 4;fork 1 5;\
          write /a cgroup.procs 2;write /a/b cgroup.procs 3;write /a/c cgroup.procs 4;\
@@ -136,7 +136,7 @@ pub(crate) const FILE_TRACES: [(&str, &str); 28] = [
          | 4;16 ok;| 5;17 ok;18 ok;| 0::/;19 ok;| fork 1 3;20 ok;| write /a/b cgroup.kill 1;\
          21 ok;| 0::/a/b;22 ok;| 3",
     ),
-    // An undo of a kill checks no limit.
+    // The undo of a kill tests no limit.
     (
         "mkdir /a;fork 1 2;write /a cgroup.procs 1;write /a cgroup.procs 2;write /a pids.max 1;\
          write /a cgroup.kill 1;cat /a pids.current;undo;cat /a pids.current;fork 1 3;\
@@ -144,7 +144,7 @@ pub(crate) const FILE_TRACES: [(&str, &str); 28] = [
         "1 ok;2 ok;3 ok;4 ok;5 ok;6 ok;7 ok;| 0;8 ok;| write /a cgroup.kill 1;9 ok;| 2;\
          10 refused pidsmax /a;11 ok;| max 1",
     ),
-    // A moved process is charged where it went, and a kill takes it from there.
+    // A moved process is charged in its new group, and a kill removes it there.
     (
         "mkdir /a;mkdir /b;fork 1 2;write /a cgroup.procs 2;write /b cgroup.procs 2;\
          cat /a pids.current;cat /b pids.current;write /b cgroup.kill 1;cat /a pids.current;\
@@ -153,7 +153,7 @@ pub(crate) const FILE_TRACES: [(&str, &str); 28] = [
          | write /b cgroup.kill 1;12 ok;| write /b cgroup.procs 2;13 ok;| 1;14 ok;| 0",
     ),
     LINE_FAULTS,
-    // The files that the root has, and those that it has not.
+    // The files that the root has, and those that it lacks.
     (
         "cat / cgroup.procs;cat / cgroup.stat;cat / cgroup.max.descendants;\
          cat / cgroup.max.depth;cat / cgroup.events;cat / cgroup.kill;cat / pids.max;\
@@ -162,7 +162,7 @@ pub(crate) const FILE_TRACES: [(&str, &str); 28] = [
          5 refused nofile;6 refused direction;7 refused nofile;8 refused nofile;\
          9 refused nofile;10 refused nofile;11 refused nofile",
     ),
-    // A new group's files; a missing group comes before a file that the root has not.
+    // The files of a new group; a missing group is reported before a file that the root lacks.
     (
         "mkdir /a;cat /a cgroup.procs;cat /a cgroup.events;cat /a cgroup.stat;\
          cat /a cgroup.max.descendants;cat /a cgroup.max.depth;cat /a pids.max;\
@@ -172,7 +172,7 @@ pub(crate) const FILE_TRACES: [(&str, &str); 28] = [
          | nr_dying_descendants 0;5 ok;| max;6 ok;| max;7 ok;| max;8 ok;| 0;9 ok;| max 0;10 ok;\
          | max 0;11 refused nogroup /b;12 refused direction;13 refused nogroup /b",
     ),
-    // What is not written, and the direction before the value.
+    // Files that can't be written; the direction is reported before the value.
     (
         "write / cgroup.events 1;write / cgroup.stat x;write /a pids.current 05;\
          write /a pids.events 1;write /a pids.events.local max;write / pids.peaks 1;\
@@ -182,7 +182,7 @@ pub(crate) const FILE_TRACES: [(&str, &str); 28] = [
          5 refused direction;6 refused file;7 refused file;8 refused value;9 refused value;\
          10 refused value;11 refused path;12 refused syntax",
     ),
-    // Limits are shown as they are held.
+    // Limits are shown as they are stored.
     (
         "mkdir /a;write /a pids.max 4194304;write /a cgroup.max.depth 2147483647;\
          write /a cgroup.max.descendants 2147483646;cat /a pids.max;cat /a cgroup.max.depth;\
@@ -191,7 +191,7 @@ pub(crate) const FILE_TRACES: [(&str, &str); 28] = [
         "1 ok;2 ok;3 ok;4 ok;5 ok;| 4194304;6 ok;| max;7 ok;| 2147483646;8 ok;\
          | write /a cgroup.max.descendants 2147483646;9 ok;| max;10 ok;11 ok;| 0",
     ),
-    // A dead process has no group; one that moves says where it is.
+    // An exited process has no group; a moved process reports its new one.
     (
         "mkdir /a;mkdir /a/b;fork 1 2;where 2;write /a/b cgroup.procs 2;where 2;exit 2;where 2;\
          undo;where 2;where 0;where x;where;where 1 2;where 4194303;where 4194304",
@@ -208,33 +208,33 @@ pub(crate) const FILE_TRACES: [(&str, &str); 28] = [
          | populated 1;| frozen 0;7 ok;8 ok;| populated 0;| frozen 0;9 ok;10 ok;| populated 0;\
          | frozen 0",
     ),
-    // Processes are listed by number, and those of the group itself alone.
+    // Processes are listed by number, only those of the group itself.
     (
         "fork 1 30;fork 30 4;fork 4 200;mkdir /a;write /a cgroup.procs 4;cat / cgroup.procs;\
          cat /a cgroup.procs;undo;cat / cgroup.procs",
         "1 ok;2 ok;3 ok;4 ok;5 ok;6 ok;| 1;| 30;| 200;7 ok;| 4;8 ok;| write /a cgroup.procs 4;\
          9 ok;| 1;| 4;| 30;| 200",
     ),
-    // Ten commands over a group that is taken back and made again.
+    // Ten commands with a group that is undone and made again.
     (
         "mkdir /a;fork 1 2;undo;undo;undo;mkdir /a;fork 1 2;write /a cgroup.procs 2;\
          cat /a pids.current;write /a cgroup.kill 1;cat /a cgroup.events;where 2",
         "1 ok;2 ok;3 ok;| fork 1 2;4 ok;| mkdir /a;5 refused nothing;6 ok;7 ok;8 ok;9 ok;| 1;\
          10 ok;11 ok;| populated 0;| frozen 0;12 refused noprocess 2",
     ),
-    // An undo asks no limit: a process that has ended comes back into a full group.
+    // An undo tests no limit: an exited process returns to a full group.
     (
         "mkdir /a;fork 1 2;write /a cgroup.procs 2;write /a pids.max 0;exit 2;undo;\
          cat /a pids.current;fork 2 3",
         "1 ok;2 ok;3 ok;4 ok;5 ok;6 ok;| exit 2;7 ok;| 1;8 refused pidsmax /a",
     ),
-    // One that has left comes back likewise.
+    // A process that moved away returns too.
     (
         "mkdir /a;write /a cgroup.procs 1;write /a pids.max 0;write / cgroup.procs 1;undo;\
          cat /a pids.current;fork 1 2",
         "1 ok;2 ok;3 ok;4 ok;5 ok;| write / cgroup.procs 1;6 ok;| 1;7 refused pidsmax /a",
     ),
-    // A removed group comes back below a limit on descendants, and below one on depth.
+    // A removed group returns below a limit on descendants, and below one on depth.
     (
         "mkdir /a;mkdir /a/b;write /a cgroup.max.descendants 0;rmdir /a/b;mkdir /a/b;undo;\
          cat /a cgroup.stat",
@@ -247,7 +247,8 @@ pub(crate) const FILE_TRACES: [(&str, &str); 28] = [
         "1 ok;2 ok;3 ok;4 ok;5 refused depth /;6 ok;| rmdir /a/b;7 ok;| nr_descendants 2;\
          | nr_dying_descendants 0",
     ),
-    // A peak outlives an exit and a move away; undos give back what a fork and a move raised.
+    // A peak stays when processes exit and move away; undos restore the peaks that a fork and a
+    // move raised.
     (
         "mkdir /a;cat /a pids.peak;write /a cgroup.procs 1;fork 1 2;cat /a pids.peak;exit 2;\
          cat /a pids.peak;write / cgroup.procs 1;cat /a pids.current;cat /a pids.peak;undo;\
@@ -255,7 +256,7 @@ pub(crate) const FILE_TRACES: [(&str, &str); 28] = [
         "1 ok;2 ok;| 0;3 ok;4 ok;5 ok;| 2;6 ok;7 ok;| 2;8 ok;9 ok;| 0;10 ok;| 2;11 ok;\
          | write / cgroup.procs 1;12 ok;| exit 2;13 ok;| fork 1 2;14 ok;| 1;15 refused nofile",
     ),
-    // A refused fork raises no peak, and no peak is written.
+    // A refused fork raises no peak, and a peak can't be written.
     (
         "mkdir /a;mkdir /a/b;write /a pids.max 1;write /a cgroup.procs 1;write /a/b cgroup.procs 1;\
          fork 1 2;cat /a pids.peak;cat /a/b pids.peak;undo;undo;cat /a/b pids.peak;\
@@ -263,7 +264,7 @@ pub(crate) const FILE_TRACES: [(&str, &str); 28] = [
         "1 ok;2 ok;3 ok;4 ok;5 ok;6 refused pidsmax /a;7 ok;| 1;8 ok;| 1;9 ok;| fork 1 2;10 ok;\
          | write /a/b cgroup.procs 1;11 ok;| 0;12 refused direction",
     ),
-    // A move raises no group that both places lie in.
+    // A move raises no peak of a group above both places.
     (
         "mkdir /a;mkdir /a/b;mkdir /a/c;write /a/b cgroup.procs 1;write /a/c cgroup.procs 1;\
          cat /a pids.peak;cat /a/b pids.peak;cat /a/c pids.peak;undo;cat /a/c pids.peak;\
@@ -271,7 +272,7 @@ pub(crate) const FILE_TRACES: [(&str, &str); 28] = [
         "1 ok;2 ok;3 ok;4 ok;5 ok;6 ok;| 1;7 ok;| 1;8 ok;| 1;9 ok;| write /a/c cgroup.procs 1;\
          10 ok;| 0;11 ok;| 1;12 ok;| write /a/b cgroup.procs 1;13 ok;| 0",
     ),
-    // A peak outlives a kill, goes with its group, and comes back with it.
+    // A peak stays after a kill, goes with its group, and returns with it.
     (
         "mkdir /a;write /a cgroup.procs 1;fork 1 2;write /a cgroup.kill 1;cat /a pids.peak;\
          rmdir /a;mkdir /a;cat /a pids.peak;undo;undo;cat /a pids.peak;undo;cat /a pids.current;\

@@ -7,10 +7,10 @@ use std::sync::Wait;
 use std::test::Fail;
 use std::thread::Threads;
 
-/// How many groups there may be beside the root.
+/// How many groups there may be besides the root.
 const GROUPS: usize = 1_024;
 
-/// For each of these numbers the number between the two texts, and behind them the last text.
+/// `front`, the number and `back` for each number from `first` to `last`, then `end`.
 fn numbered(
     alloc: Global,
     first: usize,
@@ -27,7 +27,7 @@ fn numbered(
     Ok(text)
 }
 
-/// Whether the lines `mkdir /g0` to `mkdir /g1024`, an undo, and `mkdir /g1024` again are answered as they should be.
+/// Whether the lines `mkdir /g0` to `mkdir /g1024`, an undo, and `mkdir /g1024` again have the expected output.
 fn is_one_refused<R: Threads + Wait + Sync>(rt: &R, alloc: Global) -> Result<bool, AllocError> {
     let trace = numbered(alloc, 0, GROUPS, "mkdir /g", "\n", "undo\nmkdir /g1024\n")?;
     let end = "1025 refused noslot\n1026 ok\n| mkdir /g1023\n1027 ok\n";
@@ -46,7 +46,7 @@ fn one_group_too_many(rt: HostRuntime) -> Result<(), Fail> {
     Ok(())
 }
 
-/// The front, and then so many of this text.
+/// The front, then so many times this text.
 fn with_more(
     alloc: Global,
     front: &[u8],
@@ -60,7 +60,7 @@ fn with_more(
     Ok(text)
 }
 
-/// Whether a line of this front and so many letters is answered so.
+/// Whether a line of this front and so many letters has this output.
 fn is_long_answered<R: Threads + Wait + Sync>(
     rt: &R,
     alloc: Global,
@@ -88,7 +88,7 @@ fn long_lines(rt: HostRuntime) -> Result<(), Fail> {
     Ok(())
 }
 
-/// Whether 80,000 lines are answered with more than a mebibyte.
+/// Whether the output for 80,000 lines has more than a mebibyte.
 fn are_long_answers<R: Threads + Wait + Sync>(rt: &R, alloc: Global) -> Result<bool, AllocError> {
     let trace = with_more(alloc, b"", b"x\n", 80_000)?;
     let answers = numbered(alloc, 1, 80_000, "", " refused syntax\n", "")?;
@@ -100,14 +100,14 @@ fn are_long_answers<R: Threads + Wait + Sync>(rt: &R, alloc: Global) -> Result<b
     Ok(answers.len() > 1_048_576 && is_replayed(rt, alloc, &trace, answers, summary))
 }
 
-/// 80,000 lines are answered with more than a mebibyte.
+/// The output for 80,000 lines has more than a mebibyte.
 #[test]
 fn long_answers(rt: HostRuntime) -> Result<(), Fail> {
     assert!(rt; are_long_answers(&rt, rt.alloc())?);
     Ok(())
 }
 
-/// Whether a group of 1,500 processes is listed whole.
+/// Whether a group of 1,500 processes is listed completely.
 fn is_long_text_answered<R: Threads + Wait + Sync>(
     rt: &R,
     alloc: Global,

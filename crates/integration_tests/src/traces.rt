@@ -1,4 +1,4 @@
-//! Traces and their answers, over devices in memory.
+//! Traces and their output, over devices in memory.
 
 use crate::file_traces::{FILE_TRACES, LINE_FAULTS};
 use replay_main::{MemorySink, MemorySource, ReplayFault, Summary, rehearse_trace, replay};
@@ -7,7 +7,7 @@ use std::sync::Wait;
 use std::test::Fail;
 use std::thread::Threads;
 
-/// A process that is moved to a group, and back.
+/// A process is moved to a group, and back.
 pub(crate) const UNDONE_MOVE: (&str, &str) = (
     "mkdir /a;fork 1 2;write /a cgroup.procs 2;cat /a pids.current;undo;cat /a pids.current",
     "1 ok;2 ok;3 ok;4 ok;| 1;5 ok;| write /a cgroup.procs 2;6 ok;| 0",
@@ -16,8 +16,8 @@ pub(crate) const UNDONE_MOVE: (&str, &str) = (
 /// Words between blanks of each kind, and an empty line.
 pub(crate) const LINE_ENDS: (&str, &str) = ("\tmkdir\t/a \r; \r;  fork 1\t2\r", "1 ok;2 ok");
 
-/// Each trace with its answers; a semicolon stands for a line feed, and one ends each text that is
-/// not empty.
+/// Each trace with its output. A semicolon means a line feed, and each text that is not empty ends
+/// with one.
 const TRACES: [(&str, &str); 35] = [
     ("", ""),
     UNDONE_MOVE,
@@ -58,7 +58,7 @@ const TRACES: [(&str, &str); 35] = [
         "1 ok;2 ok;3 refused descendants /;4 refused descendants /;5 ok;| nr_descendants 1;\
          | nr_dying_descendants 0",
     ),
-    // A group without groups below it says so.
+    // A group without groups below it shows that.
     (
         "mkdir /a;mkdir /a/b;cat /a cgroup.stat;cat /a/b cgroup.stat",
         "1 ok;2 ok;3 ok;| nr_descendants 1;| nr_dying_descendants 0;4 ok;| nr_descendants 0;\
@@ -102,7 +102,7 @@ const TRACES: [(&str, &str); 35] = [
         "write /b cgroup.max.depth 9;cat /b pids.current;cat /b cgroup.stat;cat / pids.current",
         "1 refused nogroup /b;2 refused nogroup /b;3 refused nogroup /b;4 refused nofile",
     ),
-    // The nearest group is asked first, and of one group its limit on descendants.
+    // The nearest group is tested first, and of one group its limit on descendants.
     (
         "mkdir /a;mkdir /a/b;write / cgroup.max.depth 2;mkdir /a/b/c;\
          write /a cgroup.max.depth 1;mkdir /a/b/c",
@@ -122,7 +122,7 @@ const TRACES: [(&str, &str); 35] = [
         "mkdir /a;mkdir /a/b;write /a cgroup.max.depth 2;write / cgroup.max.depth 3;mkdir /a/b/c",
         "1 ok;2 ok;3 ok;4 ok;5 ok",
     ),
-    // What was removed comes back with its limits, and what has ended with its group.
+    // A removed group returns with its limits, and an exited process to its group.
     (
         "mkdir /a;write /a cgroup.max.depth 0;rmdir /a;cat /a pids.current;undo;mkdir /a/b;undo;\
          mkdir /a/b",
@@ -139,13 +139,14 @@ const TRACES: [(&str, &str); 35] = [
         "1 ok;2 ok;3 ok;4 ok;| write /a cgroup.procs 2;5 ok;| fork 1 2;6 ok;| mkdir /a;\
          7 refused nothing",
     ),
-    // A limit of a group above is named, and the refused fork is taken back.
+    // The limit of a group above is named, and the refused fork is undone.
     (
         "mkdir /a;mkdir /a/b;write /a pids.max 1;write /a/b cgroup.procs 1;fork 1 2;undo;undo;fork 1 2",
         "1 ok;2 ok;3 ok;4 ok;5 refused pidsmax /a;6 ok;| fork 1 2;\
          7 ok;| write /a/b cgroup.procs 1;8 ok",
     ),
-    // A move and a limit are never blocked, and leave more than the limit; a fork is blocked then.
+    // A move and a limit are never refused, and may leave more than the limit; then a fork is
+    // refused.
     (
         "mkdir /a;fork 1 2;write /a pids.max 0;write /a cgroup.procs 1;write /a cgroup.procs 2;\
          cat /a pids.current;fork 2 3;exit 1;exit 2;cat /a pids.current",
@@ -174,7 +175,7 @@ const TRACES: [(&str, &str); 35] = [
         "1 refused nofile;2 refused nogroup /b;3 ok;4 refused value;5 ok;6 ok;7 ok;| write /a pids.max max;\
          8 ok;| write /a pids.max 4194304;9 refused value",
     ),
-    // A group comes back with its limit on processes.
+    // A group returns with its limit on processes.
     (
         "mkdir /a;write /a pids.max 0;rmdir /a;undo;write /a cgroup.procs 1;fork 1 2;undo;undo;undo;undo",
         "1 ok;2 ok;3 ok;4 ok;| rmdir /a;5 ok;6 refused pidsmax /a;7 ok;| fork 1 2;\
@@ -182,7 +183,7 @@ const TRACES: [(&str, &str); 35] = [
     ),
 ];
 
-/// What a trace in memory is answered.
+/// The output for a trace in memory.
 pub(crate) fn replayed<R: Threads + Wait + Sync>(
     rt: &R,
     alloc: Global,
@@ -194,7 +195,7 @@ pub(crate) fn replayed<R: Threads + Wait + Sync>(
     Ok((summary, writer))
 }
 
-/// What a trace in memory is answered by a rehearsal.
+/// The output for a trace in memory by a rehearsal.
 pub(crate) fn rehearsed<R: Threads + Wait + Sync>(
     rt: &R,
     alloc: Global,
@@ -206,7 +207,7 @@ pub(crate) fn rehearsed<R: Threads + Wait + Sync>(
     Ok((summary, writer))
 }
 
-/// The text of lines that semicolons end.
+/// The text of lines that end with semicolons.
 pub(crate) fn lines(alloc: Global, text: &str) -> Result<Vec<u8>, AllocError> {
     let mut bytes = Vec::new(alloc);
     for byte in text.as_bytes() {
@@ -218,7 +219,7 @@ pub(crate) fn lines(alloc: Global, text: &str) -> Result<Vec<u8>, AllocError> {
     Ok(bytes)
 }
 
-/// The two numbers, counted in the answers: the lines without a bar, and those of them that say
+/// The two numbers, counted in the output: the lines without a bar, and those of them that say
 /// `refused`.
 fn counted(answers: &str) -> (u64, u64) {
     let mut commands = 0u64;
@@ -235,7 +236,7 @@ fn counted(answers: &str) -> (u64, u64) {
     (commands, refused)
 }
 
-/// Whether a replay comes to these answers and this summary.
+/// Whether a replay has this output and this summary.
 pub(crate) fn is_replayed<R: Threads + Wait + Sync>(
     rt: &R,
     alloc: Global,
@@ -263,8 +264,8 @@ fn is_rehearsed<R: Threads + Wait + Sync>(
     }
 }
 
-/// Whether the trace has these answers, and the two numbers that are counted in them, by a replay
-/// and by a rehearsal.
+/// Whether the trace has this output, and the two numbers that are counted in it, by a replay and
+/// by a rehearsal.
 fn is_answered<R: Threads + Wait + Sync>(
     rt: &R,
     alloc: Global,
@@ -281,7 +282,7 @@ fn is_answered<R: Threads + Wait + Sync>(
     )
 }
 
-/// The first of these traces that is answered otherwise.
+/// The first of these traces with other output.
 fn first_other<R: Threads + Wait + Sync>(
     rt: &R,
     alloc: Global,
@@ -303,7 +304,7 @@ fn traces(rt: HostRuntime) -> Result<(), Fail> {
     Ok(())
 }
 
-/// A counted number of commands and refusals is that of the answers.
+/// The counted numbers of commands and refusals are those of the output.
 #[test]
 fn counts(rt: HostRuntime) {
     let rows = [
@@ -317,7 +318,7 @@ fn counts(rt: HostRuntime) {
     }
 }
 
-/// Bytes behind the last line feed are a line.
+/// Bytes after the last line feed are a line.
 #[test]
 fn without_last_line_feed(rt: HostRuntime) {
     let answers = b"1 ok\n2 ok\n| mkdir /a\n";

@@ -1,4 +1,4 @@
-//! The names of the files, what is written to them, and the texts of limits.
+//! The names of the files, the values that can be written to them, and the texts of limits.
 
 use group_tree::{Limit, LimitFile};
 use interface_files::{
@@ -7,7 +7,8 @@ use interface_files::{
 use std::alloc::{AllocError, Global};
 use std::test::Fail;
 
-/// Each name, its file, whether the root has it, whether it is read, and whether it is written.
+/// Each name, its file, whether the root has it, whether it can be read, and whether it can be
+/// written.
 const NAMES: [(&str, File, [bool; 3]); 11] = [
     ("cgroup.procs", File::Procs, [true, true, true]),
     ("cgroup.events", File::Events, [false, true, false]),
@@ -30,7 +31,7 @@ const NAMES: [(&str, File, [bool; 3]); 11] = [
     ),
 ];
 
-/// Texts that are no file's name.
+/// Texts that are not the name of a file.
 const NO_NAMES: [&str; 8] = [
     "",
     "cgroup",
@@ -42,7 +43,7 @@ const NO_NAMES: [&str; 8] = [
     "cgroup.threads",
 ];
 
-/// Whether the name is the file's, and the file is where that says, and for that.
+/// Whether the name is the file's, and the file is on the root, readable and writable as expected.
 fn is_name(name: &str, file: File, wanted: [bool; 3]) -> bool {
     let found = [file.on_root(), file.readable(), file.writable()];
     File::read(name.as_bytes()) == Some(file) && file.name() == name.as_bytes() && found == wanted
@@ -58,7 +59,7 @@ fn names_of_files(rt: HostRuntime) {
     }
 }
 
-/// What is read from each text that is written to a limit.
+/// The result of reading each text that is written to a limit.
 const LIMITS: [(LimitFile, &str, Result<Limit, ValueFault>); 26] = [
     (LimitFile::PidsMax, "max", Ok(Limit::Unlimited)),
     (LimitFile::PidsMax, " 5\n", Ok(Limit::At(5))),
@@ -119,8 +120,7 @@ fn limits(rt: HostRuntime) {
     }
 }
 
-/// What is read from each text that is a pid's, and from each that is written to `cgroup.kill`: the
-/// number.
+/// The results of reading each text as a pid, and as a value of `cgroup.kill`: the number.
 const NUMBERS: [(&str, Result<u32, ValueFault>, Result<u32, ValueFault>); 12] = [
     ("1", Ok(1), Ok(1)),
     (" 1\n", Ok(1), Ok(1)),
@@ -171,7 +171,7 @@ fn numbers(rt: HostRuntime) {
     }
 }
 
-/// Why a value is not taken, in words.
+/// Why a value is refused, in words.
 const VALUE_FAULTS: [(ValueFault, &str); 4] = [
     (ValueFault::Empty, "there is no value"),
     (ValueFault::NotANumber, "a byte is no decimal digit"),
@@ -196,7 +196,7 @@ fn is_message_of_file(alloc: Global, fault: ShowFault, wanted: &str) -> Result<b
     Ok(format!(in alloc; "{fault}")?.as_str() == wanted)
 }
 
-/// Why a value is not taken, and why a file is not shown, in words.
+/// Why a value is refused, and why a file is not shown, in words.
 #[test]
 fn messages(rt: HostRuntime) -> Result<(), Fail> {
     for (fault, wanted) in VALUE_FAULTS {
@@ -213,7 +213,7 @@ fn is_text(alloc: Global, limit: Limit, wanted: &str) -> Result<bool, AllocError
     Ok(limit_text(alloc, limit)?.as_slice() == wanted.as_bytes())
 }
 
-/// A limit is shown as it is held, whatever its file takes.
+/// A limit is shown as it is stored, whatever its file accepts.
 #[test]
 fn texts_of_limits(rt: HostRuntime) -> Result<(), Fail> {
     let rows = [

@@ -15,19 +15,19 @@ use std::alloc::Global;
 /// A number of a group, or why there is none.
 #[derive(Clone, Copy, Debug, PartialEq, Eq)]
 pub enum Number {
-    /// It is this.
+    /// The number.
     Told(u64),
-    /// There is no such group.
+    /// The group does not exist.
     NoGroup,
     /// The root has no such file.
     NoFile,
-    /// The text is no path.
+    /// The text is not a path.
     BadPath,
-    /// There is no memory for the path.
+    /// The allocation of the path failed.
     OutOfMemory,
 }
 
-/// What is told where no path was read.
+/// The result if no path was read.
 fn of_unread(unread: Unread) -> Number
     ensures { result ≡ unread_number unread }
 {
@@ -37,7 +37,7 @@ fn of_unread(unread: Unread) -> Number
     }
 }
 
-/// The greatest number stands for no limit.
+/// The greatest u64 means no limit.
 fn number_of_limit(limit: Limit) -> u64
     ensures { result ≡ limit_number (limit_of limit) }
 {
@@ -131,7 +131,7 @@ impl LineEngine {
         }
     }
 
-    /// `pids.max`; the greatest number for no limit.
+    /// `pids.max`; the greatest u64 means no limit.
     pub fn limit(&self, alloc: Global, path: &[u8]) -> Number
         ensures { TellsNumber self.now.engine.state pids_limit (read_path path.now) result }
     {

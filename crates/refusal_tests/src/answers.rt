@@ -1,30 +1,30 @@
-//! What calls on charges answer, as values that a table can hold, and whether an answer is the wanted one.
+//! The results of calls on charges, as values that a table can hold, and whether a result is the expected one.
 
 use group_path::GroupPath;
 use pids_charge::{ChargeFault, Lost, LostList, Peaks, Shifted};
 use std::alloc::Allocator;
 use test_support::Tried;
 
-/// What a call answers.
+/// The result of a call.
 #[derive(Clone, Copy)]
 pub(crate) enum Answer<'r> {
     Done,
-    /// The peaks that were there, from the group upward.
+    /// The old peaks, from the group upward.
     Peaks(&'r [u64]),
-    /// How many bytes the path of the old group has, and the peaks that were there along the new one.
+    /// The length of the path of the old group, and the old peaks along the new path.
     Moved(usize, &'r [u64]),
-    /// How many bytes the path of the old group has.
+    /// The length of the path of the old group.
     Left(usize),
-    /// The processes that were taken, in order.
+    /// The processes that were removed, in order.
     Lost(&'r [u32]),
-    /// There is no process of that number.
+    /// The process with that number does not exist.
     NoProcess(u32),
     Refused(ChargeFault),
     /// The call may not be made now.
     Nothing,
 }
 
-/// What a call came to that was answered, as wanted or not.
+/// The kind of result of a call that returned, as expected or not.
 pub(crate) fn tried(is_wanted: bool) -> Tried {
     if is_wanted {
         Tried::Answered
@@ -98,7 +98,7 @@ pub(crate) fn path_answered<A: Allocator + Clone>(
     }
 }
 
-/// Whether these are the processes that were taken.
+/// Whether these are the processes that were removed.
 fn are_lost<A: Allocator + Clone>(list: &[Lost<A>], numbers: &[u32]) -> bool {
     for (lost, number) in list.iter().zip(numbers.iter()) {
         if lost.pid.get() != *number {

@@ -15,17 +15,17 @@ use std::test::Fail;
 use std::thread::Threads;
 use test_support::{Tried, path};
 
-/// Charges whose groups and processes lie in any memory, and their meter apart.
+/// Charges whose groups and processes are in any allocator, with their meter elsewhere.
 pub(crate) type Apart<A> = Charges<A, PlainMeter<Global>>;
 
-/// A call on charges, made by who 0.
+/// A call on charges, made with `who` 0.
 #[derive(Clone, Copy)]
 pub(crate) enum Call {
     Mkdir,
     Rmdir,
     /// With a limit on processes of 7.
     Restore,
-    /// The first process forks the second, in two halves: decided, and then made.
+    /// The first process forks the second, in two halves: decided, then made.
     Fork,
     Exit,
     Migrate,
@@ -34,13 +34,13 @@ pub(crate) enum Call {
     Kill,
     KillAlone,
     Place,
-    /// Of a list of one.
+    /// With a list of one.
     PlaceAll,
-    /// Likewise.
+    /// With a list of one.
     PlaceAllAlone,
-    /// Of a list of both.
+    /// With a list of both.
     PlaceBoth,
-    /// Likewise.
+    /// With a list of both.
     PlaceBothAlone,
 }
 
@@ -53,7 +53,7 @@ pub(crate) struct Asked {
     second: Pid,
 }
 
-/// The process of this number.
+/// The process with this number.
 pub(crate) fn pid(number: u32) -> Result<Pid, Fail> {
     match Pid::new(number) {
         Some(pid) => Ok(pid),
@@ -61,7 +61,7 @@ pub(crate) fn pid(number: u32) -> Result<Pid, Fail> {
     }
 }
 
-/// The call at the path of this text, with the processes of these numbers.
+/// The call at the path with this text, with the processes of these numbers.
 pub(crate) fn ask(
     alloc: Global,
     call: Call,
@@ -173,7 +173,7 @@ fn place_all_alone<A: Allocator + Clone>(
     done(charges.place_all_alone(0, &[Lost { pid, path }]), wanted)
 }
 
-/// Whether the process can be placed: its group is there, and its number is free.
+/// Whether the process can be placed: its group exists, and its number is free.
 fn can_be_placed<A: Allocator + Clone>(charges: &Apart<A>, lost: &Lost<Global>) -> bool
     ensures group { IsTrue result → IsSome (fin.get charges.now.groups lost.now.path) }
     ensures free { IsTrue result → fin.get charges.now.home lost.now.pid ≡ None }
@@ -218,7 +218,7 @@ fn lost(alloc: Global, pid: Pid, path: &GroupPath<Global>) -> Result<Lost<Global
     Ok(Lost { pid, path })
 }
 
-/// Makes the call, and tells what it came to beside the wanted answer.
+/// Makes the call, and compares its result with the expected one.
 pub(crate) fn answer<R: Threads + Wait + Sync, A: Allocator + Clone>(
     rt: &R,
     alloc: Global,

@@ -1,4 +1,4 @@
-//! Charges in a small heap: each allocation of each call refused.
+//! Charges in a small heap: each allocation of each call is refused.
 
 use crate::answers::Answer;
 use crate::calls::{Apart, Asked, Call, answer, ask};
@@ -11,11 +11,11 @@ use std::test::Fail;
 use std::thread::Threads;
 use test_support::{BLOCK_SIZE, Tried, all_but};
 
-/// A call, its path and its processes, what it answers where there is memory, and whether it asks for memory.
+/// A call, its path and its processes, its result if there is memory, and whether it allocates.
 type Row<'r> = (Call, &'r str, (u32, u32), Answer<'r>, bool);
 
-/// How many refusals there are before the call is answered as wanted, as the room grows by a block at a time. Each leaves
-/// the heap, and all that can be read of the charges, as it was.
+/// How many times the call is refused before it has the expected result, as the room grows one block at a time. Each refusal
+/// leaves the heap, and all that can be read of the charges, unchanged.
 fn refusals<'a, R: Threads + Wait + Sync>(
     rt: &R,
     alloc: Global,
@@ -38,7 +38,7 @@ fn refusals<'a, R: Threads + Wait + Sync>(
     Err(Fail::new("there is no answer in 4,096 bytes"))
 }
 
-/// Whether the call is answered as wanted in ample memory too, and all that can be read is the same then.
+/// Whether the call has the expected result with ample memory too, and all that can be read is then the same.
 fn is_alike<'a, R: Threads + Wait + Sync>(
     rt: &R,
     alloc: Global,
@@ -51,7 +51,7 @@ fn is_alike<'a, R: Threads + Wait + Sync>(
     Ok(answer == Tried::Answered && look(alloc, charges)? == look(alloc, ample)?)
 }
 
-/// Makes the calls in turn, each until it is answered; which row is the first that goes otherwise.
+/// Makes the calls in order, each until it succeeds. Returns the first row with another result.
 fn first_wrong<'a, R: Threads + Wait + Sync>(
     rt: &R,
     alloc: Global,
@@ -71,7 +71,7 @@ fn first_wrong<'a, R: Threads + Wait + Sync>(
     Ok(None)
 }
 
-/// Makes the calls in turn on new charges in a heap and on others in ample memory.
+/// Makes the calls in order on new charges in a heap and on others with ample memory.
 fn each_refused<R: Threads + Wait + Sync>(
     rt: &R,
     alloc: Global,
@@ -83,7 +83,7 @@ fn each_refused<R: Threads + Wait + Sync>(
     first_wrong(rt, alloc, &heap, &mut charges, &mut ample, rows)
 }
 
-/// How many refusals there are before new charges are made over the heap, each of which leaves it as it was.
+/// How many times making new charges in the heap is refused. Each refusal leaves the heap unchanged.
 fn refused_anew(alloc: Global, heap: &LocalHeap) -> Result<usize, Fail> {
     let mut blocks = all_but(alloc, heap, 0)?;
     for room in 0..512usize {
@@ -98,8 +98,8 @@ fn refused_anew(alloc: Global, heap: &LocalHeap) -> Result<usize, Fail> {
     Err(Fail::new("there are no charges in 8,192 bytes"))
 }
 
-/// The table of free slots takes two bytes for each of 1,024: the last refusal came with room for it, or for the table of
-/// processes before it.
+/// The table of free slots needs two bytes for each of 1,024 slots: the last refusal came with room for it, or for the table
+/// of processes before it.
 #[test]
 fn new(rt: HostRuntime) -> Result<(), Fail> {
     let heap = LocalHeap::new(rt.alloc(), 32_768)?;
@@ -133,7 +133,7 @@ fn mkdir(rt: HostRuntime) -> Result<(), Fail> {
     Ok(())
 }
 
-/// A removal asks for none, nor does one that is refused.
+/// A removal allocates nothing, nor does one that is refused.
 #[test]
 fn rmdir(rt: HostRuntime) -> Result<(), Fail> {
     let rows = [
@@ -176,7 +176,7 @@ fn rmdir(rt: HostRuntime) -> Result<(), Fail> {
     Ok(())
 }
 
-/// What takes a removal back.
+/// The undo of a removal.
 #[test]
 fn restore(rt: HostRuntime) -> Result<(), Fail> {
     let rows = [
@@ -190,7 +190,7 @@ fn restore(rt: HostRuntime) -> Result<(), Fail> {
     Ok(())
 }
 
-/// The peaks and the path of the parent's group are asked for.
+/// Allocates the peaks and the path of the parent's group.
 #[test]
 fn make_process(rt: HostRuntime) -> Result<(), Fail> {
     let rows = [
@@ -237,7 +237,7 @@ fn migrate(rt: HostRuntime) -> Result<(), Fail> {
     Ok(())
 }
 
-/// What takes a move back: it asks for a path, and for no peaks.
+/// The undo of a move: it allocates a path, and no peaks.
 #[test]
 fn rehome(rt: HostRuntime) -> Result<(), Fail> {
     let rows = [
@@ -250,7 +250,7 @@ fn rehome(rt: HostRuntime) -> Result<(), Fail> {
     Ok(())
 }
 
-/// An end asks for none; what takes it back does.
+/// An exit allocates nothing; its undo does.
 #[test]
 fn exit_and_place(rt: HostRuntime) -> Result<(), Fail> {
     let rows = [
@@ -268,7 +268,7 @@ fn exit_and_place(rt: HostRuntime) -> Result<(), Fail> {
     Ok(())
 }
 
-/// Three processes are taken at once. The kill of a group without processes asks for no memory.
+/// Three processes are killed at once. The kill of a group without processes allocates nothing.
 #[test]
 fn kill(rt: HostRuntime) -> Result<(), Fail> {
     let rows = [
@@ -311,7 +311,7 @@ fn kill_alone(rt: HostRuntime) -> Result<(), Fail> {
     Ok(())
 }
 
-/// What takes a kill back asks for a list of charges too, one for each group along the path.
+/// The undo of a kill allocates a list of charges too, one for each group along the path.
 #[test]
 fn place_all(rt: HostRuntime) -> Result<(), Fail> {
     let rows = [
@@ -326,7 +326,7 @@ fn place_all(rt: HostRuntime) -> Result<(), Fail> {
     Ok(())
 }
 
-/// Two processes: where the path of one is had and that of the other is refused, both are taken out.
+/// Two processes: if the path of one is allocated and that of the other is refused, neither is placed.
 #[test]
 fn place_all_of_two(rt: HostRuntime) -> Result<(), Fail> {
     let rows = [

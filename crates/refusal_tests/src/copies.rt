@@ -11,13 +11,14 @@ use std::test::Fail;
 use std::thread::Threads;
 use test_support::{BLOCK_SIZE, Tried, all_but};
 
-/// The bytes of a meter of plain numbers: for each slot and each leaf of it two numbers of 8 bytes.
+/// The bytes of a meter of plain numbers: two numbers of 8 bytes for each leaf of each slot.
 pub(crate) const METER_SIZE: usize = SLOTS * LEAVES * 2 * 8;
 
-/// So many bytes are there beside a meter.
+/// How many bytes there are besides a meter.
 pub(crate) const BESIDE: usize = 8192;
 
-/// What a copy into the heap comes to: it is answered where all that can be read of it is what can be read of the charges.
+/// The result of copying into the heap. It counts as answered if all that can be read of the copy is what can be read of the
+/// charges.
 fn copied(alloc: Global, heap: &LocalHeap, charges: &mut Apart<Global>) -> Result<Tried, Fail> {
     let mut copy = match charges.copy_plain(heap) {
         Ok(copy) => copy,
@@ -30,9 +31,8 @@ fn copied(alloc: Global, heap: &LocalHeap, charges: &mut Apart<Global>) -> Resul
     }
 }
 
-/// How many refusals there are before the charges are copied, as the room grows by one of the blocks at a time; None where
-/// they are not copied in all of them. Each leaves the heap and the charges as they were, and so does the copy once it is
-/// dropped.
+/// How many times copying the charges is refused, as the room grows by one of the blocks at a time; None if it is refused
+/// with all of them. Each refusal leaves the heap and the charges unchanged, and so does the copy after it is dropped.
 fn refusals(
     alloc: Global,
     heap: &LocalHeap,
@@ -55,7 +55,7 @@ fn refusals(
     Ok(None)
 }
 
-/// The refusals while the memory at the end of the heap that a meter needs is taken.
+/// The refusals while the memory that a meter needs, at the end of the heap, is taken.
 fn without_a_meter(
     alloc: Global,
     heap: &LocalHeap,
@@ -66,7 +66,7 @@ fn without_a_meter(
     refusals(alloc, heap, charges, blocks)
 }
 
-/// The refusals once it is free.
+/// The refusals when that memory is free.
 fn with_a_meter(
     alloc: Global,
     heap: &LocalHeap,
@@ -88,8 +88,8 @@ fn refused<R: Threads + Wait + Sync>(
     Ok((without, with))
 }
 
-/// Each allocation refused: those before the meter, the meter's own, and those of the processes behind it. Where there is no
-/// room for a meter there is no copy.
+/// Each allocation is refused: those before the meter, the meter's own, and those of the processes after it. Without room
+/// for a meter there is no copy.
 #[test]
 fn copy_plain(rt: HostRuntime) -> Result<(), Fail> {
     let heap = LocalHeap::new(rt.alloc(), METER_SIZE + BESIDE)?;

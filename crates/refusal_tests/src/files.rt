@@ -14,19 +14,19 @@ use std::test::Fail;
 use std::thread::Threads;
 use test_support::{Tried, all_but, path};
 
-/// What is read.
+/// What to read.
 #[derive(Clone, Copy)]
 enum Reading {
     /// A file of a group, by the path of the group.
     Of(&'static str, File),
-    /// The group of the process of this number.
+    /// The group of the process with this number.
     Home(u32),
 }
 
-/// What is read, its text or the fault, and whether it asks for memory.
+/// What to read, its text or the fault, and whether reading allocates.
 type Row = (Reading, Result<&'static str, ShowFault>, bool);
 
-/// What the answer is beside the wanted one.
+/// How the result compares with the expected one.
 fn compared(
     shown: Result<Vec<u8, &LocalHeap>, ShowFault>,
     wanted: Result<&str, ShowFault>,
@@ -41,7 +41,7 @@ fn compared(
     }
 }
 
-/// Reads it over the heap.
+/// Reads it in the heap.
 fn shown<'a>(
     heap: &'a LocalHeap,
     charges: &mut Apart<Global>,
@@ -57,7 +57,7 @@ fn shown<'a>(
     }
 }
 
-/// The path that is read by; the root where it is read by a process.
+/// The path to read by; the root if it is read by a process.
 fn path_of(alloc: Global, reading: Reading) -> Result<GroupPath<Global>, Fail> {
     match reading {
         Reading::Of(text, _) => path(alloc, text),
@@ -65,8 +65,8 @@ fn path_of(alloc: Global, reading: Reading) -> Result<GroupPath<Global>, Fail> {
     }
 }
 
-/// How many refusals there are before the text is answered as wanted, as the room grows by a block at a time. Each leaves the
-/// heap and the charges as they were, and so does the answer once it is dropped.
+/// How many times reading is refused before it has the expected result, as the room grows one block at a time. Each refusal
+/// leaves the heap and the charges unchanged, and so does the text after it is dropped.
 fn refusals(
     alloc: Global,
     heap: &LocalHeap,
@@ -107,7 +107,7 @@ fn first_wrong(
     Ok(None)
 }
 
-/// Reads the rows in turn of the sample; which is the first that goes otherwise.
+/// Reads the rows in order from the sample. Returns the first with another result.
 fn each_refused<R: Threads + Wait + Sync>(
     rt: &R,
     alloc: Global,
@@ -119,7 +119,7 @@ fn each_refused<R: Threads + Wait + Sync>(
     first_wrong(alloc, &heap, &mut charges, rows)
 }
 
-/// Each allocation of each file refused. A refusal of the file itself asks for none.
+/// Refuses each allocation of each file. A refusal of the file itself allocates nothing.
 #[test]
 fn render_of_each_file(rt: HostRuntime) -> Result<(), Fail> {
     let rows = [
@@ -167,7 +167,7 @@ fn render_of_each_file(rt: HostRuntime) -> Result<(), Fail> {
     Ok(())
 }
 
-/// The group of a process likewise.
+/// The same for the group of a process.
 #[test]
 fn render_home_of_processes(rt: HostRuntime) -> Result<(), Fail> {
     let rows = [

@@ -8,7 +8,7 @@ use std::test::Fail;
 use std::thread::Threads;
 use undo_journal::{Command, Engine, Pid, Refusal, Reply};
 
-/// An engine whose meter, groups, processes and records lie in one heap.
+/// An engine whose meter, groups, processes and records are in one heap.
 type InHeap<'a> = Engine<&'a LocalHeap, PlainMeter<&'a LocalHeap>>;
 
 /// A meter does not fit in 1,024 bytes, and leaves them free.
@@ -20,7 +20,7 @@ fn meter_in_1024_bytes(rt: HostRuntime) -> Result<(), Fail> {
     Ok(())
 }
 
-/// What process 1 is answered when it forks that process.
+/// The reply to process 1 when it forks that process.
 fn fork<'a, R: Threads + Wait + Sync>(
     rt: &R,
     engine: &mut InHeap<'a>,
@@ -32,7 +32,7 @@ fn fork<'a, R: Threads + Wait + Sync>(
     }
 }
 
-/// Process 1 forks 2, 3 and so on, until it is out of memory: the process that was refused then.
+/// Process 1 forks 2, 3 and so on, until it is out of memory. Returns the process that was refused.
 fn first_refused<R: Threads + Wait + Sync>(rt: &R, engine: &mut InHeap<'_>) -> Option<Pid> {
     for number in 2..262_146u32 {
         let child = Pid::new(number)?;
@@ -45,7 +45,7 @@ fn first_refused<R: Threads + Wait + Sync>(rt: &R, engine: &mut InHeap<'_>) -> O
     None
 }
 
-/// Whether the engine answers that there is no such process.
+/// Whether the engine replies that the process does not exist.
 fn is_absent<R: Threads + Wait + Sync>(rt: &R, engine: &mut InHeap<'_>, pid: Pid) -> bool {
     let reply = engine.apply(rt, 0, &Command::<Global>::Locate(pid));
     match &reply {
@@ -54,8 +54,8 @@ fn is_absent<R: Threads + Wait + Sync>(rt: &R, engine: &mut InHeap<'_>, pid: Pid
     }
 }
 
-/// How many records there are once an engine in the heap is out of memory, whether the process that was refused is not there,
-/// how many records are undone, and that process.
+/// How many records there are when an engine in the heap is out of memory, whether the refused process does not exist, how
+/// many records are undone, and the refused process.
 fn filled<R: Threads + Wait + Sync>(
     rt: &R,
     heap: &LocalHeap,

@@ -13,7 +13,7 @@ use std::alloc::{Allocator, Global};
 use std::test::Fail;
 use test_support::{Tried, all_but, path};
 
-/// Makes the group, and moves the process there.
+/// Makes the group, and moves the process to it.
 fn move_to_new<A: Allocator + Clone>(
     charges: &mut Apart<A>,
     group: &GroupPath<Global>,
@@ -27,7 +27,7 @@ fn move_to_new<A: Allocator + Clone>(
     Ok(())
 }
 
-/// A fork that is made.
+/// A fork that succeeds.
 fn fork<A: Allocator + Clone>(
     charges: &mut Apart<A>,
     parent: Pid,
@@ -40,7 +40,7 @@ fn fork<A: Allocator + Clone>(
     Ok(())
 }
 
-/// Process 1 in the group `A` with its children 2, 3 and so on, but for `next` and those behind it.
+/// Process 1 in the group `A` with its children 2, 3 and so on, up to the one before `next`.
 fn crowd<M: Allocator + Clone>(alloc: Global, memory: M, next: u32) -> Result<Apart<M>, Fail>
     ensures { IfOk result (λ c. HasEventsUpTo 0 c) }
 {
@@ -58,13 +58,13 @@ fn crowd<M: Allocator + Clone>(alloc: Global, memory: M, next: u32) -> Result<Ap
     Ok(charges)
 }
 
-/// What can be read of them in ample memory.
+/// What can be read of them with ample memory.
 fn seen_before(alloc: Global, next: u32) -> Result<Seen, Fail> {
     let mut charges = crowd(alloc, alloc, next)?;
     look(alloc, &mut charges)
 }
 
-/// What the fork of the child comes to with that room, where all that can be read is to be as before behind a refusal.
+/// The result of forking the child with that room. After a refusal, all that can be read must be as before.
 fn forked(
     alloc: Global,
     heap: &LocalHeap,
@@ -87,7 +87,7 @@ fn forked(
     }
 }
 
-/// How many refusals there are before the child is forked, as the room grows by a block at a time, each time of new charges.
+/// How many times forking the child is refused, as the room grows one block at a time, with new charges each time.
 fn refusals(
     alloc: Global,
     heap: &LocalHeap,
@@ -107,7 +107,7 @@ fn refusals(
     Err(Fail::new("there is no fork in 4,096 bytes"))
 }
 
-/// The second process asks for its path and for the peaks that were there; for the sixteenth the table of processes grows too.
+/// The second process needs its path and the old peaks; for the sixteenth the table of processes grows too.
 #[test]
 fn fork_in_one_call(rt: HostRuntime) -> Result<(), Fail> {
     let heap = LocalHeap::new(rt.alloc(), 32_768)?;

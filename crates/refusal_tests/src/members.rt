@@ -12,7 +12,7 @@ use std::test::Fail;
 use std::thread::Threads;
 use test_support::{Tried, all_but, path};
 
-/// A group, the numbers of its processes where there is such a group, and whether their list asks for memory.
+/// A group, the numbers of its processes if it exists, and whether their list allocates.
 type Row = (&'static str, Option<&'static [u32]>, bool);
 
 fn are_numbered(pids: &[Pid], numbers: &[u32]) -> bool {
@@ -38,8 +38,8 @@ fn listed(
     }
 }
 
-/// How many refusals there are before the list is answered as wanted, as the room grows by a block at a time. Each leaves the
-/// heap and the charges as they were.
+/// How many times the list is refused before it is as expected, as the room grows one block at a time. Each refusal leaves
+/// the heap and the charges unchanged.
 fn refusals(
     alloc: Global,
     heap: &LocalHeap,
@@ -63,7 +63,7 @@ fn refusals(
     Err(Fail::new("there is no list in 1,024 bytes"))
 }
 
-/// Lists the rows in turn of the sample; which is the first that goes otherwise.
+/// Lists the rows in order from the sample. Returns the first with another result.
 fn first_wrong<R: Threads + Wait + Sync>(
     rt: &R,
     alloc: Global,
@@ -81,7 +81,7 @@ fn first_wrong<R: Threads + Wait + Sync>(
     Ok(None)
 }
 
-/// Each allocation of the list refused. An empty list asks for none, and neither does a group that is not there.
+/// Refuses each allocation of the list. An empty list allocates nothing, nor does a missing group.
 #[test]
 fn members(rt: HostRuntime) -> Result<(), Fail> {
     let rows: [Row; 5] = [

@@ -14,7 +14,7 @@ use undo_journal::{Command, Engine, Reply};
 /// An engine over a plain meter.
 type Plain = Engine<Global, PlainMeter<Global>>;
 
-/// What an engine has recorded before it rehearses: of each kind of record one.
+/// What an engine has recorded before it rehearses: one record of each kind.
 const BEFORE: [&str; 10] = [
     "mkdir /aaaaaaaaaaaaaaaaaaaaaaaa",
     "mkdir /bbbbbbbbbbbbbbbbbbbbbbbb",
@@ -28,7 +28,7 @@ const BEFORE: [&str; 10] = [
     "rmdir /bbbbbbbbbbbbbbbbbbbbbbbb",
 ];
 
-/// What it rehearses: all of it taken back but the first two groups, and files read in between.
+/// What it rehearses: the undo of everything but the first two groups, with reads of files in between.
 const REHEARSED: [&str; 14] = [
     "undo",
     "cat /bbbbbbbbbbbbbbbbbbbbbbbb cgroup.stat",
@@ -54,7 +54,7 @@ fn commands(alloc: Global, lines: &[&str]) -> Result<Vec<Command<Global>>, Fail>
     Ok(commands)
 }
 
-/// Applies the commands in turn; the replies.
+/// Applies the commands in order. Returns the replies.
 fn applied<R: Threads + Wait + Sync>(
     rt: &R,
     alloc: Global,
@@ -90,7 +90,7 @@ fn are_same(replies: &[Reply<Global>], others: &[Reply<Global>]) -> bool {
     replies.len() == others.len()
 }
 
-/// What a rehearsal over the heap comes to: it is answered where the replies are those that are wanted.
+/// The result of a rehearsal over the heap. It counts as answered if the replies are the expected ones.
 fn rehearsed<R: Threads + Wait + Sync>(
     rt: &R,
     alloc: Global,
@@ -106,9 +106,8 @@ fn rehearsed<R: Threads + Wait + Sync>(
     }
 }
 
-/// How many refusals there are before the commands are rehearsed, as the room grows by one of the blocks at a time; None where
-/// they are not rehearsed in all of them. Each leaves the heap and the number of records as they were, and so does the
-/// rehearsal.
+/// How many times rehearsing the commands is refused, as the room grows by one of the blocks at a time; None if it is
+/// refused with all of them. Each refusal leaves the heap and the number of records unchanged, and so does the rehearsal.
 fn refusals<R: Threads + Wait + Sync>(
     rt: &R,
     alloc: Global,
@@ -134,7 +133,7 @@ fn refusals<R: Threads + Wait + Sync>(
     Ok(None)
 }
 
-/// The refusals while the memory at the end of the heap that a meter needs is taken, and once it is free.
+/// The refusals while the memory that a meter needs, at the end of the heap, is taken, and when it is free.
 fn refused<R: Threads + Wait + Sync>(
     rt: &R,
     alloc: Global,
@@ -152,7 +151,7 @@ fn refused<R: Threads + Wait + Sync>(
     Ok((without, with))
 }
 
-/// What a second engine of the same records answers is what is rehearsed, and what the engine itself answers behind it.
+/// A rehearsal has the replies of a second engine with the same records, and of the engine itself afterwards.
 fn rehearsed_and_applied<R: Threads + Wait + Sync>(
     rt: &R,
     alloc: Global,
@@ -178,8 +177,8 @@ fn rehearsed_and_applied<R: Threads + Wait + Sync>(
     ))
 }
 
-/// Each allocation refused: those of the copy of the groups, of the meter, of the processes and the journal, and those of the
-/// commands. The list of replies lies elsewhere.
+/// Each allocation is refused: those of the copy of the groups, of the meter, of the processes and the journal, and those of
+/// the commands. The list of replies is elsewhere.
 #[test]
 fn rehearse(rt: HostRuntime) -> Result<(), Fail> {
     let heap = LocalHeap::new(rt.alloc(), METER_SIZE + BESIDE)?;

@@ -9,7 +9,7 @@ use std::test::Fail;
 use std::thread::Threads;
 use test_support::Tried;
 
-/// The calls that make them, with their answers: process 1 is in the root, 2 in `A`, 3 to 5 are in `B`. `C` has a limit.
+/// The calls that make them, with their results: process 1 is in the root, 2 in `A`, 3 to 5 are in `B`. `C` has a limit.
 const CALLS: [(Call, &str, (u32, u32), Answer<'static>); 11] = [
     (Call::Mkdir, A, (1, 2), Answer::Done),
     (Call::Mkdir, B, (1, 2), Answer::Done),
@@ -24,11 +24,11 @@ const CALLS: [(Call, &str, (u32, u32), Answer<'static>); 11] = [
     (Call::Fork, "/", (3, 5), Answer::Peaks(&[2, 3])),
 ];
 
-/// Makes them of new charges.
+/// Makes the sample from new charges.
 ///
 /// # Errors
 ///
-/// `Fail` where a call is answered otherwise.
+/// `Fail` if a call has another result.
 pub(crate) fn make_sample<R: Threads + Wait + Sync>(
     rt: &R,
     alloc: Global,

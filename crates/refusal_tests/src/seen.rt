@@ -7,7 +7,7 @@ use std::alloc::{AllocError, Allocator, Global};
 use std::test::Fail;
 use test_support::path;
 
-/// A group with a name of 24 letters, which takes memory wherever it is kept.
+/// A group with a name of 24 letters, which needs an allocation wherever it is stored.
 pub(crate) const A: &str = "/aaaaaaaaaaaaaaaaaaaaaaaa";
 
 /// The group in that one.
@@ -16,10 +16,10 @@ pub(crate) const B: &str = "/aaaaaaaaaaaaaaaaaaaaaaaa/bbbbbbbbbbbbbbbbbbbbbbbb";
 /// Another group below the root.
 pub(crate) const C: &str = "/cccccccccccccccccccccccc";
 
-/// The groups that there may be.
+/// The groups that may exist.
 const GROUPS: [&str; 4] = ["/", A, B, C];
 
-/// There is no process of a greater number.
+/// No process has a greater number.
 const LAST: u32 = 16;
 
 /// What can be read of a group.
@@ -30,19 +30,19 @@ struct Group {
     current: Option<u64>,
     populated: Option<bool>,
     members: Option<Vec<Pid>>,
-    /// The names of the groups one name below it, each with a blank behind it.
+    /// The names of the children, each followed by a space.
     children: Vec<u8>,
 }
 
-/// What can be read of charges whose groups and processes are among those that there may be.
+/// What can be read of charges whose groups and processes are among those that may exist.
 #[derive(PartialEq, Eq, Drop)]
 pub(crate) struct Seen {
     groups: Vec<Group>,
-    /// For each number of a process the path of its group, if there is such a process, and a line feed.
+    /// For each pid the path of its group, if the process exists, and a line feed.
     homes: Vec<u8>,
 }
 
-/// The names of the groups one name below.
+/// The names of the children.
 fn read_children<A: Allocator + Clone, M: Meter>(
     alloc: Global,
     charges: &Charges<A, M>,
@@ -88,7 +88,7 @@ fn read_groups<A: Allocator + Clone, M: Meter>(
     Ok(groups)
 }
 
-/// The path of the group of a process; no text where there is no such process.
+/// The path of the group of a process; no text if there is no such process.
 fn home<'c, A: Allocator + Clone, M: Meter>(charges: &'c Charges<A, M>, number: u32) -> &'c [u8] {
     let Some(pid) = Pid::new(number) else {
         return b"";

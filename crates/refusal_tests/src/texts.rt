@@ -14,7 +14,7 @@ use undo_journal::{Command, Engine, Inverse, Reply};
 /// An engine over a plain meter.
 type Plain = Engine<Global, PlainMeter<Global>>;
 
-/// The command that a line says.
+/// The command of a line.
 pub(crate) fn command(alloc: Global, line: &str) -> Result<Command<Global>, Fail> {
     match parse_line(alloc, line.as_bytes())? {
         Line::Run(command) => Ok(command),
@@ -25,13 +25,13 @@ pub(crate) fn command(alloc: Global, line: &str) -> Result<Command<Global>, Fail
 /// A call over the heap.
 #[derive(Clone, Copy)]
 enum Call {
-    /// The copy of the command that a line says.
+    /// The copy of the command of a line.
     CopyCommand,
     /// Its text.
     Text,
     /// The copy of the reply to it.
     CopyReply,
-    /// The copy of the newest record behind it.
+    /// The copy of the newest record after it.
     CopyRecord,
 }
 
@@ -133,7 +133,7 @@ fn record_copied(heap: &LocalHeap, record: Option<&Inverse<Global>>) -> Tried {
     }
 }
 
-/// What a call comes to, of the command, the line that says it, the reply to it, and the engine behind it.
+/// The result of a call on the command, its line, its reply, and the engine after it.
 fn answer(
     heap: &LocalHeap,
     call: Call,
@@ -150,8 +150,8 @@ fn answer(
     }
 }
 
-/// How many refusals there are before the call is answered, as the room grows by a block at a time. Each leaves the heap as it
-/// was, and so does what is answered once it is dropped.
+/// How many times the call is refused, as the room grows one block at a time. Each refusal leaves the heap unchanged, and so
+/// does the result after it is dropped.
 fn refusals(
     alloc: Global,
     heap: &LocalHeap,
@@ -176,7 +176,7 @@ fn refusals(
     Err(Fail::new("there is no answer in 1,024 bytes"))
 }
 
-/// How many refusals there are of the call, of a line and the reply to it.
+/// How many times the call on a line and its reply is refused.
 fn row_refusals<R: Threads + Wait + Sync>(
     rt: &R,
     alloc: Global,
@@ -190,7 +190,7 @@ fn row_refusals<R: Threads + Wait + Sync>(
     refusals(alloc, heap, call, line, &command, &reply, engine)
 }
 
-/// Answers the lines in turn; the first of which the call asks for memory otherwise.
+/// Runs the lines in order. Returns the first for which the call allocates otherwise than expected.
 fn first_wrong<R: Threads + Wait + Sync>(
     rt: &R,
     alloc: Global,
@@ -209,7 +209,7 @@ fn first_wrong<R: Threads + Wait + Sync>(
     Ok(None)
 }
 
-/// A path of 25 bytes takes memory.
+/// A path of 25 bytes needs an allocation.
 #[test]
 fn copy_of_commands(rt: HostRuntime) -> Result<(), Fail> {
     let rows = [
@@ -232,7 +232,7 @@ fn copy_of_commands(rt: HostRuntime) -> Result<(), Fail> {
     Ok(())
 }
 
-/// A text always does.
+/// A text always needs one.
 #[test]
 fn text_of_commands(rt: HostRuntime) -> Result<(), Fail> {
     let rows = [
@@ -253,7 +253,7 @@ fn text_of_commands(rt: HostRuntime) -> Result<(), Fail> {
     Ok(())
 }
 
-/// A path of 25 bytes and a text of 24 and more take memory.
+/// A path of 25 bytes and a text of 24 or more bytes need allocations.
 #[test]
 fn copy_of_replies(rt: HostRuntime) -> Result<(), Fail> {
     let rows = [
@@ -262,7 +262,7 @@ fn copy_of_replies(rt: HostRuntime) -> Result<(), Fail> {
         ("cat /aaaaaaaaaaaaaaaaaaaaaaaa cgroup.events", false),
         // A text of 41 bytes.
         ("cat / cgroup.stat", true),
-        // There is no such group, nor such a process, and both are there already.
+        // The group and the process of the first two lines don't exist; those of the next two exist already.
         ("rmdir /bbbbbbbbbbbbbbbbbbbbbbbb", true),
         ("exit 2", false),
         ("mkdir /aaaaaaaaaaaaaaaaaaaaaaaa", false),
@@ -278,12 +278,12 @@ fn copy_of_replies(rt: HostRuntime) -> Result<(), Fail> {
         ("write /aaaaaaaaaaaaaaaaaaaaaaaa pids.max 1", false),
         ("write /aaaaaaaaaaaaaaaaaaaaaaaa cgroup.procs 1", false),
         ("fork 1 2", true),
-        // The root stays, the group has a process, and the root has no such file.
+        // The root can't be removed, the group has a process, and the root lacks the file.
         ("rmdir /", false),
         ("rmdir /aaaaaaaaaaaaaaaaaaaaaaaa", false),
         ("cat / pids.max", false),
         ("where 1", true),
-        // The refused fork is taken back, and then the move.
+        // The refused fork is undone, then the move.
         ("undo", false),
         ("undo", true),
     ];
@@ -291,7 +291,7 @@ fn copy_of_replies(rt: HostRuntime) -> Result<(), Fail> {
     Ok(())
 }
 
-/// A path of 25 bytes takes memory, and so do the peaks of a group and a list of processes.
+/// A path of 25 bytes needs an allocation, and so do the peaks of a group and a list of processes.
 #[test]
 fn copy_of_records(rt: HostRuntime) -> Result<(), Fail> {
     let rows = [

@@ -25,12 +25,12 @@ pub(crate) enum Ask {
     Undo,
 }
 
-/// What is replied.
+/// The reply.
 #[derive(Clone, Copy)]
 pub(crate) enum Said {
     Done,
     Text(&'static [u8]),
-    /// The making of this group was undone.
+    /// Making this group was undone.
     Unmade(&'static [u8]),
 }
 
@@ -44,7 +44,7 @@ fn path(alloc: Global, text: &str) -> Option<GroupPath<Global>> {
     }
 }
 
-/// The command; none where its text is no path, its number no pid, or there was no memory for it.
+/// The command; None if its text is not a path, its number not a pid, or memory ran out.
 pub(crate) fn command(alloc: Global, ask: Ask) -> Option<Command<Global>> {
     match ask {
         Ask::Make(text) => Some(Command::MakeGroup(path(alloc, text)?)),
@@ -79,7 +79,7 @@ pub(crate) fn says(reply: &Reply<Global>, said: Said) -> bool {
     }
 }
 
-/// Whether the session is answered so.
+/// Whether the session gets this result.
 fn is_answered<R: Threads + Wait + Sync>(
     rt: &R,
     session: &mut Session,
@@ -100,7 +100,7 @@ fn is_answered<R: Threads + Wait + Sync>(
     }
 }
 
-/// Whether the rows are answered so, one after another.
+/// Whether the rows get their results, one after another.
 pub(crate) fn are_answered<R: Threads + Wait + Sync>(
     rt: &R,
     alloc: Global,
@@ -131,7 +131,7 @@ pub(crate) fn opened(alloc: Global, n: u8) -> Result<(Desk, Vec<Session>), Alloc
     Ok((desk, sessions))
 }
 
-/// Hands the sessions in, and gets them back where the fault is this one.
+/// Hands the sessions in, and returns them if the fault is this one.
 pub(crate) fn refused<R: Wait>(
     rt: &R,
     desk: Desk,
@@ -150,7 +150,7 @@ pub(crate) fn refused<R: Wait>(
     }
 }
 
-/// The log that the desk is closed over, and its sessions.
+/// The log over which the desk is closed, and its sessions.
 pub(crate) fn closed<R: Wait>(rt: &R, desk: Desk, sessions: Vec<Session>) -> Option<Closed> {
     match desk.close(rt, sessions) {
         Ok(closed) => Some(closed),
@@ -158,7 +158,7 @@ pub(crate) fn closed<R: Wait>(rt: &R, desk: Desk, sessions: Vec<Session>) -> Opt
     }
 }
 
-/// How many entries the log has that the desk is closed over.
+/// How many entries the log over which the desk is closed has.
 pub(crate) fn closed_over<R: Wait>(rt: &R, desk: Desk, sessions: Vec<Session>) -> Option<usize> {
     match desk.close(rt, sessions) {
         Ok(closed) => Some(closed.log.len()),
@@ -176,7 +176,7 @@ fn is_log_of(log: &[Entry], wanted: &[u8]) -> bool {
     log.len() == wanted.len()
 }
 
-/// Whether each session answers `Halted`.
+/// Whether each session returns `Halted`.
 pub(crate) fn are_halted<R: Threads + Wait + Sync>(rt: &R, sessions: &mut [Session]) -> bool {
     let undo: Command<Global> = Command::Undo;
     for session in sessions.iter_mut() {
@@ -187,7 +187,7 @@ pub(crate) fn are_halted<R: Threads + Wait + Sync>(rt: &R, sessions: &mut [Sessi
     true
 }
 
-/// Whether the log has entries of these sessions, and an audit finds their receipts there; and all answer `Halted`.
+/// Whether the log has entries of these sessions, an audit finds their receipts in it, and all sessions return `Halted`.
 pub(crate) fn is_ended<R: Threads + Wait + Sync>(
     rt: &R,
     alloc: Global,
@@ -200,7 +200,7 @@ pub(crate) fn is_ended<R: Threads + Wait + Sync>(
         && are_halted(rt, closed.sessions.as_mut_slice())
 }
 
-/// Whether the desk is closed so.
+/// Whether the desk is closed with this result.
 pub(crate) fn is_closed_over<R: Threads + Wait + Sync>(
     rt: &R,
     alloc: Global,

@@ -1,4 +1,4 @@
-//! A desk that is closed while a session waits for its turn.
+//! Closing a desk while a session waits for its turn.
 
 use crate::calls::opened;
 use crate::works::{FAR_TURNS, SLEEP, Work, finished, pause};
@@ -45,7 +45,7 @@ fn is_told_at_new_desk<R: Threads + Wait + Sync>(
     }
 }
 
-/// A session that waits for its turn is woken by a close, also at the greatest turn.
+/// A close wakes a session that waits for its turn, even if it is the greatest turn.
 #[test]
 fn close_wakes(rt: HostRuntime) -> Result<(), Fail> {
     for turn in FAR_TURNS {

@@ -1,4 +1,4 @@
-//! A desk that is halted.
+//! Halting a desk.
 
 use crate::calls::{Ask, Row, are_answered, is_closed_over, opened};
 use crate::works::{FAR_TURNS, SLEEP, Work, is_worked};
@@ -22,7 +22,7 @@ fn halt<R: Wait>(rt: &R, sessions: &mut [Session]) {
     }
 }
 
-/// Whether the calls are answered on a halted desk, and it is closed.
+/// Whether the calls return on a halted desk, and it can be closed.
 fn are_all_answered<R: Threads + Wait + Sync>(rt: &R, alloc: Global) -> Result<bool, AllocError> {
     let (desk, mut sessions) = opened(alloc, 2)?;
     halt(rt, sessions.as_mut_slice());
@@ -31,21 +31,21 @@ fn are_all_answered<R: Threads + Wait + Sync>(rt: &R, alloc: Global) -> Result<b
     Ok(is_right && is_closed)
 }
 
-/// Each call on a halted desk is answered, and the desk can be closed.
+/// Each call on a halted desk returns, and the desk can be closed.
 #[test]
 fn halted_desk(rt: HostRuntime) -> Result<(), Fail> {
     assert!(rt; are_all_answered(&rt, rt.alloc())?);
     Ok(())
 }
 
-/// Whether a session that waits for this turn is woken where another halts the desk.
+/// Whether a session that waits for this turn is woken if another halts the desk.
 fn is_woken<R: Threads + Wait + Sync>(rt: &R, alloc: Global, turn: u64) -> bool {
     let works = [(0, Work::UndoAt(turn)), (SLEEP, Work::UndoAndHalt)];
     let dids = [(0, Some(RunFault::Halted)), (1, None)];
     is_worked(rt, alloc, 2, &works, &dids, &[1])
 }
 
-/// A session that waits for its turn is woken by a halt, also at the greatest turn.
+/// A halt wakes a session that waits for its turn, even if it is the greatest turn.
 #[test]
 fn halt_wakes(rt: HostRuntime) {
     for turn in FAR_TURNS {

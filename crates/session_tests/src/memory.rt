@@ -1,5 +1,5 @@
-//! A desk where one allocation is refused: `.ci/refused/run` plays this test with each of its allocations refused in turn, and
-//! `rt try --test --fail-alloc N -- a_refused_allocation` with the N-th.
+//! A desk with one allocation refused. `.ci/refused/run` runs this test with each of its allocations refused in turn; `rt
+//! try --test --fail-alloc N -- a_refused_allocation` refuses the N-th.
 
 use crate::calls::{Ask, Said, command, says};
 use sessions::{CloseFault, Closed, Desk, DeskEngine, Entry, Receipt, RunFault, Session, audit};
@@ -8,7 +8,7 @@ use std::sync::Wait;
 use std::thread::Threads;
 use undo_journal::Command;
 
-/// What is run, the turn that is waited for, and the reply. The paths are so long that each copy takes memory.
+/// What is run, the turn that it waits for, and the reply. The paths are so long that each copy needs an allocation.
 const STEPS: [(Ask, Option<u64>, Said); 7] = [
     (Ask::Make("/aaaaaaaaaaaaaaaaaaaaaaaaaaaa"), None, Said::Done),
     (Ask::Fork(2), Some(1), Said::Done),
@@ -38,7 +38,7 @@ const STEPS: [(Ask, Option<u64>, Said); 7] = [
 /// How many of them can be undone at the end.
 const DEPTH: usize = 3;
 
-/// The command; asked for again where there was no memory for it.
+/// The command, tried again if it was out of memory.
 fn asked(alloc: Global, ask: Ask) -> Option<Command<Global>> {
     match command(alloc, ask) {
         Some(command) => Some(command),
@@ -46,7 +46,7 @@ fn asked(alloc: Global, ask: Ask) -> Option<Command<Global>> {
     }
 }
 
-/// What a call answers: the fault, or whether the receipt has this number and reply.
+/// The result of a call: the fault, or whether the receipt has this number and reply.
 fn ran<R: Threads + Wait + Sync>(
     rt: &R,
     session: &mut Session,
@@ -65,7 +65,7 @@ fn ran<R: Threads + Wait + Sync>(
     }
 }
 
-/// Whether the receipts are those of the first steps, so many.
+/// Whether the receipts are those of the first `count` steps.
 fn are_first(alloc: Global, receipts: &[Receipt], count: usize) -> bool {
     for (receipt, (number, (ask, _, said))) in receipts.iter().zip(STEPS.iter().enumerate()) {
         let is_of = match asked(alloc, *ask) {
@@ -79,7 +79,7 @@ fn are_first(alloc: Global, receipts: &[Receipt], count: usize) -> bool {
     receipts.len() == count
 }
 
-/// Whether the step is answered, at once or when it is asked again: out of memory left the receipts, and the next number.
+/// Whether the step succeeds, at once or when it is tried again. Out of memory leaves the receipts, and the next number.
 fn is_done<R: Threads + Wait + Sync>(
     rt: &R,
     alloc: Global,
@@ -145,7 +145,7 @@ fn is_left_by_steps<R: Threads + Wait + Sync>(
     }
 }
 
-/// Whether the audit finds nothing, at once or when it is asked again.
+/// Whether the audit finds nothing, at once or when it is tried again.
 fn is_sound(alloc: Global, log: &[Entry], sessions: &[Session]) -> bool {
     match audit(alloc, 1, log, sessions) {
         Ok(()) => true,
@@ -155,7 +155,7 @@ fn is_sound(alloc: Global, log: &[Entry], sessions: &[Session]) -> bool {
     }
 }
 
-/// Whether a closed desk leaves the steps' log and engine, with so many entries.
+/// Whether a closed desk leaves the log and the engine of the steps, with so many entries.
 fn is_whole<R: Threads + Wait + Sync>(
     rt: &R,
     alloc: Global,
@@ -190,7 +190,7 @@ fn goes_on<R: Threads + Wait + Sync>(
     }
 }
 
-/// Whether the desk is closed over the steps; or is refused memory, goes on, and is then closed.
+/// Whether the desk is closed over the steps; or is refused memory, serves another command, and is then closed.
 fn is_closed<R: Threads + Wait + Sync>(
     rt: &R,
     alloc: Global,
@@ -205,7 +205,8 @@ fn is_closed<R: Threads + Wait + Sync>(
     }
 }
 
-/// Whether a new desk answers so. Where there was no memory for the desk or a list of its session, there is nothing to ask.
+/// Whether all this holds for a new desk. If there is no memory for the desk or the list of its sessions, there is nothing
+/// to test.
 fn is_right<R: Threads + Wait + Sync>(rt: &R, alloc: Global) -> bool {
     let Ok(desk) = Desk::new(alloc, 1) else {
         return true;
@@ -220,8 +221,8 @@ fn is_right<R: Threads + Wait + Sync>(rt: &R, alloc: Global) -> bool {
     }
 }
 
-/// With any one allocation refused, each call is answered, or says out of memory, changes nothing, and is answered when it is
-/// asked again.
+/// With any one allocation refused, each call succeeds, or returns out of memory, changes nothing, and succeeds when it is
+/// tried again.
 #[test]
 fn a_refused_allocation(rt: HostRuntime) {
     assert!(rt; is_right(&rt, rt.alloc()));

@@ -11,7 +11,7 @@ use std::thread::{Threads, join};
 /// How often a race is run.
 const RACES: u32 = 50;
 
-/// The length of the log that the desk is closed over with one session more; none where it is not closed.
+/// The length of the log over which the desk is closed with one more session; None if it is not closed.
 fn closed_with<R: Wait>(
     rt: &R,
     desk: Desk,
@@ -24,8 +24,8 @@ fn closed_with<R: Wait>(
     }
 }
 
-/// Whether a desk that is closed while the session runs a command is closed over an empty log, and the session is told so; or
-/// has that command in its log, is not closed without its receipt, and is closed with it.
+/// Whether a desk that is closed while the session runs a command is closed over an empty log, and the session gets that
+/// result; or has that command in its log, is not closed without its receipt, and is closed with it.
 fn is_before_or_behind<R: Threads + Wait + Sync>(
     rt: &R,
     alloc: Global,
@@ -94,8 +94,8 @@ fn did_at<R: Threads + Wait + Sync>(
     }
 }
 
-/// Whether a session whose turn has come while another halts the desk is served or told `Halted`, as the log has it, and is
-/// told `Halted` at its next turn.
+/// Whether a session whose turn comes while another halts the desk is served or gets `Halted`, as the log says, and gets
+/// `Halted` at its next turn.
 fn is_served_or_halted<R: Threads + Wait + Sync>(
     rt: &R,
     alloc: Global,
@@ -127,8 +127,8 @@ fn halted_while_a_turn_is_taken(rt: HostRuntime) -> Result<(), Fail> {
     Ok(())
 }
 
-/// A desk of three and two of its sessions, which have done these works one beside the other where the third was dropped behind
-/// its own turn, if it has one; none where a command was not answered with its number.
+/// A desk of three and two of its sessions, after these did their work beside one another. The third was dropped after its
+/// own turn, if it has one. None if a command did not get its number.
 fn without_one<R: Threads + Wait + Sync>(
     rt: &R,
     alloc: Global,
@@ -159,8 +159,8 @@ fn is_closed_over_two<R: Wait>(rt: &R, left: Option<(Desk, Vec<Session>)>) -> bo
     }
 }
 
-/// Who waits for a turn waits for the log alone: any other session may run the command that was awaited of a session
-/// that is dropped.
+/// A session that waits for a turn waits only for the log: any other session may run the command that a dropped session
+/// would have run.
 #[test]
 fn a_session_dropped_before_its_turn(rt: HostRuntime) -> Result<(), Fail> {
     let works = [(0, Work::Undo), (0, Work::UndoAt(1))];
@@ -169,7 +169,7 @@ fn a_session_dropped_before_its_turn(rt: HostRuntime) -> Result<(), Fail> {
     Ok(())
 }
 
-/// Whether the desk is not closed, for want of the receipt of entry 0, and not either when it is asked again.
+/// Whether the desk is not closed because the receipt of entry 0 is missing, and not at the second attempt either.
 fn is_missed<R: Wait>(rt: &R, left: Option<(Desk, Vec<Session>)>) -> bool {
     let missing = CloseFault::Missing(0);
     match left {
@@ -181,8 +181,8 @@ fn is_missed<R: Wait>(rt: &R, left: Option<(Desk, Vec<Session>)>) -> bool {
     }
 }
 
-/// Of a session that is dropped behind its first turn another runs the next: who waits is served, and no close is
-/// answered without the receipt that is gone.
+/// After a session is dropped after its first turn, another runs the next one. The waiting session is served, and no close
+/// succeeds without the missing receipt.
 #[test]
 fn a_session_dropped_behind_its_turn(rt: HostRuntime) -> Result<(), Fail> {
     let works = [(0, Work::UndoAt(1)), (0, Work::UndoAt(2))];

@@ -1,4 +1,4 @@
-//! A worked log of three entries, and what a desk answers where its receipts are altered.
+//! A worked log of three entries, and what a desk returns if its receipts are altered.
 
 use crate::calls::{
     Ask, Row, Said, are_answered, closed_over, command, is_closed_over, opened, refused,
@@ -12,7 +12,7 @@ use std::test::Fail;
 use std::thread::Threads;
 use undo_journal::{Bytes, Command, Reply};
 
-/// Three commands of two sessions on one thread: of session 0, of 1, and of 0 again.
+/// Three commands of two sessions on one thread: by session 0, by 1, and by 0 again.
 const COMMANDS: [Row; 4] = [
     (0, None, Ask::Make("/x"), Ok((0, Said::Done))),
     (1, None, Ask::Current("/x"), Ok((1, Said::Text(b"0\n")))),
@@ -23,10 +23,10 @@ const COMMANDS: [Row; 4] = [
 /// The log's entries are of these sessions.
 const LOG: [u8; 3] = [0, 1, 0];
 
-/// The number, what was run, and what was replied.
+/// The number, the command, and the reply.
 type Noted = (u64, Ask, Said);
 
-/// The receipt that says so.
+/// The receipt with these values.
 fn receipt(alloc: Global, noted: Noted) -> Option<Receipt> {
     let (number, ask, said) = noted;
     let command = command(alloc, ask)?;
@@ -63,7 +63,7 @@ fn receipts(alloc: Global, all: &[Noted]) -> Option<Vec<Receipt>> {
     Some(receipts)
 }
 
-/// A desk where the three commands were answered as they should be.
+/// A desk after the three commands got their replies.
 fn three_commands<R: Threads + Wait + Sync>(
     rt: &R,
     alloc: Global,
@@ -90,7 +90,7 @@ fn nothing_is_altered(rt: HostRuntime) -> Result<(), Fail> {
     Ok(())
 }
 
-/// Gives the session these receipts, and takes those that it had.
+/// Gives the session these receipts, and returns those that it had.
 fn exchange(sessions: &mut [Session], number: usize, receipts: Vec<Receipt>) -> Vec<Receipt> {
     match sessions.get_mut(number) {
         Some(session) => mem::replace(&mut session.receipts, receipts),
@@ -104,8 +104,8 @@ const NEXT: [Row; 1] = [(1, None, Ask::Locate(1), Ok((3, Said::Text(b"0::/\n")))
 /// The log's entries after it.
 const LOG_AND_NEXT: [u8; 4] = [0, 1, 0, 1];
 
-/// Whether the desk is not closed with those receipts of the session, for that fault; then it serves one more command, and is
-/// closed with the session's own receipts.
+/// Whether the desk is not closed with those receipts of the session, for that fault; then it serves one more command, and
+/// is closed with the session's own receipts.
 fn is_closed_behind<R: Threads + Wait + Sync>(
     rt: &R,
     alloc: Global,
@@ -126,7 +126,7 @@ fn is_closed_behind<R: Threads + Wait + Sync>(
     }
 }
 
-/// Whether the desk says so of these receipts of the session, and is closed with its own.
+/// Whether the desk returns this for these receipts of the session, and is closed with its own.
 fn is_found<R: Threads + Wait + Sync>(
     rt: &R,
     alloc: Global,
@@ -189,7 +189,7 @@ fn renumber(sessions: &mut [Session], number: u8) {
 /// What the other session gets after the close.
 const ENDED: [Row; 1] = [(0, None, Ask::Locate(1), Err(RunFault::Halted))];
 
-/// Whether the desk is closed with the first session alone, over one entry, and the other answers `Halted`.
+/// Whether the desk is closed with only the first session, over one entry, and the other returns `Halted`.
 fn is_closed_with_first<R: Threads + Wait + Sync>(
     rt: &R,
     alloc: Global,
@@ -201,7 +201,7 @@ fn is_closed_with_first<R: Threads + Wait + Sync>(
     Ok(is_closed && are_answered(rt, alloc, others.as_mut_slice(), &ENDED))
 }
 
-/// Whether the desk is not closed where the first session has another number, and is closed with it alone under its own.
+/// Whether the desk is not closed if the first session has another number, and is closed with it alone under its own number.
 fn is_renumbered<R: Threads + Wait + Sync>(
     rt: &R,
     alloc: Global,
@@ -221,7 +221,7 @@ fn is_renumbered<R: Threads + Wait + Sync>(
 /// One command of session 0.
 const MADE: [Row; 1] = [(0, None, Ask::Make("/x"), Ok((0, Said::Done)))];
 
-/// Whether the desk is not closed with session 1 alone, and goes on as above.
+/// Whether the desk is not closed with only session 1, and goes on as above.
 fn is_left_out<R: Threads + Wait + Sync>(rt: &R, alloc: Global) -> Result<bool, AllocError> {
     let (desk, mut sessions) = opened(alloc, 2)?;
     if !are_answered(rt, alloc, sessions.as_mut_slice(), &MADE) {
@@ -237,22 +237,21 @@ fn is_left_out<R: Threads + Wait + Sync>(rt: &R, alloc: Global) -> Result<bool, 
     }
 }
 
-/// One command of session 0. Then session 1 alone is handed in, session 0 under another number, and
-/// session 0 alone.
+/// One command of session 0. Then only session 1 is handed in, then session 0 under another number, then only session 0.
 #[test]
 fn session_is_left_out_or_renumbered(rt: HostRuntime) -> Result<(), Fail> {
     assert!(rt; is_left_out(&rt, rt.alloc())?);
     Ok(())
 }
 
-/// The length of the log of a desk whose one session has another number.
+/// The length of the log of a desk whose only session has another number.
 fn closed_under_another<R: Wait>(rt: &R, alloc: Global) -> Result<Option<usize>, AllocError> {
     let (desk, mut sessions) = opened(alloc, 1)?;
     renumber(sessions.as_mut_slice(), 5);
     Ok(closed_over(rt, desk, sessions))
 }
 
-/// Nothing is asked of a session without receipts.
+/// A session without receipts needs nothing.
 #[test]
 fn session_without_receipts_may_have_any_number(rt: HostRuntime) -> Result<(), Fail> {
     assert!(rt; closed_under_another(&rt, rt.alloc())? == Some(0));

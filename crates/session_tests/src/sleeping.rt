@@ -11,12 +11,8 @@ use std::thread::{Threads, join};
 /// The condition variable that a thread sleeps on, and the turn that it waits for.
 type Sleeper = (u8, u64);
 
-/// What both of two threads are answered that wait at the desk.
-fn both<R: Threads + Wait + Sync>(
-    rt: &R,
-    desk: &Desk,
-    sleepers: [Sleeper; 2],
-) -> [Option<u64>; 2] {
+/// The results of two threads that wait at the desk.
+fn both<R: Threads + Wait + Sync>(rt: &R, desk: &Desk, sleepers: [Sleeper; 2]) -> [Option<u64>; 2] {
     let [(first, early), (second, late)] = sleepers;
     let (first, second) = join(
         rt,
@@ -26,7 +22,7 @@ fn both<R: Threads + Wait + Sync>(
     [first, second]
 }
 
-/// The session does these works one after another, each behind a pause, so that those who wait sleep.
+/// The session does these works one after another, each after a pause, so that those who wait are asleep.
 fn works<R: Threads + Wait + Sync>(rt: &R, alloc: Global, session: &mut Session, works: &[Work]) {
     for work in works {
         pause(SLEEP);
@@ -34,7 +30,7 @@ fn works<R: Threads + Wait + Sync>(rt: &R, alloc: Global, session: &mut Session,
     }
 }
 
-/// What two threads are answered that wait while the session does these works.
+/// The results of two threads that wait while the session does these works.
 fn answers<R: Threads + Wait + Sync>(
     rt: &R,
     alloc: Global,
@@ -64,7 +60,7 @@ fn has_come(answer: Option<u64>, turn: u64, len: u64) -> bool {
 /// Three commands.
 const COMMANDS: &[Work] = &[Work::Undo, Work::Undo, Work::Undo];
 
-/// Two that wait are woken when their turns have come, in either order, on one condition variable and on two.
+/// Two waiting threads are woken when their turns have come, in either order, on one condition variable and on two.
 #[test]
 fn turns_that_come(rt: HostRuntime) -> Result<(), Fail> {
     let rows = [
@@ -83,7 +79,7 @@ fn turns_that_come(rt: HostRuntime) -> Result<(), Fail> {
     Ok(())
 }
 
-/// A halt wakes all who wait for turns that never come, also for the greatest.
+/// A halt wakes all who wait for turns that never come, even for the greatest.
 #[test]
 fn turns_of_a_halted_desk(rt: HostRuntime) -> Result<(), Fail> {
     for turn in FAR_TURNS {
@@ -98,7 +94,7 @@ fn turns_of_a_halted_desk(rt: HostRuntime) -> Result<(), Fail> {
     Ok(())
 }
 
-/// What is answered at once, behind this work of the only session.
+/// The result that comes at once, after this work of the only session.
 fn answered_behind<R: Threads + Wait + Sync>(
     rt: &R,
     alloc: Global,
@@ -112,7 +108,7 @@ fn answered_behind<R: Threads + Wait + Sync>(
     Ok(desk.wait_for(rt, 0, turn))
 }
 
-/// Nobody sleeps whose turn has come, or at a desk that is halted.
+/// No thread sleeps if its turn has come, or at a desk that is halted.
 #[test]
 fn no_sleep(rt: HostRuntime) -> Result<(), Fail> {
     let rows = [

@@ -9,7 +9,7 @@ use std::test::Fail;
 use std::thread::Threads;
 use undo_journal::{Command, Refusal, Reply};
 
-/// Whether the root has process 1 alone.
+/// Whether process 1 is alone in the root.
 fn is_one_alone(alloc: Global, engine: &DeskEngine) -> Result<bool, Fail> {
     let root = GroupPath::root(alloc)?;
     match engine.charges().members(alloc, &root)? {
@@ -21,7 +21,7 @@ fn is_one_alone(alloc: Global, engine: &DeskEngine) -> Result<bool, Fail> {
     }
 }
 
-/// Whether two sessions fork a hundred processes each, and all are taken back.
+/// Whether two sessions fork a hundred processes each, and all are undone.
 fn are_forked<R: Threads + Wait + Sync>(rt: &R, alloc: Global) -> Result<bool, Fail> {
     let works = [(0, Work::Fork(1000)), (0, Work::Fork(2000))];
     let mut dids = [(0, None); 2];
@@ -34,14 +34,14 @@ fn are_forked<R: Threads + Wait + Sync>(rt: &R, alloc: Global) -> Result<bool, F
     Ok(is_one_alone(alloc, &closed.engine)? && is_right)
 }
 
-/// Two sessions fork a hundred processes each, and all are taken back.
+/// Two sessions fork a hundred processes each, and all are undone.
 #[test]
 fn forks_of_two(rt: HostRuntime) -> Result<(), Fail> {
     assert!(rt; are_forked(&rt, rt.alloc())?);
     Ok(())
 }
 
-/// What a log counts: groups made, those taken back, and answers of another kind.
+/// What a log counts: groups made, those undone, and replies of another kind.
 #[derive(Clone, Copy)]
 struct Kinds {
     made: usize,
@@ -81,8 +81,8 @@ const CONTENDERS: [(u32, Work); 8] = [
     (0, Work::Contend("/s7")),
 ];
 
-/// How many entries there are, of how many another kind was answered, and whether as many groups are there as were made and
-/// not taken back.
+/// How many entries there are, how many have a reply of another kind, and whether as many groups exist as were made and not
+/// undone.
 fn counted_in_contention<R: Threads + Wait + Sync>(
     rt: &R,
     alloc: Global,
@@ -117,7 +117,7 @@ fn turns_of_two(rt: HostRuntime) {
     assert!(rt; is_worked(&rt, rt.alloc(), 2, &works, &[(500, None); 2], &order));
 }
 
-/// Whether of two calls for one turn one runs, and the other is told that it has passed; the desk is closed.
+/// Whether of two calls for one turn one runs, and the other returns that it has passed; the desk is closed.
 fn is_one_passed<R: Threads + Wait + Sync>(rt: &R, alloc: Global) -> bool {
     let works = [
         (0, Work::UndoAt(0)),
@@ -131,7 +131,7 @@ fn is_one_passed<R: Threads + Wait + Sync>(rt: &R, alloc: Global) -> bool {
     is_closed && (dids == [ran, ran, passed] || dids == [ran, passed, ran])
 }
 
-/// Of two calls for one turn one runs, and the other is told that it has passed.
+/// Of two calls for one turn one runs, and the other returns that it has passed.
 #[test]
 fn one_of_two_passes(rt: HostRuntime) {
     for _ in 0..100 {

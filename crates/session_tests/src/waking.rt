@@ -2,7 +2,7 @@
 
 use crate::works::{Work, is_worked};
 
-/// What each session does where this one is the last of eight: the first comes late, so that the others sleep.
+/// What each session does if this one is the last of eight: the first one starts late, so that the others sleep.
 fn works_of(last: usize) -> [(u32, Work); 8] {
     let mut works = [(0, Work::Rest); 8];
     for (number, work) in works.iter_mut().enumerate() {
@@ -22,7 +22,7 @@ fn order_of(last: usize) -> [u8; 8] {
     order
 }
 
-/// Each of eight sessions is once the last to be woken.
+/// Each of eight sessions is the last to be woken, in turn.
 #[test]
 fn each_is_woken_last(rt: HostRuntime) {
     for last in 0..8usize {

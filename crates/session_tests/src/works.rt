@@ -14,36 +14,36 @@ use undo_journal::{Command, Reply};
 pub(crate) enum Work {
     /// Nothing.
     Rest,
-    /// Undoes what is newest.
+    /// Undoes the newest command.
     Undo,
     /// The same at this turn.
     UndoAt(u64),
-    /// The same at every other turn from this one on, of a thousand.
+    /// The same at every other turn from this one on, out of a thousand.
     UndoByTurns(u64),
-    /// Has process 1 fork a hundred, from this number on.
+    /// Process 1 forks a hundred, from this number on.
     Fork(u32),
-    /// Makes this group and undoes what is newest, ten times.
+    /// Makes this group and undoes the newest command, ten times.
     Contend(&'static str),
     /// Halts the desk.
     Halt,
-    /// Undoes what is newest, and halts the desk.
+    /// Undoes the newest command, and halts the desk.
     UndoAndHalt,
 }
 
-/// How many commands were answered as they should be, and the fault of the last that was not.
+/// How many commands got the expected replies, and the fault of the last that did not.
 pub(crate) type Did = (u32, Option<RunFault>);
 
-/// Gives way to other threads so often.
+/// Yields to other threads so many times.
 pub(crate) fn pause(times: u32) {
     for _ in 0..times {
         yield_now();
     }
 }
 
-/// So many pauses, after which a session that waits sleeps.
+/// So many pauses, after which a waiting session is asleep.
 pub(crate) const SLEEP: u32 = 100_000;
 
-/// Turns that no log of these tests reaches, the greatest among them.
+/// Turns that no log of these tests reaches, including the greatest.
 pub(crate) const FAR_TURNS: [u64; 3] = [5, u64::MAX - 1, u64::MAX];
 
 /// How often a session undoes by turns, forks, and contends.
@@ -122,7 +122,7 @@ fn contends<R: Threads + Wait + Sync>(
     (right, None)
 }
 
-/// Does the work behind so many pauses.
+/// Does the work after so many pauses.
 pub(crate) fn does<R: Threads + Wait + Sync>(
     rt: &R,
     alloc: Global,
@@ -153,7 +153,7 @@ pub(crate) fn does<R: Threads + Wait + Sync>(
 /// A session, its pauses and its work.
 pub(crate) type Job = (Session, u32, Work);
 
-/// Does the work, and gives the session back.
+/// Does the work, and returns the session.
 pub(crate) fn finished<R: Threads + Wait + Sync>(
     rt: &R,
     alloc: Global,
@@ -203,7 +203,7 @@ pub(crate) fn worked<R: Threads + Wait + Sync>(
     parted(alloc, done, dids)
 }
 
-/// What a desk of so many sessions leaves that do these works; none also where it is not closed.
+/// What a desk with so many sessions that do these works leaves; None also if it is not closed.
 pub(crate) fn ended<R: Threads + Wait + Sync>(
     rt: &R,
     alloc: Global,

@@ -6,7 +6,7 @@ use replay_main::{DeviceFault, Sink, Source};
 use std::alloc::Global;
 use std::sync::atomic::{AtomicU64, Ordering};
 
-/// Copies a text into the front of a buffer, as far as there is room, and tells how many bytes.
+/// Copies a text into the front of a buffer, as far as there is room, and returns how many bytes.
 fn fill(buf: &mut [u8], text: &[u8]) -> usize
     ensures { result ≤ length buf.new }
 {
@@ -15,8 +15,7 @@ fn fill(buf: &mut [u8], text: &[u8]) -> usize
     count
 }
 
-/// Asks, and asks on only once all that it is to be told so far is flushed. Where it is not, the
-/// read fails.
+/// Gives its next text only when the output so far is flushed. If it is not, the read fails.
 #[derive(Drop)]
 pub(crate) struct Asker<'a> {
     rows: &'a [(&'a str, &'a str)],
@@ -27,7 +26,7 @@ pub(crate) struct Asker<'a> {
 }
 
 impl<'a> Asker<'a> {
-    /// Asks the first text of each row, and then waits for the second.
+    /// Gives the first text of each row, then waits for the second.
     pub(crate) fn new(rows: &'a [(&'a str, &'a str)], flushed: &'a AtomicU64) -> Asker<'a>
         ensures { result.is_failed ≡ false }
     {
@@ -62,7 +61,7 @@ impl<'a> Source for Asker<'a> {
     }
 }
 
-/// Takes three bytes at a time, and tells at each flush how many were taken.
+/// Takes three bytes at a time, and reports at each flush how many were taken.
 #[derive(Drop)]
 pub(crate) struct Listener<'a> {
     bytes: Vec<u8>,
@@ -114,7 +113,7 @@ impl<'a> Sink for Listener<'a> {
     }
 }
 
-/// Gives a text in pieces of so many bytes, and then ends, or fails.
+/// Gives a text in pieces of so many bytes, then ends or fails.
 #[derive(Drop)]
 pub(crate) struct Pieces<'a> {
     pub(crate) rest: &'a [u8],
@@ -140,7 +139,7 @@ impl<'a> Source for Pieces<'a> {
     }
 }
 
-/// Takes so many bytes, two at a time, and fails at the next, or at the flush behind so many.
+/// Takes so many bytes, two at a time, and fails at the next, or at the flush after so many.
 #[derive(Drop)]
 pub(crate) struct Narrow {
     bytes: Vec<u8>,

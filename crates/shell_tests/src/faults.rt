@@ -1,4 +1,4 @@
-//! Faults of a shell, by devices that fail, and when out of memory.
+//! Faults of a shell: failing devices, and out of memory.
 
 use crate::devices::{Narrow, Pieces};
 use replay_main::{MemorySink, MemorySource, Summary};
@@ -15,7 +15,7 @@ pub(crate) const SIX: Summary = Summary {
     refused: 0,
 };
 
-/// How many bytes are read before a read fails, and how many bytes of answers are out by then.
+/// How many bytes are read before a read fails, and how many bytes of output are flushed by then.
 const READS: [(usize, usize); 7] = [
     (0, 0),
     (8, 0),
@@ -42,7 +42,7 @@ fn a_failing_read(rt: HostRuntime) {
     }
 }
 
-/// The room, how often a flush succeeds, what is answered, and how many bytes are written.
+/// The room, how many flushes succeed, the result, and how many bytes are written.
 const WRITES: [(usize, usize, Result<Summary, ShellFault>, usize); 7] = [
     (0, 9, Err(ShellFault::Write), 0),
     (7, 9, Err(ShellFault::Write), 7),
@@ -67,7 +67,8 @@ fn a_failing_write(rt: HostRuntime) {
     }
 }
 
-/// With any one allocation refused, either all is answered, or a prefix of it.
+/// With any one allocation refused, either all lines are answered, or the output is a prefix of
+/// that.
 #[test]
 fn a_refused_allocation(rt: HostRuntime) {
     let mut reader = MemorySource::new(TEXT);

@@ -1,12 +1,12 @@
 //! Tests of the shell.
 //!
-//! They ask what no contract says: that lines are answered where there is memory, and what devices
-//! that fail or wait for an answer see. Expected answers were written by hand.
+//! They test what no contract says: that lines are answered if there is memory, and what devices
+//! that fail or wait for an answer see. Expected output was written by hand.
 //!
-//! - `talks`: a source that gives a line only once the answer to the one before was flushed.
-//! - `traces`: lines with their answers, in whatever pieces they come.
+//! - `talks`: a source that gives a line only after the output for the one before was flushed.
+//! - `traces`: lines with their output, in whatever pieces they arrive.
 //! - `faults`: reads, writes and flushes that fail, and a refused allocation.
-//! - `programs`: the command line, what the program does by it, its statuses and messages.
+//! - `programs`: the command line, what the program does for it, its statuses and messages.
 //! - `devices`: the sources and sinks of these tests.
 #![tactic(auto)]
 

@@ -1,4 +1,4 @@
-//! The command line, what the program does by it, and how it ends.
+//! The command line, what the program does for it, and how it ends.
 
 use crate::devices::Narrow;
 use crate::faults::{ANSWERS, TEXT};
@@ -45,7 +45,7 @@ fn programs(rt: HostRuntime) -> Result<(), Fail> {
     Ok(())
 }
 
-/// A help text for which there is no room, and one that is not flushed.
+/// A help text for which there is no room, and one that can't be flushed.
 #[test]
 fn help_that_is_not_out(rt: HostRuntime) -> Result<(), Fail> {
     let args = owned(rt.alloc(), &["cgshell", "--help"])?;

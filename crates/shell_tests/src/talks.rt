@@ -1,11 +1,11 @@
-//! A talk: each text is asked only once the answer to the one before is out.
+//! A talk: each text is given only after the output for the one before is flushed.
 
 use crate::devices::{Asker, Listener};
 use replay_main::Summary;
 use shell_main::shell;
 use std::sync::atomic::AtomicU64;
 
-/// What is asked, and what has to be out before the next is asked.
+/// What is given, and what has to be flushed before the next text is given.
 const TALK: [(&str, &str); 12] = [
     ("mkdir /a\n", "1 ok\n"),
     ("fork 1 2\n", "2 ok\n"),
@@ -21,7 +21,7 @@ const TALK: [(&str, &str); 12] = [
     ("cat /a cgroup.events", "11 ok\n| populated 0\n| frozen 0\n"),
 ];
 
-/// All but the last row, whose line has no line feed: the end of the source ends it.
+/// The last row has no line feed: the end of the source ends its line.
 #[test]
 fn each_answer_before_the_next_question(rt: HostRuntime) {
     let rows = TALK.as_slice();

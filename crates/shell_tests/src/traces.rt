@@ -1,4 +1,4 @@
-//! Lines and their answers, in whatever pieces the lines come.
+//! Lines and their output, in whatever pieces the lines arrive.
 
 use crate::devices::Pieces;
 use replay_main::{MemorySink, Summary};
@@ -7,7 +7,7 @@ use std::alloc::Global;
 use std::sync::Wait;
 use std::thread::Threads;
 
-/// Each source with its answers.
+/// Each source with its output.
 const TRACES: [(&str, &str); 8] = [
     ("", ""),
     ("\n\n# nothing\n \t\r\n", ""),
@@ -31,7 +31,7 @@ const TRACES: [(&str, &str); 8] = [
     ),
 ];
 
-/// What a shell writes to a source that comes in pieces of so many bytes.
+/// What a shell writes for a source that comes in pieces of so many bytes.
 fn written<R: Threads + Wait + Sync>(
     rt: &R,
     alloc: Global,

@@ -3,7 +3,7 @@
 use replay_main::Gate;
 use std::sync::atomic::{AtomicBool, AtomicU64, Ordering};
 
-/// How often a part polls for another before it is a miss.
+/// How many times a part polls for another before it counts a miss.
 const TURNS: u64 = 100_000_000;
 
 /// A flag for each part, and how many of the others a part has missed.
@@ -14,7 +14,7 @@ pub struct PhaseBarrier {
 }
 
 impl PhaseBarrier {
-    /// No part has come yet.
+    /// A barrier at which no part has arrived.
     pub fn new() -> PhaseBarrier {
         PhaseBarrier {
             flags: [
@@ -37,7 +37,7 @@ impl PhaseBarrier {
         self.misses.load(Ordering::SeqCst)
     }
 
-    /// Whether every part has come.
+    /// Whether every part has arrived.
     pub fn is_full(&self) -> bool {
         for at in 0..9 {
             if !self.flags[at].load(Ordering::SeqCst) {
@@ -47,7 +47,7 @@ impl PhaseBarrier {
         true
     }
 
-    /// Waits for the part at this place.
+    /// Waits for the part with this index.
     fn wait_for(&self, at: usize) {
         if at >= 9 {
             return;

@@ -1,13 +1,12 @@
 //! Tests of the replay by several workers, and of the rehearsal of the same trace.
 //!
-//! They ask what no contract says: that every number of workers gives the bytes of one where there is
-//! memory, and that three workers are three threads in each phase, which meet.
+//! They test what no contract says: that every number of workers writes the bytes of one worker if there is memory, and that
+//! three workers are three threads in each phase, which meet.
 //!
-//! - `replays`: a trace with a kill and its undo by 1, 2, 3 and 8 workers, by a rehearsal, and
-//!   with a barrier.
+//! - `replays`: a trace with a kill and its undo by 1, 2, 3 and 8 workers, by a rehearsal, and with a barrier.
 //! - `runs`: traces of so many lines that a worker runs several commands in a row.
 //! - `barrier`: where all parts of a phase have to meet.
-//! - `messages`: what is said of a line that is no command.
+//! - `messages`: the messages for lines that are not commands.
 #![tactic(auto)]
 
 #[cfg(test)]

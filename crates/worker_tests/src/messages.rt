@@ -1,4 +1,4 @@
-//! What is said of a line of a trace that is no command.
+//! The messages for lines of a trace that are not commands.
 
 use replay_main::TextFault;
 use std::test::Fail;

@@ -1,4 +1,4 @@
-//! Traces of so many lines that a worker runs several commands in a row, beside the same traces by one worker.
+//! Traces of so many lines that a worker runs several commands in a row, compared with one worker.
 
 ghost use Rattle.std.specs.Prelude.{◌≤◌};
 
@@ -8,7 +8,7 @@ use std::sync::Wait;
 use std::test::Fail;
 use std::thread::Threads;
 
-/// Lines that leave what they found, each answered by what the ones before it did.
+/// Lines that leave what they found. The output of each depends on the ones before it.
 const ROUND: &[u8] = b"mkdir /a\nfork 1 2\nwrite /a cgroup.procs 2\ncat /a pids.current\nexit 2\n\
 rmdir /a\nundo\nundo\nundo\nundo\nundo\nundo\n# no command\nwhere 2\n";
 
@@ -24,7 +24,7 @@ fn rounds(alloc: Global, times: u64) -> Result<Vec<u8>, AllocError> {
     Ok(trace)
 }
 
-/// What this trace is answered.
+/// The output for this trace.
 fn replayed<R: Threads + Wait + Sync>(
     rt: &R,
     alloc: Global,
@@ -39,7 +39,7 @@ fn replayed<R: Threads + Wait + Sync>(
     Ok((summary, sink))
 }
 
-/// Whether 2, 3 and 8 workers answer so many rounds as one does.
+/// Whether 2, 3 and 8 workers have the output of one for so many rounds.
 fn are_alike<R: Threads + Wait + Sync>(rt: &R, alloc: Global, times: u64) -> Result<bool, Fail> {
     let trace = rounds(alloc, times)?;
     let (wanted, answers) = replayed(rt, alloc, trace.as_slice(), 1)?;
@@ -51,7 +51,7 @@ fn are_alike<R: Threads + Wait + Sync>(rt: &R, alloc: Global, times: u64) -> Res
     Ok(is_alike)
 }
 
-/// From 65 commands on two workers run two in a row, from 97 on three workers, from 257 on eight: 5, 8 and 20 rounds.
+/// From 65 commands on, two workers run two in a row; from 97 on, three workers; from 257 on, eight: 5, 8 and 20 rounds.
 #[test]
 fn commands_in_a_row(rt: HostRuntime) -> Result<(), Fail> {
     for times in [4u64, 5, 7, 8, 19, 20, 100] {
