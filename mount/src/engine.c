@@ -13,9 +13,6 @@
 
 enum { LINE_MAX = 8192, TIME_MAX = 48, FIRST_ANSWER = 16384, FORGET_AT = 1024, REPLAYED_MAX = 16777216 };
 
-/* A library without it keeps what could be undone. */
-extern uint32_t mk_forget(mk_handle *h) __attribute__((weak));
-
 static pthread_mutex_t lock = PTHREAD_MUTEX_INITIALIZER;
 static mk_handle engine;
 static struct kept *trace, *answers;
@@ -221,7 +218,7 @@ static int ask_and_keep(void)
 	line[size] = 0;
 	if (has_history && !make_room(&standing, standing.size + size))
 		return -ENOMEM;
-	if (!has_history && mk_forget && engine_depth() >= FORGET_AT)
+	if (!has_history && engine_depth() >= FORGET_AT)
 		mk_forget(&engine);
 	if (trace->fd >= 0 && (fault = keep_line(&size)))
 		return fault;
