@@ -18,7 +18,7 @@ func (h *Hierarchy) Changes() (uint64, error) {
 	status := C.mk_changes(&h.handle, &changes)
 	runtime.KeepAlive(h)
 	if status != C.MK_DONE {
-		return 0, failure(command{text: "changes"}, uint32(status), C.mk_info{}, nil)
+		return 0, failure(command{text: "changes"}, uint32(status), 0, nil)
 	}
 	return uint64(changes), nil
 }
@@ -42,7 +42,7 @@ func (h *Hierarchy) Wait(ctx context.Context, seen uint64) (uint64, error) {
 			return uint64(changes), nil
 		}
 		if status != C.MK_TIMED_OUT {
-			return 0, failure(command{text: "wait"}, uint32(status), C.mk_info{}, nil)
+			return 0, failure(command{text: "wait"}, uint32(status), 0, nil)
 		}
 		if err := ctx.Err(); err != nil {
 			return 0, err

@@ -100,12 +100,18 @@ func pathFault(path string) (PathFault, int) {
 	return PathFault(fault), int(position)
 }
 
-func failure(what command, status uint32, info C.mk_info, answer []byte) error {
+// failed is the error of a call that names a path, which Fail may have let fail.
+func failed(what command, status uint32, info C.mk_info, answer []byte) error {
+	if status == C.MK_FAILED {
+		return fmt.Errorf("%s: %w (asked for by Fail)", what.text, syscall.Errno(info.error))
+	}
+	return failure(what, status, Code(info.code), answer)
+}
+
+func failure(what command, status uint32, code Code, answer []byte) error {
 	switch status {
 	case C.MK_REFUSED, C.MK_FAULT:
-		return refusal(what, Code(info.code), answer)
-	case C.MK_FAILED:
-		return fmt.Errorf("%s: %w (asked for by Fail)", what.text, syscall.Errno(info.error))
+		return refusal(what, code, answer)
 	case C.MK_CLOSED:
 		return fmt.Errorf("%s: %w", what.text, ErrClosed)
 	case C.MK_BUSY:

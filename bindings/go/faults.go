@@ -36,7 +36,7 @@ func (h *Hierarchy) plan(what, path string, plan func(*C.char, *C.mk_info) C.uin
 	if status == C.MK_DONE {
 		return nil
 	}
-	return failure(command{text: what, path: path, hasPath: true}, uint32(status), info, nil)
+	return failed(command{text: what, path: path, hasPath: true}, uint32(status), info, nil)
 }
 
 // ClearFaults drops the faults that have not come, and returns how many they were.
@@ -45,7 +45,7 @@ func (h *Hierarchy) ClearFaults() (int, error) {
 	status := C.mk_clear_faults(&h.handle, &left)
 	runtime.KeepAlive(h)
 	if status != C.MK_DONE {
-		return 0, failure(command{text: "clear faults"}, uint32(status), C.mk_info{}, nil)
+		return 0, failure(command{text: "clear faults"}, uint32(status), 0, nil)
 	}
 	return int(left), nil
 }

@@ -74,7 +74,7 @@ func (h *Hierarchy) put(group, name string, data []byte, self int) error {
 	case C.MK_REFUSED, C.MK_FAULT, C.MK_FAILED:
 		return syscall.Errno(info.error)
 	default:
-		return failure(command{text: "write"}, uint32(status), info, nil)
+		return failed(command{text: "write"}, uint32(status), info, nil)
 	}
 }
 

@@ -46,9 +46,9 @@ func (h *Hierarchy) Groups(path string) ([]string, error) {
 		return groups, nil
 	}
 	if fault, _ := pathFault(path); fault != 0 {
-		return nil, failure(what, C.MK_FAULT, C.mk_info{code: C.MK_PATH}, nil)
+		return nil, failure(what, C.MK_FAULT, BadPath, nil)
 	}
-	return nil, failure(what, C.MK_REFUSED, C.mk_info{code: C.MK_NO_GROUP}, nil)
+	return nil, failure(what, C.MK_REFUSED, NoGroup, nil)
 }
 
 // HasGroup says whether there is such a group.

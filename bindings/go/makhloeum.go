@@ -95,7 +95,7 @@ func (c *call) told(what command, do func() C.uint32_t) ([]byte, error) {
 		case status == C.MK_TOO_SMALL && len(c.out) < C.MK_ANSWER_MAX:
 			c.out = make([]byte, grown(len(c.out), int(c.info.needed)))
 		default:
-			return nil, failure(what, uint32(status), c.info, told)
+			return nil, failed(what, uint32(status), c.info, told)
 		}
 	}
 }
@@ -224,7 +224,7 @@ func (h *Hierarchy) Depth() (int, error) {
 	status := C.mk_depth(&h.handle, &depth)
 	runtime.KeepAlive(h)
 	if status != C.MK_DONE {
-		return 0, failure(command{text: "depth"}, uint32(status), C.mk_info{}, nil)
+		return 0, failure(command{text: "depth"}, uint32(status), 0, nil)
 	}
 	return int(depth), nil
 }

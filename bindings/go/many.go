@@ -45,7 +45,7 @@ func (h *Hierarchy) ReadMany(files []File) ([]Text, error) {
 			break
 		}
 		if status != C.MK_TOO_SMALL {
-			return nil, failure(command{text: "read many"}, uint32(status), info, nil)
+			return nil, failed(command{text: "read many"}, uint32(status), info, nil)
 		}
 		out = make([]byte, info.needed)
 	}
@@ -56,7 +56,7 @@ func (h *Hierarchy) ReadMany(files []File) ([]Text, error) {
 			continue
 		}
 		what := command{text: "read " + files[i].Path + " " + files[i].Name, path: files[i].Path, hasPath: true}
-		all[i].Err = failure(what, uint32(it.status), C.mk_info{code: it.code, error: it.error}, nil)
+		all[i].Err = failed(what, uint32(it.status), C.mk_info{code: it.code, error: it.error}, nil)
 	}
 	return all, nil
 }

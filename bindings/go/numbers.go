@@ -29,7 +29,7 @@ func (h *Hierarchy) number(what, path string, read func(path *C.char, info *C.mk
 	if status == C.MK_DONE {
 		return nil
 	}
-	return failure(command{text: what + " " + path, path: path, hasPath: true}, uint32(status), info, nil)
+	return failed(command{text: what + " " + path, path: path, hasPath: true}, uint32(status), info, nil)
 }
 
 // Current returns pids.current: the number of processes of the group and of the groups below it.
@@ -104,7 +104,7 @@ func (h *Hierarchy) UndoTo(mark int) error {
 	if status == C.MK_DONE {
 		return nil
 	}
-	return failure(command{text: fmt.Sprint("undo to ", mark)}, uint32(status), info, nil)
+	return failed(command{text: fmt.Sprint("undo to ", mark)}, uint32(status), info, nil)
 }
 
 // Reset undoes all recorded commands.
