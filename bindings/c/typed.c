@@ -124,7 +124,8 @@ static uint32_t read_number(mk_handle *h, const char *path, number_call *call, u
     uint64_t found = 0;
     uint32_t status = enter(h, &engine);
     if (status == MK_DONE) {
-        status = call(engine, (const uint8_t *)path, strlen(path), &found, &told);
+        status = faults_before(engine, (const uint8_t *)path, strlen(path), &told);
+        if (status == MK_DONE) status = call(engine, (const uint8_t *)path, strlen(path), &found, &told);
         leave(engine);
     }
     *value = found;
