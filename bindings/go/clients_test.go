@@ -59,9 +59,9 @@ func TestChangesAreCounted(t *testing.T) {
 			t.Error(changes, err)
 		}
 	}
+	start := time.Now()
 	ctx, cancel := context.WithTimeout(context.Background(), 120*time.Millisecond)
 	defer cancel()
-	start := time.Now()
 	if _, err := h.Wait(ctx, 2); !errors.Is(err, context.DeadlineExceeded) || time.Since(start) < 120*time.Millisecond {
 		t.Error(err, time.Since(start))
 	}
