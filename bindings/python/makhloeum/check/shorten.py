@@ -3,12 +3,12 @@
 from __future__ import annotations
 
 import time
-from typing import Callable, Iterator, Optional
+from typing import Callable, Iterator, List, Optional
 
 from .engine import Words
 from .playing import Difference
 
-Try = Callable[[list[Words]], Optional[Difference]]
+Try = Callable[[List[Words]], Optional[Difference]]
 
 
 def shorten(found: Difference, retry: Try, seconds: float) -> Difference:
