@@ -114,13 +114,25 @@ def workers():
 # ---- no difference
 
 
-def same_on(name, mount, count):
+def same_on(name, mount, count, *words):
     with mount as m:
-        status, out, said = check(m.at, "--count", str(count), "--seed", "7")
+        status, out, said = check(m.at, "--count", str(count), "--seed", "7", *words)
         told = re.search(r"^(\d+) operations in .*, (\d+) differences$", out, re.M)
         step(f"{name}: no difference", status == 0 and told and told[2] == "0", out + said)
         step(f"{name}: {told and told[1]} operations", told and int(told[1]) >= count, out)
         step(f"{name}: nothing is left", m.groups() == [], m.groups())
+
+
+def same_under_run():
+    """There limits refuse real forks, and /proc/PID/cgroup shows the group."""
+    command = [MAKHLOEUM, "run", "--", *CHECK, "/sys/fs/cgroup", "--count", "1500", "--no-worked"]
+    ran = subprocess.run(command, capture_output=True, text=True, timeout=300)
+    if ran.returncode == 2 and "does not allow" in ran.stderr:
+        print("look/test-check: makhloeum run: skipped, " + ran.stderr.strip())
+        return
+    told = re.search(r"^(\d+) operations in .*, 0 differences$", ran.stdout, re.M)
+    step("makhloeum run: no difference", ran.returncode == 0 and told and int(told[1]) >= 1500, ran.stdout + ran.stderr)
+    step("makhloeum run: forks are stopped", "cannot stop it" not in ran.stdout, ran.stdout)
 
 
 # ---- planted faults
@@ -265,8 +277,9 @@ def progress():
 
 unusable()
 same_on("mount --adopt", adopting(), OPERATIONS)
-same_on("mount --adopt --extra", adopting("--extra"), 300)
-same_on("the small file system", faulty("none"), 1000)
+same_on("mount --adopt --extra", adopting("--extra"), 300, "--no-worked")
+same_on("the small file system", faulty("none"), 800, "--no-worked")
+same_under_run()
 progress()
 catch_all()
 hanging()

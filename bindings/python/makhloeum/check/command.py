@@ -126,7 +126,8 @@ class _Check:
         self.counts.began += time.monotonic() - began  # the rate is that of what is counted
         self._kinds.add(short.kind())
         print(f"difference: {' '.join(short.played[-1])}: {'; '.join(explained(short))}")
-        print(f"({name}; {len(found.played)} operations, made {len(short.played)})")
+        made = "it did not show again" if short is found else f"made {len(short.played)}"
+        print(f"({name}; {len(found.played)} operations, {made})")
         print("\n".join(shell_script(short, os.path.abspath(self._options.directory), self._has_control)) + "\n", flush=True)
 
     def told(self) -> str:

@@ -3,16 +3,17 @@
 from __future__ import annotations
 
 import time
-from typing import Callable, Iterator, Optional
+from typing import Callable, Iterator, List, Optional
 
 from .engine import Words
 from .playing import Difference
 
-Try = Callable[[list[Words]], Optional[Difference]]
+Try = Callable[[List[Words]], Optional[Difference]]
 
 
 def shorten(found: Difference, retry: Try, seconds: float) -> Difference:
-    """The shortest difference that is found in these seconds. `retry` plays commands anew."""
+    """The shortest difference that is found in these seconds. `retry` plays commands anew. It is `found` itself if that does
+    not show again."""
     end = time.monotonic() + seconds
     best = found
 
@@ -24,7 +25,7 @@ def shorten(found: Difference, retry: Try, seconds: float) -> Difference:
         best = again
         return True
 
-    changed = True
+    changed = still(found.played)
     while changed and time.monotonic() < end:
         length = len(best.played)
         _remove(best.played, still)
