@@ -1,7 +1,6 @@
 -- The cells and the lists stay tied when a process comes, changes its slot or leaves.
 use Rattle.std.proofs.Common.{◌≡◌, ◌≢◌, ℕ, zero, suc, ◌+◌, ◌<◌, ◌≤◌, Bool, true, false, cond, eqb, Option, Some, None, List, [], ◌∷◌, ◌++◌, length, count_by, get_or, refl, sym, ap, ◌∙◌, subst, arith, length-append}
-use Rattle.std.specs.Option.{option_map, MatchOption}
-use Rattle.std.specs.List.Sorted.{IsPermutation}
+use Rattle.std.specs.Option.{option_map}
 use Rattle.std.proofs.lemmas.Bool.{eqb-true, eqb-false, eq-eqb, ne_eqb}
 use Rattle.std.proofs.lemmas.List.{get_or_append_left, get_or_push}
 use Rattle.process_table.specs.declared.process.Cell.{Cell}
@@ -9,7 +8,7 @@ use Rattle.process_table.specs.Cells.{at_place}
 use Rattle.process_table.specs.Rows.{pid_count}
 use Rattle.process_table.specs.Lists.{list_at, IsAt, IsRead, HasLeft}
 use Rattle.process_table.specs.Tied.{in_slot, owed, IsTied, Owes}
-use Rattle.process_table.proofs.RowLaws.{count_by-cons, count-same, count-other}
+use Rattle.process_table.proofs.RowLaws.{count_by-cons, count-same}
 use Rattle.process_table.proofs.SameNumbers.{count-IsPermutation}
 
 -- ---- lists of numbers

@@ -49,10 +49,11 @@ impl<A: Allocator + Clone> Homed<A> {
         slot: u16,
         leaf: u8,
     ) -> Result<Option<(u16, u8)>, AllocError> {
-        let Some(path) = self.homes.get(usize::from(slot)) else {
+        let at = usize::from(slot);
+        if at >= self.homes.len() {
             return Err(AllocError);
-        };
-        let home = path.copy(self.alloc.clone()?)?;
+        }
+        let home = self.homes[at].copy(self.alloc.clone()?)?;
         match self.table.insert(pid, Process { home, slot, leaf }) {
             Err(error) => Err(error),
             Ok(None) => Ok(None),

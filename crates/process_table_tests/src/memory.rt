@@ -114,7 +114,7 @@ fn an_empty_page_is_given_back(rt: HostRuntime) -> Result<(), Fail> {
             table.put(pid, 1, 0)?.is_none() && table.put(pid, 1, 1)?.is_some(),
             "at {pid}"
         );
-        assert!(rt; kept + 2048 < heap.used(), "at {pid}");
+        assert!(rt; kept.saturating_add(2048) < heap.used(), "at {pid}");
         assert!(rt;
             table.take(pid).is_some() && heap.used() == kept,
             "at {pid}"

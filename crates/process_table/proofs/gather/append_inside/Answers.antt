@@ -1,4 +1,4 @@
-use Rattle.std.proofs.Common.{ℕ, ◌+◌, cond, eqb, count_by, sym, ap, ◌∙◌}
+use Rattle.std.proofs.Common.{◌+◌, cond, eqb, count_by, sym, ap, ◌∙◌}
 use Rattle.process_table.specs.Cells.{cell_at}
 use Rattle.process_table.specs.Lists.{list_at}
 use Rattle.process_table.proofs.Gathered.{count-append, appended}

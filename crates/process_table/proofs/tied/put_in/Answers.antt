@@ -1,4 +1,4 @@
-use Rattle.std.proofs.Common.{◌≡◌, ℕ, Some, None, subst, sym, ◌∙◌}
+use Rattle.std.proofs.Common.{◌≡◌, Some, subst, sym, ◌∙◌}
 use Rattle.process_table.specs.declared.process.Cell.{Cell}
 use Rattle.process_table.specs.Cells.{cell_at}
 use Rattle.process_table.specs.Tied.{Owes}

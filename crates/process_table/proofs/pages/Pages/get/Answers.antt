@@ -1,4 +1,4 @@
-use Rattle.std.proofs.Common.{ℕ, ◌/◌, ◌<◌, ◌≤◌, length, sym, ◌∙◌, arith}
+use Rattle.std.proofs.Common.{◌/◌, ◌<◌, ◌≤◌, length, sym, ◌∙◌, arith}
 use Rattle.process_table.proofs.Paged.{cell_here, no_page}
 use Rattle.process_table.proofs.pages.Pages.get.Goals as goal
 

@@ -1,4 +1,4 @@
-use Rattle.std.proofs.Common.{◌≡◌, ℕ, ◌/◌, ◌<◌, List, length, sym, ap, ◌∙◌, arith}
+use Rattle.std.proofs.Common.{◌/◌, ◌<◌, length, ap, ◌∙◌}
 use Rattle.process_table.specs.Cells.{cell_at}
 use Rattle.process_table.proofs.Paged.{same_cells, wrote_alike}
 use Rattle.process_table.proofs.pages.Pages.grow.Goals as goal

@@ -1,4 +1,4 @@
-use Rattle.std.proofs.Common.{[], ap, ◌∙◌, get_or}
+use Rattle.std.proofs.Common.{[], ◌∙◌}
 use Rattle.process_table.proofs.Paged.{read-padded}
 use Rattle.process_table.proofs.pages.Pages.lengthen.Goals as goal
 

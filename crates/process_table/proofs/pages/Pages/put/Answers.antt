@@ -1,4 +1,4 @@
-use Rattle.std.proofs.Common.{◌≡◌, ℕ, ◌/◌, ◌%◌, ◌<◌, ◌≤◌, [], Some, List, length, get_or, subst, sym, ap, ◌∙◌}
+use Rattle.std.proofs.Common.{◌/◌, ◌%◌, ◌<◌, [], Some, length, subst, sym, ◌∙◌}
 use Rattle.std.proofs.lemmas.List.{get_or_read}
 use Rattle.process_table.specs.Cells.{HasPage}
 use Rattle.process_table.proofs.Paged.{cell_here, wrote, kept_within}

@@ -1,4 +1,4 @@
-use Rattle.std.proofs.Common.{◌≡◌, ℕ, ◌/◌, ◌%◌, ◌<◌, ◌≤◌, None, List, length, refl, sym, ap, ◌∙◌, arith}
+use Rattle.std.proofs.Common.{◌/◌, ◌%◌, ◌<◌, ◌≤◌, None, length, refl, sym, ◌∙◌, arith}
 use Rattle.process_table.proofs.Paged.{cell_here, wrote_as, kept_read, no_page, none_there}
 use Rattle.process_table.proofs.pages.Pages.take.Goals as goal
 

@@ -1,4 +1,4 @@
-use Rattle.std.proofs.Common.{ℕ, List, ◌++◌, eqb, count_by, sym, ap, ◌∙◌}
+use Rattle.std.proofs.Common.{◌++◌, eqb, count_by, ap, ◌∙◌}
 use Rattle.process_table.specs.Cells.{cell_at}
 use Rattle.process_table.specs.Lists.{list_at}
 use Rattle.process_table.proofs.Gathered.{member_counted}
