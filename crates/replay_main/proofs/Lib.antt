@@ -6,3 +6,4 @@ pub mod ScriptLaws
 pub mod PointCuts
 pub mod Passes
 pub mod Rehearsals
+pub mod TurnSteps

@@ -103,8 +103,8 @@ fn answer_at_a_desk<R: Threads + Wait + Sync, G: Gate>(
 /// # Errors
 ///
 /// `Read` where a read failed; `InputTooLong` past `TRACE_MAX` bytes; `OutOfMemory`; `Close`, from two
-/// workers on, where the desk was not closed or its log has not the commands of the trace. In all
-/// these nothing was written. `Write` where a write or the flush failed or a write took no bytes; then a prefix of the
+/// workers on, where the desk was not closed or its log has not the commands of the trace, each of its
+/// session. In all these nothing was written. `Write` where a write or the flush failed or a write took no bytes; then a prefix of the
 /// answers was written.
 pub fn replay<R: Threads + Wait + Sync, S: Source, W: Sink>(
     rt: &R,
