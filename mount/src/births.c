@@ -87,7 +87,7 @@ bool births_first(pid_t program)
 {
 	unsigned reservation;
 	struct thread *t = threads_add(program, program);
-	if (!t || link_reserve(0, NULL, &reservation) || link_born(reservation, program))
+	if (!t || link_reserve(0, NULL, &reservation) || link_born(reservation, program, &t->frozen))
 		return false;
 	t->started = t->counted = true;
 	return true;
@@ -216,6 +216,7 @@ static struct thread *settle(struct birth *b, pid_t child)
 {
 	struct thread *t = NULL;
 	int fault = 0;
+	bool frozen = false;
 	if (b->told)
 		return threads_find(child);
 	if (!b->creator)
@@ -226,11 +227,12 @@ static struct thread *settle(struct birth *b, pid_t child)
 	if (!ended && !(t = threads_add(child, b->is_thread ? b->process : child)))
 		fault = -ENOMEM;
 	else if (!b->is_thread) {
-		fault = link_born(b->reservation, child);
+		fault = link_born(b->reservation, child, &frozen);
 		b->reserved = false;
 	}
 	if (t) {
 		t->made_by = b;
+		t->frozen |= frozen;
 		t->counted = !b->is_thread && fault == 0;
 	} else if (!b->is_thread && fault == 0)
 		link_exited(child);

@@ -1,5 +1,6 @@
 #include "control.h"
 #include "engine.h"
+#include "freezer.h"
 #include "number.h"
 #include "operations.h"
 #include "watch.h"
@@ -141,6 +142,7 @@ static int undo(unsigned long count)
 			return fault;
 		const char *command = engine_text(&size);
 		tell_undone(command, size);
+		freezer_check("/");
 	}
 	return 0;
 }

@@ -35,8 +35,11 @@ step "exec ls /sys/fs/cgroup" $R exec c1 /bin/ls /sys/fs/cgroup
 refused "exec that forks beyond the limit" "temporarily unavailable" $R exec c1 /bin/sh -c 'for i in 1 2 3 4 5 6 7 8 9; do sleep 1 & done; wait'
 step "the refused fork is counted" sh -c "! grep -qx 'max 0' $g/pids.events"
 soon "three processes again" grep -qx 3 $g/pids.current
-refused "pause: cgroup.freeze is a constant" "not supported" $R pause c1
-step "state: still running" sh -c "$R state c1 | grep -q '\"running\"'"
+step "pause" $R pause c1
+soon "frozen 1" grep -qx "frozen 1" $g/cgroup.events
+step "state: paused" sh -c "$R state c1 | grep -q '\"paused\"'"
+step "resume" $R resume c1
+step "state: running again" sh -c "$R state c1 | grep -q '\"running\"'"
 step "kill --all KILL" $R kill --all c1 KILL
 soon "populated 0" grep -qx "populated 0" $g/cgroup.events
 soon "state: stopped" sh -c "$R state c1 | grep -q '\"stopped\"'"
