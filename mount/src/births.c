@@ -4,6 +4,7 @@
 #include "link.h"
 #include "place.h"
 #include "registers.h"
+#include "spaces.h"
 #include <errno.h>
 #include <limits.h>
 #include <signal.h>
@@ -21,7 +22,7 @@ struct birth {
 	unsigned long ticket;
 	struct thread *creator;  /* NULL: gone */
 	pid_t process, child;
-	bool is_thread, reads, reserved, told, runs; /* runs: the call is being made */
+	bool is_thread, has_space, reads, reserved, told, runs; /* has_space: in a cgroup namespace of its own; runs: the call is being made */
 	int fault;               /* where told: what the call is to answer instead of a child */
 	unsigned reservation;
 	long long given_up_at;
@@ -124,6 +125,7 @@ static void make(struct thread *t, struct birth *b, long number, struct clone_re
 {
 	bool goes_on;
 	b->is_thread = args->flags & CLONE_THREAD;
+	b->has_space = args->flags & CLONE_NEWCGROUP;
 	if (!b->is_thread) {
 		int fault = link_reserve(b->process, group, &b->reservation);
 		if (fault) {
@@ -234,6 +236,8 @@ static struct thread *settle(struct birth *b, pid_t child)
 		t->made_by = b;
 		t->frozen |= frozen;
 		t->counted = !b->is_thread && fault == 0;
+		if (b->has_space && fault == 0)
+			link_space(spaces_of(child), b->process);
 	} else if (!b->is_thread && fault == 0)
 		link_exited(child);
 	if (fault) {

@@ -31,7 +31,7 @@ static int may_open(mode_t mode, int flags)
 
 static int open_control(const char *path, struct fuse_file_info *fi)
 {
-	int file = control_find(path);
+	long file = control_find(path);
 	int fault = file < 0 ? -ENOENT : may_open(control_mode(file), fi->flags);
 	if (fault)
 		return fault;

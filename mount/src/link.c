@@ -3,6 +3,7 @@
 #include "freezer.h"
 #include "place.h"
 #include "reported.h"
+#include "spaces.h"
 #include <errno.h>
 #include <pthread.h>
 #include <stdint.h>
@@ -12,7 +13,7 @@
 #include <sys/socket.h>
 #include <unistd.h>
 
-enum what { RESERVE, BORN, CANCEL, EXITED, STOPPED, ORDER };
+enum what { RESERVE, BORN, CANCEL, EXITED, STOPPED, ORDER, SPACE };
 
 /* Only the beginning of a question is sent: as far as its text reaches. */
 struct question {
@@ -52,6 +53,9 @@ static void answer(const struct question *q, struct reply *r)
 		break;
 	case STOPPED:
 		freezer_told(q->pid, q->stopped);
+		break;
+	case SPACE:
+		spaces_made(q->reservation, q->pid);
 		break;
 	case ORDER:
 		if (!freezer_order(&r->result, &r->stops))
@@ -152,4 +156,11 @@ bool link_order(pid_t *pid, bool *stop)
 	*pid = r.result;
 	*stop = r.stops;
 	return r.result > 0;
+}
+
+void link_space(unsigned number, pid_t maker)
+{
+	struct question q = { .what = SPACE, .pid = maker, .reservation = number };
+	struct reply r;
+	ask(&q, NULL, &r);
 }

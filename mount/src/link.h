@@ -22,6 +22,8 @@ void link_cancel(unsigned reservation);
 void link_exited(pid_t pid);
 /* All threads of a frozen process rest; or no longer. */
 void link_stopped(pid_t pid, bool stopped);
+/* A process has made a cgroup namespace. */
+void link_space(unsigned number, pid_t maker);
 /* The next process that is to stop or to go on; false: there is none. */
 bool link_order(pid_t *pid, bool *stop);
 

@@ -2,6 +2,7 @@
 #include "cleanup.h"
 #include "groups.h"
 #include "memory.h"
+#include "mounting.h"
 #include "opening.h"
 #include "procfiles.h"
 #include <fcntl.h>
@@ -129,10 +130,32 @@ static bool answer_open(int listener, const struct seccomp_notif *call)
 	return ioctl(listener, SECCOMP_IOCTL_NOTIF_ADDFD, &add) >= 0;
 }
 
+/* A caller that knows only the new calls gets ENOSYS, as on an older kernel, and takes mount then. */
+static bool answer_mount(int listener, const struct seccomp_notif *call)
+{
+	int error = ENOSYS;
+	bool answered = call->data.nr == __NR_mount ? mounting_takes(listener, call, &error) : mounting_opens(call);
+	if (answered)
+		respond(listener, call, error, 0);
+	return answered;
+}
+
+static bool answer(int listener, const struct seccomp_notif *call)
+{
+	switch (call->data.nr) {
+	case __NR_statfs:
+	case __NR_fstatfs:
+		return answer_statfs(listener, call);
+	case __NR_mount:
+	case __NR_fsopen:
+		return answer_mount(listener, call);
+	default:
+		return answer_open(listener, call);
+	}
+}
+
 void notified_answer(int listener, const struct seccomp_notif *call)
 {
-	bool is_statfs = call->data.nr == __NR_statfs || call->data.nr == __NR_fstatfs;
-	bool answered = is_statfs ? answer_statfs(listener, call) : answer_open(listener, call);
-	if (!answered)
+	if (!answer(listener, call))
 		notified_let_through(listener, call);
 }

@@ -2,6 +2,7 @@
 #include "births.h"
 #include "halts.h"
 #include "link.h"
+#include "spaces.h"
 #include "threads.h"
 #include <errno.h>
 #include <signal.h>
@@ -42,7 +43,10 @@ static void on_call(struct thread *t)
 		return;
 	if (call.op != PTRACE_SYSCALL_INFO_SECCOMP || halts_keeps(t, BEFORE_CALL))
 		return;
-	if (births_is_fork((long)call.seccomp.nr))
+	if (call.seccomp.nr == SYS_unshare) { /* what it made is looked at behind the call */
+		t->unshares = true;
+		ptrace(PTRACE_SYSCALL, t->id, 0, 0);
+	} else if (births_is_fork((long)call.seccomp.nr))
 		births_ask(t, (long)call.seccomp.nr);
 	else /* of a filter that the program made for a tracer of its own */
 		ptrace(PTRACE_CONT, t->id, 0, 0);
@@ -117,6 +121,9 @@ static void on_stop_of(pid_t id, struct thread *t, int status)
 	}
 	if (status == (SIGTRAP | 0x80)) {
 		births_returned(t);
+		if (t->unshares)
+			link_space(spaces_of(id), t->process);
+		t->unshares = false;
 		ptrace(PTRACE_CONT, id, 0, 0);
 	} else
 		ptrace(PTRACE_CONT, id, 0, signal);

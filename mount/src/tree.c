@@ -32,7 +32,7 @@ static int count_bytes(void *to, const char *text, size_t size)
 
 static int control_getattr(const char *path, struct stat *st)
 {
-	int file = control_find(path);
+	long file = control_find(path);
 	if (file == -ENOENT)
 		return -ENOENT;
 	if (file == CONTROL_ITSELF) {
@@ -97,7 +97,8 @@ static const char *path_of(const char *path, const struct fuse_file_info *fi, ch
 	if (o->file)
 		snprintf(out, size, "%s/%s", is_root(o->group) ? "" : o->group, o->file->name);
 	else if (o->control >= CONTROL_WHERE)
-		snprintf(out, size, "/%s.%d", control_directory, o->control - CONTROL_WHERE);
+		snprintf(out, size, "/%s.%ld.%ld", control_directory, (o->control - CONTROL_WHERE) % CONTROL_PIDS,
+		         (o->control - CONTROL_WHERE) / CONTROL_PIDS);
 	else if (o->control >= 0)
 		snprintf(out, size, "/%s/%s", control_directory, control_name(o->control));
 	else

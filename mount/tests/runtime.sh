@@ -14,7 +14,6 @@ import json, sys
 c = json.load(open(sys.argv[1]))
 c["process"].update(terminal=False, args=["/bin/sh", "-c", "sleep 40 & sleep 40 & wait"], env=["PATH=/bin"])
 c["linux"].update(cgroupsPath="/box", resources={"pids": {"limit": 12}})
-c["mounts"] = [m for m in c["mounts"] if m["type"] != "cgroup"]  # it would show the machine's own hierarchy
 json.dump(c, open(sys.argv[1], "w"))
 END
 R="$rt --root $w/root"

@@ -1,0 +1,66 @@
+#include "spaces.h"
+#include "engine.h"
+#include "place.h"
+#include <search.h>
+#include <stdio.h>
+#include <stdlib.h>
+#include <string.h>
+#include <sys/stat.h>
+
+/* The kernel uses a number again once its namespace has gone: so there are as many as were ever there at once. */
+struct space {
+	unsigned number;
+	char *root;
+};
+static void *all; /* a tree by number */
+
+static int by_number(const void *a, const void *b)
+{
+	unsigned one = ((const struct space *)a)->number, other = ((const struct space *)b)->number;
+	return one < other ? -1 : one > other;
+}
+
+static struct space *find(unsigned number)
+{
+	struct space wanted = { .number = number };
+	struct space *const *at = tfind(&wanted, &all, by_number);
+	return at ? *at : NULL;
+}
+
+void spaces_made(unsigned number, pid_t maker)
+{
+	char group[PATH_MAX_SAID];
+	WANTS_LOCK();
+	if (!engine_where(maker, group, sizeof group))
+		snprintf(group, sizeof group, "/");
+	char *root = strdup(group);
+	struct space *s = find(number);
+	if (s && root) {
+		free(s->root);
+		s->root = root;
+		return;
+	}
+	s = root ? malloc(sizeof *s) : NULL;
+	if (s) {
+		*s = (struct space){ number, root };
+		if (tsearch(s, &all, by_number))
+			return;
+	}
+	free(s);
+	free(root);
+}
+
+const char *spaces_root(unsigned number)
+{
+	WANTS_LOCK();
+	const struct space *s = find(number);
+	return s ? s->root : "/";
+}
+
+unsigned spaces_of(pid_t thread)
+{
+	char path[48];
+	struct stat st;
+	snprintf(path, sizeof path, "/proc/%d/ns/cgroup", thread);
+	return stat(path, &st) ? 0 : (unsigned)st.st_ino;
+}
