@@ -67,6 +67,7 @@ int filter_install(void)
 		SEEN_WITH(__NR_unshare, 0, CLONE_NEWCGROUP, SECCOMP_RET_TRACE),
 		SEEN_WITHOUT(__NR_mount, 3, other_mounts, SECCOMP_RET_USER_NOTIF),
 		SEEN(__NR_fsopen, SECCOMP_RET_USER_NOTIF),
+		SEEN(__NR_ptrace, SECCOMP_RET_USER_NOTIF),
 		SEEN(__NR_openat2, SECCOMP_RET_USER_NOTIF),
 		SEEN(__NR_statfs, SECCOMP_RET_USER_NOTIF),
 		SEEN(__NR_fstatfs, SECCOMP_RET_USER_NOTIF),

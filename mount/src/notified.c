@@ -5,13 +5,16 @@
 #include "mounting.h"
 #include "opening.h"
 #include "procfiles.h"
+#include "serve.h"
 #include <fcntl.h>
 #include <limits.h>
 #include <linux/magic.h>
 #include <linux/openat2.h>
 #include <poll.h>
+#include <stdatomic.h>
 #include <string.h>
 #include <sys/ioctl.h>
+#include <sys/ptrace.h>
 #include <sys/syscall.h>
 #include <sys/vfs.h>
 
@@ -140,6 +143,19 @@ static bool answer_mount(int listener, const struct seccomp_notif *call)
 	return answered;
 }
 
+/* A process has one tracer, and here that is the supervisor. The kernel refuses these too, but says nothing of the reason. */
+static bool answer_trace(int listener, const struct seccomp_notif *call)
+{
+	static atomic_flag said = ATOMIC_FLAG_INIT;
+	__u64 request = call->data.args[0];
+	if (request != PTRACE_TRACEME && request != PTRACE_ATTACH && request != PTRACE_SEIZE)
+		return false;
+	if (!atomic_flag_test_and_set(&said))
+		say("run traces every process itself: strace, gdb and other tracers do not work inside it");
+	respond(listener, call, EPERM, 0);
+	return true;
+}
+
 static bool answer(int listener, const struct seccomp_notif *call)
 {
 	switch (call->data.nr) {
@@ -149,6 +165,8 @@ static bool answer(int listener, const struct seccomp_notif *call)
 	case __NR_mount:
 	case __NR_fsopen:
 		return answer_mount(listener, call);
+	case __NR_ptrace:
+		return answer_trace(listener, call);
 	default:
 		return answer_open(listener, call);
 	}

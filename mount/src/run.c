@@ -1,5 +1,6 @@
 #include "run.h"
 #include "births.h"
+#include "cleanup.h"
 #include "engine.h"
 #include "filter.h"
 #include "freezer.h"
@@ -212,12 +213,28 @@ static void end_server(pid_t server, int end)
 	waitpid(server, &status, 0);
 }
 
+/* Whether a tracer is seen, as it is inside another run. */
+static bool is_traced(void)
+{
+	char line[128];
+	long tracer = 0;
+	cleanup_stream FILE *f = fopen("/proc/self/status", "re");
+	while (f && fgets(line, sizeof line, f))
+		if (strncmp(line, "TracerPid:", 10) == 0)
+			tracer = strtol(line + 10, NULL, 10);
+	return tracer != 0;
+}
+
 int run_program(char **program, const struct wishes *asked)
 {
 	struct wishes wishes = *asked;
 	sigset_t held, before;
 	int ends[2], freezer;
 	wishes.extra = true;
+	if (is_traced()) {
+		say("run does not work inside run, strace or gdb: this process is traced already, and has one tracer at most");
+		return REFUSED_HERE;
+	}
 	if (!serve_prepare(&wishes))
 		return REFUSED_HERE;
 	if (!space_enter(wishes.as_root))
