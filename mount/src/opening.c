@@ -132,11 +132,20 @@ static bool go_on_with(struct walk *w, const char *text)
 	return root >= 0;
 }
 
+/* A process in a container that has not mounted its own /proc yet sees this one, with the numbers that are used here. */
+static bool is_own_proc(int fd)
+{
+	struct statx st, own;
+	return statx(fd, "", AT_EMPTY_PATH | AT_STATX_DONT_SYNC, STATX_INO, &st) == 0 &&
+	       statx(AT_FDCWD, "/proc", AT_STATX_DONT_SYNC, STATX_INO, &own) == 0 && st.stx_dev_major == own.stx_dev_major &&
+	       st.stx_dev_minor == own.stx_dev_minor;
+}
+
 /* /proc/self and /proc/thread-self are what the thread is where that /proc was mounted. */
 static bool follow_self(struct walk *w, const char *name)
 {
 	char text[64];
-	bool same = opening_same_numbers(w->thread, getpid());
+	bool same = is_own_proc(w->at) || opening_same_numbers(w->thread, getpid());
 	pid_t process = same ? opening_process_of(w->thread) : status_number(w->thread, "NStgid:");
 	pid_t thread = same ? w->thread : status_number(w->thread, "NSpid:");
 	if (strcmp(name, "self") == 0)

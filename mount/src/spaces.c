@@ -1,30 +1,24 @@
 #include "spaces.h"
 #include "engine.h"
 #include "place.h"
-#include <search.h>
 #include <stdio.h>
 #include <stdlib.h>
 #include <string.h>
 #include <sys/stat.h>
 
 /* The kernel uses a number again once its namespace has gone: so there are as many as were ever there at once. */
-struct space {
+static struct space {
+	struct space *next;
 	unsigned number;
 	char *root;
-};
-static void *all; /* a tree by number */
-
-static int by_number(const void *a, const void *b)
-{
-	unsigned one = ((const struct space *)a)->number, other = ((const struct space *)b)->number;
-	return one < other ? -1 : one > other;
-}
+} *all;
 
 static struct space *find(unsigned number)
 {
-	struct space wanted = { .number = number };
-	struct space *const *at = tfind(&wanted, &all, by_number);
-	return at ? *at : NULL;
+	struct space *s = all;
+	while (s && s->number != number)
+		s = s->next;
+	return s;
 }
 
 void spaces_made(unsigned number, pid_t maker)
@@ -41,13 +35,12 @@ void spaces_made(unsigned number, pid_t maker)
 		return;
 	}
 	s = root ? malloc(sizeof *s) : NULL;
-	if (s) {
-		*s = (struct space){ number, root };
-		if (tsearch(s, &all, by_number))
-			return;
+	if (!s) {
+		free(root);
+		return;
 	}
-	free(s);
-	free(root);
+	*s = (struct space){ all, number, root };
+	all = s;
 }
 
 const char *spaces_root(unsigned number)
