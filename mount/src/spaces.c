@@ -10,15 +10,15 @@
 static struct space {
 	struct space *next;
 	unsigned number;
-	char *root;
+	char root[];
 } *all;
 
-static struct space *find(unsigned number)
+static struct space **find(unsigned number)
 {
-	struct space *s = all;
-	while (s && s->number != number)
-		s = s->next;
-	return s;
+	struct space **at = &all;
+	while (*at && (*at)->number != number)
+		at = &(*at)->next;
+	return at;
 }
 
 void spaces_made(unsigned number, pid_t maker)
@@ -27,26 +27,24 @@ void spaces_made(unsigned number, pid_t maker)
 	WANTS_LOCK();
 	if (!engine_where(maker, group, sizeof group))
 		snprintf(group, sizeof group, "/");
-	char *root = strdup(group);
-	struct space *s = find(number);
-	if (s && root) {
-		free(s->root);
-		s->root = root;
-		return;
+	struct space **at = find(number), *former = *at;
+	if (former) {
+		*at = former->next;
+		free(former);
 	}
-	s = root ? malloc(sizeof *s) : NULL;
-	if (!s) {
-		free(root);
+	size_t size = strlen(group) + 1;
+	struct space *s = malloc(sizeof *s + size);
+	if (!s) /* its root is the hierarchy's then */
 		return;
-	}
-	*s = (struct space){ all, number, root };
+	*s = (struct space){ .next = all, .number = number };
+	memcpy(s->root, group, size);
 	all = s;
 }
 
 const char *spaces_root(unsigned number)
 {
 	WANTS_LOCK();
-	const struct space *s = find(number);
+	const struct space *s = *find(number);
 	return s ? s->root : "/";
 }
 
