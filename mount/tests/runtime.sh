@@ -29,7 +29,8 @@ step "update --pids-limit 9" $R update --pids-limit 9 c1
 says "pids.max" 9 cat $g/pids.max
 [ "$rt" = runc ] && step "events --stats: current 3, limit 9" sh -c "$R events --stats c1 | grep -q '\"pids\":{\"current\":3,\"limit\":9}'"
 step "exec true" $R exec c1 /bin/true
-says "exec cat /proc/self/cgroup" 0::/box $R exec c1 /bin/cat /proc/self/cgroup
+says "exec cat /proc/self/cgroup: its namespace's root" 0::/ $R exec c1 /bin/cat /proc/self/cgroup
+says "the same from outside" 0::/box sh -c "cat /proc/\$(head -n 1 $g/cgroup.procs)/cgroup"
 step "exec ls /sys/fs/cgroup" $R exec c1 /bin/ls /sys/fs/cgroup
 refused "exec that forks beyond the limit" "temporarily unavailable" $R exec c1 /bin/sh -c 'for i in 1 2 3 4 5 6 7 8 9; do sleep 1 & done; wait'
 step "the refused fork is counted" sh -c "! grep -qx 'max 0' $g/pids.events"
