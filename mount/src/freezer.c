@@ -113,7 +113,7 @@ const char *freezer_text(const char *group, const struct file *file, const char 
 
 static bool add_order(pid_t pid)
 {
-	if (orders_end == orders_room) {
+	if (orders_end == orders_room && first_order > 0) {
 		memmove(orders, orders + first_order, (orders_end - first_order) * sizeof *orders);
 		orders_end -= first_order;
 		first_order = 0;

@@ -272,11 +272,11 @@ def signals():
 
 
 def itself():
-    """A process that freezes its own group stops in the write's return; another lets it go."""
+    """A process that freezes its own group stops soon after the write; another lets it go."""
     os.mkdir(AT + "/a")
-    one = subprocess.Popen(["sh", "-c", "echo 0 > %s/a/cgroup.procs; echo 1 > %s/a/cgroup.freeze; exit 5" % (AT, AT)])
+    one = subprocess.Popen(["sh", "-c", "echo 0 > %s/a/cgroup.procs; echo 1 > %s/a/cgroup.freeze; sleep 0.5; exit 5" % (AT, AT)])
     becomes("it stops", "/a", FROZEN)
-    time.sleep(0.1)
+    time.sleep(1)
     same("it has not ended", one.poll(), None)
     freeze("/a", 0)
     same("it ends", one.wait(PATIENCE), 5)
