@@ -4,6 +4,7 @@
 #include "link.h"
 #include "place.h"
 #include "registers.h"
+#include "spaces.h"
 #include <errno.h>
 #include <limits.h>
 #include <signal.h>
@@ -21,7 +22,7 @@ struct birth {
 	unsigned long ticket;
 	struct thread *creator;  /* NULL: gone */
 	pid_t process, child;
-	bool is_thread, reads, reserved, told, runs; /* runs: the call is being made */
+	bool is_thread, has_space, reads, reserved, told, runs; /* has_space: in a cgroup namespace of its own; runs: the call is being made */
 	int fault;               /* where told: what the call is to answer instead of a child */
 	unsigned reservation;
 	long long given_up_at;
@@ -87,7 +88,7 @@ bool births_first(pid_t program)
 {
 	unsigned reservation;
 	struct thread *t = threads_add(program, program);
-	if (!t || link_reserve(0, NULL, &reservation) || link_born(reservation, program))
+	if (!t || link_reserve(0, NULL, &reservation) || link_born(reservation, program, &t->frozen))
 		return false;
 	t->started = t->counted = true;
 	return true;
@@ -124,6 +125,7 @@ static void make(struct thread *t, struct birth *b, long number, struct clone_re
 {
 	bool goes_on;
 	b->is_thread = args->flags & CLONE_THREAD;
+	b->has_space = args->flags & CLONE_NEWCGROUP;
 	if (!b->is_thread) {
 		int fault = link_reserve(b->process, group, &b->reservation);
 		if (fault) {
@@ -216,6 +218,7 @@ static struct thread *settle(struct birth *b, pid_t child)
 {
 	struct thread *t = NULL;
 	int fault = 0;
+	bool frozen = false;
 	if (b->told)
 		return threads_find(child);
 	if (!b->creator)
@@ -226,12 +229,15 @@ static struct thread *settle(struct birth *b, pid_t child)
 	if (!ended && !(t = threads_add(child, b->is_thread ? b->process : child)))
 		fault = -ENOMEM;
 	else if (!b->is_thread) {
-		fault = link_born(b->reservation, child);
+		fault = link_born(b->reservation, child, &frozen);
 		b->reserved = false;
 	}
 	if (t) {
 		t->made_by = b;
+		t->frozen |= frozen;
 		t->counted = !b->is_thread && fault == 0;
+		if (b->has_space && fault == 0)
+			link_space(spaces_of(child), b->process);
 	} else if (!b->is_thread && fault == 0)
 		link_exited(child);
 	if (fault) {

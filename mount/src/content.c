@@ -1,10 +1,12 @@
 #include "control.h"
+#include "controllers.h"
 #include "engine.h"
+#include "freezer.h"
 #include "number.h"
 #include "opened.h"
 #include "operations.h"
 #include "real.h"
-#include "reported.h"
+#include "texts.h"
 #include "watch.h"
 #include <errno.h>
 #include <fcntl.h>
@@ -29,7 +31,7 @@ static int may_open(mode_t mode, int flags)
 
 static int open_control(const char *path, struct fuse_file_info *fi)
 {
-	int file = control_find(path);
+	long file = control_find(path);
 	int fault = file < 0 ? -ENOENT : may_open(control_mode(file), fi->flags);
 	if (fault)
 		return fault;
@@ -43,7 +45,7 @@ static int open_file(const char *path, struct fuse_file_info *fi)
 	int fault = place_of(path, &place);
 	if (fault)
 		return fault;
-	if (!place.file || engine_has_group(place.group))
+	if (!place.file || engine_has_group(place.group) || !controllers_have(place.group, place.file))
 		return -ENOENT;
 	if ((fault = may_open(file_mode(place.file), fi->flags)))
 		return fault;
@@ -68,21 +70,16 @@ static int keep(void *opened, const char *text, size_t size)
 static int begin_read(struct opened *o)
 {
 	size_t size;
+	const char *text;
 	if (!o->file)
 		return control_read(o->control, keep, o);
 	if (!o->file->readable)
 		return -EINVAL;
-	if (opened_is_gone(o))
+	if (opened_is_gone(o) || !controllers_have(o->group, o->file))
 		return -ENODEV;
-	if (o->file->constant)
-		return opened_keep(o, o->file->constant, strlen(o->file->constant));
 	real_sweep();
-	int fault = engine_line("cat %s %s", o->group, o->file->name);
-	if (fault)
-		return fault;
-	const char *text = engine_text(&size);
-	text = reported_text(o->group, o->file, text, &size);
-	return opened_keep(o, text, size);
+	int fault = texts_read(o->group, o->file, true, &text, &size);
+	return fault ? fault : opened_keep(o, text, size);
 }
 
 int content_read(const char *path, char *out, size_t size, off_t at, struct fuse_file_info *fi)
@@ -108,8 +105,11 @@ static int move(const struct opened *o, char said[SAID_MAX], pid_t writer)
 	if (fault)
 		return fault < 0 ? fault : 0;
 	bool was_there = engine_where(pid, from, sizeof from);
+	if (was_there && (fault = controllers_may_enter(o->group)))
+		return fault;
 	fault = engine_line("write %s %s %s", o->group, o->file->name, said);
 	if (fault == 0 && was_there) {
+		freezer_moved((pid_t)pid, o->group);
 		watch_above(from);
 		watch_above(o->group);
 	}
@@ -128,17 +128,6 @@ static int kill_group(const struct opened *o, const char *said)
 	return fault;
 }
 
-/* A constant takes what changes nothing. */
-static int write_constant(const struct file *file, const char *data, size_t size)
-{
-	size_t n = strlen(file->unchanged);
-	while (size && strchr(" \t\n\r", data[size - 1]) && data[size - 1])
-		size--;
-	if (size == 0 || (size == n && memcmp(data, file->unchanged, n) == 0))
-		return 0;
-	return -EOPNOTSUPP;
-}
-
 static int write_file(struct opened *o, const char *data, size_t size, pid_t writer)
 {
 	char said[SAID_MAX];
@@ -146,10 +135,10 @@ static int write_file(struct opened *o, const char *data, size_t size, pid_t wri
 		return control_write(o->control, data, size);
 	if (o->file->value == NOTHING)
 		return -EINVAL;
-	if (opened_is_gone(o))
+	if (opened_is_gone(o) || !controllers_have(o->group, o->file))
 		return -ENODEV;
-	if (o->file->value == NO_CHANGE)
-		return write_constant(o->file, data, size);
+	if (o->file->value == WRITES)
+		return o->file->write(o->group, o->file, data, size);
 	int fault = value_said(o->file->value, data, size, said);
 	if (fault)
 		return fault;

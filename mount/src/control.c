@@ -1,9 +1,12 @@
 #include "control.h"
 #include "engine.h"
+#include "freezer.h"
 #include "number.h"
 #include "operations.h"
+#include "spaces.h"
 #include "watch.h"
 #include <errno.h>
+#include <limits.h>
 #include <stdio.h>
 #include <stdlib.h>
 #include <string.h>
@@ -21,15 +24,21 @@ static const struct {
 	[TRACE] = { "trace", 0444, true }, [FORK] = { "fork", 0200, false },  [EXIT] = { "exit", 0200, false },
 };
 
-/* The process of /.makhloeum.PID, which is there under `run` and not listed: what it has is the text of /proc/PID/cgroup. */
+/* The process of /.makhloeum.PID.SPACE, which is there under `run` and not listed: what it has is the text of
+   /proc/PID/cgroup, as it is read in a cgroup namespace; of process 0, where the root of that namespace is. */
 static long where_of(const char *path)
 {
 	size_t n = sizeof control_directory - 1;
 	if (!look.marked || path[0] != '/' || strncmp(path + 1, control_directory, n) || path[n + 1] != '.')
 		return -1;
-	const char *number = path + n + 2;
-	size_t digits = strspn(number, "0123456789");
-	return digits && digits < 8 && number[digits] == 0 ? strtol(number, NULL, 10) : -1;
+	char *end;
+	const char *digits = "0123456789";
+	if (!strchr(digits, path[n + 2]) || !path[n + 2])
+		return -1;
+	unsigned long pid = strtoul(path + n + 2, &end, 10), space = 0;
+	if (*end == '.' && end[1] && strchr(digits, end[1]))
+		space = strtoul(end + 1, &end, 10);
+	return *end == 0 && pid < CONTROL_PIDS && space <= UINT_MAX ? (long)(space * CONTROL_PIDS + pid) : -1;
 }
 
 bool control_has(const char *path)
@@ -42,11 +51,11 @@ bool control_has(const char *path)
 	return path[0] == '/' && strncmp(path + 1, control_directory, n) == 0 && (path[n + 1] == 0 || path[n + 1] == '/');
 }
 
-int control_find(const char *path)
+long control_find(const char *path)
 {
 	const char *name = path + sizeof control_directory;
 	if (where_of(path) >= 0)
-		return CONTROL_WHERE + (int)where_of(path);
+		return CONTROL_WHERE + where_of(path);
 	if (*name == 0)
 		return CONTROL_ITSELF;
 	for (int i = 0; i < CONTROL_FILES; i++)
@@ -55,32 +64,35 @@ int control_find(const char *path)
 	return -ENOENT;
 }
 
-const char *control_name(int file)
+const char *control_name(long file)
 {
 	return files[file].name;
 }
 
-bool control_is_there(int file)
+bool control_is_there(long file)
 {
 	return look.history || !files[file].of_history;
 }
 
-mode_t control_mode(int file)
+mode_t control_mode(long file)
 {
 	return file >= CONTROL_WHERE ? 0444 : files[file].mode;
 }
 
 /* One that no supervisor knows is in the root, as all others of the machine. */
-static int read_where(long pid, int (*keep)(void *, const char *, size_t), void *to)
+static int read_where(long which, int (*keep)(void *, const char *, size_t), void *to)
 {
-	char group[PATH_MAX_SAID], text[PATH_MAX_SAID + 8];
+	char group[PATH_MAX_SAID], seen[PATH_MAX_SAID], text[PATH_MAX_SAID + 8];
+	long pid = which % CONTROL_PIDS;
+	const char *root = spaces_root((unsigned)(which / CONTROL_PIDS));
 	if (!engine_where(pid, group, sizeof group))
 		snprintf(group, sizeof group, "/");
-	int size = snprintf(text, sizeof text, "0::%s\n", group);
+	seen_from(root, group, seen);
+	int size = snprintf(text, sizeof text, "0::%s\n", pid ? seen : root);
 	return keep(to, text, (size_t)size);
 }
 
-int control_read(int file, int (*keep)(void *, const char *, size_t), void *to)
+int control_read(long file, int (*keep)(void *, const char *, size_t), void *to)
 {
 	char depth[32];
 	const char *text;
@@ -141,6 +153,7 @@ static int undo(unsigned long count)
 			return fault;
 		const char *command = engine_text(&size);
 		tell_undone(command, size);
+		freezer_check("/");
 	}
 	return 0;
 }
@@ -163,7 +176,7 @@ static int control_exit(unsigned long pid)
 	return fault;
 }
 
-int control_write(int file, const char *data, size_t size)
+int control_write(long file, const char *data, size_t size)
 {
 	unsigned long said[2];
 	WANTS_LOCK();

@@ -13,16 +13,16 @@ extern const char control_directory[]; /* its name, without a slash */
 bool control_has(const char *path);
 enum { CONTROL_ITSELF = -1 };
 /* The number of the file at such a path; CONTROL_ITSELF for the directory; -ENOENT. */
-int control_find(const char *path);
-enum { CONTROL_FILES = 6 };
-enum { CONTROL_WHERE = CONTROL_FILES }; /* and the number of a process: /.makhloeum.PID, under `run` */
-const char *control_name(int file);
-bool control_is_there(int file);
-mode_t control_mode(int file);
+long control_find(const char *path);
+enum { CONTROL_FILES = 6, CONTROL_PIDS = 4194304 };
+enum { CONTROL_WHERE = CONTROL_FILES }; /* and the number of a process and of a cgroup namespace: /.makhloeum.PID.SPACE, under `run` */
+const char *control_name(long file);
+bool control_is_there(long file);
+mode_t control_mode(long file);
 
 /* Both want the engine's lock. The text of a file: 0 or -errno, with what `keep` gave. */
-int control_read(int file, int (*keep)(void *, const char *, size_t), void *to);
+int control_read(long file, int (*keep)(void *, const char *, size_t), void *to);
 /* 0 or -errno. */
-int control_write(int file, const char *data, size_t size);
+int control_write(long file, const char *data, size_t size);
 
 #endif

@@ -1,26 +1,31 @@
 #include "files.h"
+#include "controllers.h"
+#include "freezer.h"
+#include "values.h"
 #include <string.h>
 
 static const struct file files[] = {
-	/* name                    root   read   value          notified constant unchanged */
-	{ "cgroup.procs",           true,  true,  A_PID,         false, NULL, NULL },
-	{ "cgroup.events",          false, true,  NOTHING,       true,  NULL, NULL },
-	{ "cgroup.stat",            true,  true,  NOTHING,       false, NULL, NULL },
-	{ "cgroup.max.descendants", true,  true,  A_COUNT,       false, NULL, NULL },
-	{ "cgroup.max.depth",       true,  true,  A_COUNT,       false, NULL, NULL },
-	{ "cgroup.kill",            false, false, A_ONE,         false, NULL, NULL },
-	{ "pids.max",               false, true,  A_PIDS_LIMIT,  false, NULL, NULL },
-	{ "pids.current",           false, true,  NOTHING,       false, NULL, NULL },
-	{ "pids.peak",              false, true,  NOTHING,       false, NULL, NULL },
-	{ "pids.events",            false, true,  NOTHING,       true,  NULL, NULL },
-	{ "pids.events.local",      false, true,  NOTHING,       true,  NULL, NULL },
-	/* Constants. The pids controller is on in every group, a group is always a domain, and nothing is ever frozen. */
-	{ "cgroup.controllers",     true,  true,  NOTHING,       false, "pids\n", NULL },
-	{ "cgroup.subtree_control", true,  true,  NO_CHANGE,     false, "pids\n", "+pids" },
-	{ "cgroup.type",            false, true,  NO_CHANGE,     false, "domain\n", "domain" },
-	{ "cgroup.freeze",          false, true,  NO_CHANGE,     false, "0\n", "0" },
-	{ "cpu.stat",               true,  true,  NOTHING,       false, "usage_usec 0\nuser_usec 0\nsystem_usec 0\n", NULL },
+	{ .name = "cgroup.procs", .on_root = true, .readable = true, .value = A_PID },
+	{ .name = "cgroup.events", .readable = true, .notified = true },
+	{ .name = "cgroup.stat", .on_root = true, .readable = true },
+	{ .name = "cgroup.max.descendants", .on_root = true, .readable = true, .value = A_COUNT },
+	{ .name = "cgroup.max.depth", .on_root = true, .readable = true, .value = A_COUNT },
+	{ .name = "cgroup.kill", .value = A_ONE },
+	{ .name = "pids.max", .readable = true, .value = A_PIDS_LIMIT, .controller = HAS_PIDS },
+	{ .name = "pids.current", .readable = true, .controller = HAS_PIDS },
+	{ .name = "pids.peak", .readable = true, .controller = HAS_PIDS },
+	{ .name = "pids.events", .readable = true, .notified = true, .controller = HAS_PIDS },
+	{ .name = "pids.events.local", .readable = true, .notified = true, .controller = HAS_PIDS },
+	/* What the engine does not have. */
+	{ .name = "cgroup.controllers", .on_root = true, .readable = true, .extra = true, .show = controllers_show },
+	{ .name = "cgroup.subtree_control", .on_root = true, .readable = true, .extra = true, .value = WRITES, .show = subtree_show,
+	  .write = subtree_write },
+	{ .name = "cgroup.type", .readable = true, .extra = true, .value = WRITES, .show = type_show, .write = type_write },
+	{ .name = "cgroup.freeze", .readable = true, .extra = true, .value = WRITES, .show = freezer_show, .write = freezer_write },
+	{ .name = "cpu.stat", .on_root = true, .readable = true, .extra = true, .show = cpu_stat_show },
 };
+
+enum { FILES = sizeof files / sizeof *files };
 
 static bool with_extra;
 
@@ -29,11 +34,24 @@ void files_use_extra(void)
 	with_extra = true;
 }
 
+static bool is_there(const struct file *f)
+{
+	return (!f->extra || with_extra) && (!f->controller || f->controller & (controllers_kept() | HAS_PIDS));
+}
+
+/* The i-th of both tables, or NULL. */
+static const struct file *entry(size_t i)
+{
+	return i < FILES ? &files[i] : i - FILES < values_count ? &values_files[i - FILES] : NULL;
+}
+
 const struct file *file_at(size_t i)
 {
-	if (i >= sizeof files / sizeof *files || (files[i].constant && !with_extra))
-		return NULL;
-	return &files[i];
+	const struct file *f;
+	for (size_t at = 0; (f = entry(at)); at++)
+		if (is_there(f) && i-- == 0)
+			break;
+	return f;
 }
 
 const struct file *file_named(const char *name, bool on_root)
@@ -42,8 +60,8 @@ const struct file *file_named(const char *name, bool on_root)
 	/* every name has a dot, which few names of groups have */
 	if (!strchr(name, '.'))
 		return NULL;
-	for (size_t i = 0; (f = file_at(i)); i++)
-		if ((f->on_root || !on_root) && strcmp(f->name, name) == 0)
+	for (size_t i = 0; (f = entry(i)); i++)
+		if (is_there(f) && (f->on_root || !on_root) && strcmp(f->name, name) == 0)
 			return f;
 	return NULL;
 }

@@ -1,7 +1,9 @@
 #include "link.h"
 #include "engine.h"
+#include "freezer.h"
 #include "place.h"
 #include "reported.h"
+#include "spaces.h"
 #include <errno.h>
 #include <pthread.h>
 #include <stdint.h>
@@ -11,20 +13,21 @@
 #include <sys/socket.h>
 #include <unistd.h>
 
-enum what { RESERVE, BORN, CANCEL, EXITED };
+enum what { RESERVE, BORN, CANCEL, EXITED, STOPPED, ORDER, SPACE };
 
 /* Only the beginning of a question is sent: as far as its text reaches. */
 struct question {
 	enum what what;
 	pid_t pid;
 	unsigned reservation;
-	bool elsewhere;
+	bool elsewhere, stopped;
 	char group[PATH_MAX_SAID];
 };
 
 struct reply {
 	int result;
 	unsigned reservation;
+	bool stops;
 };
 
 bool link_make(int ends[2])
@@ -40,12 +43,23 @@ static void answer(const struct question *q, struct reply *r)
 		break;
 	case BORN:
 		r->result = reported_born(q->reservation, q->pid);
+		r->stops = r->result == 0 && freezer_born(q->pid);
 		break;
 	case CANCEL:
 		reported_cancel(q->reservation);
 		break;
 	case EXITED:
 		reported_exited(q->pid);
+		break;
+	case STOPPED:
+		freezer_told(q->pid, q->stopped);
+		break;
+	case SPACE:
+		spaces_made(q->reservation, q->pid);
+		break;
+	case ORDER:
+		if (!freezer_order(&r->result, &r->stops))
+			r->result = 0;
 		break;
 	}
 }
@@ -57,8 +71,7 @@ static void *answer_all(void *argument)
 	struct reply r;
 	while (recv(end, &q, sizeof q, 0) > (ssize_t)offsetof(struct question, group)) {
 		q.group[sizeof q.group - 1] = 0;
-		r.result = 0;
-		r.reservation = 0;
+		r = (struct reply){ 0 };
 		engine_lock();
 		answer(&q, &r);
 		engine_unlock();
@@ -93,7 +106,7 @@ static void ask(struct question *q, const char *group, struct reply *r)
 	    recv(server, r, sizeof *r, 0) == sizeof *r)
 		return;
 	server = -1;
-	r->result = -EAGAIN;
+	*r = (struct reply){ .result = -EAGAIN };
 }
 
 int link_reserve(pid_t parent, const char *group, unsigned *reservation)
@@ -105,11 +118,12 @@ int link_reserve(pid_t parent, const char *group, unsigned *reservation)
 	return r.result;
 }
 
-int link_born(unsigned reservation, pid_t child)
+int link_born(unsigned reservation, pid_t child, bool *frozen)
 {
 	struct question q = { .what = BORN, .pid = child, .reservation = reservation };
 	struct reply r;
 	ask(&q, NULL, &r);
+	*frozen = r.stops;
 	return r.result;
 }
 
@@ -123,6 +137,30 @@ void link_cancel(unsigned reservation)
 void link_exited(pid_t pid)
 {
 	struct question q = { .what = EXITED, .pid = pid };
+	struct reply r;
+	ask(&q, NULL, &r);
+}
+
+void link_stopped(pid_t pid, bool stopped)
+{
+	struct question q = { .what = STOPPED, .pid = pid, .stopped = stopped };
+	struct reply r;
+	ask(&q, NULL, &r);
+}
+
+bool link_order(pid_t *pid, bool *stop)
+{
+	struct question q = { .what = ORDER };
+	struct reply r;
+	ask(&q, NULL, &r);
+	*pid = r.result;
+	*stop = r.stops;
+	return r.result > 0;
+}
+
+void link_space(unsigned number, pid_t maker)
+{
+	struct question q = { .what = SPACE, .pid = maker, .reservation = number };
 	struct reply r;
 	ask(&q, NULL, &r);
 }

@@ -15,9 +15,16 @@ void link_use(int end);
 /* 0 and a reservation, or the negated errno by which the process may not fork (into a group, where that is not NULL).
    Where the server has died nothing may fork. */
 int link_reserve(pid_t parent, const char *group, unsigned *reservation);
-/* 0, or a negated errno where the child may not run. The reservation has ended. */
-int link_born(unsigned reservation, pid_t child);
+/* 0, or a negated errno where the child may not run. The reservation has ended.
+   `frozen`: it stays at its first stop. */
+int link_born(unsigned reservation, pid_t child, bool *frozen);
 void link_cancel(unsigned reservation);
 void link_exited(pid_t pid);
+/* All threads of a frozen process rest; or no longer. */
+void link_stopped(pid_t pid, bool stopped);
+/* A process has made a cgroup namespace. */
+void link_space(unsigned number, pid_t maker);
+/* The next process that is to stop or to go on; false: there is none. */
+bool link_order(pid_t *pid, bool *stop);
 
 #endif

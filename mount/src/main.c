@@ -8,8 +8,8 @@
 #include <unistd.h>
 
 static const char help[] =
-	"makhloeum mount DIR [--trace FILE] [--answers FILE] [--extra] [--adopt] [--control] [--foreground]\n"
-	"makhloeum run [--trace FILE] [--answers FILE] [--control] [--root] [--] PROGRAM ARGS..\n"
+	"makhloeum mount DIR [--trace FILE] [--answers FILE] [--extra] [--keep LIST] [--adopt] [--control] [--foreground]\n"
+	"makhloeum run [--trace FILE] [--answers FILE] [--keep LIST] [--control] [--root] [--] PROGRAM ARGS..\n"
 	"makhloeum view TRACE [-o PAGE.html]\n"
 	"makhloeum tree DIR [--watch]\n"
 	"makhloeum check DIR\n"
@@ -23,9 +23,12 @@ static const char help[] =
 	"\n"
 	"  --trace FILE    keep each line that was asked, with its time: `cgreplay < FILE` gives the same answers\n"
 	"  --answers FILE  keep these answers\n"
-	"  --extra         files that clients look for and the hierarchy does not have (run: always). They are constants:\n"
-	"                  cgroup.controllers and cgroup.subtree_control `pids`, cgroup.type `domain`, cgroup.freeze `0`,\n"
-	"                  cpu.stat all 0. A write that says what is so already is taken; any other is EOPNOTSUPP.\n"
+	"  --extra         files that clients look for and the hierarchy does not have (run: always). cgroup.freeze freezes;\n"
+	"                  the others are constants: cgroup.controllers and cgroup.subtree_control `pids`, cgroup.type\n"
+	"                  `domain`, cpu.stat all 0. A write of the current value succeeds; any other is EOPNOTSUPP.\n"
+	"  --keep LIST     nothing is limited by these controllers (memory, cpu, io, cpuset, with commas between): their files\n"
+	"                  check a value as the kernel does, keep it and give it back, and their counters are 0. Then\n"
+	"                  cgroup.subtree_control turns controllers on and off, pids too. With the files of --extra\n"
 	"  --adopt         a process that is written to cgroup.procs is a real one: it exits when it dies, its children are\n"
 	"                  forked, cgroup.kill kills it\n"
 	"  --control       keep a history, and list the directory .makhloeum: undo (written: undoes the newest command, or as\n"
@@ -61,7 +64,7 @@ static int read_options(int argc, char **argv, int at, struct wishes *w)
 	struct { const char *name; bool *flag; const char **word; } options[] = {
 		{ "--trace", NULL, &w->trace },       { "--answers", NULL, &w->answers }, { "--extra", &w->extra, NULL },
 		{ "--adopt", &w->adopt, NULL },       { "--control", &w->control, NULL },
-		{ "--foreground", &w->foreground, NULL }, { "--root", &w->as_root, NULL },
+		{ "--foreground", &w->foreground, NULL }, { "--root", &w->as_root, NULL }, { "--keep", NULL, &w->keep },
 	};
 	size_t i, count = sizeof options / sizeof *options;
 	for (; at < argc && argv[at][0] == '-'; at++) {

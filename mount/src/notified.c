@@ -2,15 +2,19 @@
 #include "cleanup.h"
 #include "groups.h"
 #include "memory.h"
+#include "mounting.h"
 #include "opening.h"
 #include "procfiles.h"
+#include "serve.h"
 #include <fcntl.h>
 #include <limits.h>
 #include <linux/magic.h>
 #include <linux/openat2.h>
 #include <poll.h>
+#include <stdatomic.h>
 #include <string.h>
 #include <sys/ioctl.h>
+#include <sys/ptrace.h>
 #include <sys/syscall.h>
 #include <sys/vfs.h>
 
@@ -129,10 +133,47 @@ static bool answer_open(int listener, const struct seccomp_notif *call)
 	return ioctl(listener, SECCOMP_IOCTL_NOTIF_ADDFD, &add) >= 0;
 }
 
+/* A caller that knows only the new calls gets ENOSYS, as on an older kernel, and takes mount then. */
+static bool answer_mount(int listener, const struct seccomp_notif *call)
+{
+	int error = ENOSYS;
+	bool answered = call->data.nr == __NR_mount ? mounting_takes(listener, call, &error) : mounting_opens(call);
+	if (answered)
+		respond(listener, call, error, 0);
+	return answered;
+}
+
+/* A process has one tracer, and here that is the supervisor. The kernel refuses these too, but says nothing of the reason. */
+static bool answer_trace(int listener, const struct seccomp_notif *call)
+{
+	static atomic_flag said = ATOMIC_FLAG_INIT;
+	__u64 request = call->data.args[0];
+	if (request != PTRACE_TRACEME && request != PTRACE_ATTACH && request != PTRACE_SEIZE)
+		return false;
+	if (!atomic_flag_test_and_set(&said))
+		say("run traces every process itself: strace, gdb and other tracers do not work inside it");
+	respond(listener, call, EPERM, 0);
+	return true;
+}
+
+static bool answer(int listener, const struct seccomp_notif *call)
+{
+	switch (call->data.nr) {
+	case __NR_statfs:
+	case __NR_fstatfs:
+		return answer_statfs(listener, call);
+	case __NR_mount:
+	case __NR_fsopen:
+		return answer_mount(listener, call);
+	case __NR_ptrace:
+		return answer_trace(listener, call);
+	default:
+		return answer_open(listener, call);
+	}
+}
+
 void notified_answer(int listener, const struct seccomp_notif *call)
 {
-	bool is_statfs = call->data.nr == __NR_statfs || call->data.nr == __NR_fstatfs;
-	bool answered = is_statfs ? answer_statfs(listener, call) : answer_open(listener, call);
-	if (!answered)
+	if (!answer(listener, call))
 		notified_let_through(listener, call);
 }

@@ -89,13 +89,14 @@ static int pid_said(const char *text, char said[SAID_MAX])
 	return n > pid_max ? -ESRCH : say(said, n);
 }
 
-static int one_said(const char *text, char said[SAID_MAX])
+/* A number in a range, as cgroup.kill and cgroup.freeze take it. */
+static int int_said(const char *text, long long least, long long most, char said[SAID_MAX])
 {
 	long long n;
 	int fault = read_number(text, &n);
 	if (fault)
 		return fault;
-	return n == 1 ? say(said, 1) : -ERANGE;
+	return n >= least && n <= most ? say(said, n) : -ERANGE;
 }
 
 int value_said(enum value kind, const char *data, size_t size, char said[SAID_MAX])
@@ -118,7 +119,9 @@ int value_said(enum value kind, const char *data, size_t size, char said[SAID_MA
 	case A_PIDS_LIMIT:
 		return limit_said(from, pids_limit_max, EINVAL, said);
 	case A_ONE:
-		return one_said(from, said);
+		return int_said(from, 1, 1, said);
+	case A_SWITCH:
+		return int_said(from, 0, 1, said);
 	default:
 		return -EINVAL;
 	}

@@ -6,7 +6,7 @@
 #include <stdlib.h>
 #include <string.h>
 
-struct opened *opened_new(const char *group, const struct file *file, int control)
+struct opened *opened_new(const char *group, const struct file *file, long control)
 {
 	WANTS_LOCK();
 	cleanup_free struct opened *o = calloc(1, sizeof *o);

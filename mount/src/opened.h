@@ -11,7 +11,7 @@ struct opened {
 	struct opened *next, *before; /* among those of the group */
 	struct remembered *of;     /* NULL once the group was removed */
 	const struct file *file;   /* NULL: a directory, or one of the control directory */
-	int control;
+	long control;
 	char *group;
 	char *text;                /* as of the last read that did not go on where another ended */
 	size_t size;
@@ -21,7 +21,7 @@ struct opened {
 };
 
 /* All calls want the engine's lock. */
-struct opened *opened_new(const char *group, const struct file *file, int control);
+struct opened *opened_new(const char *group, const struct file *file, long control);
 void opened_free(struct opened *o);
 /* Keeps a text for the reads that go on. */
 int opened_keep(struct opened *o, const char *text, size_t size);

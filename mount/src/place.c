@@ -1,5 +1,6 @@
 #include "place.h"
 #include <errno.h>
+#include <stdio.h>
 #include <string.h>
 
 enum { NAMES_MAX = 32, NAME_BYTES = 255 };
@@ -21,6 +22,26 @@ bool is_at_or_below(const char *group, const char *top)
 {
 	size_t n = strlen(top);
 	return is_root(top) || (strncmp(group, top, n) == 0 && (group[n] == 0 || group[n] == '/'));
+}
+
+void seen_from(const char *root, const char *group, char out[PATH_MAX_SAID])
+{
+	size_t common = 0, n = 0;
+	if (is_root(root))
+		root = "";
+	if (is_root(group))
+		group = "";
+	for (size_t i = 0; root[i] == group[i] || !root[i] || !group[i]; i++) {
+		if ((root[i] == 0 || root[i] == '/') && (group[i] == 0 || group[i] == '/'))
+			common = i;
+		if (!root[i] || !group[i])
+			break;
+	}
+	out[0] = 0;
+	for (const char *up = root + common; *up && n + 4 < PATH_MAX_SAID; up++)
+		if (*up == '/')
+			n += (size_t)snprintf(out + n, PATH_MAX_SAID - n, "/..");
+	snprintf(out + n, PATH_MAX_SAID - n, "%s", n == 0 && !group[common] ? "/" : group + common);
 }
 
 int place_of(const char *path, struct place *place)

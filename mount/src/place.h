@@ -18,6 +18,8 @@ int path_fault(const char *path);
 /* The group above; the root's is the root. */
 void go_up(char *group);
 bool is_root(const char *group);
+/* The path of a group as it is seen where another group is the root: /../x for one that is not below it. */
+void seen_from(const char *root, const char *group, char out[PATH_MAX_SAID]);
 /* Whether the first is the second or below it. */
 bool is_at_or_below(const char *group, const char *top);
 

@@ -1,8 +1,10 @@
 #include "procfiles.h"
 #include "cleanup.h"
 #include "groups.h"
+#include "mounting.h"
 #include "opening.h"
 #include "space.h"
+#include "spaces.h"
 #include <fcntl.h>
 #include <linux/magic.h>
 #include <stdbool.h>
@@ -26,10 +28,10 @@ static int new_text(const char *name, FILE **out)
 }
 
 /* A file of the mount, so that it has today's group also where it stays open. */
-static int cgroup_text(pid_t pid)
+static int cgroup_text(pid_t reader, pid_t pid)
 {
-	char name[40];
-	snprintf(name, sizeof name, "/.makhloeum.%d", pid);
+	char name[48];
+	snprintf(name, sizeof name, "/.makhloeum.%d.%u", pid, spaces_of(reader));
 	return groups_open(name, O_RDONLY);
 }
 
@@ -49,8 +51,21 @@ static bool take_word(const char *line, int which, char *out, size_t size)
 	return true;
 }
 
+/* A line of mountinfo without its tail. The mount's root is said as it is seen from that of the reader's namespace. */
+static void put_info(FILE *out, const char *line, const char *root)
+{
+	char group[LONG], seen[LONG];
+	size_t before = 0;
+	for (int i = 0; i < 3; i++)
+		before += strcspn(line + before, " ") + 1;
+	if (!take_word(line, 3, group, sizeof group))
+		return;
+	seen_from(root, group, seen);
+	fprintf(out, "%.*s%s%s - cgroup2 cgroup2 rw\n", (int)before, line, seen, line + before + strlen(group));
+}
+
 /* One line of a table: the mount as the kernel would show a cgroup2 one; the machine's own are left out. */
-static void put_mount(FILE *out, char *line, const char *what)
+static void put_mount(FILE *out, char *line, const char *what, const char *root)
 {
 	char place[LONG], type[64];
 	bool is_info = strcmp(what, "mountinfo") == 0, is_stats = strcmp(what, "mountstats") == 0;
@@ -68,16 +83,16 @@ static void put_mount(FILE *out, char *line, const char *what)
 		fputs(line, out);
 	else if (is_info) {
 		*tail = 0;
-		fprintf(out, "%s - cgroup2 cgroup2 rw\n", line);
+		put_info(out, line, root);
 	} else if (is_stats)
 		fprintf(out, "device cgroup2 mounted on %s with fstype cgroup2\n", place);
 	else
 		fprintf(out, "cgroup2 %s cgroup2 rw,nosuid,nodev,noexec,relatime 0 0\n", place);
 }
 
-static int mounts_text(pid_t pid, const char *what)
+static int mounts_text(pid_t reader, pid_t pid, const char *what)
 {
-	char path[48];
+	char path[48], root[LONG] = "/";
 	cleanup_free char *line = NULL;
 	size_t room = 0;
 	FILE *out;
@@ -86,8 +101,9 @@ static int mounts_text(pid_t pid, const char *what)
 	int fd = in ? new_text(what, &out) : -1;
 	if (fd < 0)
 		return -1; /* cppcheck-suppress resourceLeak ; the cleanup attribute closes it */
+	mounting_root(reader, root, sizeof root);
 	while (getline(&line, &room, in) > 0)
-		put_mount(out, line, what);
+		put_mount(out, line, what, root);
 	fclose(out);
 	return fd;
 }
@@ -139,10 +155,10 @@ int procfiles_text(pid_t thread, int file)
 	if (pid <= 0)
 		return -1;
 	if (strcmp(what, "cgroup") == 0)
-		return cgroup_text(pid);
+		return cgroup_text(thread, pid);
 	if (strcmp(what, "cpuset") == 0)
 		return constant_text(what, "/\n");
 	if (strcmp(what, "mounts") == 0 || strcmp(what, "mountinfo") == 0 || strcmp(what, "mountstats") == 0)
-		return mounts_text(pid, what);
+		return mounts_text(thread, pid, what);
 	return -1;
 }

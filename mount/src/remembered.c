@@ -1,8 +1,10 @@
 #include "remembered.h"
 #include "attributes.h"
 #include "engine.h"
+#include "freezer.h"
 #include "opened.h"
 #include "operations.h"
+#include "values.h"
 #include "watch.h"
 #include <search.h>
 #include <stdlib.h>
@@ -43,7 +45,7 @@ struct remembered *remembered_make(const char *group)
 void remembered_tidy(struct remembered *r)
 {
 	WANTS_LOCK();
-	if (!r || r->opened || r->watched || r->owned || r->attributes)
+	if (!r || r->opened || r->watched || r->owned || r->attributes || r->values || r->subtree || r->freezes)
 		return;
 	tdelete(r, &all, by_path);
 	free(r);
@@ -58,5 +60,8 @@ void remembered_lose(const char *group)
 	watch_forget(r);
 	owner_forget(r);
 	attributes_forget(r);
+	values_forget(r, ~0U);
+	freezer_forget(r);
+	r->subtree = 0;
 	remembered_tidy(r);
 }

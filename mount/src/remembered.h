@@ -1,5 +1,5 @@
-/* What the mount remembers of a group beside the engine: who has its files open, who is to be told of changes, owners, and
-   extended attributes. All of it goes with the group. */
+/* What the mount remembers of a group beside the engine: who has its files open, who is to be told of changes, owners,
+   extended attributes, values of kept controllers, and what was frozen. All of it goes with the group. */
 #ifndef REMEMBERED_H
 #define REMEMBERED_H
 
@@ -9,6 +9,7 @@ struct opened;
 struct watched;
 struct owned;
 struct attribute;
+struct kept_value;
 
 struct remembered {
 	const char *path;
@@ -16,6 +17,9 @@ struct remembered {
 	struct watched *watched;
 	struct owned *owned;
 	struct attribute *attributes;
+	struct kept_value *values;     /* of kept controllers */
+	unsigned subtree;         /* the controllers of its children */
+	bool freezes;             /* what cgroup.freeze was told */
 	char bytes[]; /* of the path */
 };
 

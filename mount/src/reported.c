@@ -1,6 +1,8 @@
 #include "reported.h"
 #include "cleanup.h"
+#include "controllers.h"
 #include "engine.h"
+#include "freezer.h"
 #include "place.h"
 #include "watch.h"
 #include "zombies.h"
@@ -166,7 +168,9 @@ int reported_reserve(pid_t parent, const char *group, unsigned *reservation)
 		return -EAGAIN;
 	if (group && engine_has_group(group))
 		return -ENOENT;
-	int fault = group ? 0 : find_group(parent, at);
+	int fault = group ? controllers_may_enter(group) : find_group(parent, at);
+	if (group && fault)
+		return fault;
 	if (group || fault == -ESRCH) /* where there is none, its own fork was undone */
 		snprintf(at, sizeof at, "%s", group ? group : "/");
 	else if (fault)
@@ -239,6 +243,7 @@ void reported_exited(pid_t pid)
 		return;
 	bool stands = known[pid] == LIVE && find_group(pid, group) != -ESRCH;
 	known[pid] = UNKNOWN;
+	freezer_gone(pid);
 	if (!stands)
 		return;
 	zombies_add(pid);

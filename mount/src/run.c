@@ -1,8 +1,11 @@
 #include "run.h"
 #include "births.h"
+#include "cleanup.h"
 #include "engine.h"
 #include "filter.h"
+#include "freezer.h"
 #include "groups.h"
+#include "halts.h"
 #include "helper.h"
 #include "link.h"
 #include "operations.h"
@@ -117,7 +120,7 @@ static void pass_on(int signals, pid_t program)
 
 /* What the supervisor listens to. Each is asked once in a turn, and none is waited for while another has something. */
 struct ears {
-	int signals, link, helper;
+	int signals, link, helper, freezer;
 };
 
 static void hear_helper(void)
@@ -132,15 +135,17 @@ static void hear_helper(void)
 static int watch_over(const struct ears *ears, pid_t program)
 {
 	int status = 0;
-	struct pollfd from[3] = { { .fd = ears->signals, .events = POLLIN }, { .fd = ears->link }, { .fd = ears->helper, .events = POLLIN } };
+	struct pollfd from[] = { { .fd = ears->signals, .events = POLLIN }, { .fd = ears->link }, { .fd = ears->helper, .events = POLLIN },
+		                 { .fd = ears->freezer, .events = POLLIN } };
 	for (;;) {
 		pass_on(ears->signals, program);
 		bool more = tracer_look();
 		if (tracer_has_ended(&status))
 			break;
 		hear_helper();
+		tracer_obey();
 		int next = births_give_up();
-		if (poll(from, 3, more ? 0 : next) < 0 && errno != EINTR)
+		if (poll(from, sizeof from / sizeof *from, more ? 0 : next) < 0 && errno != EINTR)
 			break;
 		for (int i = 1; i < 3; i++)
 			if (from[i].revents & (POLLHUP | POLLERR)) {
@@ -166,7 +171,7 @@ static int give_up(pid_t program, const char *why)
 	return REFUSED_HERE;
 }
 
-static int supervise(char **program, const sigset_t *before, int signals, int link)
+static int supervise(char **program, const sigset_t *before, int signals, int link, int freezer)
 {
 	int control[2];
 	char why[160];
@@ -188,7 +193,8 @@ static int supervise(char **program, const sigset_t *before, int signals, int li
 	if (helper < 0 || write(control[0], "", 1) != 1)
 		return give_up(pid, "this machine does not allow seccomp notification");
 	close(listener);
-	struct ears ears = { signals, link, helper };
+	struct ears ears = { signals, link, helper, freezer };
+	halts_begin(freezer);
 	return watch_over(&ears, pid);
 }
 
@@ -207,12 +213,28 @@ static void end_server(pid_t server, int end)
 	waitpid(server, &status, 0);
 }
 
+/* Whether a tracer is seen, as it is inside another run. */
+static bool is_traced(void)
+{
+	char line[128];
+	long tracer = 0;
+	cleanup_stream FILE *f = fopen("/proc/self/status", "re");
+	while (f && fgets(line, sizeof line, f))
+		if (strncmp(line, "TracerPid:", 10) == 0)
+			tracer = strtol(line + 10, NULL, 10);
+	return tracer != 0;
+}
+
 int run_program(char **program, const struct wishes *asked)
 {
 	struct wishes wishes = *asked;
 	sigset_t held, before;
-	int ends[2];
+	int ends[2], freezer;
 	wishes.extra = true;
+	if (is_traced()) {
+		say("run does not work inside run, strace or gdb: this process is traced already, and has one tracer at most");
+		return REFUSED_HERE;
+	}
 	if (!serve_prepare(&wishes))
 		return REFUSED_HERE;
 	if (!space_enter(wishes.as_root))
@@ -222,7 +244,7 @@ int run_program(char **program, const struct wishes *asked)
 	look.marked = true;
 	hide(true);
 	real_are_reported();
-	if (!watch_begin(cgroup_mount, false) || !link_make(ends))
+	if (!watch_begin(cgroup_mount, false) || !link_make(ends) || !freezer_begin(&freezer))
 		return 1;
 	int connection = space_mount();
 	if (connection < 0)
@@ -250,7 +272,7 @@ int run_program(char **program, const struct wishes *asked)
 	else if (!groups_begin())
 		say("the mount cannot be opened: %s", strerror(errno));
 	else
-		status = supervise(program, &before, signals, ends[0]);
+		status = supervise(program, &before, signals, ends[0], freezer);
 	groups_end();
 	end_server(server, ends[0]);
 	return status;

@@ -1,4 +1,5 @@
 #include "serve.h"
+#include "controllers.h"
 #include "engine.h"
 #include "operations.h"
 #include "real.h"
@@ -50,13 +51,17 @@ static bool open_kept(const struct wishes *wishes)
 
 bool serve_prepare(const struct wishes *wishes)
 {
+	if (wishes->keep && !controllers_keep(wishes->keep)) {
+		say("--keep takes memory, cpu, io and cpuset, with commas between");
+		return false;
+	}
 	if (!open_kept(wishes))
 		return false;
 	if (!engine_start(&trace, &answers, wishes->control)) {
 		say("out of memory");
 		return false;
 	}
-	if (wishes->extra)
+	if (wishes->extra || wishes->keep)
 		files_use_extra();
 	if (wishes->adopt && !real_adopt_all()) {
 		say("processes cannot be watched here: %s", strerror(errno));

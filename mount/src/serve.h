@@ -7,6 +7,7 @@
 /* How the command line asked for it. */
 struct wishes {
 	const char *trace, *answers; /* files that are written anew, or NULL */
+	const char *keep;            /* the controllers whose files are kept, or NULL */
 	bool extra, adopt, control, foreground, as_root;
 };
 

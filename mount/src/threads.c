@@ -27,6 +27,11 @@ struct thread *threads_add(pid_t id, pid_t process)
 		all->before = t;
 	all = by_number[id] = t;
 	count++;
+	struct thread *first = threads_find(process);
+	if (first) {
+		first->members++;
+		t->frozen = first->frozen;
+	}
 	return t;
 }
 
@@ -38,9 +43,19 @@ void threads_drop(struct thread *t)
 		t->before->next = t->next;
 	else
 		all = t->next;
+	struct thread *first = threads_find(t->process);
+	if (first) {
+		first->members--;
+		first->resting -= t->rest != RUNS;
+	}
 	by_number[t->id] = NULL;
 	count--;
 	free(t);
+}
+
+struct thread *threads_all(void)
+{
+	return all;
 }
 
 size_t threads_count(void)

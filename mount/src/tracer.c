@@ -1,6 +1,8 @@
 #include "tracer.h"
 #include "births.h"
+#include "halts.h"
 #include "link.h"
+#include "spaces.h"
 #include "threads.h"
 #include <errno.h>
 #include <signal.h>
@@ -39,18 +41,25 @@ static void on_call(struct thread *t)
 	struct __ptrace_syscall_info call;
 	if (ptrace(PTRACE_GET_SYSCALL_INFO, t->id, sizeof call, &call) <= 0)
 		return;
-	if (call.op == PTRACE_SYSCALL_INFO_SECCOMP && births_is_fork((long)call.seccomp.nr))
+	if (call.op != PTRACE_SYSCALL_INFO_SECCOMP || halts_keeps(t, BEFORE_CALL))
+		return;
+	if (call.seccomp.nr == SYS_unshare) { /* what it made is looked at behind the call */
+		t->unshares = true;
+		ptrace(PTRACE_SYSCALL, t->id, 0, 0);
+	} else if (births_is_fork((long)call.seccomp.nr))
 		births_ask(t, (long)call.seccomp.nr);
-	else if (call.op == PTRACE_SYSCALL_INFO_SECCOMP) /* of a filter that the program made for a tracer of its own */
+	else /* of a filter that the program made for a tracer of its own */
 		ptrace(PTRACE_CONT, t->id, 0, 0);
 }
 
-static void on_birth(struct thread *t)
+static void on_birth(struct thread *t, bool waits)
 {
 	unsigned long child = 0;
-	if (ptrace(PTRACE_GETEVENTMSG, t->id, 0, &child) == 0 && child)
+	if (ptrace(PTRACE_GETEVENTMSG, t->id, 0, &child) == 0 && child) {
 		births_told(t, (pid_t)child);
-	else
+		if (waits)
+			halts_vforks(t, (pid_t)child);
+	} else
 		ptrace(PTRACE_CONT, t->id, 0, 0);
 }
 
@@ -60,6 +69,7 @@ static void on_exec(struct thread *t)
 {
 	unsigned long former = 0;
 	births_abandon(t);
+	halts_vfork_over(t);
 	if (ptrace(PTRACE_GETEVENTMSG, t->id, 0, &former) == 0 && (pid_t)former != t->id) {
 		struct thread *other = threads_find((pid_t)former);
 		if (other) {
@@ -78,16 +88,16 @@ static void on_pause(pid_t id, int signal)
 		t = births_appeared(id);
 	if (!t)
 		return;
-	if (signal == SIGSTOP || signal == SIGTSTP || signal == SIGTTIN || signal == SIGTTOU)
+	if (signal == SIGSTOP || signal == SIGTSTP || signal == SIGTTIN || signal == SIGTTOU) {
+		halts_listens(t);
 		ptrace(PTRACE_LISTEN, id, 0, 0);
-	else
+	} else if (!halts_keeps(t, PARKED))
 		ptrace(PTRACE_CONT, id, 0, 0);
 }
 
-static void on_stop(pid_t id, int status)
+static void on_stop_of(pid_t id, struct thread *t, int status)
 {
 	int event = status >> 8, signal = status & 0x7f;
-	struct thread *t = threads_find(id);
 	if (event == PTRACE_EVENT_STOP) {
 		on_pause(id, signal);
 		return;
@@ -103,7 +113,7 @@ static void on_stop(pid_t id, int status)
 	case PTRACE_EVENT_FORK:
 	case PTRACE_EVENT_VFORK:
 	case PTRACE_EVENT_CLONE:
-		on_birth(t);
+		on_birth(t, event == PTRACE_EVENT_VFORK);
 		return;
 	case PTRACE_EVENT_EXEC:
 		on_exec(t);
@@ -111,9 +121,22 @@ static void on_stop(pid_t id, int status)
 	}
 	if (status == (SIGTRAP | 0x80)) {
 		births_returned(t);
+		if (t->unshares)
+			link_space(spaces_of(id), t->process);
+		t->unshares = false;
 		ptrace(PTRACE_CONT, id, 0, 0);
 	} else
 		ptrace(PTRACE_CONT, id, 0, signal);
+}
+
+static void on_stop(pid_t id, int status)
+{
+	struct thread *t = threads_find(id);
+	if (t)
+		halts_moves(t);
+	on_stop_of(id, t, status);
+	if ((t = threads_find(id)))
+		halts_tell(t->process);
 }
 
 /* The hierarchy hears of a death before the parent does. */
@@ -122,10 +145,13 @@ static void on_end(pid_t id)
 	struct thread *t = threads_find(id);
 	if (!t)
 		return;
+	pid_t process = t->process;
 	if (t->counted)
 		link_exited(id);
 	births_abandon(t);
+	halts_vfork_over(t);
 	threads_drop(t);
+	halts_tell(process);
 }
 
 /* ---------------------------------------------------------------- all of them */
@@ -169,6 +195,11 @@ bool tracer_look(void)
 	for (size_t i = 0; i < count; i++)
 		on_stop(stops[i].id, stops[i].status);
 	return count > 0 || taken != 0;
+}
+
+void tracer_obey(void)
+{
+	halts_take_orders(on_call);
 }
 
 bool tracer_has_ended(int *status)

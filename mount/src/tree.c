@@ -1,9 +1,11 @@
 #include "control.h"
+#include "controllers.h"
 #include "engine.h"
 #include "opened.h"
 #include "operations.h"
 #include "real.h"
 #include "reported.h"
+#include "texts.h"
 #include "watch.h"
 #include <errno.h>
 #include <stdio.h>
@@ -30,7 +32,7 @@ static int count_bytes(void *to, const char *text, size_t size)
 
 static int control_getattr(const char *path, struct stat *st)
 {
-	int file = control_find(path);
+	long file = control_find(path);
 	if (file == -ENOENT)
 		return -ENOENT;
 	if (file == CONTROL_ITSELF) {
@@ -56,20 +58,15 @@ static int group_getattr(const char *path, struct stat *st)
 /* A file is as long as its text: sendfile and splice give no more than that of a file of FUSE. */
 static size_t text_size(const struct place *place)
 {
+	const char *text;
 	size_t size = 0;
-	if (place->file->constant)
-		return strlen(place->file->constant);
 	real_sweep();
-	if (place->file->readable && engine_look("cat %s %s", place->group, place->file->name) == 0) {
-		const char *text = engine_text(&size);
-		reported_text(place->group, place->file, text, &size);
-	}
-	return size;
+	return place->file->readable && texts_read(place->group, place->file, false, &text, &size) == 0 ? size : 0;
 }
 
 static int file_getattr(const struct place *place, struct stat *st)
 {
-	if (engine_has_group(place->group))
+	if (engine_has_group(place->group) || !controllers_have(place->group, place->file))
 		return -ENOENT;
 	set_stat(st, S_IFREG | file_mode(place->file), 1);
 	st->st_size = (off_t)text_size(place);
@@ -100,7 +97,8 @@ static const char *path_of(const char *path, const struct fuse_file_info *fi, ch
 	if (o->file)
 		snprintf(out, size, "%s/%s", is_root(o->group) ? "" : o->group, o->file->name);
 	else if (o->control >= CONTROL_WHERE)
-		snprintf(out, size, "/%s.%d", control_directory, o->control - CONTROL_WHERE);
+		snprintf(out, size, "/%s.%ld.%ld", control_directory, (o->control - CONTROL_WHERE) % CONTROL_PIDS,
+		         (o->control - CONTROL_WHERE) / CONTROL_PIDS);
 	else if (o->control >= 0)
 		snprintf(out, size, "/%s/%s", control_directory, control_name(o->control));
 	else
@@ -154,7 +152,7 @@ int tree_readdir(const char *unsaid, void *out, fuse_fill_dir_t fill, off_t at, 
 	int fault = opened_is_gone(o) ? -ENOENT : engine_children(path, &names, &count);
 	if (fault == 0) {
 		for (size_t i = 0; (file = file_at(i)); i++)
-			if (file->on_root || !is_root(path))
+			if ((file->on_root || !is_root(path)) && controllers_have(path, file))
 				fill(out, file->name, NULL, 0, 0);
 		if (look.history && is_root(path))
 			fill(out, control_directory, NULL, 0, 0);
@@ -167,10 +165,13 @@ int tree_readdir(const char *unsaid, void *out, fuse_fill_dir_t fill, off_t at, 
 
 int tree_mkdir(const char *path, mode_t mode)
 {
+	struct place place;
 	(void)mode;
 	int fault = control_has(path) ? -EPERM : path_fault(path);
-	if (fault)
+	if (fault || (fault = place_of(path, &place)))
 		return fault;
+	if (place.file) /* of a controller that the group may have later */
+		return -EEXIST;
 	engine_lock();
 	fault = engine_line("mkdir %s", path);
 	engine_unlock();

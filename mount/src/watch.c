@@ -2,7 +2,7 @@
 #include "companion.h"
 #include "engine.h"
 #include "opened.h"
-#include "reported.h"
+#include "texts.h"
 #include <errno.h>
 #include <pthread.h>
 #include <stdio.h>
@@ -32,10 +32,8 @@ static void read_text(struct watched *w, char out[TEXT_MAX])
 {
 	size_t size = 0;
 	const char *text = NULL;
-	if (engine_look("cat %s %s", w->of->path, w->file->name) == 0) {
-		text = engine_text(&size);
-		text = reported_text(w->of->path, w->file, text, &size);
-	}
+	if (texts_read(w->of->path, w->file, false, &text, &size))
+		size = 0;
 	if (size >= TEXT_MAX)
 		size = TEXT_MAX - 1;
 	if (size)

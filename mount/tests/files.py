@@ -150,8 +150,10 @@ def extra():
         same(name, read(m.path("a", name)), text)
     same("what is so already", error_of(write, m.path("a", "cgroup.subtree_control"), b"+pids\n"), "ok")
     same("what is not", error_of(write, m.path("a", "cgroup.subtree_control"), b"-pids\n"), "ENOTSUP")
-    same("a freeze", error_of(write, m.path("a", "cgroup.freeze"), b"1\n"), "ENOTSUP")
+    same("a freeze", error_of(write, m.path("a", "cgroup.freeze"), b"1\n"), "ok")
+    same("it is there", (read(m.path("a", "cgroup.freeze")), read(m.path("a", "cgroup.events"))), (b"1\n", b"populated 0\nfrozen 1\n"))
     same("a thaw", error_of(write, m.path("a", "cgroup.freeze"), b"0\n"), "ok")
+    same("it is gone", read(m.path("a", "cgroup.events")), b"populated 0\nfrozen 0\n")
     m.end()
 
 

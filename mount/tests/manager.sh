@@ -1,5 +1,5 @@
 #!/bin/sh
-# The life of a service manager: systemd --user, under `makhloeum run --root`.
+# manager.sh [keep]: the life of a service manager, systemd --user, under `makhloeum run --root` (keep: with --keep memory).
 here=$(dirname "$(readlink -f "$0")")
 w=$(mktemp -d) || exit 1
 . "$here/steps.sh"
@@ -13,6 +13,11 @@ printf '[Service]\nExecStart=/bin/sh -c "for i in 1 2 3 4 5 6; do sleep 60 & don
 printf '[Service]\nExecStart=/bin/sleep 0.3\n' > "$w/config/systemd/user/short.service"
 S="systemctl --user"
 u=/sys/fs/cgroup/user
+[ "${1:-}" != keep ] || {
+	echo "+pids +memory" > /sys/fs/cgroup/cgroup.subtree_control
+	printf 'MemoryMax=16M\n' >> "$w/config/systemd/user/box.service"
+}
+mkdir /sys/fs/cgroup/init.scope # by its cgroup.freeze systemd knows that there is a freezer
 mkdir $u && echo 0 > $u/cgroup.procs
 /usr/lib/systemd/systemd --user --unit=basic.target > "$w/log" 2>&1 &
 manager=$!
@@ -27,6 +32,17 @@ says "TasksCurrent" 3 $S show box -p TasksCurrent --value
 says "pids.max is TasksMax" 10 cat $g/pids.max
 step "set-property TasksMax=5" $S set-property --runtime box TasksMax=5
 soon "pids.max follows" grep -qx 5 $g/pids.max
+if [ "${1:-}" = keep ]; then
+	says "memory.max is MemoryMax" 16777216 cat $g/memory.max
+	step "systemd-run -p TasksMax= -p MemoryMax=" systemd-run --user --unit=once -p TasksMax=7 -p MemoryMax=8M sleep 60
+	soon "both are written" sh -c "[ \"\$(cat $u/app.slice/once.service/pids.max $u/app.slice/once.service/memory.max | tr '\\n' ' ')\" = '7 8388608 ' ]"
+	step "stop it" $S stop once
+fi
+step "freeze" $S freeze box
+says "frozen 1" "frozen 1" tail -n 1 $g/cgroup.events
+says "FreezerState" frozen $S show box -p FreezerState --value
+step "thaw" $S thaw box
+says "frozen 0" "frozen 0" tail -n 1 $g/cgroup.events
 step "start a service that forks too often" $S start full
 soon "it fails" $S is-failed full
 step "start a short one" $S start short

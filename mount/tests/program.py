@@ -2,6 +2,7 @@
 import ctypes
 import errno
 import os
+import shutil
 import signal
 import struct
 import subprocess
@@ -238,6 +239,13 @@ def name_of(pid):
     return open("/proc/%d/comm" % pid).read().strip()
 
 
+TRACED = """
+import ctypes, os
+libc = ctypes.CDLL(None, use_errno=True)
+print(*(libc.ptrace(request, os.getppid(), 0, 0) == -1 and ctypes.get_errno() for request in (0, 16, 0x4206)))
+"""
+
+
 def listen():
     """Takes a seccomp listener that is told nothing: a process has one at most."""
     allow = struct.pack("HBBI", 6, 0, 0, 0x7FFF0000)
@@ -263,8 +271,14 @@ def refused_here():
     step("it is named", b"does not allow seccomp notification" in ran.stderr, ran.stderr)
     # a leak is looked for by ptrace, which is what is not to be had here
     ran = run("--", PROGRAM, "run", "true", env=dict(os.environ, ASAN_OPTIONS="detect_leaks=0"))
-    same("where the program is traced already", (ran.returncode, ran.stderr.count(b"\n")), (2, 1))
-    step("it is named", b"does not allow a process to be traced" in ran.stderr, ran.stderr)
+    same("run inside run", (ran.returncode, ran.stderr.count(b"\n")), (2, 1))
+    step("it is named", b"run does not work inside run" in ran.stderr, ran.stderr)
+    ran = run("--", sys.executable, "-c", TRACED)
+    same("a program that traces", (ran.returncode, ran.stdout, ran.stderr.count(b"\n")), (0, b"1 1 1\n", 1))
+    step("it is named", b"run traces every process itself" in ran.stderr, ran.stderr)
+    if shutil.which("strace"):
+        ran = run("strace", "true")
+        step("strace fails, and one sentence says why", ran.returncode != 0 and ran.stderr.count(b"run traces every process itself") == 1, ran.stderr)
 
 
 INSIDE = (looks, forks, kills, clones, stops, taken_back)

@@ -14,7 +14,6 @@ import json, sys
 c = json.load(open(sys.argv[1]))
 c["process"].update(terminal=False, args=["/bin/sh", "-c", "sleep 40 & sleep 40 & wait"], env=["PATH=/bin"])
 c["linux"].update(cgroupsPath="/box", resources={"pids": {"limit": 12}})
-c["mounts"] = [m for m in c["mounts"] if m["type"] != "cgroup"]  # it would show the machine's own hierarchy
 json.dump(c, open(sys.argv[1], "w"))
 END
 R="$rt --root $w/root"
@@ -30,13 +29,17 @@ step "update --pids-limit 9" $R update --pids-limit 9 c1
 says "pids.max" 9 cat $g/pids.max
 [ "$rt" = runc ] && step "events --stats: current 3, limit 9" sh -c "$R events --stats c1 | grep -q '\"pids\":{\"current\":3,\"limit\":9}'"
 step "exec true" $R exec c1 /bin/true
-says "exec cat /proc/self/cgroup" 0::/box $R exec c1 /bin/cat /proc/self/cgroup
+says "exec cat /proc/self/cgroup: its namespace's root" 0::/ $R exec c1 /bin/cat /proc/self/cgroup
+says "the same from outside" 0::/box sh -c "cat /proc/\$(head -n 1 $g/cgroup.procs)/cgroup"
 step "exec ls /sys/fs/cgroup" $R exec c1 /bin/ls /sys/fs/cgroup
 refused "exec that forks beyond the limit" "temporarily unavailable" $R exec c1 /bin/sh -c 'for i in 1 2 3 4 5 6 7 8 9; do sleep 1 & done; wait'
 step "the refused fork is counted" sh -c "! grep -qx 'max 0' $g/pids.events"
 soon "three processes again" grep -qx 3 $g/pids.current
-refused "pause: cgroup.freeze is a constant" "not supported" $R pause c1
-step "state: still running" sh -c "$R state c1 | grep -q '\"running\"'"
+step "pause" $R pause c1
+soon "frozen 1" grep -qx "frozen 1" $g/cgroup.events
+step "state: paused" sh -c "$R state c1 | grep -q '\"paused\"'"
+step "resume" $R resume c1
+step "state: running again" sh -c "$R state c1 | grep -q '\"running\"'"
 step "kill --all KILL" $R kill --all c1 KILL
 soon "populated 0" grep -qx "populated 0" $g/cgroup.events
 soon "state: stopped" sh -c "$R state c1 | grep -q '\"stopped\"'"

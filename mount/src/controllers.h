@@ -1,0 +1,29 @@
+/* Controllers: which a group has, which its children have, and what that decides. The engine is the pids controller. The
+   others are only kept (--keep): their files take values and give them back, and nothing is limited. Without any kept
+   controller each group has pids, and nothing can be turned off. */
+#ifndef CONTROLLERS_H
+#define CONTROLLERS_H
+
+#include "files.h"
+
+/* In the kernel's order. */
+enum { HAS_CPUSET = 1, HAS_CPU = 2, HAS_IO = 4, HAS_MEMORY = 8, HAS_PIDS = 16 };
+
+/* Takes the names of --keep, with commas between; false: one of them is none. */
+bool controllers_keep(const char *names);
+/* Which are kept, and 0 for none. */
+unsigned controllers_kept(void);
+
+/* All below want the engine's lock. Whether a group has this file now. */
+bool controllers_have(const char *group, const struct file *file);
+/* 0; -EBUSY or -EOPNOTSUPP where the group may have no processes, since its children share out what it has. */
+int controllers_may_enter(const char *group);
+
+/* cgroup.controllers, cgroup.subtree_control, cgroup.type. */
+void controllers_show(const char *group, const struct file *file, char out[TEXT_ROOM]);
+void subtree_show(const char *group, const struct file *file, char out[TEXT_ROOM]);
+int subtree_write(const char *group, const struct file *file, const char *data, size_t size);
+void type_show(const char *group, const struct file *file, char out[TEXT_ROOM]);
+int type_write(const char *group, const struct file *file, const char *data, size_t size);
+
+#endif

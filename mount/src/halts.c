@@ -1,0 +1,141 @@
+#include "halts.h"
+#include "cleanup.h"
+#include "link.h"
+#include <stdint.h>
+#include <stdio.h>
+#include <string.h>
+#include <sys/ptrace.h>
+#include <unistd.h>
+
+static int wake = -1;
+
+void halts_begin(int fd)
+{
+	wake = fd;
+}
+
+static void set(struct thread *t, enum rest how)
+{
+	struct thread *first = threads_find(t->process);
+	if (first) {
+		first->resting += how != RUNS;
+		first->resting -= t->rest != RUNS;
+	}
+	t->rest = how;
+}
+
+/* A first thread that has ended before the others never stops again, and is not reported before they end too. */
+static bool has_ended(pid_t id)
+{
+	char path[40], line[512];
+	snprintf(path, sizeof path, "/proc/%d/stat", id);
+	cleanup_stream FILE *f = fopen(path, "re");
+	const char *end = f && fgets(line, sizeof line, f) ? strrchr(line, ')') : NULL;
+	return !end || end[1] == 0 || end[2] == 'Z' || end[2] == 'X';
+}
+
+static bool rests(const struct thread *first)
+{
+	if (first->resting == first->members)
+		return true;
+	return first->members > 1 && first->resting + 1 == first->members && first->rest == RUNS && has_ended(first->id);
+}
+
+void halts_tell(pid_t process)
+{
+	struct thread *first = threads_find(process);
+	if (!first || !first->counted)
+		return;
+	bool all = first->frozen && rests(first);
+	if (all == first->told)
+		return;
+	first->told = all;
+	link_stopped(first->id, all);
+}
+
+/* ---------------------------------------------------------------- at a stop */
+
+bool halts_keeps(struct thread *t, enum rest how)
+{
+	if (t->frozen)
+		set(t, how);
+	return t->frozen;
+}
+
+void halts_moves(struct thread *t)
+{
+	if (t->rest != RUNS)
+		set(t, RUNS);
+}
+
+void halts_listens(struct thread *t)
+{
+	set(t, LISTENS);
+}
+
+void halts_vforks(struct thread *t, pid_t child)
+{
+	struct thread *c = threads_find(child);
+	if (!c)
+		return;
+	c->vforked_by = t->id;
+	set(t, VFORKS);
+}
+
+/* A frozen one has a stop before it before it runs again: so it still rests. */
+void halts_vfork_over(struct thread *t)
+{
+	struct thread *by = threads_find(t->vforked_by);
+	t->vforked_by = 0;
+	if (by && by->rest == VFORKS && !by->frozen)
+		set(by, RUNS);
+}
+
+/* ---------------------------------------------------------------- orders */
+
+static void freeze(struct thread *t)
+{
+	t->frozen = true;
+	if (t->started && (t->rest == RUNS || t->rest == VFORKS))
+		ptrace(PTRACE_INTERRUPT, t->id, 0, 0);
+}
+
+static void go_on(struct thread *t, void (*call)(struct thread *t))
+{
+	enum rest was = t->rest;
+	t->frozen = false;
+	if (was != PARKED && was != BEFORE_CALL)
+		return;
+	set(t, RUNS);
+	if (was == PARKED)
+		ptrace(PTRACE_CONT, t->id, 0, 0);
+	else
+		call(t);
+}
+
+static void obey(struct thread *first, bool stop, void (*call)(struct thread *t))
+{
+	first->told = false;
+	for (struct thread *t = first->members > 1 ? threads_all() : first, *next; t; t = next) {
+		next = first->members > 1 ? t->next : NULL;
+		if (t->process == first->id && stop)
+			freeze(t);
+		else if (t->process == first->id)
+			go_on(t, call);
+	}
+	halts_tell(first->id);
+}
+
+void halts_take_orders(void (*call)(struct thread *t))
+{
+	uint64_t times;
+	pid_t process;
+	bool stop;
+	if (read(wake, &times, sizeof times) != sizeof times)
+		return;
+	while (link_order(&process, &stop)) {
+		struct thread *first = threads_find(process);
+		if (first && first->process == process)
+			obey(first, stop, call);
+	}
+}

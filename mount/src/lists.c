@@ -1,0 +1,155 @@
+#include "lists.h"
+#include <errno.h>
+#include <limits.h>
+#include <stdio.h>
+#include <string.h>
+
+static bool has(const struct list *l, unsigned n)
+{
+	return n < LIST_MAX && l->bits[n / 8] & (1U << n % 8);
+}
+
+static bool is_blank(char c)
+{
+	return c == ' ' || (c >= '\t' && c <= '\r');
+}
+
+/* ---------------------------------------------------------------- reading */
+
+/* FIRST-LAST:USED/OF, of which all but the first may be left out: of each OF numbers the first USED. */
+struct region {
+	unsigned first, last, used, of;
+};
+
+/* A number; N is the last one that there can be. NULL: it is none. */
+static const char *take_number(const char *at, unsigned bits, unsigned *out, int *fault)
+{
+	if (*at == 'N') {
+		*out = bits - 1;
+		return at + 1;
+	}
+	unsigned n = 0;
+	const char *from = at;
+	for (; *at >= '0' && *at <= '9'; at++)
+		if (__builtin_mul_overflow(n, 10U, &n) || __builtin_add_overflow(n, (unsigned)(*at - '0'), &n))
+			*fault = -EOVERFLOW;
+	if (at == from)
+		*fault = -EINVAL;
+	*out = n;
+	return *fault ? NULL : at;
+}
+
+static bool is_end(char c)
+{
+	return c == 0 || c == ',' || is_blank(c);
+}
+
+static const char *take_region(const char *at, unsigned bits, struct region *r, int *fault)
+{
+	bool is_all = strncmp(at, "all", 3) == 0;
+	if (is_all) {
+		r->first = 0;
+		r->last = bits - 1;
+		at += 3;
+	} else {
+		at = take_number(at, bits, &r->first, fault);
+		r->last = r->first;
+	}
+	if (at && !is_all && !is_end(*at)) {
+		if (*at != '-')
+			*fault = -EINVAL;
+		at = *fault ? NULL : take_number(at + 1, bits, &r->last, fault);
+	}
+	r->used = r->of = r->last >= r->first ? r->last - r->first + 1 : 1;
+	if (at && *at == ':') {
+		at = take_number(at + 1, bits, &r->used, fault);
+		if (at && *at != '/')
+			*fault = -EINVAL;
+		at = at && !*fault ? take_number(at + 1, bits, &r->of, fault) : NULL;
+	}
+	if (at && !is_end(*at))
+		*fault = -EINVAL;
+	return *fault ? NULL : at;
+}
+
+static int add_region(const struct region *r, unsigned bits, struct list *out)
+{
+	if (r->first > r->last || r->of == 0 || r->used > r->of)
+		return -EINVAL;
+	if (r->last >= bits)
+		return -ERANGE;
+	for (unsigned n = r->first; n <= r->last; n++)
+		if ((n - r->first) % r->of < r->used)
+			out->bits[n / 8] |= (unsigned char)(1U << n % 8);
+	return 0;
+}
+
+int list_read(const char *text, unsigned bits, struct list *out)
+{
+	int fault = 0;
+	memset(out, 0, sizeof *out);
+	if (bits > LIST_MAX)
+		bits = LIST_MAX;
+	for (;;) {
+		struct region r;
+		while (*text == ',' || is_blank(*text))
+			text++;
+		if (*text == 0)
+			return 0;
+		text = take_region(text, bits, &r, &fault);
+		if (fault == 0)
+			fault = add_region(&r, bits, out);
+		if (fault)
+			return fault;
+	}
+}
+
+/* ---------------------------------------------------------------- the rest */
+
+bool list_write(const struct list *l, char *out, size_t size)
+{
+	size_t at = 0;
+	for (unsigned n = 0; n < LIST_MAX; n++) {
+		if (!has(l, n))
+			continue;
+		unsigned first = n;
+		while (has(l, n + 1))
+			n++;
+		int added = n == first ? snprintf(out + at, size - at, "%s%u", at ? "," : "", n)
+		                       : snprintf(out + at, size - at, "%s%u-%u", at ? "," : "", first, n);
+		at += (size_t)added;
+		if (at + 1 >= size)
+			return false;
+	}
+	out[at] = '\n';
+	out[at + 1] = 0;
+	return true;
+}
+
+bool list_is_empty(const struct list *l)
+{
+	static const struct list none;
+	return memcmp(l, &none, sizeof none) == 0;
+}
+
+bool list_is_within(const struct list *l, const struct list *all)
+{
+	for (size_t i = 0; i < sizeof l->bits; i++)
+		if (l->bits[i] & ~all->bits[i])
+			return false;
+	return true;
+}
+
+void list_keep_common(struct list *l, const struct list *other)
+{
+	for (size_t i = 0; i < sizeof l->bits; i++)
+		l->bits[i] &= other->bits[i];
+}
+
+unsigned list_last(const struct list *l)
+{
+	unsigned n = LIST_MAX - 1;
+	while (n && !has(l, n))
+		n--;
+	return n;
+}

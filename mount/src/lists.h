@@ -1,0 +1,25 @@
+/* Lists of numbers as the kernel writes and reads those of processors: 0-3,8. */
+#ifndef LISTS_H
+#define LISTS_H
+
+#include <stdbool.h>
+#include <stddef.h>
+
+/* So many numbers a list can have; and so many the kernel has for memory nodes. */
+enum { LIST_MAX = 8192, NODES_MAX = 1024 };
+
+struct list {
+	unsigned char bits[LIST_MAX / 8];
+};
+
+/* 0; -ERANGE for a number that is not below `bits`, -EINVAL for what is no list. */
+int list_read(const char *text, unsigned bits, struct list *out);
+/* With a line feed; false where it does not fit. */
+bool list_write(const struct list *l, char *out, size_t size);
+bool list_is_empty(const struct list *l);
+bool list_is_within(const struct list *l, const struct list *all);
+void list_keep_common(struct list *l, const struct list *other);
+/* The last number; 0 for none. */
+unsigned list_last(const struct list *l);
+
+#endif

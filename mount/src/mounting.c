@@ -1,0 +1,134 @@
+#include "mounting.h"
+#include "cleanup.h"
+#include "groups.h"
+#include "memory.h"
+#include "opening.h"
+#include "spaces.h"
+#include <fcntl.h>
+#include <limits.h>
+#include <linux/capability.h>
+#include <linux/mount.h>
+#include <sched.h>
+#include <string.h>
+#include <sys/ioctl.h>
+#include <sys/stat.h>
+#include <sys/syscall.h>
+#include <sys/wait.h>
+
+enum { READ_ONLY = 1, NAME = 16 }; /* MS_RDONLY, which sys/mount.h has beside other names of linux/mount.h */
+
+static bool names_cgroup2(const struct seccomp_notif *call, int argument)
+{
+	char type[NAME] = "";
+	return call->data.args[argument] && memory_text((pid_t)call->pid, call->data.args[argument], type, sizeof type) &&
+	       strcmp(type, "cgroup2") == 0;
+}
+
+bool mounting_opens(const struct seccomp_notif *call)
+{
+	return names_cgroup2(call, 0);
+}
+
+bool mounting_root(pid_t thread, char *out, size_t size)
+{
+	char name[48], text[PATH_MAX_SAID + 8];
+	snprintf(name, sizeof name, "/.makhloeum.0.%u", spaces_of(thread));
+	cleanup_fd int fd = groups_open(name, O_RDONLY);
+	ssize_t n = fd < 0 ? -1 : read(fd, text, sizeof text - 1);
+	if (n < 5)
+		return false; /* cppcheck-suppress resourceLeak ; the cleanup attribute closes it */
+	text[n - 1] = 0;
+	return snprintf(out, size, "%s", text + 3) < (int)size;
+}
+
+/* What the thread may do in its own user namespace. */
+static bool has_capability(pid_t thread, int which)
+{
+	char path[40], line[256];
+	unsigned long long bits = 0;
+	snprintf(path, sizeof path, "/proc/%d/status", thread);
+	cleanup_stream FILE *f = fopen(path, "re");
+	while (f && fgets(line, sizeof line, f))
+		if (strncmp(line, "CapEff:", 7) == 0)
+			bits = strtoull(line + 7, NULL, 16);
+	return bits >> which & 1;
+}
+
+static int open_space(pid_t thread, const char *which)
+{
+	char path[48];
+	snprintf(path, sizeof path, "/proc/%d/ns/%s", thread, which);
+	return open(path, O_RDONLY | O_CLOEXEC);
+}
+
+static bool is_own(int space, const char *which)
+{
+	char path[48];
+	struct stat st, own;
+	snprintf(path, sizeof path, "/proc/self/ns/%s", which);
+	return fstat(space, &st) == 0 && stat(path, &own) == 0 && st.st_ino == own.st_ino;
+}
+
+/* In a process of its own, since a namespace is entered by one without other threads. Only calls that a fork of a process
+   with threads may make. */
+static int attach(int tree, int target, int users, int mounts)
+{
+	int status;
+	bool enters = !is_own(users, "user");
+	pid_t pid = fork();
+	if (pid == 0) {
+		if ((enters && setns(users, CLONE_NEWUSER)) || setns(mounts, CLONE_NEWNS) ||
+		    syscall(SYS_move_mount, tree, "", target, "", MOVE_MOUNT_F_EMPTY_PATH | MOVE_MOUNT_T_EMPTY_PATH))
+			_exit(errno);
+		_exit(0);
+	}
+	if (pid < 0)
+		return errno;
+	while (waitpid(pid, &status, 0) < 0)
+		if (errno != EINTR)
+			return EIO;
+	return WIFEXITED(status) ? WEXITSTATUS(status) : EIO;
+}
+
+/* A copy of the mount, from the root of the caller's namespace on. */
+static int copy_of_mount(pid_t thread, bool read_only)
+{
+	char group[PATH_MAX_SAID];
+	struct mount_attr attributes = { .attr_set = MOUNT_ATTR_RDONLY };
+	if (!mounting_root(thread, group, sizeof group))
+		return -1;
+	cleanup_fd int root = groups_open(group, O_PATH | O_DIRECTORY);
+	cleanup_fd int tree = root < 0 ? -1 : (int)syscall(SYS_open_tree, root, "", OPEN_TREE_CLONE | OPEN_TREE_CLOEXEC | AT_EMPTY_PATH);
+	if (tree >= 0 && read_only && syscall(SYS_mount_setattr, tree, "", AT_EMPTY_PATH, &attributes, sizeof attributes))
+		return -1;
+	return steal_fd(&tree);
+}
+
+static int mount_groups(int listener, const struct seccomp_notif *call)
+{
+	char path[PATH_MAX];
+	pid_t thread = (pid_t)call->pid;
+	if (!memory_text(thread, call->data.args[1], path, sizeof path))
+		return EFAULT;
+	if (!has_capability(thread, CAP_SYS_ADMIN))
+		return EPERM;
+	cleanup_fd int target = opening_find(thread, AT_FDCWD, path, true);
+	cleanup_fd int users = open_space(thread, "user"), mounts = open_space(thread, "mnt");
+	struct statx st;
+	if (target < 0)
+		return ENOENT;
+	if (statx(target, "", AT_EMPTY_PATH | AT_STATX_DONT_SYNC | AT_NO_AUTOMOUNT, STATX_TYPE, &st) || !S_ISDIR(st.stx_mode))
+		return ENOTDIR;
+	cleanup_fd int tree = users < 0 || mounts < 0 ? -1 : copy_of_mount(thread, call->data.args[3] & READ_ONLY);
+	if (tree < 0 || ioctl(listener, SECCOMP_IOCTL_NOTIF_ID_VALID, &call->id))
+		return EPERM;
+	return attach(tree, target, users, mounts);
+}
+
+bool mounting_takes(int listener, const struct seccomp_notif *call, int *error)
+{
+	if (!names_cgroup2(call, 2))
+		return false;
+	*error = mount_groups(listener, call);
+	return true;
+}

@@ -1,0 +1,26 @@
+#include "texts.h"
+#include "engine.h"
+#include "freezer.h"
+#include "reported.h"
+#include "values.h"
+#include <string.h>
+
+int texts_read(const char *group, const struct file *file, bool keeps, const char **text, size_t *size)
+{
+	static char own[TEXT_ROOM];
+	WANTS_LOCK();
+	if (file->show)
+		file->show(group, file, own);
+	if (file->show || file->take || file->constant) {
+		*text = file->show ? own : file->take ? values_kept(group, file->name) : file->constant;
+		*size = strlen(*text);
+		return 0;
+	}
+	int fault = keeps ? engine_line("cat %s %s", group, file->name) : engine_look("cat %s %s", group, file->name);
+	if (fault)
+		return fault;
+	*text = engine_text(size);
+	*text = reported_text(group, file, *text, size);
+	*text = freezer_text(group, file, *text, size);
+	return 0;
+}

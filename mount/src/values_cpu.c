@@ -1,0 +1,179 @@
+/* cpu.*: a weight and a nice value are two readings of one number of shares, which is what is kept. */
+#include "controllers.h"
+#include "scan.h"
+#include "values.h"
+#include <errno.h>
+#include <stdio.h>
+#include <stdlib.h>
+#include <string.h>
+
+enum { SHARES = 1024, WEIGHT = 100, WEIGHT_MAX = 10000, IDLE_SHARES = 3, NICE_FIRST = -20, NICE_COUNT = 40 };
+
+/* In microseconds. */
+static const unsigned long long shortest = 1000, longest_period = 1000000, most_runtime = (1ULL << 44) - 1;
+
+/* The kernel's weight of each nice value, from -20 to 19. */
+static const int of_nice[NICE_COUNT] = {
+	88761, 71755, 56483, 46273, 36291, 29154, 23254, 18705, 14949, 11916, 9548, 7620, 6100, 4904,
+	3906, 3121, 2501, 1991, 1586, 1277, 1024, 820, 655, 526, 423, 335, 272, 215,
+	172, 137, 110, 87, 70, 56, 45, 36, 29, 23, 18, 15,
+};
+
+static unsigned long long divided(unsigned long long n, unsigned long long by)
+{
+	return (n + by / 2) / by;
+}
+
+/* ---------------------------------------------------------------- cpu.weight, cpu.weight.nice, cpu.idle */
+
+static bool is_idle(const char *group)
+{
+	return values_kept(group, "cpu.idle")[0] == '1';
+}
+
+static long shares_of(const char *group)
+{
+	return is_idle(group) ? IDLE_SHARES : strtol(values_kept(group, "cpu.weight"), NULL, 10);
+}
+
+int cpu_take_weight(const char *group, const struct file *file, const char *said, char out[TEXT_ROOM])
+{
+	unsigned long long n;
+	(void)file;
+	int fault = scan_unsigned(said, &n);
+	if (fault)
+		return fault;
+	if (n < 1 || n > WEIGHT_MAX)
+		return -ERANGE;
+	if (is_idle(group))
+		return -EINVAL;
+	snprintf(out, TEXT_ROOM, "%llu", divided(n * SHARES, WEIGHT));
+	return 0;
+}
+
+void cpu_show_weight(const char *group, const struct file *file, char out[TEXT_ROOM])
+{
+	(void)file;
+	unsigned long long shares = (unsigned long long)shares_of(group);
+	snprintf(out, TEXT_ROOM, "%llu\n", divided(shares * WEIGHT, SHARES));
+}
+
+int cpu_take_nice(const char *group, const struct file *file, const char *said, char out[TEXT_ROOM])
+{
+	long long n;
+	int fault = scan_signed(said, &n);
+	(void)file;
+	if (fault)
+		return fault;
+	if (n < NICE_FIRST || n >= NICE_FIRST + NICE_COUNT)
+		return -ERANGE;
+	if (is_idle(group))
+		return -EINVAL;
+	snprintf(out, TEXT_ROOM, "%d", of_nice[n - NICE_FIRST]);
+	return values_keep(group, "cpu.weight", out);
+}
+
+/* The nearest; of two the first. */
+void cpu_show_nice(const char *group, const struct file *file, char out[TEXT_ROOM])
+{
+	long shares = shares_of(group);
+	int best = 0;
+	(void)file;
+	while (best + 1 < NICE_COUNT && labs(of_nice[best + 1] - shares) < labs(of_nice[best] - shares))
+		best++;
+	snprintf(out, TEXT_ROOM, "%d\n", best + NICE_FIRST);
+}
+
+int cpu_take_idle(const char *group, const struct file *file, const char *said, char out[TEXT_ROOM])
+{
+	char shares[16];
+	long long n;
+	(void)file;
+	int fault = scan_signed(said, &n);
+	if (fault || n < 0 || n > 1)
+		return fault ? fault : -EINVAL;
+	snprintf(out, TEXT_ROOM, "%lld\n", n);
+	snprintf(shares, sizeof shares, "%d", SHARES);
+	return n || !is_idle(group) ? 0 : values_keep(group, "cpu.weight", shares);
+}
+
+/* ---------------------------------------------------------------- cpu.max, cpu.max.burst */
+
+static const unsigned long long no_quota = ~0ULL;
+
+static void read_max(const char *group, unsigned long long *quota, unsigned long long *period)
+{
+	const char *at = values_kept(group, "cpu.max");
+	if (!scan_decimal(&at, quota)) {
+		*quota = no_quota;
+		at += strlen("max");
+	}
+	scan_decimal(&at, period);
+}
+
+static int check_bandwidth(unsigned long long quota, unsigned long long period, unsigned long long burst)
+{
+	if (quota < shortest || period < shortest || period > longest_period)
+		return -EINVAL;
+	if (quota != no_quota && (quota > most_runtime || burst > quota || burst + quota > most_runtime))
+		return -EINVAL;
+	return 0;
+}
+
+static unsigned long long burst_of(const char *group)
+{
+	return strtoull(values_kept(group, "cpu.max.burst"), NULL, 10);
+}
+
+/* A quota or `max`, and a period, which stays as it was where none is said. */
+int cpu_take_max(const char *group, const struct file *file, const char *said, char out[TEXT_ROOM])
+{
+	char word[21];
+	unsigned long long quota, period, as_was;
+	const char *at = said;
+	(void)file;
+	read_max(group, &quota, &as_was);
+	if (!scan_word(&at, word, sizeof word))
+		return -EINVAL;
+	if (!scan_decimal(&at, &period))
+		period = as_was;
+	at = word;
+	if (!scan_decimal(&at, &quota)) {
+		if (strcmp(word, "max") != 0)
+			return -EINVAL;
+		quota = no_quota;
+	}
+	int fault = check_bandwidth(quota, period, burst_of(group));
+	if (fault)
+		return fault;
+	if (quota == no_quota)
+		snprintf(out, TEXT_ROOM, "max %llu\n", period);
+	else
+		snprintf(out, TEXT_ROOM, "%llu %llu\n", quota, period);
+	return 0;
+}
+
+int cpu_take_burst(const char *group, const struct file *file, const char *said, char out[TEXT_ROOM])
+{
+	unsigned long long quota, period, burst;
+	(void)file;
+	int fault = scan_unsigned(said, &burst);
+	if (fault)
+		return fault;
+	read_max(group, &quota, &period);
+	if (burst > ~0ULL / 1000 || check_bandwidth(quota, period, burst))
+		return -EINVAL;
+	snprintf(out, TEXT_ROOM, "%llu\n", burst);
+	return 0;
+}
+
+/* ---------------------------------------------------------------- cpu.stat, which is there without the controller too */
+
+void cpu_stat_show(const char *group, const struct file *file, char out[TEXT_ROOM])
+{
+	static const struct file of_controller = { .controller = HAS_CPU };
+	(void)file;
+	bool has_more = controllers_kept() & HAS_CPU && controllers_have(group, &of_controller);
+	snprintf(out, TEXT_ROOM, "usage_usec 0\nuser_usec 0\nsystem_usec 0\n%s",
+	         has_more ? "nr_periods 0\nnr_throttled 0\nthrottled_usec 0\nnr_bursts 0\nburst_usec 0\n" : "");
+}

@@ -1,0 +1,112 @@
+/* cpuset.*: lists of processors and of memory nodes, which are those of this machine. */
+#include "cleanup.h"
+#include "engine.h"
+#include "lists.h"
+#include "scan.h"
+#include "values.h"
+#include <errno.h>
+#include <stdio.h>
+#include <string.h>
+
+/* What the machine has, as it says itself. Where it says nothing it has one of each. */
+static void read_machine(bool is_mems, const char *what, struct list *out)
+{
+	char path[80], line[TEXT_ROOM] = "0";
+	snprintf(path, sizeof path, "/sys/devices/system/%s/%s", is_mems ? "node" : "cpu", what);
+	cleanup_stream FILE *f = fopen(path, "re");
+	if (f && !fgets(line, sizeof line, f))
+		line[0] = 0;
+	if (list_read(line, LIST_MAX, out) || list_is_empty(out))
+		list_read("0", LIST_MAX, out);
+}
+
+static bool is_mems(const struct file *file)
+{
+	return strncmp(file->name, "cpuset.mems", 11) == 0;
+}
+
+/* Nothing means: as the group above has it. A number beyond the kernel's own is ERANGE, one that the machine can't have EINVAL. */
+int cpuset_take_list(const char *group, const struct file *file, const char *said, char out[TEXT_ROOM])
+{
+	char text[TEXT_ROOM];
+	struct list possible, wanted;
+	(void)group;
+	read_machine(is_mems(file), "possible", &possible);
+	snprintf(text, sizeof text, "%s", said);
+	unsigned bits = is_mems(file) ? NODES_MAX : list_last(&possible) + 1;
+	int fault = list_read(scan_strip(text), bits, &wanted);
+	if (fault)
+		return fault;
+	if (!list_is_within(&wanted, &possible))
+		return -EINVAL;
+	return list_write(&wanted, out, TEXT_ROOM) ? 0 : -ENOMEM;
+}
+
+/* What the group's list leaves of that above it; where that is nothing, all of it. */
+static void narrow(const char *group, const char *name, struct list *effective)
+{
+	struct list own, left = *effective;
+	if (list_read(values_kept(group, name), LIST_MAX, &own) == 0 && !list_is_empty(&own)) {
+		list_keep_common(&left, &own);
+		if (!list_is_empty(&left))
+			*effective = left;
+	}
+}
+
+void cpuset_show_effective(const char *group, const struct file *file, char out[TEXT_ROOM])
+{
+	char at[PATH_MAX_SAID];
+	struct list effective;
+	const char *name = is_mems(file) ? "cpuset.mems" : "cpuset.cpus";
+	read_machine(is_mems(file), is_mems(file) ? "has_memory" : "online", &effective);
+	for (size_t n = 1; !is_root(group); n++)
+		if (group[n] == '/' || group[n] == 0) {
+			snprintf(at, sizeof at, "%.*s", (int)n, group);
+			narrow(at, name, &effective);
+			if (group[n] == 0)
+				break;
+		}
+	if (!list_write(&effective, out, TEXT_ROOM))
+		snprintf(out, TEXT_ROOM, "\n");
+}
+
+/* ---------------------------------------------------------------- cpuset.cpus.partition */
+
+int cpuset_take_partition(const char *group, const struct file *file, const char *said, char out[TEXT_ROOM])
+{
+	static const char *const words[] = { "member", "root", "isolated" };
+	char text[TEXT_ROOM];
+	(void)group, (void)file;
+	snprintf(text, sizeof text, "%s", said);
+	const char *word = scan_strip(text);
+	for (size_t i = 0; i < sizeof words / sizeof *words; i++)
+		if (strcmp(word, words[i]) == 0) {
+			snprintf(out, TEXT_ROOM, "%s\n", word);
+			return 0;
+		}
+	return -EINVAL;
+}
+
+static const char *why_invalid(const char *group)
+{
+	char above[PATH_MAX_SAID];
+	snprintf(above, sizeof above, "%s", group);
+	go_up(above);
+	if (!is_root(above)) {
+		if (strcmp(values_kept(above, "cpuset.cpus.partition"), "member\n") == 0)
+			return "Parent is not a partition root";
+		if (why_invalid(above))
+			return "Parent is an invalid partition root";
+	}
+	return values_kept(group, "cpuset.cpus")[0] == '\n' ? "cpuset.cpus and cpuset.cpus.exclusive are empty" : NULL;
+}
+
+void cpuset_show_partition(const char *group, const struct file *file, char out[TEXT_ROOM])
+{
+	const char *kept = values_kept(group, file->name);
+	const char *why = strcmp(kept, "member\n") == 0 ? NULL : why_invalid(group);
+	if (why)
+		snprintf(out, TEXT_ROOM, "%.*s invalid (%s)\n", (int)strcspn(kept, "\n"), kept, why);
+	else
+		snprintf(out, TEXT_ROOM, "%s", kept);
+}

@@ -1,0 +1,165 @@
+/* io.*: a write speaks of one device, and leaves the others as they are. The text that is kept is the text that is read. */
+#include "scan.h"
+#include "values.h"
+#include <errno.h>
+#include <limits.h>
+#include <stdio.h>
+#include <stdlib.h>
+#include <string.h>
+#include <unistd.h>
+
+enum { RATES = 4, WEIGHT_MAX = 10000 };
+
+static const char *const rate_names[RATES] = { "rbps", "wbps", "riops", "wiops" };
+
+/* The device at the start, as MAJOR:MINOR and a blank: 0, -EINVAL, or -ENODEV for what is no whole block device here. */
+static int take_device(const char **at, char device[32])
+{
+	char path[80];
+	unsigned long long major, minor;
+	if (!scan_decimal(at, &major) || **at != ':')
+		return -EINVAL;
+	++*at;
+	if (!(**at >= '0' && **at <= '9') || !scan_decimal(at, &minor) || !(**at == ' ' || (**at >= '\t' && **at <= '\r')))
+		return -EINVAL;
+	snprintf(device, 32, "%u:%u", (unsigned)major, (unsigned)minor);
+	snprintf(path, sizeof path, "/sys/dev/block/%s", device);
+	if (access(path, F_OK))
+		return -ENODEV;
+	snprintf(path, sizeof path, "/sys/dev/block/%s/partition", device);
+	return access(path, F_OK) == 0 ? -ENODEV : 0;
+}
+
+/* The line of a device in a text, and how long it is; the end of the text where it has none. */
+static const char *find_line(const char *text, const char *device, size_t *size)
+{
+	size_t n = strlen(device);
+	*size = 0;
+	while (*text) {
+		size_t length = strcspn(text, "\n") + 1;
+		if (strncmp(text, device, n) == 0 && text[n] == ' ') {
+			*size = length;
+			return text;
+		}
+		text += length;
+	}
+	return text;
+}
+
+/* The text with the line of a device replaced, or put at the end; an empty line takes it out. */
+static int replace_line(const char *text, const char *device, const char *line, char out[TEXT_ROOM])
+{
+	size_t size;
+	const char *at = find_line(text, device, &size);
+	int n = snprintf(out, TEXT_ROOM, "%.*s%s%s", (int)(at - text), text, line, at + size);
+	return n < TEXT_ROOM ? 0 : -ENOMEM;
+}
+
+/* ---------------------------------------------------------------- io.max */
+
+static unsigned long long greatest(int rate)
+{
+	return rate < 2 ? ULLONG_MAX : UINT_MAX;
+}
+
+static void read_rates(const char *line, unsigned long long rates[RATES])
+{
+	for (int i = 0; i < RATES; i++) {
+		const char *found = *line ? strstr(line, rate_names[i]) : NULL;
+		rates[i] = greatest(i);
+		if (found && (found += strlen(rate_names[i]) + 1) && *found != 'm')
+			rates[i] = strtoull(found, NULL, 10);
+	}
+}
+
+/* One NAME=NUMBER or NAME=max. */
+static int take_rate(char *word, unsigned long long rates[RATES])
+{
+	unsigned long long n;
+	char *equals = strchr(word, '=');
+	if (!equals)
+		return -EINVAL;
+	*equals = 0;
+	const char *value = equals + 1;
+	if (strcmp(value, "max") == 0)
+		n = ULLONG_MAX;
+	else if (!scan_decimal(&value, &n))
+		return -EINVAL;
+	if (n == 0)
+		return -ERANGE;
+	for (int i = 0; i < RATES; i++)
+		if (strcmp(word, rate_names[i]) == 0 && n > 1) {
+			rates[i] = n < greatest(i) ? n : greatest(i);
+			return 0;
+		}
+	return -EINVAL;
+}
+
+static void put_rates(const char *device, const unsigned long long rates[RATES], char line[TEXT_ROOM])
+{
+	bool limits = false;
+	int n = snprintf(line, TEXT_ROOM, "%s", device);
+	for (int i = 0; i < RATES; i++) {
+		limits |= rates[i] != greatest(i);
+		if (rates[i] == greatest(i))
+			n += snprintf(line + n, TEXT_ROOM - (size_t)n, " %s=max", rate_names[i]);
+		else
+			n += snprintf(line + n, TEXT_ROOM - (size_t)n, " %s=%llu", rate_names[i], rates[i]);
+	}
+	snprintf(line + n, TEXT_ROOM - (size_t)n, "\n");
+	if (!limits)
+		line[0] = 0;
+}
+
+int io_take_max(const char *group, const struct file *file, const char *said, char out[TEXT_ROOM])
+{
+	char device[32], word[27], line[TEXT_ROOM];
+	unsigned long long rates[RATES];
+	size_t size;
+	const char *at = said, *kept = values_kept(group, file->name);
+	int fault = take_device(&at, device);
+	if (fault)
+		return fault;
+	snprintf(line, sizeof line, "%s", find_line(kept, device, &size));
+	line[size] = 0;
+	read_rates(line, rates);
+	while (scan_word(&at, word, sizeof word))
+		if ((fault = take_rate(word, rates)))
+			return fault;
+	put_rates(device, rates, line);
+	return replace_line(kept, device, line, out);
+}
+
+/* ---------------------------------------------------------------- io.weight */
+
+static int take_weight(const char *at, unsigned long long *out)
+{
+	return scan_decimal(&at, out) && *out >= 1 && *out <= WEIGHT_MAX ? 0 : -EINVAL;
+}
+
+/* `default N` or N; DEVICE N, or DEVICE default */
+int io_take_weight(const char *group, const struct file *file, const char *said, char out[TEXT_ROOM])
+{
+	char device[32], line[64] = "";
+	unsigned long long n;
+	const char *at = said, *kept = values_kept(group, file->name);
+	if (!strchr(said, ':')) {
+		static const char word[] = "default";
+		if (strncmp(at, word, sizeof word - 1) == 0)
+			at += sizeof word - 1;
+		if (take_weight(at, &n))
+			return -EINVAL;
+		snprintf(line, sizeof line, "default %llu\n", n);
+		return replace_line(kept, word, line, out);
+	}
+	int fault = take_device(&at, device);
+	if (fault)
+		return fault;
+	at += strspn(at, " \t\n");
+	if (strncmp(at, "default", 7) != 0) {
+		if (take_weight(at, &n))
+			return -EINVAL;
+		snprintf(line, sizeof line, "%s %llu\n", device, n);
+	}
+	return replace_line(kept, device, line, out);
+}

@@ -1,0 +1,46 @@
+/* memory.*: bytes are kept as whole pages. */
+#include "scan.h"
+#include "values.h"
+#include <errno.h>
+#include <limits.h>
+#include <stdio.h>
+#include <string.h>
+#include <unistd.h>
+
+/* `max`, or a number of bytes. As in the kernel nothing at all is 0 bytes, and what is beyond the greatest counter is no
+   limit. */
+int memory_take_limit(const char *group, const struct file *file, const char *said, char out[TEXT_ROOM])
+{
+	char text[TEXT_ROOM];
+	const char *end;
+	unsigned long long page = (unsigned long long)sysconf(_SC_PAGESIZE);
+	(void)group, (void)file;
+	snprintf(text, sizeof text, "%s", said);
+	const char *from = scan_strip(text);
+	unsigned long long pages = scan_memory(from, &end) / page;
+	if (strcmp(from, "max") == 0)
+		pages = LONG_MAX / page;
+	else if (*end)
+		return -EINVAL;
+	if (pages >= LONG_MAX / page)
+		snprintf(out, TEXT_ROOM, "max\n");
+	else
+		snprintf(out, TEXT_ROOM, "%llu\n", pages * page);
+	return 0;
+}
+
+/* memory.oom.group: 0 or 1 */
+int memory_take_switch(const char *group, const struct file *file, const char *said, char out[TEXT_ROOM])
+{
+	char text[TEXT_ROOM];
+	long long n;
+	(void)group, (void)file;
+	snprintf(text, sizeof text, "%s", said);
+	int fault = scan_signed(scan_strip(text), &n);
+	if (fault || n < INT_MIN || n > INT_MAX)
+		return fault ? fault : -ERANGE;
+	if (n != 0 && n != 1)
+		return -EINVAL;
+	snprintf(out, TEXT_ROOM, "%lld\n", n);
+	return 0;
+}

@@ -1,0 +1,147 @@
+"""--keep: which controllers a group has, and that groups which share them out have no processes of their own."""
+import os
+import subprocess
+
+from support import PROGRAM, Mount, error_of, finish, read, same, write
+
+KEPT = "memory,cpu,io,cpuset"
+
+
+def text_of(m, *names):
+    return read(m.path(*names)).decode().strip()
+
+
+def change(m, group, words):
+    return error_of(write, m.path(group, "cgroup.subtree_control"), words.encode() + b"\n")
+
+
+def enabling():
+    m = Mount("--keep", KEPT)
+    same("the root has all", text_of(m, "cgroup.controllers"), "cpuset cpu io memory pids")
+    same("its children none", text_of(m, "cgroup.subtree_control"), "")
+    os.mkdir(m.path("a"))
+    same("a child then", (text_of(m, "a", "cgroup.controllers"), text_of(m, "a", "cgroup.subtree_control")), ("", ""))
+    same("no file of pids", error_of(read, m.path("a", "pids.max")), "ENOENT")
+    same("nor is one listed", [n for n in os.listdir(m.path("a")) if not n.startswith("cgroup.")], ["cpu.stat"])
+    same("cpu.stat without cpu", text_of(m, "a", "cpu.stat"), "usage_usec 0\nuser_usec 0\nsystem_usec 0")
+    tries = [
+        (".", "+pids -memory", "ok", "pids"), (".", "+memory", "ok", "memory pids"), (".", "", "ok", "memory pids"),
+        (".", "+cpu -cpu", "ok", "memory pids"), (".", "-cpu +cpu", "ok", "cpu memory pids"), (".", "  +io   +cpuset ", "ok", "cpuset cpu io memory pids"),
+        (".", "memory", "EINVAL", "cpuset cpu io memory pids"), (".", "+hugetlb", "EINVAL", "cpuset cpu io memory pids"),
+        (".", "+", "EINVAL", "cpuset cpu io memory pids"), (".", "*memory", "EINVAL", "cpuset cpu io memory pids"),
+        (".", "-io +rdma", "EINVAL", "cpuset cpu io memory pids"), (".", "-io -cpuset", "ok", "cpu memory pids"),
+        ("a", "+io", "ENOENT", ""), ("a", "+memory +io", "ENOENT", ""), ("a", "-io", "ok", ""), ("a", "+memory", "ok", "memory"),
+        (".", "-memory", "EBUSY", "cpu memory pids"), (".", "-memory -pids", "EBUSY", "cpu memory pids"), (".", "-pids", "ok", "cpu memory"),
+        ("a", "-memory", "ok", ""), (".", "-memory", "ok", "cpu"), (".", "-cpu", "ok", ""),
+    ]
+    for group, words, error, text in tries:
+        same("%s: %r" % (group, words), change(m, group, words), error)
+        same("%s then" % group, text_of(m, group, "cgroup.subtree_control"), text)
+        if group == ".":
+            same("the child's", text_of(m, "a", "cgroup.controllers"), text)
+    same("more than a page", error_of(write, m.path("cgroup.subtree_control"), b" " * 5000), "E2BIG")
+    m.end()
+
+
+def lost_pids():
+    """Where pids is taken away its limit is lifted; an open file of it ends."""
+    m = Mount("--keep", "memory")
+    change(m, ".", "+pids")
+    os.mkdir(m.path("a"))
+    write(m.path("a", "pids.max"), b"0\n")
+    write(m.path("a", "cgroup.procs"), b"1\n")
+    same("a limit", error_of(write, m.control("fork"), b"1 2\n"), "EAGAIN")
+    fd = os.open(m.path("a", "pids.max"), os.O_RDONLY)
+    change(m, ".", "-pids")
+    same("its open file", error_of(os.read, fd, 9), "ENODEV")
+    os.close(fd)
+    same("no limit", error_of(write, m.control("fork"), b"1 2\n"), "ok")
+    change(m, ".", "+pids")
+    same("the new one", text_of(m, "a", "pids.max"), "max")
+    same("a directory of a file's name", error_of(os.mkdir, m.path("a", "memory.max")), "EEXIST")
+    m.end()
+
+
+def internal():
+    m = Mount("--keep", KEPT)
+    change(m, ".", "+memory +cpu +pids")
+    os.makedirs(m.path("a", "b"))
+    write(m.control("fork"), b"1 2\n")
+    write(m.path("a", "cgroup.procs"), b"2\n")
+    same("memory in a group with a process", change(m, "a", "+memory"), "EBUSY")
+    same("with others", change(m, "a", "+memory +cpu"), "EBUSY")
+    same("nothing was enabled", text_of(m, "a", "cgroup.subtree_control"), "")
+    same("the type", (text_of(m, "a", "cgroup.type"), text_of(m, "a", "b", "cgroup.type")), ("domain", "domain"))
+    write(m.path("a", "b", "cgroup.procs"), b"2\n")
+    same("once it has left", change(m, "a", "+memory"), "ok")
+    same("a process comes back", error_of(write, m.path("a", "cgroup.procs"), b"2\n"), "EBUSY")
+    same("it stays", text_of(m, "a", "b", "cgroup.procs"), "2")
+    same("one that is not there", error_of(write, m.path("a", "cgroup.procs"), b"9\n"), "ESRCH")
+    same("to the root, which may have both", error_of(write, m.path("cgroup.procs"), b"2\n"), "ok")
+    same("into the group that shares", error_of(write, m.path("a", "cgroup.procs"), b"2\n"), "EBUSY")
+    write(m.path("a", "b", "cgroup.procs"), b"2\n")
+    same("memory below is taken away", change(m, "a", "-memory"), "ok")
+    same("then it may be entered", error_of(write, m.path("a", "cgroup.procs"), b"2\n"), "ok")
+    m.end()
+
+
+def threaded():
+    """Controllers of threads may be enabled beside a process; then groups below are no domains. There are no threaded groups."""
+    m = Mount("--keep", KEPT)
+    change(m, ".", "+memory +cpu +pids")
+    os.makedirs(m.path("a", "b"))
+    write(m.control("fork"), b"1 2\n")
+    write(m.path("a", "cgroup.procs"), b"2\n")
+    same("pids beside a process", change(m, "a", "+pids"), "ok")
+    same("the type", (text_of(m, "a", "cgroup.type"), text_of(m, "a", "b", "cgroup.type")), ("domain threaded", "domain invalid"))
+    same("memory beside it", change(m, "a", "+memory"), "ENOTSUP")
+    same("a move below", error_of(write, m.path("a", "b", "cgroup.procs"), b"2\n"), "ENOTSUP")
+    same("enabling below", change(m, "a/b", "+pids"), "ENOTSUP")
+    write(m.path("cgroup.procs"), b"2\n")
+    same("without processes they are domains", (text_of(m, "a", "cgroup.type"), text_of(m, "a", "b", "cgroup.type")), ("domain", "domain"))
+    same("a move below", error_of(write, m.path("a", "b", "cgroup.procs"), b"2\n"), "ok")
+    same("beside a group with processes", error_of(write, m.path("a", "cgroup.procs"), b"2\n"), "EBUSY")
+    same("to be threaded", error_of(write, m.path("a", "cgroup.type"), b"threaded\n"), "ENOTSUP")
+    same("to be a domain", error_of(write, m.path("a", "cgroup.type"), b"domain\n"), "ok")
+    m.end()
+
+
+def without():
+    """Without --keep nothing of this is there."""
+    m = Mount("--extra")
+    os.mkdir(m.path("a"))
+    same("controllers", (text_of(m, "a", "cgroup.controllers"), text_of(m, "a", "cgroup.subtree_control")), ("pids", "pids"))
+    write(m.path("a", "cgroup.procs"), b"1\n")
+    os.mkdir(m.path("a", "b"))
+    same("a group with a process has children with pids", text_of(m, "a", "b", "pids.max"), "max")
+    same("no file of memory", error_of(read, m.path("a", "memory.max")), "ENOENT")
+    m.end()
+
+
+def refused():
+    for words in ("", "pids", "memory,", "memory,hugetlb", "memory cpu"):
+        ran = subprocess.run([PROGRAM, "mount", "/tmp", "--keep", words], stderr=subprocess.PIPE)
+        same("--keep %r" % words, (ran.returncode, ran.stderr.count(b"\n")), (2, 1))
+
+
+def under_run():
+    """clone3 into a group that shares out its controllers; and the files of a run."""
+    script = """
+set -e
+cd /sys/fs/cgroup
+echo '+memory +pids' > cgroup.subtree_control
+mkdir -p a/b
+echo 1m > a/memory.max
+cat a/memory.max a/cgroup.controllers
+echo +memory > a/cgroup.subtree_control
+if echo 0 > a/cgroup.procs; then echo in; else echo refused; fi
+echo 0 > a/b/cgroup.procs
+cat /proc/self/cgroup
+"""
+    ran = subprocess.run([PROGRAM, "run", "--keep", "memory", "--", "sh", "-c", script], stdout=subprocess.PIPE, stderr=subprocess.PIPE, timeout=60)
+    same("under run", ran.stdout, b"1048576\nmemory pids\nrefused\n0::/a/b\n")
+
+
+for test in (enabling, lost_pids, internal, threaded, without, refused, under_run):
+    test()
+finish()

@@ -1,0 +1,337 @@
+"""The freezer. Without real processes a group is frozen at once; under `makhloeum run` processes really stop. This file is also
+the program (freezer.py inside NAME)."""
+import ctypes
+import os
+import select
+import signal
+import subprocess
+import sys
+import threading
+import time
+
+from support import PATIENCE, PROGRAM, Mount, error_of, finish, libc, read, same, step, until, write
+
+AT = "/sys/fs/cgroup"
+ME = os.path.realpath(__file__)
+THAWED, FROZEN = b"frozen 0\n", b"frozen 1\n"
+
+
+def frozen(group):
+    return read(group + "/cgroup.events").splitlines(True)[1]
+
+
+# ---------------------------------------------------------------- a mount of numbers
+
+def numbers():
+    m = Mount("--extra")
+    os.makedirs(m.path("a", "b"))
+    os.mkdir(m.path("c"))
+    a, b, c = m.path("a"), m.path("a", "b"), m.path("c")
+    same("thawed at first", (frozen(a), read(a + "/cgroup.freeze")), (THAWED, b"0\n"))
+    same("the root has no such file", error_of(read, m.path("cgroup.freeze")), "ENOENT")
+    for value, error in ((b"2\n", "ERANGE"), (b"-1\n", "ERANGE"), (b"x\n", "EINVAL"), (b"\n", "EINVAL"), (b"99999999999999999999\n", "ERANGE"),
+                         (b" 0x0 \n", "ok"), (b"1" * 5000, "E2BIG")):
+        same("writing %r" % value[:9], error_of(write, a + "/cgroup.freeze", value), error)
+        same("it is as it was", read(a + "/cgroup.freeze"), b"0\n")
+    write(a + "/cgroup.freeze", b"1\n")
+    same("a frozen group", (frozen(a), read(a + "/cgroup.freeze")), (FROZEN, b"1\n"))
+    same("the group below", (frozen(b), read(b + "/cgroup.freeze")), (FROZEN, b"0\n"))
+    same("the group beside", frozen(c), THAWED)
+    write(b + "/cgroup.freeze", b"1\n")
+    write(a + "/cgroup.freeze", b"0\n")
+    same("thawed above, frozen itself", (frozen(a), frozen(b)), (THAWED, FROZEN))
+    os.mkdir(m.path("a", "b", "d"))
+    same("a new group below", frozen(m.path("a", "b", "d")), FROZEN)
+    os.rmdir(m.path("a", "b", "d"))
+    os.rmdir(b)
+    os.mkdir(b)
+    same("a new group of that name", (frozen(b), read(b + "/cgroup.freeze")), (THAWED, b"0\n"))
+    step("the engine has none of it", "freeze" not in open(m.trace).read())
+    m.end()
+
+
+def notified():
+    m = Mount("--extra")
+    os.makedirs(m.path("a", "b"))
+    fd = os.open(m.path("a", "b", "cgroup.events"), os.O_RDONLY)
+    os.pread(fd, 100, 0)
+    poller = select.poll()
+    poller.register(fd, select.POLLPRI)
+    same("nothing has changed", poller.poll(50), [])
+    write(m.path("a", "cgroup.freeze"), b"1\n")
+    same("a freeze above wakes", [mask & select.POLLPRI for _, mask in poller.poll(1000 * PATIENCE)], [select.POLLPRI])
+    same("it reads", os.pread(fd, 100, 0), b"populated 0\nfrozen 1\n")
+    write(m.path("a", "cgroup.freeze"), b"1\n")
+    same("the same again does not", poller.poll(100), [])
+    write(m.path("a", "cgroup.freeze"), b"0\n")
+    same("a thaw wakes", [mask & select.POLLPRI for _, mask in poller.poll(1000 * PATIENCE)], [select.POLLPRI])
+    os.close(fd)
+    m.end()
+
+
+# ---------------------------------------------------------------- inside
+
+COUNTER = """
+import sys, time
+n = 0
+while True:
+    n += 1
+    sys.stdout.write("%d\\n" % n)
+    sys.stdout.flush()
+    time.sleep(0.005)
+"""
+
+
+class Counter:
+    """A process in a group that counts in a pipe as long as it runs."""
+
+    def __init__(self, group, program=COUNTER):
+        self.process = subprocess.Popen([sys.executable, "-c", program], stdout=subprocess.PIPE)
+        write(AT + group + "/cgroup.procs", b"%d\n" % self.process.pid)
+        os.set_blocking(self.process.stdout.fileno(), False)
+        self.counts()
+
+    def read(self):
+        try:
+            return os.read(self.process.stdout.fileno(), 1 << 20)
+        except BlockingIOError:
+            return b""
+
+    def counts(self):
+        """Whether it goes on within the patience of these tests."""
+        self.read()
+        return until(lambda: self.read() != b"")
+
+    def rests(self):
+        """Whether nothing comes for a while."""
+        self.read()
+        time.sleep(0.2)
+        return self.read() == b""
+
+    def end(self):
+        self.process.kill()
+        self.process.wait(PATIENCE)
+        self.process.stdout.close()
+
+
+def freeze(group, value):
+    write(AT + group + "/cgroup.freeze", b"%d\n" % value)
+
+
+def becomes(name, group, wanted):
+    step(name, until(lambda: frozen(AT + group) == wanted), frozen(AT + group))
+
+
+def stops():
+    os.makedirs(AT + "/a/b")
+    one, two = Counter("/a"), Counter("/a/b")
+    freeze("/a", 1)
+    becomes("both have stopped", "/a", FROZEN)
+    same("so has the group below", frozen(AT + "/a/b"), FROZEN)
+    step("they rest", one.rests() and two.rests())
+    freeze("/a/b", 1)
+    freeze("/a", 0)
+    step("the one above goes on", one.counts())
+    step("the one below rests", two.rests())
+    same("what is told", (frozen(AT + "/a"), frozen(AT + "/a/b")), (THAWED, FROZEN))
+    freeze("/a/b", 0)
+    step("it goes on", two.counts())
+    for _ in range(100):
+        freeze("/a", 1)
+        freeze("/a", 0)
+    step("after a hundred changes both go on", one.counts() and two.counts())
+    freeze("/a", 1)
+    freeze("/a", 0)
+    freeze("/a", 1)
+    becomes("frozen again", "/a", FROZEN)
+    one.end()
+    same("a frozen process can be killed", one.process.returncode, -signal.SIGKILL)
+    write(AT + "/a/cgroup.kill", b"1\n")
+    same("cgroup.kill ends a frozen one", two.process.wait(PATIENCE), -signal.SIGKILL)
+    same("an empty frozen group", read(AT + "/a/cgroup.events"), b"populated 0\nfrozen 1\n")
+
+
+def moves():
+    os.mkdir(AT + "/cold")
+    os.mkdir(AT + "/warm")
+    freeze("/cold", 1)
+    one = Counter("/warm")
+    write(AT + "/cold/cgroup.procs", b"%d\n" % one.process.pid)
+    becomes("a process that moves in stops", "/cold", FROZEN)
+    step("it rests", one.rests())
+    write(AT + "/warm/cgroup.procs", b"%d\n" % one.process.pid)
+    step("moved out it goes on", one.counts())
+    one.end()
+    fd = os.open(AT + "/cold", os.O_RDONLY)
+    mark = os.path.join(os.environ["TMPDIR"], "mark%d" % os.getpid())
+    path = ctypes.create_string_buffer(mark.encode())
+    args = (ctypes.c_uint64 * 11)(0x200000000, 0, 0, 0, signal.SIGCHLD, 0, 0, 0, 0, 0, fd)
+    pid = libc.syscall(435, args, 88)
+    if pid == 0:
+        libc.mkdir(path, 0o755)
+        libc._exit(0)
+    becomes("a child that is born there stops", "/cold", FROZEN)
+    time.sleep(0.2)
+    same("before its first instruction", os.path.exists(mark), False)
+    freeze("/cold", 0)
+    same("it goes on", os.waitpid(pid, 0)[1], 0)
+    same("and did what it was made for", os.path.exists(mark), True)
+    os.rmdir(mark)
+
+
+FORKS = """
+import os, sys, time
+while True:
+    pid = os.fork()
+    if pid == 0:
+        os._exit(0)
+    os.waitpid(pid, 0)
+    os.write(1, b"x")
+"""
+THREADS = """
+import os, threading, time
+def count():
+    while True:
+        os.write(1, b"x")
+        time.sleep(0.002)
+for _ in range(8):
+    threading.Thread(target=count, daemon=True).start()
+while True:
+    t = threading.Thread(target=time.sleep, args=(0.001,))
+    t.start()
+    t.join()
+"""
+VFORKS = """
+import subprocess, os
+while True:
+    subprocess.run(["/bin/true"])
+    os.write(1, b"x")
+"""
+LEADERLESS = """
+import ctypes, os, threading, time
+def count():
+    while True:
+        os.write(1, b"x")
+        time.sleep(0.002)
+threading.Thread(target=count, daemon=True).start()
+ctypes.CDLL(None).syscall(60 if os.uname().machine == "x86_64" else 93, 0)
+"""
+
+
+def kinds():
+    """Processes that fork, make threads, vfork, and have lost their first thread."""
+    for name, program in (("forks", FORKS), ("threads", THREADS), ("vforks", VFORKS), ("no first thread", LEADERLESS)):
+        group = "/" + name.split()[0]
+        os.mkdir(AT + group)
+        one = Counter(group, program)
+        for _ in range(10):
+            freeze(group, 1)
+            if not until(lambda: frozen(AT + group) == FROZEN):
+                break
+            if not one.rests():
+                break
+            freeze(group, 0)
+            if not one.counts():
+                break
+        else:
+            step("ten freezes of one with " + name, True)
+            one.end()
+            continue
+        step("freezes of one with " + name, False, read(AT + group + "/cgroup.events"))
+        write(AT + group + "/cgroup.kill", b"1\n")
+
+
+def signals():
+    """Job control is the program's own, and goes on beside the freezer."""
+    os.mkdir(AT + "/a")
+    one = Counter("/a")
+    one.process.send_signal(signal.SIGSTOP)
+    same("a stop", os.waitpid(one.process.pid, os.WUNTRACED)[1] & 0xFF, 0x7F)
+    freeze("/a", 1)
+    becomes("a stopped process is frozen", "/a", FROZEN)
+    one.process.send_signal(signal.SIGCONT)
+    step("continued it still rests", one.rests())
+    freeze("/a", 0)
+    step("thawed it goes on", one.counts())
+    freeze("/a", 1)
+    becomes("frozen", "/a", FROZEN)
+    one.process.send_signal(signal.SIGSTOP)
+    freeze("/a", 0)
+    same("a stop that was sent meanwhile", os.waitpid(one.process.pid, os.WUNTRACED)[1] & 0xFF, 0x7F)
+    step("it rests", one.rests())
+    one.process.send_signal(signal.SIGCONT)
+    step("continued it goes on", one.counts())
+    freeze("/a", 1)
+    becomes("frozen", "/a", FROZEN)
+    one.process.send_signal(signal.SIGTERM)
+    time.sleep(0.1)
+    same("a signal waits", one.process.poll(), None)
+    freeze("/a", 0)
+    same("it comes after the thaw", one.process.wait(PATIENCE), -signal.SIGTERM)
+    one.process.stdout.close()
+
+
+def itself():
+    """A process that freezes its own group stops soon after the write; another lets it go."""
+    os.mkdir(AT + "/a")
+    one = subprocess.Popen(["sh", "-c", "echo 0 > %s/a/cgroup.procs; echo 1 > %s/a/cgroup.freeze; sleep 0.5; exit 5" % (AT, AT)])
+    becomes("it stops", "/a", FROZEN)
+    time.sleep(1)
+    same("it has not ended", one.poll(), None)
+    freeze("/a", 0)
+    same("it ends", one.wait(PATIENCE), 5)
+
+
+def told():
+    os.mkdir(AT + "/a")
+    one = Counter("/a")
+    fd = os.open(AT + "/a/cgroup.events", os.O_RDONLY)
+    os.pread(fd, 100, 0)
+    poller = select.poll()
+    poller.register(fd, select.POLLPRI)
+    for value, text in ((1, FROZEN), (0, THAWED)) * 3:
+        freeze("/a", value)
+        same("freeze %d wakes" % value, [mask & select.POLLPRI for _, mask in poller.poll(1000 * PATIENCE)], [select.POLLPRI])
+        same("it reads", os.pread(fd, 100, 0), b"populated 1\n" + text)
+    one.end()
+    os.close(fd)
+
+
+def many():
+    """A hundred processes."""
+    os.mkdir(AT + "/a")
+    all_of = [subprocess.Popen(["sleep", "60"]) for _ in range(100)]
+    for p in all_of:
+        write(AT + "/a/cgroup.procs", b"%d\n" % p.pid)
+    for _ in range(3):
+        freeze("/a", 1)
+        becomes("a hundred stop", "/a", FROZEN)
+        freeze("/a", 0)
+        same("and go on", frozen(AT + "/a"), THAWED)
+    freeze("/a", 1)
+    write(AT + "/a/cgroup.kill", b"1\n")
+    same("all are killed", {p.wait(PATIENCE) for p in all_of}, {-signal.SIGKILL})
+
+
+INSIDE = (stops, moves, kinds, signals, itself, told, many)
+if sys.argv[1:2] == ["inside"]:
+    {t.__name__: t for t in INSIDE}[sys.argv[2]]()
+    finish()
+numbers()
+notified()
+
+
+def run(test):
+    ran = subprocess.run([PROGRAM, "run", sys.executable, ME, "inside", test], timeout=120, stderr=subprocess.PIPE)
+    same("the status of %s" % test, (ran.returncode, ran.stderr), (0, b""))
+
+
+workers = [threading.Thread(target=run, args=(t.__name__,)) for t in INSIDE]
+for w in workers:
+    w.start()
+for w in workers:
+    w.join()
+left = subprocess.run([PROGRAM, "run", "sh", "-c", "mkdir %s/a; sleep 66 & echo $! > %s/a/cgroup.procs; echo 1 > %s/a/cgroup.freeze" % (AT, AT, AT)],
+                      timeout=60).returncode
+same("a run ends with what it left frozen", left, 0)
+finish()
