@@ -93,11 +93,16 @@ void halts_vfork_over(struct thread *t)
 
 /* ---------------------------------------------------------------- orders */
 
+void halts_insists(struct thread *t)
+{
+	if (t->frozen && t->started && (t->rest == RUNS || t->rest == VFORKS))
+		ptrace(PTRACE_INTERRUPT, t->id, 0, 0);
+}
+
 static void freeze(struct thread *t)
 {
 	t->frozen = true;
-	if (t->started && (t->rest == RUNS || t->rest == VFORKS))
-		ptrace(PTRACE_INTERRUPT, t->id, 0, 0);
+	halts_insists(t);
 }
 
 static void go_on(struct thread *t, void (*call)(struct thread *t))

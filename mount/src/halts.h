@@ -12,6 +12,9 @@ void halts_take_orders(void (*call)(struct thread *t));
 bool halts_keeps(struct thread *t, enum rest how);
 /* The thread has come to another stop. */
 void halts_moves(struct thread *t);
+/* After a stop from which the thread was let go: interrupts it again if it is to stay. Whatever the stop was for, the kernel
+   drops an interruption that was asked for before it. */
+void halts_insists(struct thread *t);
 /* It rests although nobody asked: stopped by a signal. */
 void halts_listens(struct thread *t);
 /* It waits for a child that it made by vfork; and the wait of who made this one by vfork is over. */

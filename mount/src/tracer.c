@@ -135,8 +135,10 @@ static void on_stop(pid_t id, int status)
 	if (t)
 		halts_moves(t);
 	on_stop_of(id, t, status);
-	if ((t = threads_find(id)))
-		halts_tell(t->process);
+	if (!(t = threads_find(id)))
+		return;
+	halts_insists(t);
+	halts_tell(t->process);
 }
 
 /* The hierarchy hears of a death before the parent does. */

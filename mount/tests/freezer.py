@@ -14,6 +14,7 @@ from support import PATIENCE, PROGRAM, Mount, error_of, finish, libc, read, same
 AT = "/sys/fs/cgroup"
 ME = os.path.realpath(__file__)
 THAWED, FROZEN = b"frozen 0\n", b"frozen 1\n"
+ROUNDS = 40
 
 
 def frozen(group):
@@ -224,7 +225,7 @@ def kinds():
         group = "/" + name.split()[0]
         os.mkdir(AT + group)
         one = Counter(group, program)
-        for _ in range(10):
+        for _ in range(ROUNDS):
             freeze(group, 1)
             if not until(lambda: frozen(AT + group) == FROZEN):
                 break
@@ -234,7 +235,7 @@ def kinds():
             if not one.counts():
                 break
         else:
-            step("ten freezes of one with " + name, True)
+            step("%d freezes of one with %s" % (ROUNDS, name), True)
             one.end()
             continue
         step("freezes of one with " + name, False, read(AT + group + "/cgroup.events"))
