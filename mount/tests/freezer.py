@@ -14,7 +14,6 @@ from support import PATIENCE, PROGRAM, Mount, error_of, finish, libc, read, same
 AT = "/sys/fs/cgroup"
 ME = os.path.realpath(__file__)
 THAWED, FROZEN = b"frozen 0\n", b"frozen 1\n"
-ROUNDS = 40
 
 
 def frozen(group):
@@ -221,11 +220,11 @@ ctypes.CDLL(None).syscall(60 if os.uname().machine == "x86_64" else 93, 0)
 
 def kinds():
     """Processes that fork, make threads, vfork, and have lost their first thread."""
-    for name, program in (("forks", FORKS), ("threads", THREADS), ("vforks", VFORKS), ("no first thread", LEADERLESS)):
+    for name, program, rounds in (("forks", FORKS, 40), ("threads", THREADS, 10), ("vforks", VFORKS, 10), ("no first thread", LEADERLESS, 10)):
         group = "/" + name.split()[0]
         os.mkdir(AT + group)
         one = Counter(group, program)
-        for _ in range(ROUNDS):
+        for _ in range(rounds):
             freeze(group, 1)
             if not until(lambda: frozen(AT + group) == FROZEN):
                 break
@@ -235,7 +234,7 @@ def kinds():
             if not one.counts():
                 break
         else:
-            step("%d freezes of one with %s" % (ROUNDS, name), True)
+            step("%d freezes of one with %s" % (rounds, name), True)
             one.end()
             continue
         step("freezes of one with " + name, False, read(AT + group + "/cgroup.events"))
