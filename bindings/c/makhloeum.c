@@ -1,6 +1,6 @@
 /* The public calls over the proved ones: a lock around each engine.
  *
- * - A slot is an engine with its lock. A handle has the slot's address and the serial number of the mk_open that filled it.
+ * - A slot is an engine with its lock. A handle has the slot's address and the serial number of the call that filled it.
  *   A slot whose serial number is another one is not this handle's engine: it was closed, and may have been opened again.
  * - Slots are reused and never freed, so a call that waits for the lock of an engine that another thread closes finds the
  *   lock still there, sees another serial number, and returns MK_CLOSED.
@@ -38,20 +38,26 @@ static void end(void) {
     inside = 0;
 }
 
+/* The slot of an open handle, with its lock; or NULL. */
+static struct slot *lock_open(const mk_handle *h) {
+    struct slot *slot = __atomic_load_n(&h->slot, __ATOMIC_ACQUIRE);
+    if (slot == NULL) return NULL;
+    pthread_mutex_lock(&slot->lock);
+    if (slot->serial == __atomic_load_n(&h->serial, __ATOMIC_RELAXED)) return slot;
+    pthread_mutex_unlock(&slot->lock);
+    return NULL;
+}
+
 uint32_t enter(const mk_handle *h, mk0_handle **engine) {
     if (inside) return MK_BUSY;
     begin();
-    struct slot *slot = __atomic_load_n(&h->slot, __ATOMIC_ACQUIRE);
-    if (slot != NULL) {
-        pthread_mutex_lock(&slot->lock);
-        if (slot->serial == __atomic_load_n(&h->serial, __ATOMIC_RELAXED)) {
-            *engine = &slot->engine;
-            return MK_DONE;
-        }
-        pthread_mutex_unlock(&slot->lock);
+    struct slot *slot = lock_open(h);
+    if (slot == NULL) {
+        end();
+        return MK_CLOSED;
     }
-    end();
-    return MK_CLOSED;
+    *engine = &slot->engine;
+    return MK_DONE;
 }
 
 /* Each command that changes the hierarchy is recorded, and each undo takes a record away. */
@@ -91,12 +97,10 @@ uint32_t tell(mk_info *info, uint32_t status, const mk0_info *told) {
 
 /* with the registry locked */
 static bool is_open(const mk_handle *h) {
-    struct slot *slot = h->slot;
+    struct slot *slot = lock_open(h);
     if (slot == NULL) return false;
-    pthread_mutex_lock(&slot->lock);
-    bool open = slot->serial == h->serial;
     pthread_mutex_unlock(&slot->lock);
-    return open;
+    return true;
 }
 
 static bool init_condition(pthread_cond_t *condition) {
@@ -137,36 +141,49 @@ static void give_slot(struct slot *slot) {
     free_slots = slot;
 }
 
-/* with the registry locked */
-static uint32_t fill(mk_handle *h) {
+static uint32_t copy_engine(const mk_handle *from, mk0_handle *to) {
+    struct slot *slot = lock_open(from);
+    if (slot == NULL) return MK_CLOSED;
+    uint32_t status = mk0_copy(&slot->engine, to);
+    pthread_mutex_unlock(&slot->lock);
+    return status;
+}
+
+/* with the registry locked: a new engine, or a copy of that of `from`. Nobody else has the slot yet, so two locks of slots
+   are never held together, and threads that copy crosswise can't wait for each other. */
+static uint32_t fill(mk_handle *h, const mk_handle *from) {
     struct slot *slot = forks_are_watched ? take_slot() : NULL;
     if (slot == NULL) return MK_OUT_OF_MEMORY;
-    pthread_mutex_lock(&slot->lock);
-    uint32_t status = mk0_open(&slot->engine);
-    if (status == MK_DONE) {
-        slot->serial = ++last_serial;
-        slot->changes = slot->depth = 0;
-    }
-    pthread_mutex_unlock(&slot->lock);
+    uint32_t status = from == NULL ? mk0_open(&slot->engine) : copy_engine(from, &slot->engine);
     if (status != MK_DONE) {
         give_slot(slot);
         return status;
     }
+    uint64_t serial = ++last_serial;
+    pthread_mutex_lock(&slot->lock);
+    slot->serial = serial;
+    slot->changes = 0;
+    mk0_depth(&slot->engine, &slot->depth);
+    pthread_mutex_unlock(&slot->lock);
     /* whoever reads the new slot with the old serial number, or the other way round, finds it closed */
-    __atomic_store_n(&h->serial, slot->serial, __ATOMIC_RELAXED);
+    __atomic_store_n(&h->serial, serial, __ATOMIC_RELAXED);
     __atomic_store_n(&h->slot, (void *)slot, __ATOMIC_RELEASE);
     return MK_DONE;
 }
 
-PUBLIC uint32_t mk_open(mk_handle *h) {
+static uint32_t open_or_copy(mk_handle *h, const mk_handle *from) {
     if (inside) return MK_BUSY;
     begin();
     pthread_mutex_lock(&registry);
-    uint32_t status = is_open(h) ? (uint32_t)MK_CLOSED : fill(h);
+    uint32_t status = is_open(h) ? (uint32_t)MK_CLOSED : fill(h, from);
     pthread_mutex_unlock(&registry);
     end();
     return status;
 }
+
+PUBLIC uint32_t mk_open(mk_handle *h) { return open_or_copy(h, NULL); }
+
+PUBLIC uint32_t mk_copy(mk_handle *from, mk_handle *to) { return open_or_copy(to, from); }
 
 PUBLIC uint32_t mk_close(mk_handle *h) {
     mk0_handle *engine;

@@ -18,7 +18,7 @@
  * - A child of fork has a copy of each engine as it was between two calls. The fork waits for calls that are running. A
  *   handler that interrupted a call must not fork.
  * - Memory comes from malloc. If there is none, the call returns MK_OUT_OF_MEMORY, and nothing has changed but perhaps
- *   bytes of the caller's buffer. The memory of a lock, some 100 bytes, is kept for the next mk_open.
+ *   bytes of the caller's buffer. The memory of a lock, some 100 bytes, is kept for the next mk_open or mk_copy.
  * - No pointer is null, even if its length is 0. The line, the path, the buffer, the handle and the info of one call do not
  *   overlap.
  * - Link with libmakhloeum.a or libmakhloeum.so (bindings/build makes both), and with -pthread.
@@ -62,7 +62,7 @@ enum {
     MK_TOO_SMALL = 3,     /* the buffer is too small; nothing has changed */
     MK_OUT_OF_MEMORY = 4, /* out of memory; nothing has changed */
     MK_SKIPPED = 5,       /* a comment, or a line without words: it has no answer; nothing has changed */
-    MK_CLOSED = 6,        /* the handle has no engine (for mk_open: it has one); nothing has changed */
+    MK_CLOSED = 6,        /* the handle has no engine (mk_open, and `to` of mk_copy: it has one); nothing has changed */
     MK_BUSY = 7,          /* called by a signal handler that interrupted a call of this thread; nothing has changed */
     MK_TIMED_OUT = 8,     /* mk_wait: nothing has changed in that time */
     MK_FAILED = 9         /* a fault that mk_fail asked for, with info->error; nothing has changed */
@@ -140,6 +140,13 @@ uint32_t mk_depth(mk_handle *h, size_t *depth);
 /* Forgets the recorded commands: groups, processes and counts stay, none of these commands can be undone any more, and
    the memory of the journal is freed. Needs no memory. MK_DONE, MK_CLOSED or MK_BUSY. */
 uint32_t mk_forget(mk_handle *h);
+
+/* Makes a copy of an engine in a handle that has none: the same groups, processes, counts and recorded commands. What one
+   does from then on, the other doesn't see. The copy has no faults of mk_fail and mk_vanish, and mk_changes begins at 0.
+   MK_DONE, MK_OUT_OF_MEMORY, MK_BUSY, or MK_CLOSED if from has no engine or to has one. Unless MK_DONE is returned, to is as
+   it was; from never changes. Threads may copy crosswise. Calls on from, forks, and mk_open, mk_copy and mk_close of other
+   threads wait until the copy is made. */
+uint32_t mk_copy(mk_handle *from, mk_handle *to);
 
 /* The names of the groups one name below the one at the path, in the order of their bytes, each ended by a zero byte:
    info->count names in info->len bytes. MK_DONE; MK_REFUSED with MK_NO_GROUP if there is no such group; MK_FAULT with

@@ -30,6 +30,7 @@ uint32_t mk0_line(mk0_handle *h, uint64_t number, const uint8_t *line, size_t li
 uint32_t mk0_undo(mk0_handle *h, uint64_t number, uint8_t *out, size_t out_size, mk0_info *info);
 uint32_t mk0_depth(mk0_handle *h, size_t *depth);
 uint32_t mk0_forget(mk0_handle *h);
+uint32_t mk0_copy(mk0_handle *h, mk0_handle *to);
 uint32_t mk0_children(mk0_handle *h, const uint8_t *path, size_t path_len, uint8_t *out, size_t out_size, mk0_info *info);
 uint32_t mk0_groups(mk0_handle *h, uint8_t *out, size_t out_size, mk0_info *info);
 uint32_t mk0_has_group(mk0_handle *h, const uint8_t *path, size_t path_len, mk0_info *info);

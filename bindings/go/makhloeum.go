@@ -239,3 +239,17 @@ func (h *Hierarchy) Forget() error {
 	}
 	return nil
 }
+
+// Copy makes a hierarchy of its own with the same groups, processes, counts and recorded commands. What one does from then
+// on, the other doesn't see. The copy has no faults of Fail and Vanish, and Changes begins at 0. It is freed as one that New
+// makes.
+func (h *Hierarchy) Copy() (*Hierarchy, error) {
+	made := new(Hierarchy)
+	status := C.mk_copy(&h.handle, &made.handle)
+	runtime.KeepAlive(h)
+	if status != C.MK_DONE {
+		return nil, failure(command{text: "copy"}, uint32(status), 0, nil)
+	}
+	runtime.SetFinalizer(made, (*Hierarchy).Close)
+	return made, nil
+}

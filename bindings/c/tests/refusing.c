@@ -99,6 +99,24 @@ static int clients_calls(void) {
     }
 }
 
+/* the handle of a copy that was not made has no engine; the one that was made tells the same */
+static int copies(void) {
+    mk_handle copy = {0}, original = h;
+    tell();
+    for (long n = 0;; n++) {
+        left = n;
+        uint32_t status = mk_copy(&h, &copy);
+        left = -1;
+        if (status == MK_DONE) break;
+        refused++;
+        if (status != MK_OUT_OF_MEMORY || n > 100 || mk_close(&copy) != MK_CLOSED || !is_kept()) return 16;
+    }
+    h = copy;
+    if (!is_kept() || mk_close(&h) != MK_DONE) return 17;
+    h = original;
+    return is_kept() ? 0 : 18;
+}
+
 int main(void) {
     for (;; refused++) {
         left = refused;
@@ -140,6 +158,7 @@ int main(void) {
     }
     if (info.count != 3 || info.len != 10 || memcmp(out, "/\0/a\0/a/b", 10) != 0) return 8;
     int wrong = clients_calls();
+    if (wrong == 0) wrong = copies();
     if (wrong != 0) return wrong;
     if (mk_close(&h) != MK_DONE) return 9;
     printf("%d\n", refused);

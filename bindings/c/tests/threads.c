@@ -1,6 +1,6 @@
 /* A handle that threads share, signal handlers interrupt and forks copy.
  *   threads PART SECONDS
- * PART is one of own, mixed, close, wait, signal, fork. Exits with 1 at the first check that fails; prints how many held. */
+ * PART is one of own, mixed, close, wait, copy, signal, fork. Exits with 1 at the first check that fails; prints how many held. */
 #include "makhloeum.h"
 #include <pthread.h>
 #include <signal.h>
@@ -207,6 +207,63 @@ static void waiting(double seconds) {
     CHECK(mk_open(&h) == MK_DONE);
 }
 
+/* ---- threads that copy two handles crosswise, each onto the other, while others use and close them */
+
+static mk_handle crossed[2];
+static atomic_long crossings[2];
+
+/* a copy is the state between two calls: all of its commands can be undone */
+static void undo_a_copy(mk_handle *from) {
+    mk_handle mine = {0};
+    mk_info info;
+    size_t depth;
+    char text[64];
+    uint32_t status = mk_copy(from, &mine);
+    if (status != MK_DONE) {
+        CHECK(status == MK_CLOSED);
+        return;
+    }
+    CHECK(mk_depth(&mine, &depth) == MK_DONE && mk_undo_to(&mine, 0, &info) == MK_DONE && info.count == depth);
+    CHECK(mk_read(&mine, "/", "cgroup.stat", text, sizeof text, &info) == MK_DONE);
+    CHECK(strcmp(text, "nr_descendants 0\nnr_dying_descendants 0\n") == 0);
+    CHECK(mk_close(&mine) == MK_DONE);
+}
+
+static void *cross(void *number) {
+    int own = *(int *)number, way = own % 2;
+    mk_handle *from = &crossed[way], *to = &crossed[1 - way];
+    char path[16];
+    mk_info info;
+    snprintf(path, sizeof path, "/t%d", own);
+    while (!atomic_load(&stopped)) {
+        uint32_t status = mk_close(to);
+        CHECK(status == MK_DONE || status == MK_CLOSED);
+        status = mk_copy(from, to);
+        CHECK(status == MK_DONE || status == MK_CLOSED);
+        if (status == MK_DONE) atomic_fetch_add(&crossings[way], 1);
+        status = mk_open(from); /* if both are closed, one begins anew */
+        CHECK(status == MK_DONE || status == MK_CLOSED);
+        for (int i = 0; i < 3; i++) {
+            status = mk_mkdir(from, path, &info);
+            CHECK(status == MK_DONE || status == MK_CLOSED || (status == MK_REFUSED && info.code == MK_EXISTS));
+        }
+        undo_a_copy(from);
+        status = mk_rmdir(from, path, &info);
+        CHECK(status == MK_DONE || status == MK_CLOSED || (status == MK_REFUSED && info.code == MK_NO_GROUP));
+    }
+    return NULL;
+}
+
+static void copying(double seconds) {
+    CHECK(mk_open(&crossed[0]) == MK_DONE);
+    run_threads(cross, seconds);
+    for (int i = 0; i < 2; i++) {
+        uint32_t status = mk_close(&crossed[i]);
+        CHECK(status == MK_DONE || status == MK_CLOSED);
+        CHECK(atomic_load(&crossings[i]) > 0);
+    }
+}
+
 /* ---- a handler that calls while a call of its own thread is running */
 
 static atomic_long busy, answered;
@@ -297,7 +354,7 @@ int main(int argc, char **argv) {
     static const struct {
         const char *name;
         void (*run)(double seconds);
-    } parts[] = {{"own", own}, {"mixed", mixed}, {"close", closing}, {"wait", waiting}, {"signal", signals}, {"fork", forks}};
+    } parts[] = {{"own", own}, {"mixed", mixed}, {"close", closing}, {"wait", waiting}, {"copy", copying}, {"signal", signals}, {"fork", forks}};
     if (argc != 3) return 2;
     for (size_t i = 0; i < sizeof parts / sizeof *parts; i++)
         if (strcmp(argv[1], parts[i].name) == 0) {

@@ -86,6 +86,7 @@ def _load() -> Any:
         "mk_undo": (number, [handle, ctypes.c_uint64, buffer, size, info]),
         "mk_depth": (number, [handle, ctypes.POINTER(size)]),
         "mk_forget": (number, [handle]),
+        "mk_copy": (number, [handle, handle]),
         "mk_children": (number, [handle, text, size, buffer, size, info]),
         "mk_groups": (number, [handle, buffer, size, info]),
         "mk_has_group": (number, [handle, text, size, info]),

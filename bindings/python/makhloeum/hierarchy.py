@@ -56,14 +56,26 @@ class Hierarchy(Changes, Faults, Many):
         _warn(f"unclosed {self!r}", ResourceWarning, source=self)
         _close(self._at)
 
-    def __copy__(self) -> NoReturn:
-        raise TypeError("a hierarchy cannot be copied or pickled")
+    def copy(self) -> Hierarchy:
+        """A hierarchy of its own with the same groups, processes, counts and recorded commands. What one does from then on,
+        the other doesn't see. The copy has no faults of `fail` and `vanish`, `changes()` begins at 0, and it is to be closed
+        like any other. `copy.copy` and `copy.deepcopy` return the same. A copy of a subclass is a plain `Hierarchy`."""
+        made = Hierarchy.__new__(Hierarchy)
+        handle = Handle()
+        status = library.mk_copy(self._at, ctypes.byref(handle))
+        if status != DONE:
+            _raise(status, 0, "", None, "copy")
+        made._handle, made._at, made._closed = handle, ctypes.byref(handle), False
+        return made
 
-    def __deepcopy__(self, memo: object) -> NoReturn:
-        self.__copy__()
+    def __copy__(self) -> Hierarchy:
+        return self.copy()
+
+    def __deepcopy__(self, memo: object) -> Hierarchy:
+        return self.copy()
 
     def __reduce_ex__(self, protocol: object) -> NoReturn:
-        self.__copy__()
+        raise TypeError("a hierarchy cannot be pickled")
 
     def close(self) -> None:
         """Frees the engine. A second call does nothing."""

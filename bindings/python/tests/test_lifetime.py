@@ -1,6 +1,5 @@
 """How a hierarchy begins and ends."""
 
-import copy
 import gc
 import os
 import pickle
@@ -52,13 +51,18 @@ def test_a_hierarchy_is_initialized_once():
         h.__init__()
 
 
-@pytest.mark.parametrize("again", [copy.copy, copy.deepcopy, pickle.dumps])
-def test_a_hierarchy_is_not_copied(again):
+def test_a_hierarchy_is_not_pickled():
     with Hierarchy() as h:
         with pytest.raises(TypeError):
-            again(h)
+            pickle.dumps(h)
         gc.collect()
         h.mkdir("/a")
+
+
+def test_a_closed_copy_leaves_no_memory():
+    with Hierarchy() as h:
+        h.mkdir("/a")
+        assert grown(1000, lambda: h.copy().close()) < 20_000_000
 
 
 def test_a_hierarchy_is_entered_once():

@@ -80,6 +80,14 @@ abbrev pub ForgetsAt : Option LineEngine → ℕ → Option LineEngine → Type 
 ForgetsAt None status new = (status ≡ 6) × (new ≡ None)
 ForgetsAt (Some e) status new = (status ≡ 0) × (new ≡ Some (record { engine = forgotten e.engine }))
 
+-- a handle without an engine gets a copy of the other's, with the same groups, processes and journal, unless out of memory;
+-- the other keeps its engine
+abbrev pub CopiesAt : Option LineEngine → Option LineEngine → ℕ → Option LineEngine → Option LineEngine → Type 0
+CopiesAt None to status new new_to = (status ≡ 6) × (new ≡ None) × (new_to ≡ to)
+CopiesAt (Some e) (Some held) status new new_to = (status ≡ 6) × (new ≡ Some e) × (new_to ≡ Some held)
+CopiesAt (Some e) None status new None = (status ≡ 4) × (new ≡ Some e)
+CopiesAt (Some e) None status new (Some copy) = (status ≡ 0) × (new ≡ Some e) × (copy.engine ≡ e.engine)
+
 -- ---- groups
 
 abbrev pub listing_status : Listing → ℕ

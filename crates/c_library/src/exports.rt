@@ -3,7 +3,7 @@
 ghost use Rattle.std.specs.Prelude.{◌≡◌, codes};
 ghost use Rattle.flat_model.specs.PathText.{read_path};
 ghost use Rattle.flat_model.specs.Trace.{read_line};
-ghost use Rattle.c_library.specs.Status.{IsOpened, IsClosed, AnswersAt, DepthAt, ForgetsAt, ListsAt, ListsGroupsAt, FindsAt, told, too_small, status_of, status_of_code, info_of, listing_status, listing_info, found_status, found_info};
+ghost use Rattle.c_library.specs.Status.{IsOpened, IsClosed, AnswersAt, CopiesAt, DepthAt, ForgetsAt, ListsAt, ListsGroupsAt, FindsAt, told, too_small, status_of, status_of_code, info_of, listing_status, listing_info, found_status, found_info};
 
 use crate::handle::Handle;
 use crate::info::Info;
@@ -219,6 +219,30 @@ pub extern "C" fn mk0_forget(alloc: Global, h: &mut Handle) -> u32
     let mut engine = engine;
     engine.forget();
     h.put(alloc, engine);
+    DONE
+}
+
+/// Makes a copy of the engine in another handle that has none.
+#[unsafe(no_mangle)]
+pub extern "C" fn mk0_copy(alloc: Global, h: &mut Handle, to: &mut Handle) -> u32
+    ensures { CopiesAt h.old.seal.held to.old.seal.held result h.new.seal.held to.new.seal.held }
+{
+    if let Some(engine) = to.take(alloc) {
+        to.put(alloc, engine);
+        return CLOSED;
+    }
+    let Some(engine) = h.take(alloc) else {
+        return CLOSED;
+    };
+    let copy = engine.copy(alloc);
+    h.put(alloc, engine);
+    let Ok(copy) = copy else {
+        return OUT_OF_MEMORY;
+    };
+    let Ok(copy) = Box::new(alloc, copy) else {
+        return OUT_OF_MEMORY;
+    };
+    to.put(alloc, copy);
     DONE
 }
 

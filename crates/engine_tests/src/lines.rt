@@ -236,12 +236,30 @@ fn other_than_forgotten(alloc: Global, lines: &mut LineEngine) -> Other {
     if is_right { None } else { Some("forget") }
 }
 
+/// A group is made, and the engine copied: what the copy undoes stays in the other.
+fn other_than_copied(alloc: Global, lines: &mut LineEngine) -> Other {
+    let made = lines.answer(alloc, 1, b"mkdir /a", &mut [0u8; 5]);
+    let Ok(copy) = lines.copy(alloc) else {
+        return Some("copy");
+    };
+    let mut copy = copy;
+    let undone = copy.answer(alloc, 2, b"undo", &mut [0u8; 16]);
+    let is_right = made == (Answer::Answered { len: 5, code: 0 })
+        && undone == (Answer::Answered { len: 16, code: 0 })
+        && copy.depth() == 0
+        && copy.has_group(alloc, b"/a") == Found::NoGroup
+        && lines.depth() == 1
+        && lines.has_group(alloc, b"/a") == Found::There;
+    if is_right { None } else { Some("undo") }
+}
+
 /// What is tested on a new engine.
 #[derive(Clone, Copy)]
 enum Trial {
     Kinds,
     WithoutWords,
     Groups,
+    Copied,
     Forgotten,
     Numbers,
     OneLine,
@@ -252,6 +270,7 @@ fn other_on(alloc: Global, lines: &mut LineEngine, trial: Trial) -> Other {
         Trial::Kinds => other_kind(alloc, lines),
         Trial::WithoutWords => other_than_skipped(alloc, lines),
         Trial::Groups => other_group(alloc, lines),
+        Trial::Copied => other_than_copied(alloc, lines),
         Trial::Forgotten => other_than_forgotten(alloc, lines),
         Trial::Numbers => other_number(alloc, lines),
         Trial::OneLine => other_than_refused(alloc, lines),
@@ -290,6 +309,12 @@ fn numbers_of_a_group(rt: HostRuntime) -> Result<(), Fail> {
 #[test]
 fn a_forgotten_line(rt: HostRuntime) -> Result<(), Fail> {
     assert_eq!(rt; other(rt.alloc(), Trial::Forgotten)?, None);
+    Ok(())
+}
+
+#[test]
+fn a_copied_engine(rt: HostRuntime) -> Result<(), Fail> {
+    assert_eq!(rt; other(rt.alloc(), Trial::Copied)?, None);
     Ok(())
 }
 

@@ -74,6 +74,19 @@ impl LineEngine {
         self.engine.depth()
     }
 
+    /// A copy: the same groups, processes and journal in memory of its own. This engine stays as it is. Costs as much as
+    /// the engine is large.
+    ///
+    /// # Errors
+    ///
+    /// `AllocError` when out of memory; what was copied is dropped then.
+    pub fn copy(&self, alloc: Global) -> Result<LineEngine, AllocError>
+        ensures { IfOk result (λ e. e.engine ≡ self.now.engine) }
+    {
+        let engine = self.engine.copy(alloc)?;
+        Ok(LineEngine { engine })
+    }
+
     /// Forgets the recorded commands: the groups and processes stay, and nothing earlier can be undone. The memory of the
     /// journal is freed. It takes no memory and cannot fail.
     pub fn forget(&mut self)

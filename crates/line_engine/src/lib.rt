@@ -10,7 +10,8 @@
 //! - `children` puts the names of a group's children into a buffer, each followed by a zero byte. `has_group` says whether a
 //!   group exists. `groups` puts the paths of all groups. All three only read.
 //! - `current`, `populated`, `peak` and `limit` return a number of a group without a text, and change nothing.
-//! - `forget` drops the journal and keeps groups and processes.
+//! - `forget` drops the journal and keeps groups and processes. `copy` makes an engine of its own with the same groups,
+//!   processes and journal.
 //!
 //! Not promised: what the buffer holds if there is no output.
 //!

@@ -41,8 +41,13 @@ fn copy_journal<A: Allocator + Clone, B: Allocator + Clone>(
 }
 
 impl<A: Allocator + Clone, M: Meter> Engine<A, M> {
-    /// The same groups, processes and journal in other memory, over plain numbers.
-    fn copy<B: Allocator + Clone>(&self, alloc: B) -> Result<Engine<B, PlainMeter<B>>, AllocError>
+    /// A copy: the same groups, processes and journal in other memory, over plain numbers. This engine's meter must have as
+    /// many slots as a `PlainMeter`. Costs as much as the engine is large.
+    ///
+    /// # Errors
+    ///
+    /// `AllocError` when out of memory; what was copied is dropped then.
+    pub fn copy<B: Allocator + Clone>(&self, alloc: B) -> Result<Engine<B, PlainMeter<B>>, AllocError>
         requires { M.SLOTS ≡ ⟦<PlainMeter<B> as Meter>⟧.SLOTS }
         ensures { IfOk result (λ e. e ≡ self.now) }
     {
