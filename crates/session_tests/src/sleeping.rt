@@ -41,10 +41,10 @@ fn answers<R: Threads + Wait + Sync>(
     let Some(mut session) = sessions.pop() else {
         return Ok([None; 2]);
     };
-    let (answers, ()) = join(
+    let ((), answers) = join(
         rt,
-        || both(rt, &desk, sleepers),
         || works(rt, alloc, &mut session, asked),
+        || both(rt, &desk, sleepers),
     );
     Ok(answers)
 }

@@ -1,7 +1,9 @@
 use denote.Param.Send.{sendable}
 use Rattle.std.proofs.Crossing.{crosses}
-use Rattle.sessions.proofs.SessionCrosses.{desk_sync}
+use Rattle.std.proofs.alloc.Global.TheSendSync as global
+use Rattle.sessions.proofs.SessionCrosses.{session_send}
+use Rattle.session_tests.proofs.works.Work.TheSendSync as work
 use Rattle.session_tests.proofs.sleeping.answers.Goals as goal
 
-pub join-answers-requires-send-F : goal.join-answers-requires-send-F
-join-answers-requires-send-F g c κs = search (desk_sync, sendable, crosses) depth 30
+pub join-requires-send-F : goal.join-requires-send-F
+join-requires-send-F g c κs = search (global.the_sync, work.the_sync, session_send, sendable, crosses) depth 30
