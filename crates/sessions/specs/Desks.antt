@@ -4,7 +4,7 @@ use Rattle.std.specs.declared.alloc.Global.{Global}
 use Rattle.std.specs.declared.sync.Arc.{Arc}
 use Rattle.sessions.specs.declared.shared.Shared.{Shared}
 
--- how many sessions it has at most, and the pointer to what it shares with them: its lock, and the condition variables on which they sleep
+-- the most sessions that it can have, and the pointer to what it shares with them: its lock, and the condition variables on which they sleep
 pub record Desk : Type 0 where
   pub sessions : ℕ
   pub shared : Arc Shared Global

@@ -1,4 +1,4 @@
--- What a table of marks says while an audit goes over the receipts.
+-- What a table of marks means while an audit visits the receipts.
 use Rattle.std.specs.Prelude.{◌≡◌, ◌≢◌, ℕ, ◌<◌, ◌≤◌, ◌⊎◌, List, length, Bool, true, false, Some, slice_get, slice_index_or}
 use Rattle.std.specs.List.{Contains}
 use Rattle.flat_model.specs.Log.{Entry, Receipt, entry_of}
@@ -6,7 +6,7 @@ use Rattle.flat_model.specs.Audit.{Handed, AreSound, numbers}
 use Rattle.sessions.specs.declared.fault.CloseFault.{CloseFault}
 use Rattle.sessions.specs.declared.fault.CloseFault.TheVariants.{Stranger, Mismatch, Missing, OutOfMemory}
 
--- the receipts are sound so far, and the marks are the numbers that they named
+-- the receipts so far are sound, and the marks are the numbers that they named
 pub record Audited (n : ℕ) (log : List Entry) (marks : List Bool) (hs : List Handed) : Type 0 where
   pub size : length marks ≡ length log
   pub sound : AreSound n log hs

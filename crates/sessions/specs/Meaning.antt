@@ -5,7 +5,7 @@ use Rattle.pids_charge.specs.declared.plain.TheConstants.{SLOTS}
 use Rattle.undo_journal.specs.declared.reply.Reply.{Reply}
 use Rattle.undo_journal.specs.Meaning.{reply_of}
 
--- as many groups beside the root as the meter under a desk has slots
+-- the number of groups other than the root: as many as the meter under a desk has slots
 abbrev pub slots : ℕ
 slots = SLOTS
 
@@ -13,6 +13,6 @@ abbrev pub known : Option model.Reply → model.Reply
 known (Some r) = r
 known None = model.NothingToUndo
 
--- the machine's reply. An entry and a receipt have one, and are never out of memory
+-- the machine's reply; entries and receipts have one, which is never out of memory
 abbrev pub answer_of : {A : Type 0} → Reply A → model.Reply
 answer_of reply = known (reply_of reply)

@@ -1,4 +1,4 @@
--- What a call of a session leaves of it.
+-- How a call of a session leaves the session.
 use Rattle.std.specs.Prelude.{◌≡◌, ℕ, [], ◌∷◌, ◌++◌, Result, Ok, Err}
 use denote.Ref.{Bor}
 use Rattle.flat_model.specs.Command.{Command}
@@ -6,7 +6,7 @@ use Rattle.flat_model.specs.Log.{Receipt, Session}
 use Rattle.sessions.specs.declared.fault.RunFault.{RunFault}
 use Rattle.sessions.specs.Served.{Appends, AppendsAt}
 
--- one receipt more, of this command
+-- one more receipt, of this command
 abbrev pub Last : Command → Session → Session → Type 0
 Last c before after = (after.number ≡ before.number) × Appends c before.receipts after.receipts
 
@@ -17,12 +17,12 @@ LastAt turn c before after =
 abbrev pub with_receipt : Session → Receipt → Session
 with_receipt s r = record s { receipts = s.receipts ++ r ∷ [] }
 
--- the session has this receipt more, which is of this command; else it is as it was
+-- the session has this one more receipt, which is of this command; otherwise it is unchanged
 abbrev pub Ran : Command → Session → Session → Result (Bor Receipt) RunFault → Type 0
 Ran c before after (Ok r) = (after ≡ with_receipt before r.now) × (r.now.command ≡ c)
 Ran c before after (Err e) = after ≡ before
 
--- the same, at this number
+-- the same, with this number
 abbrev pub RanAt : ℕ → Command → Session → Session → Result (Bor Receipt) RunFault → Type 0
 RanAt turn c before after (Ok r) = (after ≡ with_receipt before r.now) × (r.now.command ≡ c) × (r.now.number ≡ turn)
 RanAt turn c before after (Err e) = after ≡ before

@@ -11,28 +11,28 @@ use Rattle.sessions.specs.declared.book.Book.{Book}
 use Rattle.sessions.specs.declared.hall.Hall.{Hall}
 use Rattle.sessions.specs.Meaning.{slots}
 
--- on this command the machine goes from old to new, and both are its reply
+-- on this command the machine goes from old to new, and both replies are its reply
 pub record AnswersTwice {A : Type 0} (old : Machine) (c : model.Command) (reply again : Reply A) (new : Machine) : Type 0 where
   pub state : new ≡ (tick slots old c).0
   pub reply_is : reply_of reply ≡ Some (tick slots old c).1
   pub again_is : reply_of again ≡ Some (tick slots old c).1
 
--- one receipt more, of this command
+-- one more receipt, of this command
 abbrev pub Appends : model.Command → List Receipt → List Receipt → Type 0
 Appends c before after = (r : Receipt) × (after ≡ before ++ r ∷ []) × (r.command ≡ c)
 
--- one receipt more, of this command at this number
+-- one more receipt, of this command and with this number
 abbrev pub AppendsAt : ℕ → model.Command → List Receipt → List Receipt → Type 0
 AppendsAt turn c before after =
     (r : Receipt) × (after ≡ before ++ r ∷ []) × (r.command ≡ c) × (r.number ≡ turn)
 
--- a turn that has passed is below the length that is told
+-- a turn that has passed is below the length that the fault names
 abbrev pub IsLate : ℕ → RunFault → Type 0
 IsLate turn (TurnPassed len) = turn < len
 IsLate turn Halted = Unit {0}
 IsLate turn OutOfMemory = Unit {0}
 
--- it tells of no turn
+-- the fault names no turn
 abbrev pub NamesNoTurn : RunFault → Type 0
 NamesNoTurn (TurnPassed len) = ⊥
 NamesNoTurn Halted = Unit {0}
@@ -53,9 +53,9 @@ IsEarlyFor None halted turn = ⊥
 abbrev pub IsEarly : Hall → ℕ → Type 0
 IsEarly h turn = IsEarlyFor h.book h.is_halted turn
 
--- ---- what a call leaves behind the lock, and what it answers by what it found there
+-- ---- how a call leaves the value behind the lock, and its result by what it found there
 
--- where the engine of a book stands, and its log
+-- the state of a book's engine, and its log
 pub record Pages : Type 0 where
   pub engine : Machine
   pub log : List Entry
@@ -64,20 +64,20 @@ abbrev pub pages_of : Option Book → Option Pages
 pages_of (Some b) = Some (record { engine = b.engine; log = b.log.items })
 pages_of None = None
 
--- the log; a desk that is closed has none
+-- the log; a closed desk has none
 abbrev pub log_in : Option Book → List Entry
 log_in (Some b) = b.log.items
 log_in None = []
 
--- engine and log are what they were, and it is halted where it was
+-- engine and log are unchanged, and so is whether it is halted
 abbrev pub IsSame : Hall → Hall → Type 0
 IsSame before after = (pages_of after.book ≡ pages_of before.book) × (after.is_halted ≡ before.is_halted)
 
--- nothing but the turns that are slept for has changed
+-- nothing has changed but the turns that are waited for
 abbrev pub IsBut : Hall → Hall → Type 0
 IsBut before after = after ≡ record before { waits = after.waits }
 
--- this session ran this command: the log has one entry more, which is of the session, and its receipt, of that number, stands behind the session's others
+-- this session ran this command: the log has one more entry, which is of the session, and its receipt, with that number, follows the session's others
 pub record Served (session : ℕ) (c : model.Command) (before after : Hall) (receipts more : List Receipt) : Type 0 where
   pub receipt : Receipt
   pub command : receipt.command ≡ c
@@ -94,14 +94,14 @@ IsServingFor None halted = ⊥
 abbrev pub IsServing : Hall → Type 0
 IsServing h = IsServingFor h.book h.is_halted
 
--- what a call answers: `Halted` exactly where nobody is served
+-- the result of a call: `Halted` exactly if the desk is halted or closed
 abbrev pub Answer : Hall → Result (Unit {0}) RunFault → Type 0
 Answer h (Ok u) = IsServing h
 Answer h (Err Halted) = IsServing h → ⊥
 Answer h (Err (TurnPassed len)) = ⊥
 Answer h (Err OutOfMemory) = IsServing h
 
--- the same at a turn, and `TurnPassed` exactly where the log is longer, with its length
+-- the same at a turn, and `TurnPassed` exactly if the log is longer, with its length
 abbrev pub AnswerAt : ℕ → Hall → Result (Unit {0}) RunFault → Type 0
 AnswerAt turn h (Ok u) = IsServing h × (log_len h ≡ turn)
 AnswerAt turn h (Err Halted) = IsServing h → ⊥

@@ -1,4 +1,4 @@
--- The turns that sessions wait for: which of them have come, and which are waited for still.
+-- The turns that sessions wait for: which have come, and which are still waited for.
 use Rattle.std.specs.Prelude.{◌≡◌, ◌↔◌, ℕ, ◌<◌, ◌≤◌, List, Bool, true, false, Option, Some, None, IsTrue, slice_index_or, vec_len}
 use Rattle.sessions.specs.declared.book.Book.{Book}
 use Rattle.sessions.specs.declared.hall.Hall.{Hall}
@@ -8,35 +8,35 @@ reached_in (Some b) false = Some (vec_len b.log)
 reached_in (Some b) true = None
 reached_in None halted = None
 
--- the length of the log; none where the desk is halted or closed
+-- the length of the log, or none if the desk is halted or closed
 abbrev pub reached_of : Hall → Option ℕ
 reached_of h = reached_in h.book h.is_halted
 
--- the log is as long as the turn, or nobody is served any more
+-- the log is as long as the turn, or the desk is halted or closed
 abbrev pub HasCome : Option ℕ → ℕ → Type 0
 HasCome (Some len) turn = turn ≤ len
 HasCome None turn = Unit {0}
 
--- somebody waits for a turn here, and it has come
+-- a turn is waited for here, and it has come
 abbrev pub IsDue : Option ℕ → Option ℕ → Type 0
 IsDue reached (Some turn) = HasCome reached turn
 IsDue reached None = ⊥
 
--- of a turn that has come nothing is left, and any other stays
+-- a turn that has come is removed, and any other stays
 abbrev pub IsLeft : Option ℕ → Option ℕ → Option ℕ → Type 0
 IsLeft reached before after = (IsDue reached before → after ≡ None) × ((IsDue reached before → ⊥) → after ≡ before)
 
--- whoever waits for this turn is woken once it has come: a turn is noted, and no later one
+-- a session that waits for this turn is woken once it has come: this turn or an earlier one is noted
 abbrev pub IsNoted : ℕ → Option ℕ → Type 0
 IsNoted turn (Some noted) = noted ≤ turn
 IsNoted turn None = ⊥
 
--- a turn that was noted still is, or an earlier one
+-- the noted turn is still noted, or an earlier one
 abbrev pub IsNoLater : Option ℕ → Option ℕ → Type 0
 IsNoLater (Some turn) after = IsNoted turn after
 IsNoLater None after = Unit {0}
 
--- at each of the eight places whether the turn there is due
+-- at each of the eight indices whether the turn there is due
 abbrev pub AreDue : Option ℕ → List (Option ℕ) → List Bool → Type 0
 AreDue reached before due = (at : ℕ) → at < 8 → IsTrue (slice_index_or due at false) ↔ IsDue reached (slice_index_or before at None)
 

@@ -1,4 +1,4 @@
-//! Whether receipts are the entries of a log, each once, and the first fault where they are not.
+//! Whether receipts are the entries of a log, each once, and the first fault if they are not.
 
 ghost use Rattle.std.specs.Prelude.{
   ◌≡◌,
@@ -28,14 +28,15 @@ ghost use Rattle.sessions.specs.Marks.{Audited, AllClear, IsNew, IsRefusedBy, Is
 use crate::{CloseFault, Entry, Receipt, Session};
 use std::alloc::{AllocError, Global};
 
-/// Whether the sessions' receipts are the entries of the log, each once, of sessions below `n`.
+/// Tests whether the sessions' receipts are the entries of the log, each once, of sessions below
+/// `n`.
 ///
-/// It takes time linear in the entries and receipts, and one mark for each entry.
+/// It takes time linear in the entries and receipts, and memory for one mark per entry.
 ///
 /// # Errors
 ///
-/// `OutOfMemory` first of all. Then for each receipt in the given order `Stranger` and `Mismatch`;
-/// and last `Missing`.
+/// The first of these that applies: `OutOfMemory`; `Stranger` or `Mismatch` for the first faulty
+/// receipt in the given order; `Missing`.
 pub fn audit(alloc: Global, n: u8, log: &[Entry], sessions: &[Session]) -> Result<(), CloseFault>
     ensures ok { IfOk result (λ _. AreEntries n log.now sessions.now) }
     ensures fault { IfErr result (λ f. IsFirstFault n log.now sessions.now f) }
@@ -71,7 +72,7 @@ fn first_unmarked(marks: &[bool]) -> Option<usize>
     None
 }
 
-/// Goes over the receipts of the session at this place, after those of the sessions before it.
+/// Checks the receipts of the session at this index, after those of the sessions before it.
 fn mark_session(
     n: u8,
     log: &[Entry],
@@ -134,7 +135,7 @@ fn mark(
     Ok(())
 }
 
-/// Whether the entry is the one that the session's receipt stands for.
+/// Whether the entry is the one that the session's receipt records.
 fn is_of(entry: &Entry, session: u8, receipt: &Receipt) -> bool
     ensures { IsTrue result ↔ (entry.now ≡ entry_of session receipt.now) }
 {

@@ -1,4 +1,4 @@
-//! The engine with its log: what lies behind the lock.
+//! The engine with its log, which the lock guards.
 
 ghost use Rattle.std.specs.Prelude.{◌≡◌, ◌++◌, ◌∷◌, [], IfOk, OnErr, vec_len};
 ghost use Rattle.flat_model.specs.Log.{IsLegal, log_end, entry_of};
@@ -13,10 +13,10 @@ use std::sync::Wait;
 use std::thread::Threads;
 use undo_journal::{Command, Engine};
 
-/// The engine of a desk. It counts over a board of atomic words.
+/// The engine of a desk. It counts on a board of atomic words.
 pub type DeskEngine = Engine<Global, BoardMeter>;
 
-/// The log is legal, and the engine stands at its end.
+/// The log is legal, and the engine is in the state at its end.
 #[derive(Drop)]
 pub(crate) struct Book {
     pub(crate) alloc: Global,
@@ -27,7 +27,7 @@ pub(crate) struct Book {
 }
 
 impl Book {
-    /// The engine at its start, with an empty log.
+    /// A new engine, with an empty log.
     pub(crate) fn new(alloc: Global) -> Result<Book, AllocError>
         ensures { IfOk result (λ b. b.log.items ≡ []) }
     {
@@ -36,7 +36,8 @@ impl Book {
         Ok(Book { alloc, engine, log })
     }
 
-    /// Runs a command, logs it, and gives its receipt. The log's entry is reserved before it runs.
+    /// Runs a command, logs it, and returns its receipt. The log entry is reserved before the
+    /// command runs.
     pub(crate) fn record<R: Threads + Wait + Sync, B: Allocator + Clone>(
         &mut self,
         rt: &R,

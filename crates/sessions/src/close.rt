@@ -1,4 +1,4 @@
-//! The closing of a desk: what it leaves, and whether the receipts that were handed in are its log.
+//! Closing a desk: what it returns, and whether the receipts passed to it are its log.
 
 ghost use Rattle.std.specs.Prelude.{◌≡◌, IfOk, IfErr};
 ghost use Rattle.flat_model.specs.Log.{IsLegal, log_end};
@@ -14,26 +14,26 @@ use crate::session::Session;
 use std::alloc::Global;
 use std::sync::Wait;
 
-/// What a desk leaves: its engine, its log and the sessions that were handed in.
+/// What a closed desk returns: its engine, its log and the sessions passed to `close`.
 #[derive(Drop)]
 pub struct Closed {
-    /// The engine, at the log's end.
+    /// The engine, in the state at the log's end.
     pub engine: DeskEngine,
     /// The log.
     pub log: Vec<Entry>,
-    /// The sessions, as they were handed in.
+    /// The sessions, unchanged.
     pub sessions: Vec<Session>,
 }
 
 impl Desk {
-    /// Ends the desk, where the receipts of these sessions are the entries of its log, each once.
-    /// From then on every session of the desk answers `Halted`. It takes time linear in the log and
-    /// the receipts, and may wait for a session that runs a command.
+    /// Ends the desk if the receipts of these sessions are the entries of its log, each once. From
+    /// then on every session of the desk returns `Halted`. The call takes time linear in the log
+    /// and the receipts. It may wait for a session that runs a command.
     ///
     /// # Errors
     ///
-    /// Desk and sessions come back as they were, with the fault that `audit` gives on the desk's
-    /// log; the desk goes on.
+    /// Returns desk and sessions unchanged, with the fault that `audit` finds in the desk's log.
+    /// The desk stays open.
     pub fn close<R: Wait>(
         self,
         rt: &R,
@@ -63,7 +63,7 @@ impl Desk {
         }
     }
 
-    /// The book, where these receipts are its log.
+    /// Takes the book, if these receipts are its log.
     fn take_book<R: Wait>(&self, rt: &R, sessions: &[Session]) -> Result<Book, CloseFault>
         ensures receipts { IfOk result (λ b. AreEntries self.now.sessions b.log.items sessions.now) }
         ensures fault { IfErr result (λ f. IsRefused self.now.sessions sessions.now f) }

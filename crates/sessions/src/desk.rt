@@ -1,4 +1,4 @@
-//! The desk at which sessions are opened.
+//! The desk, which opens sessions.
 
 ghost use Rattle.std.specs.Prelude.{◌≡◌, ◌<◌, ◌≤◌, [], IfOk, IfSome};
 
@@ -10,8 +10,8 @@ use std::alloc::{AllocError, Global};
 use std::marker::Model;
 use std::sync::{Arc, Wait};
 
-/// A desk over one engine. Contracts see the number of its sessions, and which lock it shares with
-/// them; what lies behind the lock they do not see.
+/// A desk over one engine. Contracts see how many sessions it has and which lock it shares with
+/// them. They don't see the value behind the lock.
 #[derive(Drop)]
 pub struct Desk {
     pub(crate) sessions: u8,
@@ -28,7 +28,8 @@ impl Model for Desk {
 }
 
 impl Desk {
-    /// A desk for sessions numbered below `n`, over the root alone with process 1 in it.
+    /// Creates a desk for sessions numbered below `n`. Its hierarchy has only the root, with
+    /// process 1 in it.
     ///
     /// # Errors
     ///
@@ -50,11 +51,12 @@ impl Desk {
         })
     }
 
-    /// A session numbered `k`, with no receipts. Each thread that runs commands wants its own.
+    /// Opens a session numbered `k`, with no receipts. Each thread that runs commands needs its own
+    /// session.
     ///
     /// # Errors
     ///
-    /// `AllocError` where one more pointer to what the desk shares was refused.
+    /// `AllocError` if the shared pointer could not be cloned.
     pub fn session(&self, k: u8) -> Result<Session, AllocError>
         requires { k < self.now.sessions }
         ensures { IfOk result (λ s. s ≡ record { number = k; receipts = [] }) }
@@ -67,12 +69,13 @@ impl Desk {
         })
     }
 
-    /// Waits until the log has `turn` entries, and gives its length then: none if the desk is halted
-    /// or closed. It reserves nothing, so the log may be longer when the caller goes on.
+    /// Waits until the log has `turn` entries, and returns its length at that moment, or `None` if
+    /// the desk is halted or closed. The call doesn't reserve the turn, so the log may be longer
+    /// when the caller continues.
     ///
-    /// `sleeper`, modulo 8, chooses the condition variable to sleep on, as its number does for a
-    /// session in `run_at`. Threads that wait at once should choose different ones: else each wakes
-    /// for the others' turns too.
+    /// `sleeper`, modulo 8, selects the condition variable to sleep on. In `run_at` a session's
+    /// number selects it. Threads that wait at the same time should use different ones: otherwise
+    /// each also wakes for the turns of the others.
     pub fn wait_for<R: Wait>(&self, rt: &R, sleeper: u8, turn: u64) -> Option<u64>
         ensures { IfSome result (λ len. turn ≤ len) }
     {

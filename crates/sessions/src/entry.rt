@@ -1,17 +1,18 @@
-//! An entry of the log, and a session's receipt for it.
+//! A log entry, and a session's receipt for it.
 
 use std::alloc::Global;
 use std::marker::Model;
 use undo_journal::{Command, Reply};
 
-/// One line of the log: who ran what, and what the machine answered. That is never out of memory.
+/// One entry of the log: which session ran which command, and the machine's reply. The reply is
+/// never out of memory.
 #[derive(Drop)]
 pub struct Entry {
     /// The number of the session.
     pub session: u8,
-    /// What it ran.
+    /// The command.
     pub command: Command<Global>,
-    /// What it was answered.
+    /// The reply.
     pub reply: Reply<Global>,
 }
 
@@ -33,14 +34,14 @@ impl Model for Entry {
     ghost invariant = { λ e. reply_of e.reply ≢ None };
 }
 
-/// A session's own record of an entry.
+/// A session's own record of a log entry.
 #[derive(Drop)]
 pub struct Receipt {
     /// The entry's number in the log, from 0.
     pub number: u64,
-    /// What was run.
+    /// The command.
     pub command: Command<Global>,
-    /// What it was answered, which is never out of memory.
+    /// The reply, which is never out of memory.
     pub reply: Reply<Global>,
 }
 

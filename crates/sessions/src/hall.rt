@@ -1,4 +1,4 @@
-//! What lies behind the lock, and one call of a session there.
+//! The value behind the lock, and one call of a session on it.
 
 ghost use Rattle.std.specs.Prelude.{◌≡◌, ◌↔◌, ◌≤◌, ◌%◌, ℕ, IsTrue, IfOk, IfErr, IfSome, OnErr, Some, None, slice_index_or, true};
 ghost use Rattle.flat_model.specs.Audit.{AreEntries};
@@ -23,12 +23,12 @@ use std::sync::Wait;
 use std::thread::Threads;
 use undo_journal::Command;
 
-/// The book, until the desk is closed; and the turns that sessions sleep for.
+/// The book, until the desk is closed, and the turns that sessions wait for.
 #[derive(Drop)]
 pub(crate) struct Hall {
     pub(crate) book: Option<Book>,
     pub(crate) is_halted: bool,
-    /// For each session's number the least turn that is waited for there, if any.
+    /// For each session number the least turn that is waited for, if any.
     pub(crate) waits: [Option<u64>; 8],
 }
 
@@ -43,7 +43,7 @@ impl Hall {
         }
     }
 
-    /// The same; and if so, notes that the session sleeps for this turn.
+    /// Whether a call for this turn has to wait. If so, notes that the session waits for this turn.
     pub(crate) fn must_wait(&mut self, session: u8, turn: u64) -> bool
         ensures early { IsTrue result ↔ IsEarly self.new turn }
         ensures same { IsBut self.old self.new }
@@ -60,7 +60,7 @@ impl Hall {
         is_early
     }
 
-    /// The length of the log; none where the desk is halted or closed.
+    /// The length of the log, or `None` if the desk is halted or closed.
     pub(crate) fn reached(&self) -> Option<u64>
         ensures { result ≡ reached_of self.now }
     {
@@ -70,7 +70,7 @@ impl Hall {
         }
     }
 
-    /// The sessions whose sleepers have to wake.
+    /// Returns which sessions' sleepers have to wake, and forgets their turns.
     pub(crate) fn take_due(&mut self) -> [bool; 8]
         ensures same { IsBut self.old self.new }
         ensures due { AreDue (reached_of self.old) self.old.waits result }
@@ -80,15 +80,15 @@ impl Hall {
         due_of(&mut self.waits, reached)
     }
 
-    /// From now on nobody is served.
+    /// Halts the desk: later calls return `Halted`.
     pub(crate) fn halt(&mut self)
         ensures { self.new ≡ record self.old { is_halted = true } }
     {
         self.is_halted = true;
     }
 
-    /// Takes the book out, where these receipts are its log. Without a book, which is so only once
-    /// the desk was closed, it answers as when out of memory.
+    /// Takes the book, if these receipts are its log. If the book was taken already, because the
+    /// desk was closed, returns `OutOfMemory`.
     pub(crate) fn take_book(
         &mut self,
         alloc: Global,
@@ -111,7 +111,7 @@ impl Hall {
         }
     }
 
-    /// Runs a command for a session, and keeps its receipt.
+    /// Runs a command for a session, and appends its receipt.
     pub(crate) fn serve<R: Threads + Wait + Sync, B: Allocator + Clone>(
         &mut self,
         rt: &R,
@@ -141,7 +141,7 @@ impl Hall {
         Ok(())
     }
 
-    /// The same, at this turn.
+    /// Runs a command for a session at this turn, and appends its receipt.
     pub(crate) fn serve_at<R: Threads + Wait + Sync, B: Allocator + Clone>(
         &mut self,
         rt: &R,
@@ -170,7 +170,7 @@ impl Hall {
     }
 }
 
-/// The lesser of this turn and the one that is noted, if any.
+/// The lesser of this turn and the noted one, if any.
 fn least_of(noted: Option<u64>, turn: u64) -> u64
     ensures this { result ≤ turn }
     ensures noted { IfSome noted (λ t. result ≤ t) }
@@ -181,7 +181,7 @@ fn least_of(noted: Option<u64>, turn: u64) -> u64
     }
 }
 
-/// The places at which a turn is waited for that has come; nobody waits there for it any more.
+/// The indices at which the awaited turn has come. Those turns are removed.
 fn due_of(waits: &mut [Option<u64>; 8], reached: Option<u64>) -> [bool; 8]
     ensures due { AreDue reached waits.old result }
     ensures left { AreLeft reached waits.old waits.new }
@@ -195,7 +195,7 @@ fn due_of(waits: &mut [Option<u64>; 8], reached: Option<u64>) -> [bool; 8]
     due
 }
 
-/// Whether a turn is noted and has come: the log is as long, or nobody is served any more.
+/// Whether a turn is noted and has come: the log is long enough, or the desk is halted or closed.
 fn is_due(noted: Option<u64>, reached: Option<u64>) -> bool
     ensures { IsTrue result ↔ IsDue reached noted }
 {
@@ -206,7 +206,7 @@ fn is_due(noted: Option<u64>, reached: Option<u64>) -> bool
     }
 }
 
-/// The turn that is noted, if it has not come.
+/// The noted turn, if it has not come.
 fn left_of(noted: Option<u64>, reached: Option<u64>) -> Option<u64>
     ensures { IsLeft reached noted result }
 {

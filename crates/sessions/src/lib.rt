@@ -1,37 +1,39 @@
-//! Sessions at one desk: one hierarchy, one log, and a receipt of each command.
+//! Sessions at one desk: they share one hierarchy and one log, and each keeps a receipt of each of
+//! its commands.
 //!
-//! A `Desk` keeps an engine and the log of all that was run on it, behind one lock. Up to eight
-//! sessions, each in a thread of its own if one likes, run commands at it; each command is one step
-//! of the machine of `flat_model`, and the log says in which order they came.
+//! A `Desk` keeps an engine and the log of all commands that ran on it, behind one lock. Up to
+//! eight sessions run commands at it; each may have its own thread. Each command is one step of the
+//! machine of `flat_model`. The log gives the order of the commands.
 //!
-//! - `run` runs a command as soon as no other runs one. `run_at` waits for its turn: until the log
-//!   has so many entries. The log's entry and the session's receipt have the same number.
-//! - What is refused by the hierarchy is a reply, logged as any other. A `RunFault` is not: then
-//!   nothing was logged or changed. Entry and receipt are reserved before the engine is asked, so out
-//!   of memory leaves everything.
-//! - `undo` takes back the newest recorded command, whichever session issued it.
-//! - `halt` stops all sessions. `close` ends the desk, where the receipts handed in are the log's
-//!   entries, each once: then the log is legal (the machine, run over its commands, gives its
-//!   replies) and the engine stands at its end. Else it gives everything back, with the first fault.
-//! - `audit` is the same test on a log that is given.
-//! - A session that is dropped takes its receipts with it: a desk whose log has an entry of it answers
-//!   `Missing` to every `close`. Who waits for a turn waits for the log's length, whoever makes it
-//!   longer; where nobody does, `halt` ends the waiting.
+//! - `run` runs a command as soon as no other command runs. `run_at` waits for its turn, which
+//!   comes when the log has a given number of entries. The log entry and the session's receipt have
+//!   the same number.
+//! - A refusal by the hierarchy is a reply, and is logged like any other. A `RunFault` is not a
+//!   reply: nothing was logged or changed. Entry and receipt are reserved before the engine runs
+//!   the command, so running out of memory changes nothing.
+//! - `undo` undoes the newest recorded command, whichever session issued it.
+//! - `halt` stops all sessions. `close` ends the desk if the receipts passed to it are the log's
+//!   entries, each once. Then the log is legal (the machine, run over its commands, gives its
+//!   replies) and the engine is in the state at the log's end. Otherwise `close` returns desk and
+//!   sessions unchanged, with the first fault.
+//! - `audit` applies the same test to a given log.
+//! - Dropping a session drops its receipts. If the log has an entry of that session, every `close`
+//!   of the desk then returns `Missing`. A session that waits for a turn waits until the log is
+//!   long enough, whichever session extends it. If no session extends it, `halt` ends the wait.
 //!
-//! No public clause can name what lies behind the lock. The private calls of `Hall` and `Book`, which
-//! are lent it, say what each answer leaves of engine, log and halt: one entry more, of this session
-//! and with its receipt; or all as it was. That each public call hands the locked value to them, and
-//! back to the lock as they left it, no clause says.
+//! No public clause can name the value behind the lock. The private calls of `Hall` and `Book`,
+//! which borrow it, say how each result leaves engine, log and halt: either the log has one more
+//! entry, of this session and with its receipt, or nothing has changed. No clause says that each
+//! public call passes the locked value to them, and unlocks it as they left it.
 //!
-//! Nothing is said of waiting: that a turn comes, that no session is passed over, how long it takes.
-//! Nor is there an order between sessions but the log's. That every session answers `Halted` once a
-//! desk was halted or closed is shown by tests.
+//! Not promised: that a turn comes, that every session gets one, and how long a wait takes. The log
+//! is the only order between sessions. Tests show that every session returns `Halted` once its desk
+//! was halted or closed.
 //!
-//! What a log, a receipt and their faults are stands in `flat_model` (`specs/Log.antt`,
-//! `specs/Audit.antt`); what a call leaves of its session in `specs/Ran.antt`, and of what lies behind
-//! the lock in `specs/Served.antt`; which of the turns that are slept for have come in
-//! `specs/Waits.antt`.
-//! What these definitions say as laws stands in `session_laws`.
+//! `flat_model` defines logs, receipts and their faults (`specs/Log.antt`, `specs/Audit.antt`).
+//! `specs/Ran.antt` says how a call leaves its session, and `specs/Served.antt` how it leaves the
+//! value behind the lock. `specs/Waits.antt` defines which awaited turns have come. `session_laws`
+//! has the laws that follow from these definitions.
 #![tactic(auto)]
 
 mod auditing;

@@ -1,4 +1,4 @@
-//! A session: who runs commands at a desk, and keeps a receipt of each.
+//! A session, which runs commands at a desk and keeps a receipt of each.
 
 ghost use Rattle.std.specs.Prelude.{◌≡◌, IfErr, MatchResult};
 ghost use Rattle.std.specs.Borrow.{sem};
@@ -15,12 +15,12 @@ use std::sync::{Arc, Wait};
 use std::thread::Threads;
 use undo_journal::Command;
 
-/// One who runs commands at a desk, with the receipts of all that were run.
+/// A user of a desk, with the receipts of all commands that it ran.
 #[derive(Drop)]
 pub struct Session {
-    /// Its number at the desk, from 0.
+    /// The session's number at the desk, from 0.
     pub number: u8,
-    /// A receipt of each command that it ran, the newest last.
+    /// A receipt of each command that the session ran, the newest last.
     pub receipts: Vec<Receipt>,
     pub(crate) shared: Arc<Shared>,
 }
@@ -36,12 +36,12 @@ impl Model for Session {
 impl Session {
     ghost use Rattle.sessions.specs.contracts.session.Session.{the_row};
 
-    /// Runs one command, while no other session runs one, and gives its receipt. Entry and receipt
-    /// have the same number. It may wait for other sessions.
+    /// Runs one command while no other session runs one. Appends its receipt and returns it. The
+    /// log entry and the receipt have the same number. The call may wait for other sessions.
     ///
     /// # Errors
     ///
-    /// `Halted`, then `OutOfMemory`. Nothing was logged or changed.
+    /// The first of these that applies: `Halted`, `OutOfMemory`. Nothing was logged or changed.
     pub fn run<R: Threads + Wait + Sync, B: Allocator + Clone>(
         &mut self,
         rt: &R,
@@ -56,13 +56,13 @@ impl Session {
         Ok(&self.receipts[last])
     }
 
-    /// Waits until the log has `turn` entries, and runs one command: its entry and receipt have the
-    /// number `turn`.
+    /// Waits until the log has `turn` entries, and runs one command. Appends its receipt and
+    /// returns it. Its log entry and its receipt have the number `turn`.
     ///
     /// # Errors
     ///
-    /// `Halted`; then `TurnPassed` with the log's length, where that is above `turn`; then
-    /// `OutOfMemory`. Nothing was logged or changed.
+    /// The first of these that applies: `Halted`; `TurnPassed` with the log's length, if that is
+    /// above `turn`; `OutOfMemory`. Nothing was logged or changed.
     pub fn run_at<R: Threads + Wait + Sync, B: Allocator + Clone>(
         &mut self,
         rt: &R,
@@ -78,7 +78,7 @@ impl Session {
         Ok(&self.receipts[last])
     }
 
-    /// Stops the desk: every later or waiting `run` and `run_at` of its sessions answers `Halted`.
+    /// Stops the desk. Every waiting or later `run` and `run_at` of its sessions returns `Halted`.
     /// The desk can still be closed.
     pub fn halt<R: Wait>(&mut self, rt: &R)
         ensures { self.new ≡ self.old }

@@ -1,4 +1,5 @@
-//! What a desk and its sessions share: the hall behind its lock, and how a turn is waited for.
+//! What a desk and its sessions share: the hall behind its lock, and how a session waits for a
+//! turn.
 
 ghost use Rattle.std.specs.Sync.Mutex.{mutex_guard_value};
 ghost use Rattle.sessions.specs.Served.{IsEarly};
@@ -30,7 +31,8 @@ impl Shared {
         }
     }
 
-    /// Waits for the turn. It sleeps at once: a session that polls takes time from those whose turn comes first.
+    /// Waits for the turn. It sleeps at once, because a session that polls slows the sessions whose
+    /// turns come first.
     pub(crate) fn wait_for<R: Wait>(&self, rt: &R, session: u8, turn: u64) -> MutexGuard<'_, Hall>
         ensures { ¬ IsEarly (mutex_guard_value result) turn }
     {
@@ -38,7 +40,7 @@ impl Shared {
         woken.wait_while(rt, self.hall.lock(rt), |hall| hall.must_wait(session, turn))
     }
 
-    /// Unlocks the hall, and wakes those whose turn has come.
+    /// Unlocks the hall, and wakes the sessions whose turns have come.
     pub(crate) fn leave(&self, guard: MutexGuard<'_, Hall>) {
         let mut guard = guard;
         let due = guard.take_due();

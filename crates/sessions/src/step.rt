@@ -1,4 +1,4 @@
-//! One step of the machine, with its answer twice: for the log and for the receipt.
+//! One step of the machine, with two copies of its reply: for the log and for the receipt.
 
 ghost use Rattle.std.specs.Prelude.{◌≡◌, ◌≢◌, IfOk, OnOk, OnErr, Some, None, true, false};
 ghost use Rattle.flat_model.specs.Command as model;
@@ -15,7 +15,7 @@ use std::sync::Wait;
 use std::thread::Threads;
 use undo_journal::{Command, Reply};
 
-/// Answers a command of a session. When out of memory, the engine is as it was.
+/// Answers a command of a session. If out of memory, the engine is unchanged.
 pub(crate) fn answer_twice<R: Threads + Wait + Sync, B: Allocator + Clone>(
     rt: &R,
     alloc: Global,
@@ -32,7 +32,8 @@ pub(crate) fn answer_twice<R: Threads + Wait + Sync, B: Allocator + Clone>(
     }
 }
 
-/// Answers any other command. A counted fork whose answer can't be copied is taken back.
+/// Answers any command but an undo. If the reply of a counted fork can't be copied, the fork is
+/// undone.
 fn apply_twice<R: Threads + Wait + Sync, B: Allocator + Clone>(
     rt: &R,
     alloc: Global,
@@ -57,7 +58,7 @@ fn apply_twice<R: Threads + Wait + Sync, B: Allocator + Clone>(
     }
 }
 
-/// Takes back the newest recorded command, for which no memory is asked.
+/// Undoes the newest recorded command, of a kind whose undo allocates nothing.
 fn take_back<R: Threads + Wait + Sync>(rt: &R, engine: &mut DeskEngine, who: u8)
     requires { undoes_without_memory slots engine.old.past ≡ true }
     ensures { engine.new ≡ (tick slots engine.old model.Undo).0 }
@@ -65,7 +66,7 @@ fn take_back<R: Threads + Wait + Sync>(rt: &R, engine: &mut DeskEngine, who: u8)
     drop(engine.undo(rt, who));
 }
 
-/// A copy of an answer.
+/// Copies a reply.
 fn copy_of(alloc: Global, reply: &Reply<Global>) -> Result<Reply<Global>, AllocError>
     ensures same { IfOk result (λ r. reply_of r ≡ reply_of reply.now) }
     ensures answered { OnOk result (reply_of reply.now ≢ None) }
@@ -78,7 +79,7 @@ fn copy_of(alloc: Global, reply: &Reply<Global>) -> Result<Reply<Global>, AllocE
     }
 }
 
-/// Answers an undo, whose answer is copied before it is given.
+/// Answers an undo. Its reply is copied before the undo is run.
 fn undo_twice<R: Threads + Wait + Sync>(
     rt: &R,
     alloc: Global,
@@ -95,7 +96,7 @@ fn undo_twice<R: Threads + Wait + Sync>(
     }
 }
 
-/// What an undo will be answered.
+/// The reply that an undo will give.
 fn answer_to_undo(alloc: Global, engine: &DeskEngine) -> Result<Reply<Global>, AllocError>
     ensures { IfOk result (λ r. reply_of r ≡ Some (tick slots engine.now model.Undo).1) }
 {
