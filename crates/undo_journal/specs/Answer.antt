@@ -1,4 +1,4 @@
--- The engine's answers are the machine's, and its newest record is the one that the machine's past calls for.
+-- The engine's replies are the machine's, and its newest record is the one that the machine's past requires.
 use Rattle.std.specs.Prelude.{◌≡◌, ℕ, Bool, true, false, List, [], ◌∷◌, Option, Some, None}
 use Rattle.flat_model.specs.State.{State}
 use Rattle.flat_model.specs.Command as model
@@ -37,12 +37,12 @@ abbrev pub newest_command : List (model.Command × State) → Option model.Comma
 newest_command [] = None
 newest_command (e ∷ past) = Some e.0
 
--- i is the record that the newest recorded command left, and gives back the state before it
+-- i is the record that the newest recorded command left, and restores the state before it
 abbrev pub IsNewest : ℕ → State → List (model.Command × State) → model_inverse.Inverse → Type 0
 IsNewest slots now [] i = ⊥
 IsNewest slots now (e ∷ past) i = (record_of slots e.1 e.0 ≡ Some i) × (back i now ≡ e.1)
 
--- what was made goes when it is taken back, and a limit or a total is written where one stands
+-- undoing a creation only removes, and undoing a limit or a counted fork only overwrites
 abbrev pub needs_no_memory : Option model_inverse.Inverse → Bool
 needs_no_memory None = false
 needs_no_memory (Some (model_inverse.Made p)) = true
@@ -54,7 +54,7 @@ needs_no_memory (Some (model_inverse.Limited p file value)) = true
 needs_no_memory (Some (model_inverse.Counted a)) = true
 needs_no_memory (Some (model_inverse.Killed lost)) = false
 
--- whether an undo asks for no memory: there is nothing to take back, or its record asks for none
+-- whether an undo allocates nothing: no command is left to undo, or its record needs no memory
 abbrev pub undoes_without_memory : ℕ → List (model.Command × State) → Bool
 undoes_without_memory slots [] = true
 undoes_without_memory slots (e ∷ past) = needs_no_memory (record_of slots e.1 e.0)

@@ -4,7 +4,7 @@ use Rattle.flat_model.specs.State.{State}
 use Rattle.flat_model.specs.Command.{Command}
 use Rattle.flat_model.specs.Machine.{Machine}
 
--- the state before the oldest recorded command, and with no past the state now
+-- the state before the oldest recorded command; with no past, the current state
 abbrev pub first_state : State → List (Command × State) → State
 first_state s [] = s
 first_state s (e ∷ past) = first_state e.1 past

@@ -40,7 +40,7 @@ refusal_of (PidsMax path) = model.OverPidsMax path
 refusal_of NoFile = model.NoFile
 refusal_of NotReadable = model.NotReadable
 
--- the machine's reply, and none when out of memory
+-- the machine's reply, or none when out of memory
 abbrev pub reply_of : {A : Type 0} → Reply A → Option model.Reply
 reply_of Done = Some model.Done
 reply_of (Text bytes) = Some (model.Text bytes)

@@ -1,4 +1,4 @@
-//! Whether a command would be accepted. Nothing is changed or recorded, and no memory is taken.
+//! Whether a command would be accepted. Nothing is changed, recorded or allocated.
 
 ghost use Rattle.std.specs.Prelude.{◌≡◌, is_none};
 ghost use Rattle.flat_model.specs.Command as model;
@@ -81,8 +81,8 @@ impl<A: Allocator + Clone, M: Meter> Engine<A, M> {
         path.depth() != 0 || file.on_root()
     }
 
-    /// Whether the command would be accepted, memory aside; an undo always is, also where there is nothing to take back.
-    /// Costs what the command's refusals cost, and takes no memory.
+    /// Whether the command would be accepted if memory suffices. An undo always is, even if there is nothing to undo.
+    /// Costs as much as the command's refusals, and allocates nothing.
     pub fn accepts<B: Allocator + Clone>(&mut self, cmd: &Command<B>) -> bool
         ensures told { result ≡ is_none (refusal M.SLOTS self.old.state (command_of cmd.now)) }
         ensures kept { self.new ≡ self.old }

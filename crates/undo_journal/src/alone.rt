@@ -1,4 +1,4 @@
-//! Every command, and what takes it back, on the calling thread: nothing here asks for a runtime, takes a lock or waits.
+//! Every command and its undo on the calling thread. Nothing here needs a runtime, takes a lock or waits.
 
 ghost use Rattle.std.specs.Prelude.{◌≡◌, ◌≢◌, true, None, Some, IsOk, IfOk, OnOk, OnErr};
 ghost use Rattle.flat_model.specs.Step.{refusal, after};
@@ -27,7 +27,7 @@ use group_path::GroupPath;
 use pids_charge::{Charges, LostList, Meter};
 use std::alloc::{AllocError, Allocator};
 
-/// Puts the processes that a kill took back, each into its own group.
+/// Undoes a kill: puts each process back into its own group.
 fn undo_kill_alone<A: Allocator + Clone, M: Meter>(
     charges: &mut Charges<A, M>,
     who: u8,
@@ -43,7 +43,7 @@ fn undo_kill_alone<A: Allocator + Clone, M: Meter>(
     }
 }
 
-/// Takes one command back by its record.
+/// Undoes one command by its record.
 pub(crate) fn take_back_alone<A: Allocator + Clone, M: Meter>(
     charges: &mut Charges<A, M>,
     who: u8,
@@ -79,7 +79,7 @@ pub(crate) fn take_back_alone<A: Allocator + Clone, M: Meter>(
 }
 
 impl<A: Allocator + Clone, M: Meter> Engine<A, M> {
-    /// `apply` on the calling thread: no thread is started and nobody is waited for.
+    /// `apply` on the calling thread: starts no thread, and waits for none.
     pub fn apply_alone<B: Allocator + Clone>(&mut self, who: u8, cmd: &Command<B>) -> Reply<A>
         ensures answered { reply_of result ≢ None → Answers M.SLOTS self.old (command_of cmd.now) result self.new }
         ensures headline { reply_of result ≢ None → KeepsHistory M.SLOTS self.old (command_of cmd.now) self.new }
@@ -128,7 +128,7 @@ impl<A: Allocator + Clone, M: Meter> Engine<A, M> {
         }
     }
 
-    /// Takes out all processes of a group that may be killed, and records them with the groups that they were in.
+    /// Removes all processes of a group that may be killed, and records them with their groups.
     fn take_members_alone<B: Allocator + Clone>(
         &mut self,
         who: u8,

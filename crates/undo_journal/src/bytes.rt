@@ -1,4 +1,4 @@
-//! The bytes of a text that a reply shows.
+//! The bytes of a text in a reply.
 
 ghost use Rattle.std.specs.Prelude.{◌≡◌, IfOk};
 
@@ -21,7 +21,7 @@ impl<A: Allocator + Clone> Model for Bytes<A> {
 }
 
 impl<A: Allocator + Clone> Bytes<A> {
-    /// These bytes. It takes no memory, and gives that of a short text up.
+    /// Takes these bytes. Allocates nothing. A short text is stored inline and its memory freed.
     pub fn of(text: Vec<u8, A>) -> Bytes<A>
         ensures { result ≡ text.items }
     {
@@ -36,7 +36,7 @@ impl<A: Allocator + Clone> Bytes<A> {
         self.text.as_slice()
     }
 
-    /// The same bytes in other memory.
+    /// Copies the bytes into another allocator.
     pub(crate) fn copy<B: Allocator + Clone>(&self, alloc: B) -> Result<Bytes<B>, AllocError>
         ensures { IfOk result (λ b. b ≡ self.now) }
     {

@@ -1,4 +1,4 @@
-//! `cat`: the reading of a file of a group.
+//! `cat`: reading a file of a group.
 
 ghost use Rattle.std.specs.Prelude.{◌≡◌, IfOk, OnErr};
 ghost use Rattle.flat_model.specs.Command as model;

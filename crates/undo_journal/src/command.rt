@@ -1,4 +1,4 @@
-//! What the engine is asked, and the text of each command as a line of a trace.
+//! The commands of the engine, and the text of each as a line of a trace.
 
 ghost use Rattle.std.specs.Prelude.{◌≡◌, ◌∷◌, ◌++◌, IfOk, codes};
 ghost use Rattle.flat_model.specs.CommandText.{command_text};
@@ -11,7 +11,7 @@ use itoa::Buffer;
 use pids_charge::Pid;
 use std::alloc::{AllocError, Allocator};
 
-/// Two words with a blank between them.
+/// Two words with a space between them.
 fn two_words<B: Allocator>(alloc: B, first: &[u8], second: &[u8]) -> Result<Vec<u8, B>, AllocError>
     ensures { IfOk result (λ text. text.items ≡ first.now ++ 0x20 ∷ second.now) }
 {
@@ -21,7 +21,7 @@ fn two_words<B: Allocator>(alloc: B, first: &[u8], second: &[u8]) -> Result<Vec<
     Ok(text)
 }
 
-/// Three words with a blank between each two.
+/// Three words with spaces between them.
 fn three_words<B: Allocator>(
     alloc: B,
     first: &[u8],
@@ -51,25 +51,25 @@ fn write_line<B: Allocator>(
     Ok(text)
 }
 
-/// What the engine is asked.
+/// A command to the engine.
 #[derive(Drop)]
 pub enum Command<A: Allocator + Clone> {
-    /// Makes a group under one that is there: `mkdir`.
+    /// Makes a group under an existing one: `mkdir`.
     MakeGroup(GroupPath<A>),
-    /// Removes a group that has no groups below it and no processes: `rmdir`.
+    /// Removes a group without groups below it and without processes: `rmdir`.
     RemoveGroup(GroupPath<A>),
     /// Makes a process in the group of its parent.
     Fork {
         /// The process that forks.
         parent: Pid,
-        /// The process that is made.
+        /// The new process.
         child: Pid,
     },
     /// Ends a process.
     Exit(Pid),
-    /// Puts a process into a group: a write to `cgroup.procs`.
+    /// Moves a process into a group: a write to `cgroup.procs`.
     Move {
-        /// The group that it goes to.
+        /// The group that it moves to.
         path: GroupPath<A>,
         /// The process.
         pid: Pid,
@@ -83,7 +83,7 @@ pub enum Command<A: Allocator + Clone> {
         /// The limit.
         value: Limit,
     },
-    /// Ends all processes of a group and of the groups below it: a write to `cgroup.kill`.
+    /// Kills all processes at and below a group: a write to `cgroup.kill`.
     Kill(GroupPath<A>),
     /// Reads a file of a group.
     Show {
@@ -92,14 +92,14 @@ pub enum Command<A: Allocator + Clone> {
         /// The file.
         file: File,
     },
-    /// Asks which group a process belongs to.
+    /// Reads which group a process belongs to: `where`.
     Locate(Pid),
-    /// Takes the newest recorded command back.
+    /// Undoes the newest recorded command.
     Undo,
 }
 
 impl<A: Allocator + Clone> Command<A> {
-    /// The same command in other memory, in time linear in its path.
+    /// Copies the command into another allocator, in time linear in its path.
     ///
     /// # Errors
     ///
@@ -134,9 +134,8 @@ impl<A: Allocator + Clone> Command<A> {
         }
     }
 
-    /// The command as a line of a trace says it, without the line feed: `mkdir /a`, `fork 1 2`,
-    /// `write /a cgroup.procs 2`, `write /a pids.max 3`, `write /a cgroup.kill 1`, `cat /a pids.current`, `where 2`, `undo`.
-    /// Linear in its path.
+    /// The command as a line of a trace, without the line feed: `mkdir /a`, `fork 1 2`, `write /a cgroup.procs 2`,
+    /// `write /a pids.max 3`, `write /a cgroup.kill 1`, `cat /a pids.current`, `where 2`, `undo`. Linear in its path.
     ///
     /// # Errors
     ///

@@ -1,4 +1,4 @@
-//! The engine: one command answered, one taken back, and what is recorded.
+//! The engine: answering one command, undoing one, and what is recorded.
 
 ghost use Rattle.std.specs.Prelude.{◌≡◌, ◌≢◌, [], true, None, IfOk, OnErr, MatchOption, length, option_map};
 ghost use Rattle.flat_model.specs.Counts.{is_group, has_process};
@@ -20,8 +20,8 @@ use std::marker::Model;
 use std::sync::Wait;
 use std::thread::Threads;
 
-/// The groups and processes with their charges, the journal of the recorded commands, the newest last, and how many
-/// recorded commands were forgotten; that number stops at the greatest `u64`.
+/// The groups and processes with their charges, the journal of the recorded commands, newest last, and how many
+/// recorded commands were forgotten. That number stops at the greatest `u64`.
 #[derive(Drop)]
 pub struct Engine<A: Allocator + Clone, M: Meter> {
     pub(crate) alloc: A,
@@ -46,7 +46,7 @@ impl<A: Allocator + Clone, M: Meter> Model for Engine<A, M> {
     ghost invariant = { λ e. IsHistory M.SLOTS e.forgotten e.charges (records e.journal.items) };
 }
 
-/// The reply, or out of memory.
+/// The reply; out of memory for an error.
 pub(crate) fn or_out_of_memory<A: Allocator + Clone>(
     answer: Result<Reply<A>, AllocError>,
 ) -> Reply<A>
@@ -60,11 +60,12 @@ pub(crate) fn or_out_of_memory<A: Allocator + Clone>(
 }
 
 impl<A: Allocator + Clone, M: Meter + Drop> Engine<A, M> {
-    /// The root alone, and process 1 in it, over an empty meter. It makes the meter's table of free slots whole.
+    /// Creates an engine over an empty meter. Its hierarchy has only the root, with process 1 in it. Allocates the
+    /// meter's table of free slots.
     ///
     /// # Errors
     ///
-    /// `AllocError` when out of memory; the meter is dropped then.
+    /// `AllocError` when out of memory. The meter is dropped then.
     pub fn new(alloc: A, meter: M) -> Result<Engine<A, M>, AllocError>
         requires { IsEmpty (M.content meter) (M.held meter) }
         ensures { IfOk result (λ e. e ≡ new_machine) }
@@ -81,35 +82,36 @@ impl<A: Allocator + Clone, M: Meter + Drop> Engine<A, M> {
 }
 
 impl<A: Allocator + Clone, M: Meter> Engine<A, M> {
-    /// Answers one command, which a session `who` has issued. Where it kills, or takes a kill back, it may wait for the
-    /// threads that do a part of the charges.
+    /// Answers one command that the session `who` has issued. A kill, or an undo of one, may wait for the threads that
+    /// settle parts of its charges.
     ///
-    /// It costs O(log processes + depth · log children) comparisons, `depth` being that of the group or of the process's
-    /// group; `mkdir` and `rmdir` move the siblings behind the group besides. A kill goes over all processes.
+    /// Costs O(log processes + depth · log children) comparisons, where `depth` is that of the group or of the
+    /// process's group. `mkdir` and `rmdir` also shift the siblings that come after the group. A kill visits all
+    /// processes.
     pub fn apply<R: Threads + Wait + Sync, B: Allocator + Clone>(
         &mut self,
         rt: &R,
         who: u8,
         cmd: &Command<B>,
     ) -> Reply<A>
-        // The engine goes where the machine goes, and answers what it answers.
+        // The engine makes the machine's step, and gives the machine's reply.
         ensures answered { reply_of result ≢ None → Answers M.SLOTS self.old (command_of cmd.now) result self.new }
 
-        // What was recorded can be undone, one command or a whole run; what is counted is there, and no peak is below it.
+        // Recorded commands can be undone, one or a whole run. The counts match the processes, and no peak is below a
+        // count.
         ensures headline { reply_of result ≢ None → KeepsHistory M.SLOTS self.old (command_of cmd.now) self.new }
 
         // When out of memory, nothing has changed.
         ensures refused { reply_of result ≡ None → self.new ≡ self.old }
 
-        // To take back a group or a process that was made, a limit that was set, or a fork that was counted, no memory
-        // is asked for.
+        // Undoing a new group, a new process, a limit or a counted fork allocates nothing.
         ensures certain { command_of cmd.now ≡ model.Undo → undoes_without_memory M.SLOTS self.old.past ≡ true → reply_of result ≢ None }
     {
         self.apply_gated(rt, &OpenGate, who, cmd)
     }
 
-    /// `apply`, where each part of the charges of a kill, or of a kill that is taken back, calls the test hook at its
-    /// start. The hook may keep it waiting.
+    /// `apply`, where each part of the settlement of a kill, or of an undo of one, first calls the test hook. The hook
+    /// may block.
     pub fn apply_gated<R: Threads + Wait + Sync, B: Allocator + Clone>(
         &mut self,
         rt: &R,
@@ -127,15 +129,14 @@ impl<A: Allocator + Clone, M: Meter> Engine<A, M> {
         reply
     }
 
-    /// Takes the newest recorded command back, whoever issued it. It checks no limit and is not recorded. To take a kill
-    /// back it may wait for the threads that do a part of the charges. Costs no more than the command did.
+    /// Undoes the newest recorded command, whichever session issued it. It checks no limit and is not recorded. Undoing
+    /// a kill may wait for the threads that settle parts of its charges. Costs no more than the command did.
     pub fn undo<R: Threads + Wait + Sync>(&mut self, rt: &R, who: u8) -> Reply<A>
         ensures answered { reply_of result ≢ None → Answers M.SLOTS self.old model.Undo result self.new }
         ensures headline { reply_of result ≢ None → KeepsHistory M.SLOTS self.old model.Undo self.new }
         ensures refused { reply_of result ≡ None → self.new ≡ self.old }
 
-        // To take back a group or a process that was made, a limit that was set, or a fork that was counted, no memory
-        // is asked for.
+        // Undoing a new group, a new process, a limit or a counted fork allocates nothing.
         ensures certain { undoes_without_memory M.SLOTS self.old.past ≡ true → reply_of result ≢ None }
     {
         let reply = or_out_of_memory(self.take_newest_back(rt, &OpenGate, who));
@@ -153,7 +154,7 @@ impl<A: Allocator + Clone, M: Meter> Engine<A, M> {
         }
     }
 
-    /// The newest recorded command: what `undo` would take back.
+    /// The newest recorded command, which `undo` would undo.
     pub fn newest_command(&self) -> Option<&Command<A>>
         ensures { option_map (λ command. command_of command.now) result ≡ newest_command self.now.past }
     {
@@ -163,14 +164,14 @@ impl<A: Allocator + Clone, M: Meter> Engine<A, M> {
         }
     }
 
-    /// How many recorded commands can be taken back.
+    /// How many recorded commands can be undone.
     pub fn depth(&self) -> usize
         ensures { result ≡ length self.now.past }
     {
         self.journal.len()
     }
 
-    /// The groups and processes, to be read.
+    /// The groups and processes, for reading.
     pub fn charges(&self) -> &Charges<A, M>
         ensures { result.now ≡ self.now.state }
     {
@@ -195,21 +196,21 @@ impl<A: Allocator + Clone, M: Meter> Engine<A, M> {
         }
     }
 
-    /// Whether there is such a group.
+    /// Whether the group exists.
     pub(crate) fn has_group<B: Allocator + Clone>(&self, path: &GroupPath<B>) -> bool
         ensures { result ≡ is_group self.now.state path.now }
     {
         self.charges.attr(path).is_some()
     }
 
-    /// Whether there is such a process.
+    /// Whether the process exists.
     pub(crate) fn has_process(&self, pid: Pid) -> bool
         ensures { result ≡ has_process self.now.state pid }
     {
         self.charges.home(pid).is_some()
     }
 
-    /// Tells `apply`, `undo` and `undo_all` what every engine keeps. It is proof only.
+    /// Gives the invariant of every engine to `apply`, `undo` and `undo_all`. It is proof only.
     pub(crate) fn known(&self)
         ensures { IsReached M.SLOTS self.now }
     {

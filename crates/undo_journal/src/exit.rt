@@ -1,4 +1,4 @@
-//! `exit`: the end of a process, its record, and what takes it back.
+//! `exit`: the exit of a process, its record and its undo.
 
 ghost use Rattle.std.specs.Prelude.{◌≡◌, None, IfOk, OnOk, OnErr};
 ghost use Rattle.flat_model.specs.Step.{refusal, after};
@@ -20,7 +20,7 @@ use pids_charge::{Charges, Meter, Pid};
 use std::alloc::{AllocError, Allocator};
 
 impl<A: Allocator + Clone, M: Meter> Engine<A, M> {
-    /// Takes out a process that is there, and records the group that it was in.
+    /// Removes a process that exists, and records its group.
     fn take_process(&mut self, who: u8, pid: Pid) -> Result<(), AllocError>
         requires { refusal M.SLOTS self.old.state (model.Exit pid) ≡ None }
         ensures ok { OnOk result (self.new ≡ recorded self.old (model.Exit pid) (after self.old.state (model.Exit pid))) }
@@ -49,7 +49,7 @@ impl<A: Allocator + Clone, M: Meter> Engine<A, M> {
     }
 }
 
-/// Puts a process that has ended back into its group.
+/// Puts an exited process back into its group.
 pub(crate) fn undo_exit<A: Allocator + Clone, M: Meter>(
     charges: &mut Charges<A, M>,
     who: u8,

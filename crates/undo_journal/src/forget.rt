@@ -1,4 +1,4 @@
-//! `forget`: the state stays, and nothing earlier can be undone.
+//! `forget`: keeps the state, and makes everything earlier impossible to undo.
 
 ghost use Rattle.std.specs.Prelude.{◌≡◌};
 ghost use Rattle.undo_journal.specs.Beginning.{forgotten};
@@ -9,11 +9,11 @@ use pids_charge::Meter;
 use std::alloc::Allocator;
 
 impl<A: Allocator + Clone, M: Meter> Engine<A, M> {
-    /// Forgets all recorded commands: the state stays, none of them can be undone, and the memory of their records is
-    /// freed. It takes no memory and cannot fail. Costs what dropping the records costs.
+    /// Forgets all recorded commands. The state stays, none of them can be undone, and the memory of their records is
+    /// freed. The call allocates nothing and cannot fail. Costs as much as dropping the records.
     ///
-    /// After 2^64 - 1 commands that were recorded, those that are forgotten among them, an engine that has forgotten
-    /// counts no more refused forks: a fork that a `pids.max` refuses is then out of memory.
+    /// The engine counts its recorded commands, forgotten ones included. After 2^64 - 1 of them, an engine that has
+    /// forgotten counts no more refused forks: a fork that a `pids.max` refuses is then out of memory.
     pub fn forget(&mut self)
         ensures { self.new ≡ forgotten self.old }
     {

@@ -1,4 +1,4 @@
-//! What takes one recorded command back.
+//! The record from which a command is undone.
 
 ghost use Rattle.std.specs.Prelude.{◌≡◌, IfOk};
 ghost use Rattle.undo_journal.specs.Meaning.{inverse_of};
@@ -8,60 +8,61 @@ use group_tree::{Attr, Limit, LimitFile};
 use pids_charge::{LostList, Peaks, Pid};
 use std::alloc::{AllocError, Allocator};
 
-/// What takes one recorded command back.
+/// The record from which one command is undone.
 #[derive(Drop)]
 pub enum Inverse<A: Allocator + Clone> {
-    /// A group was made: it goes.
+    /// A group was made. The undo removes it.
     Made {
         /// The group.
         path: GroupPath<A>,
     },
-    /// A group was removed: it is put back.
+    /// A group was removed. The undo puts it back.
     Removed {
         /// The group.
         path: GroupPath<A>,
-        /// What it had. The slot binds nothing.
+        /// Its attributes. The slot is not binding.
         attr: Attr,
     },
-    /// A process was made: it goes, and the peaks along its group go back.
+    /// A process was made. The undo removes it, and restores the peaks along its group's path.
     Forked {
         /// The process.
         pid: Pid,
-        /// What the peaks of its group and of the groups above it were, from the group upward, the root left out.
+        /// The old peaks of its group and of the groups above it, from the group upward, without the root.
         peaks: Peaks<A>,
     },
-    /// A process has ended: it is put back.
+    /// A process has exited. The undo puts it back.
     Exited {
         /// The process.
         pid: Pid,
         /// The group that it was in.
         path: GroupPath<A>,
     },
-    /// A process was moved: it goes back, and so do the peaks along the group that it went to.
+    /// A process was moved. The undo moves it back, and restores the peaks along the path of the group that it moved
+    /// to.
     Moved {
         /// The process.
         pid: Pid,
         /// The group that it was in.
         path: GroupPath<A>,
-        /// What the peaks of the group that it went to and of the groups above that were, from the group upward, the
-        /// root left out.
+        /// The old peaks of the group that it moved to and of the groups above that one, from the group upward, without
+        /// the root.
         peaks: Peaks<A>,
     },
-    /// A limit was set: it goes back.
+    /// A limit was set. The undo sets the old one.
     Limited {
         /// The group.
         path: GroupPath<A>,
         /// Which limit.
         file: LimitFile,
-        /// What it was.
+        /// The old limit.
         value: Limit,
     },
-    /// A fork was refused by a `pids.max`: it is no longer counted.
+    /// A fork was refused by a `pids.max`. The undo lowers the event totals that it raised.
     Counted {
         /// The group whose limit refused it.
         path: GroupPath<A>,
     },
-    /// The processes of a group and of the groups below it were ended: each is put back into its own group.
+    /// The processes at and below a group were killed. The undo puts each back into its own group.
     Killed {
         /// The processes with their groups, pids ascending.
         list: LostList<A>,
@@ -69,7 +70,7 @@ pub enum Inverse<A: Allocator + Clone> {
 }
 
 impl<A: Allocator + Clone> Inverse<A> {
-    /// The same record in other memory, in time linear in its paths and peaks.
+    /// Copies the record into another allocator, in time linear in its paths and peaks.
     ///
     /// # Errors
     ///

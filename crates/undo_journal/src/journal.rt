@@ -1,4 +1,4 @@
-//! An entry of the journal, and the dropping of all entries.
+//! An entry of the journal, and dropping all entries.
 
 ghost use Rattle.std.specs.Prelude.{◌≡◌, [], vec_capacity};
 
@@ -13,7 +13,7 @@ pub(crate) struct Entry<A: Allocator + Clone> {
     pub(crate) inverse: Inverse<A>,
 }
 
-/// Drops all entries, and frees the memory that the journal kept for them.
+/// Drops all entries, and frees the memory of the journal.
 pub(crate) fn drop_entries<A: Allocator + Clone>(journal: &mut Vec<Entry<A>, A>)
     ensures none { journal.new.items ≡ [] }
     ensures freed { vec_capacity journal.new ≡ 0 }

@@ -1,4 +1,4 @@
-//! A write to `cgroup.kill`: the end of all processes at or below a group, its record, and what takes it back.
+//! A write to `cgroup.kill`: killing all processes at or below a group, its record and its undo.
 
 ghost use Rattle.std.specs.Prelude.{◌≡◌, None, IfOk, OnOk, OnErr, option_map};
 ghost use Rattle.flat_model.specs.Step.{refusal, after};
@@ -23,7 +23,7 @@ use std::sync::Wait;
 use std::thread::Threads;
 
 impl<A: Allocator + Clone, M: Meter> Engine<A, M> {
-    /// Why the group may not be killed, if it may not.
+    /// Why the group may not be killed, or None if it may.
     pub(crate) fn refuses_kill<B: Allocator + Clone>(
         &self,
         path: &GroupPath<B>,
@@ -39,7 +39,7 @@ impl<A: Allocator + Clone, M: Meter> Engine<A, M> {
         Ok(None)
     }
 
-    /// Takes out all processes of a group that may be killed, and records them with the groups that they were in.
+    /// Removes all processes of a group that may be killed, and records them with their groups.
     fn take_members<R: Threads + Wait + Sync, B: Allocator + Clone>(
         &mut self,
         rt: &R,
@@ -83,7 +83,7 @@ impl<A: Allocator + Clone, M: Meter> Engine<A, M> {
     }
 }
 
-/// Puts the processes that a kill took back, each into its own group.
+/// Undoes a kill: puts each process back into its own group.
 pub(crate) fn undo_kill<A: Allocator + Clone, M: Meter, R: Threads + Wait + Sync>(
     charges: &mut Charges<A, M>,
     rt: &R,

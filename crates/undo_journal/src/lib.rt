@@ -1,36 +1,39 @@
-//! The engine: commands, their replies, and a journal that takes commands back.
+//! The engine: commands, their replies, and a journal that undoes commands.
 //!
-//! An `Engine` is the machine of `flat_model`: the state now, and for each recorded command, newest first, the
-//! command and the state before it. `apply` answers a command as the machine does and goes where the machine goes; a recorded
-//! command and then an `undo` give the engine back as it was, and undoing everything gives the root alone with process 1
-//! in it. So it is after any commands, undos among them, over every `Meter`.
+//! An `Engine` is the machine of `flat_model`: the current state, and for each recorded command, newest first, the
+//! command and the state before it. `apply` gives the machine's reply to a command and makes the machine's step. A
+//! recorded command followed by `undo` restores the engine. Undoing everything leaves the start: the root, with process
+//! 1 in it. All this holds after any commands and undos, over every `Meter`. `forget` is the exception: undoing
+//! everything then leaves the state at which it was called.
 //!
-//! - An accepted command that changes the state is recorded, and so is a fork that a `pids.max` refused, which raises
-//!   event totals. Any other refused command, one that only shows, and an undo are not.
-//! - `undo` takes back the newest recorded command, whoever issued it, and checks nothing.
-//! - A refusal names its cause and leaves everything but those totals. So does out of memory, which comes last:
-//!   the memory of a record is asked for once it is decided what the command does, and before anything is changed.
-//! - The journal keeps a command and a small record each, and no state. It has no bound of its own, and is not kept on
-//!   a disk.
-//! - `undo_all` takes back everything, newest first, or as much as there is memory for, and says how many commands that was.
-//! - A kill, and a kill that is taken back, give all their charges to the meter at once, and may wait for the threads that
-//!   do a part of them. No other command waits. The session's number `who` picks where its charges stand in the meter.
-//! - `apply_alone` and `undo_alone` answer on the calling thread: they ask for no runtime, and nothing waits.
-//! - `accepts` tells whether a command would be accepted. It changes nothing and takes no memory.
-//! - What `apply_gated` adds is that each part first calls a test hook of the caller's; no clause speaks of it.
-//! - Commands, refusals and replies over different allocators are compared by `is`: true exactly where they mean the same.
-//! - Groups, processes and their counts are those of `Charges`: no command but a kill goes over all processes. There are
-//!   as many groups beside the root as the meter has slots.
-//! - Undo gives a removed group back with its limits and event totals. Only for a removal, an end, a move or a kill taken
-//!   back is memory asked for; when out of it, state and journal stay.
-//! - `rehearse` tells what a list of commands would be answered, undos of the journal among them: it runs them on a copy of
-//!   the engine in an arena of the caller's. The engine itself is only read.
+//! - The journal records each accepted command that changes the state. It also records a fork that a `pids.max`
+//!   refused, because that raises event totals. It records no other refused command, no command that only reads, and no
+//!   undo.
+//! - `undo` undoes the newest recorded command, whichever session issued it, and checks nothing.
+//! - A refusal names its cause and changes nothing but those totals. Out of memory comes last and changes nothing: a
+//!   command allocates its record after all checks and before any change.
+//! - The journal keeps each command with a small record, and no states. It has no bound of its own, and is not stored
+//!   on disk.
+//! - `undo_all` undoes everything, newest first, or as much as memory allows, and returns how many commands it undid.
+//! - A kill and its undo pass all their charges to the meter at once, and may wait for the threads that settle parts of
+//!   them. No other command waits. The session's number `who` selects where its charges are stored in the meter.
+//! - `apply_alone` and `undo_alone` run on the calling thread. They need no runtime and never wait.
+//! - `accepts` says whether a command would be accepted. It changes and allocates nothing.
+//! - `apply_gated` is `apply` for tests: each part of a settlement first calls the caller's hook. No clause is about
+//!   the hook.
+//! - `is` compares commands, refusals and replies over different allocators. It is true exactly if they mean the same.
+//! - Groups, processes and counts are those of `Charges`. The number of groups other than the root is at most the
+//!   number of the meter's slots.
+//! - Undoing a removal restores the group with its limits and event totals. Only undoing a removal, an exit, a move or
+//!   a kill allocates. If that runs out of memory, state and journal are unchanged.
+//! - `rehearse` returns the replies that a list of commands would get, undos included. It runs them on a copy of the
+//!   engine in the caller's arena, and only reads the engine.
 //!
-//! Each command stands in a file of its own, with its refusals, its doing, its record, and what takes the record back.
-//! What a command, a reply and a record mean stands in `specs/Meaning.antt`; that a reply is the machine's in
-//! `specs/Answer.antt`; what each answered command promises of undoing and counting, and what the undoing of everything
-//! leaves, in `specs/Headline.antt`; what a journal says of the states before in `specs/History.antt`.
-//! What these definitions say is stated as laws in `journal_laws`.
+//! Each command has its own file, with its refusals, its change, its record and its undo. `specs/Meaning.antt` says
+//! what commands, replies and records mean. `specs/Answer.antt` says that a reply is the machine's.
+//! `specs/Headline.antt` says what each answered command promises about undo and counts, and what undoing everything
+//! leaves. `specs/History.antt` says what a journal knows of the earlier states. `journal_laws` states the laws that
+//! follow from these definitions.
 #![tactic(auto)]
 
 mod accepting;

@@ -1,5 +1,4 @@
-//! A write to `pids.max`, `cgroup.max.descendants` or `cgroup.max.depth`: the setting of a limit, its record, and what
-//! takes it back.
+//! A write to `pids.max`, `cgroup.max.descendants` or `cgroup.max.depth`: setting a limit, its record and its undo.
 
 ghost use Rattle.std.specs.Prelude.{◌≡◌, None, IfOk, OnOk, OnErr, option_map};
 ghost use Rattle.flat_model.specs.Step.{refusal, after};
@@ -23,7 +22,7 @@ use pids_charge::{Charges, Meter};
 use std::alloc::{AllocError, Allocator};
 
 impl<A: Allocator + Clone, M: Meter> Engine<A, M> {
-    /// Why the limit may not be set, if it may not.
+    /// Why the limit may not be set, or None if it may.
     fn refuses_limit<B: Allocator + Clone>(
         &self,
         path: &GroupPath<B>,
@@ -41,7 +40,7 @@ impl<A: Allocator + Clone, M: Meter> Engine<A, M> {
         Ok(None)
     }
 
-    /// Writes a limit that may be set, and records the one that stood there.
+    /// Sets a limit that may be set, and records the old one.
     fn write_limit<B: Allocator + Clone>(
         &mut self,
         path: &GroupPath<B>,
@@ -90,7 +89,7 @@ impl<A: Allocator + Clone, M: Meter> Engine<A, M> {
     }
 }
 
-/// Sets the limit that stood.
+/// Sets the old limit again.
 pub(crate) fn undo_limit<A: Allocator + Clone, M: Meter>(
     charges: &mut Charges<A, M>,
     path: &GroupPath<A>,

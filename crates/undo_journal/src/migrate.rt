@@ -1,4 +1,4 @@
-//! A write to `cgroup.procs`: the move of a process, its record, and what takes it back.
+//! A write to `cgroup.procs`: moving a process, its record and its undo.
 
 ghost use Rattle.std.specs.Prelude.{◌≡◌, None, IfOk, OnOk, OnErr, option_map};
 ghost use Rattle.flat_model.specs.Step.{refusal, after};
@@ -21,7 +21,7 @@ use pids_charge::{Charges, Meter, Peaks, Pid};
 use std::alloc::{AllocError, Allocator};
 
 impl<A: Allocator + Clone, M: Meter> Engine<A, M> {
-    /// Why the process may not go to the group, if it may not.
+    /// Why the process may not move to the group, or None if it may.
     fn refuses_move<B: Allocator + Clone>(
         &self,
         path: &GroupPath<B>,
@@ -38,7 +38,7 @@ impl<A: Allocator + Clone, M: Meter> Engine<A, M> {
         Ok(None)
     }
 
-    /// Moves a process that may go there, and records the group that it was in and the peaks along the one it goes to.
+    /// Moves a process that may move there. Records its old group, and the old peaks along the path of the new one.
     fn write_home<B: Allocator + Clone>(
         &mut self,
         who: u8,
@@ -84,7 +84,7 @@ impl<A: Allocator + Clone, M: Meter> Engine<A, M> {
     }
 }
 
-/// Moves a process back, and sets the peaks along the group that it leaves as they were.
+/// Moves a process back, and restores the peaks along the path of the group that it leaves.
 pub(crate) fn undo_move<A: Allocator + Clone, M: Meter>(
     charges: &mut Charges<A, M>,
     who: u8,

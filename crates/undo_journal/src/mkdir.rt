@@ -1,4 +1,4 @@
-//! `mkdir`: the making of a group, its record, and what takes it back.
+//! `mkdir`: making a group, its record and its undo.
 
 ghost use Rattle.std.specs.Prelude.{◌≡◌, None, IfOk, OnOk, OnErr};
 ghost use Rattle.flat_model.specs.Step.{refusal, after};
@@ -57,7 +57,7 @@ impl<A: Allocator + Clone, M: Meter> Engine<A, M> {
     }
 }
 
-/// Takes out a group that was made.
+/// Removes a group that was made.
 pub(crate) fn undo_mkdir<A: Allocator + Clone, M: Meter>(
     charges: &mut Charges<A, M>,
     path: &GroupPath<A>,

@@ -1,5 +1,5 @@
-//! Readings of the groups' charges. They are read through the engine, since a meter is lent for writing where it is read;
-//! nothing is changed, and nothing recorded.
+//! Reading the charges of the groups. Reads go through the engine, because reading a meter borrows it mutably. Nothing
+//! is changed or recorded.
 
 ghost use Rattle.std.specs.Prelude.{◌≡◌, ◌&&◌, not, is_some, IfSome};
 ghost use Rattle.flat_model.specs.Counts as flat;
@@ -15,8 +15,8 @@ use pids_charge::Meter;
 use std::alloc::Allocator;
 
 impl<A: Allocator + Clone, M: Meter> Engine<A, M> {
-    /// How many processes are at or below a group; None for the root and where there is no such group. Costs one descent
-    /// of the tree, and takes no memory.
+    /// How many processes are at or below a group. None for the root, and if the group doesn't exist. Costs one descent
+    /// of the tree, and allocates nothing.
     pub fn current<B: Allocator + Clone>(&mut self, path: &GroupPath<B>) -> Option<u64>
         ensures some { is_some result ≡ (not (is_root path.now) && is_group self.old.state path.now) }
         ensures count { IfSome result (λ n. n ≡ flat.current self.old.state path.now) }
@@ -25,8 +25,8 @@ impl<A: Allocator + Clone, M: Meter> Engine<A, M> {
         self.charges.current(path)
     }
 
-    /// Whether there is a process at or below a group; None for the root and where there is no such group. Costs one
-    /// descent of the tree, and takes no memory.
+    /// Whether a process is at or below a group. None for the root, and if the group doesn't exist. Costs one descent
+    /// of the tree, and allocates nothing.
     pub fn populated<B: Allocator + Clone>(&mut self, path: &GroupPath<B>) -> Option<bool>
         ensures some { is_some result ≡ (not (is_root path.now) && is_group self.old.state path.now) }
         ensures told { IfSome result (λ b. b ≡ flat.populated self.old.state path.now) }
@@ -35,12 +35,13 @@ impl<A: Allocator + Clone, M: Meter> Engine<A, M> {
         self.charges.populated(path)
     }
 
-    /// The text of a file of the group at the path. `cgroup.procs` costs a walk over all processes, each other file one
-    /// descent of the tree, and a refusal two.
+    /// The text of a file of the group at the path. `cgroup.procs` costs a visit to all processes. Any other file costs
+    /// one descent of the tree, and a refusal two.
     ///
     /// # Errors
     ///
-    /// `NotReadable` for `cgroup.kill`, then `NoGroup`, then `NoFile` for what the root has not, then `OutOfMemory`.
+    /// The first of these that applies: `NotReadable` for `cgroup.kill`, `NoGroup`, `NoFile` for a file that the root
+    /// doesn't have, `OutOfMemory`.
     pub fn render<B: Allocator + Clone, P: Allocator + Clone>(
         &mut self,
         alloc: B,

@@ -1,4 +1,4 @@
-//! A rehearsal: what an engine would answer, found out on a copy of it.
+//! A rehearsal: the replies that an engine would give, found on a copy of it.
 
 ghost use Rattle.std.specs.Prelude.{◌≡◌, IfOk, Some, map};
 ghost use Rattle.flat_model.specs.Machine.{replies};
@@ -26,7 +26,7 @@ fn copy_entry<A: Allocator + Clone, B: Allocator + Clone>(
     Ok(Entry { command, inverse })
 }
 
-// The same entries in the same order.
+// Copies the entries, in the same order.
 fn copy_journal<A: Allocator + Clone, B: Allocator + Clone>(
     journal: &[Entry<A>],
     alloc: B,
@@ -41,12 +41,12 @@ fn copy_journal<A: Allocator + Clone, B: Allocator + Clone>(
 }
 
 impl<A: Allocator + Clone, M: Meter> Engine<A, M> {
-    /// A copy: the same groups, processes and journal in other memory, over plain numbers. This engine's meter must have as
-    /// many slots as a `PlainMeter`. Costs as much as the engine is large.
+    /// Copies groups, processes and journal into another allocator, over plain numbers. This engine's meter must have as
+    /// many slots as a `PlainMeter`. Costs time and memory linear in the size of the engine.
     ///
     /// # Errors
     ///
-    /// `AllocError` when out of memory; what was copied is dropped then.
+    /// `AllocError` when out of memory. What was copied is dropped then.
     pub fn copy<B: Allocator + Clone>(&self, alloc: B) -> Result<Engine<B, PlainMeter<B>>, AllocError>
         requires { M.SLOTS ≡ ⟦<PlainMeter<B> as Meter>⟧.SLOTS }
         ensures { IfOk result (λ e. e ≡ self.now) }
@@ -61,7 +61,7 @@ impl<A: Allocator + Clone, M: Meter> Engine<A, M> {
         })
     }
 
-    /// Answers one command, with the reply in other memory; out of memory is an `Err`.
+    /// Answers one command, with the reply in another allocator. Out of memory is an `Err`.
     fn answer_in<R: Threads + Wait + Sync, B: Allocator + Clone, C: Allocator + Clone>(
         &mut self,
         rt: &R,
@@ -77,15 +77,14 @@ impl<A: Allocator + Clone, M: Meter> Engine<A, M> {
         reply.copy(out)
     }
 
-    /// The replies that `apply` would give to these commands in turn, undos of this engine's journal
-    /// among them. They are run on a copy over the arena, with a `PlainMeter`, which is dropped at
-    /// the end, and each reply is copied out of it; this engine stays as it is. Its meter must have
-    /// as many slots as a `PlainMeter`. To kill, or to take a kill back, it may wait as `apply` does.
-    /// Costs what copying the engine and answering the commands costs.
+    /// Returns the replies that `apply` would give to these commands in turn, undos included. Runs them on a copy in
+    /// the arena, over a `PlainMeter`, and copies each reply out of it. The copy is dropped at the end, and this engine
+    /// is unchanged. Its meter must have as many slots as a `PlainMeter`. A kill, or an undo of one, may wait as in
+    /// `apply`. Costs as much as copying the engine and answering the commands.
     ///
     /// # Errors
     ///
-    /// `AllocError` where there was no memory for the copy, a command or a reply.
+    /// `AllocError` if the copy, a command or a reply ran out of memory.
     pub fn rehearse<R: Threads + Wait + Sync, B: Allocator + Clone>(
         &self,
         rt: &R,

@@ -1,4 +1,4 @@
-//! What a command is answered, and why it is refused.
+//! The reply to a command, and the reasons for a refusal.
 
 ghost use Rattle.std.specs.Prelude.{◌≡◌, IfOk};
 ghost use Rattle.undo_journal.specs.Meaning.{refusal_of, reply_of};
@@ -9,34 +9,35 @@ use group_path::GroupPath;
 use pids_charge::Pid;
 use std::alloc::{AllocError, Allocator};
 
-/// Why a command was refused. All but `PidsMax` have changed nothing.
+/// Why a command was refused. Only `PidsMax` has changed something.
 #[derive(Drop)]
 pub enum Refusal<A: Allocator + Clone> {
-    /// The group is there already.
+    /// The group exists already.
     Exists,
-    /// There is no such group: the parent of a group to be made, or else the group that the command names.
+    /// This group doesn't exist: the parent of the group to be made, or the group that the command names.
     NoGroup(GroupPath<A>),
-    /// This group's limit on the groups below it is met.
+    /// This group's limit on the number of groups below it is reached.
     Descendants(GroupPath<A>),
-    /// This group's limit on the levels below it is met.
+    /// This group's limit on the levels below it is reached.
     Depth(GroupPath<A>),
-    /// There are as many groups beside the root as the meter has slots.
+    /// All slots of the meter are in use: there are as many groups other than the root as slots.
     NoSlot,
-    /// The root stays.
+    /// The root can't be removed.
     RootFixed,
-    /// There are groups below it.
+    /// The group has groups below it.
     HasChildren,
-    /// There are processes in it.
+    /// The group has processes.
     HasProcesses,
-    /// There is no such process.
+    /// The process doesn't exist.
     NoProcess(Pid),
-    /// There is such a process already.
+    /// The process exists already.
     PidInUse(Pid),
-    /// This group's limit on processes would be exceeded. The fork was counted there and above, and recorded.
+    /// This group's limit on processes would be exceeded. The refused fork was counted at this group and above, and
+    /// recorded.
     PidsMax(GroupPath<A>),
-    /// The root has no such file.
+    /// The root doesn't have this file.
     NoFile,
-    /// The file is written and not read.
+    /// The file can be written but not read.
     NotReadable,
 }
 
@@ -62,25 +63,25 @@ impl<A: Allocator + Clone> Refusal<A> {
     }
 }
 
-/// What a command is answered.
+/// The reply to a command.
 #[derive(Drop)]
 pub enum Reply<A: Allocator + Clone> {
-    /// It was done.
+    /// The command was done.
     Done,
-    /// It shows this text.
+    /// The text that was read.
     Text(Bytes<A>),
-    /// It took this command back.
+    /// This command was undone.
     Undone(Command<A>),
-    /// It was refused.
+    /// The command was refused.
     Refused(Refusal<A>),
-    /// There is no command to take back.
+    /// No recorded command is left to undo.
     NothingToUndo,
-    /// There was no memory for it, and it has changed nothing.
+    /// Out of memory. Nothing has changed.
     OutOfMemory,
 }
 
 impl<A: Allocator + Clone> Reply<A> {
-    /// The same reply in other memory, in time linear in its text or path.
+    /// Copies the reply into another allocator, in time linear in its text or path.
     ///
     /// # Errors
     ///

@@ -1,4 +1,4 @@
-//! `rmdir`: the removal of a group, its record, and what takes it back.
+//! `rmdir`: removing a group, its record and its undo.
 
 ghost use Rattle.std.specs.Prelude.{◌≡◌, None, IfOk, OnOk, OnErr};
 ghost use Rattle.flat_model.specs.Step.{refusal, after};
@@ -22,7 +22,7 @@ use pids_charge::{Charges, Meter};
 use std::alloc::{AllocError, Allocator};
 
 impl<A: Allocator + Clone, M: Meter> Engine<A, M> {
-    /// Removes a group that may be removed, and records it with what it had.
+    /// Removes a group that may be removed, and records it with its attributes.
     fn take_group<B: Allocator + Clone>(&mut self, path: &GroupPath<B>) -> Result<(), AllocError>
         requires { refusal M.SLOTS self.old.state (model.RemoveGroup path.now) ≡ None }
         ensures ok { OnOk result (self.new ≡ recorded self.old (model.RemoveGroup path.now) (after self.old.state (model.RemoveGroup path.now))) }
@@ -58,7 +58,7 @@ impl<A: Allocator + Clone, M: Meter> Engine<A, M> {
     }
 }
 
-/// Puts a group that was removed back under its parent, with what it had.
+/// Puts a removed group back under its parent, with its attributes.
 pub(crate) fn undo_rmdir<A: Allocator + Clone, M: Meter>(
     charges: &mut Charges<A, M>,
     path: &GroupPath<A>,

@@ -1,4 +1,4 @@
-//! Whether two commands or two replies mean the same, whatever memory they lie in.
+//! Whether two commands or two replies mean the same, whichever allocators they use.
 
 ghost use Rattle.std.specs.Prelude.{◌≡◌, ◌↔◌, IsTrue};
 ghost use Rattle.group_tree.specs.Flat.{limit_of, limit_file_of};
@@ -40,7 +40,7 @@ fn is_same_file(file: File, other: File) -> bool
 }
 
 impl<A: Allocator + Clone> Command<A> {
-    /// Whether the other command asks the same. Linear in its path.
+    /// Whether the other command means the same. Linear in its path.
     pub fn is<B: Allocator + Clone>(&self, other: &Command<B>) -> bool
         ensures { IsTrue result ↔ (command_of self.now ≡ command_of other.now) }
     {
@@ -114,7 +114,7 @@ impl<A: Allocator + Clone> Refusal<A> {
 }
 
 impl<A: Allocator + Clone> Reply<A> {
-    /// Whether the other reply says the same. Linear in its text or path.
+    /// Whether the other reply means the same. Linear in its text or path.
     pub fn is<B: Allocator + Clone>(&self, other: &Reply<B>) -> bool
         ensures { IsTrue result ↔ (reply_of self.now ≡ reply_of other.now) }
     {

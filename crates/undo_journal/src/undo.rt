@@ -1,4 +1,4 @@
-//! `undo`: the newest recorded command taken back by its record, and one after another all of them.
+//! `undo`: undoing the newest recorded command by its record, or all of them one after another.
 
 ghost use Rattle.std.specs.Prelude.{◌≡◌, true, Some, IsOk, OnOk, OnErr, IfOk};
 ghost use Rattle.flat_model.specs.Command as model;
@@ -19,7 +19,7 @@ use std::alloc::{AllocError, Allocator};
 use std::sync::Wait;
 use std::thread::Threads;
 
-/// Takes one command back by its record.
+/// Undoes one command by its record.
 fn take_back<A: Allocator + Clone, M: Meter, R: Threads + Wait + Sync>(
     charges: &mut Charges<A, M>,
     rt: &R,
@@ -59,7 +59,7 @@ impl<A: Allocator + Clone, M: Meter> Engine<A, M> {
         Ok(Reply::Undone(newest.command))
     }
 
-    /// Takes the newest recorded command back, if there is one.
+    /// Undoes the newest recorded command, if there is one.
     fn undo_one<R: Threads + Wait + Sync>(&mut self, rt: &R, who: u8) -> Result<(), AllocError>
         ensures ok { OnOk result (self.new ≡ (tick M.SLOTS self.old model.Undo).0) }
         ensures err { OnErr result (self.new ≡ self.old) }
@@ -68,14 +68,14 @@ impl<A: Allocator + Clone, M: Meter> Engine<A, M> {
         Ok(())
     }
 
-    /// Takes all recorded commands back, the newest first, and answers how many there were. The start state is left then:
-    /// the root alone, and process 1 in it. To take a kill back it may wait for the threads that do a part of the charges.
-    /// Costs what as many undos cost.
+    /// Undoes all recorded commands, newest first, and returns how many there were. This leaves the state before the
+    /// oldest of them: the root with process 1 in it, if the engine has never forgotten. Undoing a kill may wait for
+    /// the threads that settle parts of its charges. Costs as much as that many undos.
     ///
     /// # Errors
     ///
-    /// When out of memory, with the number of commands that were taken back until then. The rest stands, and can be
-    /// taken back later.
+    /// When out of memory, with the number of commands undone so far. The others stay recorded, and can be undone
+    /// later.
     pub fn undo_all<R: Threads + Wait + Sync>(
         &mut self,
         rt: &R,
