@@ -37,12 +37,12 @@ digit_said [] = None
 digit_said (d ∷ []) = if nat_lt 48 d && nat_lt d 57 then Some (d - 48) else None
 digit_said (d ∷ e ∷ text) = None
 
--- the number of workers, by the value of `--workers`: one where it is left out
+-- the number of workers, by the value of `--workers`: 1 by default
 abbrev pub workers_said : Option Text → Option ℕ
 workers_said None = Some 1
 workers_said (Some text) = digit_said text
 
--- the number of workers that words ask for in which there is no fault, where they ask for one
+-- the number of workers that words without a fault ask for, if they ask for one
 abbrev pub workers_in : List Text → Option ℕ
 workers_in words = workers_said (first_of (codes "workers") (matches_of app words))
 
@@ -51,7 +51,7 @@ abbrev pub rehearsal_said : Option Text → Bool
 rehearsal_said None = false
 rehearsal_said (Some text) = bytes_eq text (codes "true")
 
--- words ask for a rehearsal in which there is no fault
+-- words without a fault ask for a rehearsal
 abbrev pub rehearsal_in : List Text → Bool
 rehearsal_in words = rehearsal_said (first_of (codes "rehearse") (matches_of app words))
 
@@ -59,21 +59,21 @@ rehearsal_in words = rehearsal_said (first_of (codes "rehearse") (matches_of app
 abbrev pub HasFault : Kinds → Type 0
 HasFault kinds = (k : ErrorKind) × IsAmong k kinds × (k ≢ kind.DisplayHelp)
 
--- a run where there is no fault and 1 to 8 workers are asked for, help where it is called for, and a bad line at another fault or another number
+-- a run if there is no fault and 1 to 8 workers are asked for; help if it is asked for; a bad line on another fault or another number
 abbrev pub Asks : List Text → Result Ask LineFault → Type 0
 Asks words (Ok (Run workers rehearse)) = (fault_of app words ≡ []) × (workers_in words ≡ Some workers) × (1 ≤ workers) × (workers ≤ 8) × (rehearse ≡ rehearsal_in words)
 Asks words (Ok (Help text)) = IsAmong kind.DisplayHelp (fault_of app words)
 Asks words (Err Bad) = HasFault (fault_of app words) ⊎ ((fault_of app words ≡ []) × (workers_in words ≡ None))
 Asks words (Err OutOfMemory) = Unit {0}
 
--- what an error of this kind comes to
+-- the result for an error of this kind
 abbrev pub IsAskedBy : ErrorKind → Result Ask LineFault → Type 0
 IsAskedBy k (Ok (Run workers rehearse)) = ⊥
 IsAskedBy k (Ok (Help text)) = k ≡ kind.DisplayHelp
 IsAskedBy k (Err Bad) = (k ≢ kind.DisplayHelp) × (k ≢ kind.OutOfMemory)
 IsAskedBy k (Err OutOfMemory) = Unit {0}
 
--- the arguments that came; where they did not, out of memory or one is no text
+-- the arguments; otherwise out of memory, or an argument is not text
 abbrev pub Collects : Result (IntoIter (String Global) Global) Error → Result (Vec (String Global) Global) LineFault → Type 0
 Collects (Ok args) (Ok v) = Drains into_iter_steps args v.items
 Collects (Ok args) (Err Bad) = ⊥

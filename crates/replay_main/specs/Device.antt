@@ -1,4 +1,4 @@
--- What a whole read and a whole write leave of a device, where it tells its bytes.
+-- What a whole read and a whole write leave of a device, if it exposes its bytes.
 use Rattle.std.specs.Prelude.{◌≡◌, ℕ, ◌≤◌, ◌<◌, List, [], ◌++◌, length, Option, Some, None, Result, Ok, Err, Bool, true, false}
 use Rattle.std.specs.declared.vec.Vec.{Vec}
 use Rattle.std.specs.declared.alloc.Global.{Global}
@@ -9,17 +9,17 @@ use Rattle.replay_main.specs.declared.fault.ReplayFault.TheVariants.{Read, Write
 
 -- ---- the whole input
 
--- these bytes are all that the source had, where it tells it
+-- these bytes are all that the source had, if it exposes them
 abbrev pub IsInput : Option (List ℕ) → List ℕ → Type 0
 IsInput None bytes = Unit {0}
 IsInput (Some left) bytes = left ≡ bytes
 
--- the source had more than a trace may have, where it tells it
+-- the source had more bytes than a trace may have, if it exposes them
 abbrev pub IsTooLong : Option (List ℕ) → Type 0
 IsTooLong None = Unit {0}
 IsTooLong (Some left) = trace_max < length left
 
--- all bytes were read; else why not
+-- all bytes were read; otherwise why not
 abbrev pub WholeRead : Option (List ℕ) → Bool → Result (Vec ℕ Global) ReplayFault → Type 0
 WholeRead left failed (Ok v) = (failed ≡ false) × (length v.items ≤ trace_max) × IsInput left v.items
 WholeRead left failed (Err Read) = failed ≡ true
@@ -36,7 +36,7 @@ TakesFront None bytes rest after = Unit {0}
 TakesFront (Some before) bytes rest None = ⊥
 TakesFront (Some before) bytes rest (Some after) = (front : List ℕ) × (bytes ≡ front ++ rest) × (after ≡ before ++ front)
 
--- all bytes were taken and flushed; else a write or the flush failed, and a prefix was taken
+-- all bytes were taken and flushed; otherwise a write or the flush failed, and a prefix was taken
 abbrev pub WholeWrite : Option (List ℕ) → List ℕ → Option (List ℕ) → Bool → Bool → Result (Unit {0}) DeviceFault → Type 0
 WholeWrite before bytes after failed flushed (Ok u) = (failed ≡ false) × (flushed ≡ true) × TakesFront before bytes [] after
 WholeWrite before bytes after failed flushed (Err e) = (failed ≡ true) × ((rest : List ℕ) × TakesFront before bytes rest after)

@@ -1,4 +1,4 @@
--- Where a talk stands: the machine and the two numbers, from line to line; and what one line leaves.
+-- The state of a talk, which is the machine and the two counts, from line to line; and what one line leaves.
 use Rattle.std.specs.Prelude.{◌≡◌, ℕ, ◌+◌, ◌-◌, ◌^◌, List, [], ◌∷◌, ◌++◌}
 use Rattle.std.specs.List.{count_by}
 use Rattle.flat_model.specs.Command.{Reply}
@@ -8,7 +8,7 @@ use Rattle.flat_model.specs.Trace.{Line}
 use Rattle.sessions.specs.Meaning.{slots}
 use Rattle.replay_main.specs.declared.trace.Summary.{Summary}
 
--- where a talk stands: the machine, how many lines had a number, and how many of these were refused
+-- the state of a talk: the machine, how many lines had a number, and how many of these were refused
 pub record Point : Type 0 where
   pub machine : Machine
   pub commands : ℕ
@@ -20,11 +20,11 @@ start_point = record { machine = new_machine; commands = 0; refused = 0 }
 abbrev pub replies_on : Point → List Line → List Reply
 replies_on p lines = replies slots p.machine (commands_in lines)
 
--- what is answered to these lines from here on
+-- the answers to these lines from this state on
 abbrev pub answers_on : Point → List Line → List ℕ
 answers_on p lines = out (p.commands + 1) lines (replies_on p lines)
 
--- where the talk stands behind these lines
+-- the state of the talk after these lines
 abbrev pub point_after : Point → List Line → Point
 point_after p lines = record {
   machine = end_of slots p.machine (commands_in lines);
@@ -36,7 +36,7 @@ point_after p lines = record {
 abbrev pub number_max : ℕ
 number_max = 2 ^ 64 - 1
 
--- one line is answered by bytes that are appended
+-- the answer to one line is appended
 pub record IsSaid (old : Point) (line : Line) (before after : List ℕ) (new : Point) : Type 0 where
   pub bytes_are : after ≡ before ++ answers_on old (line ∷ [])
   pub point : new ≡ point_after old (line ∷ [])

@@ -1,4 +1,4 @@
--- What the program leaves, and the status that it ends with.
+-- What the program leaves, and its exit status.
 use Rattle.std.specs.Prelude.{◌≡◌, ◌≢◌, ◌⊎◌, ℕ, List, [], Option, Some, Bool, true, false, Result, Ok, Err}
 use Rattle.clap.specs.Words.{IsAmong, Text, fault_of}
 use Rattle.clap.specs.declared.error.kind.ErrorKind.TheVariants as kind
@@ -11,12 +11,12 @@ use Rattle.replay_main.specs.Asks.{Asks, app, rehearsal_in, workers_in}
 use Rattle.replay_main.specs.Device.{TakesFront}
 use Rattle.replay_main.specs.Replayed.{IsWhole, IsUnwritten, Replayed}
 
--- nothing was read: the source has left what it had, and no read failed
+-- nothing was read: the source has the bytes that it had, and no read failed
 pub record IsUnread (left rest : Option (List ℕ)) (read_failed : Bool) : Type 0 where
   pub same : rest ≡ left
   pub good_reads : read_failed ≡ false
 
--- the help text is called for; nothing was read, and all of a text was written and flushed
+-- the command line asks for help; nothing was read, and a whole text was written and flushed
 pub record IsHelped (words : List Text) (left rest : Option (List ℕ)) (read_failed : Bool) (before after : Option (List ℕ)) (write_failed flushed : Bool) : Type 0 where
   pub called : IsAmong kind.DisplayHelp (fault_of app words)
   pub unread : IsUnread left rest read_failed
@@ -25,13 +25,13 @@ pub record IsHelped (words : List Text) (left rest : Option (List ℕ)) (read_fa
   pub good_writes : write_failed ≡ false
   pub is_out : flushed ≡ true
 
--- a replay or a rehearsal is called for: there is no fault in the command line, and a number of workers in it
+-- the command line asks for a replay or a rehearsal: it has no fault, and gives a number of workers
 pub record CallsReplay (words : List Text) : Type 0 where
   pub no_fault : fault_of app words ≡ []
   pub workers : ℕ
   pub number : workers_in words ≡ Some workers
 
--- a replay or a rehearsal is called for, and the trace was answered whole
+-- the command line asks for a replay or a rehearsal, and the whole trace was answered
 pub record IsReplayed (words : List Text) (left before after : Option (List ℕ)) (read_failed write_failed flushed : Bool) : Type 0 where
   pub called : CallsReplay words
   pub summary : Summary
@@ -48,7 +48,7 @@ Ran words left rest read_failed before after write_failed flushed (Err (Replay f
     (CallsReplay words × Replayed left read_failed before after write_failed flushed (Err fault) × (rehearsal_in words ≡ true → fault ≢ replay.Close))
     ⊎ (IsAmong kind.DisplayHelp (fault_of app words) × IsUnread left rest read_failed × (fault ≡ replay.Write) × (write_failed ≡ true))
 
--- 0 where all was done, 2 on a bad command line, and 1 on any other fault
+-- 0 on success, 2 on a bad command line, and 1 on any other fault
 abbrev pub status_of : Result (Unit {0}) ProgramFault → ℕ
 status_of (Ok u) = 0
 status_of (Err (Line Bad)) = 2

@@ -1,4 +1,4 @@
--- The answers to a trace by replies that are at hand.
+-- The answers to a trace by given replies.
 use Rattle.std.specs.Prelude.{ℕ, ◌+◌, Bool, false, List, [], ◌∷◌, ◌++◌, Option, Some, None}
 use Rattle.flat_model.specs.Command.{Reply}
 use Rattle.flat_model.specs.Replies.{fault_bytes, is_refused, reply_bytes}
@@ -12,7 +12,7 @@ answers_at_hand n (None ∷ places) [] = []
 answers_at_hand n (None ∷ places) (None ∷ rs) = []
 answers_at_hand n (None ∷ places) (Some r ∷ rs) = reply_bytes n r ++ answers_at_hand (n + 1) places rs
 
--- a reply that is `refused`; out of memory is none
+-- a reply that is `refused`; out of memory is not one
 abbrev pub is_refusal : Option Reply → Bool
 is_refusal None = false
 is_refusal (Some r) = is_refused r

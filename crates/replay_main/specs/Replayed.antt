@@ -47,7 +47,7 @@ pub record IsCut (left before after : Option (List ℕ)) (read_failed write_fail
   pub good_reads : read_failed ≡ false
   pub bad_write : write_failed ≡ true
 
--- the source had no more than a trace may have, where it tells it
+-- the source had no more bytes than a trace may have, if it exposes them
 abbrev pub IsShort : Option (List ℕ) → Type 0
 IsShort None = Unit {0}
 IsShort (Some left) = length left ≤ trace_max
@@ -57,7 +57,7 @@ pub record IsUnwritten (before after : Option (List ℕ)) (write_failed : Bool) 
   pub same : after ≡ before
   pub good_writes : write_failed ≡ false
 
--- What a replay leaves, by what it answers: the source had these bytes left, and the marks stand so.
+-- What a replay leaves, by its result: the source had these bytes left, and the marks are these.
 abbrev pub Replayed : Option (List ℕ) → Bool → Option (List ℕ) → Option (List ℕ) → Bool → Bool → Result Summary ReplayFault → Type 0
 Replayed left read_failed before after write_failed flushed (Ok summary) = IsWhole left before after read_failed write_failed flushed summary
 Replayed left read_failed before after write_failed flushed (Err Write) = IsCut left before after read_failed write_failed

@@ -1,4 +1,4 @@
--- What stands on the lines of a trace that have a number, and the answers there by the replies of a log.
+-- What the lines of a trace with a number say, and their answers by the replies of a log.
 use Rattle.std.specs.Prelude.{◌≡◌, ℕ, ◌+◌, ◌*◌, Bool, true, false, List, [], ◌∷◌, ◌++◌, Option, Some, None, map, take, drop}
 use Rattle.std.specs.List.{flat_map, count_by}
 use Rattle.flat_model.specs.Command.{Reply}
@@ -10,7 +10,7 @@ use Rattle.replay_main.specs.declared.reading.Place.{Place}
 use Rattle.replay_main.specs.declared.reading.Place.TheVariants.{Command, Fault}
 use Rattle.replay_main.specs.declared.reading.Script.{Script}
 
--- the fault on a line that has a number, and none where a command stands there
+-- the fault on a line with a number, or none if the line is a command
 abbrev pub place_in : trace.Line → List (Option trace.TextFault)
 place_in trace.Skip = []
 place_in (trace.Run c) = None ∷ []
@@ -27,7 +27,7 @@ place_of (Fault f) = Some (text_fault_of f)
 abbrev pub TraceScript : Type 0
 TraceScript = Script
 
--- the script has the commands of the lines and what stands on those that have a number
+-- the script has the commands of the lines, and what those with a number say
 pub record IsScript (script : Script) (lines : List trace.Line) : Type 0 where
   pub commands : map command_of script.commands.items ≡ commands_in lines
   pub places : map place_of script.places.items ≡ places_in lines
@@ -47,7 +47,7 @@ answers_from n (None ∷ places) (r ∷ rs) = reply_bytes n r ++ answers_from (n
 abbrev pub run_of : {X : Type 0} → ℕ → ℕ → List X → List X
 run_of size worker xs = take size (drop (worker * size) xs)
 
--- the replies to what stands behind the first n of these places
+-- the replies to the lines after the first n
 abbrev pub replies_behind : ℕ → List (Option trace.TextFault) → List Reply → List Reply
 replies_behind n places rs = drop (count_by is_command (take n places)) rs
 

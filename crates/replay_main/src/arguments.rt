@@ -11,56 +11,55 @@ use std::convert::AsStr;
 use std::{env, io};
 use thiserror::Error;
 
-/// What is asked for.
+/// What the command line asks for.
 #[derive(Drop)]
 pub enum Ask {
     /// A replay, or a rehearsal.
     Run {
-        /// How many workers replay the trace, 1 to 8. A rehearsal needs none.
+        /// How many workers replay the trace, 1 to 8. A rehearsal ignores it.
         workers: u8,
-        /// Whether the trace is rehearsed in place of being replayed.
+        /// Whether to rehearse the trace instead of replaying it.
         rehearse: bool,
     },
-    /// A text that says how the program is called.
+    /// The help text.
     Help(String),
 }
 
-/// Why the program's own command line asks for nothing. (What is wrong with a line of a trace is a
-/// `TextFault`.)
+/// Why the command line could not be read. (A fault in a line of a trace is a `TextFault`.)
 #[derive(Clone, Copy, Debug, PartialEq, Eq, Error)]
 pub enum LineFault {
-    /// A word is not known, or no text, or the number of workers is not one from 1 to 8.
+    /// A word is unknown or not text, or the number of workers is not from 1 to 8.
     #[error("bad command line")]
     Bad,
-    /// There was no memory.
+    /// Out of memory.
     #[error("out of memory")]
     OutOfMemory,
 }
 
-/// Reads the words after the program's name: `--workers N`, where N is a digit from 1 to 8, and
-/// one worker where it is left out; `--rehearse`; or `--help`.
+/// Reads the words after the program's name: `--workers N`, where N is a digit from 1 to 8 and 1 by
+/// default; `--rehearse`; or `--help`.
 ///
 /// # Errors
 ///
-/// `Bad` where the words are no such line; `OutOfMemory` when out of memory.
+/// `Bad` for any other words; `OutOfMemory` when out of memory.
 pub fn command_line(alloc: Global, words: &[&str]) -> Result<Ask, LineFault>
     ensures { Asks (map (λ word. word.now) words.now) result }
 {
     read_words(alloc, words)
 }
 
-/// Reads the arguments of the program, whose first is its name.
+/// Reads the program's arguments, of which the first is its name.
 pub(crate) fn read_arguments(alloc: Global, args: &[String]) -> Result<Ask, LineFault>
     ensures { Asks (map string_bytes (drop 1 args.now)) result }
 {
     read_words(alloc, without_name(args))
 }
 
-/// The arguments of the program, its name among them.
+/// The program's arguments, including its name.
 ///
 /// # Errors
 ///
-/// `OutOfMemory` where there was no memory for them, and `Bad` where one is no text.
+/// `OutOfMemory` when out of memory, and `Bad` if an argument is not text.
 pub fn collect_arguments(
     alloc: Global,
     args: io::Result<env::Args>,
@@ -88,7 +87,7 @@ fn without_name(args: &[String]) -> &[String]
     }
 }
 
-/// The program's arguments, as `clap` is told them.
+/// The program's arguments, described for `clap`.
 fn program<'a>(alloc: Global) -> Result<Command<'a>, AllocError>
     ensures { IfOk result (λ command. app_of command ≡ app) }
 {
@@ -134,7 +133,7 @@ fn is_true(value: Option<&str>) -> bool
     }
 }
 
-/// The number of workers that the value of `--workers` says, where it says one.
+/// The number of workers that the value of `--workers` gives, if it gives one.
 fn read_workers(value: Option<&str>) -> Option<u8>
     ensures said { result ≡ workers_said (option_map (λ text. text.now) value.entry) }
     ensures bounds { IfSome result (λ n. (1 ≤ n) × (n ≤ 8)) }

@@ -1,8 +1,8 @@
-//! Why a replay ends before its end.
+//! Why a replay failed.
 
 use thiserror::Error;
 
-/// Why a replay ended before its end.
+/// Why a replay failed.
 #[derive(Clone, Copy, Debug, PartialEq, Eq, Error)]
 pub enum ReplayFault {
     /// A read failed. Nothing was written.
@@ -15,11 +15,10 @@ pub enum ReplayFault {
     /// The trace has more than `TRACE_MAX` bytes. Nothing was written.
     #[error("input too long")]
     InputTooLong,
-    /// There was no memory for the trace, the groups and processes, or the answers. Nothing was
-    /// written.
+    /// Out of memory for the trace, the groups and processes, or the answers. Nothing was written.
     #[error("out of memory")]
     OutOfMemory,
-    /// The log and the receipts of the sessions did not agree. Nothing was written.
+    /// The sessions' receipts, or the trace, did not match the log. Nothing was written.
     #[error("close failed")]
     Close,
 }

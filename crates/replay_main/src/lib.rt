@@ -1,31 +1,31 @@
-//! A trace, from its bytes to the bytes of its answers, and the program over it.
+//! From the bytes of a trace to the bytes of its answers, and the program that does it.
 //!
 //! `replay` reads a trace to its end from a `Source`, answers every line, writes the answers to a
-//! `Sink`, and flushes it. Nothing is answered before the whole trace is read, and nothing is
-//! written before all of it is answered.
+//! `Sink` and flushes it. It answers nothing before the whole trace is read. It writes nothing
+//! before every line is answered.
 //!
-//! - What a line says, and the bytes of its answer, are those of `trace_lines`. Its public names
-//!   are given on from here.
-//! - The answers are `answers` of `flat_model`: those of its machine from its start, with 1,024 groups
-//!   at most beside the root, whatever the number of workers is. So are the two numbers of the
-//!   `Summary`.
-//! - One worker answers line by line, in one pass (`Talk`). Two to eight workers do the work in three
-//!   phases: lines become commands, the commands are run at a desk by a session for each worker, and
-//!   their replies become bytes.
-//! - A fault of a replay says what failed. After each but `Write` nothing was written; after
-//!   `Write` a prefix of the answers was. A trace of more than `TRACE_MAX` bytes is too long. Out
-//!   of memory is no answer: it ends the replay.
-//! - `rehearse_trace` answers a trace on a copy of a fresh engine in an arena: the same bytes, by
-//!   `Engine::rehearse`.
+//! - `trace_lines` defines what a line means, and the bytes of its answer. This crate re-exports
+//!   its public names.
+//! - The answers are `answers` of `flat_model`: those of its machine from its start, with at most
+//!   1,024 groups other than the root. They don't depend on the number of workers. The same holds
+//!   for the two counts of the `Summary`.
+//! - One worker answers line by line, in one pass (`Talk`). Two to eight workers run three phases:
+//!   lines become commands; the commands run at a desk, with one session per worker; their replies
+//!   become bytes.
+//! - A fault of a replay says what failed. After `Write`, a prefix of the answers was written;
+//!   after any other fault, nothing was. A trace of more than `TRACE_MAX` bytes is too long.
+//!   Running out of memory is not an answer: it ends the replay.
+//! - `rehearse_trace` answers a trace on a copy of a fresh engine in an arena, by
+//!   `Engine::rehearse`. It writes the same bytes.
 //! - `run_program` does what the program's arguments ask for: a replay, a rehearsal, or the help
-//!   text. `exit_status` says how the program ends; a fault's message is its text.
-//! - It takes memory in proportion to the trace and its answers. Nothing is promised of time, nor of
-//!   when a device answers.
+//!   text. `exit_status` returns the program's exit status. A fault's message is its text.
+//! - Memory is proportional to the trace and its answers. Not promised: how long a replay takes,
+//!   and when a device answers.
 //!
-//! What a replay leaves stands in `specs/Replayed.antt`, what the program leaves and its statuses
-//! in `specs/Program.antt`, what a whole read and a whole write leave in `specs/Device.antt`, and
-//! what a command line asks for in `specs/Asks.antt`. What these definitions say as laws stands in
-//! `session_laws`.
+//! `specs/Replayed.antt` says what a replay leaves. `specs/Program.antt` says what the program
+//! leaves, and defines its statuses. `specs/Device.antt` says what a whole read and a whole write
+//! leave. `specs/Asks.antt` says what a command line asks for. `session_laws` states the laws that
+//! follow from these definitions.
 #![tactic(auto)]
 
 mod arguments;

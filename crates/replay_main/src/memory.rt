@@ -5,14 +5,14 @@ ghost use Rattle.std.specs.Prelude.{◌≡◌, [], Some, false};
 use crate::{DeviceFault, Sink, Source};
 use std::alloc::Global;
 
-/// A source that gives bytes of memory, and never fails.
+/// A source over bytes in memory, which never fails.
 #[derive(Drop)]
 pub struct MemorySource<'a> {
     rest: &'a [u8],
 }
 
 impl<'a> MemorySource<'a> {
-    /// A source that has these bytes left.
+    /// A source with these bytes remaining.
     pub fn new(bytes: &'a [u8]) -> MemorySource<'a>
         ensures { ⟦<MemorySource<'a> as Source>⟧.left result ≡ Some bytes.now }
     {
@@ -34,8 +34,8 @@ impl<'a> Source for MemorySource<'a> {
     }
 }
 
-/// A sink that keeps the bytes that it takes, and fails where there is no memory for them, or none
-/// are given.
+/// A sink that keeps the bytes that it takes. A write fails when out of memory, or if it gets no
+/// bytes.
 #[derive(Drop)]
 pub struct MemorySink {
     bytes: Vec<u8>,

@@ -5,13 +5,13 @@ ghost use Rattle.replay_main.specs.Device.{WholeWrite};
 
 use crate::{DeviceFault, Sink};
 
-/// Writes all bytes, and flushes, even where there are none. A write that takes no bytes is a
-/// failure. The call may wait for its device.
+/// Writes all bytes and flushes, even if there are none. A write that takes no bytes is a failure.
+/// The call may wait for its device.
 ///
 /// # Errors
 ///
-/// `DeviceFault` where a write or the flush failed, or a write took no bytes; then a prefix of the
-/// bytes was written.
+/// `DeviceFault` if a write or the flush failed, or a write took no bytes. A prefix of the bytes
+/// was written then.
 pub fn write_whole<S: Sink>(sink: &mut S, bytes: &[u8]) -> Result<(), DeviceFault>
     requires { S.is_failed sink.old ≡ false }
     ensures { WholeWrite (S.taken sink.old) bytes.now (S.taken sink.new)

@@ -1,4 +1,4 @@
-//! The program over any source and sink, and the status that it ends with.
+//! The program over any source and sink, and its exit status.
 
 ghost use Rattle.std.specs.Prelude.{◌≡◌, ◌≢◌, ◌≤◌, drop, true, false, map, string_bytes, Err};
 ghost use Rattle.replay_main.specs.declared.arguments.LineFault.{LineFault};
@@ -15,25 +15,25 @@ use std::sync::Wait;
 use std::thread::Threads;
 use thiserror::Error;
 
-/// Why the program did not do what it was asked for.
+/// Why the program failed.
 #[derive(Clone, Copy, Debug, PartialEq, Eq, Error)]
 pub enum ProgramFault {
-    /// Its command line asks for nothing.
+    /// The command line could not be read.
     #[error(transparent)]
     Line(LineFault),
-    /// The replay, the rehearsal, or the writing of the help text ended before its end.
+    /// The replay, the rehearsal, or writing the help text failed.
     #[error(transparent)]
     Replay(ReplayFault),
 }
 
-/// Does what the arguments ask for, of which the first is the program's name: replays the trace,
-/// rehearses it, or writes the text that says how the program is called.
+/// Does what the arguments ask for; the first is the program's name. Replays the trace, rehearses
+/// it, or writes the help text.
 ///
 /// # Errors
 ///
-/// `Line` where the arguments ask for nothing; then reader and writer are as they were.
-/// `Replay` with the fault of the replay or the rehearsal, or with `Write` where the help text was
-/// not written whole.
+/// `Line` if the arguments are bad, or memory ran out while they were read. Reader and writer are
+/// unchanged then. `Replay` with the fault of the replay or the rehearsal, or with `Write` if the
+/// help text was not written completely.
 pub fn run_program<R: Threads + Wait + Sync, S: Source, W: Sink>(
     rt: &R,
     alloc: Global,
@@ -65,7 +65,7 @@ pub fn run_program<R: Threads + Wait + Sync, S: Source, W: Sink>(
     }
 }
 
-/// Answers the trace, by a rehearsal or by so many workers.
+/// Answers the trace, by a rehearsal or with this many workers.
 fn answer_trace<R: Threads + Wait + Sync, S: Source, W: Sink>(
     rt: &R,
     alloc: Global,
@@ -88,7 +88,7 @@ fn answer_trace<R: Threads + Wait + Sync, S: Source, W: Sink>(
     replay(rt, alloc, reader, writer, workers)
 }
 
-/// The status that the program ends with. A fault's message is its text.
+/// The program's exit status. A fault's message is its text.
 pub fn exit_status(outcome: Result<(), ProgramFault>) -> u8
     ensures { result ≡ status_of outcome }
 {

@@ -15,23 +15,23 @@ use std::thread::Threads;
 use trace_lines::{Line, Lines, TextFault, parse_line};
 use undo_journal::Command;
 
-/// What stands on a line that has a number.
+/// What a line with a number says.
 #[derive(Clone, Copy)]
 pub(crate) enum Place {
     /// A command.
     Command,
-    /// What is no command.
+    /// Something that is not a command.
     Fault(TextFault),
 }
 
-/// The commands of a trace in order, and what stands on each line that has a number.
+/// The commands of a trace in order, and what each line with a number says.
 #[derive(Drop)]
 pub(crate) struct Script {
     pub(crate) commands: Vec<Command<Global>>,
     pub(crate) places: Vec<Place>,
 }
 
-/// Reads the lines of a trace, each worker a run of them.
+/// Reads the lines of a trace; each worker reads one run of them.
 pub(crate) fn read_script<R: Threads + Sync, G: Gate>(
     rt: &R,
     alloc: Global,
@@ -109,7 +109,7 @@ fn add(script: &mut Script, line: Line) -> Result<(), AllocError>
     Ok(())
 }
 
-/// These scripts, one after the other.
+/// Joins these scripts in order.
 fn join(alloc: Global, scripts: Vec<Script>) -> Result<Script, AllocError>
     ensures commands { IfOk result (λ script. map command_of script.commands.items
         ≡ flat_map (λ s. map command_of s.commands.items) scripts.items) }
@@ -127,7 +127,7 @@ fn join(alloc: Global, scripts: Vec<Script>) -> Result<Script, AllocError>
     Ok(all)
 }
 
-/// How many lines that have a number are commands.
+/// How many lines with a number are commands.
 pub(crate) fn count_commands(places: &[Place]) -> usize
     ensures { result ≡ count_by is_command (map place_of places.now) }
 {
@@ -137,7 +137,7 @@ pub(crate) fn count_commands(places: &[Place]) -> usize
         .count()
 }
 
-/// How many lines that have a number are no commands.
+/// How many lines with a number are not commands.
 pub(crate) fn count_faults(places: &[Place]) -> usize
     ensures { result ≡ count_by is_some (map place_of places.now) }
 {

@@ -23,11 +23,11 @@ use trace_lines::{is_refused, put_fault, put_reply};
 use undo_journal::{Engine, Reply};
 
 /// Reads a trace to its end, answers every line by a rehearsal on a fresh engine, writes the
-/// answers and flushes them: the bytes that `replay` writes.
+/// answers and flushes them. It writes the bytes that `replay` writes.
 ///
-/// The commands are run on a copy of the engine in an arena, which is given up before anything is
-/// answered. No thread is started. It costs what `replay` costs with one worker, in memory also
-/// what the arena does not use again.
+/// The commands run on a copy of the engine in an arena, which is freed before the answers are
+/// made. No thread is started. It costs what `replay` costs with one worker, plus the memory that
+/// the arena doesn't reuse.
 ///
 /// # Errors
 ///
@@ -79,7 +79,7 @@ fn rehearsed<R: Threads + Wait + Sync>(
     Ok(Answered { bytes, summary })
 }
 
-/// The answers to the lines that have a number, by the replies to the commands among them.
+/// The answers to the lines with a number, by the replies to the commands among them.
 fn put_answers(
     alloc: Global,
     places: &[Place],

@@ -9,8 +9,9 @@ use pids_charge::Gate;
 use std::alloc::{AllocError, Global};
 use std::thread::{Threads, join};
 
-/// What `f` gives for each worker, in order. At its start the worker w passes part `first + w + 1`.
-/// Worker 0 is the caller, who also does the work of each worker whose thread cannot be started.
+/// The results of `f` for each worker, in order. At its start, worker w passes part `first + w +
+/// 1`. Worker 0 is the calling thread, which also does the work of each worker whose thread can't
+/// be started.
 pub(crate) fn in_runs<
     R: Threads + Sync,
     G: Gate,
@@ -72,7 +73,7 @@ fn one_run<G: Gate, X, F: Fn(usize) -> Result<X, AllocError>>(
     f(usize::from(worker))
 }
 
-/// How many of so many items a worker has at most.
+/// The most items, of this many, that a worker gets.
 pub(crate) fn run_size(len: usize, workers: u8) -> usize
     requires { (1 ≤ workers) × (workers ≤ 8) × (len < 2 ^ 60) }
     ensures whole { len ≤ workers * result }
@@ -89,14 +90,14 @@ pub(crate) fn run_of<T>(items: &[T], size: usize, worker: usize) -> &[T]
     first(behind(items, worker * size), size)
 }
 
-/// The first `n` items, or all where there are no more.
+/// The first `n` items, or all if there are fewer.
 pub(crate) fn first<T>(items: &[T], n: usize) -> &[T]
     ensures { result.now ≡ take n items.now }
 {
     &items[..n.min(items.len())]
 }
 
-/// The items behind the first `n`.
+/// The items after the first `n`.
 pub(crate) fn behind<T>(items: &[T], n: usize) -> &[T]
     ensures { result.now ≡ drop n items.now }
 {

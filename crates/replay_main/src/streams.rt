@@ -1,4 +1,4 @@
-//! Devices over the readers and writers of std, as standard input and output.
+//! Devices over the readers and writers of std, such as standard input and output.
 
 ghost use Rattle.std.specs.Prelude.{◌≡◌, true, false, is_err, Ok, IfOk, OnErr};
 
@@ -21,8 +21,8 @@ fn tell<X>(is_failed: &mut bool, answer: io::Result<X>) -> Result<X, DeviceFault
     }
 }
 
-/// A source over a reader. It tells the bytes that are left where the reader does: one over memory
-/// does, standard input does not.
+/// A source over a reader. It exposes the remaining bytes if the reader does: one over memory does,
+/// standard input doesn't.
 #[derive(Drop)]
 pub struct StreamSource<R: Read> {
     reader: R,
@@ -30,7 +30,7 @@ pub struct StreamSource<R: Read> {
 }
 
 impl<R: Read> StreamSource<R> {
-    /// A source that has what this reader has left, and has not failed.
+    /// A source with what remains in this reader, which has not failed.
     pub fn new(reader: R) -> StreamSource<R>
         ensures left { ⟦<StreamSource<R> as Source>⟧.left result ≡ R.remaining reader }
         ensures good { ⟦<StreamSource<R> as Source>⟧.is_failed result ≡ false }
@@ -52,8 +52,8 @@ impl<R: Read> Source for StreamSource<R> {
     }
 }
 
-/// A sink over a writer. It tells the bytes that were taken where the writer does: one over memory
-/// does, standard output does not.
+/// A sink over a writer. It exposes the bytes taken if the writer does: one over memory does,
+/// standard output doesn't.
 #[derive(Drop)]
 pub struct StreamSink<W: Write> {
     writer: W,

@@ -1,4 +1,4 @@
-//! A talk: the engine, and the two numbers of the lines that were answered.
+//! A talk: the engine, and two counts of the lines answered so far.
 
 ghost use Rattle.std.specs.Prelude.{◌≡◌, ◌+◌, ◌<◌, ◌≤◌, ◌^◌, length, IfOk, OnOk, if◌then◌else◌};
 ghost use Rattle.flat_model.specs.Trace.{Fault, Run, read_line, trace_max};
@@ -15,8 +15,8 @@ use std::marker::Model;
 use trace_lines::{Line, Lines, TextFault, is_refused, parse_line, put_fault, put_reply};
 use undo_journal::{Command, Engine};
 
-/// The engine after the lines that were answered, and their two numbers. It starts no thread, takes no lock and waits
-/// for nobody.
+/// The engine after the lines answered so far, and the two counts of those lines. It starts no
+/// thread, takes no lock and never waits.
 #[derive(Drop)]
 pub struct Talk {
     engine: Engine<Global, PlainMeter<Global>>,
@@ -39,11 +39,11 @@ impl Model for Talk {
 }
 
 impl Talk {
-    /// Before the first line.
+    /// The state before the first line.
     ///
     /// # Errors
     ///
-    /// `AllocError` where an allocation was refused.
+    /// `AllocError` when out of memory.
     pub fn new(alloc: Global) -> Result<Talk, AllocError>
         ensures { IfOk result (λ talk. talk ≡ start_point) }
     {
@@ -63,13 +63,13 @@ impl Talk {
         self.summary
     }
 
-    /// Answers one line, given without its line feed: the answer is appended, and nothing where the line has no number.
-    /// Costs what the command costs, and is linear in the line and the answer.
+    /// Answers one line, given without its line feed. Appends the answer, or nothing if the line
+    /// has no number. Costs what the command costs, plus time linear in the line and the answer.
     ///
     /// # Errors
     ///
-    /// `AllocError` where an allocation was refused. Then the line may have been run, and a part of its answer
-    /// appended: nothing more is to be asked.
+    /// `AllocError` when out of memory. The line may have been run then, and a part of its answer
+    /// appended. The talk must not be used again.
     pub fn put_answer(
         &mut self,
         alloc: Global,
@@ -86,7 +86,7 @@ impl Talk {
         }
     }
 
-    /// Answers a line that is no command.
+    /// Answers a line that is not a command.
     fn refuse(&mut self, fault: TextFault, bytes: &mut Vec<u8>) -> Result<(), AllocError>
         requires { self.old.commands < number_max }
         ensures { OnOk result (IsSaid self.old (Fault (text_fault_of fault)) bytes.old.items bytes.new.items self.new) }

@@ -1,5 +1,4 @@
-//! The third phase: what is answered on each line that has a number becomes bytes, in contiguous
-//! runs.
+//! The third phase: the answers to the lines with a number become bytes, in contiguous runs.
 
 ghost use Rattle.std.specs.Prelude.{◌≡◌, ◌++◌, ◌+◌, ◌*◌, ◌<◌, ◌≤◌, ◌^◌, length, map, IfOk, OnOk};
 ghost use Rattle.std.specs.List.{flat_map, count_by};
@@ -14,7 +13,7 @@ use std::alloc::{AllocError, Global};
 use std::thread::Threads;
 use trace_lines::{is_refused, put_fault, put_reply};
 
-/// The answers, each worker a run of them.
+/// Writes the answers; each worker writes one run of them.
 pub(crate) fn answers_of<R: Threads + Sync, G: Gate>(
     rt: &R,
     alloc: Global,
@@ -58,7 +57,7 @@ fn answer_run(
     Ok(text)
 }
 
-/// The entries behind those of the first `n` places.
+/// The entries after those of the first `n` lines.
 fn replied<'a>(places: &[Place], n: usize, log: &'a [Entry]) -> &'a [Entry]
     ensures { map (λ e. e.reply) result.now
         ≡ replies_behind n (map place_of places.now) (map (λ e. e.reply) log.now) }
@@ -67,8 +66,8 @@ fn replied<'a>(places: &[Place], n: usize, log: &'a [Entry]) -> &'a [Entry]
     behind(log, before)
 }
 
-/// The answers on these lines, where so many with a number stand before them, by the replies to the
-/// commands among them.
+/// The answers to these lines, which come after this many lines with a number. `log` has the
+/// replies to the commands among them.
 fn answer(
     alloc: Global,
     before: usize,
@@ -110,7 +109,7 @@ fn put_text(
     put_reply(alloc, bytes, number, &entry.reply)
 }
 
-/// These texts, one after the other.
+/// Joins these texts in order.
 fn join(alloc: Global, texts: Vec<Vec<u8>>) -> Result<Vec<u8>, AllocError>
     ensures { IfOk result (λ v. v.items ≡ flat_map (λ text. text.items) texts.items) }
 {

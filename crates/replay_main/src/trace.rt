@@ -1,4 +1,4 @@
-//! A trace, from its bytes to the bytes of its answers.
+//! From the bytes of a trace to the bytes of its answers.
 
 ghost use Rattle.std.specs.Prelude.{◌≡◌, ◌≢◌, ◌≤◌, length, false, Err, IfOk, IfErr};
 ghost use Rattle.flat_model.specs.Trace.{trace_max};
@@ -17,7 +17,7 @@ use std::alloc::Global;
 use std::sync::Wait;
 use std::thread::Threads;
 
-/// The two numbers of a replay.
+/// The two counts of a replay.
 #[derive(Clone, Copy, Debug, PartialEq, Eq)]
 pub struct Summary {
     /// How many lines have a number.
@@ -59,7 +59,7 @@ fn answer<R: Threads + Wait + Sync, G: Gate>(
     }
 }
 
-/// Answers each line of a trace, by as many sessions at a desk as workers.
+/// Answers each line of a trace at a desk, with one session per worker.
 fn answer_at_a_desk<R: Threads + Wait + Sync, G: Gate>(
     rt: &R,
     alloc: Global,
@@ -89,23 +89,23 @@ fn answer_at_a_desk<R: Threads + Wait + Sync, G: Gate>(
 
 /// Reads a trace to its end, answers every line, writes the answers and flushes them.
 ///
-/// The whole trace is read before anything is answered, and all of it is answered before anything
-/// is written. A trace has at most `TRACE_MAX` bytes. The call may wait for its devices. Beside
-/// what the engine takes for each command, it takes time and memory linear in the trace and its
+/// The whole trace is read before anything is answered, and every line is answered before anything
+/// is written. A trace has at most `TRACE_MAX` bytes. The call may wait for its devices. It costs
+/// what the engine costs for each command, plus time and memory linear in the trace and its
 /// answers.
 ///
-/// One worker answers line by line in one pass on the calling thread, and starts no thread. Two to eight
-/// do the work in three phases, each in a thread of its own where one can be had, the caller being
-/// one of them: the lines are read; the commands are run at a desk, the i-th by session i mod
-/// `workers` at turn i; the replies become bytes. The answers are the same for every number of
-/// workers.
+/// One worker answers line by line in one pass on the calling thread, and starts no thread. Two to
+/// eight workers run three phases: the lines are read; the commands run at a desk, the i-th by
+/// session i mod `workers` at turn i; the replies become bytes. The calling thread does the work of
+/// worker 0, and of each worker whose thread can't be started. The answers are the same for every
+/// number of workers.
 ///
 /// # Errors
 ///
-/// `Read` where a read failed; `InputTooLong` past `TRACE_MAX` bytes; `OutOfMemory`; `Close`, from two
-/// workers on, where the desk was not closed or its log has not the commands of the trace, each of its
-/// session. In all these nothing was written. `Write` where a write or the flush failed or a write took no bytes; then a prefix of the
-/// answers was written.
+/// `Read` if a read failed; `InputTooLong` above `TRACE_MAX` bytes; `OutOfMemory`; and, with two or
+/// more workers, `Close` if the desk could not be closed, or its log differs from the commands of
+/// the trace or their sessions. After these, nothing was written. `Write` if a write or the flush
+/// failed, or a write took no bytes. A prefix of the answers was written then.
 pub fn replay<R: Threads + Wait + Sync, S: Source, W: Sink>(
     rt: &R,
     alloc: Global,
@@ -124,9 +124,9 @@ pub fn replay<R: Threads + Wait + Sync, S: Source, W: Sink>(
     replay_gated(rt, alloc, &OpenGate, reader, writer, workers)
 }
 
-/// The same, with a test hook: at the start of phase p, counted from 0, the thread that does the work of
-/// worker w, counted from 0, passes part `p * workers + w + 1`; one worker passes parts 1, 2 and 3
-/// before its pass. The hook may keep it waiting.
+/// `replay` with a test hook. At the start of phase p, the thread that does the work of worker w
+/// passes part `p * workers + w + 1`; p and w count from 0. One worker passes parts 1, 2 and 3
+/// before its pass. The hook may block.
 ///
 /// # Errors
 ///

@@ -1,8 +1,8 @@
 //! The second phase: the commands are run at a desk, each by its session at its turn, with a thread
 //! for each worker.
 //!
-//! A worker runs several commands in a row, so that few turns have to wake another thread. Which
-//! session runs a command does not depend on that.
+//! A worker runs several commands in a row, so that few turns have to wake another thread. This
+//! doesn't change which session runs a command.
 
 ghost use Rattle.std.specs.Prelude.{◌≡◌, ◌*◌, ◌<◌, ◌≤◌, length, map, replicate, set, vec_len, false, true, IfOk, IfErr};
 ghost use Rattle.flat_model.specs.Machine.{new_machine, replies};
@@ -23,7 +23,7 @@ use std::thread;
 use std::thread::Threads;
 use undo_journal::Command;
 
-/// Runs these commands at a desk of as many sessions as workers, and gives its log, which has these
+/// Runs these commands at a desk with one session per worker. Returns its log, which has these
 /// commands in their order, each run by its session.
 pub(crate) fn run_commands<R: Threads + Wait + Sync, G: Gate>(
     rt: &R,
@@ -83,8 +83,8 @@ fn open_desk(alloc: Global, workers: u8) -> Result<(Desk, Vec<Session>), AllocEr
     Ok((desk, sessions))
 }
 
-/// Has each session run its commands: command i is run by session i mod their number, at turn i.
-/// Out of memory in any of them is an error.
+/// Makes each session run its commands: command i is run at turn i, by session i mod the number of
+/// sessions. Out of memory in any session is an error.
 fn serve<R: Threads + Wait + Sync, G: Gate>(
     rt: &R,
     alloc: Global,
@@ -110,7 +110,8 @@ fn serve<R: Threads + Wait + Sync, G: Gate>(
         .collect(alloc)
 }
 
-/// The caller is worker 0, and does the work of each worker whose thread cannot be started.
+/// Worker 0 is the calling thread, which also does the work of each worker whose thread can't be
+/// started.
 fn serve_all<R: Threads + Wait + Sync, G: Gate>(
     rt: &R,
     gate: &G,
@@ -151,8 +152,8 @@ fn only(worker: usize) -> [bool; 8]
     is_mine
 }
 
-/// How many commands a worker runs before the next worker goes on: one where no worker has more than
-/// 32 of them, else as many as give each at most 32 runs.
+/// How many commands a worker runs before the next worker continues: 1 if no worker has more than
+/// 32 commands, otherwise enough that each has at most 32 runs.
 fn run_length(len: usize, workers: usize) -> usize
     requires { (1 ≤ workers) × (workers ≤ 8) }
     ensures some { 0 < result }
@@ -203,7 +204,7 @@ fn work_for<R: Threads + Wait + Sync, G: Gate>(
     }
 }
 
-/// Runs a command at its turn. False where the desk is halted, as it is once out of memory.
+/// Runs a command at its turn. False if the desk is halted, as it is after running out of memory.
 fn run_one<R: Threads + Wait + Sync>(
     rt: &R,
     session: &mut Session,
