@@ -3,12 +3,12 @@ use Rattle.std.specs.Prelude.{ℕ, ◌/◌, ◌%◌, ◌<◌, List, [], Option, 
 use Rattle.std.specs.List.{slice_index_or}
 use Rattle.process_table.specs.declared.process.Cell.{Cell}
 
--- the cell with another place
+-- the cell with another index
 abbrev pub at_place : {A : Type 0} → ℕ → Cell A → Cell A
 at_place place c = record c { place = place }
 
 module _ {X : Type 0} where
-  -- what is kept of a pid
+  -- what is stored for a pid
   unfoldable pub cell_at : List (List (Option X)) → ℕ → Option X
   cell_at pages q = slice_index_or (slice_index_or pages (q / 64) []) (q % 64) None
 

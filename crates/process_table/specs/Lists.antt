@@ -7,17 +7,17 @@ use Rattle.std.specs.List.Sorted.{IsPermutation}
 abbrev pub list_at : List (List ℕ) → ℕ → List ℕ
 list_at lists s = slice_index_or lists s []
 
--- q stands at this place
+-- q is at this index
 pub record IsAt (pids : List ℕ) (place q : ℕ) : Type 0 where
   pub within : place < length pids
   pub here : slice_index pids place ≡ q
 
--- what is read at this place
+-- what is read at this index
 abbrev pub IsRead : List ℕ → ℕ → Option ℕ → Type 0
 IsRead pids place None = length pids ≤ place
 IsRead pids place (Some q) = IsAt pids place q
 
--- the pid at this place has left; the last one, if it was another, has come to its place
+-- the pid at this index has left; the last one, if it was another, has moved to that index
 pub record HasLeft (old : List ℕ) (place : ℕ) (moved : Option ℕ) (new : List ℕ) : Type 0 where
   pub fewer : length new + 1 ≡ length old
   pub others : IsPermutation old (slice_index old place ∷ new)

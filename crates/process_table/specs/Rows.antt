@@ -25,10 +25,10 @@ module _ {A : Type 0} where
   process_of None = None
   process_of (Some c) = Some c.process
 
-  -- the process that is kept of a pid
+  -- the process that is stored for a pid
   abbrev pub process_at : List (List (Option (Cell A))) → ℕ → Option (Process A)
   process_at pages q = process_of (cell_at pages q)
 
-  -- the table that pages stand for: each process with its pid, pids ascending
+  -- the table that the pages represent: each process with its pid, pids ascending
   abbrev pub table_of : List (List (Option (Cell A))) → List (ℕ × Process A)
   table_of pages = rows_from (process_at pages) 0 pid_count

@@ -1,4 +1,4 @@
--- What ties the cells of the pids to the lists of the slots.
+-- How the cells of the pids and the lists of the slots agree.
 use Rattle.std.specs.Prelude.{ℕ, ◌+◌, ◌≤◌, ◌≡◌, ◌≢◌, eqb, cond, List, Option, Some, None, count_by}
 use Rattle.process_table.specs.declared.process.Cell.{Cell}
 use Rattle.process_table.specs.Lists.{list_at, IsAt}
@@ -14,13 +14,13 @@ module _ {A : Type 0} where
   in_slot s None = 0
   in_slot s (Some c) = cond (eqb c.process.slot s) 1 0
 
-  -- each pid is in the list of its slot, once, at the place that its cell notes, and in no other list
+  -- each pid is in the list of its slot, once, at the index that its cell stores, and in no other list
   pub record IsTied (cell : ℕ → Option (Cell A)) (lists : List (List ℕ)) : Type 0 where
     pub counted : (s q : ℕ) → count_by (eqb q) (list_at lists s) ≡ in_slot s (cell q)
     pub placed : (q : ℕ) (c : Cell A) → cell q ≡ Some c → IsAt (list_at lists c.process.slot) c.place q
     pub few : (q : ℕ) → pid_count ≤ q → cell q ≡ None
 
-  -- the same, but that p is still at a place of a slot that it has left
+  -- the same, except that p is still at an index of a slot that it has left
   pub record Owes (cell : ℕ → Option (Cell A)) (lists : List (List ℕ)) (slot place p : ℕ) : Type 0 where
     pub counted : (s q : ℕ) → count_by (eqb q) (list_at lists s) ≡ in_slot s (cell q) + owed slot p s q
     pub placed : (q : ℕ) (c : Cell A) → cell q ≡ Some c → IsAt (list_at lists c.process.slot) c.place q
@@ -28,7 +28,7 @@ module _ {A : Type 0} where
     pub here : IsAt (list_at lists slot) place p
     pub gone : in_slot slot (cell p) ≡ 0
 
-  -- the place that is noted, if the pid is in this slot
+  -- the stored index, if the pid is in this slot
   abbrev pub IsPlaceIn : Option (Cell A) → ℕ → Option ℕ → Type 0
   IsPlaceIn o slot None = (c : Cell A) → o ≡ Some c → c.process.slot ≢ slot
   IsPlaceIn o slot (Some place) = (c : Cell A) × (o ≡ Some c) × (c.process.slot ≡ slot) × (c.place ≡ place)

@@ -13,7 +13,7 @@ use crate::slots::Slots;
 use group_path::GroupPath;
 use std::alloc::{AllocError, Allocator};
 
-// Whether the processes of a slot are at or below the path: one of them answers for all.
+// Whether the processes of a slot are at or below the path. All are in one group, so it tests only one of them.
 fn are_inside<A: Allocator + Clone, P: Allocator + Clone>(
     pages: &Pages<A>,
     slots: &Slots<A>,

@@ -1,4 +1,4 @@
-//! A page: the cells of 64 pids that follow each other.
+//! A page: the cells of 64 consecutive pids.
 
 ghost use Rattle.std.specs.Prelude.{◌≡◌, ℕ, ◌<◌, ◌≤◌, [], None, Some, IsTrue, OnOk, length, option_map, slice_set};
 ghost use Rattle.std.specs.List.{slice_index_or};
@@ -10,7 +10,7 @@ use std::alloc::{AllocError, Allocator};
 use std::marker::Model;
 use std::mem;
 
-// How many pids a page is for.
+// How many pids a page covers.
 pub(crate) const CELLS: usize = 64;
 
 fn are_all_empty<A: Allocator + Clone>(cells: &[Option<Cell<A>>]) -> bool
@@ -24,11 +24,11 @@ fn are_all_empty<A: Allocator + Clone>(cells: &[Option<Cell<A>>]) -> bool
     true
 }
 
-// The cells of a page, or none where the page has not been made.
+// The cells of a page, or none if the page is not allocated.
 #[derive(Drop)]
 pub(crate) struct Page<A: Allocator + Clone> {
     cells: Vec<Option<Cell<A>>, A>,
-    // How many cells are in use. It only says when to look whether all are empty.
+    // How many cells are in use. It only says when to check whether all are empty.
     used: u32,
 }
 
@@ -42,7 +42,7 @@ impl<A: Allocator + Clone> Model for Page<A> {
 }
 
 impl<A: Allocator + Clone> Page<A> {
-    // A page that has not been made. It takes no memory.
+    // A page that is not allocated. Allocates nothing.
     pub(crate) fn unmade(alloc: A) -> Page<A>
         ensures { result ≡ [] }
     {
@@ -52,7 +52,7 @@ impl<A: Allocator + Clone> Page<A> {
         }
     }
 
-    // Makes the page whole, in one block. The cells that it has stay.
+    // Allocates the whole page, in one block. Cells that it already has stay.
     pub(crate) fn fill(&mut self) -> Result<(), AllocError>
         ensures whole { OnOk result (CELLS ≤ length self.new) }
         ensures same { (k : ℕ) → slice_index_or self.new k None ≡ slice_index_or self.old k None }
@@ -77,7 +77,7 @@ impl<A: Allocator + Clone> Page<A> {
         }
     }
 
-    // Puts a cell in; the one that was there comes back.
+    // Stores a cell, and returns the old one, if any.
     pub(crate) fn put(&mut self, at: usize, cell: Cell<A>) -> Option<Cell<A>>
         requires { at < length self.old }
         ensures before { result ≡ slice_index_or self.old at None }
@@ -90,7 +90,7 @@ impl<A: Allocator + Clone> Page<A> {
         before
     }
 
-    // Gives the memory of an empty page back.
+    // Frees the memory of an empty page.
     fn free(&mut self)
         ensures { (k : ℕ) → slice_index_or self.new k None ≡ slice_index_or self.old k None }
     {
@@ -100,7 +100,7 @@ impl<A: Allocator + Clone> Page<A> {
         }
     }
 
-    // Takes a cell out. The page is given back with its last one.
+    // Removes a cell. Removing the last one frees the page.
     pub(crate) fn take(&mut self, at: usize) -> Option<Cell<A>>
         ensures before { result ≡ slice_index_or self.old at None }
         ensures after { (k : ℕ) → slice_index_or self.new k None ≡ slice_index_or (slice_set self.old at None) k None }
@@ -118,7 +118,7 @@ impl<A: Allocator + Clone> Page<A> {
         taken
     }
 
-    // Notes another place in the cell, if there is one.
+    // Stores another index in the cell, if there is one.
     pub(crate) fn set_place(&mut self, at: usize, place: usize)
         ensures { self.new ≡ slice_set self.old at (option_map (at_place place) (slice_index_or self.old at None)) }
     {

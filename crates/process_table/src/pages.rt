@@ -1,4 +1,4 @@
-//! All cells, in pages that are made when they are needed.
+//! All cells, in pages that are allocated when they are needed.
 
 ghost use Rattle.std.specs.Prelude.{◌≡◌, ℕ, ◌<◌, [], None, Some, OnOk, eqb, if◌then◌else◌, length, option_map};
 ghost use Rattle.std.specs.List.{slice_index_or};
@@ -26,7 +26,7 @@ impl<A: Allocator + Clone> Model for Pages<A> {
 }
 
 impl<A: Allocator + Clone> Pages<A> {
-    // No pages. It takes no memory.
+    // No pages. Allocates nothing.
     pub(crate) fn new(alloc: A) -> Pages<A>
         ensures { result ≡ [] }
     {
@@ -46,7 +46,7 @@ impl<A: Allocator + Clone> Pages<A> {
         }
     }
 
-    // Lengthens the list of pages by pages that are not made.
+    // Extends the list of pages by pages that are not allocated.
     fn lengthen(&mut self, alloc: &A, page: usize) -> Result<(), AllocError>
         ensures listed { OnOk result (page < length self.new) }
         ensures same { (p : ℕ) → slice_index_or self.new p [] ≡ slice_index_or self.old p [] }
@@ -57,7 +57,7 @@ impl<A: Allocator + Clone> Pages<A> {
         Ok(())
     }
 
-    // Makes the page of a pid.
+    // Allocates the page of a pid.
     pub(crate) fn grow(&mut self, alloc: &A, pid: u32) -> Result<(), AllocError>
         ensures made { OnOk result (HasPage self.new pid) }
         ensures same { (q : ℕ) → cell_at self.new q ≡ cell_at self.old q }
@@ -67,7 +67,7 @@ impl<A: Allocator + Clone> Pages<A> {
         self.pages[page].fill()
     }
 
-    // Puts a cell in; the one that was there comes back.
+    // Stores a cell, and returns the old one, if any.
     pub(crate) fn put(&mut self, pid: u32, cell: Cell<A>) -> Option<Cell<A>>
         requires { HasPage self.old pid }
         ensures before { result ≡ cell_at self.old pid }
@@ -76,7 +76,7 @@ impl<A: Allocator + Clone> Pages<A> {
         self.pages[pid as usize / CELLS].put(pid as usize % CELLS, cell)
     }
 
-    // Takes a cell out.
+    // Removes a cell.
     pub(crate) fn take(&mut self, pid: u32) -> Option<Cell<A>>
         ensures before { result ≡ cell_at self.old pid }
         ensures after { (q : ℕ) → cell_at self.new q ≡ (if eqb pid q then None else cell_at self.old q) }
@@ -89,7 +89,7 @@ impl<A: Allocator + Clone> Pages<A> {
         }
     }
 
-    // Notes another place in the cell of a pid, if there is one.
+    // Stores another index in the cell of a pid, if there is one.
     pub(crate) fn set_place(&mut self, pid: u32, place: usize)
         ensures { (q : ℕ) → cell_at self.new q ≡ (if eqb pid q then option_map (at_place place) (cell_at self.old pid) else cell_at self.old q) }
     {

@@ -1,4 +1,4 @@
-//! What the table keeps of a process.
+//! What the table stores for a process.
 
 use group_path::GroupPath;
 use std::alloc::Allocator;
@@ -11,7 +11,7 @@ pub struct Process<A: Allocator + Clone> {
     pub leaf: u8,
 }
 
-// A process, and its place in the list of its slot.
+// A process, and the index of its pid in the list of its slot.
 #[derive(Drop)]
 pub(crate) struct Cell<A: Allocator + Clone> {
     pub(crate) process: Process<A>,

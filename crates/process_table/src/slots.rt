@@ -6,7 +6,7 @@ ghost use Rattle.process_table.specs.Lists.{list_at, IsRead, HasLeft};
 use std::alloc::{AllocError, Allocator};
 use std::marker::Model;
 
-// The pid at a place, if there is one.
+// The pid at an index, if there is one.
 fn read(pids: &[u32], place: usize) -> Option<u32>
     ensures { IsRead pids.now place result }
 {
@@ -40,7 +40,7 @@ impl<A: Allocator + Clone> Members<A> {
         }
     }
 
-    // Adds a pid; its place is the result.
+    // Adds a pid, and returns its index.
     fn push(&mut self, pid: u32) -> Result<usize, AllocError>
         ensures place { IfOk result (λ n. n ≡ length self.old) }
         ensures pushed { OnOk result (self.new ≡ self.old ++ pid ∷ []) }
@@ -51,7 +51,7 @@ impl<A: Allocator + Clone> Members<A> {
         Ok(place)
     }
 
-    // Takes out the pid at a place. The last one comes to that place; if it is another one, it is the result.
+    // Removes the pid at an index. The last pid moves to that index, and is returned if it is another one.
     fn leave(&mut self, place: usize) -> Option<u32>
         requires { place < length self.old }
         ensures { HasLeft self.old place result self.new }
@@ -73,7 +73,7 @@ impl<A: Allocator + Clone> Members<A> {
     }
 }
 
-// The lists of the slots that a process has been in, and of those below.
+// The lists of pids for the slots up to the greatest one that has been used.
 #[derive(Drop)]
 pub(crate) struct Slots<A: Allocator + Clone> {
     lists: Vec<Members<A>, A>,
@@ -88,7 +88,7 @@ impl<A: Allocator + Clone> Model for Slots<A> {
 }
 
 impl<A: Allocator + Clone> Slots<A> {
-    // No lists. It takes no memory.
+    // No lists. Allocates nothing.
     pub(crate) fn new(alloc: A) -> Slots<A>
         ensures { result ≡ [] }
     {
@@ -114,7 +114,7 @@ impl<A: Allocator + Clone> Slots<A> {
         Ok(())
     }
 
-    // Adds a pid to a slot; its place is the result.
+    // Adds a pid to a slot, and returns its index.
     pub(crate) fn push(&mut self, slot: u16, pid: u32) -> Result<usize, AllocError>
         requires { slot < length self.old }
         ensures place { IfOk result (λ n. n ≡ length (list_at self.old slot)) }
@@ -124,7 +124,7 @@ impl<A: Allocator + Clone> Slots<A> {
         self.lists[usize::from(slot)].push(pid)
     }
 
-    // Takes out the pid at a place of a slot. The one that comes to that place, if one does, is the result.
+    // Removes the pid at an index of a slot. Returns the pid that moves to that index, if one does.
     pub(crate) fn leave(&mut self, slot: u16, place: usize) -> Option<u32>
         requires { place < length (list_at self.old slot) }
         ensures left { HasLeft (list_at self.old slot) place result (list_at self.new slot) }

@@ -1,4 +1,4 @@
-//! The table.
+//! The table of processes.
 
 ghost use Rattle.std.specs.Prelude.{◌≡◌, [], map, filter, eqb, is_some, IfOk, OnOk, OnErr};
 ghost use Rattle.std.specs.BTreeMap.{insert_entry, is_at};
@@ -18,7 +18,8 @@ use group_path::GroupPath;
 use std::alloc::{AllocError, Allocator};
 use std::marker::Model;
 
-/// Processes by their pids and by the slots of their groups; seen as the list of pids with processes, pids ascending.
+/// Processes by their pids, and by the slots of their groups. Contracts see the list of pids with processes, pids
+/// ascending.
 #[derive(Drop)]
 pub struct ProcessTable<A: Allocator + Clone> {
     pages: Pages<A>,
@@ -41,11 +42,11 @@ impl<A: Allocator + Clone> Model for ProcessTable<A> {
 }
 
 impl<A: Allocator + Clone> ProcessTable<A> {
-    /// An empty table. It asks for no memory.
+    /// Creates an empty table. Allocates nothing.
     ///
     /// # Errors
     ///
-    /// `AllocError` where the allocator could not be copied.
+    /// `AllocError` if the allocator could not be cloned.
     pub fn new(alloc: A) -> Result<ProcessTable<A>, AllocError>
         ensures { IfOk result (λ t. t ≡ []) }
     {
@@ -58,14 +59,14 @@ impl<A: Allocator + Clone> ProcessTable<A> {
         })
     }
 
-    /// Tells callers that pids ascend. It is proof only.
+    /// Gives callers the fact that pids ascend. It is proof only.
     pub fn known(&self)
         ensures { IsStrictlySortedBy nat_cmp (keys_of self.now) }
     {
         let _ = &self.pages;
     }
 
-    /// The process with this pid. In constant time.
+    /// The process with this pid, in constant time.
     pub fn get(&self, pid: u32) -> Option<&Process<A>>
         ensures { option_copied result ≡ lookup (is_at (nat_cmp pid)) self.now }
     {
@@ -75,18 +76,18 @@ impl<A: Allocator + Clone> ProcessTable<A> {
         }
     }
 
-    /// Whether there is a process with this pid. In constant time.
+    /// Whether a process has this pid, in constant time.
     pub fn has(&self, pid: u32) -> bool
         ensures { result ≡ is_some (lookup (is_at (nat_cmp pid)) self.now) }
     {
         self.get(pid).is_some()
     }
 
-    /// Puts a process in. The one that had this pid comes back. In constant time, but for the memory that it asks for.
+    /// Inserts a process, and returns the one that had this pid, if any. Takes constant time besides allocation.
     ///
     /// # Errors
     ///
-    /// `AllocError` when out of memory; the table is as it was, and the process is dropped.
+    /// `AllocError` when out of memory. The table is unchanged then, and the process is dropped.
     pub fn insert(
         &mut self,
         pid: u32,
@@ -102,7 +103,7 @@ impl<A: Allocator + Clone> ProcessTable<A> {
         put_in(&mut self.pages, &mut self.slots, pid, process)
     }
 
-    /// Takes a process out. It takes no memory. In constant time.
+    /// Removes a process and returns it, in constant time. Allocates nothing.
     pub fn take(&mut self, pid: u32) -> Option<Process<A>>
         ensures value { result ≡ lookup (is_at (nat_cmp pid)) self.old }
         ensures entries { self.new ≡ remove_entry (is_at (nat_cmp pid)) self.old }
@@ -111,7 +112,7 @@ impl<A: Allocator + Clone> ProcessTable<A> {
         take_out(&mut self.pages, &mut self.slots, pid)
     }
 
-    /// The pids of the processes in a slot, ascending. For n of them in O(n log n), whatever else there is.
+    /// The pids of the processes in a slot, ascending. Takes O(n log n) for n pids, whatever the size of the table.
     ///
     /// # Errors
     ///
@@ -125,8 +126,8 @@ impl<A: Allocator + Clone> ProcessTable<A> {
         Ok(pids)
     }
 
-    /// The pids of the processes at or below a group, ascending, where the processes of a slot are in one group. For n of
-    /// them in O(n log n), and one test of a path for each slot that has been used.
+    /// The pids of the processes at or below a group, ascending. The processes of a slot must all be in one group.
+    /// Takes O(n log n) for n pids, plus one test of a path for each slot that has been used.
     ///
     /// # Errors
     ///

@@ -11,7 +11,7 @@ use crate::process::{Cell, Process};
 use crate::slots::Slots;
 use std::alloc::{AllocError, Allocator};
 
-// Takes a pid that has left a slot out of its list.
+// Removes a pid that has left a slot from the slot's list.
 fn leave<A: Allocator + Clone>(pages: &mut Pages<A>, slots: &mut Slots<A>, slot: u16, place: usize)
     requires { Owes (cell_at pages.old) slots.old slot place (slice_index (list_at slots.old slot) place) }
     ensures tied { IsTied (cell_at pages.new) slots.new }
@@ -23,7 +23,7 @@ fn leave<A: Allocator + Clone>(pages: &mut Pages<A>, slots: &mut Slots<A>, slot:
     pages.set_place(moved, place);
 }
 
-// The process of a pid, which is taken out.
+// Removes the process of a pid and returns it.
 pub(crate) fn take_out<A: Allocator + Clone>(
     pages: &mut Pages<A>,
     slots: &mut Slots<A>,
@@ -41,7 +41,7 @@ pub(crate) fn take_out<A: Allocator + Clone>(
     Some(cell.process)
 }
 
-// Where the pid is in the list of a slot.
+// The index of the pid in the list of a slot.
 fn place_in<A: Allocator + Clone>(pages: &Pages<A>, pid: u32, slot: u16) -> Option<usize>
     ensures { IsPlaceIn (cell_at pages.now pid) slot result }
 {
@@ -63,7 +63,7 @@ fn without_place<A: Allocator + Clone>(cell: Option<Cell<A>>) -> Option<Process<
     }
 }
 
-// Puts a process in, where the page of its pid and the list of its slot are made. The one that was there comes back.
+// Inserts a process, once the page of its pid and the list of its slot exist. Returns the one that had the pid, if any.
 pub(crate) fn put_in<A: Allocator + Clone>(
     pages: &mut Pages<A>,
     slots: &mut Slots<A>,
