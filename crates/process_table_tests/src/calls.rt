@@ -3,7 +3,7 @@
 use crate::homed::{HOMES, Homed};
 use std::test::Fail;
 
-/// Processes that are put in turn: a pid, a slot and a leaf, and the slot and the leaf of the one that comes back.
+/// Processes to insert in turn: a pid, a slot and a leaf, and the slot and the leaf of the process that is returned.
 const PUT: [(u32, u16, u8, Option<(u16, u8)>); 9] = [
     (64, 1, 0, None),
     (63, 1, 1, None),
@@ -12,7 +12,7 @@ const PUT: [(u32, u16, u8, Option<(u16, u8)>); 9] = [
     (65, 1, 4, None),
     // Another leaf in the same slot.
     (64, 1, 5, Some((1, 0))),
-    // Another slot, from the first place of the list, from the last and from the only one.
+    // Another slot, from the first index of the list, from the last and from the only one.
     (64, 2, 6, Some((1, 5))),
     (63, 3, 7, Some((1, 1))),
     (1, 2, 0, Some((0, 2))),

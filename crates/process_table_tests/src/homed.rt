@@ -10,7 +10,7 @@ use std::alloc::{AllocError, Allocator, Global};
 use std::test::Fail;
 use test_support::path;
 
-/// The group of each slot; the two below `/a` take memory wherever they are kept.
+/// The group of each slot. The two below `/a` allocate memory wherever they are kept.
 pub(crate) const HOMES: [&str; 4] = [
     "/",
     "/a",
@@ -42,7 +42,7 @@ impl<A: Allocator + Clone> Homed<A> {
         })
     }
 
-    /// Puts a process in; the slot and the leaf of the one that had the pid are the result.
+    /// Inserts a process, and returns the slot and the leaf of the one that had the pid.
     pub(crate) fn put(
         &mut self,
         pid: u32,
@@ -61,7 +61,7 @@ impl<A: Allocator + Clone> Homed<A> {
         }
     }
 
-    /// Takes a process out.
+    /// Removes a process.
     pub(crate) fn take(&mut self, pid: u32) -> Option<Process<A>> {
         self.table.take(pid)
     }

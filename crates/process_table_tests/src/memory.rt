@@ -1,4 +1,4 @@
-//! A table in a small heap: what a refused allocation leaves.
+//! A table in a small heap: what a failed allocation leaves.
 
 use crate::homed::Homed;
 use linked_list_allocator::LocalHeap;
@@ -6,7 +6,7 @@ use std::alloc::{AllocError, Global};
 use std::test::Fail;
 use test_support::all_but;
 
-/// The pids that the rows below put.
+/// The pids that the rows below insert.
 const PIDS: [u32; 5] = [1, 2, 64, 200, 201];
 
 /// What is read of each of those pids, and the pids of each slot.
@@ -25,8 +25,8 @@ fn look(
     Ok((processes, members))
 }
 
-/// How many refusals there are before the process is put in, as the room grows by a block at a time. None where one of
-/// them left something changed, or another process came back than the one that is wanted.
+/// How many allocations fail before the process is inserted, as the room grows by one block at a time. None if a
+/// failure changed something, or the process returned is not the expected one.
 fn refusals(
     alloc: Global,
     heap: &LocalHeap,
@@ -47,17 +47,17 @@ fn refusals(
     Ok(None)
 }
 
-/// Processes that are put in turn: a pid, a slot, the slot of the one that comes back, and whether memory is asked for.
+/// Processes to insert in turn: a pid, a slot, the slot of the one that is returned, and whether memory is allocated.
 const PUT: [(u32, u16, Option<u16>, bool); 8] = [
     // The first page and the first list.
     (1, 0, None, true),
-    // Both are there, and the path is short.
+    // Both exist, and the path is short.
     (2, 0, None, false),
     // Another page.
     (64, 0, None, true),
     // Another list.
     (2, 1, Some(0), true),
-    // A path that takes memory.
+    // A path that allocates memory.
     (2, 1, Some(1), false),
     (200, 2, None, true),
     (201, 2, None, true),
@@ -89,7 +89,7 @@ fn lists_without_memory(rt: HostRuntime) -> Result<(), Fail> {
     }
     let blocks = all_but(alloc, &heap, 0)?;
     let refused = table.members(&heap, 2).is_err() && table.inside(&heap, 0).is_err();
-    // An empty list takes no memory, and what is taken out takes none.
+    // An empty list allocates nothing, and neither does a removal.
     let empty = table.members(&heap, 1)?.is_empty();
     let taken = table.take(3).is_some() && table.take(9).is_some();
     drop(blocks);

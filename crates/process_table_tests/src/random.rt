@@ -1,10 +1,10 @@
-//! Many calls beside a plain list.
+//! Many calls, compared with a plain list.
 
 use crate::homed::Homed;
 use std::alloc::{AllocError, Global};
 use std::test::Fail;
 
-/// The next number of a linear congruential generator, as PCG and Knuth's MMIX have it.
+/// The next number of a linear congruential generator, with the constants of PCG and Knuth's MMIX.
 fn next(state: &mut u64) -> u64 {
     *state = state
         .wrapping_mul(6_364_136_223_846_793_005)
@@ -12,7 +12,7 @@ fn next(state: &mut u64) -> u64 {
     *state >> 33
 }
 
-/// A pid of 96: the first ones, around the border of a page, and the last ones that there are.
+/// One of 96 pids: the first ones, those around the border of a page, and the last possible ones.
 fn pid_of(number: u64) -> u32 {
     let low = (number % 32) as u32;
     match number / 32 % 3 {
@@ -25,7 +25,7 @@ fn pid_of(number: u64) -> u32 {
 /// A process of the plain list: its pid, its slot and its leaf.
 type Row = (u32, u16, u8);
 
-/// Takes the row of a pid out of the plain list.
+/// Removes the row of a pid from the plain list.
 fn without(rows: &mut Vec<Row>, pid: u32) -> Option<(u16, u8)> {
     let at = rows.iter().position(|row| row.0 == pid)?;
     if at < rows.len() {
@@ -48,8 +48,8 @@ fn pids(alloc: Global, rows: &[Row], from: u16, to: u16) -> Result<Vec<u32>, All
     Ok(pids)
 }
 
-/// Whether the lists of all slots are those of the plain list. The groups stand one in another, so those below the group
-/// of a slot are those of the slots behind it.
+/// Whether the lists of all slots are those of the plain list. Each group is in the one before it, so the groups below
+/// that of a slot are those of the later slots.
 fn are_same(alloc: Global, table: &Homed<Global>, rows: &[Row]) -> Result<bool, AllocError> {
     for slot in 0..4u16 {
         if table.members(alloc, slot)? != pids(alloc, rows, slot, slot)?
@@ -61,7 +61,7 @@ fn are_same(alloc: Global, table: &Homed<Global>, rows: &[Row]) -> Result<bool, 
     Ok(true)
 }
 
-/// Makes the call of that number on both; whether both answer the same.
+/// Makes the call with that number on both, and returns whether both give the same result.
 fn is_step_same(table: &mut Homed<Global>, rows: &mut Vec<Row>, number: u64) -> Result<bool, Fail> {
     let pid = pid_of(number);
     let slot = (number / 96 % 4) as u16;
