@@ -23,7 +23,7 @@ use Rattle.replay_main.specs.declared.arguments.LineFault.TheVariants.{Bad, OutO
 abbrev pub workers_rule : Rule
 workers_rule = record (new_rule (codes "workers")) { long = Some (codes "workers"); value_names = 1 }
 
--- `--rehearse`, which takes no value: that of the flag is `true` where it stands among the words
+-- `--rehearse`, which takes no value: the flag's value is `true` if it is among the words
 abbrev pub rehearse_rule : Rule
 rehearse_rule = record (new_rule (codes "rehearse")) { long = Some (codes "rehearse"); action = Some SetTrue }
 

@@ -6,7 +6,7 @@ use crate::{DeviceFault, Sink, Source};
 use std::io;
 use std::io::{Read, Write};
 
-/// What a device tells by the answer of its reader or writer: a failure is told, and leaves its
+/// The result of a device for that of its reader or writer. A failure is returned, and sets the
 /// mark.
 fn tell<X>(is_failed: &mut bool, answer: io::Result<X>) -> Result<X, DeviceFault>
     ensures ok { IfOk answer (λ x. (result ≡ Ok x) × (is_failed.new ≡ is_failed.old)) }
