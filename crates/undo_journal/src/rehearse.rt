@@ -47,7 +47,10 @@ impl<A: Allocator + Clone, M: Meter> Engine<A, M> {
     /// # Errors
     ///
     /// `AllocError` when out of memory. What was copied is dropped then.
-    pub fn copy<B: Allocator + Clone>(&self, alloc: B) -> Result<Engine<B, PlainMeter<B>>, AllocError>
+    pub fn copy<B: Allocator + Clone>(
+        &self,
+        alloc: B,
+    ) -> Result<Engine<B, PlainMeter<B>>, AllocError>
         requires { M.SLOTS ≡ ⟦<PlainMeter<B> as Meter>⟧.SLOTS }
         ensures { IfOk result (λ e. e ≡ self.now) }
     {

@@ -18,4 +18,4 @@ waits_send ν R s a b c d = search (desk_sync, sendable) depth 20
 -- `search` does not find at which exit the closure is passed, so it is named
 pub join-first-requires-send-F : goal.join-first-requires-send-F
 join-first-requires-send-F g c κs h =
-    param_send 1 _ (arg_send _ no _ (waits_send _ g.row.R c.type_bounds.sync-R _ _ (record {mir = named 8; lft = κs.1.1.1.1.1.1.1.1.0}) (record {mir = named 9; lft = κs.1.1.1.1.1.1.1.1.1.0})))
+    param_send 1 _ (arg_send _ no _ (waits_send _ g.row.R c.type_bounds.sync-R _ _ (record { mir = named 8; lft = κs.1.1.1.1.1.1.1.1.0 }) (record { mir = named 9; lft = κs.1.1.1.1.1.1.1.1.1.0 })))
