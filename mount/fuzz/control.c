@@ -1,5 +1,5 @@
-/* Writes to the control directory, one after another: only what succeeds changes anything, and an undo takes back as many
-   commands as it says, or none. */
+/* Writes to the control directory, one after another: a write that fails changes nothing, an undo of N removes N commands,
+   forgetting removes all, and any other write adds one. */
 #include "control.h"
 #include "engine.h"
 #include "operations.h"
@@ -21,12 +21,14 @@ static size_t lines(void)
 
 static void one(int file, const char *data, size_t size)
 {
+	const char *name = control_name(file);
+	bool undoes = strcmp(name, "undo") == 0, forgets = strcmp(name, "forget") == 0;
 	size_t before = engine_depth();
 	int result = control_write(file, data, size);
 	size_t after = engine_depth();
-	if (result == 0 && strcmp(control_name(file), "undo") != 0 ? after != before + 1 : result && after != before)
+	if (result > 0 || lines() != after)
 		abort();
-	if (result > 0 || after > before + 1 || lines() != after)
+	if (result ? after != before : forgets ? after != 0 : undoes ? after > before : after != before + 1)
 		abort();
 }
 

@@ -191,7 +191,7 @@ void births_arguments(const struct memory_reply *reply)
 		return; /* it was killed meanwhile */
 	struct thread *t = b->creator;
 	const struct clone_args *said = &reply->args;
-	int fault = reply->read ? clones_fit(said, &args) : -EFAULT;
+	int fault = reply->fault ? reply->fault : clones_fit(said, &args);
 	b->reads = false;
 	bool elsewhere = fault == 0 && (said->flags & CLONE_INTO_CGROUP);
 	if (elsewhere && (said->flags & CLONE_THREAD))

@@ -5,6 +5,7 @@
 #include <stdio.h>
 #include <string.h>
 #include <sys/mount.h>
+#include <sys/prctl.h>
 #include <sys/wait.h>
 #include <unistd.h>
 
@@ -68,9 +69,12 @@ int companion_start(const char *mountpoint, bool unmount)
 		return -1;
 	pid_t pid = fork();
 	if (pid == 0) {
-		/* twice, so that nobody has to wait for it */
-		if (fork())
+		/* of a mount it outlives the server, so it forks twice, and nobody has to wait for it; of a run it ends with the supervisor,
+		   even where the program has stopped it */
+		if (unmount && fork())
 			_exit(0);
+		if (!unmount)
+			prctl(PR_SET_PDEATHSIG, SIGKILL);
 		close(ends[1]);
 		setsid();
 		let_go();
@@ -84,7 +88,8 @@ int companion_start(const char *mountpoint, bool unmount)
 		close(ends[1]);
 		return -1;
 	}
-	waitpid(pid, NULL, 0);
+	if (unmount)
+		waitpid(pid, NULL, 0);
 	fcntl(ends[1], F_SETFD, FD_CLOEXEC);
 	return ends[1];
 }

@@ -13,15 +13,16 @@
 
 const char control_directory[] = ".makhloeum";
 
-enum { UNDO, DEPTH, NEWEST, TRACE, FORK, EXIT };
+enum { UNDO, FORGET, DEPTH, NEWEST, TRACE, FORK, EXIT };
 
 static const struct {
 	const char *name;
 	mode_t mode;
 	bool of_history;
 } files[CONTROL_FILES] = {
-	[UNDO] = { "undo", 0200, true },   [DEPTH] = { "depth", 0444, true }, [NEWEST] = { "newest", 0444, true },
-	[TRACE] = { "trace", 0444, true }, [FORK] = { "fork", 0200, false },  [EXIT] = { "exit", 0200, false },
+	[UNDO] = { "undo", 0200, true },     [FORGET] = { "forget", 0200, true }, [DEPTH] = { "depth", 0444, true },
+	[NEWEST] = { "newest", 0444, true }, [TRACE] = { "trace", 0444, true },   [FORK] = { "fork", 0200, false },
+	[EXIT] = { "exit", 0200, false },
 };
 
 /* The process of /.makhloeum.PID.SPACE, which is there under `run` and not listed: what it has is the text of
@@ -183,6 +184,8 @@ int control_write(long file, const char *data, size_t size)
 	int count = numbers_said(data, size, said, 2);
 	if (file == UNDO && count >= 0 && count <= 1)
 		return undo(count ? said[0] : 1);
+	if (file == FORGET && count == 0)
+		return engine_forget();
 	if (file == FORK && count == 2)
 		return control_fork(said[0], said[1]);
 	if (file == EXIT && count == 1)

@@ -1,4 +1,4 @@
-/* The control directory at the mount's root, .makhloeum: fork and exit, and with a history undo, depth, newest and trace.
+/* The control directory at the mount's root, .makhloeum: fork and exit, and with a history undo, forget, depth, newest and trace.
    Under `run` it is there only with a history: a program that could write its own exit would not be counted any more. */
 #ifndef CONTROL_H
 #define CONTROL_H
@@ -14,7 +14,7 @@ bool control_has(const char *path);
 enum { CONTROL_ITSELF = -1 };
 /* The number of the file at such a path; CONTROL_ITSELF for the directory; -ENOENT. */
 long control_find(const char *path);
-enum { CONTROL_FILES = 6, CONTROL_PIDS = 4194304 };
+enum { CONTROL_FILES = 7, CONTROL_PIDS = 4194304 };
 enum { CONTROL_WHERE = CONTROL_FILES }; /* and the number of a process and of a cgroup namespace: /.makhloeum.PID.SPACE, under `run` */
 const char *control_name(long file);
 bool control_is_there(long file);

@@ -135,31 +135,23 @@ static int error_of(uint32_t status, uint32_t code)
 	}
 }
 
-/* Whether an answered line is one that an undo takes back. */
-static bool is_recorded(uint32_t status, uint32_t code)
+/* What an answered line did to the engine's records. */
+enum effect { NOTHING, RECORDED, UNDONE };
+
+static enum effect effect_since(size_t depth)
 {
-	static const char *const changes[] = { "mkdir ", "rmdir ", "fork ", "exit ", "write " };
-	if (status == MK_REFUSED)
-		return code == MK_PIDS_MAX;
-	for (size_t i = 0; i < sizeof changes / sizeof *changes; i++)
-		if (strncmp(line, changes[i], strlen(changes[i])) == 0)
-			return true;
-	return false;
+	size_t now = engine_depth();
+	return now > depth ? RECORDED : now < depth ? UNDONE : NOTHING;
 }
 
-static bool is_undo(void)
-{
-	return line_size == 4 && memcmp(line, "undo", 4) == 0;
-}
-
-static void stand(uint32_t status, uint32_t code)
+static void stand(enum effect effect)
 {
 	if (!has_history)
 		return;
-	if ((status == MK_DONE || status == MK_REFUSED) && is_recorded(status, code)) {
+	if (effect == RECORDED) {
 		memcpy(standing.at + standing.size, line, line_size + 1);
 		standing.size += line_size + 1;
-	} else if (status == MK_DONE && is_undo()) {
+	} else if (effect == UNDONE) {
 		size_t newest;
 		engine_newest(&newest);
 		standing.size -= newest;
@@ -167,20 +159,23 @@ static void stand(uint32_t status, uint32_t code)
 }
 
 /* Brings back the state before the line that was answered: what it recorded is undone, and what it undid is done again. */
-static bool step_back(uint32_t status, uint32_t code)
+static bool step_back(enum effect effect)
 {
-	if (status == MK_DONE && is_undo()) {
+	uint32_t code, status;
+	size_t depth = engine_depth();
+	if (effect == NOTHING)
+		return true;
+	if (effect == UNDONE) {
 		if (take_text() || text.size == 0 || text.size > sizeof line)
 			return false;
 		line_size = text.size - 1;
 		memcpy(line, text.at, line_size);
-	} else if ((status == MK_DONE || status == MK_REFUSED) && is_recorded(status, code)) {
+	} else {
 		line_size = 4;
 		memcpy(line, "undo", line_size);
-	} else
-		return true;
+	}
 	status = ask(0, &code);
-	return status == MK_DONE || (status == MK_REFUSED && code == MK_PIDS_MAX);
+	return (status == MK_DONE || status == MK_REFUSED) && effect_since(depth) == (effect == UNDONE ? RECORDED : UNDONE);
 }
 
 /* A longer trace than cgreplay reads is said once, and marked in the trace by a comment. */
@@ -220,12 +215,14 @@ static int ask_and_keep(void)
 		return -ENOMEM;
 	if (!has_history && engine_depth() >= FORGET_AT)
 		mk_forget(&engine);
+	size_t depth = engine_depth();
 	if (trace->fd >= 0 && (fault = keep_line(&size)))
 		return fault;
 	uint32_t status = ask(number, &code);
+	enum effect effect = effect_since(depth);
 	if (status != MK_DONE && status != MK_REFUSED && status != MK_FAULT)
 		fault = -ENOMEM; /* nothing has changed: so the line was never there */
-	else if (answers->fd >= 0 && (fault = kept_add(answers, answer.at, answer.size)) && !step_back(status, code))
+	else if (answers->fd >= 0 && (fault = kept_add(answers, answer.at, answer.size)) && !step_back(effect))
 		trace->broken = answers->broken = EIO; /* out of memory: the state is ahead of the answers, and goes no further */
 	if (fault) {
 		if (trace->fd >= 0)
@@ -233,7 +230,7 @@ static int ask_and_keep(void)
 		return fault;
 	}
 	number++;
-	stand(status, code);
+	stand(effect);
 	tell_long();
 	return error_of(status, code);
 }
@@ -343,6 +340,34 @@ size_t engine_depth(void)
 	WANTS_LOCK();
 	mk_depth(&engine, &depth);
 	return depth;
+}
+
+static int number_of(uint32_t (*call)(mk_handle *, const char *, uint64_t *, mk_info *), const char *group, uint64_t *value)
+{
+	mk_info info;
+	uint32_t status = call(&engine, group, value, &info);
+	return status == MK_DONE ? 0 : status == MK_OUT_OF_MEMORY ? -ENOMEM : -ENOENT;
+}
+
+int engine_current(const char *group, uint64_t *count)
+{
+	WANTS_LOCK();
+	return number_of(mk_current, group, count);
+}
+
+int engine_limit(const char *group, uint64_t *limit)
+{
+	WANTS_LOCK();
+	return number_of(mk_limit, group, limit);
+}
+
+int engine_forget(void)
+{
+	WANTS_LOCK();
+	if (mk_forget(&engine) != MK_DONE)
+		return -ENOMEM;
+	standing.size = 0;
+	return 0;
 }
 
 const char *engine_standing(size_t *size)

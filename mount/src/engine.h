@@ -5,6 +5,7 @@
 #include "kept.h"
 #include <stdbool.h>
 #include <stddef.h>
+#include <stdint.h>
 #include <sys/types.h>
 
 /* Makes the engine. Each line goes to `trace` before it is asked, and its answer to `answers`: cgreplay < TRACE writes the
@@ -39,7 +40,13 @@ int engine_has_group(const char *path);
 int engine_children(const char *path, const char **names, size_t *count);
 /* The paths of a group and of all below it, likewise. */
 int engine_groups(const char *top, const char **paths, size_t *count);
+/* How many processes are at or below a group, and its pids.max, MK_NO_LIMIT for `max`: without a text. 0 or -errno */
+int engine_current(const char *group, uint64_t *count);
+int engine_limit(const char *group, uint64_t *limit);
 size_t engine_depth(void);
+
+/* Keeps the state and drops the records: nothing earlier can be undone. 0 or -errno */
+int engine_forget(void);
 
 /* The recorded commands that stand, oldest first, as a trace; and the newest of them. */
 const char *engine_standing(size_t *size);

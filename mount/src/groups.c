@@ -85,11 +85,11 @@ int groups_of_open(pid_t thread, int fd, char group[PATH_MAX_SAID])
 	char link[64], seen[PATH_MAX_SAID];
 	struct statx st;
 	size_t n = strlen(cgroup_mount);
-	snprintf(link, sizeof link, "/proc/%d/fd/%d", thread, fd);
+	snprintf(link, sizeof link, "%d/fd/%d", thread, fd);
 	cleanup_fd int file = open(link, O_PATH | O_CLOEXEC);
 	if (file < 0 || statx(file, "", ASKS_NOBODY, STATX_INO | STATX_TYPE, &st) || !is_here(&st) || !S_ISDIR(st.stx_mode))
 		return -EBADF;
-	snprintf(link, sizeof link, "/proc/self/fd/%d", file);
+	snprintf(link, sizeof link, "self/fd/%d", file);
 	ssize_t size = readlink(link, seen, sizeof seen - 1);
 	seen[size < 0 ? 0 : size] = 0;
 	if (strncmp(seen, cgroup_mount, n) == 0 && (seen[n] == 0 || seen[n] == '/')) {

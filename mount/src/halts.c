@@ -1,11 +1,15 @@
 #include "halts.h"
 #include "cleanup.h"
 #include "link.h"
+#include <signal.h>
 #include <stdint.h>
 #include <stdio.h>
 #include <string.h>
 #include <sys/ptrace.h>
 #include <unistd.h>
+
+/* So many orders are taken before anything else is looked at: the program decides how many there are. */
+enum { ORDERS = 32 };
 
 static int wake = -1;
 
@@ -28,7 +32,7 @@ static void set(struct thread *t, enum rest how)
 static bool has_ended(pid_t id)
 {
 	char path[40], line[512];
-	snprintf(path, sizeof path, "/proc/%d/stat", id);
+	snprintf(path, sizeof path, "%d/stat", id);
 	cleanup_stream FILE *f = fopen(path, "re");
 	const char *end = f && fgets(line, sizeof line, f) ? strrchr(line, ')') : NULL;
 	return !end || end[1] == 0 || end[2] == 'Z' || end[2] == 'X';
@@ -105,6 +109,13 @@ static void freeze(struct thread *t)
 	halts_insists(t);
 }
 
+/* It may have been killed meanwhile, and another that called execve may have its number. */
+static bool stands_parked(pid_t id)
+{
+	siginfo_t now;
+	return ptrace(PTRACE_GETSIGINFO, id, 0, &now) == 0 && now.si_code >> 8 == PTRACE_EVENT_STOP;
+}
+
 static void go_on(struct thread *t, void (*call)(struct thread *t))
 {
 	enum rest was = t->rest;
@@ -112,9 +123,9 @@ static void go_on(struct thread *t, void (*call)(struct thread *t))
 	if (was != PARKED && was != BEFORE_CALL)
 		return;
 	set(t, RUNS);
-	if (was == PARKED)
+	if (was == PARKED && stands_parked(t->id))
 		ptrace(PTRACE_CONT, t->id, 0, 0);
-	else
+	else if (was == BEFORE_CALL)
 		call(t);
 }
 
@@ -131,16 +142,20 @@ static void obey(struct thread *first, bool stop, void (*call)(struct thread *t)
 	halts_tell(first->id);
 }
 
-void halts_take_orders(void (*call)(struct thread *t))
+bool halts_take_orders(void (*call)(struct thread *t))
 {
+	static bool more;
 	uint64_t times;
 	pid_t process;
 	bool stop;
-	if (read(wake, &times, sizeof times) != sizeof times)
-		return;
-	while (link_order(&process, &stop)) {
+	int taken = 0;
+	if (read(wake, &times, sizeof times) != sizeof times && !more)
+		return false;
+	for (; taken < ORDERS && link_order(&process, &stop); taken++) {
 		struct thread *first = threads_find(process);
 		if (first && first->process == process)
 			obey(first, stop, call);
 	}
+	more = taken == ORDERS;
+	return more;
 }

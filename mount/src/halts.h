@@ -6,8 +6,9 @@
 
 /* The eventfd by which the server says that it has orders. */
 void halts_begin(int wake);
-/* Takes the orders that are there. A thread that stands before a call is let go by `call`. */
-void halts_take_orders(void (*call)(struct thread *t));
+/* Takes some of the orders that are there; true where there may be more. A thread that stands before a call is let go by
+   `call`. */
+bool halts_take_orders(void (*call)(struct thread *t));
 /* At a stop: whether the thread stays there. */
 bool halts_keeps(struct thread *t, enum rest how);
 /* The thread has come to another stop. */

@@ -10,7 +10,7 @@
 
 struct memory_reply {
 	unsigned long ticket;
-	bool read;
+	int fault; /* 0, or the -errno of the call */
 	struct clone_args args;
 };
 

@@ -6,11 +6,13 @@
 #include "spaces.h"
 #include <errno.h>
 #include <pthread.h>
+#include <signal.h>
 #include <stdint.h>
 #include <stdio.h>
 #include <stddef.h>
 #include <string.h>
 #include <sys/socket.h>
+#include <sys/time.h>
 #include <unistd.h>
 
 enum what { RESERVE, BORN, CANCEL, EXITED, STOPPED, ORDER, SPACE };
@@ -90,10 +92,27 @@ bool link_answer(int end)
 }
 
 static int server = -1;
+static pid_t server_process;
 
-void link_use(int end)
+void link_use(int end, pid_t process)
 {
+	struct timeval patience = { 0, 20000 };
 	server = end;
+	server_process = process;
+	setsockopt(end, SOL_SOCKET, SO_RCVTIMEO, &patience, sizeof patience);
+}
+
+/* The program may stop the server, which is its user's: it is continued then. */
+static bool hear(struct reply *r)
+{
+	for (;;) {
+		ssize_t n = recv(server, r, sizeof *r, 0);
+		if (n == sizeof *r)
+			return true;
+		if (n >= 0 || (errno != EAGAIN && errno != EINTR))
+			return false;
+		kill(server_process, SIGCONT);
+	}
 }
 
 /* Where there is no answer, the one that lets nothing happen is given. */
@@ -102,8 +121,7 @@ static void ask(struct question *q, const char *group, struct reply *r)
 	q->elsewhere = group != NULL;
 	snprintf(q->group, sizeof q->group, "%s", group ? group : "");
 	size_t size = offsetof(struct question, group) + strlen(q->group) + 1;
-	if (server >= 0 && send(server, q, size, MSG_NOSIGNAL) == (ssize_t)size &&
-	    recv(server, r, sizeof *r, 0) == sizeof *r)
+	if (server >= 0 && send(server, q, size, MSG_NOSIGNAL) == (ssize_t)size && hear(r))
 		return;
 	server = -1;
 	*r = (struct reply){ .result = -EAGAIN };

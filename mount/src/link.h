@@ -10,8 +10,8 @@
 bool link_make(int ends[2]);
 /* The server's side: a thread that answers until the other end closes, and then ends this process. */
 bool link_answer(int end);
-/* The supervisor's side. */
-void link_use(int end);
+/* The supervisor's side; `process` is the server. */
+void link_use(int end, pid_t process);
 /* 0 and a reservation, or the negated errno by which the process may not fork (into a group, where that is not NULL).
    Where the server has died nothing may fork. */
 int link_reserve(pid_t parent, const char *group, unsigned *reservation);

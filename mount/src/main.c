@@ -9,7 +9,7 @@
 
 static const char help[] =
 	"makhloeum mount DIR [--trace FILE] [--answers FILE] [--extra] [--keep LIST] [--adopt] [--control] [--foreground]\n"
-	"makhloeum run [--trace FILE] [--answers FILE] [--keep LIST] [--control] [--root] [--] PROGRAM ARGS..\n"
+	"makhloeum run [--trace FILE] [--answers FILE] [--keep LIST] [--control] [--root] [--users] [--] PROGRAM ARGS..\n"
 	"makhloeum view TRACE [-o PAGE.html]\n"
 	"makhloeum tree DIR [--watch]\n"
 	"makhloeum check DIR\n"
@@ -36,6 +36,7 @@ static const char help[] =
 	"                  mount has fork and exit alone, a run has no such directory, and neither keeps a history\n"
 	"  --foreground    mount stays in the foreground\n"
 	"  --root          PROGRAM sees itself as the superuser\n"
+	"  --users         PROGRAM has all users and groups of the caller, who is the superuser, and not just his own\n"
 	"\n"
 	"The status of run is that of PROGRAM (128 and the signal where one ended it). It is 2 on a bad command line and where\n"
 	"the machine does not allow what is needed, which one sentence then names.\n";
@@ -65,6 +66,7 @@ static int read_options(int argc, char **argv, int at, struct wishes *w)
 		{ "--trace", NULL, &w->trace },       { "--answers", NULL, &w->answers }, { "--extra", &w->extra, NULL },
 		{ "--adopt", &w->adopt, NULL },       { "--control", &w->control, NULL },
 		{ "--foreground", &w->foreground, NULL }, { "--root", &w->as_root, NULL }, { "--keep", NULL, &w->keep },
+		{ "--users", &w->users, NULL },
 	};
 	size_t i, count = sizeof options / sizeof *options;
 	for (; at < argc && argv[at][0] == '-'; at++) {
@@ -96,9 +98,9 @@ int main(int argc, char **argv)
 	int at = read_options(argc, argv, 2, &w);
 	if (strcmp(argv[1], "run") == 0)
 		return at < 0 || at == argc || w.adopt || w.foreground ? bad() : run_program(argv + at, &w);
-	if (at < 0 || at == argc || w.as_root)
+	if (at < 0 || at == argc || w.as_root || w.users)
 		return bad();
 	const char *directory = argv[at];
 	at = read_options(argc, argv, at + 1, &w);
-	return at != argc || w.as_root ? bad() : mount_directory(directory, &w);
+	return at != argc || w.as_root || w.users ? bad() : mount_directory(directory, &w);
 }

@@ -11,6 +11,7 @@
 #include <sched.h>
 #include <string.h>
 #include <sys/ioctl.h>
+#include <sys/prctl.h>
 #include <sys/stat.h>
 #include <sys/syscall.h>
 #include <sys/wait.h>
@@ -46,7 +47,7 @@ static bool has_capability(pid_t thread, int which)
 {
 	char path[40], line[256];
 	unsigned long long bits = 0;
-	snprintf(path, sizeof path, "/proc/%d/status", thread);
+	snprintf(path, sizeof path, "%d/status", thread);
 	cleanup_stream FILE *f = fopen(path, "re");
 	while (f && fgets(line, sizeof line, f))
 		if (strncmp(line, "CapEff:", 7) == 0)
@@ -57,7 +58,7 @@ static bool has_capability(pid_t thread, int which)
 static int open_space(pid_t thread, const char *which)
 {
 	char path[48];
-	snprintf(path, sizeof path, "/proc/%d/ns/%s", thread, which);
+	snprintf(path, sizeof path, "%d/ns/%s", thread, which);
 	return open(path, O_RDONLY | O_CLOEXEC);
 }
 
@@ -65,7 +66,7 @@ static bool is_own(int space, const char *which)
 {
 	char path[48];
 	struct stat st, own;
-	snprintf(path, sizeof path, "/proc/self/ns/%s", which);
+	snprintf(path, sizeof path, "self/ns/%s", which);
 	return fstat(space, &st) == 0 && stat(path, &own) == 0 && st.st_ino == own.st_ino;
 }
 
@@ -77,6 +78,7 @@ static int attach(int tree, int target, int users, int mounts)
 	bool enters = !is_own(users, "user");
 	pid_t pid = fork();
 	if (pid == 0) {
+		prctl(PR_SET_PDEATHSIG, SIGKILL);
 		if ((enters && setns(users, CLONE_NEWUSER)) || setns(mounts, CLONE_NEWNS) ||
 		    syscall(SYS_move_mount, tree, "", target, "", MOVE_MOUNT_F_EMPTY_PATH | MOVE_MOUNT_T_EMPTY_PATH))
 			_exit(errno);

@@ -18,10 +18,10 @@ bool opening_same_numbers(pid_t a, pid_t b)
 {
 	char path[40];
 	struct stat one, other;
-	snprintf(path, sizeof path, "/proc/%d/ns/pid", a);
+	snprintf(path, sizeof path, "%d/ns/pid", a);
 	if (stat(path, &one))
 		return false;
-	snprintf(path, sizeof path, "/proc/%d/ns/pid", b);
+	snprintf(path, sizeof path, "%d/ns/pid", b);
 	return stat(path, &other) == 0 && one.st_ino == other.st_ino && one.st_dev == other.st_dev;
 }
 
@@ -29,7 +29,7 @@ bool opening_same_numbers(pid_t a, pid_t b)
 static pid_t status_number(pid_t pid, const char *key)
 {
 	char path[40], line[256];
-	snprintf(path, sizeof path, "/proc/%d/status", pid);
+	snprintf(path, sizeof path, "%d/status", pid);
 	cleanup_stream FILE *f = fopen(path, "re");
 	while (f && fgets(line, sizeof line, f))
 		if (strncmp(line, key, strlen(key)) == 0) {
@@ -45,12 +45,21 @@ pid_t opening_process_of(pid_t thread)
 	return status_number(thread, "Tgid:");
 }
 
+/* The helper asks: its parent is the supervisor, whose other children it traces, but for those that are of makhloeum. In
+   another namespace of numbers none of them has one. */
+bool opening_is_own(pid_t thread, pid_t number)
+{
+	if (!opening_same_numbers(thread, getpid()))
+		return false;
+	return opening_process_of(number) == getppid() || (status_number(number, "PPid:") == getppid() && status_number(number, "TracerPid:") == 0);
+}
+
 pid_t opening_seen_from(pid_t thread, pid_t number)
 {
 	struct dirent *entry;
 	if (opening_same_numbers(thread, getpid()))
 		return status_number(number, "Tgid:");
-	cleanup_directory DIR *all = opendir("/proc");
+	cleanup_directory DIR *all = opendir(".");
 	while (all && (entry = readdir(all))) {
 		pid_t pid = (pid_t)strtol(entry->d_name, NULL, 10);
 		if (pid > 0 && status_number(pid, "NStgid:") == number && opening_same_numbers(pid, thread))
@@ -72,7 +81,7 @@ struct walk {
 static int open_of(pid_t thread, const char *what)
 {
 	char path[64];
-	snprintf(path, sizeof path, "/proc/%d/%s", thread, what);
+	snprintf(path, sizeof path, "%d/%s", thread, what);
 	return open(path, O_PATH | O_CLOEXEC);
 }
 
@@ -137,7 +146,7 @@ static bool is_own_proc(int fd)
 {
 	struct statx st, own;
 	return statx(fd, "", AT_EMPTY_PATH | AT_STATX_DONT_SYNC, STATX_INO, &st) == 0 &&
-	       statx(AT_FDCWD, "/proc", AT_STATX_DONT_SYNC, STATX_INO, &own) == 0 && st.stx_dev_major == own.stx_dev_major &&
+	       statx(AT_FDCWD, ".", AT_STATX_DONT_SYNC, STATX_INO, &own) == 0 && st.stx_dev_major == own.stx_dev_major &&
 	       st.stx_dev_minor == own.stx_dev_minor;
 }
 
@@ -160,7 +169,7 @@ static int take_descriptor(int directory, const char *name)
 {
 	char link[40], path[64];
 	int end = 0, process = 0;
-	snprintf(link, sizeof link, "/proc/self/fd/%d", directory);
+	snprintf(link, sizeof link, "self/fd/%d", directory);
 	ssize_t n = readlink(link, path, sizeof path - 1);
 	path[n < 0 ? 0 : n] = 0;
 	if (!is_own_proc(directory) || sscanf(path, "/proc/%d/fd%n", &process, &end) != 1 || !end || path[end])

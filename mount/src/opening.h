@@ -14,6 +14,8 @@ int opening_of_descriptor(pid_t thread, int fd);
 bool opening_same_numbers(pid_t a, pid_t b);
 /* The process of a thread here. */
 pid_t opening_process_of(pid_t thread);
+/* Whether the number, as the asking thread sees it, is that of a thread of makhloeum. */
+bool opening_is_own(pid_t thread, pid_t number);
 /* The process here that has this number, or a thread with it, where the asking thread is. */
 pid_t opening_seen_from(pid_t thread, pid_t number);
 

@@ -67,11 +67,12 @@ static void put_info(FILE *out, const char *line, const char *root)
 /* One line of a table: the mount as the kernel would show a cgroup2 one; the machine's own are left out. */
 static void put_mount(FILE *out, char *line, const char *what, const char *root)
 {
-	char place[LONG], type[64];
+	char place[LONG], type[64], source[64];
 	bool is_info = strcmp(what, "mountinfo") == 0, is_stats = strcmp(what, "mountstats") == 0;
 	char *tail = is_info ? strstr(line, " - ") : line;
 	if (!tail || !take_word(line, is_info || is_stats ? 4 : 1, place, sizeof place) ||
-	    !take_word(tail, is_info ? 1 : is_stats ? 7 : 2, type, sizeof type)) {
+	    !take_word(tail, is_info ? 1 : is_stats ? 7 : 2, type, sizeof type) ||
+	    !take_word(tail, is_info ? 2 : is_stats ? 1 : 0, source, sizeof source)) {
 		fputs(line, out);
 		return;
 	}
@@ -79,7 +80,7 @@ static void put_mount(FILE *out, char *line, const char *what, const char *root)
 		return;
 	if (strcmp(type, "tmpfs") == 0 && strcmp(place, cgroup_mount) == 0)
 		return;
-	if (strcmp(type, "fuse.cgroup2") != 0)
+	if (strcmp(type, "fuse.cgroup2") != 0 || strcmp(source, cgroup_source) != 0)
 		fputs(line, out);
 	else if (is_info) {
 		*tail = 0;
@@ -96,7 +97,7 @@ static int mounts_text(pid_t reader, pid_t pid, const char *what)
 	cleanup_free char *line = NULL;
 	size_t room = 0;
 	FILE *out;
-	snprintf(path, sizeof path, "/proc/%d/%s", pid, what);
+	snprintf(path, sizeof path, "%d/%s", pid, what);
 	cleanup_stream FILE *in = fopen(path, "re");
 	int fd = in ? new_text(what, &out) : -1;
 	if (fd < 0)
@@ -142,7 +143,7 @@ int procfiles_text(pid_t thread, int file)
 	struct statfs st;
 	if (fstatfs(file, &st) || st.f_type != PROC_SUPER_MAGIC)
 		return -1;
-	snprintf(link, sizeof link, "/proc/self/fd/%d", file);
+	snprintf(link, sizeof link, "self/fd/%d", file);
 	ssize_t n = readlink(link, path, sizeof path - 1);
 	if (n <= 0)
 		return -1;
@@ -151,14 +152,11 @@ int procfiles_text(pid_t thread, int file)
 	if (!is_number(who))
 		return strcmp(what, "cgroups") == 0
 		       ? constant_text(what, "#subsys_name\thierarchy\tnum_cgroups\tenabled\npids\t0\t1\t1\n") : -1;
+	bool is_group = strcmp(what, "cgroup") == 0, is_cpuset = strcmp(what, "cpuset") == 0;
+	if (!is_group && !is_cpuset && strcmp(what, "mounts") != 0 && strcmp(what, "mountinfo") != 0 && strcmp(what, "mountstats") != 0)
+		return -1;
 	pid_t pid = opening_seen_from(thread, (pid_t)strtol(who, NULL, 10));
 	if (pid <= 0)
 		return -1;
-	if (strcmp(what, "cgroup") == 0)
-		return cgroup_text(thread, pid);
-	if (strcmp(what, "cpuset") == 0)
-		return constant_text(what, "/\n");
-	if (strcmp(what, "mounts") == 0 || strcmp(what, "mountinfo") == 0 || strcmp(what, "mountstats") == 0)
-		return mounts_text(thread, pid, what);
-	return -1;
+	return is_group ? cgroup_text(thread, pid) : is_cpuset ? constant_text(what, "/\n") : mounts_text(thread, pid, what);
 }

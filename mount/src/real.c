@@ -71,7 +71,7 @@ pid_t real_process_of(pid_t thread)
 {
 	char path[40], said[64];
 	int process = thread;
-	snprintf(path, sizeof path, "/proc/%d/status", thread);
+	snprintf(path, sizeof path, "%d/status", thread);
 	FILE *f = fopen(path, "re");
 	if (!f)
 		return thread;
@@ -142,7 +142,7 @@ static bool is_child_of(pid_t child, pid_t parent)
 {
 	char path[40], said[64];
 	int found = 0;
-	snprintf(path, sizeof path, "/proc/%d/status", child);
+	snprintf(path, sizeof path, "%d/status", child);
 	cleanup_stream FILE *f = fopen(path, "re");
 	while (f && fgets(said, sizeof said, f))
 		if (sscanf(said, "PPid: %d", &found) == 1)
@@ -170,10 +170,10 @@ static void adopt_children(pid_t pid)
 	cleanup_free char *text = NULL;
 	size_t room = 0;
 	struct dirent *thread;
-	snprintf(path, sizeof path, "/proc/%d/task", pid);
+	snprintf(path, sizeof path, "%d/task", pid);
 	cleanup_directory DIR *threads = opendir(path);
 	while (threads && (thread = readdir(threads))) {
-		snprintf(path, sizeof path, "/proc/%d/task/%s/children", pid, thread->d_name);
+		snprintf(path, sizeof path, "%d/task/%s/children", pid, thread->d_name);
 		cleanup_stream FILE *f = thread->d_name[0] == '.' ? NULL : fopen(path, "re");
 		if (!f || getdelim(&text, &room, 0, f) <= 0)
 			continue;

@@ -7,6 +7,7 @@
 #include "watch.h"
 #include "zombies.h"
 #include <errno.h>
+#include <makhloeum.h>
 #include <stdio.h>
 #include <stdlib.h>
 #include <string.h>
@@ -93,16 +94,12 @@ static long reserved_below(const char *top)
    made. */
 static int is_full(const char *group, long coming)
 {
-	size_t size;
-	int fault = engine_look("cat %s pids.max", group);
-	if (fault)
+	uint64_t most, count;
+	int fault = engine_limit(group, &most);
+	if (fault || most == MK_NO_LIMIT)
 		return fault;
-	const char *text = engine_text(&size);
-	if (size && text[0] == 'm')
-		return 0;
-	long most = strtol(text, NULL, 10);
-	fault = engine_look("cat %s pids.current", group);
-	return fault ? fault : strtol(engine_text(&size), NULL, 10) + coming + 1 > most;
+	fault = engine_current(group, &count);
+	return fault ? fault : count + (uint64_t)coming + 1 > most;
 }
 
 static int is_any_full(const char *group, bool with_reserved)
@@ -305,10 +302,8 @@ void reported_kill_reserved(const char *group)
 
 static long count_below(const char *group)
 {
-	size_t size;
-	if (engine_look("cat %s pids.current", group))
-		return -1;
-	return strtol(engine_text(&size), NULL, 10);
+	uint64_t count;
+	return engine_current(group, &count) ? -1 : (long)count;
 }
 
 const char *reported_text(const char *group, const struct file *file, const char *text, size_t *size)

@@ -26,7 +26,7 @@
 #include <sys/wait.h>
 #include <unistd.h>
 
-enum { REFUSED_HERE = 2, NOT_EXECUTABLE = 126, NOT_FOUND = 127, KILLED = 128, PATIENCE = 200 };
+enum { REFUSED_HERE = 2, NOT_EXECUTABLE = 126, NOT_FOUND = 127, KILLED = 128, PATIENCE = 200, SIGNALS = 16 };
 
 /* ---------------------------------------------------------------- the process that serves the mount */
 
@@ -43,7 +43,7 @@ static pid_t start_server(int connection, const int ends[2])
 	close(ends[0]);
 	setsid();
 	snprintf(where, sizeof where, "/dev/fd/%d", connection);
-	if (!link_answer(ends[1]))
+	if (!space_stand_in_proc() || !link_answer(ends[1]))
 		_exit(1);
 	exit(serve(where, nothing));
 }
@@ -109,11 +109,11 @@ static void become(char **program, int control, const sigset_t *signals)
 
 /* ---------------------------------------------------------------- the supervisor */
 
-/* Passes a signal on that was meant for the program. */
+/* Passes signals on that were meant for the program: some at a time, since the program may send them too. */
 static void pass_on(int signals, pid_t program)
 {
 	struct signalfd_siginfo one;
-	while (read(signals, &one, sizeof one) == sizeof one)
+	for (int i = 0; i < SIGNALS && read(signals, &one, sizeof one) == sizeof one; i++)
 		if (one.ssi_signo == SIGTERM || one.ssi_signo == SIGHUP || (one.ssi_signo == SIGINT && one.ssi_code != SI_KERNEL))
 			kill(program, (int)one.ssi_signo);
 }
@@ -143,7 +143,7 @@ static int watch_over(const struct ears *ears, pid_t program)
 		if (tracer_has_ended(&status))
 			break;
 		hear_helper();
-		tracer_obey();
+		more |= tracer_obey();
 		int next = births_give_up();
 		if (poll(from, sizeof from / sizeof *from, more ? 0 : next) < 0 && errno != EINTR)
 			break;
@@ -175,18 +175,25 @@ static int supervise(char **program, const sigset_t *before, int signals, int li
 {
 	int control[2];
 	char why[160];
-	if (socketpair(AF_UNIX, SOCK_STREAM | SOCK_CLOEXEC, 0, control))
-		return 1;
+	if (socketpair(AF_UNIX, SOCK_STREAM | SOCK_CLOEXEC, 0, control)) {
+		say("this machine does not allow a socket: %s", strerror(errno));
+		return REFUSED_HERE;
+	}
 	/* what the program leaves without a parent is waited for here, and not by the machine's first process */
 	prctl(PR_SET_CHILD_SUBREAPER, 1, 0, 0, 0);
 	pid_t pid = fork();
-	if (pid == 0)
+	if (pid == 0) {
+		close(control[0]); /* or it would wait for ever where the supervisor is killed */
 		become(program, control[1], before);
+	}
 	close(control[1]);
 	char there;
-	if (pid < 0 || read(control[0], &there, 1) != 1 || !tracer_hold(pid)) {
-		snprintf(why, sizeof why, "this machine does not allow a process to be traced: %s", strerror(errno));
-		return pid < 0 ? REFUSED_HERE : give_up(pid, why);
+	if (!space_stand_in_proc() || pid < 0 || read(control[0], &there, 1) != 1 || !tracer_hold(pid)) {
+		snprintf(why, sizeof why, "this machine does not allow a process %s: %s", pid < 0 ? "more" : "to be traced", strerror(errno));
+		if (pid >= 0)
+			return give_up(pid, why);
+		say("%s", why);
+		return REFUSED_HERE;
 	}
 	int listener = write(control[0], "", 1) == 1 ? receive_listener(control[0]) : -1;
 	int helper = listener < 0 ? -1 : helper_start(listener);
@@ -207,6 +214,7 @@ static void end_server(pid_t server, int end)
 	for (int i = 0; i < PATIENCE; i++) {
 		if (waitpid(server, &status, WNOHANG))
 			return;
+		kill(server, SIGCONT);
 		usleep(10000);
 	}
 	kill(server, SIGKILL);
@@ -237,15 +245,17 @@ int run_program(char **program, const struct wishes *asked)
 	}
 	if (!serve_prepare(&wishes))
 		return REFUSED_HERE;
-	if (!space_enter(wishes.as_root))
+	if (!space_enter(&wishes))
 		return REFUSED_HERE;
 	look.uid = geteuid();
 	look.gid = getegid();
 	look.marked = true;
 	hide(true);
 	real_are_reported();
-	if (!watch_begin(cgroup_mount, false) || !link_make(ends) || !freezer_begin(&freezer))
-		return 1;
+	if (!watch_begin(cgroup_mount, false) || !link_make(ends) || !freezer_begin(&freezer)) {
+		say("this machine does not allow a process or a descriptor more: %s", strerror(errno));
+		return REFUSED_HERE;
+	}
 	int connection = space_mount();
 	if (connection < 0)
 		return REFUSED_HERE;
@@ -254,8 +264,10 @@ int run_program(char **program, const struct wishes *asked)
 	close(ends[1]);
 	watch_leave();
 	engine_end();
-	if (server < 0)
-		return 1;
+	if (server < 0) {
+		say("this machine does not allow a process more: %s", strerror(errno));
+		return REFUSED_HERE;
+	}
 	sigemptyset(&held);
 	sigaddset(&held, SIGCHLD);
 	sigaddset(&held, SIGTERM);
@@ -264,7 +276,7 @@ int run_program(char **program, const struct wishes *asked)
 	sigprocmask(SIG_BLOCK, &held, &before);
 	signal(SIGQUIT, SIG_IGN);
 	int signals = signalfd(-1, &held, SFD_CLOEXEC | SFD_NONBLOCK);
-	link_use(ends[0]);
+	link_use(ends[0], server);
 	/* until it is asked for once, the kernel takes the mount's root for nobody's, where nothing may be made */
 	int status = 1;
 	if (stat(cgroup_mount, &(struct stat){ 0 }))

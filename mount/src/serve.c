@@ -6,11 +6,13 @@
 #include "watch.h"
 #include <errno.h>
 #include <fcntl.h>
+#include <fuse3/fuse_log.h>
 #include <fuse3/fuse_lowlevel.h>
 #include <limits.h>
 #include <linux/fuse.h>
 #include <signal.h>
 #include <stdarg.h>
+#include <stdatomic.h>
 #include <stdio.h>
 #include <stdlib.h>
 #include <string.h>
@@ -121,10 +123,21 @@ static bool use_own_io(struct fuse_session *session)
 }
 #endif
 
+/* Where no more threads may be made libfuse says so for each that it wants: it goes on with those that it has. */
+static void say_for_fuse(enum fuse_log_level level, const char *format, va_list words)
+{
+	static atomic_flag said = ATOMIC_FLAG_INIT;
+	(void)level;
+	if (strstr(format, "error creating thread") && atomic_flag_test_and_set(&said))
+		return;
+	vfprintf(stderr, format, words);
+}
+
 /* Answers until the mount is taken away, or cannot begin to. */
 static int answer(struct fuse *fuse, void (*ready)(void))
 {
 	struct fuse_session *session = fuse_get_session(fuse);
+	fuse_set_log_func(say_for_fuse);
 	if (!use_own_io(session) || fuse_set_signal_handlers(session)) {
 		say("the file system cannot be answered for: %s", strerror(errno));
 		return -EIO;
@@ -222,7 +235,7 @@ int mount_directory(const char *directory, const struct wishes *wishes)
 		say("no process can be had");
 		return 1;
 	}
-	if (chdir("/"))
+	if (chdir("/proc") && chdir("/"))
 		return 1;
 	return serve(whole, tell_starter);
 }

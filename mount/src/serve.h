@@ -8,7 +8,7 @@
 struct wishes {
 	const char *trace, *answers; /* files that are written anew, or NULL */
 	const char *keep;            /* the controllers whose files are kept, or NULL */
-	bool extra, adopt, control, foreground, as_root;
+	bool extra, adopt, control, foreground, as_root, users;
 };
 
 /* Opens the files to keep, and makes the engine. False: a sentence was said. */

@@ -1,14 +1,21 @@
 #include "space.h"
+#include "cleanup.h"
 #include "serve.h"
 #include <errno.h>
 #include <fcntl.h>
+#include <linux/mount.h>
 #include <sched.h>
 #include <stdio.h>
 #include <string.h>
 #include <sys/mount.h>
+#include <sys/syscall.h>
+#include <sys/wait.h>
 #include <unistd.h>
 
-const char cgroup_mount[] = "/sys/fs/cgroup";
+/* The kernel takes less than a page of text; two lines are shorter than TWO_LINES. */
+enum { MAP_SIZE = 4096, TWO_LINES = 80 };
+
+const char cgroup_mount[] = "/sys/fs/cgroup", cgroup_source[] = "cgroup2";
 
 static bool put(const char *file, const char *text)
 {
@@ -22,13 +29,70 @@ static bool put(const char *file, const char *text)
 	return done;
 }
 
-bool space_enter(bool as_root)
+/* With the map of one user, which a process writes for itself; the numbers are taken before it is nobody there. */
+static bool enter_alone(bool as_root)
 {
 	char users[64], groups[64];
 	snprintf(users, sizeof users, "%u %u 1\n", as_root ? 0 : geteuid(), geteuid());
 	snprintf(groups, sizeof groups, "%u %u 1\n", as_root ? 0 : getegid(), getegid());
-	if (unshare(CLONE_NEWUSER | CLONE_NEWNS) || !put("/proc/self/setgroups", "deny") || !put("/proc/self/uid_map", users) ||
-	    !put("/proc/self/gid_map", groups) || mount("none", "/", NULL, MS_REC | MS_PRIVATE, NULL)) {
+	return unshare(CLONE_NEWUSER | CLONE_NEWNS) == 0 && put("/proc/self/setgroups", "deny") && put("/proc/self/uid_map", users) &&
+	       put("/proc/self/gid_map", groups);
+}
+
+/* Gives a process the numbers that this one has, each as itself. 0 has a line of its own: a map of one line with all numbers
+   is how programs know the machine's first user namespace, where they expect to be allowed more. */
+static bool map_all(pid_t pid, const char *which)
+{
+	char path[40], text[MAP_SIZE] = "";
+	unsigned inside, outside, count;
+	size_t size = 0;
+	snprintf(path, sizeof path, "/proc/self/%s", which);
+	cleanup_stream FILE *own = fopen(path, "re");
+	while (own && fscanf(own, "%u %u %u", &inside, &outside, &count) == 3 && size < sizeof text - TWO_LINES) {
+		if (inside == 0 && count > 1) {
+			size += (size_t)sprintf(text + size, "0 0 1\n");
+			inside++;
+			count--;
+		}
+		size += (size_t)sprintf(text + size, "%u %u %u\n", inside, inside, count);
+	}
+	snprintf(path, sizeof path, "/proc/%d/%s", pid, which);
+	return own && feof(own) && put(path, text);
+}
+
+/* Only a process outside may write maps of several users: so one is left outside, and writes once the namespace is there. */
+static bool enter_with_all(void)
+{
+	int is_in[2], status = 0;
+	char byte = 0;
+	pid_t self = getpid();
+	if (pipe2(is_in, O_CLOEXEC))
+		return false;
+	pid_t writer = fork();
+	if (writer == 0) {
+		close(is_in[1]);
+		if (read(is_in[0], &byte, 1) == 1 && map_all(self, "uid_map") && map_all(self, "gid_map"))
+			_exit(0);
+		_exit(errno ? errno : EINVAL);
+	}
+	bool entered = writer > 0 && unshare(CLONE_NEWUSER | CLONE_NEWNS) == 0 && write(is_in[1], &byte, 1) == 1;
+	int fault = errno;
+	close(is_in[0]);
+	close(is_in[1]);
+	while (writer > 0 && waitpid(writer, &status, 0) < 0 && errno == EINTR)
+		;
+	errno = !entered ? fault : WIFEXITED(status) ? WEXITSTATUS(status) : EIO;
+	return errno == 0;
+}
+
+bool space_enter(const struct wishes *wishes)
+{
+	if (wishes->users && geteuid()) {
+		say("--users is for the superuser, of this machine or of a user namespace: unshare --map-root-user --map-auto makes one");
+		return false;
+	}
+	bool entered = wishes->users ? enter_with_all() : enter_alone(wishes->as_root);
+	if (!entered || mount("none", "/", NULL, MS_REC | MS_PRIVATE, NULL)) {
 		say("this machine does not allow user namespaces: %s", strerror(errno));
 		return false;
 	}
@@ -46,10 +110,16 @@ int space_mount(void)
 		return -1;
 	}
 	snprintf(words, sizeof words, "fd=%d,rootmode=40000,user_id=%u,group_id=%u,allow_other", fd, geteuid(), getegid());
-	if (mount("makhloeum", cgroup_mount, "fuse.cgroup2", MS_NOSUID | MS_NODEV | MS_NOEXEC, words)) {
+	if (mount(cgroup_source, cgroup_mount, "fuse.cgroup2", MS_NOSUID | MS_NODEV | MS_NOEXEC, words)) {
 		say("this machine does not allow FUSE: no mount on %s: %s", cgroup_mount, strerror(errno));
 		close(fd);
 		return -1;
 	}
 	return fd;
+}
+
+bool space_stand_in_proc(void)
+{
+	cleanup_fd int proc = (int)syscall(SYS_open_tree, AT_FDCWD, "/proc", OPEN_TREE_CLONE | OPEN_TREE_CLOEXEC | AT_RECURSIVE);
+	return proc < 0 ? chdir("/proc") == 0 : fchdir(proc) == 0;
 }

@@ -52,6 +52,6 @@ unsigned spaces_of(pid_t thread)
 {
 	char path[48];
 	struct stat st;
-	snprintf(path, sizeof path, "/proc/%d/ns/cgroup", thread);
+	snprintf(path, sizeof path, "%d/ns/cgroup", thread);
 	return stat(path, &st) ? 0 : (unsigned)st.st_ino;
 }

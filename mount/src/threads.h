@@ -20,7 +20,8 @@ struct thread {
 	struct birth *makes;  /* the call by which it is making another */
 	struct birth *made_by; /* until it has left its first stop */
 	bool frozen;           /* it stays at its next stop */
-	bool unshares;         /* it makes a cgroup namespace */
+	bool unshares;         /* it asks for a cgroup namespace, and has been in that of `space` */
+	unsigned space;
 	enum rest rest;
 	pid_t vforked_by;
 	/* of the first thread of a process: how many there are, how many of them rest, and whether the server was told that all do */

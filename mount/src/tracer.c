@@ -45,6 +45,7 @@ static void on_call(struct thread *t)
 		return;
 	if (call.seccomp.nr == SYS_unshare) { /* what it made is looked at behind the call */
 		t->unshares = true;
+		t->space = spaces_of(t->id);
 		ptrace(PTRACE_SYSCALL, t->id, 0, 0);
 	} else if (births_is_fork((long)call.seccomp.nr))
 		births_ask(t, (long)call.seccomp.nr);
@@ -95,6 +96,15 @@ static void on_pause(pid_t id, int signal)
 		ptrace(PTRACE_CONT, id, 0, 0);
 }
 
+/* A call that failed has made none. */
+static void on_unshared(struct thread *t)
+{
+	unsigned space = t->unshares ? spaces_of(t->id) : 0;
+	if (space && space != t->space)
+		link_space(space, t->process);
+	t->unshares = false;
+}
+
 static void on_stop_of(pid_t id, struct thread *t, int status)
 {
 	int event = status >> 8, signal = status & 0x7f;
@@ -121,17 +131,29 @@ static void on_stop_of(pid_t id, struct thread *t, int status)
 	}
 	if (status == (SIGTRAP | 0x80)) {
 		births_returned(t);
-		if (t->unshares)
-			link_space(spaces_of(id), t->process);
-		t->unshares = false;
+		on_unshared(t);
 		ptrace(PTRACE_CONT, id, 0, 0);
 	} else
 		ptrace(PTRACE_CONT, id, 0, signal);
 }
 
+/* Between the look and the answer another thread of the process may have called execve: then its stop is behind this number,
+   and is met at the next look. */
+static bool stands_there(pid_t id, int status)
+{
+	siginfo_t now;
+	if (ptrace(PTRACE_GETSIGINFO, id, 0, &now))
+		return true;
+	if (status >> 8 || status == (SIGTRAP | 0x80))
+		return now.si_code == status;
+	return now.si_signo == status;
+}
+
 static void on_stop(pid_t id, int status)
 {
 	struct thread *t = threads_find(id);
+	if (!stands_there(id, status))
+		return;
 	if (t)
 		halts_moves(t);
 	on_stop_of(id, t, status);
@@ -171,7 +193,12 @@ static int take_next(size_t at)
 	if (waitid(P_ALL, 0, &next, WEXITED | WSTOPPED | WNOHANG | WNOWAIT | __WALL) || next.si_pid == 0)
 		return 0;
 	id_t id = (id_t)next.si_pid;
-	if (next.si_code == CLD_TRAPPED || next.si_code == CLD_STOPPED) {
+	if (next.si_code == CLD_STOPPED) { /* of makhloeum itself: the program has stopped it */
+		kill((pid_t)id, SIGCONT);
+		waitid(P_PID, id, &next, WSTOPPED | WNOHANG);
+		return -1;
+	}
+	if (next.si_code == CLD_TRAPPED) {
 		next.si_pid = 0; /* killed in between, it is met again as a death */
 		if (waitid(P_PID, id, &next, WSTOPPED | WNOHANG | __WALL) || next.si_pid == 0)
 			return -1;
@@ -199,9 +226,9 @@ bool tracer_look(void)
 	return count > 0 || taken != 0;
 }
 
-void tracer_obey(void)
+bool tracer_obey(void)
 {
-	halts_take_orders(on_call);
+	return halts_take_orders(on_call);
 }
 
 bool tracer_has_ended(int *status)

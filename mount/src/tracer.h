@@ -11,8 +11,8 @@ bool tracer_hold(pid_t program);
 /* Looks at what has happened: every stop and death that is there is taken first, and then each stop is answered once. False
    where nothing had happened. */
 bool tracer_look(void);
-/* Stops and lets go what the freezer says. */
-void tracer_obey(void);
+/* Stops and lets go what the freezer says; true where it says more than was done. */
+bool tracer_obey(void);
 /* True once the program has ended, with its wait status. */
 bool tracer_has_ended(int *status);
 /* Ends all that the program left behind. */

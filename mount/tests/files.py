@@ -189,6 +189,16 @@ def control():
         same("%s of %r" % (name, words), error_of(write, m.control(name), words.encode() + b"\n"), "EINVAL")
     same("as it was", read(m.control("depth")), b"0\n")
     same("an exit of nobody", error_of(write, m.control("exit"), b"2\n"), "ESRCH")
+    os.mkdir(m.path("a"))
+    write(m.path("a", "cgroup.procs"), b"1\n")
+    same("forget with a word", (error_of(write, m.control("forget"), b"1\n"), read(m.control("depth"))), ("EINVAL", b"2\n"))
+    write(m.control("forget"), b"\n")
+    same("nothing can be undone", (read(m.control("depth")), read(m.control("newest")), read(m.control("trace"))), (b"0\n", b"", b""))
+    same("an undo of what is forgotten", error_of(write, m.control("undo"), b"1\n"), "ENODATA")
+    same("the state has stayed", read(m.path("a", "cgroup.procs")), b"1\n")
+    write(m.control("fork"), b"1 2\n")
+    write(m.control("undo"), b"1\n")
+    same("what came later is undone", (read(m.path("a", "cgroup.procs")), read(m.control("depth"))), (b"1\n", b"0\n"))
     m.end()
 
 
@@ -197,7 +207,7 @@ def no_history():
     m = Mount(control=False)
     same("the control directory", sorted(os.listdir(m.path(".makhloeum"))), ["exit", "fork"])
     same("it is not listed", ".makhloeum" in os.listdir(m.at), False)
-    for name in ("undo", "depth", "newest", "trace"):
+    for name in ("undo", "forget", "depth", "newest", "trace"):
         same("no %s" % name, error_of(os.open, m.control(name), os.O_RDONLY), "ENOENT")
     write(m.control("fork"), b"1 2\n")
     same("a fork", read(m.path("cgroup.procs")), b"1\n2\n")

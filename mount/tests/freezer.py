@@ -102,10 +102,10 @@ class Counter:
         self.read()
         return until(lambda: self.read() != b"")
 
-    def rests(self):
+    def rests(self, seconds=0.2):
         """Whether nothing comes for a while."""
         self.read()
-        time.sleep(0.2)
+        time.sleep(seconds)
         return self.read() == b""
 
     def end(self):
@@ -228,7 +228,7 @@ def kinds():
             freeze(group, 1)
             if not until(lambda: frozen(AT + group) == FROZEN):
                 break
-            if not one.rests():
+            if not one.rests(0.05):  # each of them writes much more often
                 break
             freeze(group, 0)
             if not one.counts():

@@ -10,7 +10,7 @@ import sys
 import tempfile
 import time
 
-from support import CGREPLAY, PATIENCE, PROGRAM, error_of, finish, libc, read, same, step, until, write
+from support import CGREPLAY, PATIENCE, PROGRAM, error_of, finish, libc, read, same, status_within, step, until, write
 
 AT = "/sys/fs/cgroup"
 ME = os.path.realpath(__file__)
@@ -151,6 +151,8 @@ def texts():
     same("shows the group of now", os.pread(stays, 99, 0), b"0::/\n")
     into("/a")
     same("it ends where its text ends", (os.lseek(stays, 0, 0), os.read(stays, 99), os.read(stays, 99)), (0, b"0::/a\n", b""))
+    same("opened as if to create it", os.read(os.open("/proc/self/cgroup", os.O_RDONLY | os.O_CREAT), 99), b"0::/a\n")
+    same("opened to write too", error_of(os.open, "/proc/self/cgroup", os.O_RDWR), "EACCES")
     os.chdir("/proc/self")
     same("from /proc/self", error_text("cgroup"), "0::/a\n")
     os.chdir("/")
@@ -205,7 +207,7 @@ def taken_hold():
     if b"__asan_init" in open(PROGRAM, "rb").read():
         return  # a sanitizer needs ptrace
     ran = subprocess.run([PROGRAM, "run", "--root", sys.executable, "-c", HOLD], stdout=subprocess.PIPE, timeout=20)
-    same("no process of the supervisor is taken hold of", ran.stdout.split(), [b"EPERM", b"EACCES"] * 3)
+    same("neither supervisor, server, helper nor companion is taken hold of", ran.stdout.split(), [b"EPERM", b"EACCES"] * 4)
 
 
 def stalled():
@@ -219,7 +221,9 @@ def stalled():
     thread = __import__("threading").Thread(target=lambda: line.append(p.stdout.readline()), daemon=True)
     thread.start()
     thread.join(PATIENCE)
-    step("memory that can't be read stops nobody else", bool(line) and int(line[0] or 0) > 2, line)
+    numbers = [int(n) for n in line[0].split()] if line else []
+    step("memory that can't be read stops nobody else", bool(numbers) and numbers[0] > 2, line)
+    same("and no signal ends an open that waits for it", numbers[1:], [0])
     p.send_signal(signal.SIGTERM)
     started_at = time.monotonic()
     try:
@@ -245,12 +249,7 @@ for test in INSIDE:
     trace, answers = os.path.join(home, "trace"), os.path.join(home, "answers")
     p = subprocess.Popen([PROGRAM, "run", "--trace", trace, "--answers", answers, sys.executable, ME, "inside", test.__name__],
                          start_new_session=True)
-    try:
-        p.wait(100)
-    except subprocess.TimeoutExpired:
-        p.kill()
-        p.wait()
-    same("%s: its status" % test.__name__, p.returncode, 0)
+    same("%s: its status" % test.__name__, status_within(p, 100), 0)
     with open(trace) as lines, open(answers, "rb") as wanted:
         if os.path.getsize(trace) < 16 << 20:
             step("cgreplay gives the same answers", subprocess.run(CGREPLAY, stdin=lines, stdout=subprocess.PIPE).stdout == wanted.read())

@@ -5,7 +5,7 @@ import sys
 
 from support import PROGRAM, Mount, finish, same, step, write
 
-PAIRS, FORKS = 60000, 6000
+PAIRS, FORKS = 16000, 5000
 
 
 def resident(pid):
@@ -22,12 +22,13 @@ def of_mount():
             os.write(fork, b"1 2")
             os.write(leave, b"2")
 
-    pairs(PAIRS // 6)
-    before = resident(m.process.pid)
-    pairs(PAIRS)
-    grown = resident(m.process.pid) - before
-    print("  mount: %.1f bytes for each of %d forks and exits" % (grown / PAIRS, PAIRS))
-    step("a mount does not grow", grown < 12 * PAIRS, grown)
+    sizes, part = [], PAIRS // 4
+    for count in (PAIRS // 6, part, part, part, part):
+        pairs(count)
+        sizes.append(resident(m.process.pid))
+    grown = min(after - before for before, after in zip(sizes, sizes[1:]))  # on a busy machine more threads begin in some of them
+    print("  mount: %.1f bytes for each of %d forks and exits" % (grown / part, part))
+    step("a mount does not grow", grown < 12 * part, sizes)
     os.close(fork)
     os.close(leave)
     m.end()

@@ -2,6 +2,7 @@
 import ctypes
 import errno
 import os
+import re
 import shutil
 import signal
 import struct
@@ -11,7 +12,7 @@ import tempfile
 import threading
 import time
 
-from support import CGREPLAY, PATIENCE, PROGRAM, error_of, finish, libc, read, same, step, until, write
+from support import CGREPLAY, PATIENCE, PROGRAM, Mount, error_of, finish, libc, read, same, step, until, write
 
 AT = "/sys/fs/cgroup"
 ME = os.path.realpath(__file__)
@@ -205,28 +206,42 @@ def statuses():
     same("who it is", run("id", "-u").stdout, b"%d\n" % os.getuid())
     same("with --root", run("--root", "id", "-u").stdout, b"0\n")
     started = time.monotonic()
-    left = run("sh", "-c", "sleep 61 & exec setsid sleep 62 & true")
+    left = run("sh", "-c", "%s & exec setsid %s & true" % (SLEEPS[0], SLEEPS[1]))
     same("what it leaves behind", left.returncode, 0)
-    step("ends with it", time.monotonic() - started < 10 and not running("sleep 61") and not running("sleep 62"))
+    step("ends with it", time.monotonic() - started < 10 and not any(map(running, SLEEPS)))
+
+
+SLEEPS = ["sleep %d.%d" % (seconds, os.getpid()) for seconds in (61, 62, 63, 64, 65)]  # no other test has these
 
 
 def running(command):
     return subprocess.run(["pgrep", "-u", str(os.getuid()), "-f", "^" + command], stdout=-3).returncode == 0
 
 
+def beside():
+    """A mount of another program is what it is, and no part of the run."""
+    m = Mount()
+    lines = [x.split()[1:3] for x in run("cat", "/proc/mounts").stdout.decode().splitlines() if "cgroup2" in x]
+    same("two mounts", sorted(lines), sorted([[AT, "cgroup2"], [m.at, "fuse.cgroup2"]]))
+    lines = run("cat", "/proc/self/mountinfo").stdout.decode().splitlines()
+    same("one is of type cgroup2", sum(" - cgroup2 " in x for x in lines), 1)
+    m.end()
+
+
 def ends():
     """The supervisor or the server dies: nothing is left."""
     for which in ("supervisor", "server"):
-        p = subprocess.Popen([PROGRAM, "run", "sh", "-c", "sleep 63; sleep 64"], stderr=subprocess.DEVNULL)
-        until(lambda: running("sleep 63"))
-        pids = [p.pid] if which == "supervisor" else [c for c in children(p.pid) if name_of(c) == "makhloeum"]
+        p = subprocess.Popen([PROGRAM, "run", "sh", "-c", "%s; %s" % (SLEEPS[2], SLEEPS[3])], stderr=subprocess.DEVNULL)
+        until(lambda: running(SLEEPS[2]))
+        # the first that has threads
+        pids = [p.pid] if which == "supervisor" else [c for c in children(p.pid) if name_of(c) == "makhloeum" and len(os.listdir("/proc/%d/task" % c)) > 1]
         os.kill(pids[0], signal.SIGKILL)
         status = p.wait(PATIENCE)
         same("the %s is killed" % which, status, -9 if which == "supervisor" else 137)
-        step("its program goes with it", until(lambda: not running("sleep 63")))
-        step("and so does every other process", until(lambda: not running("[^ ]*makhloeum run sh")))
-    p = subprocess.Popen([PROGRAM, "run", "sleep", "65"])
-    until(lambda: running("sleep 65"))
+        step("its program goes with it", until(lambda: not running(SLEEPS[2])))
+        step("and so does every other process", until(lambda: not running(re.escape(PROGRAM + " run sh"))))
+    p = subprocess.Popen([PROGRAM, "run", *SLEEPS[4].split()])
+    until(lambda: running(SLEEPS[4]))
     p.terminate()
     same("SIGTERM is passed on", p.wait(PATIENCE), 143)
 
@@ -293,6 +308,6 @@ for test in INSIDE:
     with open(trace) as lines, open(answers, "rb") as wanted:
         step("cgreplay gives the same answers (%d lines)" % sum(1 for _ in open(trace)),
              subprocess.run(CGREPLAY, stdin=lines, stdout=subprocess.PIPE).stdout == wanted.read())
-for test in (statuses, ends, refused_here):
+for test in (statuses, beside, ends, refused_here):
     test()
 finish()

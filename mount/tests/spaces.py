@@ -74,6 +74,21 @@ grep " %s " /proc/self/mountinfo | cut -d ' ' -f 4-5""" % (where, where, where)
     step("of another", libc.syscall(number, b"tmpfs", 0) >= 0)
 
 
+def covered():
+    """Something else is mounted over /proc: a process with a mount namespace of its own sees the hierarchy as before."""
+    if b"__asan_init" in open(PROGRAM, "rb").read():
+        return  # a sanitizer reads /proc
+    os.mkdir(AT + "/a")
+    same("the superuser opens a text to write too", error_of(os.open, "/proc/self/cgroup", os.O_RDWR), "EACCES")
+    script = "echo 0 > %s/a/cgroup.procs; echo; read x; cat /proc/self/cgroup; grep -c ' - cgroup2 ' /proc/self/mountinfo" % AT
+    other = subprocess.Popen(["unshare", "-m", "sh", "-ec", script], stdin=subprocess.PIPE, stdout=subprocess.PIPE)
+    other.stdout.readline()
+    same("a mount over /proc", libc.mount(b"none", b"/proc", b"tmpfs", 0, None), 0)
+    same("another sees its group", other.communicate(b"\n")[0], b"0::/a\n1\n")
+    same("a thread that writes 0 moves its process", shell("python3 -c 'import threading; t = threading.Thread(target=lambda: "
+         "open(\"%s/a/cgroup.procs\", \"w\").write(\"0\")); t.start(); t.join()'" % AT), (0, "", ""))
+
+
 def mount(where):
     if libc.mount(b"none", where.encode(), b"cgroup2", 0, None):
         raise OSError(ctypes.get_errno(), "mount")
@@ -85,7 +100,7 @@ def unprivileged():
     same("then all is as before", read("/proc/self/cgroup"), b"0::/\n")
 
 
-INSIDE = (namespaces, mounts, unprivileged)
+INSIDE = (namespaces, mounts, covered, unprivileged)
 if sys.argv[1:2] == ["inside"]:
     {t.__name__: t for t in INSIDE}[sys.argv[2]]()
     finish()

@@ -6,6 +6,7 @@ import shutil
 import subprocess
 import sys
 import tempfile
+import threading
 import time
 
 PROGRAM = os.environ["MAKHLOEUM"]
@@ -130,3 +131,25 @@ class Mount:
 
 
 libc = ctypes.CDLL(None, use_errno=True)
+
+
+def status_within(process, seconds):
+    """The status of a process. One that takes longer is killed."""
+    try:
+        return process.wait(seconds)
+    except subprocess.TimeoutExpired:
+        process.kill()
+        return process.wait()
+
+
+def each_of_two(run, waiting):
+    """Calls `run` with each of the list, two at a time."""
+    def work():
+        while waiting:
+            run(waiting.pop(0))
+
+    workers = [threading.Thread(target=work) for _ in range(2)]
+    for worker in workers:
+        worker.start()
+    for worker in workers:
+        worker.join()

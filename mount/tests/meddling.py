@@ -1,0 +1,283 @@
+"""Programs under `makhloeum run` that meddle with the processes of makhloeum, and readers for whom something is short: the run
+goes on, and a reader sees the hierarchy."""
+import ctypes
+import errno
+import os
+import resource
+import select
+import signal
+import struct
+import subprocess
+import sys
+import threading
+import time
+
+from support import PATIENCE, PROGRAM, each_of_two, error_of, finish, libc, read, same, status_within, step, until, write
+
+AT = "/sys/fs/cgroup"
+ME = os.path.realpath(__file__)
+BUILT = os.environ.get("HOSTILE") or os.path.join(os.path.dirname(PROGRAM), "..", "hostile")
+READERS = os.path.join(BUILT, "readers")
+CLONE_NEWCGROUP = 0x02000000
+
+
+def into(group):
+    write(AT + group + "/cgroup.procs", b"0\n")
+
+
+def said(*words, program=READERS):
+    """What a program in /a prints, as numbers."""
+    ran = subprocess.run([program, *words], stdout=subprocess.PIPE, timeout=60, preexec_fn=lambda: into("/a"))
+    return [int(n) for n in ran.stdout.split()] or ran.returncode
+
+
+def tracer():
+    return int(next(x for x in open("/proc/self/status") if x.startswith("TracerPid:")).split()[1])
+
+
+def line_of(pid):
+    try:
+        return open("/proc/%d/cmdline" % pid, "rb").read()
+    except OSError:
+        return b""
+
+
+def own():
+    """The processes of makhloeum beside its supervisor: the server, the helper, and the one that tells inotify."""
+    line = line_of(tracer())
+    return [int(p) for p in os.listdir("/proc") if p.isdigit() and int(p) not in (tracer(), os.getpid()) and line_of(int(p)) == line]
+
+
+def forks(times=20):
+    """Whether so many forks and reads go on in time."""
+    end = time.monotonic() + PATIENCE
+    for _ in range(times):
+        pid = os.fork()
+        if pid == 0:
+            os._exit(read("/proc/self/cgroup") != b"0::/\n")
+        if os.waitpid(pid, 0)[1] or time.monotonic() > end:
+            return False
+    return True
+
+
+# ---------------------------------------------------------------- readers
+
+def unshares():
+    """A namespace that is not made changes the root of none."""
+    into("/a")
+    reader = subprocess.Popen(["sh", "-c", "read x; cat /proc/self/cgroup"], stdin=subprocess.PIPE, stdout=subprocess.PIPE)
+    same("unshare without privileges", (libc.unshare(CLONE_NEWCGROUP), ctypes.get_errno()), (-1, errno.EPERM))
+    same("another sees its group", reader.communicate(b"\n")[0], b"0::/a\n")
+    # a filter of its own sends unshare(0) to the supervisor
+    code = ctypes.create_string_buffer(struct.pack("HBBI" * 4, 0x20, 0, 0, 0, 0x15, 0, 1, 272 if os.uname().machine == "x86_64" else 97,
+                                                   6, 0, 0, 0x7FF00000, 6, 0, 0, 0x7FFF0000))
+    program = ctypes.create_string_buffer(struct.pack("HxxxxxxP", 4, ctypes.addressof(code)))
+    libc.prctl(38, 1, 0, 0, 0)
+    same("a filter of its own", libc.prctl(22, 2, program, 0, 0), 0)
+    same("it unshares nothing", libc.unshare(0), 0)
+    same("it sees its group", read("/proc/self/cgroup"), b"0::/a\n")
+
+
+def crowds():
+    same("two hundred readers at once", said("crowd", "200"), [0, 1])
+    same("readers that use up their descriptors", said("descriptors"), [0, 1])
+
+
+def unread():
+    """A program that nobody may read: the supervisor cannot read its memory either."""
+    same("it makes threads and children", said("threads", program=READERS + "-unread"), [0, 1])
+
+
+def writers():
+    """A thread writes 0: it is its process that moves."""
+    thread = threading.Thread(target=into, args=("/a",))
+    thread.start()
+    thread.join()
+    same("the process has moved", read(AT + "/a/cgroup.procs"), b"%d\n" % os.getpid())
+    os.mkdir(AT + "/a/b")
+    left = subprocess.Popen([sys.executable, "-c", "import ctypes, threading, time\nthreading.Thread(target=time.sleep, args=(30,)).start()\n"
+                             "ctypes.CDLL(None).syscall(%d, 0)" % (60 if os.uname().machine == "x86_64" else 93)])
+    step("one whose first thread has ended", until(lambda: open("/proc/%d/stat" % left.pid).read().split()[2] == "Z"))
+    same("is listed", b"%d\n" % left.pid in read(AT + "/a/cgroup.procs"), True)
+    same("and moves", error_of(write, AT + "/a/b/cgroup.procs", b"%d\n" % left.pid), "ok")
+    same("it is there", read(AT + "/a/b/cgroup.procs"), b"%d\n" % left.pid)
+    write(AT + "/a/b/cgroup.kill", b"1\n")
+    same("a kill ends it", left.wait(PATIENCE), -signal.SIGKILL)
+
+
+# ---------------------------------------------------------------- the processes of makhloeum
+
+def stopped():
+    """All but the supervisor are stopped, again and again."""
+    end = time.monotonic() + 1
+    while time.monotonic() < end:
+        for pid in own():
+            os.kill(pid, signal.SIGSTOP)
+        if not forks(2):
+            break
+    step("the others go on", forks())
+    for pid in own():
+        os.kill(pid, signal.SIGSTOP)
+
+
+def limited():
+    """Limits for the processes of makhloeum are not the program's to give."""
+    for pid in (*own(), tracer()):
+        for which in (resource.RLIMIT_NOFILE, resource.RLIMIT_NPROC, resource.RLIMIT_AS, resource.RLIMIT_CPU):
+            same("a limit %d" % which, error_of(resource.prlimit, pid, which, (0, 0)), "EPERM")
+    step("its limits can be read", len(resource.prlimit(tracer(), resource.RLIMIT_NOFILE)) == 2)
+    child = subprocess.Popen(["sleep", "60"])
+    resource.prlimit(child.pid, resource.RLIMIT_NOFILE, (20, 20))
+    same("a limit for another process", resource.prlimit(child.pid, resource.RLIMIT_NOFILE), (20, 20))
+    child.kill()
+    child.wait()
+    step("the others go on", forks())
+
+
+def flooded():
+    """Signals for the supervisor, as fast as they can be sent."""
+    signal.signal(signal.SIGHUP, signal.SIG_IGN)
+    supervisor = tracer()
+    floods = [os.fork() for _ in range(4)]
+    while 0 in floods:
+        os.kill(supervisor, signal.SIGHUP)
+        os.kill(supervisor, signal.SIGCHLD)
+    step("the others go on", forks(40))
+    for pid in floods:
+        os.kill(pid, signal.SIGKILL)
+        os.waitpid(pid, 0)
+
+
+def untold():
+    """The one that tells inotify is killed: nothing else depends on it."""
+    fd = os.open(AT + "/a/cgroup.events", os.O_RDONLY)
+    os.read(fd, 99)
+    poller = select.poll()
+    poller.register(fd, select.POLLPRI)
+    for pid in own():
+        if len(os.listdir("/proc/%d/task" % pid)) == 1:
+            os.kill(pid, signal.SIGKILL)
+    child = subprocess.Popen(["sleep", "60"], preexec_fn=lambda: into("/a"))
+    for value in (b"1\n", b"0\n") * 20:
+        write(AT + "/a/cgroup.freeze", value)
+    same("who polls is woken", [mask & select.POLLPRI for _, mask in poller.poll(1000 * PATIENCE)], [select.POLLPRI])
+    child.kill()
+    child.wait()
+    step("the others go on", forks())
+
+
+# ---------------------------------------------------------------- files
+
+def calls():
+    """Calls that these files have no answer for: each fails, and changes nothing."""
+    name = AT + "/a/pids.max"
+    write(name, b"7\n")
+    fd = os.open(name, os.O_RDWR | os.O_DIRECT)
+    same("O_DIRECT", os.read(fd, 99), b"7\n")
+    os.close(fd)
+    fd = os.open(name, os.O_RDWR)
+    same("at the end of all files", os.pread(fd, 9, (1 << 63) - 10), b"")
+    same("in pieces", (os.writev(fd, [b"1", b"2", b"\n"]), os.pread(fd, 9, 0)), (3, b"12\n"))
+    same("appended", (os.pwrite(fd, b"8\n", 1 << 40), os.pread(fd, 9, 0)), (2, b"8\n"))
+    libc.mmap.restype = ctypes.c_void_p
+    same("a shared map", (libc.mmap(None, 4096, 3, 1, fd, 0), ctypes.get_errno()), (ctypes.c_void_p(-1).value, errno.ENODEV))
+    temp = os.open("/tmp", os.O_RDWR | os.O_TMPFILE) if hasattr(os, "O_TMPFILE") else os.memfd_create("x")
+    same("sendfile", (os.sendfile(temp, fd, 0, 99), os.pread(temp, 99, 0)), (2, b"8\n"))
+    step("copy_file_range", error_of(os.copy_file_range, fd, temp, 9, 0, 0) in ("ok", "EXDEV", "EOPNOTSUPP", "EINVAL"))
+    for what, call, wanted in (
+            ("link", lambda: os.link(name, AT + "/a/x"), ("EPERM", "ENOSYS", "EOPNOTSUPP")),
+            ("symlink", lambda: os.symlink("x", AT + "/a/x"), ("EPERM", "ENOSYS", "EOPNOTSUPP")),
+            ("mknod", lambda: os.mkfifo(AT + "/a/x"), ("EPERM", "ENOSYS", "EACCES")),
+            ("create", lambda: os.open(AT + "/a/x", os.O_CREAT | os.O_RDWR), ("EPERM", "ENOSYS", "EOPNOTSUPP", "EACCES")),
+            ("rename", lambda: os.rename(name, AT + "/a/x"), ("EPERM", "ENOSYS", "EOPNOTSUPP")),
+            ("rename a group", lambda: os.rename(AT + "/a", AT + "/b"), ("EPERM", "ENOSYS", "EOPNOTSUPP")),
+            ("unlink", lambda: os.unlink(name), ("EPERM", "ENOSYS")),
+            ("fallocate", lambda: os.posix_fallocate(fd, 0, 99), ("EOPNOTSUPP", "ENOSYS", "EINVAL")),
+            ("a temporary file", lambda: os.open(AT + "/a", os.O_TMPFILE | os.O_RDWR), ("ENOTSUP", "EOPNOTSUPP", "EPERM", "ENOSYS")),
+            ("a name of 300", lambda: os.mkdir(AT + "/a/" + "n" * 300), ("ENAMETOOLONG",)),
+            ("a path of 5000", lambda: os.mkdir(AT + "/a" * 2500), ("ENAMETOOLONG",)),
+            ("a group of a process", lambda: os.mkdir(AT + "/.makhloeum.%d.1" % os.getpid()), ("EPERM", "EEXIST"))):
+        got = error_of(call)
+        step("%s: %s" % (what, got), got in wanted, got)
+    import fcntl
+    same("flock", error_of(fcntl.flock, fd, fcntl.LOCK_EX | fcntl.LOCK_NB), "ok")
+    same("all is as before", (os.pread(fd, 9, 0), sorted(n for n in os.listdir(AT + "/a") if os.path.isdir(AT + "/a/" + n))), (b"8\n", []))
+    other = os.open(name, os.O_WRONLY)
+    r, w = os.pipe()
+    os.write(w, b"9\n")
+    same("splice into a file", (libc.splice(r, None, other, None, 2, 0), os.pread(fd, 9, 0)), (2, b"9\n"))
+
+
+def lists():
+    """A directory is read while groups come and go: each that stays is listed once."""
+    for i in range(300):
+        os.mkdir(AT + "/a/stays%d" % i)
+    churn = os.fork()
+    while churn == 0:
+        for i in range(20):
+            error_of(os.mkdir, AT + "/a/goes%d" % i)
+        for i in range(20):
+            error_of(os.rmdir, AT + "/a/goes%d" % i)
+    wrong, end = [], time.monotonic() + 1
+    while time.monotonic() < end:
+        names = [n for n in os.listdir(AT + "/a") if n.startswith("stays")]
+        if len(names) != 300 or len(set(names)) != 300:
+            wrong.append(len(names))
+    os.kill(churn, signal.SIGKILL)
+    os.waitpid(churn, 0)
+    same("lists that lack one, or have one twice", wrong[:3], [])
+
+
+INSIDE = (unshares, crowds, unread, writers, stopped, limited, flooded, untold, calls, lists)
+if sys.argv[1:2] == ["inside"]:
+    os.mkdir(AT + "/a")
+    {t.__name__: t for t in INSIDE}[sys.argv[2]]()
+    finish()
+
+
+def all_of(line):
+    return [p for p in os.listdir("/proc") if p.isdigit() and line_of(int(p)) == line]
+
+
+def run(test, limits=()):
+    words = [PROGRAM, "run", sys.executable, ME, "inside", test.__name__]
+    p = subprocess.Popen(words, start_new_session=True, preexec_fn=lambda: [resource.setrlimit(*limit) for limit in limits])
+    same("%s: its status" % test.__name__, status_within(p, 90), 0)
+    line = b"".join(w.encode() + b"\0" for w in words)
+    step("%s: nothing is left behind" % test.__name__, until(lambda: not all_of(line), 5), all_of(line))
+    for pid in all_of(line):
+        os.kill(int(pid), signal.SIGKILL)
+
+
+def beginnings():
+    """With few descriptors, processes or bytes it works, or says in one sentence why not."""
+    for which, values in ((resource.RLIMIT_NOFILE, (3, 4, 5, 6, 8, 10, 12, 14, 16, 20, 24, 32)), (resource.RLIMIT_FSIZE, (0, 1)), (resource.RLIMIT_NPROC, (1,)),
+                          (resource.RLIMIT_SIGPENDING, (0,)), (resource.RLIMIT_MEMLOCK, (0,)), (resource.RLIMIT_CORE, (0,))):
+        for value in values:
+            try:
+                ran = subprocess.run([PROGRAM, "run", "cat", "/proc/self/cgroup"], stdout=subprocess.PIPE, stderr=subprocess.PIPE, timeout=20,
+                                     preexec_fn=lambda: resource.setrlimit(which, (value, value)))
+                got = (ran.returncode, ran.stdout, ran.stderr)
+            except (subprocess.TimeoutExpired, subprocess.SubprocessError) as e:
+                got = (type(e).__name__, b"", b"")
+            right = got == (0, b"0::/\n", b"") or (got[0] not in (0, "TimeoutExpired") and got[1] == b"" and got[2])
+            step("limit %d is %d" % (which, value), right, got)
+    words = [PROGRAM, "run", "sleep", "60.%d" % os.getpid()]
+    for i in range(60):
+        p = subprocess.Popen(words, stderr=subprocess.DEVNULL)
+        time.sleep(i * 0.0005)
+        p.kill()
+        p.wait()
+    line = b"".join(w.encode() + b"\0" for w in words)
+    step("killed while it starts it leaves nothing behind", until(lambda: not all_of(line), 10), all_of(line))
+    for pid in all_of(line):
+        os.kill(int(pid), signal.SIGKILL)
+    script = '"$0" run sh -c "cat /proc/self/cgroup >&9" 9>&1 <&- >&- 2>&-'
+    ran = subprocess.run(["sh", "-c", script, PROGRAM], stdout=subprocess.PIPE, timeout=20)
+    same("without standard streams", (ran.returncode, ran.stdout), (0, b"0::/\n"))
+
+
+each_of_two(run, [t for t in INSIDE if t.__name__ in sys.argv[1:] or not sys.argv[1:]])
+if "beginnings" in sys.argv[1:] or not sys.argv[1:]:
+    beginnings()
+finish()

@@ -1,0 +1,61 @@
+"""`makhloeum run --users`: several users in a run. Started by a superuser: of the machine, or of a namespace that
+`unshare --map-root-user --map-auto` makes. This file is also the program."""
+import os
+import shutil
+import subprocess
+import sys
+
+from support import PROGRAM, error_of, finish, read, same, step
+
+ME = os.path.realpath(__file__)
+OTHER = 1
+
+
+def numbers(which):
+    return [tuple(map(int, line.split())) for line in read("/proc/self/" + which).splitlines()]
+
+
+def said(*command, **how):
+    ran = subprocess.run(command, stdout=subprocess.PIPE, stderr=subprocess.PIPE, timeout=20, **how)
+    return ran.returncode, ran.stdout.decode(), ran.stderr.decode()
+
+
+def inside(outside):
+    """`outside` has what the caller had of both maps."""
+    for which, had in zip(("uid_map", "gid_map"), outside.split(";")):
+        has = numbers(which)
+        same("each number of %s is itself" % which, [n for n, outer, _ in has if n != outer], [])
+        first, count = has[0][0], sum(c for _, _, c in has)
+        same("as many as outside", (first, count), tuple(map(int, had.split(","))))
+        step("it does not look like the machine's first namespace", len(has) > 1, has)
+    same("setgroups", read("/proc/self/setgroups"), b"allow\n")
+    at = os.path.join(os.environ["TMPDIR"], "users%d" % os.getpid())
+    os.mkdir(at)
+    os.chmod(at, 0o755)
+    os.chown(at, OTHER, OTHER)
+    same("a file of another user", (os.stat(at).st_uid, os.stat(at).st_gid), (OTHER, OTHER))
+    as_other = ["setpriv", "--reuid", str(OTHER), "--regid", str(OTHER), "--clear-groups"]
+    same("a process of another user", said(*as_other, "id", "-u"), (0, "%d\n" % OTHER, ""))
+    tool = os.path.join(at, "id")
+    shutil.copy(shutil.which("id"), tool)
+    same("who reads a program of the superuser", said(*as_other, tool, "-u"), (0, "%d\n" % OTHER, ""))
+    os.chmod(tool, 0o4755)
+    same("a setuid program is the superuser", said(*as_other, tool, "-u"), (0, "0\n", ""))
+    shutil.rmtree(at)
+    same("another user is in the hierarchy", said(*as_other, "cat", "/proc/self/cgroup"), (0, "0::/\n", ""))
+    supervisor = os.getppid()
+    for name in ("mem", "ns/user", "fd/0"):
+        same("the supervisor's %s" % name, error_of(os.open, "/proc/%d/%s" % (supervisor, name), os.O_RDONLY), "EACCES")
+    finish()
+
+
+if sys.argv[1:2] == ["inside"]:
+    inside(sys.argv[2])
+if sys.argv[1:2] == ["refused"]:
+    same("for another than the superuser", said(PROGRAM, "run", "--users", "true"),
+         (2, "", "makhloeum: --users is for the superuser, of this machine or of a user namespace: "
+          "unshare --map-root-user --map-auto makes one\n"))
+    same("with mount", said(PROGRAM, "mount", os.environ["TMPDIR"], "--users")[0], 2)
+    finish()
+maps = ";".join("%d,%d" % (numbers(which)[0][0], sum(c for _, _, c in numbers(which))) for which in ("uid_map", "gid_map"))
+sys.exit(subprocess.run([PROGRAM, "run", "--users", sys.executable, ME, "inside", maps], timeout=60).returncode)
