@@ -80,6 +80,12 @@ uint32_t ask(mk0_handle *engine, const struct line *line, char *out, size_t size
     return answer_line(engine, 0, (const uint8_t *)line->text, line->len, (uint8_t *)out, size, told);
 }
 
+void ask_again(mk0_handle *engine, const struct line *line) {
+    const uint8_t *path;
+    size_t len = path_of_line((const uint8_t *)line->text, line->len, &path);
+    faults_again(engine, path, len);
+}
+
 size_t take_text(const char *answer, size_t len, char *text) {
     const char *end = answer + len, *from = memchr(answer, '\n', len);
     size_t taken = 0;

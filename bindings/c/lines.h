@@ -35,6 +35,9 @@ uint32_t answer_line(mk0_handle *engine, uint64_t number, const uint8_t *line, s
                      mk0_info *told);
 uint32_t ask(mk0_handle *engine, const struct line *line, char *out, size_t size, mk0_info *told);
 
+/* The answer did not fit into what the caller gave, so it will ask again: faults don't count this call. */
+void ask_again(mk0_handle *engine, const struct line *line);
+
 /* The text behind the first line of an answer, without the mark before each line; may be in the same memory. Its length. */
 size_t take_text(const char *answer, size_t len, char *text);
 

@@ -47,9 +47,9 @@ typedef struct {
 
 /* What a call returns beside its status. A field is 0 unless its line says otherwise. */
 typedef struct {
-    size_t len;    /* how many bytes of the buffer are the answer or the names */
-    size_t count;  /* how many names these are */
-    size_t needed; /* with MK_TOO_SMALL: a buffer of so many bytes is large enough for this call in this state */
+    size_t len;    /* how many bytes of the buffer are the answer, the text or the names */
+    size_t count;  /* how many names, pids or texts these are; for mk_undo_to how many commands were undone */
+    size_t needed; /* with MK_TOO_SMALL: so many bytes, or pids, are room enough for this call in this state */
     uint32_t code; /* with MK_REFUSED and MK_FAULT: which refusal or fault */
     int32_t error; /* the errno for status and code: see mk_status_errno; for mk_put and MK_FAILED it is said there */
 } mk_info;
@@ -192,7 +192,7 @@ uint32_t mk_limit(mk_handle *h, const char *path, uint64_t *value, mk_info *info
 uint32_t mk_populated(mk_handle *h, const char *path, bool *populated, mk_info *info);
 
 /* The pids of the group itself, ascending: info->count numbers. MK_TOO_SMALL, with the number of pids in info->needed, if
-   there are more than room. */
+   there are more than room; pids may be overwritten then. */
 uint32_t mk_processes(mk_handle *h, const char *path, uint32_t *pids, size_t room, mk_info *info);
 
 /* Undoes recorded commands until no more than mark are left: mk_depth, called earlier, gives the mark; 0 undoes all.

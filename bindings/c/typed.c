@@ -86,15 +86,16 @@ static uint32_t read_text(mk_handle *h, const struct line *line, char *text, siz
         answer = text;
         status = ask(engine, line, text, size, &told);
     }
-    leave(engine);
     size_t len = 0;
     if (status == MK_DONE && answer == out) len = take_text(out, told.len, out);
     if (status == MK_DONE && answer == text) len = take_text(text, told.len, text);
     told.len = len;
     if (status == MK_DONE && len + 1 > size) {
+        ask_again(engine, line);
         told = (mk0_info){.needed = len + 1};
         status = MK_TOO_SMALL;
     }
+    leave(engine);
     if (status == MK_DONE && answer == out) memcpy(text, out, len);
     if (status == MK_DONE) text[len] = 0;
     return tell(info, status, &told);
@@ -162,6 +163,17 @@ static uint32_t read_answer(mk0_handle *engine, const struct line *line, char *f
     return *answer == NULL ? (uint32_t)MK_OUT_OF_MEMORY : ask(engine, line, *answer, needed, told);
 }
 
+/* the pids behind the first line of an answer, as many as there is room for; how many there are */
+static size_t read_pids(const char *answer, size_t len, uint32_t *pids, size_t room) {
+    const char *end = answer + len, *feed = answer;
+    size_t count = 0;
+    while ((feed = memchr(feed, '\n', (size_t)(end - feed))) != NULL && ++feed < end) {
+        if (count < room) pids[count] = (uint32_t)strtoul(feed + 2, NULL, 10);
+        count++;
+    }
+    return count;
+}
+
 PUBLIC uint32_t mk_processes(mk_handle *h, const char *path, uint32_t *pids, size_t room, mk_info *info) {
     mk0_handle *engine;
     mk0_info told = {0};
@@ -172,23 +184,17 @@ PUBLIC uint32_t mk_processes(mk_handle *h, const char *path, uint32_t *pids, siz
     uint32_t status = enter(h, &engine);
     if (status != MK_DONE) return tell(info, status, &told);
     status = read_answer(engine, &line, first, sizeof first, &answer, &told);
-    leave(engine);
-    size_t count = 0;
-    if (status == MK_DONE) {
-        const char *end = answer + told.len, *feed = answer;
-        while ((feed = memchr(feed, '\n', (size_t)(end - feed))) != NULL && ++feed < end) {
-            if (count < room) pids[count] = (uint32_t)strtoul(feed + 2, NULL, 10);
-            count++;
-        }
-    }
+    size_t count = status == MK_DONE ? read_pids(answer, told.len, pids, room) : 0;
     if (answer != first) free(answer);
     told.len = 0;
     if (count > room) {
+        ask_again(engine, &line);
         told.needed = count;
         status = MK_TOO_SMALL;
     } else {
         told.count = count;
     }
+    leave(engine);
     return tell(info, status, &told);
 }
 

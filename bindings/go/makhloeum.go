@@ -1,17 +1,21 @@
 // Package makhloeum keeps a hierarchy of process groups in memory and answers as the kernel's cgroup files do, for tests of
 // what reads and writes such files.
 //
-//	h, err := makhloeum.New()
-//	if err != nil {
+//	func show() error {
+//		h, err := makhloeum.New()
+//		if err != nil {
+//			return err
+//		}
+//		defer h.Close()
+//		h.Mkdir("/a")
+//		h.Fork(1, 2)
+//		h.Write("/a", "cgroup.procs", "2")
+//		text, err := h.Read("/a", "pids.current") // "1\n"
+//		busy := h.Rmdir("/a")                     // errors.Is(busy, syscall.EBUSY)
+//		undone, err := h.Undo()                   // "write /a cgroup.procs 2"
+//		fmt.Println(text, busy, undone)
 //		return err
 //	}
-//	defer h.Close()
-//	h.Mkdir("/a")
-//	h.Fork(1, 2)
-//	h.Write("/a", "cgroup.procs", "2")
-//	text, err := h.Read("/a", "pids.current") // "1\n"
-//	err = h.Rmdir("/a")                       // errors.Is(err, syscall.EBUSY)
-//	undone, err := h.Undo()                   // "write /a cgroup.procs 2"
 //
 // A refusal is a *Refused: errors.Is finds the errno that the kernel gives for it (docs/FORMATS.md, "Codes for C"), and
 // fs.ErrExist and fs.ErrNotExist. Every other error is ErrClosed, ErrBusy or syscall.ENOMEM with the command before it.

@@ -171,8 +171,12 @@ static int forked_while_waiting(void) {
 static bool failed(uint32_t status, int error) { return status == MK_FAILED && info.code == 0 && info.error == error && info.len == 0; }
 
 static int failing(void) {
+    static const char names[] = "/a\0pids.max";
     uint8_t out[64];
+    uint32_t pids[2];
     uint64_t value;
+    bool populated;
+    mk_text it;
     size_t left, before, after;
     CHECK(done(mk_mkdir(&h, "/a", &info)) && done(mk_mkdir(&h, "/b", &info)) && mk_depth(&h, &before) == MK_DONE);
     CHECK(done(mk_fail(&h, "/a", 1, EIO, &info)) && failed(mk_read(&h, "/a", "pids.max", text, sizeof text, &info), EIO) && reads("/a", "pids.max", "max\n"));
@@ -184,6 +188,11 @@ static int failing(void) {
     CHECK(done(mk_fail(&h, "/a", 1, EIO, &info)) && failed(mk_write(&h, "/a", "pids.max", "5", &info), EIO));
     CHECK(done(mk_fail(&h, "/a", 1, EIO, &info)) && failed(mk_kill(&h, "/a", &info), EIO));
     CHECK(done(mk_fail(&h, "/a", 1, EIO, &info)) && failed(mk_current(&h, "/a", &value, &info), EIO) && value == 0);
+    CHECK(done(mk_fail(&h, "/a", 1, EIO, &info)) && failed(mk_peak(&h, "/a", &value, &info), EIO) && value == 0);
+    CHECK(done(mk_fail(&h, "/a", 1, EIO, &info)) && failed(mk_limit(&h, "/a", &value, &info), EIO) && value == 0);
+    CHECK(done(mk_fail(&h, "/a", 1, EIO, &info)) && failed(mk_populated(&h, "/a", &populated, &info), EIO) && !populated);
+    CHECK(done(mk_fail(&h, "/a", 1, EIO, &info)) && failed(mk_processes(&h, "/a", pids, 2, &info), EIO) && info.count == 0);
+    CHECK(done(mk_fail(&h, "/a", 1, EIO, &info)) && done(mk_read_many(&h, names, 1, &it, text, sizeof text, &info)) && it.status == MK_FAILED && it.error == EIO);
     CHECK(done(mk_fail(&h, "/a", 1, EIO, &info)) && failed(mk_children(&h, (const uint8_t *)"/a", 2, out, sizeof out, &info), EIO));
     CHECK(done(mk_fail(&h, "/a", 1, EIO, &info)) && failed(mk_has_group(&h, (const uint8_t *)"/a", 2, &info), EIO));
     CHECK(done(mk_fail(&h, "/a", 1, EIO, &info)) && failed(mk_line(&h, 1, (const uint8_t *)" mkdir\t/a", 9, out, sizeof out, &info), EIO));
@@ -193,6 +202,10 @@ static int failing(void) {
     CHECK(done(mk_fail(&h, "/a", 2, EIO, &info)) && mk_line(&h, 1, (const uint8_t *)"# /a", 4, out, sizeof out, &info) == MK_SKIPPED);
     CHECK(done(mk_mkdir(&h, "/a/x", &info)) && mk_children(&h, (const uint8_t *)"/a", 2, out, 1, &info) == MK_TOO_SMALL);
     CHECK(mk_children(&h, (const uint8_t *)"/a", 2, out, sizeof out, &info) == MK_DONE && failed(mk_children(&h, (const uint8_t *)"/a", 2, out, sizeof out, &info), EIO));
+    CHECK(done(mk_fail(&h, "/a", 2, EIO, &info)) && mk_read(&h, "/a", "pids.max", text, 4, &info) == MK_TOO_SMALL && info.needed == 5);
+    CHECK(mk_read(&h, "/a", "pids.max", text, 5, &info) == MK_DONE && failed(mk_read(&h, "/a", "pids.max", text, 5, &info), EIO));
+    CHECK(done(mk_fail(&h, "/", 2, EIO, &info)) && mk_processes(&h, "/", pids, 0, &info) == MK_TOO_SMALL && info.needed == 1);
+    CHECK(done(mk_processes(&h, "/", pids, 1, &info)) && info.count == 1 && pids[0] == 1 && failed(mk_processes(&h, "/", pids, 1, &info), EIO));
     /* the root, a group that is not there, two faults at once */
     CHECK(done(mk_fail(&h, "/", 1, EACCES, &info)) && failed(mk_read(&h, "/", "cgroup.procs", text, sizeof text, &info), EACCES));
     CHECK(done(mk_fail(&h, "/none", 1, EIO, &info)) && failed(mk_rmdir(&h, "/none", &info), EIO));

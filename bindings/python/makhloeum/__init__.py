@@ -26,4 +26,4 @@ from .hierarchy import Hierarchy
 from .mounted import mounted_at
 
 __version__ = "1.0.0"
-__all__ = ["Hierarchy", "mounted_at", *errors.__all__]
+__all__ = ["Hierarchy", "mounted_at"] + errors.__all__

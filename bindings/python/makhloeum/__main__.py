@@ -1,8 +1,8 @@
 """An interactive shell: python3 -m makhloeum [SCRIPT ...]
 Commands of their own: python3 -m makhloeum view|tree|check ... (--help after each says more)
 
-The shell answers the commands of the trace language, and: ls [PATH], tree [PATH], undo [NUMBER], source SCRIPT, help, quit.
-Scripts are answered in order, and then the shell ends; `-` is standard input. The status is 1 if a script's command failed.
+The shell answers the commands of the trace language, and: ls [PATH], tree [PATH], undo [NUMBER], forget, source SCRIPT, help,
+quit. Scripts are answered in order, and then the shell ends; `-` is standard input. The status is 1 if a script's command failed.
 """
 
 from __future__ import annotations
@@ -10,12 +10,13 @@ from __future__ import annotations
 import cmd
 import importlib
 import importlib.util
+import os
 import shlex
 import sys
-from typing import Callable, TextIO
+from typing import Any, Callable, TextIO
 
 from . import __version__
-from .errors import Refused
+from .errors import NothingToUndo, Refused
 from .hierarchy import Hierarchy
 from .look.tree import draw, of_hierarchy, uses_colour
 
@@ -47,6 +48,19 @@ class Shell(cmd.Cmd):
             return
         if text:
             self.stdout.write(text)
+
+    def loop(self, intro: str) -> None:
+        """Reads commands until `quit`. Ctrl-C drops the line that is being typed."""
+        while True:
+            try:
+                return self.cmdloop(intro)
+            except KeyboardInterrupt:
+                self.stdout.write("\n")
+                intro = ""
+
+    def get_names(self) -> list[str]:
+        # help and completion list these; the end of input is no command
+        return [name for name in super().get_names() if name != "do_EOF"]
 
     def onecmd(self, line: str) -> bool:
         # cmd would take these as help, a shell command and its end-of-file word
@@ -95,9 +109,21 @@ class Shell(cmd.Cmd):
         """undo [NUMBER]: undo the newest recorded command, or as many as the number"""
 
         def undo() -> str:
-            return "".join(self.h.undo() + "\n" for _ in range(int(words or 1)))
+            if words and not (words.isascii() and words.isdigit()):
+                raise ValueError(f"undo {words}: not a number of commands")
+            count = int(words or 1)
+            if count > self.h.depth():
+                raise NothingToUndo("nothing", None, f"undo {words}".rstrip())
+            return "".join(self.h.undo() + "\n" for _ in range(count))
 
         self._try(undo)
+
+    def do_forget(self, words: str) -> None:
+        """forget: keep groups, processes and counts, and free the history, so that nothing earlier can be undone"""
+        if words:
+            self._line("forget", words)
+        else:
+            self._try(self.h.forget)
 
     def do_ls(self, words: str) -> None:
         """ls [PATH]: the groups below a group, and its files"""
@@ -129,8 +155,9 @@ class Shell(cmd.Cmd):
 
     # ---- completion
 
-    def completedefault(self, text: str, line: str, begin: int, end: int) -> list[str]:
-        """Paths for the second word, files for the third."""
+    def completedefault(self, *given: Any) -> list[str]:
+        """Paths for the second word, files for the third. Given are the text to complete, its line, and where it begins and ends."""
+        text, line, begin, end = given
         words = line[:end].split(" ")
         if len(words) == 2:
             return self._paths(words[1], begin, line)
@@ -148,18 +175,13 @@ class Shell(cmd.Cmd):
         given = len(line[:begin].split(" ")[-1])
         return [(parent + name)[given:] for name in names if (parent + name).startswith(word)]
 
-    def completenames(self, text: str, *ignored: object) -> list[str]:
-        return [name for name in super().completenames(text, *ignored) if name != "EOF"]
 
-
-def run_script(shell: Shell, file: str) -> None:
+def run_script(shell: Shell, file: str) -> bool:
+    """Answers the lines of a script; whether it ended by `quit`."""
     if file == "-":
-        for line in sys.stdin:
-            shell.onecmd(line.rstrip("\n"))
-        return
+        return any(shell.onecmd(line.rstrip("\n")) for line in sys.stdin)
     with open(file, encoding="utf-8", errors="surrogateescape") as script:
-        for line in script:
-            shell.onecmd(line.rstrip("\n"))
+        return any(shell.onecmd(line.rstrip("\n")) for line in script)
 
 
 def command(name: str, words: list[str]) -> int:
@@ -198,11 +220,15 @@ def main(arguments: list[str]) -> int:
     with Hierarchy() as h:
         shell = Shell(h)
         if not arguments and sys.stdin.isatty():
-            shell.cmdloop(f"Makhloeum {__version__}. help lists the commands.")
+            shell.loop(f"Makhloeum {__version__}. help lists the commands.")
             return 0
         try:
-            for file in arguments or ["-"]:
-                run_script(shell, file)
+            any(run_script(shell, file) for file in arguments or ["-"])
+            sys.stdout.flush()
+        except BrokenPipeError:
+            # nobody reads the output any more; what is left of it must not fail again when the interpreter ends
+            os.dup2(os.open(os.devnull, os.O_WRONLY), sys.stdout.fileno())
+            return 141
         except OSError as failure:
             print(f"makhloeum: {failure}", file=sys.stderr)
             return 1

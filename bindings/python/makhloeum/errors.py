@@ -224,4 +224,36 @@ _PATH_KINDS: tuple[type[BadPath], ...] = (NotRooted, PathTooLong, TooDeep, Empty
 BY_CODE = {kind.code: kind for kind in _KINDS}
 BY_FAULT = {kind.fault: kind for kind in _PATH_KINDS}
 
-__all__ = ["Refused", "Busy", "Fault", *(kind.__name__ for kind in _KINDS + _PATH_KINDS)]
+# written out, since type checkers read it
+__all__ = [
+    "Refused",
+    "Exists",
+    "NoGroup",
+    "Descendants",
+    "Depth",
+    "NoSlot",
+    "Busy",
+    "RootFixed",
+    "HasChildren",
+    "HasProcesses",
+    "NoProcess",
+    "PidInUse",
+    "PidsMax",
+    "NoFile",
+    "NotReadable",
+    "NothingToUndo",
+    "Fault",
+    "BadSyntax",
+    "BadPath",
+    "NotRooted",
+    "PathTooLong",
+    "TooDeep",
+    "EmptyName",
+    "BadByte",
+    "NameTooLong",
+    "DotName",
+    "ReservedName",
+    "BadFile",
+    "BadDirection",
+    "BadValue",
+]

@@ -92,7 +92,8 @@ class Hierarchy(Changes, Faults, Many):
         grow more than once, but not beyond the longest answer."""
         size = _FIRST_SIZE
         while True:
-            buffer, info = (ctypes.c_char * size)(), Info()
+            buffer: Any = (ctypes.c_char * size)()
+            info = Info()
             status = call(buffer, size, ctypes.byref(info))
             if status == DONE or status == SKIPPED:
                 return buffer[: info.len]

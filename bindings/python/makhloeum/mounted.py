@@ -131,16 +131,17 @@ class _Mount:
         closefd: bool = True,
         opener: Any = None,
     ) -> Any:
-        raw = self.descriptors.get(file) if isinstance(file, int) else None
-        group = None if isinstance(file, int) else self.group(file)
-        if raw is None and group is None:
-            return self.was["open"](file, mode, buffering, encoding, errors, newline, closefd, opener)
-        if not isinstance(raw, RawFile):
+        opened = self.descriptors.get(file) if isinstance(file, int) else None
+        if isinstance(opened, RawFile):
+            raw = opened
+            if closefd:
+                raw.on_close = lambda: os.close(file)
+        else:
+            name, group = (opened.shown, opened.group) if opened else (file, None if isinstance(file, int) else self.group(file))
+            if group is None:
+                return self.was["open"](file, mode, buffering, encoding, errors, newline, closefd, opener)
             reads, writes = "r" in mode or "+" in mode, any(letter in mode for letter in "wax+")
-            name, group = (file, group) if raw is None else (raw.shown, raw.group)
             raw = self._open(name, group, reads, writes, "w" in mode or "a" in mode, "x" in mode)
-        elif closefd:
-            raw.on_close = lambda: os.close(file)
         if buffering == 0 and "b" in mode:
             return raw
         kind = io.BufferedRandom if raw.readable() and raw.writable() else io.BufferedReader if raw.readable() else io.BufferedWriter
@@ -165,11 +166,12 @@ class _Mount:
         if group is None:
             return self.was["os_open"](path, flags, mode, dir_fd=dir_fd)
         way, shown = flags & os.O_ACCMODE, os.fsdecode(path)
-        opened: Node | RawFile = self.tree.locate(group, shown)
-        if opened.file is None and way == os.O_RDONLY and not flags & os.O_CREAT:
-            opened.check()
+        node = self.tree.locate(group, shown)
+        opened: Node | RawFile = node
+        if node.file is None and way == os.O_RDONLY and not flags & os.O_CREAT:
+            node.check()
         elif flags & os.O_DIRECTORY:
-            opened.check()
+            node.check()
             raise error(errno.ENOTDIR, shown)
         else:
             makes = bool(flags & os.O_CREAT)

@@ -124,6 +124,18 @@ def test_the_nth_call_fails(hierarchy):
     assert h.clear_faults() == 0 and h.depth() == 2
 
 
+def test_a_long_list_of_processes_counts_once(hierarchy):
+    h = hierarchy
+    h.mkdir("/a")
+    for pid in range(2, 102):
+        h.fork(1, pid)
+        h.write("/a", "cgroup.procs", pid)
+    h.fail("/a", errno.EIO, nth=2)
+    assert h.processes("/a") == list(range(2, 102))
+    with pytest.raises(OSError):
+        h.processes("/a")
+
+
 def test_a_long_read_counts_once(hierarchy):
     h = hierarchy
     h.mkdir("/a")

@@ -1,5 +1,6 @@
 """What an error says, that it can be sent between processes, and that words never leak into other words of a command."""
 
+import ast
 import copy
 import errno
 import itertools
@@ -12,6 +13,15 @@ import pytest
 import makhloeum
 from makhloeum import BadByte, BadFile, BadPath, BadValue, Hierarchy, NoGroup, Refused
 from makhloeum._library import library
+
+
+def test_type_checkers_find_every_error():
+    # they don't run the module: the list of its names has to be written out
+    path = pathlib.Path(makhloeum.errors.__file__)
+    lists = [node.value for node in ast.parse(path.read_text()).body if isinstance(node, ast.Assign) and node.targets[0].id == "__all__"]
+    classes = {name for name, kind in vars(makhloeum.errors).items() if isinstance(kind, type) and issubclass(kind, Refused)}
+    assert [set(ast.literal_eval(names)) for names in lists] == [classes]
+    assert classes < set(makhloeum.__all__)
 
 
 @pytest.fixture

@@ -1,10 +1,12 @@
 """The interactive shell: python3 -m makhloeum"""
 
+import fcntl
 import io
 import os
 import pty
 import subprocess
 import sys
+import termios
 
 import makhloeum
 from makhloeum.__main__ import Shell
@@ -35,6 +37,35 @@ def test_standard_input_and_scripts(tmp_path):
     assert run("--version").stdout == f"makhloeum {makhloeum.__version__}\n"
 
 
+def test_undo_and_forget():
+    ran = run(text="mkdir /a\nmkdir /b\nundo 3\nundo x\nundo -1\nundo 2\nls\nundo\nmkdir /c\nforget x\nforget\nundo\nls\n")
+    files = "cgroup.procs\ncgroup.stat\ncgroup.max.depth\ncgroup.max.descendants\n"
+    syntax = "Invalid argument (syntax: an unknown command, a wrong number of words, or a line that is too long)"
+    assert ran.stdout == (
+        "undo 3: No data available (nothing)\nundo x: not a number of commands\nundo -1: not a number of commands\n"
+        f"mkdir /b\nmkdir /a\n{files}undo: No data available (nothing)\nforget x: {syntax}\n"
+        f"undo: No data available (nothing)\nc/\n{files}"
+    )
+
+
+def test_quit_ends_all_scripts(tmp_path):
+    first, second = tmp_path / "first", tmp_path / "second"
+    first.write_text("where 1\nquit\nwhere 1\n")
+    second.write_text("where 1\n")
+    assert run(str(first), str(second)).stdout == "0::/\n"
+    assert run(text="quit\nwhere 1\n").stdout == ""
+
+
+def test_a_closed_pipe_is_no_message():
+    shell = subprocess.Popen(
+        [sys.executable, "-m", "makhloeum"], stdin=subprocess.PIPE, stdout=subprocess.PIPE, stderr=subprocess.PIPE, env=WORDS
+    )
+    assert shell.stdout is not None
+    shell.stdout.close()
+    told = shell.communicate(b"where 1\n" * 10000, timeout=60)
+    assert (shell.returncode, told[1]) == (141, b"")
+
+
 def test_a_tree_has_counts_and_limits(hierarchy):
     h = hierarchy
     for line in ("mkdir /a", "mkdir /a/b", "mkdir /a/c", "mkdir /d", "write /a pids.max 10", "fork 1 2", "write /a/b cgroup.procs 2"):
@@ -63,22 +94,61 @@ def test_completion(hierarchy):
     assert complete("", "rmdir /alpha/", 13, 13) == ["x"]
     assert complete("pids.c", "cat /alpha pids.c", 11, 17) == ["pids.current"]
     assert shell.completenames("m") == ["mkdir"]
+    assert shell.completenames("E") == []
+
+
+class Terminal:
+    """The shell at a terminal."""
+
+    def __init__(self):
+        self.ours, theirs = pty.openpty()
+        command = [sys.executable, "-m", "makhloeum"]
+        self.shell = subprocess.Popen(command, stdin=theirs, stdout=theirs, stderr=theirs, env=WORDS, start_new_session=True,
+                                      preexec_fn=lambda: fcntl.ioctl(theirs, termios.TIOCSCTTY, 0))
+        os.close(theirs)
+        self.told = b""
+
+    def wait_for(self, text):
+        """What comes until the text; all that is left if it is None."""
+        while text is None or text not in self.told:
+            try:
+                more = os.read(self.ours, 4096)
+            except OSError:
+                more = b""
+            if not more:
+                assert text is None, self.told
+                break
+            self.told += more
+        told = self.told
+        self.told = b""
+        return told
+
+    def type(self, keys):
+        os.write(self.ours, keys)
+
+    def end(self):
+        told = self.wait_for(None)
+        os.close(self.ours)
+        assert self.shell.wait(60) == 0
+        return told
 
 
 def test_a_terminal_has_a_prompt():
-    ours, theirs = pty.openpty()
-    shell = subprocess.Popen([sys.executable, "-m", "makhloeum"], stdin=theirs, stdout=theirs, stderr=theirs, env=WORDS, close_fds=True)
-    os.close(theirs)
-    os.write(ours, b"mkdir /a\nmkdir /a\nquit\n")
-    told = b""
-    while True:
-        try:
-            more = os.read(ours, 4096)
-        except OSError:
-            break
-        if not more:
-            break
-        told += more
-    os.close(ours)
-    assert shell.wait(60) == 0
+    terminal = Terminal()
+    terminal.type(b"mkdir /a\nmkdir /a\nquit\n")
+    told = terminal.end()
     assert b"makhloeum> " in told and b"mkdir /a: File exists (exists)" in told
+
+
+def test_an_interrupt_drops_the_line():
+    terminal = Terminal()
+    terminal.wait_for(b"makhloeum> ")
+    terminal.type(b"mkdir /a\n")
+    terminal.wait_for(b"makhloeum> ")
+    terminal.type(b"mkdir /b")
+    terminal.wait_for(b"mkdir /b")
+    terminal.type(b"\x03")
+    terminal.wait_for(b"makhloeum> ")
+    terminal.type(b"ls\nquit\n")
+    told = terminal.end()
+    assert b"a/\r\n" in told and b"b/" not in told and b"Traceback" not in told

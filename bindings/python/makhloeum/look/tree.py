@@ -13,7 +13,7 @@ import select
 import sys
 import time
 from dataclasses import dataclass, field
-from typing import Callable, Dict, Iterator, List, Optional, TextIO, Tuple
+from typing import IO, Callable, Dict, Iterator, List, Optional, TextIO, Tuple
 
 from ..hierarchy import Hierarchy
 
@@ -203,7 +203,7 @@ def _paths(folder: str, node: Node) -> Iterator[str]:
         yield from _paths(os.path.join(folder, below.name), below)
 
 
-def uses_colour(out: TextIO) -> bool:
+def uses_colour(out: IO[str]) -> bool:
     return out.isatty() and os.environ.get("TERM") != "dumb" and not os.environ.get("NO_COLOR")
 
 
