@@ -56,7 +56,8 @@ pub(crate) fn settle_parts<R: Threads, A: Gate, const G: usize, const W: usize, 
     };
     let ours = &mut *main;
     let mut rest = move ||
-        requires { IsHandOf board.now ours.now × CanSettle G W L stripe rest_leaving.now rest_arriving.now (holds ours.now) × HasRoomFor (parts - 1) (holds ours.now) × AtLeaves W L (holds ours.now) × (1 < parts) × (parts ≤ 24) }
+        requires { IsHandOf board.now ours.now × CanSettle G W L stripe rest_leaving.now rest_arriving.now (holds ours.now)
+            × HasRoomFor (parts - 1) (holds ours.now) × AtLeaves W L (holds ours.now) × (1 < parts) × (parts ≤ 24) }
         ensures { SameHand ours.entry.now ours.exit.now × Settled W L rest_leaving.entry.now rest_arriving.entry.now (holds ours.entry.now) (holds ours.exit.now) }
     {
         settle_parts(

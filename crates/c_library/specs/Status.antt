@@ -13,7 +13,7 @@ use Rattle.line_engine.specs.declared.listing.Listing.TheVariants as listing
 use Rattle.line_engine.specs.declared.listing.Found.{Found}
 use Rattle.line_engine.specs.declared.listing.Found.TheVariants as found
 use Rattle.line_engine.specs.declared.engine.LineEngine.{LineEngine}
-use Rattle.line_engine.specs.Answers.{AnswersLine}
+use Rattle.line_engine.specs.LineAnswers.{AnswersLine}
 use Rattle.line_engine.specs.Listings.{TellsChildren, TellsGroups, TellsGroup}
 use Rattle.line_engine.specs.Numbers.{TellsNumber}
 use Rattle.line_engine.specs.declared.numbers.Number.{Number}

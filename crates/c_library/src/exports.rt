@@ -3,7 +3,8 @@
 ghost use Rattle.std.specs.Prelude.{◌≡◌, codes};
 ghost use Rattle.flat_model.specs.PathText.{read_path};
 ghost use Rattle.flat_model.specs.Trace.{read_line};
-ghost use Rattle.c_library.specs.Status.{IsOpened, IsClosed, AnswersAt, CopiesAt, DepthAt, ForgetsAt, ListsAt, ListsGroupsAt, FindsAt, told, too_small, status_of, status_of_code, info_of, listing_status, listing_info, found_status, found_info};
+ghost use Rattle.c_library.specs.Status.{IsOpened, IsClosed, AnswersAt, CopiesAt, DepthAt, ForgetsAt, ListsAt, ListsGroupsAt, FindsAt};
+ghost use Rattle.c_library.specs.Status.{told, too_small, status_of, status_of_code, info_of, listing_status, listing_info, found_status, found_info};
 
 use crate::handle::Handle;
 use crate::info::Info;

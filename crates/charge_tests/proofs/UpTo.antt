@@ -9,7 +9,7 @@ use Rattle.flat_model.specs.State.{State, Attr, Limit, fresh, start}
 use Rattle.flat_model.specs.File.{LimitFile, PidsMax, MaxDescendants, MaxDepth}
 use Rattle.flat_model.specs.Command as model
 use Rattle.flat_model.specs.Command.{Command, Refusal}
-use Rattle.flat_model.specs.Events.{HasEventsUpTo}
+use Rattle.flat_model.specs.EventTotals.{HasEventsUpTo}
 use Rattle.flat_model.specs.Inverse.{back, Counted, Removed}
 use Rattle.flat_model.specs.Step.{after, after_refusal, home_of, with_limit, at_each, count_up, count_down, counts_for, raise_peak, raise_peaks, set_peak, set_peaks}
 use Rattle.flat_model.proofs.PathLaws.{path_cmp-IsTotalOrder, path_cmp-IsAntisymmetric, at_or_below_take, at_or_below_length}

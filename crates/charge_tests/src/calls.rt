@@ -2,7 +2,7 @@
 
 ghost use Rattle.std.specs.Prelude.{ℕ, ◌+◌, ◌≤◌, ◌≡◌, IsTrue, IfOk};
 ghost use Rattle.std.specs.FinMap as fin;
-ghost use Rattle.flat_model.specs.Events.{HasEventsUpTo};
+ghost use Rattle.flat_model.specs.EventTotals.{HasEventsUpTo};
 ghost use Rattle.pids_charge.specs.Events.{HasRoomForEvents};
 
 use crate::answers::{Answer, done, flag, move_answered, number, path_answered, peaks_answered};

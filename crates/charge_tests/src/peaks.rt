@@ -51,6 +51,34 @@ fn raised_and_kept(rt: HostRuntime) -> Result<(), Fail> {
     Ok(())
 }
 
+/// Up to six old peaks are stored in their list itself.
+#[test]
+fn of_six_and_of_seven_groups(rt: HostRuntime) -> Result<(), Fail> {
+    let rows = [
+        (Call::Make("/a"), Answer::Done),
+        (Call::Make("/a/b"), Answer::Done),
+        (Call::Make("/a/b/c"), Answer::Done),
+        (Call::Make("/a/b/c/d"), Answer::Done),
+        (Call::Make("/a/b/c/d/e"), Answer::Done),
+        (Call::Make("/a/b/c/d/e/f"), Answer::Done),
+        (Call::Make("/a/b/c/d/e/f/g"), Answer::Done),
+        (
+            Call::SetPeaks("/a/b/c/d/e/f/g", &[3, 4, 5, 6, 7, 8, 9]),
+            Answer::Done,
+        ),
+        (
+            Call::Move(1, "/a/b/c/d/e/f/g"),
+            Answer::Moved(1, 1_3_456_789),
+        ),
+        (Call::Fork(1, 2), Answer::Peaks(1_3_456_789)),
+        (Call::Move(1, "/a/b/c/d/e/f"), Answer::Moved(14, 1_456_789)),
+        (Call::Fork(1, 3), Answer::Peaks(1_456_789)),
+        (Call::Move(1, "/a/b/c/d/e"), Answer::Moved(12, 1_56_789)),
+    ];
+    assert!(rt; first_wrong(&rt, rt.alloc(), &rows)? == None);
+    Ok(())
+}
+
 /// An undo raises no peak. The next fork raises it to the count at that time.
 #[test]
 fn put_back(rt: HostRuntime) -> Result<(), Fail> {

@@ -118,8 +118,8 @@ fn first_answer<'a, R: Threads + Wait + Sync>(
     Err(Fail::new("there is no answer in 1,600 bytes"))
 }
 
-/// The lines, their replies, and whether they allocate, as they do for names this long. A fork in the root allocates nothing
-/// if the table and the journal have room, nor does the undo of a fork, a mkdir, a limit, or a move from the root.
+/// The lines, their replies, and whether they allocate, as they do for names this long. A fork that is not refused allocates
+/// nothing if the table and the journal have room, nor does the undo of a fork, a mkdir, a limit, or a move from the root.
 const ROWS: [(&str, &str, bool); 38] = [
     ("mkdir /aaaaaaaaaaaaaaaaaaaaaaaa", "ok", true),
     (
@@ -163,8 +163,8 @@ const ROWS: [(&str, &str, bool); 38] = [
     ("fork 2 3", "pidsmax /aaaaaaaaaaaaaaaaaaaaaaaa", true),
     ("undo", "fork 2 3", false),
     ("undo", "write /aaaaaaaaaaaaaaaaaaaaaaaa pids.max 1", false),
-    // The table of processes copies the path of 25 bytes once more.
-    ("fork 2 3", "ok", true),
+    // The child shares the text of its parent's path.
+    ("fork 2 3", "ok", false),
     ("undo", "fork 2 3", false),
     (
         "undo",
@@ -284,12 +284,12 @@ fn is_made_in(alloc: Global, size: usize) -> Result<bool, AllocError> {
 #[test]
 fn engine_in_a_small_heap(rt: HostRuntime) -> Result<(), Fail> {
     let mut sizes_refused = 0;
-    for step in 2..250usize {
+    for step in 2..600usize {
         if is_made_in(rt.alloc(), step * 16)? {
             break;
         }
         sizes_refused = step;
     }
-    assert!(rt; 1 < sizes_refused && sizes_refused < 249);
+    assert!(rt; 1 < sizes_refused && sizes_refused < 599);
     Ok(())
 }

@@ -1,12 +1,12 @@
 //! Each read and each write fails in turn.
 
-use crate::devices::{Dripping, Endless, Narrow};
 use crate::traces::{KILL, LINE_FAULTS, UNDONE_MOVE, whole};
 use replay_main::{MemorySink, ReplayFault, Summary, TRACE_MAX, rehearse_trace, replay};
 use std::alloc::Global;
 use std::sync::Wait;
 use std::test::Fail;
 use std::thread::Threads;
+use test_devices::{Limits, Narrow, Pieces, Repeated};
 
 /// How a trace is answered.
 #[derive(Clone, Copy)]
@@ -33,8 +33,17 @@ fn answered<R: Threads + Wait + Sync>(
     ends: bool,
     room: usize,
 ) -> (Result<Summary, ReplayFault>, Narrow) {
-    let mut source = Dripping::new(trace, ends);
-    let mut sink = Narrow::new(alloc, room);
+    let mut source = if ends {
+        Pieces::new(trace, 1)
+    } else {
+        Pieces::failing(trace, 1)
+    };
+    let limits = Limits {
+        room,
+        flushes: 1,
+        takes_none: false,
+    };
+    let mut sink = Narrow::new(alloc, limits);
     let answer = match way {
         Way::OneWorker => replay(rt, alloc, &mut source, &mut sink, 1),
         Way::TwoWorkers => replay(rt, alloc, &mut source, &mut sink, 2),
@@ -142,7 +151,7 @@ fn each_write_of_many_fails(rt: HostRuntime) -> Result<(), Fail> {
 #[test]
 fn too_long_traces(rt: HostRuntime) {
     for way in [Way::OneWorker, Way::Rehearsal] {
-        let mut source = Endless::new();
+        let mut source = Repeated::new(b'#', None);
         let mut sink = MemorySink::new(rt.alloc());
         let answer = match way {
             Way::Rehearsal => rehearse_trace(&rt, rt.alloc(), &mut source, &mut sink),

@@ -3,15 +3,12 @@
 //! one. The expected bytes were written by hand.
 //!
 //! - `cuts`: traces that are cut after each byte.
-//! - `faults`: each read and each write that fails, over devices that take and give one byte at a time.
-//! - `devices`: these devices.
+//! - `faults`: each read and each write that fails, over the devices of `test_devices`.
 //! - `traces`: worked traces with their output.
 #![tactic(auto)]
 
 #[cfg(test)]
 mod cuts;
-#[cfg(test)]
-mod devices;
 #[cfg(test)]
 mod faults;
 #[cfg(test)]

@@ -5,7 +5,8 @@ use Rattle.std.specs.Ordering.{nat_cmp}
 use Rattle.flat_model.specs.Path.{Path}
 use Rattle.flat_model.specs.State.{State, Attr, Limit}
 use Rattle.flat_model.specs.File.{LimitFile}
-use Rattle.flat_model.specs.Command.{Command, MakeGroup, RemoveGroup, Fork, Exit, Move, SetLimit, Kill, Show, Locate, Undo, Refusal, Exists, NoGroup, Descendants, Depth, NoSlot, RootFixed, HasChildren, HasProcesses, NoProcess, PidInUse, OverPidsMax, NoFile, NotReadable}
+use Rattle.flat_model.specs.Command.{Command, MakeGroup, RemoveGroup, Fork, Exit, Move, SetLimit, Kill, Show, Locate, Undo}
+use Rattle.flat_model.specs.Command.{Refusal, Exists, NoGroup, Descendants, Depth, NoSlot, RootFixed, HasChildren, HasProcesses, NoProcess, PidInUse, OverPidsMax, NoFile, NotReadable}
 use Rattle.flat_model.specs.Step.{at_each, count_down, set_limit, peaks_upward, set_peaks, home_of, attr_of, limit_at, lives_in}
 
 pub data Inverse : Type 0 where

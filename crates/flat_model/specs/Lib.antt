@@ -13,11 +13,11 @@ pub mod CommandText
 pub mod Machine
 pub mod WellFormed
 pub mod Limiting
-pub mod Events
-pub mod Peaks
+pub mod EventTotals
+pub mod RaisedPeaks
 pub mod Log
 pub mod Audit
 pub mod Trace
 pub mod Replies
-pub mod Codes
+pub mod StateCodes
 pub mod Mapped

@@ -1,7 +1,9 @@
 -- The machine: the present state, and for each recorded command, newest first, the command and the state before it.
 use Rattle.std.specs.Prelude.{ℕ, zero, suc, ◌≤◌, cond, List, [], ◌∷◌, Option, Some, None, length}
 use Rattle.flat_model.specs.State.{State, start}
-use Rattle.flat_model.specs.Command.{Command, MakeGroup, RemoveGroup, Fork, Exit, Move, SetLimit, Kill, Show, Locate, Undo, Refusal, Reply, Done, Text, Undone, Refused, NothingToUndo, is_undo, changes, is_counted}
+use Rattle.flat_model.specs.Command.{Command, MakeGroup, RemoveGroup, Fork, Exit, Move, SetLimit, Kill, Show, Locate, Undo}
+use Rattle.flat_model.specs.Command.{Refusal, Reply, Done, Text, Undone, Refused, NothingToUndo}
+use Rattle.flat_model.specs.Command.{is_undo, changes, is_counted}
 use Rattle.flat_model.specs.Step.{refusal, after, after_refusal}
 use Rattle.flat_model.specs.FileText.{file_text, home_text}
 

@@ -1,7 +1,9 @@
 -- The output for a trace.
 use Rattle.std.specs.Prelude.{ℕ, ◌+◌, Bool, true, false, List, [], ◌∷◌, ◌++◌, codes, decimal, flat_map, count_by}
 use Rattle.flat_model.specs.PathText.{path_text}
-use Rattle.flat_model.specs.Command.{Command, Refusal, Exists, NoGroup, Descendants, Depth, NoSlot, RootFixed, HasChildren, HasProcesses, NoProcess, PidInUse, OverPidsMax, NoFile, NotReadable, Reply, Done, Text, Undone, Refused, NothingToUndo}
+use Rattle.flat_model.specs.Command.{Command}
+use Rattle.flat_model.specs.Command.{Refusal, Exists, NoGroup, Descendants, Depth, NoSlot, RootFixed, HasChildren, HasProcesses, NoProcess, PidInUse, OverPidsMax, NoFile, NotReadable}
+use Rattle.flat_model.specs.Command.{Reply, Done, Text, Undone, Refused, NothingToUndo}
 use Rattle.flat_model.specs.CommandText.{command_text}
 use Rattle.flat_model.specs.FileText.{line}
 use Rattle.flat_model.specs.Machine.{replies, new_machine}

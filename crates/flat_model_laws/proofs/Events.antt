@@ -9,7 +9,7 @@ use Rattle.flat_model.specs.File.{LimitFile, PidsMax, MaxDescendants, MaxDepth}
 use Rattle.flat_model.specs.Command.{Command, MakeGroup, RemoveGroup, Fork, Exit, Move, SetLimit, Kill, Show, Locate, Undo, Refusal, Exists, NoGroup, Descendants, Depth, NoSlot, RootFixed, HasChildren, HasProcesses, NoProcess, PidInUse, OverPidsMax, NoFile, NotReadable, is_undo, changes, is_counted}
 use Rattle.flat_model.specs.Step.{refusal, after, after_refusal, home_of, with_limit, at_each, counts_for, count_up, raise_peak, raise_peaks}
 use Rattle.flat_model.specs.Machine.{Machine, new_machine, recorded, outcome, undone, tick, end_of, after_all}
-use Rattle.flat_model.specs.Events.{IsCounted, HasEventsUpTo, PastEventsBounded, EventsBounded}
+use Rattle.flat_model.specs.EventTotals.{IsCounted, HasEventsUpTo, PastEventsBounded, EventsBounded}
 use Rattle.flat_model.proofs.PathLaws.{path_cmp-IsTotalOrder, path_cmp-IsAntisymmetric, same_path_is, at_or_below_is}
 use Rattle.flat_model.proofs.Maps.{get-each}
 use Rattle.flat_model.proofs.Counting.{to_false}

@@ -8,7 +8,7 @@ use Rattle.flat_model.specs.Counts.{asks}
 use Rattle.flat_model.specs.Command.{Command}
 use Rattle.flat_model.specs.Machine.{Machine, tick, end_of, undos, TakesBackItsOwn}
 use Rattle.flat_model.specs.WellFormed.{WellFormed, MachineWellFormed}
-use Rattle.flat_model.specs.Events.{HasEventsUpTo, EventsBounded}
+use Rattle.flat_model.specs.EventTotals.{HasEventsUpTo, EventsBounded}
 use Rattle.flat_model_laws.proofs.NearestLaws.{asks_not}
 use Rattle.flat_model.proofs.Limits.{asked_no}
 

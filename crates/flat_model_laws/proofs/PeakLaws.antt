@@ -10,7 +10,7 @@ use Rattle.flat_model.specs.File.{LimitFile, PidsMax, MaxDescendants, MaxDepth}
 use Rattle.flat_model.specs.Command.{Command, SetLimit, RemoveGroup, Refusal, Exists, NoGroup, Descendants, Depth, NoSlot, RootFixed, HasChildren, HasProcesses, NoProcess, PidInUse, OverPidsMax, NoFile, NotReadable}
 use Rattle.flat_model.specs.Step.{after, after_refusal, at_each, counts_for, count_up, raise_peak, raise_peaks, peaks_upward, set_peak, set_peaks, with_limit}
 use Rattle.flat_model.specs.Machine.{after_all}
-use Rattle.flat_model.specs.Peaks.{IsRaised}
+use Rattle.flat_model.specs.RaisedPeaks.{IsRaised}
 use Rattle.flat_model.proofs.PathLaws.{path_cmp-IsTotalOrder, path_cmp-IsAntisymmetric}
 use Rattle.flat_model.proofs.Maps.{get-each, key_of}
 use Rattle.flat_model.proofs.Peaks.{peak_there}

@@ -46,7 +46,7 @@ ghost use Rattle.flat_model.specs.Machine.{
   TakesBackItsOwn,
 };
 ghost use Rattle.flat_model.specs.WellFormed.{WellFormed, MachineWellFormed};
-ghost use Rattle.flat_model.specs.Events.{HasEventsUpTo, EventsBounded};
+ghost use Rattle.flat_model.specs.EventTotals.{HasEventsUpTo, EventsBounded};
 
 /// A recorded command and then its undo restore the machine, from any machine. The command is one that was accepted, or a
 /// fork that `pids.max` refused.

@@ -40,7 +40,7 @@ ghost use Rattle.flat_model.specs.Step.{
   set_peaks,
 };
 ghost use Rattle.flat_model.specs.Machine.{after_all};
-ghost use Rattle.flat_model.specs.Peaks.{IsRaised};
+ghost use Rattle.flat_model.specs.RaisedPeaks.{IsRaised};
 
 /// A fork raises the peaks of the child's group and of those above it other than the root to their
 /// counts, if they are lower. A move does so for the new group. Nothing else of a group changes,

@@ -28,7 +28,7 @@ ghost use Rattle.flat_model.specs.Command.{
   Depth,
 };
 ghost use Rattle.flat_model.specs.Step.{refusal, after, home_of, limit_met, blocked_make, count_up};
-ghost use Rattle.flat_model.specs.Events.{IsCounted};
+ghost use Rattle.flat_model.specs.EventTotals.{IsCounted};
 ghost use Rattle.flat_model.specs.Limiting.{
   IsWithinPids,
   IsLimiting,

@@ -44,7 +44,7 @@ ghost use Rattle.flat_model.specs.Command.{
 };
 ghost use Rattle.flat_model.specs.Step.{refusal, after, after_refusal, home_of};
 ghost use Rattle.flat_model.specs.WellFormed.{WellFormed};
-ghost use Rattle.flat_model.specs.Events.{IsCounted};
+ghost use Rattle.flat_model.specs.EventTotals.{IsCounted};
 ghost use Rattle.flat_model.specs.Limiting.{
   IsWithinPids,
   IsLimiting,

@@ -1,4 +1,5 @@
 mod Cuts
+mod Slashes
 mod Scans
 mod Texts
 mod Fronts

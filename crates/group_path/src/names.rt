@@ -5,6 +5,7 @@ ghost use Rattle.std.specs.Iterator.{YieldsFirstBy, item_count};
 ghost use Rattle.std.specs.List.{position};
 ghost use Rattle.flat_model.specs.PathText.{is_slash};
 
+use memchr::memchr;
 use std::marker::Model;
 
 /// The names of a path from the root down, or the first of them, as slices of its text.
@@ -37,11 +38,38 @@ impl<'a> Names<'a> {
     }
 }
 
-/// The index of the first slash.
-fn next_slash(bytes: &[u8]) -> Option<usize>
+/// How many bytes are searched one by one. Most names are shorter, and a search by vectors costs more to begin.
+const NEAR: usize = 16;
+
+/// The index of the first slash, byte by byte.
+fn near_slash(bytes: &[u8]) -> Option<usize>
     ensures { result ≡ position is_slash bytes.now }
 {
     bytes.iter().position(|b| *b == b'/')
+}
+
+/// The index of the first slash, by vectors.
+fn far_slash(bytes: &[u8]) -> Option<usize>
+    ensures { result ≡ position is_slash bytes.now }
+{
+    memchr(b'/', bytes)
+}
+
+/// The index of the first slash: byte by byte among the first `NEAR` bytes, then by vectors.
+fn next_slash(bytes: &[u8]) -> Option<usize>
+    ensures { result ≡ position is_slash bytes.now }
+{
+    if bytes.len() <= NEAR {
+        return near_slash(bytes);
+    }
+    let (near, far) = bytes.split_at(NEAR);
+    if let Some(at) = near_slash(near) {
+        return Some(at);
+    }
+    match far_slash(far) {
+        Some(at) => Some(NEAR + at),
+        None => None,
+    }
 }
 
 impl<'a> Iterator for Names<'a> {

@@ -1,6 +1,6 @@
 //! A path and its readers.
 
-ghost use Rattle.std.specs.Prelude.{◌≡◌, ◌≢◌, ℕ, ◌<◌, ◌≤◌, [], true, if◌then◌else◌, length, take, IfErr, IfOk, IsOk, IsOkAnd, MatchResult};
+ghost use Rattle.std.specs.Prelude.{◌≡◌, ◌≢◌, ℕ, ◌<◌, ◌≤◌, [], true, if◌then◌else◌, length, take, IfErr, IfOk, IsOk, IsOkAnd, MatchResult, nat_le};
 ghost use Rattle.inline_bytes.specs.declared.bytes.TheConstants.{INLINE_MAX};
 ghost use Rattle.flat_model.specs.Path.{Path, at_or_below, is_root, parent, same_path};
 ghost use Rattle.flat_model.specs.PathText.{IsPath, path_text, read_path};
@@ -9,7 +9,7 @@ ghost use Rattle.group_path.specs.FollowsGrammar.{FollowsGrammar};
 use crate::fault::PathFault;
 use crate::grammar::{DEPTH_MAX, check_text};
 use crate::names::Names;
-use inline_bytes::InlineBytes;
+use inline_bytes::{INLINE_MAX, InlineBytes};
 use std::alloc::{AllocError, Allocator};
 use std::marker::Model;
 
@@ -139,16 +139,34 @@ impl<A: Allocator + Clone> GroupPath<A> {
         ensures group { IfOk result (λ p. p ≡ (if is_root self.now then None else Some (parent self.now))) }
         ensures few { length (path_text (parent self.now)) ≤ INLINE_MAX → IsOk result }
     {
-        let _ = &self.text;
         let depth = self.depth();
         if depth == 0 {
             return Ok(None);
         }
-        let text = InlineBytes::copy_of(alloc, &self.text()[..self.prefix_len(depth - 1)])?;
-        Ok(Some(GroupPath { text }))
+        let parent = self.front(alloc, depth - 1)?;
+        Ok(Some(parent))
     }
 
-    /// A copy of the path in another allocator. Linear in the text.
+    /// The path of the first `n` names, or of all if there are no more than `n`, in another allocator. It gives the group that
+    /// a call names by a number of names. It copies only the text of these names. Linear in that text.
+    ///
+    /// # Errors
+    ///
+    /// `AllocError` when out of memory. A text of at most `INLINE_MAX` bytes needs no allocation.
+    pub fn front<B: Allocator + Clone>(
+        &self,
+        alloc: B,
+        n: usize,
+    ) -> Result<GroupPath<B>, AllocError>
+        ensures group { IfOk result (λ p. p ≡ take n self.now) }
+        ensures few { length (path_text (take n self.now)) ≤ INLINE_MAX → IsOk result }
+    {
+        let _ = &self.text;
+        let text = InlineBytes::copy_of(alloc, &self.text()[..self.prefix_len(n)])?;
+        Ok(GroupPath { text })
+    }
+
+    /// A copy of the path in another allocator. Its text is one that `share` of the copy can share. Linear in the text.
     ///
     /// # Errors
     ///
@@ -157,11 +175,34 @@ impl<A: Allocator + Clone> GroupPath<A> {
         // The path is the same, and only a text that is not inline can run out of memory.
         ensures { MatchResult result (λ p. p ≡ self.now) (λ _. INLINE_MAX < length (path_text self.now)) }
     {
-        let text = InlineBytes::copy_of(alloc, self.text.as_slice())?;
+        let text = self.text.copy(alloc)?;
         Ok(GroupPath { text })
     }
 
-    /// Keeps the first `n` names. Linear in their text.
+    /// The same path again, in the same allocator. If `copy` or `share` made this one, they share its text: that takes
+    /// constant time and allocates nothing. Any other text is copied as by `copy`.
+    ///
+    /// # Errors
+    ///
+    /// `AllocError` when out of memory, or if 2^63 paths share the text. A text of at most `INLINE_MAX` bytes needs no
+    /// allocation.
+    pub fn share(&self) -> Result<GroupPath<A>, AllocError>
+        // The path is the same, and only a text that is not inline can run out of memory.
+        ensures { MatchResult result (λ p. p ≡ self.now) (λ _. INLINE_MAX < length (path_text self.now)) }
+    {
+        let text = self.text.share()?;
+        Ok(GroupPath { text })
+    }
+
+    /// Whether the text has at most `INLINE_MAX` bytes. A copy of such a path allocates nothing.
+    pub fn is_short(&self) -> bool
+        ensures { result ≡ nat_le (length (path_text self.now)) INLINE_MAX }
+    {
+        self.text().len() <= INLINE_MAX
+    }
+
+    /// Keeps the first `n` names, and allocates nothing. Paths that share the text keep theirs. Linear in the text of the
+    /// names.
     pub fn cut(&mut self, n: usize)
         requires { n ≤ length self.old }
         ensures { self.new ≡ take n self.old }

@@ -7,7 +7,7 @@ use Rattle.flat_model.specs.Step.{counts_for}
 use Rattle.flat_model.proofs.PathLaws.{at_or_below_length}
 use Rattle.group_tree.specs.declared.attr.Attr.{Attr}
 use Rattle.group_tree.specs.Groups.{Groups}
-use Rattle.group_tree.specs.Peaks.{peaked_by, SetsPeaks}
+use Rattle.group_tree.specs.PeaksAlong.{peaked_by, SetsPeaks}
 use Rattle.group_tree.proofs.Changed.{IsAlong, unchanged, below-cons, off_path}
 
 -- at the end of the names nothing is left to be set

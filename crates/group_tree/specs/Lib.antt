@@ -5,8 +5,8 @@ pub mod Admission
 pub mod Along
 pub mod ChildNames
 pub mod Refusals
-pub mod Peaks
+pub mod PeaksAlong
 pub mod Node
 pub mod Settings
 pub mod Sorted
-pub mod Codes
+pub mod TreeCodes

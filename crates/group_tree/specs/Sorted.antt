@@ -52,7 +52,8 @@ below_kids : (n : List ℕ) (p : List (List ℕ)) (kids : List Branch) → AllAb
 below_kids n p [] h = tt
 below_kids n p (k ∷ kids) h = below_append (n ∷ p) (under k.name (fin.entries k.groups)) (below kids) (below_other n k.name p (fin.entries k.groups) h.0) (below_kids n p kids h.1)
 
-sorted_append : (n : List ℕ) (es : List GroupEntry) (kids : List Branch) → T (is_sorted path_cmp es) → AllAbove n kids → T (is_sorted path_cmp (below kids)) → T (is_sorted path_cmp (under n es ++ below kids))
+sorted_append : (n : List ℕ) (es : List GroupEntry) (kids : List Branch) → T (is_sorted path_cmp es) → AllAbove n kids
+    → T (is_sorted path_cmp (below kids)) → T (is_sorted path_cmp (under n es ++ below kids))
 sorted_append n [] kids h a s = s
 sorted_append n (e ∷ es) kids h a s =
     both _ _ (below_append (n ∷ e.0) (under n es) (below kids) (below_under n e.0 es (first _ _ h)) (below_kids n e.0 kids a)) (sorted_append n es kids (second _ _ h) a s)

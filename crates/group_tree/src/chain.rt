@@ -18,7 +18,9 @@ impl<A: Allocator> Node<A> {
         names: Names<'_>,
         slots: &mut SmallVec<u16, 8, B>,
     ) -> Result<bool, AllocError>
-        ensures chain { IfOk result (λ b. MatchBool b (IsSome (fin.get self.now.groups names.entry) × (slots.new.items ≡ slots.old.items ++ chain_of self.now.groups names.entry)) (fin.get self.now.groups names.entry ≡ None)) }
+        ensures chain { IfOk result (λ b. MatchBool b
+            (IsSome (fin.get self.now.groups names.entry) × (slots.new.items ≡ slots.old.items ++ chain_of self.now.groups names.entry))
+            (fin.get self.now.groups names.entry ≡ None)) }
         ensures absent { fin.get self.now.groups names.entry ≡ None → result ≡ Ok false }
         ensures in_place { PushesInPlace slots.old slots.new (length names.entry) result }
     {

@@ -28,7 +28,7 @@ pub struct Node<A: Allocator> {
 impl<A: Allocator> Model for Node<A> {
     ghost use Rattle.std.specs.Prelude.{◌≡◌, ℕ, List};
     ghost use Rattle.group_tree.specs.Node.{Branch, groups_of, IsNode};
-    ghost use Rattle.group_tree.specs.Codes.{branch_code};
+    ghost use Rattle.group_tree.specs.TreeCodes.{branch_code};
 
     ghost Value = { Branch };
 

@@ -1,7 +1,7 @@
 //! The peaks of the groups along a path, set during one descent.
 
 ghost use Rattle.std.specs.Prelude.{◌≡◌, length};
-ghost use Rattle.group_tree.specs.Peaks.{SetsPeaks};
+ghost use Rattle.group_tree.specs.PeaksAlong.{SetsPeaks};
 
 use crate::attr::Attr;
 use crate::node::{Node, place};

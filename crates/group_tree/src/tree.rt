@@ -8,7 +8,7 @@ ghost use Rattle.group_tree.specs.Flat.{CountsAsFlat};
 ghost use Rattle.group_tree.specs.Along.{along_of};
 ghost use Rattle.group_tree.specs.ChildNames.{NamesChildren};
 ghost use Rattle.group_tree.specs.Refusals.{Counts};
-ghost use Rattle.group_tree.specs.Peaks.{SetsPeaks};
+ghost use Rattle.group_tree.specs.PeaksAlong.{SetsPeaks};
 ghost use Rattle.group_tree.specs.Admission.{Admits};
 ghost use Rattle.group_tree.specs.Settings.{ReplacesLimit};
 ghost use Rattle.group_tree.specs.Groups.{IsClosed, Inserts, Sets, Removes, only_root, descendant_count, chain_of};
@@ -34,7 +34,7 @@ pub struct GroupTree<A: Allocator> {
 
 impl<A: Allocator> Model for GroupTree<A> {
     ghost use Rattle.group_tree.specs.Groups.{Groups, IsClosed};
-    ghost use Rattle.group_tree.specs.Codes.{groups_code};
+    ghost use Rattle.group_tree.specs.TreeCodes.{groups_code};
 
     ghost Value = { Groups };
 
@@ -168,7 +168,8 @@ impl<A: Allocator> GroupTree<A> {
     /// The same as `descendants`, for the group at the first `n` names of the path.
     pub fn descendants_at<B: Allocator + Clone>(&self, path: &GroupPath<B>, n: usize) -> Option<u64>
         requires { n ≤ length path.now }
-        ensures counted { MatchOption result (fin.get self.now (take n path.now) ≡ None) (λ k. IsSome (fin.get self.now (take n path.now)) × (k ≡ descendant_count self.now (take n path.now) % 2 ^ 64)) }
+        ensures counted { MatchOption result (fin.get self.now (take n path.now) ≡ None)
+            (λ k. IsSome (fin.get self.now (take n path.now)) × (k ≡ descendant_count self.now (take n path.now) % 2 ^ 64)) }
         ensures exact { fin.len self.now < 2 ^ 64 → IfSome result (λ k. k ≡ descendant_count self.now (take n path.now)) }
     {
         self.root.descendants(path.first_names(n))

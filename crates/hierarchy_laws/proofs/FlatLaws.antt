@@ -22,7 +22,7 @@ use Rattle.group_tree.specs.Groups.{Groups, slot_of, chain_of}
 use Rattle.group_tree.specs.Along.{along_of}
 use Rattle.group_tree.specs.Flat.{limit_of, limits_of, group_of}
 use Rattle.group_tree.specs.Refusals.{Counts, HasRoomForRefusals, counted_by}
-use Rattle.group_tree.specs.Peaks.{SetsPeaks, peaked_by}
+use Rattle.group_tree.specs.PeaksAlong.{SetsPeaks, peaked_by}
 use Rattle.group_tree.specs.Limits.{refusal_along, names_of, without_processes}
 
 -- an event total after one refused fork more, and after one less

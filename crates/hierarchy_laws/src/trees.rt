@@ -19,15 +19,18 @@ ghost use Rattle.group_tree.specs.Groups.{Groups, IsClosed, only_root, HasBelow,
 ghost use Rattle.group_tree.specs.Along.{groups_down, along_of};
 ghost use Rattle.group_tree.specs.Flat.{limit_of, limit_file_of, group_of};
 ghost use Rattle.group_tree.specs.Refusals.{Counts, HasRoomForRefusals, counted_by};
-ghost use Rattle.group_tree.specs.Peaks.{SetsPeaks, peaked_by};
+ghost use Rattle.group_tree.specs.PeaksAlong.{SetsPeaks, peaked_by};
 ghost use Rattle.group_tree.specs.Limits.{refusal_along, names_of, without_processes};
 
 /// What inserting a group returns, depending on the tree: one fault if the group exists, one if its parent doesn't exist,
 /// and otherwise only out of memory. Each fault leaves the tree unchanged.
 pub fn faults_of_a_new_group()
     ensures exists { (old new : Groups) (p : Path) (attr : Attr) (r : Result (Unit {0}) TreeFault) → IsSome (get old p) → Inserts old new p attr r ↔ ((r ≡ Err Exists) × (new ≡ old)) }
-    ensures no_parent { (old new : Groups) (p : Path) (attr : Attr) (r : Result (Unit {0}) TreeFault) → get old p ≡ None → get old (parent p) ≡ None → Inserts old new p attr r ↔ ((r ≡ Err NoParent) × (new ≡ old)) }
-    ensures made { (old new : Groups) (p : Path) (attr : Attr) (r : Result (Unit {0}) TreeFault) → get old p ≡ None → IsSome (get old (parent p)) → Inserts old new p attr r ↔ (((r ≡ Ok tt) × (new ≡ insert old p attr)) ⊎ ((r ≡ Err OutOfMemory) × (new ≡ old))) }
+    ensures no_parent { (old new : Groups) (p : Path) (attr : Attr) (r : Result (Unit {0}) TreeFault) → get old p ≡ None
+        → get old (parent p) ≡ None → Inserts old new p attr r ↔ ((r ≡ Err NoParent) × (new ≡ old)) }
+    ensures made { (old new : Groups) (p : Path) (attr : Attr) (r : Result (Unit {0}) TreeFault) → get old p ≡ None
+        → IsSome (get old (parent p)) → Inserts old new p attr r
+        ↔ (((r ≡ Ok tt) × (new ≡ insert old p attr)) ⊎ ((r ≡ Err OutOfMemory) × (new ≡ old))) }
 {}
 
 /// Setting attributes succeeds exactly if the group exists.
@@ -40,8 +43,10 @@ pub fn only_a_group_is_set()
 pub fn faults_of_a_removal()
     ensures root { (old new : Groups) (r : Result Attr TreeFault) → Removes old new [] r ↔ ((r ≡ Err RootFixed) × (new ≡ old)) }
     ensures absent { (old new : Groups) (p : Path) (r : Result Attr TreeFault) → p ≢ [] → get old p ≡ None → Removes old new p r ↔ ((r ≡ Err NoGroup) × (new ≡ old)) }
-    ensures children { (old new : Groups) (p : Path) (attr : Attr) (r : Result Attr TreeFault) → p ≢ [] → get old p ≡ Some attr → HasBelow old p → Removes old new p r ↔ ((r ≡ Err HasChildren) × (new ≡ old)) }
-    ensures removed { (old new : Groups) (p : Path) (attr : Attr) (r : Result Attr TreeFault) → p ≢ [] → get old p ≡ Some attr → HasNoneBelow old p → Removes old new p r ↔ ((r ≡ Ok attr) × (new ≡ remove old p)) }
+    ensures children { (old new : Groups) (p : Path) (attr : Attr) (r : Result Attr TreeFault) → p ≢ [] → get old p ≡ Some attr
+        → HasBelow old p → Removes old new p r ↔ ((r ≡ Err HasChildren) × (new ≡ old)) }
+    ensures removed { (old new : Groups) (p : Path) (attr : Attr) (r : Result Attr TreeFault) → p ≢ [] → get old p ≡ Some attr
+        → HasNoneBelow old p → Removes old new p r ↔ ((r ≡ Ok attr) × (new ≡ remove old p)) }
 {}
 
 /// Whether some group is below a path: the test of the tree's paths decides it.
@@ -78,7 +83,8 @@ pub fn refusals_are_counted()
     ensures slot { (g : ℕ → ℕ) (a q : Path) (x : Attr) → (counted_by g a q x).slot ≡ x.slot }
     ensures peak { (g : ℕ → ℕ) (a q : Path) (x : Attr) → (counted_by g a q x).peak ≡ x.peak }
     ensures greatest { (n : ℕ) → min (n + 1) (2 ^ 64 - 1) < 2 ^ 64 }
-    ensures all_up { (old new : Groups) (a q : Path) → HasRoomForRefusals old → Counts (λ m. min (m + 1) (2 ^ 64 - 1)) old new a → get (map_values group_of new) q ≡ option_map (count_up a q) (get (map_values group_of old) q) }
+    ensures all_up { (old new : Groups) (a q : Path) → HasRoomForRefusals old → Counts (λ m. min (m + 1) (2 ^ 64 - 1)) old new a
+        → get (map_values group_of new) q ≡ option_map (count_up a q) (get (map_values group_of old) q) }
     ensures all_down { (old new : Groups) (a q : Path) → Counts (λ m. m - 1) old new a → get (map_values group_of new) q ≡ option_map (count_down a q) (get (map_values group_of old) q) }
 {}
 
@@ -96,10 +102,12 @@ pub fn peaks_are_set()
 /// A group, its child and its grandchild: the slots upward, the groups downward, and the attributes of those that exist. The
 /// root is not among them.
 pub fn three_groups()
-    ensures chain { (m : Groups) (a b c : Name) (x y z : Attr) → get m (a ∷ []) ≡ Some x → get m (a ∷ b ∷ []) ≡ Some y → get m (a ∷ b ∷ c ∷ []) ≡ Some z → chain_of m (a ∷ b ∷ c ∷ []) ≡ z.slot ∷ y.slot ∷ x.slot ∷ [] }
+    ensures chain { (m : Groups) (a b c : Name) (x y z : Attr) → get m (a ∷ []) ≡ Some x → get m (a ∷ b ∷ []) ≡ Some y
+        → get m (a ∷ b ∷ c ∷ []) ≡ Some z → chain_of m (a ∷ b ∷ c ∷ []) ≡ z.slot ∷ y.slot ∷ x.slot ∷ [] }
     ensures root_chain { (m : Groups) → chain_of m [] ≡ [] }
     ensures down { (a b c : Name) → groups_down (a ∷ b ∷ c ∷ []) ≡ (a ∷ []) ∷ (a ∷ b ∷ []) ∷ (a ∷ b ∷ c ∷ []) ∷ [] }
-    ensures along { (m : Groups) (a b c : Name) (x y z : Attr) → get m (a ∷ []) ≡ Some x → get m (a ∷ b ∷ []) ≡ Some y → get m (a ∷ b ∷ c ∷ []) ≡ Some z → along_of m (a ∷ b ∷ c ∷ []) ≡ x ∷ y ∷ z ∷ [] }
+    ensures along { (m : Groups) (a b c : Name) (x y z : Attr) → get m (a ∷ []) ≡ Some x → get m (a ∷ b ∷ []) ≡ Some y
+        → get m (a ∷ b ∷ c ∷ []) ≡ Some z → along_of m (a ∷ b ∷ c ∷ []) ≡ x ∷ y ∷ z ∷ [] }
     ensures some_along { (m : Groups) (a b c : Name) (x y : Attr) → get m (a ∷ []) ≡ Some x → get m (a ∷ b ∷ []) ≡ Some y → get m (a ∷ b ∷ c ∷ []) ≡ None → along_of m (a ∷ b ∷ c ∷ []) ≡ x ∷ y ∷ [] }
     ensures root_along { (m : Groups) → along_of m [] ≡ [] }
 {}

@@ -6,7 +6,9 @@
 //! fail are in one loop after them, because a proof grows with the number of places at which a function may end.
 //!
 //! - `paths`: texts with their faults, and each public call of `GroupPath`.
+//! - `path_names`: the names of a path, and the path of the first of them.
 //! - `path_memory`: paths in a small heap, with each allocation refused.
+//! - `path_sharing`: paths that share a text in a small heap.
 //! - `calls`: a tree of five groups, and the calls of a table.
 //! - `tree`: each public call of `GroupTree`, in tables of calls, and the refusals in their order.
 //! - `limits`: the limits of a group, and the first one that a new group meets.
@@ -23,6 +25,10 @@ mod calls;
 mod limits;
 #[cfg(test)]
 mod path_memory;
+#[cfg(test)]
+mod path_names;
+#[cfg(test)]
+mod path_sharing;
 #[cfg(test)]
 mod paths;
 #[cfg(test)]

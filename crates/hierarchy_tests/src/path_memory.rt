@@ -43,6 +43,8 @@ enum Call {
     ReadOther(&'static [u8]),
     Parent,
     Child(&'static [u8]),
+    /// The path of so many names.
+    Front(usize),
     Copy,
 }
 
@@ -82,6 +84,10 @@ fn made<'a>(
         },
         Call::Copy => match path.copy(heap) {
             Ok(copy) => Ok(copy),
+            Err(AllocError) => Err(PathFault::OutOfMemory),
+        },
+        Call::Front(n) => match path.front(heap, n) {
+            Ok(front) => Ok(front),
             Err(AllocError) => Err(PathFault::OutOfMemory),
         },
         Call::Parent => match path.parent(heap) {
@@ -131,7 +137,7 @@ fn rows<'t>(
     above: &'t [u8],
     text: &'t [u8],
     below: &'t [u8],
-) -> [(Call, Result<&'t [u8], PathFault>, bool); 7] {
+) -> [(Call, Result<&'t [u8], PathFault>, bool); 9] {
     [
         (Call::Root, Ok(b"/"), false),
         (Call::Read, Ok(text), true),
@@ -140,6 +146,8 @@ fn rows<'t>(
         (Call::Child(b".."), Err(PathFault::DotName), false),
         (Call::ReadOther(b"/.."), Err(PathFault::DotName), false),
         (Call::Copy, Ok(text), true),
+        (Call::Front(1), Ok(above), true),
+        (Call::Front(0), Ok(b"/"), false),
     ]
 }
 
@@ -155,8 +163,8 @@ fn each_allocation_of_a_path_refused(rt: HostRuntime) -> Result<(), Fail> {
     Ok(())
 }
 
-/// Paths of up to 23 bytes allocate nothing. In a full heap, a path of 24 bytes has only its parent; with 23 bytes
-/// everything but the child works, and with 21 bytes everything.
+/// Paths of up to 23 bytes allocate nothing. In a full heap, a path of 24 bytes has only its parent and its first name; with
+/// 23 bytes everything but the child works, and with 21 bytes everything.
 #[test]
 fn short_paths_in_a_full_heap(rt: HostRuntime) -> Result<(), Fail> {
     let heap = LocalHeap::new(rt.alloc(), 1024)?;
@@ -178,6 +186,18 @@ fn short_paths_in_a_full_heap(rt: HostRuntime) -> Result<(), Fail> {
             Call::Parent,
             Ok(b"/aaaaaaaaaaaaaaaaaaaaa"),
             false,
+        ),
+        (
+            b"/aaaaaaaaaaaaaaaaaaaaa/b",
+            Call::Front(1),
+            Ok(b"/aaaaaaaaaaaaaaaaaaaaa"),
+            false,
+        ),
+        (
+            b"/aaaaaaaaaaaaaaaaaaaaa/b",
+            Call::Front(2),
+            Ok(b"/aaaaaaaaaaaaaaaaaaaaa/b"),
+            true,
         ),
         (
             b"/aaaaaaaaaaaaaaaaaaaa/b",

@@ -1,6 +1,6 @@
 //! Texts that are paths and texts that are not, and each public call on a path.
 
-use group_path::{DEPTH_MAX, GroupPath, NAME_MAX, Names, PathFault, TEXT_MAX};
+use group_path::{DEPTH_MAX, GroupPath, NAME_MAX, PathFault, TEXT_MAX};
 use std::alloc::{AllocError, Allocator, Global};
 use std::cmp::Ordering;
 use std::test::Fail;
@@ -154,34 +154,6 @@ fn bounds(rt: HostRuntime) -> Result<(), Fail> {
     for (count, len, last, behind, wanted) in rows {
         let found = fault_of_names(rt.alloc(), count, len, last, behind)?;
         assert!(rt; found == wanted, "{count} {len}");
-    }
-    Ok(())
-}
-
-/// Whether these are the names, each followed by a comma.
-fn are_listed(names: Names<'_>, wanted: &[u8]) -> bool {
-    let mut rest = wanted;
-    for name in names {
-        match rest.strip_prefix(name) {
-            Some([b',', more @ ..]) => rest = more,
-            _ => return false,
-        }
-    }
-    rest.is_empty()
-}
-
-#[test]
-fn names_from_the_root(rt: HostRuntime) -> Result<(), Fail> {
-    let path = GroupPath::read(rt.alloc(), b"/a/bc/d")?;
-    assert!(rt; are_listed(path.names(), b"a,bc,d,"));
-    let rows = [
-        (0, b"".as_slice()),
-        (2, b"a,bc,"),
-        (3, b"a,bc,d,"),
-        (4, b"a,bc,d,"),
-    ];
-    for (n, wanted) in rows {
-        assert!(rt; are_listed(path.first_names(n), wanted), "{n}");
     }
     Ok(())
 }

@@ -11,10 +11,10 @@ use Rattle.snzi_core.specs.declared.holding.Role.TheVariants.{Spent}
 use Rattle.snzi_core.specs.declared.unlawful.Unlawful.{Unlawful}
 use Rattle.snzi_core.specs.declared.unlawful.Unlawful.TheVariants.{NoNode, NoToken, Cap}
 use Rattle.snzi_core.specs.Holding.{out, gain, lose, raise, empty, rejoined}
-use Rattle.snzi_core.specs.State.{State as Core, hand_of, node_of, parent_of, root_of, stripe_of}
+use Rattle.snzi_core.specs.CoreState.{State as Core, hand_of, node_of, parent_of, root_of, stripe_of}
 use Rattle.snzi_core.specs.Lawful.{refuse, refusal, refuses_split, has_token, main_has, is_zero, passes_up, is_crowded}
 use Rattle.snzi_core.specs.Effect.{after, arrived, descended, departed, ascended, Runs}
-use Rattle.snzi_tree.specs.Events.{CanSplit, IsLawful, Comes}
+use Rattle.snzi_tree.specs.BoardEvents.{CanSplit, IsLawful, Comes}
 use Rattle.snzi_tree.proofs.Events.{passed, below_cap}
 
 neither : (a b : Bool) → a ≡ false → b ≡ false → (a || b) ≡ false

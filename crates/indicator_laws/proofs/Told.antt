@@ -4,7 +4,7 @@ use Rattle.std.specs.List.{slice_get}
 use Rattle.snzi_core.specs.declared.unlawful.Unlawful.{Unlawful}
 use Rattle.snzi_core.specs.declared.unlawful.Unlawful.TheVariants.{NoHand, NoToken, Cap, StillHolding, OutOfMemory, NoNode, ZeroNode}
 use Rattle.snzi_core.specs.declared.event.Event.{Event}
-use Rattle.snzi_core.specs.State.{State}
+use Rattle.snzi_core.specs.CoreState.{State}
 use Rattle.snzi_core.specs.Lawful.{refusal}
 use Rattle.snzi_core.specs.Effect.{after, Runs, Refuses, Stops}
 

@@ -3,7 +3,7 @@ use Rattle.std.proofs.Common.{◌≡◌, ℕ, zero, suc, List, [], ◌∷◌, sy
 use Rattle.snzi_core.specs.declared.event.Event.{Event}
 use Rattle.snzi_core.specs.declared.holding.Holding.{Holding}
 use Rattle.snzi_core.specs.Holding.{tokens_at, amount_at}
-use Rattle.snzi_core.specs.State.{State as Core, hand_of, size}
+use Rattle.snzi_core.specs.CoreState.{State as Core, hand_of, size}
 use Rattle.snzi_core.proofs.Start.{zeros}
 use Rattle.snzi_tree.specs.Ended.{HasEnded}
 

@@ -4,7 +4,7 @@ use Rattle.snzi_core.specs.declared.event.At.{At}
 use Rattle.snzi_core.specs.declared.event.Token.{Token}
 use Rattle.snzi_core.specs.declared.holding.Holding.{Holding}
 use Rattle.snzi_core.specs.declared.holding.Role.TheVariants.{Main, Helper}
-use Rattle.snzi_core.specs.State.{State}
+use Rattle.snzi_core.specs.CoreState.{State}
 
 -- one slot of three nodes and two stripes: main has n helpers out and these tokens, and hand 1 is a helper with those
 abbrev pub core : List ℕ → ℕ → List ℕ → List ℕ → State

@@ -8,7 +8,7 @@ ghost use Rattle.snzi_core.specs.declared.holding.Holding.{Holding};
 ghost use Rattle.snzi_core.specs.declared.holding.Role.TheVariants.{Main, Helper, Spent};
 ghost use Rattle.snzi_core.specs.declared.unlawful.Unlawful.{Unlawful};
 ghost use Rattle.snzi_core.specs.declared.unlawful.Unlawful.TheVariants.{NoHand, NoToken, Cap, StillHolding, OutOfMemory, NoNode, ZeroNode};
-ghost use Rattle.snzi_core.specs.State.{State, IsRuled, hand_of, start};
+ghost use Rattle.snzi_core.specs.CoreState.{State, IsRuled, hand_of, start};
 ghost use Rattle.snzi_core.specs.Holding.{put, added, merged, without, wrapped, held, gain, lose, raise, empty, main_weight, helper_weight, out, keeper, helper_with, rejoined};
 ghost use Rattle.snzi_core.specs.Kept.{HasTables, IsCore};
 ghost use Rattle.snzi_core.specs.Lawful.{refusal, refuses_split};

@@ -4,6 +4,7 @@ ghost use Rattle.std.specs.Prelude.{◌≡◌, ◌+◌, ◌<◌, ◌≤◌, ◌^
 
 use std::alloc::{AllocError, Allocator};
 use std::marker::Model;
+use std::sync::Arc;
 
 /// The greatest number of bytes stored inline. With their length they fill the same space as a vector.
 pub const INLINE_MAX: usize = 23;
@@ -12,13 +13,22 @@ pub const INLINE_MAX: usize = 23;
 #[derive(Drop)]
 pub(crate) enum Place<A: Allocator> {
     /// Inline: the first `len` of these bytes.
-    Inline { bytes: [u8; INLINE_MAX], len: u8 },
+    Inline {
+        bytes: [u8; INLINE_MAX],
+        len: u8,
+    },
+    /// In an allocation of this value alone.
     Heap(Vec<u8, A>),
+    /// The first `len` bytes of a vector that several values can own. No call changes it.
+    Shared {
+        text: Arc<Vec<u8, A>, A>,
+        len: usize,
+    },
 }
 
 /// A list of bytes. Up to `INLINE_MAX` of them are stored in the value itself.
 pub struct InlineBytes<A: Allocator> {
-    place: Place<A>,
+    pub(crate) place: Place<A>,
 }
 
 impl<A: Allocator> Model for InlineBytes<A> {
@@ -113,7 +123,7 @@ impl<A: Allocator> InlineBytes<A> {
     }
 
     /// Stores a few bytes inline.
-    fn inline(few: &[u8]) -> InlineBytes<A>
+    pub(crate) fn inline(few: &[u8]) -> InlineBytes<A>
         requires { length few.now ≤ INLINE_MAX }
         ensures { result ≡ few.now }
     {
@@ -131,10 +141,12 @@ impl<A: Allocator> InlineBytes<A> {
         match &self.place {
             Place::Inline { bytes, len } => &bytes[..usize::from(*len)],
             Place::Heap(heap) => heap.as_slice(),
+            Place::Shared { text, len } => &text.as_slice()[..*len],
         }
     }
 
-    /// Keeps the first `n` bytes, or all if there are no more than `n`.
+    /// Keeps the first `n` bytes, or all if there are no more than `n`. Allocates nothing. Values that share the vector keep
+    /// their bytes.
     pub fn truncate(&mut self, n: usize)
         ensures { self.new ≡ take n self.old }
     {
@@ -145,6 +157,11 @@ impl<A: Allocator> InlineBytes<A> {
                 }
             }
             Place::Heap(heap) => heap.truncate(n),
+            Place::Shared { text: _, len } => {
+                if n < *len {
+                    *len = n;
+                }
+            }
         }
     }
 }

@@ -6,7 +6,7 @@ use Rattle.flat_model.specs.Path.{same_name}
 use Rattle.flat_model.specs.File.{file_name, file_named}
 use Rattle.interface_files.specs.declared.file.File.{File}
 use Rattle.interface_files.specs.declared.file.File.TheVariants.{Procs, Events, Stat, MaxDescendants, MaxDepth, KillFile, PidsMax, PidsCurrent, PidsPeak, PidsEvents, PidsEventsLocal}
-use Rattle.interface_files.specs.Meaning.{file_of}
+use Rattle.interface_files.specs.FileMeaning.{file_of}
 
 pub same_bytes : (a b name : List ℕ) (r : Bool) → a ≡ b → r ≡ pointwise nat_eq a name → r ≡ same_name b name
 same_bytes a b name r e h = h ∙ texts_ties a name ∙ ap (λ t. same_name t name) e

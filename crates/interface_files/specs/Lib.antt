@@ -1,2 +1,2 @@
-pub mod Meaning
+pub mod FileMeaning
 pub mod Shown

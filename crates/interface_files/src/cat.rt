@@ -6,7 +6,7 @@ ghost use Rattle.flat_model.specs.Counts.{is_group};
 ghost use Rattle.flat_model.specs.File.{Procs, readable};
 ghost use Rattle.flat_model.specs.FileText.{file_text};
 ghost use Rattle.flat_model.specs.Step.{refusal};
-ghost use Rattle.interface_files.specs.Meaning.{file_of};
+ghost use Rattle.interface_files.specs.FileMeaning.{file_of};
 ghost use Rattle.interface_files.specs.Shown.{Shows};
 
 use crate::fault::ShowFault;
@@ -19,8 +19,8 @@ use std::alloc::{AllocError, Allocator};
 /// The text of a file of the group at the path. It changes nothing; it borrows the charges mutably because reading a meter
 /// requires it.
 ///
-/// `cgroup.procs` costs a walk over all processes. Every other file costs one descent of the tree, and a refusal two,
-/// however many groups and processes there are.
+/// `cgroup.procs` costs O(n log n) for n processes of the group. Every other file costs one descent of the tree, and a
+/// refusal two, however many groups and processes there are.
 ///
 /// # Errors
 ///

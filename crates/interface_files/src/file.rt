@@ -3,7 +3,7 @@
 ghost use Rattle.std.specs.Prelude.{◌≡◌, find, option_map};
 ghost use Rattle.flat_model.specs.File.{file_name, file_named, on_root, readable, writable};
 ghost use Rattle.flat_model.specs.Path.{same_name};
-ghost use Rattle.interface_files.specs.Meaning.{file_of};
+ghost use Rattle.interface_files.specs.FileMeaning.{file_of};
 
 /// An interface file of a group (admin-guide, "Core Interface Files" and "PID Interface Files").
 #[derive(Clone, Copy, Debug, PartialEq, Eq)]

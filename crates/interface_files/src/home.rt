@@ -25,8 +25,8 @@ fn home_line<B: Allocator, P: Allocator + Clone>(
     Ok(text)
 }
 
-/// The text of `/proc/PID/cgroup`: `0::`, the path of the process's group, and a line feed. Costs O(log processes) and the
-/// path's length.
+/// The text of `/proc/PID/cgroup`: `0::`, the path of the process's group, and a line feed. Costs the path's
+/// length.
 ///
 /// # Errors
 ///

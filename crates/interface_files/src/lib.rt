@@ -11,14 +11,14 @@
 //!   Neither changes anything. Refusals come first, in a fixed order. Out of memory comes last, and only if an allocation
 //!   failed.
 //! - A number or a flag costs one descent of the tree, however many groups and processes there are. A home costs one
-//!   look-up. `cgroup.procs` costs a walk over all processes. A text is built once, in one buffer.
+//!   look-up. `cgroup.procs` costs O(n log n) for n processes of the group. A text is built once, in one buffer.
 //! - The names and the readers of values allocate nothing.
 //!
 //! Not promised: how often a buffer grows.
 //!
 //! The definitions are in `flat_model`: `specs/File.antt` (names, and which group has which file), `specs/Values.antt`
-//! (values and their faults), `specs/FileText.antt` (texts). `specs/Meaning.antt` in this crate maps files and faults to the
-//! model's, `specs/Shown.antt` says what `render` and `render_home` return. Their laws are in `journal_laws`.
+//! (values and their faults), `specs/FileText.antt` (texts). `specs/FileMeaning.antt` in this crate maps files and faults to
+//! the model's, `specs/Shown.antt` says what `render` and `render_home` return. Their laws are in `journal_laws`.
 #![tactic(auto)]
 
 mod cat;

@@ -8,7 +8,7 @@ ghost use Rattle.flat_model.specs.Path.{same_name};
 ghost use Rattle.flat_model.specs.Refuse.{map_ok};
 ghost use Rattle.flat_model.specs.Values.{limit_max, limit_from, read_limit};
 ghost use Rattle.group_tree.specs.Flat.{limit_of, limit_file_of};
-ghost use Rattle.interface_files.specs.Meaning.{reading_of};
+ghost use Rattle.interface_files.specs.FileMeaning.{reading_of};
 
 use crate::fault::ValueFault;
 use crate::number::{read_number, trimmed};

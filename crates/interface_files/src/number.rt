@@ -6,7 +6,7 @@ ghost use Rattle.std.specs.List.{list_all, position};
 ghost use Rattle.std.specs.Str.{all_ascii_digits};
 ghost use Rattle.std.specs.Str.Parse.{digits_value};
 ghost use Rattle.flat_model.specs.Values.{is_space, without_front, without_end, trimmed, begins_with_zero, read_number};
-ghost use Rattle.interface_files.specs.Meaning.{reading_of};
+ghost use Rattle.interface_files.specs.FileMeaning.{reading_of};
 
 use crate::fault::ValueFault;
 

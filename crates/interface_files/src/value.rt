@@ -3,7 +3,7 @@
 ghost use Rattle.std.specs.Prelude.{◌≡◌};
 ghost use Rattle.flat_model.specs.Refuse.{map_ok};
 ghost use Rattle.flat_model.specs.Values.{read_pid, read_kill};
-ghost use Rattle.interface_files.specs.Meaning.{reading_of};
+ghost use Rattle.interface_files.specs.FileMeaning.{reading_of};
 
 use crate::fault::ValueFault;
 use crate::number::{read_number, trimmed};

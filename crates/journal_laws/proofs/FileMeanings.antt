@@ -2,7 +2,7 @@
 use Rattle.std.proofs.Common.{◌≡◌, refl}
 use Rattle.flat_model.specs.File as model_file
 use Rattle.flat_model.specs.Values as model_values
-use Rattle.interface_files.specs.Meaning.{file_of, value_fault_of}
+use Rattle.interface_files.specs.FileMeaning.{file_of, value_fault_of}
 use Rattle.interface_files.specs.declared.file.File.{File}
 use Rattle.interface_files.specs.declared.file.File.TheVariants.{Procs, Events, Stat, MaxDescendants, MaxDepth, KillFile, PidsMax, PidsCurrent, PidsPeak, PidsEvents, PidsEventsLocal}
 use Rattle.interface_files.specs.declared.fault.ValueFault.{ValueFault}

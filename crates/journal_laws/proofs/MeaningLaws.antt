@@ -9,7 +9,7 @@ use Rattle.group_tree.specs.declared.attr.Limit.TheVariants as limit
 use Rattle.group_tree.specs.declared.attr.LimitFile.{LimitFile}
 use Rattle.group_tree.specs.declared.attr.LimitFile.TheVariants as limit_file
 use Rattle.group_tree.specs.Flat.{limit_of, limit_file_of}
-use Rattle.interface_files.specs.Meaning.{file_of}
+use Rattle.interface_files.specs.FileMeaning.{file_of}
 use Rattle.interface_files.specs.declared.file.File.{File}
 use Rattle.interface_files.specs.declared.file.File.TheVariants as file
 use Rattle.undo_journal.specs.declared.command.Command.{Command}
@@ -18,7 +18,7 @@ use Rattle.undo_journal.specs.declared.reply.Refusal.{Refusal}
 use Rattle.undo_journal.specs.declared.reply.Refusal.TheVariants as refusal
 use Rattle.undo_journal.specs.declared.reply.Reply.{Reply}
 use Rattle.undo_journal.specs.declared.reply.Reply.TheVariants as reply
-use Rattle.undo_journal.specs.Meaning.{command_of, refusal_of, reply_of}
+use Rattle.undo_journal.specs.CommandMeaning.{command_of, refusal_of, reply_of}
 
 limit_meant : (m : flat.Limit) → (l : Limit) × (limit_of l ≡ m)
 limit_meant flat.Unlimited = (limit.Unlimited, refl)

@@ -8,7 +8,7 @@ use Rattle.flat_model.specs.Command as model
 use Rattle.flat_model.specs.Trace as trace
 use Rattle.trace_lines.specs.declared.fault.TextFault.{TextFault}
 use Rattle.trace_lines.specs.declared.fault.TextFault.TheVariants as text
-use Rattle.trace_lines.specs.Meaning.{text_fault_of, Says}
+use Rattle.trace_lines.specs.LineMeaning.{text_fault_of, Says}
 
 pub fault_for : (m : trace.TextFault) → (f : TextFault) × (text_fault_of f ≡ m)
 fault_for trace.BadSyntax = (text.Syntax, refl)

@@ -13,7 +13,7 @@ ghost use Rattle.flat_model.specs.File.{file_name, on_root, readable, writable};
 ghost use Rattle.flat_model.specs.Machine.{accepted};
 ghost use Rattle.flat_model.specs.Step.{refusal};
 ghost use Rattle.flat_model.specs.Values as model_values;
-ghost use Rattle.interface_files.specs.Meaning.{file_of, value_fault_of, reading_of};
+ghost use Rattle.interface_files.specs.FileMeaning.{file_of, value_fault_of, reading_of};
 ghost use Rattle.interface_files.specs.Shown.{Shows, ShowsHome};
 ghost use Rattle.interface_files.specs.declared.fault.ShowFault.{ShowFault};
 ghost use Rattle.interface_files.specs.declared.fault.ShowFault.TheVariants.{

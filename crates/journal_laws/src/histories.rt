@@ -76,7 +76,7 @@ ghost use Rattle.undo_journal.specs.Answer.{
 ghost use Rattle.undo_journal.specs.Beginning.{beginning, forgotten};
 ghost use Rattle.undo_journal.specs.Headline.{IsReached, KeepsHistory, UndoesAll};
 ghost use Rattle.undo_journal.specs.History.{IsHistory, IsReady, machine_of, records};
-ghost use Rattle.undo_journal.specs.Meaning.{command_of, inverse_of, reply_of};
+ghost use Rattle.undo_journal.specs.CommandMeaning.{command_of, inverse_of, reply_of};
 ghost use Rattle.journal_laws.specs.Runs.{KeepsEach};
 
 /// An answer is unique: the machine has one successor, and there is one reply, which is never out of memory.

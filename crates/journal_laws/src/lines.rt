@@ -14,7 +14,7 @@ ghost use Rattle.trace_lines.specs.declared.line.Line.{Line};
 ghost use Rattle.trace_lines.specs.declared.line.Line.TheVariants as lines;
 ghost use Rattle.trace_lines.specs.Action.{write_at, show_at};
 ghost use Rattle.trace_lines.specs.Cut.{the_one, the_two, the_three};
-ghost use Rattle.trace_lines.specs.Meaning.{text_fault_of, Says};
+ghost use Rattle.trace_lines.specs.LineMeaning.{text_fault_of, Says};
 ghost use Rattle.trace_lines.specs.Replied.{AddsReply};
 
 /// Each text fault is one of the model's, and each of the model's is one of these. A line that was read is the model's, and

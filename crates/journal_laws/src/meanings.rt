@@ -36,7 +36,7 @@ ghost use Rattle.undo_journal.specs.declared.reply.Refusal.{Refusal};
 ghost use Rattle.undo_journal.specs.declared.reply.Refusal.TheVariants as refusal;
 ghost use Rattle.undo_journal.specs.declared.reply.Reply.{Reply};
 ghost use Rattle.undo_journal.specs.declared.reply.Reply.TheVariants as reply;
-ghost use Rattle.undo_journal.specs.Meaning.{command_of, inverse_of, refusal_of, reply_of};
+ghost use Rattle.undo_journal.specs.CommandMeaning.{command_of, inverse_of, refusal_of, reply_of};
 
 /// Different commands, refusals or replies over one allocator have different meanings.
 pub fn meanings_are_apart()

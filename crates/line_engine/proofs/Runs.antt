@@ -7,12 +7,12 @@ use Rattle.flat_model.specs.Command as model
 use Rattle.flat_model.specs.Machine.{Machine, tick}
 use Rattle.flat_model.specs.Replies.{reply_bytes}
 use Rattle.undo_journal.specs.declared.reply.Reply.{Reply}
-use Rattle.undo_journal.specs.Meaning.{reply_of}
+use Rattle.undo_journal.specs.CommandMeaning.{reply_of}
 use Rattle.undo_journal.specs.Answer.{Answers, undoes_without_memory}
 use Rattle.undo_journal.specs.Headline.{KeepsHistory}
 use Rattle.line_engine.specs.declared.answer.Answer.{Answer}
 use Rattle.line_engine.specs.declared.answer.Answer.TheVariants as answer
-use Rattle.line_engine.specs.Answers.{slots, is_told, AnswersRun}
+use Rattle.line_engine.specs.LineAnswers.{slots, is_told, AnswersRun}
 use Rattle.line_engine.specs.Ready.{AnswersReply, is_loud, is_counted_reply, ready_reply}
 use Rattle.line_engine.proofs.Quiet.{quiet, loud, counted}
 

@@ -5,9 +5,9 @@ use Rattle.std.specs.declared.alloc.Global.{Global}
 use Rattle.flat_model.specs.Command as model
 use Rattle.flat_model.specs.Machine.{Machine, tick}
 use Rattle.undo_journal.specs.declared.reply.Reply.{Reply}
-use Rattle.undo_journal.specs.Meaning.{reply_of}
+use Rattle.undo_journal.specs.CommandMeaning.{reply_of}
 use Rattle.undo_journal.specs.Answer.{Answers, undoes_without_memory}
-use Rattle.line_engine.specs.Answers.{slots}
+use Rattle.line_engine.specs.LineAnswers.{slots}
 use Rattle.line_engine.specs.Ready.{is_counted_reply}
 
 untold_false : (b : Bool) (m n : Machine) → m ≡ cond (b && false) n m

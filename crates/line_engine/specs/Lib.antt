@@ -1,6 +1,6 @@
-pub mod Codes
+pub mod FaultCodes
 pub mod Buffer
-pub mod Answers
+pub mod LineAnswers
 pub mod Ready
 pub mod Listings
 pub mod Numbers

@@ -4,7 +4,7 @@ use Rattle.flat_model.specs.Command.{Command, Reply, Done, Text, Undone, Refused
 use Rattle.flat_model.specs.Machine.{Machine, undone}
 use Rattle.flat_model.specs.Replies.{reply_bytes}
 use Rattle.line_engine.specs.Buffer.{Holds, LacksRoom}
-use Rattle.line_engine.specs.Codes.{reply_code}
+use Rattle.line_engine.specs.FaultCodes.{reply_code}
 use Rattle.line_engine.specs.declared.answer.Answer.{Answer}
 use Rattle.line_engine.specs.declared.answer.Answer.TheVariants.{Skipped, Answered, TooSmall, OutOfMemory}
 

@@ -1,9 +1,9 @@
 //! The result of answering a line, and the codes of refusals and faults.
 
 ghost use Rattle.std.specs.Prelude.{◌≡◌, IfSome};
-ghost use Rattle.undo_journal.specs.Meaning.{reply_of, refusal_of};
-ghost use Rattle.trace_lines.specs.Meaning.{text_fault_of};
-ghost use Rattle.line_engine.specs.Codes.{reply_code, refusal_code, fault_code};
+ghost use Rattle.undo_journal.specs.CommandMeaning.{reply_of, refusal_of};
+ghost use Rattle.trace_lines.specs.LineMeaning.{text_fault_of};
+ghost use Rattle.line_engine.specs.FaultCodes.{reply_code, refusal_code, fault_code};
 
 use std::alloc::Global;
 use trace_lines::TextFault;

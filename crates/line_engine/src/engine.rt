@@ -3,9 +3,9 @@
 ghost use Rattle.std.specs.Prelude.{◌≡◌, IfOk, length};
 ghost use Rattle.flat_model.specs.Machine.{new_machine};
 ghost use Rattle.flat_model.specs.Trace.{read_line};
-ghost use Rattle.trace_lines.specs.Meaning.{text_fault_of};
+ghost use Rattle.trace_lines.specs.LineMeaning.{text_fault_of};
 ghost use Rattle.undo_journal.specs.Beginning.{forgotten};
-ghost use Rattle.line_engine.specs.Answers.{AnswersFault, AnswersLine};
+ghost use Rattle.line_engine.specs.LineAnswers.{AnswersFault, AnswersLine};
 
 use crate::answer::{Answer, code_of_fault};
 use crate::writing::put_out;

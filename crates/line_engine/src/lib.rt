@@ -15,7 +15,7 @@
 //!
 //! Not promised: what the buffer holds if there is no output.
 //!
-//! `specs/Answers.antt` says what answering a line returns and leaves, `specs/Codes.antt` lists the codes,
+//! `specs/LineAnswers.antt` says what answering a line returns and leaves, `specs/FaultCodes.antt` lists the codes,
 //! `specs/Listings.antt` says what a listing of groups holds, `specs/Numbers.antt` what the numbers of a group are, and
 //! `specs/Buffer.antt` what a buffer holds and when it is too small.
 #![tactic(auto)]

@@ -1,4 +1,4 @@
 pub mod Model
 pub mod Journal
-pub mod Desks
+pub mod Sessions
 pub mod Traces

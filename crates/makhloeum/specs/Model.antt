@@ -14,11 +14,11 @@ pub use Rattle.flat_model.specs.CommandText
 pub use Rattle.flat_model.specs.Machine
 pub use Rattle.flat_model.specs.WellFormed
 pub use Rattle.flat_model.specs.Limiting
-pub use Rattle.flat_model.specs.Events
-pub use Rattle.flat_model.specs.Peaks
+pub use Rattle.flat_model.specs.EventTotals
+pub use Rattle.flat_model.specs.RaisedPeaks
 pub use Rattle.flat_model.specs.Log
 pub use Rattle.flat_model.specs.Audit
 pub use Rattle.flat_model.specs.Trace
 pub use Rattle.flat_model.specs.Replies
-pub use Rattle.flat_model.specs.Codes
+pub use Rattle.flat_model.specs.StateCodes
 pub use Rattle.flat_model.specs.Mapped

@@ -1,5 +1,5 @@
 -- The meaning of a line, the output for a command, and what a replay leaves of its devices.
-pub use Rattle.trace_lines.specs.Meaning
+pub use Rattle.trace_lines.specs.LineMeaning
 pub use Rattle.trace_lines.specs.Replied
 pub use Rattle.replay_main.specs.Device
 pub use Rattle.replay_main.specs.Replayed

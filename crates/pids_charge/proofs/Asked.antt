@@ -20,7 +20,7 @@ use Rattle.std.specs.Ordering.{nat_cmp}
 use Rattle.std.specs.List.Sorted.{IsStrictlySortedBy}
 use Rattle.std.specs.Map.{keys_of, lookup}
 use Rattle.std.specs.BTreeMap.{is_at, insert_entry}
-use Rattle.pids_charge.specs.declared.process.Process.{Process}
+use Rattle.process_table.specs.declared.process.Process.{Process}
 use Rattle.pids_charge.proofs.Entries.{home_rows, to_sorted, find_home, put_home}
 use Rattle.group_tree.specs.Groups.{Groups, Inserts}
 use Rattle.group_tree.specs.Limits.{without_processes, refusal_along}

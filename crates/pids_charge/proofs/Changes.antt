@@ -12,6 +12,7 @@ use Rattle.pids_charge.specs.Content.{Content}
 use Rattle.pids_charge.specs.Lists.{Row}
 use Rattle.pids_charge.specs.Recount.{HasSlots, Recounted, IsPlaced, SameSlots, chain_at, charges_of}
 use Rattle.pids_charge.proofs.Entries.{sum_by-same}
+use Rattle.pids_charge.proofs.TableSlots.{table_slot_same}
 
 -- what an insert leaves at a path
 pub which : (tree : Groups) (p : Path) (x : Attr) (q : Path) → ((q ≡ p) × (fin.get (fin.insert tree p x) q ≡ Some x)) ⊎ ((q ≡ p → ⊥) × (fin.get (fin.insert tree p x) q ≡ fin.get tree q))
@@ -64,8 +65,8 @@ module _ (old new : Groups) (same : SameSlots old new) where
   pub charges_stay : {A : Type 0} (leaves : ℕ) (es : List (Row A)) (content : Content) (held : ℕ) → Recounted leaves old es content held → Recounted leaves new es content held
   charges_stay leaves es content held d = record {
     ordered = d.ordered;
-    pids_below = d.pids_below;
-    placed = All-weaker (λ p. IsPlaced leaves old p) (λ p. IsPlaced leaves new p) (λ p h. record { home = is p.home h.home; leaf_below = h.leaf_below }) (values_of es) d.placed;
+    pids = d.pids;
+    placed = All-weaker (λ p. IsPlaced leaves old p) (λ p. IsPlaced leaves new p) (λ p h. record { home = is p.home h.home; slot = h.slot ∙ table_slot_same old new p.home (sym (same.slots p.home)); leaf_below = h.leaf_below }) (values_of es) d.placed;
     counted = λ s j. d.counted s j ∙ sum_by-same (λ p. charges_of old p s j) (λ p. charges_of new p s j) (values_of es) (All-weaker (λ p. IsPlaced leaves old p) (λ p. charges_of old p s j ≡ charges_of new p s j) (λ p h. sym (chain_stays p.home p.leaf s j (length p.home))) (values_of es) d.placed);
     held_is = d.held_is;
   }

@@ -1,5 +1,5 @@
 -- A table copied row by row, each process at its leaf modulo a number of leaves.
-use Rattle.std.proofs.Common.{◌≡◌, ℕ, ◌+◌, ◌++◌, ◌∷◌, ◌<◌, ◌≤◌, ◌^◌, ◌%◌, [], List, length, map, sum_by, refl, sym, ap, ◌∙◌, subst, append_assoc, arith, rules}
+use Rattle.std.proofs.Common.{◌≡◌, ℕ, ◌+◌, ◌++◌, ◌∷◌, ◌≤◌, ◌%◌, [], List, length, map, sum_by, refl, sym, ap, ◌∙◌, subst, append_assoc, append-nil, arith, rules}
 use Rattle.std.proofs.lemmas.List.Elements.{All-head, All-tail, All-cons}
 use Rattle.std.proofs.lemmas.List.Sums.{sum_by-cons}
 use Rattle.std.specs.declared.cmp.Ordering.TheVariants.{Less}
@@ -12,10 +12,11 @@ use Rattle.std.specs.BTreeMap.{insert_entry}
 use Rattle.std.specs.FinMap as fin
 use Rattle.group_tree.specs.Groups.{Groups}
 use Rattle.flat_model.specs.Path.{Path}
+use Rattle.flat_model.specs.CommandText.{IsPid}
 use Rattle.pids_charge.specs.Content.{Content}
 use Rattle.pids_charge.specs.Lists.{Row, at_leaf_below, row_below}
 use Rattle.pids_charge.specs.Recount.{Recounted, IsPlaced, charges_at, charges_of, state_of}
-use Rattle.pids_charge.specs.declared.process.Process.{Process}
+use Rattle.process_table.specs.declared.process.Process.{Process}
 use Rattle.pids_charge.proofs.Entries.{home_rows, sum_by-mapped}
 
 -- ---- an entry put behind all others
@@ -33,7 +34,16 @@ module _ {X : Type 0} where
 
 -- ---- one row after another
 
+pub all_rows : {X Y : Type 0} (f : X → Y) (now : List Y) (rest : List X) {whole : List Y} → rest ≡ [] → now ++ map f rest ≡ whole → now ≡ whole
+all_rows f now rest none h = sym (ap (λ r. now ++ map f r) none ∙ append-nil now) ∙ h
+
 module _ {A : Type 0} where
+  pub all_summed : (f : Process A → ℕ) (all es rest : List (Row A)) (now before : ℕ) → rest ≡ [] → all ≡ es → now + sum_by f (values_of rest) ≡ before + sum_by f (values_of all) → now ≡ before + sum_by f (values_of es)
+  all_summed f all es rest now before none same h =
+      let left = ap (λ (fs : List (Row A)). sum_by f (values_of fs)) none in
+      let whole = ap (λ (fs : List (Row A)). sum_by f (values_of fs)) same in
+      omega (arith, left, whole, h)
+
   pub one_more_summed : (f : Process A → ℕ) (e : Row A) (rest all : List (Row A)) (now next whole : ℕ) → all ≡ e ∷ rest → next ≡ now + f e.1
       → now + sum_by f (values_of all) ≡ whole → next + sum_by f (values_of rest) ≡ whole
   one_more_summed f e rest all now next whole step more before =
@@ -71,7 +81,7 @@ module _ {A : Type 0} (B : Type 0) (leaves : ℕ) where
   placed_below leaves2 tree (p ∷ ps) some h =
       let one = All-head (λ p. IsPlaced leaves2 tree p) p ps h in
       All-cons (λ p. IsPlaced leaves tree p) (at_leaf_below leaves p) (map (at_leaf_below leaves) ps)
-      (record { home = one.home; leaf_below = omega (arith, some) }) (placed_below leaves2 tree ps some (All-tail (λ p. IsPlaced leaves2 tree p) p ps h))
+      (record { home = one.home; slot = one.slot; leaf_below = omega (arith, some) }) (placed_below leaves2 tree ps some (All-tail (λ p. IsPlaced leaves2 tree p) p ps h))
 
   pub recounted : (leaves2 : ℕ) (tree : Groups) (es : List (Row A)) (content content2 : Content) (held held2 : ℕ) → Recounted leaves2 tree es content2 held2 → 1 ≤ leaves
       → ((s j : ℕ) → content s j ≡ sum_by (λ p. charges_at tree p.home (p.leaf % leaves) s j) (values_of es)) → held ≡ sum_by (λ p. length p.home) (values_of es)
@@ -80,7 +90,7 @@ module _ {A : Type 0} (B : Type 0) (leaves : ℕ) where
       let sum = λ (f : Process B → ℕ). ap (sum_by f) (values_below es) ∙ sum_by-mapped f (at_leaf_below leaves) (values_of es) in
       record {
         ordered = subst (IsStrictlySortedBy nat_cmp) (sym (keys_below es)) d.ordered;
-        pids_below = subst (All (λ k. k < 2 ^ 22)) (sym (keys_below es)) d.pids_below;
+        pids = subst (All IsPid) (sym (keys_below es)) d.pids;
         placed = subst (All (λ (p : Process B). IsPlaced leaves tree p)) (sym (values_below es)) (placed_below leaves2 tree (values_of es) some d.placed);
         counted = λ s j. counted s j ∙ sym (sum (λ p. charges_of tree p s j));
         held_is = many ∙ sym (sum (λ p. length p.home));

@@ -15,8 +15,9 @@ use Rattle.group_tree.specs.Groups.{Groups}
 use Rattle.snzi_core.specs.Listed.{one_at, over_leaves}
 use Rattle.pids_charge.specs.Content.{Content}
 use Rattle.pids_charge.specs.Lists.{Row}
-use Rattle.pids_charge.specs.Recount.{Recounted, IsPlaced, HasSlots, slot_at, chain_at, charges_of, state_of}
-use Rattle.pids_charge.specs.declared.process.Process.{Process}
+use Rattle.pids_charge.specs.Recount.{Recounted, IsPlaced, HasSlots, chain_at, charges_of, state_of}
+use Rattle.pids_charge.specs.Lists.{slot_at}
+use Rattle.process_table.specs.declared.process.Process.{Process}
 use Rattle.pids_charge.proofs.Entries.{home_rows, to_sorted, sum_by-same, sum_by-mapped}
 
 -- a sum over the leaves, by its terms

@@ -15,7 +15,8 @@ use Rattle.group_tree.proofs.Downward.{down-cons}
 use Rattle.snzi_core.specs.declared.event.Token.{Token}
 use Rattle.snzi_core.specs.Listed.{listed_at, one_at}
 use Rattle.pids_charge.specs.Content.{Content}
-use Rattle.pids_charge.specs.Recount.{slot_at, chain_at, charges_at, SlotsApart, SlotsBelow}
+use Rattle.pids_charge.specs.Lists.{slot_at}
+use Rattle.pids_charge.specs.Recount.{chain_at, charges_at, SlotsApart, SlotsBelow}
 
 -- one charge with the leaf at each of these
 abbrev pub charges_in : List Attr → ℕ → Content

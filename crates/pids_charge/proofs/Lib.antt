@@ -2,6 +2,7 @@ mod Below
 mod Tokens
 pub mod InParts
 mod Entries
+mod TableSlots
 mod Listing
 mod Listed
 mod Charged
@@ -21,7 +22,7 @@ mod Exited
 mod Walked
 mod Totals
 mod PeaksRaised
-mod PeaksNoted
+mod Noted
 mod Forked
 mod Removals
 mod Empty

@@ -14,7 +14,7 @@ use Rattle.flat_model.proofs.PathLaws.{at_or_below_take, at_or_below_length}
 use Rattle.flat_model.proofs.Peaks.{both_by, named, peak_upward, length-peaks_upward}
 use Rattle.group_tree.specs.Flat.{group_of}
 use Rattle.group_tree.specs.Groups.{Groups, slot_of}
-use Rattle.group_tree.specs.Peaks.{peaked_by}
+use Rattle.group_tree.specs.PeaksAlong.{peaked_by}
 use Rattle.group_tree.specs.declared.attr.Attr.{Attr}
 use Rattle.snzi_core.specs.Listed.{over_leaves}
 use Rattle.pids_charge.specs.Content.{Content}
@@ -55,24 +55,23 @@ module _ (leaves : ℕ) (content : Content) (tree : Groups) (p : Path) (raised :
         | false ↦ λ c. refl
       ] refl
 
-  -- where some peak rises, those that rise are set
+  -- the peaks that were reached are set
   pub raised_set : (new : Groups) → ((q : Path) → fin.get new q ≡ option_map (peaked_by p raised q) (fin.get tree q)) → (q : Path) → fin.get new q ≡ option_map (raised_by leaves content p q) (fin.get tree q)
   raised_set new set q = set q ∙ set_to q (fin.get tree q) refl
 
-  module _ (earlier : List ℕ) (was : AreUpward peak_of tree p earlier) (none : (k : ℕ) → k < length p → get_or raised k 0 ≡ get_or earlier k 0) where
-    stays : (q : Path) (o : Option Attr) → fin.get tree q ≡ o → o ≡ option_map (raised_by leaves content p q) o
-    stays q None e = refl
-    stays q (Some x) e =
-        elim (counts_for p q) as (λ b. counts_for p q ≡ b → ◌≡◌ {A = Option Attr} (Some x) (Some (record x { peak = cond b (max x.peak (over_leaves leaves (content x.slot))) x.peak }))) [
-          | true ↦ λ c. ap (λ (n : ℕ). Some (record x { peak = n }))
-              (ap peak_of (sym e) ∙ sym (up_at peak_of tree p earlier was q c) ∙ sym (none (length p - length q) (place peak_of tree p earlier was q c))
-              ∙ up_at (reached_of leaves content) tree p raised up q c ∙ ap (reached_of leaves content) e)
-          | false ↦ λ c. refl
-        ] refl
+-- the peaks that they are
+module _ (tree : Groups) (p : Path) (peaks : List ℕ) (up : AreUpward peak_of tree p peaks) where
+  stays : (q : Path) (o : Option Attr) → fin.get tree q ≡ o → o ≡ option_map (peaked_by p peaks q) o
+  stays q None e = refl
+  stays q (Some x) e =
+      elim (counts_for p q) as (λ b. counts_for p q ≡ b → ◌≡◌ {A = Option Attr} (Some x) (Some (record x { peak = cond b (get_or peaks (length p - length q) x.peak) x.peak }))) [
+        | true ↦ λ c. ap (λ (n : ℕ). Some (record x { peak = n })) (ap peak_of (sym e) ∙ sym (up_or peak_of tree p peaks up q x.peak c))
+        | false ↦ λ c. refl
+      ] refl
 
-    -- where none rises, all stay
-    pub raised_none : (q : Path) → fin.get tree q ≡ option_map (raised_by leaves content p q) (fin.get tree q)
-    raised_none q = stays q (fin.get tree q) refl
+  -- setting these changes nothing
+  pub none_set : (q : Path) → fin.get tree q ≡ option_map (peaked_by p peaks q) (fin.get tree q)
+  none_set q = stays q (fin.get tree q) refl
 
 -- ---- the same in the flat state
 
@@ -115,7 +114,7 @@ module _ {A : Type 0} (slots leaves : ℕ) (tree new : Groups) (es : List (Row A
       let stays = charges_stay tree new same leaves es final held d in
       record {
         ordered = stays.ordered;
-        pids_below = stays.pids_below;
+        pids = stays.pids;
         placed = stays.placed;
         counted = λ s j. alike s j ∙ stays.counted s j;
         held_is = stays.held_is;

@@ -26,8 +26,9 @@ use Rattle.group_tree.specs.declared.fault.TreeFault.{TreeFault}
 use Rattle.group_tree.specs.declared.fault.TreeFault.TheVariants as tree
 use Rattle.pids_charge.specs.Content.{Content}
 use Rattle.pids_charge.specs.Lists.{Row}
-use Rattle.pids_charge.specs.Recount.{HasSlots, Recounted, IsPlaced, slot_at, state_of}
-use Rattle.pids_charge.specs.declared.process.Process.{Process}
+use Rattle.pids_charge.specs.Lists.{slot_at}
+use Rattle.pids_charge.specs.Recount.{HasSlots, Recounted, IsPlaced, state_of}
+use Rattle.process_table.specs.declared.process.Process.{Process}
 use Rattle.pids_charge.proofs.Asked.{nonroot, refuse_none, is_there, group-is}
 use Rattle.pids_charge.proofs.Charged.{all_both, regrouped}
 use Rattle.pids_charge.proofs.Entries.{home_rows, to_sorted}

@@ -16,9 +16,11 @@ use Rattle.flat_model.proofs.PathLaws.{path_cmp-IsTotalOrder, path_cmp-IsAntisym
 use Rattle.group_tree.specs.Groups.{Groups, IsClosed, only_root}
 use Rattle.group_tree.specs.Flat.{group_of}
 use Rattle.group_tree.specs.declared.attr.Attr.{Attr}
+use Rattle.flat_model.specs.CommandText.{IsPid}
 use Rattle.pids_charge.specs.Content.{Content, IsEmpty}
+use Rattle.pids_charge.specs.Lists.{table_slot}
 use Rattle.pids_charge.specs.Recount.{AreAllFree, IsWhole, IsPlaced, charges_at, charges_of, state_of}
-use Rattle.pids_charge.specs.declared.process.Process.{Process}
+use Rattle.process_table.specs.declared.process.Process.{Process}
 
 get-root : {X : Type 0} (a : X) (p : Path) → fin.get (fin.insert (fin.empty {R = path_cmp}) [] a) p ≡ cond (eq_by_cmp path_cmp p []) (Some a) None
 get-root {X} a p = fin.get-insert path_cmp-IsTotalOrder fin.empty [] a p ∙ ap (cond (eq_by_cmp path_cmp p []) (Some a)) (fin.get-empty {X = X} path_cmp p)
@@ -60,9 +62,9 @@ module _ {A : Type 0} (a : Attr) (tree : Groups) (is : tree ≡ only_root a) (x 
   one_group = ap (λ (t : Groups). fin.len t) is ∙ fin.len-insert path_cmp-IsTotalOrder fin.empty [] a ∙ ap (λ (o : Option Attr). cond (is_some o) (fin.len (fin.empty {X = Attr} {R = path_cmp})) (fin.len (fin.empty {X = Attr} {R = path_cmp}) + 1)) (fin.get-empty path_cmp []) ∙ ap (λ n. n + 1) (fin.len-empty path_cmp Attr)
 
   pub started : (slots leaves capacity : ℕ) (free : List ℕ) (content : Content) (held : ℕ)
-      → IsClosed tree → AreAllFree slots free → slots < 2 ^ 16 → slots ≤ capacity → IsEmpty content held → x.leaf ≡ 0 → 1 ≤ leaves
+      → IsClosed tree → AreAllFree slots free → slots < 2 ^ 16 → slots ≤ capacity → IsEmpty content held → x.slot ≡ 0 → x.leaf ≡ 0 → 1 ≤ leaves
       → IsWhole slots leaves tree ((1, x) ∷ []) free capacity content held
-  started slots leaves capacity free content held closed h few room empty leaf some = record {
+  started slots leaves capacity free content held closed h few room empty slot leaf some = record {
     has_slots = record {
       few = few;
       closed = closed;
@@ -77,8 +79,8 @@ module _ {A : Type 0} (a : Attr) (tree : Groups) (is : tree ≡ only_root a) (x 
     room = room;
     recounted = record {
       ordered = to_ascending ((1, x) ∷ []) tt;
-      pids_below = All-cons (λ k. k < 2 ^ 22) 1 [] (omega arith) (search rules);
-      placed = All-cons (λ p. IsPlaced leaves tree p) x [] (record { home = subst (λ (q : Path). IsSome (fin.get tree q)) (sym home) closed.root; leaf_below = omega (arith, leaf) }) (search rules);
+      pids = All-cons IsPid 1 [] (omega arith, omega arith) (search rules);
+      placed = All-cons (λ p. IsPlaced leaves tree p) x [] (record { home = subst (λ (q : Path). IsSome (fin.get tree q)) (sym home) closed.root; slot = slot ∙ sym (ap (table_slot tree) home); leaf_below = omega (arith, leaf) }) (search rules);
       counted = λ s j. let none : charges_at tree x.home x.leaf s j ≡ 0 = ap (λ (q : Path). charges_at tree q x.leaf s j) home in omega (arith, empty.nothing s j, none, sum_by-cons (λ p. charges_of tree p s j) x []);
       held_is = omega (arith, empty.none, ap length home, sum_by-cons (λ p. length p.home) x []);
     };

@@ -4,5 +4,6 @@ pub mod Table
 pub mod Lists
 pub mod Recount
 pub mod Events
+pub mod PeakPlaces
 pub mod Peaks
 pub mod Answers

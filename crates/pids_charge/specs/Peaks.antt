@@ -3,7 +3,7 @@ use Rattle.std.specs.Prelude.{ℕ, ◌-◌, ◌<◌, ◌≡◌, max, cond, List,
 use Rattle.std.specs.FinMap as fin
 use Rattle.flat_model.specs.Path.{Path}
 use Rattle.flat_model.specs.Step.{counts_for}
-use Rattle.group_tree.specs.Groups.{Groups}
+use Rattle.group_tree.specs.Groups.{Groups, slot_of}
 use Rattle.group_tree.specs.declared.attr.Attr.{Attr}
 use Rattle.snzi_core.specs.Listed.{over_leaves}
 use Rattle.pids_charge.specs.Content.{Content}
@@ -26,3 +26,13 @@ raised_by leaves content a q attr = record attr { peak = cond (counts_for a q) (
 pub record AreUpward (f : Option Attr → ℕ) (tree : Groups) (p : Path) (ns : List ℕ) : Type 0 where
   pub many : length ns ≡ length p
   pub each : (k : ℕ) → k < length p → get_or ns k 0 ≡ f (fin.get tree (take (length p - k) p))
+
+-- the slots and the peaks of groups
+pub record Noted : Type 0 where
+  pub slots : List ℕ
+  pub peaks : List ℕ
+
+-- they are those of the groups from p upward, without the root
+pub record IsNoted (tree : Groups) (p : Path) (notes : Noted) : Type 0 where
+  pub slots : AreUpward slot_of tree p notes.slots
+  pub peaks : AreUpward peak_of tree p notes.peaks

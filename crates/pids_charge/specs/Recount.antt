@@ -6,18 +6,15 @@ use Rattle.std.specs.List.Sorted.{IsStrictlySortedBy}
 use Rattle.std.specs.Ordering.{nat_cmp}
 use Rattle.std.specs.FinMap as fin
 use Rattle.flat_model.specs.Path.{Path}
+use Rattle.flat_model.specs.CommandText.{IsPid}
 use Rattle.flat_model.specs.State.{State}
-use Rattle.group_tree.specs.Groups.{Groups, slot_of, IsClosed}
+use Rattle.group_tree.specs.Groups.{Groups, IsClosed}
 use Rattle.group_tree.specs.Flat.{group_of}
 use Rattle.flat_model.specs.Mapped.{map_values}
 use Rattle.snzi_core.specs.Listed.{one_at}
 use Rattle.pids_charge.specs.Content.{Content}
-use Rattle.pids_charge.specs.Lists.{Row}
-use Rattle.pids_charge.specs.declared.process.Process.{Process}
-
--- the slot of the group at a path, or 0 if there is no such group
-abbrev pub slot_at : Groups → Path → ℕ
-slot_at tree p = slot_of (fin.get tree p)
+use Rattle.pids_charge.specs.Lists.{Row, slot_at, table_slot}
+use Rattle.process_table.specs.declared.process.Process.{Process}
 
 -- one charge at the leaf for the group of each prefix of 1 to n names
 abbrev pub chain_at : Groups → Path → ℕ → ℕ → Content
@@ -73,15 +70,16 @@ module _ {A : Type 0} where
   abbrev pub state_of : Groups → List (Row A) → State
   state_of tree es = record { groups = map_values group_of tree; home = fin.from_sorted (map (λ e. (e.0, e.1.home)) es) }
 
-  -- the process is in a group of the tree
+  -- the process is in a group of the tree, and in the slot of that group
   pub record IsPlaced (leaves : ℕ) (tree : Groups) (p : Process A) : Type 0 where
     pub home : IsSome (fin.get tree p.home)
+    pub slot : p.slot ≡ table_slot tree p.home
     pub leaf_below : p.leaf < leaves
 
   -- each process is in a group, and the meter holds each process's charges
   pub record Recounted (leaves : ℕ) (tree : Groups) (es : List (Row A)) (content : Content) (held : ℕ) : Type 0 where
     pub ordered : IsStrictlySortedBy nat_cmp (keys_of es)
-    pub pids_below : All (λ k. k < 2 ^ 22) (keys_of es)
+    pub pids : All IsPid (keys_of es)
     pub placed : All (λ p. IsPlaced leaves tree p) (values_of es)
     pub counted : (s j : ℕ) → content s j ≡ sum_by (λ p. charges_of tree p s j) (values_of es)
     pub held_is : held ≡ sum_by (λ p. length p.home) (values_of es)

@@ -81,7 +81,7 @@ impl<A: Allocator + Clone, M: Meter> Charges<A, M> {
         if self.tree.find(path).is_none() {
             return Err(ChargeFault::NoGroup(path.depth()));
         }
-        let Ok(Gathered { lost, tokens }) = gather::<M, _, _, _>(
+        let Ok(Gathered { pids, tokens, room }) = gather::<M, _, _, _>(
             &self.tree,
             &self.processes,
             &self.alloc,
@@ -90,7 +90,7 @@ impl<A: Allocator + Clone, M: Meter> Charges<A, M> {
             return Err(ChargeFault::OutOfMemory);
         };
         settle_alone(&mut self.meter, who % M::LEAVES, tokens.as_slice(), &[]);
-        leave(&mut self.processes, path);
+        let lost = leave(&mut self.processes, pids.as_slice(), room);
         Ok(LostList::of(lost))
     }
 
@@ -132,7 +132,7 @@ impl<A: Allocator + Clone, M: Meter> Charges<A, M> {
         self.tree.known();
         let leaf = who % M::LEAVES;
         let tokens = tokens_of::<M, _, _, _>(&self.tree, self.alloc.clone()?, list, leaf)?;
-        place_each(&mut self.processes, &self.alloc, list, leaf)?;
+        place_each::<M, _, _, _>(&self.tree, &mut self.processes, &self.alloc, list, leaf)?;
         settle_alone(&mut self.meter, leaf, &[], tokens.as_slice());
         Ok(())
     }

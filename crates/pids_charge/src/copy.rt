@@ -2,23 +2,24 @@
 
 ghost use Rattle.std.specs.Prelude.{◌≡◌, ℕ, ◌+◌, ◌%◌, ◌≤◌, IfOk, OnOk, IsSome, length, map};
 ghost use Rattle.std.specs.List.{All, sum_by};
-ghost use Rattle.std.specs.Map.{values_of};
+ghost use Rattle.std.specs.Map.{values_of, lookup};
 ghost use Rattle.std.specs.Ordering.{nat_cmp};
-ghost use Rattle.std.specs.BTreeMap.{insert_entry};
+ghost use Rattle.std.specs.BTreeMap.{insert_entry, is_at};
 ghost use Rattle.std.specs.FinMap as fin;
 ghost use Rattle.std.specs.Vec.{vec_capacity};
+ghost use Rattle.process_table.specs.Chosen.{HaveOneHome};
 ghost use Rattle.pids_charge.specs.Lists.{at_leaf_below, row_below};
 ghost use Rattle.pids_charge.specs.Recount.{charges_at, SlotsBelow};
 
 use crate::charges::Charges;
 use crate::meter::{HELD_MAX, Meter};
-use crate::pid::Pid;
 use crate::plain::PlainMeter;
-use crate::process::Process;
+use crate::rows::home_in;
 use crate::walk::charge_along;
+use group_path::GroupPath;
 use group_tree::GroupTree;
+use process_table::{Process, ProcessTable};
 use std::alloc::{AllocError, Allocator};
-use std::collections::BTreeMap;
 
 // The same slots in the same order, in a table with room for all slots.
 fn copy_slots<A: Allocator, B: Allocator>(
@@ -37,43 +38,50 @@ fn copy_slots<A: Allocator, B: Allocator>(
 // Inserts one process into a table, charged along its path at its leaf modulo the leaves of the meter.
 fn copy_one<T: Allocator, M: Meter, A: Allocator + Clone, B: Allocator + Clone>(
     tree: &GroupTree<T>,
-    table: &mut BTreeMap<Pid, Process<B>, B>,
+    table: &mut ProcessTable<B>,
     meter: &mut M,
     alloc: B,
-    pid: Pid,
+    pid: u32,
     process: &Process<A>,
 ) -> Result<(), AllocError>
     requires home { IsSome (fin.get tree.now process.now.home) }
     requires slots { SlotsBelow M.SLOTS tree.now }
     requires room { M.held meter.old + length process.now.home ≤ HELD_MAX }
-    ensures put { OnOk result (table.new.entries ≡ insert_entry nat_cmp table.old.entries pid (at_leaf_below M.LEAVES process.now)) }
+    ensures put { OnOk result (table.new ≡ insert_entry nat_cmp table.old pid (at_leaf_below M.LEAVES process.now)) }
     ensures content { OnOk result ((s j : ℕ) → M.content meter.new s j ≡ M.content meter.old s j + charges_at tree.now process.now.home (process.now.leaf % M.LEAVES) s j) }
     ensures held { OnOk result (M.held meter.new ≡ M.held meter.old + length process.now.home) }
 {
     let leaf = process.leaf % M::LEAVES;
-    let home = process.home.copy(alloc)?;
+    let slot = process.slot;
+    let home = home_in(table, &alloc, &process.home, slot)?;
     charge_along(tree, meter, &process.home, leaf);
-    let _ = table.insert(pid, Process { home, leaf })?;
+    let _ = table.insert(pid, Process { home, slot, leaf })?;
     Ok(())
 }
 
 // Inserts all processes into a table, each charged so.
 fn copy_each<T: Allocator, M: Meter, A: Allocator + Clone, B: Allocator + Clone>(
     tree: &GroupTree<T>,
-    processes: &BTreeMap<Pid, Process<A>, A>,
+    processes: &ProcessTable<A>,
     meter: &mut M,
     alloc: B,
-) -> Result<BTreeMap<Pid, Process<B>, B>, AllocError>
-    requires homes { All (λ p. IsSome (fin.get tree.now p.home)) (values_of processes.now.entries) }
+) -> Result<ProcessTable<B>, AllocError>
+    requires one { HaveOneHome (λ q. lookup (is_at (nat_cmp q)) processes.now) }
+    requires homes { All (λ p. IsSome (fin.get tree.now p.home)) (values_of processes.now) }
     requires slots { SlotsBelow M.SLOTS tree.now }
-    requires room { M.held meter.old + sum_by (λ p. length p.home) (values_of processes.now.entries) ≤ HELD_MAX }
-    ensures rows { IfOk result (λ table. table.entries ≡ map (row_below M.LEAVES) processes.now.entries) }
-    ensures content { IfOk result (λ table. (s j : ℕ) → M.content meter.new s j ≡ M.content meter.old s j + sum_by (λ p. charges_at tree.now p.home (p.leaf % M.LEAVES) s j) (values_of processes.now.entries)) }
-    ensures held { IfOk result (λ table. M.held meter.new ≡ M.held meter.old + sum_by (λ p. length p.home) (values_of processes.now.entries)) }
+    requires room { M.held meter.old + sum_by (λ p. length p.home) (values_of processes.now) ≤ HELD_MAX }
+    ensures rows { IfOk result (λ table. table ≡ map (row_below M.LEAVES) processes.now) }
+    ensures content { IfOk result (λ table. (s j : ℕ) → M.content meter.new s j ≡ M.content meter.old s j + sum_by (λ p. charges_at tree.now p.home (p.leaf % M.LEAVES) s j) (values_of processes.now)) }
+    ensures held { IfOk result (λ table. M.held meter.new ≡ M.held meter.old + sum_by (λ p. length p.home) (values_of processes.now)) }
 {
-    let _ = processes.len();
-    let mut table = BTreeMap::new(alloc.clone()?);
-    for (pid, process) in processes {
+    processes.known();
+    let root = GroupPath::root(alloc.clone()?)?;
+    let pids = processes.inside(alloc.clone()?, &root)?;
+    let mut table = ProcessTable::new(alloc.clone()?)?;
+    for pid in pids.as_slice() {
+        let Some(process) = processes.get(*pid) else {
+            unreachable!()
+        };
         copy_one(tree, &mut table, meter, alloc.clone()?, *pid, process)?;
     }
     Ok(table)

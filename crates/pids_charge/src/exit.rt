@@ -11,7 +11,8 @@ use crate::charges::Charges;
 use crate::fault::ChargeFault;
 use crate::meter::Meter;
 use crate::pid::Pid;
-use crate::process::Process;
+use crate::rows::{put_copy, take_row};
+use crate::slot::slot_in;
 use crate::walk::{charge_along, uncharge_along};
 use group_path::GroupPath;
 use std::alloc::Allocator;
@@ -28,7 +29,7 @@ impl<A: Allocator + Clone, M: Meter> Charges<A, M> {
         ensures old_home { IfOk result (λ home. home ≡ home_of self.old pid) }
         ensures certain { refusal M.SLOTS self.old (Exit pid) ≡ None → IsOk result }
     {
-        let Some(process) = self.processes.remove(&pid) else {
+        let Some(process) = take_row(&mut self.processes, pid) else {
             return Err(ChargeFault::NoProcess(pid));
         };
         let stripe = who % M::LEAVES;
@@ -42,7 +43,7 @@ impl<A: Allocator + Clone, M: Meter> Charges<A, M> {
         Ok(process.home)
     }
 
-    /// Puts a process into a group, charged at the leaf of `who`. Tests no limit. Costs one descent of the tree.
+    /// Puts a process into a group, charged at the leaf of `who`. Tests no limit. Costs two descents of the tree.
     ///
     /// # Errors
     ///
@@ -59,38 +60,14 @@ impl<A: Allocator + Clone, M: Meter> Charges<A, M> {
         ensures memory { IfErr result (λ f. f ≡ ChargeFault.OutOfMemory) }
         ensures kept { OnErr result (self.new ≡ self.old) }
     {
-        let Ok(alloc) = self.alloc.clone() else {
-            return Err(ChargeFault::OutOfMemory);
-        };
-        let Ok(home) = path.copy(alloc) else {
-            return Err(ChargeFault::OutOfMemory);
-        };
-        self.settle_in(who, pid, home)
-    }
-
-    // The same with a path that the table takes over.
-    pub(crate) fn settle_in(
-        &mut self,
-        who: u8,
-        pid: Pid,
-        home: GroupPath<A>,
-    ) -> Result<(), ChargeFault>
-        requires group { IsSome (fin.get self.old.groups home) }
-        requires new { fin.get self.old.home pid ≡ None }
-        ensures placed { OnOk result (self.new ≡ back (Exited pid home) self.old) }
-        ensures memory { IfErr result (λ f. f ≡ ChargeFault.OutOfMemory) }
-        ensures kept { OnErr result (self.new ≡ self.old) }
-    {
-        pid.get();
         self.tree.known();
+        path.known();
+        let slot = slot_in::<M, _, _>(&self.tree, path);
         let leaf = who % M::LEAVES;
-        let Ok(_) = self.processes.insert(pid, Process { home, leaf }) else {
+        let Ok(_) = put_copy(&mut self.processes, &self.alloc, pid, path, slot, leaf) else {
             return Err(ChargeFault::OutOfMemory);
         };
-        let Some(process) = self.processes.get(&pid) else {
-            unreachable!()
-        };
-        charge_along(&self.tree, &mut self.meter, &process.home, leaf);
+        charge_along(&self.tree, &mut self.meter, path, leaf);
         Ok(())
     }
 }

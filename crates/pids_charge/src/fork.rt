@@ -1,8 +1,13 @@
 //! Forks: making a process, counting a fork that a limit refuses, and undoing that count.
 
-ghost use Rattle.std.specs.Prelude.{◌≡◌, ◌≢◌, ℕ, ◌<◌, ◌≤◌, true, Some, None, IfSome, IfOk, IfErr, OnOk, OnErr, IsSome, MatchOption, length, take};
+ghost use Rattle.std.specs.Prelude.{◌≡◌, ◌≢◌, ℕ, ◌<◌, ◌≤◌, true, false, Some, None, Err, IfSome, IfOk, IfErr, OnOk, OnErr, IsSome, MatchOption, length, take};
+ghost use Rattle.std.specs.BTreeMap.{insert_entry, is_at};
 ghost use Rattle.std.specs.FinMap as fin;
+ghost use Rattle.std.specs.List.Sorted.{IsStrictlySortedBy};
+ghost use Rattle.std.specs.Map.{keys_of, lookup};
 ghost use Rattle.std.specs.Ordering.{nat_cmp};
+ghost use Rattle.flat_model.specs.CommandText.{IsPid};
+ghost use Rattle.process_table.specs.declared.process.Process.{Process};
 ghost use Rattle.flat_model.specs.Path.{Path};
 ghost use Rattle.flat_model.specs.Command.{Fork, OverPidsMax};
 ghost use Rattle.flat_model.specs.Counts.{has_process};
@@ -10,57 +15,44 @@ ghost use Rattle.flat_model.specs.Inverse.{back, Counted};
 ghost use Rattle.flat_model.specs.Step.{refusal, after, after_refusal, home_of, peaks_upward, at_each, count_up, count_down};
 ghost use Rattle.group_tree.specs.Refusals.{HasRoomForRefusals};
 ghost use Rattle.pids_charge.specs.Answers.{Does, refusal_of_fault, names_in};
-ghost use Rattle.pids_charge.specs.Events.{full_by, longest, flat_of, HasRoomForEvents, HasEvents};
-ghost use Rattle.pids_charge.specs.Recount.{SlotsBelow, SameSlots};
+ghost use Rattle.pids_charge.specs.Events.{flat_of, HasRoomForEvents, HasEvents};
+ghost use Rattle.pids_charge.specs.Lists.{process_in};
+ghost use Rattle.pids_charge.specs.Recount.{SameSlots};
 
 use crate::charges::Charges;
 use crate::fault::ChargeFault;
 use crate::meter::Meter;
-use crate::peaks::{Peaks, room_for_peaks};
+use crate::notes::{Notes, look_along};
+use crate::peaks::{Peaks, charge_noted};
 use crate::pid::Pid;
+use crate::rows::{find_row, has_row, put_beside};
 use group_path::GroupPath;
-use group_tree::{Attr, GroupTree, Limit};
-use std::alloc::Allocator;
+use group_tree::GroupTree;
+use process_table::ProcessTable;
+use std::alloc::{AllocError, Allocator};
 
-// Whether one more process would exceed the group's `pids.max`.
-fn is_full<M: Meter>(meter: &mut M, attr: &Attr) -> bool
-    requires slot { attr.now.slot < M.SLOTS }
-    ensures answer { result ≡ full_by M.LEAVES (M.content meter.old) (Some attr.now) }
-    ensures content { M.content meter.new ≡ M.content meter.old }
-    ensures held { M.held meter.new ≡ M.held meter.old }
+// All memory for a process in the group of its parent: its row of the table, and a list of the old peaks.
+fn admit<A: Allocator + Clone>(
+    processes: &mut ProcessTable<A>,
+    alloc: &A,
+    parent: Pid,
+    child: Pid,
+    leaf: u8,
+    peaks: &[u64],
+) -> Result<Peaks<A>, AllocError>
+    requires { IsSome (lookup (is_at (nat_cmp parent)) processes.old) }
+    ensures entries { OnOk result ((from : Process A) → lookup (is_at (nat_cmp parent)) processes.old ≡ Some from → processes.new ≡ insert_entry nat_cmp processes.old child (process_in from.home from.slot leaf)) }
+    ensures found { OnOk result ((from : Process A) → lookup (is_at (nat_cmp parent)) processes.old ≡ Some from → lookup (is_at (nat_cmp child)) processes.new ≡ Some (process_in from.home from.slot leaf)) }
+    ensures ordered { IsStrictlySortedBy nat_cmp (keys_of processes.new) }
+    ensures peaks { IfOk result (λ list. list ≡ peaks.now) }
+    ensures kept { OnErr result (processes.new ≡ processes.old) }
+    ensures pid { IsPid child }
 {
-    match attr.limits.pids {
-        Limit::Unlimited => false,
-        Limit::At(most) => meter.current(attr.slot) >= u64::from(most),
-    }
-}
-
-// The nearest group, from the path's upward, whose `pids.max` one more process would exceed, as its number of names. It is
-// the last such group on the way down.
-fn limiting_group<T: Allocator, M: Meter, A: Allocator + Clone>(
-    tree: &GroupTree<T>,
-    meter: &mut M,
-    path: &GroupPath<A>,
-) -> Option<usize>
-    requires home { IsSome (fin.get tree.now path.now) }
-    requires slots { SlotsBelow M.SLOTS tree.now }
-    ensures answer { result ≡ longest (λ a. full_by M.LEAVES (M.content meter.old) (fin.get tree.now a)) path.now (length path.now) }
-    ensures inside { IfSome result (λ n. n ≤ length path.now) }
-    ensures below_root { IfSome result (λ n. 0 < n) }
-    ensures content { M.content meter.new ≡ M.content meter.old }
-    ensures held { M.held meter.new ≡ M.held meter.old }
-{
-    tree.known();
-    path.known();
-    let mut nearest = None;
-    let mut n = 0;
-    for attr in tree.along(path) {
-        n += 1;
-        if is_full(meter, attr) {
-            nearest = Some(n);
-        }
-    }
-    nearest
+    processes.known();
+    child.get();
+    let list = Peaks::copy_of(alloc.clone()?, peaks)?;
+    put_beside(processes, parent, child, leaf)?;
+    Ok(list)
 }
 
 // Counts a fork that the group at the first `n` names of the path refused.
@@ -98,22 +90,67 @@ impl<A: Allocator + Clone, M: Meter> Charges<A, M> {
     /// `PidsMax`. Counts nothing and changes nothing. Costs one descent of the tree, which tests all limits up to the root.
     pub fn refuses_fork(&mut self, parent: Pid, child: Pid) -> Option<ChargeFault>
         ensures first { MatchOption result (refusal M.SLOTS self.old (Fork parent child) ≡ None) (λ f. refusal M.SLOTS self.old (Fork parent child) ≡ refusal_of_fault (home_of self.old parent) f) }
+        ensures ready { result ≡ None → (has_process self.old parent ≡ true) × (has_process self.old child ≡ false) }
         ensures inside { IfSome result (λ f. names_in f ≤ length (home_of self.old parent)) }
         ensures below_root { (n : ℕ) → result ≡ Some (ChargeFault.PidsMax n) → 0 < n }
         ensures no_memory { IfSome result (λ f. f ≢ ChargeFault.OutOfMemory) }
         ensures kept { self.new ≡ self.old }
     {
-        let Some(process) = self.processes.get(&parent) else {
+        let Some(process) = find_row(&self.processes, parent) else {
             return Some(ChargeFault::NoProcess(parent));
         };
-        if self.processes.contains_key(&child) {
+        if has_row(&self.processes, child) {
             return Some(ChargeFault::PidInUse(child));
         }
         self.tree.known();
-        if let Some(n) = limiting_group(&self.tree, &mut self.meter, &process.home) {
+        let mut notes = Notes::new();
+        if let Some(n) = look_along(&self.tree, &mut self.meter, &process.home, &mut notes) {
             return Some(ChargeFault::PidsMax(n));
         }
         None
+    }
+
+    /// Makes a process in the group of its parent, charged at the leaf of `who`, unless a limit refuses it. Raises the peaks
+    /// of that group and of those above it other than the root. Returns their old peaks, from the group upward. Counts no
+    /// refusal. Costs one descent of the tree, and a second if a peak rises.
+    ///
+    /// # Errors
+    ///
+    /// `PidsMax`, as `fork` names it, then `OutOfMemory`. Nothing has changed then.
+    pub fn try_process(&mut self, who: u8, parent: Pid, child: Pid) -> Result<Peaks<A>, ChargeFault>
+        requires parent { has_process self.old parent ≡ true }
+        requires child { has_process self.old child ≡ false }
+        ensures made { OnOk result ((refusal M.SLOTS self.old (Fork parent child) ≡ None) × (self.new ≡ after self.old (Fork parent child))) }
+        ensures peaks { IfOk result (λ peaks. peaks ≡ peaks_upward self.old (home_of self.old parent)) }
+        ensures first { IfErr result (λ f. refusal M.SLOTS self.old (Fork parent child) ≡ refusal_of_fault (home_of self.old parent) f) }
+        ensures limit { (n : ℕ) → result ≡ Err (ChargeFault.PidsMax n) → (0 < n) × (n ≤ length (home_of self.old parent)) }
+        ensures memory { IfErr result (λ f. ((n : ℕ) → f ≢ ChargeFault.PidsMax n) → f ≡ ChargeFault.OutOfMemory) }
+        ensures kept { OnErr result (self.new ≡ self.old) }
+    {
+        self.tree.known();
+        let Some(from) = find_row(&self.processes, parent) else {
+            unreachable!()
+        };
+        let mut notes = Notes::new();
+        if let Some(n) = look_along(&self.tree, &mut self.meter, &from.home, &mut notes) {
+            return Err(ChargeFault::PidsMax(n));
+        }
+        let leaf = who % M::LEAVES;
+        let Ok(peaks) = admit(
+            &mut self.processes,
+            &self.alloc,
+            parent,
+            child,
+            leaf,
+            notes.peaks(),
+        ) else {
+            return Err(ChargeFault::OutOfMemory);
+        };
+        let Some(process) = find_row(&self.processes, child) else {
+            unreachable!()
+        };
+        charge_noted(&mut self.tree, &mut self.meter, &process.home, leaf, &notes);
+        Ok(peaks)
     }
 
     /// Makes a process that `fork` would not refuse, in the group of its parent, charged at the leaf of `who`. Raises the
@@ -135,21 +172,9 @@ impl<A: Allocator + Clone, M: Meter> Charges<A, M> {
         ensures memory { IfErr result (λ f. f ≡ ChargeFault.OutOfMemory) }
         ensures kept { OnErr result (self.new ≡ self.old) }
     {
-        let Some(process) = self.processes.get(&parent) else {
-            unreachable!()
-        };
-        let Ok(mut earlier) = room_for_peaks(&self.alloc, &process.home) else {
-            return Err(ChargeFault::OutOfMemory);
-        };
-        let Ok(alloc) = self.alloc.clone() else {
-            return Err(ChargeFault::OutOfMemory);
-        };
-        let Ok(home) = process.home.copy(alloc) else {
-            return Err(ChargeFault::OutOfMemory);
-        };
-        match self.come(who, child, home, earlier.as_mut_slice()) {
+        match self.try_process(who, parent, child) {
+            Ok(peaks) => Ok(peaks),
             Err(fault) => Err(fault),
-            Ok(()) => Ok(Peaks::of(earlier)),
         }
     }
 
@@ -163,16 +188,15 @@ impl<A: Allocator + Clone, M: Meter> Charges<A, M> {
         requires room { HasRoomForEvents self.old }
         ensures { self.new ≡ after_refusal self.old (OverPidsMax (take n (home_of self.old parent))) }
     {
-        let Some(process) = self.processes.get(&parent) else {
+        let Some(process) = find_row(&self.processes, parent) else {
             unreachable!()
         };
         count_refusal(&mut self.tree, &process.home, n);
     }
 
     /// Makes a process in the group of its parent, charged at the leaf of `who`. Raises the peaks of that group and of those
-    /// above it other than the root. Returns their old peaks, from the group upward. Costs two descents of the tree: one
-    /// tests all limits up to the root, and one charges and reads the peaks. A third follows if a peak rises. A refusal
-    /// costs two: the second counts it.
+    /// above it other than the root. Returns their old peaks, from the group upward. Costs one descent of the tree, and a
+    /// second if a peak rises. A refusal by a limit costs two: the second counts it.
     ///
     /// # Errors
     ///
@@ -187,9 +211,15 @@ impl<A: Allocator + Clone, M: Meter> Charges<A, M> {
         ensures inside { IfErr result (λ f. names_in f ≤ length (home_of self.old parent)) }
         ensures peaks { IfOk result (λ peaks. peaks ≡ peaks_upward self.old (home_of self.old parent)) }
     {
-        match self.refuses_fork(parent, child) {
-            None => self.make_process(who, parent, child),
-            Some(fault) => {
+        if !has_row(&self.processes, parent) {
+            return Err(ChargeFault::NoProcess(parent));
+        }
+        if has_row(&self.processes, child) {
+            return Err(ChargeFault::PidInUse(child));
+        }
+        match self.try_process(who, parent, child) {
+            Ok(peaks) => Ok(peaks),
+            Err(fault) => {
                 if let ChargeFault::PidsMax(n) = fault {
                     self.count_fork(parent, n);
                 }

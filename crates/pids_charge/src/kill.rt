@@ -1,15 +1,19 @@
 //! Killing all processes of a group.
 
-ghost use Rattle.std.specs.Prelude.{◌≡◌, ℕ, ◌+◌, ◌<◌, ◌≤◌, ◌++◌, ◌∷◌, [], IfOk, IfErr, OnOk, length, map, filter, not};
+ghost use Rattle.std.specs.Prelude.{◌≡◌, ℕ, ◌+◌, ◌≤◌, ◌++◌, [], IfOk, IfErr, length};
 ghost use Rattle.std.specs.List.{All, sum_by};
 ghost use Rattle.std.specs.List.Sorted.{IsStrictlySortedBy};
 ghost use Rattle.std.specs.Ordering.{nat_cmp};
-ghost use Rattle.std.specs.Map.{values_of, keys_of};
+ghost use Rattle.std.specs.BTreeMap.{is_at};
+ghost use Rattle.std.specs.Map.{values_of, keys_of, lookup, remove_entry};
+ghost use Rattle.std.specs.Vec.{vec_len, vec_capacity};
 ghost use Rattle.flat_model.specs.Command.{Kill};
+ghost use Rattle.flat_model.specs.CommandText.{IsPid};
 ghost use Rattle.flat_model.specs.Inverse as inverse;
+ghost use Rattle.process_table.specs.Chosen.{HaveOneHome};
 ghost use Rattle.pids_charge.specs.Answers.{Does, names_in};
 ghost use Rattle.snzi_core.specs.Listed.{IsWithin, listed_at};
-ghost use Rattle.pids_charge.specs.Lists.{inside, is_inside, lost_of};
+ghost use Rattle.pids_charge.specs.Lists.{inside, lost_each, lost_one, without_each};
 ghost use Rattle.pids_charge.specs.Recount.{charges_of, IsPlaced, SlotsBelow};
 
 use crate::charges::Charges;
@@ -18,85 +22,102 @@ use crate::gate::Gate;
 use crate::lost::{Lost, LostList};
 use crate::meter::Meter;
 use crate::pid::Pid;
-use crate::process::Process;
 use crate::walk::push_tokens;
 use group_path::GroupPath;
 use group_tree::GroupTree;
+use process_table::ProcessTable;
 use snzi_core::Token;
 use std::alloc::{AllocError, Allocator};
-use std::collections::BTreeMap;
 use std::sync::Wait;
 use std::thread::Threads;
 
 // The processes that a kill removes, and their charges.
 #[derive(Drop)]
 pub(crate) struct Gathered<A: Allocator + Clone> {
-    pub(crate) lost: Vec<Lost<A>, A>,
+    pub(crate) pids: Vec<u32, A>,
     pub(crate) tokens: Vec<Token, A>,
+    // An empty list with room for all of them.
+    pub(crate) room: Vec<Lost<A>, A>,
 }
 
-// Adds the process with a copy of its path, and a token for each of its charges.
-fn gather_one<M: Meter, T: Allocator, A: Allocator + Clone>(
-    tree: &GroupTree<T>,
-    gathered: &mut Gathered<A>,
-    alloc: A,
-    pid: Pid,
-    process: &Process<A>,
-) -> Result<(), AllocError>
-    requires placed { IsPlaced M.LEAVES tree.now process.now }
-    requires slots { SlotsBelow M.SLOTS tree.now }
-    requires within { IsWithin M.SLOTS M.LEAVES gathered.old.tokens.items }
-    ensures lost { OnOk result (gathered.new.lost.items ≡ gathered.old.lost.items ++ lost_of (pid, process.now) ∷ []) }
-    ensures counted { OnOk result ((s j : ℕ) → listed_at gathered.new.tokens.items s j ≡ listed_at gathered.old.tokens.items s j + charges_of tree.now process.now s j) }
-    ensures many { OnOk result (length gathered.new.tokens.items ≡ length gathered.old.tokens.items + length process.now.home) }
-    ensures within { IsWithin M.SLOTS M.LEAVES gathered.new.tokens.items }
-{
-    let path = process.home.copy(alloc)?;
-    push_tokens::<M, _, _, _>(tree, &process.home, process.leaf, &mut gathered.tokens)?;
-    gathered.lost.push(Lost { pid, path })?;
-    Ok(())
-}
-
-// The processes at or below the path, pids ascending, and their charges.
+// The pids at or below the path, ascending, and the charges of their processes.
 pub(crate) fn gather<M: Meter, T: Allocator, A: Allocator + Clone, B: Allocator + Clone>(
     tree: &GroupTree<T>,
-    processes: &BTreeMap<Pid, Process<A>, A>,
+    processes: &ProcessTable<A>,
     alloc: &A,
     path: &GroupPath<B>,
 ) -> Result<Gathered<A>, AllocError>
-    requires placed { All (λ p. IsPlaced M.LEAVES tree.now p) (values_of processes.now.entries) }
+    requires placed { All (λ p. IsPlaced M.LEAVES tree.now p) (values_of processes.now) }
     requires slots { SlotsBelow M.SLOTS tree.now }
-    ensures lost { IfOk result (λ g. g.lost.items ≡ map lost_of (inside path.now processes.now.entries)) }
-    ensures counted { IfOk result (λ g. (s j : ℕ) → listed_at g.tokens.items s j ≡ sum_by (λ p. charges_of tree.now p s j) (values_of (inside path.now processes.now.entries))) }
-    ensures many { IfOk result (λ g. length g.tokens.items ≡ sum_by (λ p. length p.home) (values_of (inside path.now processes.now.entries))) }
+    requires homes { HaveOneHome (λ q. lookup (is_at (nat_cmp q)) processes.now) }
+    ensures pids { IfOk result (λ g. g.pids.items ≡ keys_of (inside path.now processes.now)) }
+    ensures counted { IfOk result (λ g. (s j : ℕ) → listed_at g.tokens.items s j ≡ sum_by (λ p. charges_of tree.now p s j) (values_of (inside path.now processes.now))) }
+    ensures many { IfOk result (λ g. length g.tokens.items ≡ sum_by (λ p. length p.home) (values_of (inside path.now processes.now))) }
     ensures within { IfOk result (λ g. IsWithin M.SLOTS M.LEAVES g.tokens.items) }
+    ensures empty { IfOk result (λ g. g.room.items ≡ []) }
+    ensures room { IfOk result (λ g. length g.pids.items ≤ vec_capacity g.room) }
 {
-    let mut gathered = Gathered {
-        lost: Vec::new(alloc.clone()?),
-        tokens: Vec::new(alloc.clone()?),
-    };
-    for (pid, process) in processes {
-        if process.home.is_at_or_below(path) {
-            gather_one::<M, _, _>(tree, &mut gathered, alloc.clone()?, *pid, process)?;
-        }
+    processes.known();
+    let pids = processes.inside(alloc.clone()?, path)?;
+    let room = Vec::with_capacity(alloc.clone()?, pids.len())?;
+    let mut tokens = Vec::new(alloc.clone()?);
+    for pid in pids.as_slice() {
+        let Some(process) = processes.get(*pid) else {
+            unreachable!()
+        };
+        push_tokens::<M, _, _, _>(tree, &process.home, process.leaf, &mut tokens)?;
     }
-    Ok(gathered)
+    Ok(Gathered { pids, tokens, room })
 }
 
-// Removes the processes at or below the path.
-pub(crate) fn leave<A: Allocator + Clone, B: Allocator + Clone>(
-    processes: &mut BTreeMap<Pid, Process<A>, A>,
-    path: &GroupPath<B>,
+// Moves one process from the table to the list, if there is one.
+fn leave_one<A: Allocator + Clone>(
+    processes: &mut ProcessTable<A>,
+    pid: u32,
+    lost: &mut Vec<Lost<A>, A>,
 )
-    ensures stay { processes.new.entries ≡ filter (λ e. not (is_inside path.now e)) processes.old.entries }
-    ensures ordered { IsStrictlySortedBy nat_cmp (keys_of processes.new.entries) }
+    requires pid { IsPid pid }
+    requires room { vec_len lost.old + 1 ≤ vec_capacity lost.old }
+    ensures stay { processes.new ≡ remove_entry (is_at (nat_cmp pid)) processes.old }
+    ensures ordered { IsStrictlySortedBy nat_cmp (keys_of processes.new) }
+    ensures lost { lost.new.items ≡ lost.old.items ++ lost_one pid (lookup (is_at (nat_cmp pid)) processes.old) }
+    ensures len { vec_len lost.new ≤ vec_len lost.old + 1 }
+    ensures capacity { vec_capacity lost.old ≤ vec_capacity lost.new }
 {
-    processes.retain(|_pid, process| !process.home.is_at_or_below(path));
+    let Some(process) = processes.take(pid) else {
+        return;
+    };
+    lost.push_reserved(Lost {
+        pid: Pid::of(pid),
+        path: process.home,
+    });
+}
+
+// Moves the processes of these pids from the table to the list, in this order.
+pub(crate) fn leave<A: Allocator + Clone>(
+    processes: &mut ProcessTable<A>,
+    pids: &[u32],
+    room: Vec<Lost<A>, A>,
+) -> Vec<Lost<A>, A>
+    requires pids { All IsPid pids.now }
+    requires empty { room.items ≡ [] }
+    requires room { length pids.now ≤ vec_capacity room }
+    ensures stay { processes.new ≡ without_each pids.now processes.old }
+    ensures ordered { IsStrictlySortedBy nat_cmp (keys_of processes.new) }
+    ensures lost { result.items ≡ lost_each pids.now processes.old }
+{
+    processes.known();
+    let mut lost = room;
+    for pid in pids {
+        leave_one(processes, *pid, &mut lost);
+    }
+    lost
 }
 
 impl<A: Allocator + Clone, M: Meter> Charges<A, M> {
-    /// Removes all processes at or below the group, and returns each with its path; pids ascend. Visits all processes, and
-    /// passes all charges to the meter at once. It may wait for the threads that do parts of the settlement.
+    /// Removes all processes at or below the group, and returns each with its path; pids ascend. Costs time in the number
+    /// of these processes, plus one test of a path for each slot that has been used. Passes all charges to the meter at
+    /// once. It may wait for the threads that do parts of the settlement.
     ///
     /// # Errors
     ///
@@ -118,7 +139,7 @@ impl<A: Allocator + Clone, M: Meter> Charges<A, M> {
         if self.tree.find(path).is_none() {
             return Err(ChargeFault::NoGroup(path.depth()));
         }
-        let Ok(Gathered { lost, tokens }) = gather::<M, _, _, _>(
+        let Ok(Gathered { pids, tokens, room }) = gather::<M, _, _, _>(
             &self.tree,
             &self.processes,
             &self.alloc,
@@ -128,7 +149,7 @@ impl<A: Allocator + Clone, M: Meter> Charges<A, M> {
         };
         self.meter
             .settle(rt, gate, who % M::LEAVES, tokens.as_slice(), &[]);
-        leave(&mut self.processes, path);
+        let lost = leave(&mut self.processes, pids.as_slice(), room);
         Ok(LostList::of(lost))
     }
 }

@@ -3,8 +3,8 @@
 //! - A `Charges` has the groups as a tree and the processes in a table. It starts with the root, and process 1 in it. Each
 //!   group other than the root has a slot of a meter. A process is one charge at the slot of its group, and one at that of
 //!   each group above it other than the root, at the leaf that the process remembers.
-//! - The meter's slot of a group says how many processes are at or below it, and whether there is one. Only `members` and
-//!   `kill` visit the processes.
+//! - The meter's slot of a group says how many processes are at or below it, and whether there is one. `members`
+//!   and `kill` visit the processes that they list, and no others.
 //! - A fork is refused if one more process would exceed the `pids.max` of a group at or above the parent's. The refusal
 //!   names the nearest such group and raises event totals: the local total of that group, and the total of it and of each
 //!   group above it other than the root. Moves are never refused by a limit, and a limit may be set below what there is.
@@ -16,11 +16,14 @@
 //!   `uncount` for a refused fork, `rehome` for a move, and `set_peaks` for the peaks that a fork or a move raised. A limit
 //!   is undone by setting the old one. None of them raises a peak.
 //! - `refuses_mkdir`, `refuses_rmdir` and `refuses_fork` only decide. `make_group`, `take_group`, `make_process` and
-//!   `count_fork` only do what was decided. They are for a caller that allocates something of its own in between.
+//!   `count_fork` only do what was decided. `try_process` is a fork that counts no refusal. They are for a caller that
+//!   allocates something of its own in between.
 //! - `exit`, `set_peaks`, `count_fork`, `uncount`, `rmdir`, `set_limit`, the readers and the calls that only decide allocate
 //!   nothing. `new` allocates the table of free slots.
-//! - A walk along a path descends the tree once, so a fork, an exit and a move cost O(log processes + depth · log children)
-//!   comparisons. A path has at most 32 names.
+//! - A walk along a path descends the tree once, so a fork, an exit and a move cost O(depth · log children) comparisons. A
+//!   process is found in constant time. A path has at most 32 names.
+//! - The processes of a group share the text of a long path. A child takes it from its parent; a process that is moved, put
+//!   back or copied takes it from one that is in the group, if there is one, and else gets a copy.
 //! - `settle_alone` is the settlement of any meter on the calling thread. `kill_alone` and `place_all_alone` are `kill` and
 //!   `place_all` over it; they need no runtime.
 //! - `child_names` returns the names of a group's children, in order.
@@ -39,7 +42,6 @@
 mod alone;
 mod charges;
 mod children;
-mod coming;
 mod copy;
 mod exit;
 mod fault;
@@ -51,14 +53,16 @@ mod lost;
 mod meter;
 mod migrate;
 mod mkdir;
+mod notes;
 mod parts;
 mod peaks;
 mod pid;
 mod place;
 mod plain;
-mod process;
 mod readers;
 mod rmdir;
+mod rows;
+mod slot;
 mod walk;
 
 pub use alone::settle_alone;
@@ -69,7 +73,7 @@ pub use lost::{Lost, LostList};
 pub use meter::{HELD_MAX, Meter};
 pub use migrate::Shifted;
 pub use parts::{last_run, part_count};
-pub use peaks::Peaks;
+pub use peaks::{INLINE_PEAKS, Peaks};
 pub use pid::{PID_MAX, Pid};
 pub use plain::{LEAVES, PlainMeter, SLOTS};
 pub use snzi_core::Token;

@@ -25,7 +25,7 @@ impl<A: Allocator + Clone> Model for LostList<A> {
     ghost use Rattle.std.specs.Prelude.{ℕ, List};
     ghost use Rattle.std.specs.Coded.{coded×, coded_ℕ, coded_list};
     ghost use Rattle.flat_model.specs.Path.{Path};
-    ghost use Rattle.flat_model.specs.Codes.{path_code};
+    ghost use Rattle.flat_model.specs.StateCodes.{path_code};
     ghost use Rattle.pids_charge.specs.Lists.{rows_of};
 
     ghost Value = { List (ℕ × Path) };

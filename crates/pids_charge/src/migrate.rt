@@ -11,9 +11,10 @@ ghost use Rattle.pids_charge.specs.Answers.{Does, names_in};
 use crate::charges::Charges;
 use crate::fault::ChargeFault;
 use crate::meter::Meter;
-use crate::peaks::{Peaks, room_for_peaks};
+use crate::peaks::{Peaks, charge_and_raise, zero_peaks};
 use crate::pid::Pid;
-use crate::process::Process;
+use crate::rows::{has_row, put_copy};
+use crate::slot::{find_slot, slot_in};
 use crate::walk::{charge_along, uncharge_along};
 use group_path::GroupPath;
 use std::alloc::Allocator;
@@ -46,26 +47,38 @@ impl<A: Allocator + Clone, M: Meter> Charges<A, M> {
         ensures old_home { IfOk result (λ shifted. shifted.path ≡ home_of self.old pid) }
         ensures peaks { IfOk result (λ shifted. shifted.peaks ≡ peaks_upward self.old path.now) }
     {
-        if self.tree.find(path).is_none() {
+        let Some(slot) = find_slot::<M, _, _>(&self.tree, path) else {
             return Err(ChargeFault::NoGroup(path.depth()));
-        }
-        if !self.processes.contains_key(&pid) {
+        };
+        if !has_row(&self.processes, pid) {
             return Err(ChargeFault::NoProcess(pid));
         }
-        let Ok(mut earlier) = room_for_peaks(&self.alloc, path) else {
+        let Ok(mut peaks) = zero_peaks(&self.alloc, path) else {
             return Err(ChargeFault::OutOfMemory);
         };
-        match self.come_over(who, pid, path, earlier.as_mut_slice()) {
-            Err(fault) => Err(fault),
-            Ok(old) => Ok(Shifted {
-                path: old,
-                peaks: Peaks::of(earlier),
-            }),
-        }
+        self.tree.known();
+        path.known();
+        let leaf = who % M::LEAVES;
+        let Ok(replaced) = put_copy(&mut self.processes, &self.alloc, pid, path, slot, leaf) else {
+            return Err(ChargeFault::OutOfMemory);
+        };
+        let Some(before) = replaced else {
+            unreachable!()
+        };
+        uncharge_along(&self.tree, &mut self.meter, &before.home, before.leaf, leaf);
+        let mut table = [0; 32];
+        let earlier = &mut table[..path.depth()];
+        charge_and_raise(&mut self.tree, &mut self.meter, path, leaf, earlier);
+        peaks.fill(earlier);
+        Ok(Shifted {
+            path: before.home,
+            peaks,
+        })
     }
 
     /// Puts a process into another group, charged at the leaf of `who`, and raises no peak. Together with `set_peaks` it
-    /// undoes a move. Returns its old group, by the path that the table had. Tests no limit. Costs two descents of the tree.
+    /// undoes a move. Returns its old group, by the path that the table had. Tests no limit. Costs three descents of the
+    /// tree.
     ///
     /// # Errors
     ///
@@ -83,16 +96,14 @@ impl<A: Allocator + Clone, M: Meter> Charges<A, M> {
         ensures memory { IfErr result (λ f. f ≡ ChargeFault.OutOfMemory) }
         ensures kept { OnErr result (self.new ≡ self.old) }
     {
-        let Ok(alloc) = self.alloc.clone() else {
-            return Err(ChargeFault::OutOfMemory);
-        };
-        let Ok(home) = path.copy(alloc) else {
-            return Err(ChargeFault::OutOfMemory);
-        };
         self.tree.known();
         path.known();
+        let slot = slot_in::<M, _, _>(&self.tree, path);
         let leaf = who % M::LEAVES;
-        let Ok(Some(before)) = self.processes.insert(pid, Process { home, leaf }) else {
+        let Ok(replaced) = put_copy(&mut self.processes, &self.alloc, pid, path, slot, leaf) else {
+            return Err(ChargeFault::OutOfMemory);
+        };
+        let Some(before) = replaced else {
             unreachable!()
         };
         uncharge_along(&self.tree, &mut self.meter, &before.home, before.leaf, leaf);

@@ -1,36 +1,66 @@
 //! The peaks of groups: raised along a path when a process enters, and set again by an undo.
 
-ghost use Rattle.std.specs.Prelude.{◌≡◌, ℕ, ◌+◌, ◌<◌, ◌≤◌, false, length, get_or, IfOk, IsSome, option_map};
+ghost use Rattle.std.specs.Prelude.{◌≡◌, ℕ, ◌+◌, ◌<◌, ◌≤◌, max, length, get_or, IfOk, IsOk, IsSome, option_map};
+ghost use Rattle.std.specs.List.{All, sum_by};
 ghost use Rattle.std.specs.FinMap as fin;
 ghost use Rattle.std.specs.Ordering.{nat_cmp};
 ghost use Rattle.flat_model.specs.Path.{Path};
 ghost use Rattle.flat_model.specs.Step as flat;
 ghost use Rattle.pids_charge.specs.Events.{flat_of};
-ghost use Rattle.pids_charge.specs.Peaks.{peak_of, reached_of, raised_by, AreUpward};
-ghost use Rattle.pids_charge.specs.Recount.{SlotsApart, SlotsBelow, SameSlots, with_charges};
+ghost use Rattle.group_tree.specs.PeaksAlong.{SetsPeaks};
+ghost use Rattle.snzi_core.specs.Listed.{one_at, over_leaves};
+ghost use Rattle.pids_charge.specs.Peaks.{peak_of, raised_by, AreUpward, IsNoted};
+ghost use Rattle.pids_charge.specs.Recount.{SlotsBelow, SameSlots, with_charges};
 
 use crate::charges::Charges;
 use crate::meter::{HELD_MAX, Meter};
+use crate::notes::{DEPTH_MAX, Notes, look_along};
 use group_path::GroupPath;
-use group_tree::GroupTree;
-use std::alloc::{AllocError, Allocator};
+use group_tree::{Attr, GroupTree};
+use std::alloc::{AllocError, Allocator, Global};
 use std::marker::Model;
+use std::mem::size_of;
 
-/// The peaks of groups along a path, from the path's own group upward, without the root. Contracts see a list of numbers.
+/// The greatest number of peaks stored inline. With their number they fill the same space as the attributes of a group.
+pub const INLINE_PEAKS: usize = 6;
+
+// Where the peaks are stored.
 #[derive(Drop)]
-pub struct Peaks<A: Allocator + Clone> {
-    items: Vec<u64, A>,
+enum Place<A: Allocator + Clone> {
+    // Inline: the first `len` of these. The length is first, beside the tag.
+    Inline { len: u8, peaks: [u64; INLINE_PEAKS] },
+    Heap(Vec<u64, A>),
 }
+
+/// The peaks of groups along a path, from the path's own group upward, without the root. Contracts see a list of numbers. Up
+/// to `INLINE_PEAKS` of them are stored in the value itself.
+pub struct Peaks<A: Allocator + Clone> {
+    place: Place<A>,
+}
+
+// So the record of a move takes no more space than that of a removal.
+const _: () = prove!(size_of::<Peaks<Global>>() == size_of::<Attr>());
 
 impl<A: Allocator + Clone> Model for Peaks<A> {
     ghost use Rattle.std.specs.Prelude.{ℕ, List};
     ghost use Rattle.std.specs.Coded.{coded_ℕ, coded_list};
+    ghost use Rattle.pids_charge.specs.PeakPlaces.{peaks_in, IsSound};
 
     ghost Value = { List ℕ };
 
     ghost coded = { coded_list coded_ℕ };
 
-    ghost view = { λ p. p.items.items };
+    ghost view = { λ p. peaks_in p.place };
+
+    ghost invariant = { λ p. IsSound p.place };
+}
+
+// The explicit drop hides the storage, so the proof of a function that drops such a value has one case instead of two.
+impl<A: Allocator + Clone> Drop for Peaks<A> {
+    fn drop(self) {
+        let Self { place } = self;
+        drop(place);
+    }
 }
 
 impl<A: Allocator + Clone> Peaks<A> {
@@ -38,81 +68,161 @@ impl<A: Allocator + Clone> Peaks<A> {
     pub fn of(items: Vec<u64, A>) -> Peaks<A>
         ensures { result ≡ items.items }
     {
-        Peaks { items }
+        let place = Place::Heap(items);
+        Peaks { place }
+    }
+
+    // Copies the peaks into a new list. Out of memory only if there are more than `INLINE_PEAKS`.
+    pub(crate) fn copy_of(alloc: A, peaks: &[u64]) -> Result<Peaks<A>, AllocError>
+        ensures same { IfOk result (λ p. p ≡ peaks.now) }
+        ensures few { length peaks.now ≤ INLINE_PEAKS → IsOk result }
+    {
+        if peaks.len() > INLINE_PEAKS {
+            let heap = Vec::from_slice(alloc, peaks)?;
+            let place = Place::Heap(heap);
+            return Ok(Peaks { place });
+        }
+        Ok(Peaks::inline(peaks))
+    }
+
+    // Stores a few peaks inline.
+    fn inline(few: &[u64]) -> Peaks<A>
+        requires { length few.now ≤ INLINE_PEAKS }
+        ensures { result ≡ few.now }
+    {
+        let mut peaks = [0u64; INLINE_PEAKS];
+        peaks[..few.len()].copy_from_slice(few);
+        let len = few.len() as u8;
+        let place = Place::Inline { len, peaks };
+        Peaks { place }
     }
 
     /// The peaks, in the order of the list.
     pub fn as_slice(&self) -> &[u64]
         ensures { result.now ≡ self.now }
     {
-        self.items.as_slice()
+        match &self.place {
+            Place::Inline { len, peaks } => &peaks[..usize::from(*len)],
+            Place::Heap(heap) => heap.as_slice(),
+        }
+    }
+
+    // Overwrites the peaks.
+    pub(crate) fn fill(&mut self, peaks: &[u64])
+        requires { length peaks.now ≡ length self.old }
+        ensures { self.new ≡ peaks.now }
+    {
+        if let Place::Heap(heap) = &mut self.place {
+            heap.as_mut_slice().copy_from_slice(peaks);
+            return;
+        }
+        *self = Peaks::inline(peaks);
     }
 
     /// Copies the list into another allocator.
     ///
     /// # Errors
     ///
-    /// `AllocError` when out of memory.
+    /// `AllocError` if there are more than `INLINE_PEAKS` and their allocation fails.
     pub fn copy<B: Allocator + Clone>(&self, alloc: B) -> Result<Peaks<B>, AllocError>
-        ensures { IfOk result (λ p. p ≡ self.now) }
+        ensures same { IfOk result (λ p. p ≡ self.now) }
+        ensures few { length self.now ≤ INLINE_PEAKS → IsOk result }
     {
-        let mut items = Vec::with_capacity(alloc, self.items.len())?;
-        items.extend_from_slice(self.items.as_slice())?;
-        Ok(Peaks { items })
+        Peaks::copy_of(alloc, self.as_slice())
     }
 }
 
-// Room for the peaks along a path.
-pub(crate) fn room_for_peaks<A: Allocator + Clone, B: Allocator + Clone>(
+// As many zeros as the path has names: room for the peaks along it.
+pub(crate) fn zero_peaks<A: Allocator + Clone, B: Allocator + Clone>(
     alloc: &A,
     path: &GroupPath<B>,
-) -> Result<Vec<u64, A>, AllocError>
-    ensures { IfOk result (λ room. length room.items ≡ length path.now) }
+) -> Result<Peaks<A>, AllocError>
+    ensures { IfOk result (λ peaks. length peaks ≡ length path.now) }
 {
-    Ok(vec![in alloc.clone()?; 0; path.depth()]?)
+    path.known();
+    let zeros = [0; 32];
+    Peaks::copy_of(alloc.clone()?, &zeros[..path.depth()])
 }
 
-// Adds one charge at each group along the path. Notes the peak of each, and the peak to which it rises: no lower than its
-// count. Returns whether a peak rises.
-fn charge_and_note<T: Allocator, M: Meter, A: Allocator + Clone>(
-    tree: &GroupTree<T>,
+// Adds one charge at each slot.
+fn charge_slots<M: Meter>(meter: &mut M, slots: &[u16], leaf: u8)
+    requires leaf_below { leaf < M.LEAVES }
+    requires slots_below { All (λ s. s < M.SLOTS) slots.now }
+    requires room { M.held meter.old + length slots.now ≤ HELD_MAX }
+    ensures content { (s j : ℕ) → M.content meter.new s j ≡ M.content meter.old s j + sum_by (λ slot. one_at slot leaf s j) slots.now }
+    ensures held { M.held meter.new ≡ M.held meter.old + length slots.now }
+{
+    for slot in slots {
+        meter.charge(*slot, leaf);
+    }
+}
+
+// The greater of each peak and the count at its slot.
+fn reach<M: Meter>(meter: &mut M, slots: &[u16], peaks: &[u64], reached: &mut [u64])
+    requires slots_below { All (λ s. s < M.SLOTS) slots.now }
+    requires many { (length peaks.now ≡ length slots.now) × (length reached.old ≡ length slots.now) }
+    ensures many { length reached.new ≡ length slots.now }
+    ensures each { (k : ℕ) → k < length slots.now → get_or reached.new k 0 ≡ max (get_or peaks.now k 0) (over_leaves M.LEAVES (M.content meter.old (get_or slots.now k 0))) }
+    ensures content { M.content meter.new ≡ M.content meter.old }
+    ensures held { M.held meter.new ≡ M.held meter.old }
+{
+    for i in 0..slots.len() {
+        let count = meter.current(slots[i]);
+        reached[i] = peaks[i].max(count);
+    }
+}
+
+// Sets the peaks of the groups from the path's own upward, unless they are these already. `peaks` has those that they are.
+fn raise_along<T: Allocator, A: Allocator + Clone>(
+    tree: &mut GroupTree<T>,
+    path: &GroupPath<A>,
+    peaks: &[u64],
+    reached: &[u64],
+)
+    requires noted { AreUpward peak_of tree.old path.now peaks.now }
+    requires many { length reached.now ≡ length path.now }
+    ensures set { SetsPeaks tree.old tree.new path.now reached.now }
+    ensures slots { SameSlots tree.old tree.new }
+{
+    tree.known();
+    if *reached == *peaks {
+        return;
+    }
+    tree.set_peaks(path, reached);
+    tree.known();
+}
+
+// Adds one charge at each group along the path, by their slots, and raises peaks that are lower than their counts. Descends
+// the tree only if a peak rises.
+pub(crate) fn charge_noted<T: Allocator, M: Meter, A: Allocator + Clone>(
+    tree: &mut GroupTree<T>,
     meter: &mut M,
     path: &GroupPath<A>,
     leaf: u8,
-    earlier: &mut [u64],
-    raised: &mut [u64],
-) -> bool
+    notes: &Notes,
+)
     requires leaf_below { leaf < M.LEAVES }
-    requires home { IsSome (fin.get tree.now path.now) }
-    requires slots { SlotsBelow M.SLOTS tree.now }
-    requires apart { SlotsApart tree.now }
+    requires home { IsSome (fin.get tree.old path.now) }
+    requires slots { SlotsBelow M.SLOTS tree.old }
     requires room { M.held meter.old + length path.now ≤ HELD_MAX }
-    requires many_earlier { length earlier.old ≡ length path.now }
-    requires many_raised { length raised.old ≡ length path.now }
-    ensures content { (s j : ℕ) → M.content meter.new s j ≡ with_charges tree.now path.now leaf (M.content meter.old) s j }
+    requires noted { IsNoted tree.old path.now notes.now }
+    ensures content { (s j : ℕ) → M.content meter.new s j ≡ with_charges tree.old path.now leaf (M.content meter.old) s j }
     ensures held { M.held meter.new ≡ M.held meter.old + length path.now }
-    ensures earlier { AreUpward peak_of tree.now path.now earlier.new }
-    ensures raised { AreUpward (reached_of M.LEAVES (with_charges tree.now path.now leaf (M.content meter.old))) tree.now path.now raised.new }
-    ensures rises { result ≡ false → (k : ℕ) → k < length path.now → get_or raised.new k 0 ≡ get_or earlier.new k 0 }
+    ensures raised { (q : Path) → fin.get tree.new q ≡ option_map (raised_by M.LEAVES (with_charges tree.old path.now leaf (M.content meter.old)) path.now q) (fin.get tree.old q) }
+    ensures slots { SameSlots tree.old tree.new }
 {
     tree.known();
-    let mut rises = false;
-    let mut n = earlier.len();
-    for attr in tree.along(path) {
-        n -= 1;
-        meter.charge(attr.slot, leaf);
-        let count = meter.current(attr.slot);
-        earlier[n] = attr.peak;
-        raised[n] = attr.peak.max(count);
-        if count > attr.peak {
-            rises = true;
-        }
-    }
-    rises
+    path.known();
+    let slots = notes.slots();
+    let peaks = notes.peaks();
+    charge_slots(meter, slots, leaf);
+    let mut table = [0; DEPTH_MAX];
+    let reached = &mut table[..peaks.len()];
+    reach(meter, slots, peaks, reached);
+    raise_along(tree, path, peaks, reached);
 }
 
-// Adds one charge at each group along the path, and raises peaks that are lower than their counts. Notes the old peaks.
-// Descends once, and a second time if a peak rises.
+// The same, and notes the old peaks. Descends once, and a second time if a peak rises.
 pub(crate) fn charge_and_raise<T: Allocator, M: Meter, A: Allocator + Clone>(
     tree: &mut GroupTree<T>,
     meter: &mut M,
@@ -123,9 +233,7 @@ pub(crate) fn charge_and_raise<T: Allocator, M: Meter, A: Allocator + Clone>(
     requires leaf_below { leaf < M.LEAVES }
     requires home { IsSome (fin.get tree.old path.now) }
     requires slots { SlotsBelow M.SLOTS tree.old }
-    requires apart { SlotsApart tree.old }
     requires room { M.held meter.old + length path.now ≤ HELD_MAX }
-    requires shallow { length path.now ≤ 32 }
     requires many { length earlier.old ≡ length path.now }
     ensures content { (s j : ℕ) → M.content meter.new s j ≡ with_charges tree.old path.now leaf (M.content meter.old) s j }
     ensures held { M.held meter.new ≡ M.held meter.old + length path.now }
@@ -133,14 +241,10 @@ pub(crate) fn charge_and_raise<T: Allocator, M: Meter, A: Allocator + Clone>(
     ensures earlier { AreUpward peak_of tree.old path.now earlier.new }
     ensures slots { SameSlots tree.old tree.new }
 {
-    let mut table = [0; 32];
-    let raised = &mut table[..earlier.len()];
-    tree.known();
-    if !charge_and_note(tree, meter, path, leaf, earlier, raised) {
-        return;
-    }
-    tree.set_peaks(path, raised);
-    tree.known();
+    let mut notes = Notes::new();
+    let _ = look_along(tree, meter, path, &mut notes);
+    charge_noted(tree, meter, path, leaf, &notes);
+    earlier.copy_from_slice(notes.peaks());
 }
 
 // Sets the peaks of the groups from the path's own upward.

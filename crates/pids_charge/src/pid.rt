@@ -45,6 +45,14 @@ impl Pid {
         Pid { number: 1 }
     }
 
+    // The pid with this number.
+    pub(crate) fn of(number: u32) -> Pid
+        requires { IsPid number }
+        ensures { result ≡ number }
+    {
+        Pid { number }
+    }
+
     /// The number.
     pub fn get(self) -> u32
         ensures value { result ≡ self }

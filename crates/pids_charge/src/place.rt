@@ -6,6 +6,7 @@ ghost use Rattle.std.specs.Ordering.{nat_cmp};
 ghost use Rattle.std.specs.BTreeMap.{insert_entry, is_at};
 ghost use Rattle.std.specs.FinMap as fin;
 ghost use Rattle.std.specs.Map.{lookup};
+ghost use Rattle.flat_model.specs.CommandText.{IsPid};
 ghost use Rattle.flat_model.specs.Inverse.{back, Killed};
 ghost use Rattle.snzi_core.specs.Listed.{IsWithin, listed_at};
 ghost use Rattle.pids_charge.specs.Lists.{with_lost, without, placed_at, rows_of};
@@ -16,13 +17,13 @@ use crate::fault::ChargeFault;
 use crate::gate::Gate;
 use crate::lost::Lost;
 use crate::meter::Meter;
-use crate::pid::Pid;
-use crate::process::Process;
+use crate::rows::{put_copy, take_row};
+use crate::slot::slot_in;
 use crate::walk::push_tokens;
 use group_tree::GroupTree;
+use process_table::ProcessTable;
 use snzi_core::Token;
 use std::alloc::{AllocError, Allocator};
-use std::collections::BTreeMap;
 use std::sync::Wait;
 use std::thread::Threads;
 
@@ -48,36 +49,41 @@ pub(crate) fn tokens_of<M: Meter, T: Allocator, A: Allocator + Clone, B: Allocat
 }
 
 // Inserts one listed process with a copy of its path.
-fn place_one<A: Allocator + Clone, B: Allocator + Clone>(
-    processes: &mut BTreeMap<Pid, Process<A>, A>,
+fn place_one<M: Meter, T: Allocator, A: Allocator + Clone, B: Allocator + Clone>(
+    tree: &GroupTree<T>,
+    processes: &mut ProcessTable<A>,
     alloc: &A,
     lost: &Lost<B>,
     leaf: u8,
 ) -> Result<(), AllocError>
-    ensures placed { OnOk result (processes.new.entries ≡ insert_entry nat_cmp processes.old.entries lost.now.pid (placed_at leaf lost.now)) }
-    ensures kept { OnErr result (processes.new.entries ≡ processes.old.entries) }
-    ensures small { lost.now.pid < 2 ^ 22 }
+    requires home { IsSome (fin.get tree.now lost.now.path) }
+    requires slots { SlotsBelow M.SLOTS tree.now }
+    ensures placed { OnOk result (processes.new ≡ insert_entry nat_cmp processes.old lost.now.pid (placed_at tree.now leaf lost.now)) }
+    ensures kept { OnErr result (processes.new ≡ processes.old) }
+    ensures pid { IsPid lost.now.pid }
 {
-    lost.pid.get();
-    let home = lost.path.copy(alloc.clone()?)?;
-    let _ = processes.insert(lost.pid, Process { home, leaf })?;
+    let slot = slot_in::<M, _, _>(tree, &lost.path);
+    let _ = put_copy(processes, alloc, lost.pid, &lost.path, slot, leaf)?;
     Ok(())
 }
 
 // Inserts as many of the list's last processes as memory allows. Returns the index of the first of them.
-fn place_last<A: Allocator + Clone, B: Allocator + Clone>(
-    processes: &mut BTreeMap<Pid, Process<A>, A>,
+fn place_last<M: Meter, T: Allocator, A: Allocator + Clone, B: Allocator + Clone>(
+    tree: &GroupTree<T>,
+    processes: &mut ProcessTable<A>,
     alloc: &A,
     list: &[Lost<B>],
     leaf: u8,
 ) -> usize
+    requires homes { All (λ l. IsSome (fin.get tree.now l.path)) list.now }
+    requires slots { SlotsBelow M.SLOTS tree.now }
     ensures place { result ≤ length list.now }
-    ensures placed { processes.new.entries ≡ with_lost leaf (drop result list.now) processes.old.entries }
-    ensures small { All (λ l. l.pid < 2 ^ 22) (drop result list.now) }
+    ensures placed { processes.new ≡ with_lost tree.now leaf (drop result list.now) processes.old }
+    ensures pids { All (λ l. IsPid l.pid) (drop result list.now) }
 {
     let mut at = list.len();
     while at > 0 {
-        if place_one(processes, alloc, &list[at - 1], leaf).is_err() {
+        if place_one::<M, _, _, _>(tree, processes, alloc, &list[at - 1], leaf).is_err() {
             return at;
         }
         at -= 1;
@@ -87,33 +93,36 @@ fn place_last<A: Allocator + Clone, B: Allocator + Clone>(
 
 // Removes the list's processes from index `at` on from the table.
 fn take_out<A: Allocator + Clone, B: Allocator + Clone>(
-    processes: &mut BTreeMap<Pid, Process<A>, A>,
+    processes: &mut ProcessTable<A>,
     list: &[Lost<B>],
     at: usize,
 )
     requires { at ≤ length list.now }
-    ensures { processes.new.entries ≡ without (drop at list.now) processes.old.entries }
+    ensures { processes.new ≡ without (drop at list.now) processes.old }
 {
     for i in at..list.len() {
-        let _ = processes.remove(&list[i].pid);
+        let _ = take_row(processes, list[i].pid);
     }
 }
 
 // Inserts all of them, or none.
-pub(crate) fn place_each<A: Allocator + Clone, B: Allocator + Clone>(
-    processes: &mut BTreeMap<Pid, Process<A>, A>,
+pub(crate) fn place_each<M: Meter, T: Allocator, A: Allocator + Clone, B: Allocator + Clone>(
+    tree: &GroupTree<T>,
+    processes: &mut ProcessTable<A>,
     alloc: &A,
     list: &[Lost<B>],
     leaf: u8,
 ) -> Result<(), AllocError>
+    requires homes { All (λ l. IsSome (fin.get tree.now l.path)) list.now }
+    requires slots { SlotsBelow M.SLOTS tree.now }
     requires apart { IsDistinct eqb (map (λ l. l.pid) list.now) }
-    requires new { All (λ l. lookup (is_at (nat_cmp l.pid)) processes.old.entries ≡ None) list.now }
-    ensures placed { OnOk result (processes.new.entries ≡ with_lost leaf list.now processes.old.entries) }
-    ensures small { OnOk result (All (λ l. l.pid < 2 ^ 22) list.now) }
-    ensures kept { OnErr result (processes.new.entries ≡ processes.old.entries) }
+    requires new { All (λ l. lookup (is_at (nat_cmp l.pid)) processes.old ≡ None) list.now }
+    ensures placed { OnOk result (processes.new ≡ with_lost tree.now leaf list.now processes.old) }
+    ensures pids { OnOk result (All (λ l. IsPid l.pid) list.now) }
+    ensures kept { OnErr result (processes.new ≡ processes.old) }
 {
-    let _ = processes.len();
-    let at = place_last(processes, alloc, list, leaf);
+    processes.known();
+    let at = place_last::<M, _, _, _>(tree, processes, alloc, list, leaf);
     if at > 0 {
         take_out(processes, list, at);
         return Err(AllocError);
@@ -165,7 +174,7 @@ impl<A: Allocator + Clone, M: Meter> Charges<A, M> {
         self.tree.known();
         let leaf = who % M::LEAVES;
         let tokens = tokens_of::<M, _, _, _>(&self.tree, self.alloc.clone()?, list, leaf)?;
-        place_each(&mut self.processes, &self.alloc, list, leaf)?;
+        place_each::<M, _, _, _>(&self.tree, &mut self.processes, &self.alloc, list, leaf)?;
         self.meter.settle(rt, gate, leaf, &[], tokens.as_slice());
         Ok(())
     }

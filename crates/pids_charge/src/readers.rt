@@ -1,9 +1,13 @@
 //! Reading groups and processes.
 
-ghost use Rattle.std.specs.Prelude.{◌≡◌, ◌&&◌, ◌++◌, not, is_some, false, true, map, filter, IfOk, IsOk, IfSome, MatchOption, option_map};
+ghost use Rattle.std.specs.Prelude.{◌≡◌, ◌&&◌, ◌++◌, not, is_some, false, true, IfOk, IsOk, IfSome, MatchOption, option_map};
+ghost use Rattle.std.specs.List.{All};
+ghost use Rattle.std.specs.List.Sorted.{IsPermutation, IsSorted};
 ghost use Rattle.std.specs.Option.{option_copied};
+ghost use Rattle.std.specs.Ordering.{nat_cmp};
 ghost use Rattle.std.specs.FinMap as fin;
-ghost use Rattle.flat_model.specs.Path.{is_root, same_path};
+ghost use Rattle.flat_model.specs.Path.{is_root};
+ghost use Rattle.flat_model.specs.CommandText.{IsPid};
 ghost use Rattle.flat_model.specs.Counts as flat;
 ghost use Rattle.flat_model.specs.Counts.{is_group};
 ghost use Rattle.group_tree.specs.Flat.{group_of};
@@ -11,26 +15,32 @@ ghost use Rattle.group_tree.specs.Flat.{group_of};
 use crate::charges::Charges;
 use crate::meter::Meter;
 use crate::pid::Pid;
-use crate::process::Process;
+use crate::rows::find_row;
+use crate::slot::find_slot;
 use group_path::GroupPath;
 use group_tree::Attr;
 use std::alloc::{AllocError, Allocator};
-use std::collections::BTreeMap;
 
-// The processes of the group itself.
-fn members_of<A: Allocator + Clone, B: Allocator, P: Allocator + Clone>(
-    processes: &BTreeMap<Pid, Process<A>, A>,
-    alloc: B,
-    path: &GroupPath<P>,
-) -> Result<Vec<Pid, B>, AllocError>
-    ensures { IfOk result (λ pids. pids.items ≡ map (λ e. e.0) (filter (λ e. same_path e.1.home path.now) processes.now.entries)) }
+// The pids with these numbers.
+fn pids_of<B: Allocator>(numbers: &[u32], alloc: B) -> Result<Vec<Pid, B>, AllocError>
+    requires { All IsPid numbers.now }
+    ensures { IfOk result (λ pids. pids.items ≡ numbers.now) }
 {
-    let mut pids = Vec::new(alloc);
-    for (pid, process) in processes {
-        if process.home.is_same(path) {
-            pids.push(*pid)?;
-        }
+    let mut pids = Vec::with_capacity(alloc, numbers.len())?;
+    for number in numbers {
+        pids.push(Pid::of(*number))?;
     }
+    Ok(pids)
+}
+
+// The same, ascending.
+fn ascending<B: Allocator>(numbers: &[u32], alloc: B) -> Result<Vec<Pid, B>, AllocError>
+    requires { All IsPid numbers.now }
+    ensures moved { IfOk result (λ pids. IsPermutation numbers.now pids.items) }
+    ensures sorted { IfOk result (λ pids. IsSorted nat_cmp pids.items) }
+{
+    let mut pids = pids_of(numbers, alloc)?;
+    pids.sort_unstable();
     Ok(pids)
 }
 
@@ -52,17 +62,18 @@ impl<A: Allocator + Clone, M: Meter> Charges<A, M> {
         self.tree.descendants(path)
     }
 
-    /// The group of a process; None if there is no such process. O(log processes).
+    /// The group of a process; None if there is no such process. Takes constant time.
     pub fn home(&self, pid: Pid) -> Option<&GroupPath<A>>
         ensures { option_map (λ home. home.now) result ≡ fin.get self.now.home pid }
     {
-        match self.processes.get(&pid) {
+        match find_row(&self.processes, pid) {
             Some(process) => Some(&process.home),
             None => None,
         }
     }
 
-    /// The processes of the group itself, ascending; None if there is no such group. Visits all processes.
+    /// The processes of the group itself, ascending; None if there is no such group. Costs one
+    /// descent of the tree, and O(n log n) for n pids, whatever the number of other processes.
     ///
     /// # Errors
     ///
@@ -75,10 +86,11 @@ impl<A: Allocator + Clone, M: Meter> Charges<A, M> {
         ensures listed { IfOk result (λ o. MatchOption o (is_group self.now path.now ≡ false) (λ pids. (is_group self.now path.now ≡ true) × (pids.items ≡ flat.members self.now path.now))) }
         ensures absent { is_group self.now path.now ≡ false → IsOk result }
     {
-        if self.tree.find(path).is_none() {
+        let Some(slot) = find_slot::<M, _, _>(&self.tree, path) else {
             return Ok(None);
-        }
-        let pids = members_of(&self.processes, alloc, path)?;
+        };
+        let numbers = self.processes.unordered(slot);
+        let pids = ascending(numbers, alloc)?;
         Ok(Some(pids))
     }
 

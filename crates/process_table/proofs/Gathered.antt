@@ -7,7 +7,7 @@ use Rattle.flat_model.specs.Path.{Path, at_or_below}
 use Rattle.process_table.specs.declared.process.Cell.{Cell}
 use Rattle.process_table.specs.declared.process.Process.{Process}
 use Rattle.process_table.specs.Chosen.{HaveOneHome, chosen_at, chosen_below}
-use Rattle.process_table.specs.Lists.{list_at, IsAt}
+use Rattle.process_table.specs.SlotPids.{list_at, IsAt}
 use Rattle.process_table.specs.Rows.{process_of}
 use Rattle.process_table.specs.Tied.{in_slot, IsTied}
 use Rattle.process_table.proofs.RowLaws.{counted}

@@ -1,8 +1,9 @@
 -- The table that pages stand for, under a change.
-use Rattle.std.proofs.Common.{◌≡◌, ℕ, zero, suc, ◌+◌, ◌^◌, ◌<◌, ◌≤◌, Bool, true, false, cond, eqb, Option, Some, None, List, [], ◌∷◌, map, filter, count_by, refl, sym, ap, ◌∙◌, subst, arith}
+use Rattle.std.proofs.Common.{◌≡◌, ℕ, zero, suc, ◌+◌, ◌^◌, ◌<◌, ◌≤◌, Bool, true, false, cond, eqb, Option, Some, None, IsSome, List, [], ◌∷◌, get_or, map, filter, count_by, refl, sym, ap, ◌∙◌, subst, arith}
 use Rattle.std.specs.declared.cmp.Ordering.TheVariants.{Less}
 use Rattle.std.specs.Ordering.{nat_cmp}
-use Rattle.std.specs.List.{AllByRecursion}
+use Rattle.std.specs.List.{All, AllByRecursion}
+use Rattle.std.proofs.lemmas.List.{get_or_default}
 use Rattle.std.specs.List.Sorted.{IsStrictlySortedBy, IsPermutation, IsSorted}
 use Rattle.std.specs.Map.{keys_of, lookup, remove_entry}
 use Rattle.std.specs.BTreeMap.{is_at, insert_entry}
@@ -11,10 +12,11 @@ use Rattle.process_table.specs.declared.process.Cell.{Cell}
 use Rattle.process_table.specs.declared.process.Process.{Process}
 use Rattle.process_table.specs.Cells.{cell_at}
 use Rattle.process_table.specs.Chosen.{HaveOneHome}
-use Rattle.process_table.specs.Lists.{list_at, IsAt}
+use Rattle.process_table.specs.SlotPids.{list_at, IsAt}
 use Rattle.process_table.specs.Rows.{rows_from, pid_count, process_of, process_at, table_of}
 use Rattle.process_table.specs.Tied.{in_slot, IsTied}
 use Rattle.process_table.proofs.RowLaws.{counted, alike, rows_ascend, rows_found, rows_counted, rows_put, rows_taken}
+use Rattle.process_table.proofs.Gathered.{has_cell}
 use Rattle.process_table.proofs.Paged.{no_page}
 use Rattle.process_table.proofs.SameNumbers.{same_numbers, up_from_sort, count-IsPermutation}
 use Rattle.process_table.proofs.Tying.{written, unwritten}
@@ -82,9 +84,23 @@ module _ {A : Type 0} where
     pub table_found : (q : ℕ) → lookup (is_at (nat_cmp q)) (table_of pages) ≡ process_at pages q
     table_found q = rows_found (process_at pages) q 0 pid_count (omega arith) (past q)
 
+    a_process : (q : ℕ) → (cell_at pages q ≡ None → ⊥) → (o : Option (Cell A)) → cell_at pages q ≡ o → IsSome (process_of o)
+    a_process q h None e = absurd (h e)
+    a_process q h (Some c) e = refl
+
     module _ (now : List (ℕ × Process A)) (view : table_of pages ≡ now) where
       pub get_is : (q : ℕ) → lookup (is_at (nat_cmp q)) now ≡ process_at pages q
       get_is q = ap (lookup (is_at (nat_cmp q))) (sym view) ∙ table_found q
+
+      -- each pid of a slot has a process
+      in_list : (slot : ℕ) → All (λ q. IsSome (lookup (is_at (nat_cmp q)) now)) (list_at lists slot)
+      in_list slot = λ k d h.
+          let q : ℕ = get_or (list_at lists slot) k d in
+          let at : IsAt (list_at lists slot) k q = record { within = h; here = get_or_default (list_at lists slot) k 0 d h } in
+          subst IsSome (sym (get_is q)) (a_process q (has_cell (cell_at pages) lists t slot k q at) (cell_at pages q) refl)
+
+      pub each_found : (slot : ℕ) (pids : List ℕ) → pids ≡ list_at lists slot → All (λ q. IsSome (lookup (is_at (nat_cmp q)) now)) pids
+      each_found slot pids same = subst (All (λ q. IsSome (lookup (is_at (nat_cmp q)) now))) (sym same) (in_list slot)
 
       pub one_home_now : HaveOneHome (λ q. lookup (is_at (nat_cmp q)) now) → HaveOneHome (process_at pages)
       one_home_now h p q x y a b = h p q x y (get_is p ∙ a) (get_is q ∙ b)

@@ -6,7 +6,7 @@ use Rattle.std.proofs.lemmas.List.{get_or_append_left, get_or_push}
 use Rattle.process_table.specs.declared.process.Cell.{Cell}
 use Rattle.process_table.specs.Cells.{at_place}
 use Rattle.process_table.specs.Rows.{pid_count}
-use Rattle.process_table.specs.Lists.{list_at, IsAt, IsRead, HasLeft}
+use Rattle.process_table.specs.SlotPids.{list_at, IsAt, IsRead, HasLeft}
 use Rattle.process_table.specs.Tied.{in_slot, owed, IsTied, Owes}
 use Rattle.process_table.proofs.RowLaws.{count_by-cons, count-same}
 use Rattle.process_table.proofs.SameNumbers.{count-IsPermutation}

@@ -1,5 +1,5 @@
 pub mod Cells
 pub mod Rows
-pub mod Lists
+pub mod SlotPids
 pub mod Tied
 pub mod Chosen

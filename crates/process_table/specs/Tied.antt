@@ -1,7 +1,7 @@
 -- How the cells of the pids and the lists of the slots agree.
 use Rattle.std.specs.Prelude.{ℕ, ◌+◌, ◌≤◌, ◌≡◌, ◌≢◌, eqb, cond, List, Option, Some, None, count_by}
 use Rattle.process_table.specs.declared.process.Cell.{Cell}
-use Rattle.process_table.specs.Lists.{list_at, IsAt}
+use Rattle.process_table.specs.SlotPids.{list_at, IsAt}
 use Rattle.process_table.specs.Rows.{pid_count}
 
 -- once more in the list of this slot, if q is p

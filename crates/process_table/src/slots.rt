@@ -1,7 +1,7 @@
 //! The pids of the processes of each slot.
 
 ghost use Rattle.std.specs.Prelude.{◌≡◌, ◌≢◌, ℕ, ◌<◌, [], ◌∷◌, ◌++◌, IfOk, OnOk, OnErr, eqb, if◌then◌else◌, length};
-ghost use Rattle.process_table.specs.Lists.{list_at, IsRead, HasLeft};
+ghost use Rattle.process_table.specs.SlotPids.{list_at, IsRead, HasLeft};
 
 use std::alloc::{AllocError, Allocator};
 use std::marker::Model;
@@ -141,6 +141,17 @@ impl<A: Allocator + Clone> Slots<A> {
             self.lists[slot].first()
         } else {
             None
+        }
+    }
+
+    // The pids of a slot, in no order.
+    pub(crate) fn pids(&self, slot: usize) -> &[u32]
+        ensures { result.now ≡ list_at self.now slot }
+    {
+        if slot < self.lists.len() {
+            self.lists[slot].as_slice()
+        } else {
+            &[]
         }
     }
 

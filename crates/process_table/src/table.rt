@@ -1,8 +1,9 @@
 //! The table of processes.
 
-ghost use Rattle.std.specs.Prelude.{◌≡◌, [], map, filter, eqb, is_some, IfOk, OnOk, OnErr};
+ghost use Rattle.std.specs.Prelude.{◌≡◌, ℕ, List, [], IsSome, map, filter, eqb, is_some, IfOk, OnOk, OnErr};
 ghost use Rattle.std.specs.BTreeMap.{insert_entry, is_at};
-ghost use Rattle.std.specs.List.Sorted.{IsStrictlySortedBy};
+ghost use Rattle.std.specs.List.{All};
+ghost use Rattle.std.specs.List.Sorted.{IsStrictlySortedBy, IsPermutation, IsSorted};
 ghost use Rattle.std.specs.Map.{keys_of, lookup, remove_entry};
 ghost use Rattle.std.specs.Option.{option_copied};
 ghost use Rattle.std.specs.Ordering.{nat_cmp};
@@ -110,6 +111,15 @@ impl<A: Allocator + Clone> ProcessTable<A> {
         ensures ordered { IsStrictlySortedBy nat_cmp (keys_of self.new) }
     {
         take_out(&mut self.pages, &mut self.slots, pid)
+    }
+
+    /// The pids of the processes in a slot, in no order: once sorted, they are those of `members`. Takes constant time and
+    /// allocates nothing.
+    pub fn unordered(&self, slot: u16) -> &[u32]
+        ensures present { All (λ q. IsSome (lookup (is_at (nat_cmp q)) self.now)) result.now }
+        ensures sorted { (pids : List ℕ) → IsPermutation result.now pids → IsSorted nat_cmp pids → pids ≡ map (λ e. e.0) (filter (λ e. eqb e.1.slot slot) self.now) }
+    {
+        self.slots.pids(usize::from(slot))
     }
 
     /// The pids of the processes in a slot, ascending. Takes O(n log n) for n pids, whatever the size of the table.

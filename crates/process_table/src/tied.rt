@@ -2,7 +2,7 @@
 
 ghost use Rattle.std.specs.Prelude.{◌≡◌, ℕ, ◌<◌, None, Some, IfOk, OnOk, OnErr, eqb, if◌then◌else◌, length, slice_index};
 ghost use Rattle.process_table.specs.Cells.{cell_at, HasPage};
-ghost use Rattle.process_table.specs.Lists.{list_at};
+ghost use Rattle.process_table.specs.SlotPids.{list_at};
 ghost use Rattle.process_table.specs.Rows.{process_at, process_of};
 ghost use Rattle.process_table.specs.Tied.{IsPlaceIn, IsTied, Owes};
 

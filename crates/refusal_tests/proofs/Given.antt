@@ -1,14 +1,15 @@
 -- Lists of processes, and event totals that no call so far has raised.
 use Rattle.std.proofs.Common.{◌≡◌, ℕ, ◌≤◌, false, [], ◌∷◌, Option, Some, None, cond, eqb, refl, sym, subst, ◌∙◌, true, arith}
-use Rattle.std.specs.Prelude.{option_map, Ok}
+use Rattle.std.specs.Prelude.{option_map, Result, Ok, Err, is_err, OnOk}
 use Rattle.std.specs.List.{IsDistinct}
+use Rattle.std.proofs.lemmas.Bool.{false≢true}
 use Rattle.std.proofs.lemmas.Bool.Decides.{nat_tests}
 use Rattle.std.specs.Ordering.{eq_by_cmp}
 use Rattle.std.specs.FinMap.{get, insert, get-insert}
 use Rattle.flat_model.specs.Path.{Path, path_cmp}
 use Rattle.flat_model.specs.State.{State, Attr, fresh, start}
 use Rattle.flat_model.specs.Command.{MakeGroup, Move, Fork}
-use Rattle.flat_model.specs.Events.{HasEventsUpTo}
+use Rattle.flat_model.specs.EventTotals.{HasEventsUpTo}
 use Rattle.flat_model.specs.Step.{home_of, raise_peak, raise_peaks}
 use Rattle.flat_model.proofs.PathLaws.{path_cmp-IsTotalOrder, path_cmp-IsAntisymmetric}
 use Rattle.flat_model.proofs.Maps.{get-each}
@@ -68,3 +69,8 @@ up_move slots n s p pid x new h does = subst (HasEventsUpTo n) (sym does.1) (up_
 
 pub up_fork : {X : Type 0} (slots n : ℕ) (s : State) (from child : ℕ) (x : X) (new : State) → HasEventsUpTo n s → Does slots s (Fork from child) (home_of s from) (Ok x) new → HasEventsUpTo n new
 up_fork slots n s from child x new h does = subst (HasEventsUpTo n) (sym does.1) (up_come n s child (home_of s from) h)
+
+-- what holds after Ok holds where the result was tested not to be Err
+pub after_ok : {X E : Type 0} (r : Result X E) (P : Type 0) → OnOk r P → is_err r ≡ false → P
+after_ok (Ok x) P h e = h
+after_ok (Err x) P h e = absurd (false≢true (sym e))

@@ -38,9 +38,9 @@ pub(crate) enum Call {
     PlaceAll,
     /// With a list of one.
     PlaceAllAlone,
-    /// With a list of both.
+    /// With a list of both: the first process in the group, the second in the group above it.
     PlaceBoth,
-    /// With a list of both.
+    /// With the same list.
     PlaceBothAlone,
 }
 
@@ -51,6 +51,17 @@ pub(crate) struct Asked {
     path: GroupPath<Global>,
     first: Pid,
     second: Pid,
+}
+
+impl Asked {
+    /// Whether the call places two processes. If the second is refused, the first is removed again, and the table of
+    /// processes keeps the memory of its lists.
+    pub(crate) fn places_both(&self) -> bool {
+        match self.call {
+            Call::PlaceBoth | Call::PlaceBothAlone => true,
+            _ => false,
+        }
+    }
 }
 
 /// The process with this number.
@@ -218,6 +229,16 @@ fn lost(alloc: Global, pid: Pid, path: &GroupPath<Global>) -> Result<Lost<Global
     Ok(Lost { pid, path })
 }
 
+/// A process and the group above this one, or the root.
+fn lost_above(
+    alloc: Global,
+    pid: Pid,
+    path: &GroupPath<Global>,
+) -> Result<Lost<Global>, AllocError> {
+    let path = path.front(alloc, path.depth().saturating_sub(1))?;
+    Ok(Lost { pid, path })
+}
+
 /// Makes the call, and compares its result with the expected one.
 pub(crate) fn answer<R: Threads + Wait + Sync, A: Allocator + Clone>(
     rt: &R,
@@ -243,11 +264,11 @@ pub(crate) fn answer<R: Threads + Wait + Sync, A: Allocator + Clone>(
         Call::PlaceAllAlone => place_all_alone(charges, first, path.copy(alloc)?, wanted),
         Call::PlaceBoth => {
             let one = lost(alloc, first, path)?;
-            place_both(rt, charges, one, lost(alloc, second, path)?, wanted)
+            place_both(rt, charges, one, lost_above(alloc, second, path)?, wanted)
         }
         Call::PlaceBothAlone => {
             let one = lost(alloc, first, path)?;
-            place_both_alone(charges, one, lost(alloc, second, path)?, wanted)
+            place_both_alone(charges, one, lost_above(alloc, second, path)?, wanted)
         }
     };
     Ok(tried)

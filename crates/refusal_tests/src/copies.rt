@@ -15,7 +15,7 @@ use test_support::{BLOCK_SIZE, Tried, all_but};
 pub(crate) const METER_SIZE: usize = SLOTS * LEAVES * 2 * 8;
 
 /// How many bytes there are besides a meter.
-pub(crate) const BESIDE: usize = 8192;
+pub(crate) const BESIDE: usize = 16_384;
 
 /// The result of copying into the heap. It counts as answered if all that can be read of the copy is what can be read of the
 /// charges.

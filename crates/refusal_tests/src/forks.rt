@@ -1,7 +1,7 @@
 //! Forks in one call, with each allocation refused.
 
 ghost use Rattle.std.specs.Prelude.{◌≡◌, IfOk, OnOk};
-ghost use Rattle.flat_model.specs.Events.{HasEventsUpTo};
+ghost use Rattle.flat_model.specs.EventTotals.{HasEventsUpTo};
 
 use crate::answers::{Answer, peaks_answered};
 use crate::calls::{Apart, pid};
@@ -40,27 +40,30 @@ fn fork<A: Allocator + Clone>(
     Ok(())
 }
 
-/// Process 1 in the group `A` with its children 2, 3 and so on, up to the one before `next`.
-fn crowd<M: Allocator + Clone>(alloc: Global, memory: M, next: u32) -> Result<Apart<M>, Fail>
+/// Process 1 alone in the group `A`.
+fn alone<M: Allocator + Clone>(alloc: Global, memory: M) -> Result<Apart<M>, Fail>
     ensures { IfOk result (λ c. HasEventsUpTo 0 c) }
 {
     let group = path(alloc, A)?;
-    let parent = pid(1)?;
     let mut charges = Charges::new(memory, PlainMeter::new(alloc)?)?;
-    if move_to_new(&mut charges, &group, parent).is_err() {
+    if move_to_new(&mut charges, &group, pid(1)?).is_err() {
         return Err(Fail::new("a move was refused where there is memory"));
-    }
-    for number in 2..next {
-        if fork(&mut charges, parent, pid(number)?).is_err() {
-            return Err(Fail::new("a fork was refused where there is memory"));
-        }
     }
     Ok(charges)
 }
 
-/// What can be read of them with ample memory.
-fn seen_before(alloc: Global, next: u32) -> Result<Seen, Fail> {
-    let mut charges = crowd(alloc, alloc, next)?;
+/// What can be read of it with ample memory.
+fn seen_before(alloc: Global) -> Result<Seen, Fail> {
+    let mut charges = alone(alloc, alloc)?;
+    look(alloc, &mut charges)
+}
+
+/// The same once it has forked the child.
+fn seen_after(alloc: Global, child: u32) -> Result<Seen, Fail> {
+    let mut charges = alone(alloc, alloc)?;
+    if fork(&mut charges, pid(1)?, pid(child)?).is_err() {
+        return Err(Fail::new("a fork was refused where there is memory"));
+    }
     look(alloc, &mut charges)
 }
 
@@ -73,7 +76,7 @@ fn forked(
     wanted: &Answer<'_>,
 ) -> Result<(Tried, Seen), Fail> {
     let (parent, new) = (pid(1)?, pid(child)?);
-    let mut charges = crowd(alloc, heap, child)?;
+    let mut charges = alone(alloc, heap)?;
     let blocks = all_but(alloc, heap, room)?;
     let full = heap.used();
     let tried = peaks_answered(charges.fork(0, parent, new), wanted);
@@ -94,9 +97,9 @@ fn refusals(
     child: u32,
     wanted: &Answer<'_>,
 ) -> Result<usize, Fail> {
-    let before = seen_before(alloc, child)?;
-    let after = seen_before(alloc, child.saturating_add(1))?;
-    for room in 0..256usize {
+    let before = seen_before(alloc)?;
+    let after = seen_after(alloc, child)?;
+    for room in 0..1024usize {
         let (tried, seen) = forked(alloc, heap, child, room, wanted)?;
         match tried {
             Tried::Answered if seen == after => return Ok(room),
@@ -104,15 +107,17 @@ fn refusals(
             _ => return Err(Fail::new("a fork left something changed")),
         }
     }
-    Err(Fail::new("there is no fork in 4,096 bytes"))
+    Err(Fail::new("there is no fork in 16,384 bytes"))
 }
 
-/// The second process needs its path and the old peaks; for the sixteenth the table of processes grows too.
+/// Process 2 allocates nothing: it shares the text of its parent's path, one peak is stored inline, and the list of the group
+/// has room. Process 64 needs a new page of the table of processes.
 #[test]
 fn fork_in_one_call(rt: HostRuntime) -> Result<(), Fail> {
     let heap = LocalHeap::new(rt.alloc(), 32_768)?;
     let second = refusals(rt.alloc(), &heap, 2, &Answer::Peaks(&[1]))?;
-    let sixteenth = refusals(rt.alloc(), &heap, 16, &Answer::Peaks(&[15]))?;
-    assert!(rt; 0 < second && second < sixteenth);
+    let beyond = refusals(rt.alloc(), &heap, 64, &Answer::Peaks(&[1]))?;
+    assert_eq!(rt; second, 0);
+    assert!(rt; 0 < beyond);
     Ok(())
 }

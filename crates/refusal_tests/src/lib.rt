@@ -15,6 +15,7 @@
 //! - `members`: the list of a group's processes.
 //! - `texts`: copies of commands, of replies and of records, and the texts of commands.
 //! - `rehearsals`: `rehearse` over a heap.
+//! - `sharing`: the memory that an engine takes for long paths.
 //!
 //! Not tested: calls that use the memory of the program itself, such as `parse_line` and the list of a rehearsal's replies.
 //! `.ci/refused/run` refuses that memory to the program.
@@ -42,5 +43,7 @@ mod rehearsals;
 mod sample;
 #[cfg(test)]
 mod seen;
+#[cfg(test)]
+mod sharing;
 #[cfg(test)]
 mod texts;

@@ -291,7 +291,7 @@ fn copy_of_replies(rt: HostRuntime) -> Result<(), Fail> {
     Ok(())
 }
 
-/// A path of 25 bytes needs an allocation, and so do the peaks of a group and a list of processes.
+/// A path of 25 bytes needs an allocation, and so do more than six peaks and a list of processes.
 #[test]
 fn copy_of_records(rt: HostRuntime) -> Result<(), Fail> {
     let rows = [
@@ -299,14 +299,24 @@ fn copy_of_records(rt: HostRuntime) -> Result<(), Fail> {
         ("mkdir /aaaaaaaaaaaaaaaaaaaaaaaa", true),
         // No peaks are raised in the root.
         ("fork 1 2", false),
-        ("write /b cgroup.procs 2", true),
-        ("write /aaaaaaaaaaaaaaaaaaaaaaaa cgroup.procs 2", true),
-        ("fork 2 3", true),
+        ("write /b cgroup.procs 2", false),
+        ("write /aaaaaaaaaaaaaaaaaaaaaaaa cgroup.procs 2", false),
+        ("fork 2 3", false),
         ("write /aaaaaaaaaaaaaaaaaaaaaaaa pids.max 2", true),
         ("fork 2 4", true),
         ("exit 2", true),
         ("write /aaaaaaaaaaaaaaaaaaaaaaaa cgroup.kill 1", true),
         ("rmdir /aaaaaaaaaaaaaaaaaaaaaaaa", true),
+        ("mkdir /b/2", false),
+        ("mkdir /b/2/3", false),
+        ("mkdir /b/2/3/4", false),
+        ("mkdir /b/2/3/4/5", false),
+        ("mkdir /b/2/3/4/5/6", false),
+        ("mkdir /b/2/3/4/5/6/7", false),
+        ("write /b/2/3/4/5/6 cgroup.procs 1", false),
+        ("fork 1 5", false),
+        ("write /b/2/3/4/5/6/7 cgroup.procs 1", true),
+        ("fork 1 6", true),
         ("exit 1", false),
     ];
     assert_eq!(rt;

@@ -12,8 +12,8 @@ use Rattle.replay_main.specs.declared.fault.ReplayFault.{ReplayFault}
 use Rattle.replay_main.specs.declared.fault.ReplayFault.TheVariants.{Read, Write, InputTooLong, OutOfMemory, Close}
 use Rattle.replay_main.specs.declared.trace.Summary.{Summary}
 use Rattle.replay_main.specs.Device.{IsInput}
-use Rattle.undo_journal.specs.Meaning.{command_of}
-use Rattle.sessions.specs.Meaning.{slots}
+use Rattle.undo_journal.specs.CommandMeaning.{command_of}
+use Rattle.sessions.specs.SessionMeaning.{slots}
 use Rattle.replay_main.specs.declared.reading.Script.{Script}
 use Rattle.replay_main.specs.Script.{IsScript, answers_from, place_of}
 use Rattle.replay_main.specs.Replayed.{EndsWork, IsAnswered, IsShort, IsUnwritten, Replayed}

@@ -10,7 +10,7 @@ use Rattle.replay_main.specs.declared.arguments.Ask.{Ask}
 use Rattle.replay_main.specs.declared.arguments.Ask.TheVariants.{Run, Help}
 use Rattle.replay_main.specs.declared.arguments.LineFault.{LineFault}
 use Rattle.replay_main.specs.declared.arguments.LineFault.TheVariants.{Bad, OutOfMemory}
-use Rattle.replay_main.specs.Asks.{Asks, IsAskedBy, app, rehearsal_in, rehearsal_said, rehearse_rule, workers_in, workers_rule, workers_said}
+use Rattle.replay_main.specs.ReplayArguments.{Asks, IsAskedBy, app, rehearsal_in, rehearsal_said, rehearse_rule, workers_in, workers_rule, workers_said}
 
 -- a command without the binary's name
 abbrev pub nameless : App → App

@@ -6,7 +6,7 @@ use Rattle.flat_model.specs.Command.{Reply}
 use Rattle.flat_model.specs.Machine.{Machine, end_of, replies, tick}
 use Rattle.flat_model.specs.Replies.{command_count, commands_in, fault_bytes, is_fault, is_numbered, is_refused, out, reply_bytes}
 use Rattle.flat_model.specs.Trace.{Line, Skip, Run, Fault}
-use Rattle.sessions.specs.Meaning.{slots}
+use Rattle.sessions.specs.SessionMeaning.{slots}
 use Rattle.replay_main.specs.Points.{Point, answers_on, point_after, replies_on}
 
 answers_cut : (n : ℕ) (m : Machine) (a b : List Line)

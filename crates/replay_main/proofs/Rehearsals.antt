@@ -7,11 +7,11 @@ use Rattle.flat_model.specs.Command.{Reply}
 use Rattle.flat_model.specs.Machine.{new_machine, replies}
 use Rattle.flat_model.specs.Replies.{fault_bytes, is_fault, is_refused, line_replies, out, reply_bytes}
 use Rattle.flat_model.specs.Trace.{Line, Skip, Run, Fault, read_trace}
-use Rattle.undo_journal.specs.Meaning.{command_of}
+use Rattle.undo_journal.specs.CommandMeaning.{command_of}
 use Rattle.replay_main.specs.declared.reading.Script.{Script}
 use Rattle.replay_main.specs.declared.trace.Summary.{Summary}
 use Rattle.replay_main.specs.Rehearsed.{answers_at_hand, is_refusal}
-use Rattle.sessions.specs.Meaning.{slots}
+use Rattle.sessions.specs.SessionMeaning.{slots}
 use Rattle.replay_main.specs.Replayed.{IsAnswered}
 use Rattle.replay_main.specs.Script.{IsScript, place_of, places_in}
 use Rattle.replay_main.proofs.ScriptLaws.{places-count, places-faults}

@@ -4,7 +4,7 @@ use Rattle.std.specs.List.{flat_map}
 use Rattle.std.proofs.Math.Nat.{add-mul}
 use Rattle.std.proofs.lemmas.List.{take-append-drop, drop-drop, drop_all}
 use Rattle.std.specs.declared.alloc.AllocError.{AllocError}
-use Rattle.replay_main.specs.Runs.{IsRun}
+use Rattle.replay_main.specs.RangeResults.{IsRun}
 use Rattle.replay_main.specs.Script.{run_of}
 
 -- where the work from each worker on begins with what that worker gives

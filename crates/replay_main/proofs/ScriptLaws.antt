@@ -10,10 +10,10 @@ use Rattle.flat_model.specs.Command.{Reply}
 use Rattle.flat_model.specs.Replies.{out, commands_in, command_in, command_count, is_fault, is_numbered, reply_bytes, fault_bytes}
 use Rattle.flat_model.specs.Trace as trace
 use Rattle.flat_model.specs.Trace.{read_line}
-use Rattle.undo_journal.specs.Meaning.{command_of}
+use Rattle.undo_journal.specs.CommandMeaning.{command_of}
 use Rattle.replay_main.specs.declared.reading.Place.{Place}
 use Rattle.replay_main.specs.declared.reading.Script.{Script}
-use Rattle.replay_main.specs.Runs.{IsRun}
+use Rattle.replay_main.specs.RangeResults.{IsRun}
 use Rattle.replay_main.specs.Script.{IsScript, place_in, places_in, place_of, is_command, answers_from, run_of, run_answers, replies_behind}
 use Rattle.replay_main.proofs.RunJoins.{runs_join, parts_join, cut_run, next_start}
 

@@ -2,8 +2,8 @@ pub mod Device
 pub mod Replayed
 pub mod Points
 pub mod Rehearsed
-pub mod Asks
-pub mod Program
-pub mod Runs
+pub mod ReplayArguments
+pub mod ReplayProgram
+pub mod RangeResults
 pub mod Script
 pub mod Turns

@@ -5,7 +5,8 @@ use Rattle.flat_model.specs.Command.{Reply}
 use Rattle.flat_model.specs.Machine.{Machine, new_machine, end_of, replies}
 use Rattle.flat_model.specs.Replies.{command_count, commands_in, is_fault, is_refused, out}
 use Rattle.flat_model.specs.Trace.{Line}
-use Rattle.sessions.specs.Meaning.{slots}
+use Rattle.undo_journal.specs.Beginning.{forgotten}
+use Rattle.sessions.specs.SessionMeaning.{slots}
 use Rattle.replay_main.specs.declared.trace.Summary.{Summary}
 
 -- the state of a talk: the machine, how many lines had a number, and how many of these were refused
@@ -31,6 +32,10 @@ point_after p lines = record {
   commands = p.commands + command_count lines;
   refused = p.refused + (count_by is_fault lines + count_by is_refused (replies_on p lines));
 }
+
+-- the same state of a talk, with nothing to undo
+abbrev pub without_past : Point → Point
+without_past p = record { machine = forgotten p.machine; commands = p.commands; refused = p.refused }
 
 -- the greatest number of a line
 abbrev pub number_max : ℕ

@@ -2,7 +2,7 @@
 use Rattle.std.specs.Prelude.{◌≡◌, ℕ, ◌≤◌, List, [], length, Option, Some, None, Bool, true, false, Result, Ok, Err}
 use Rattle.flat_model.specs.Replies.{command_count, refused_count, answers}
 use Rattle.flat_model.specs.Trace.{trace_max, read_trace}
-use Rattle.sessions.specs.Meaning.{slots}
+use Rattle.sessions.specs.SessionMeaning.{slots}
 use Rattle.replay_main.specs.declared.fault.ReplayFault.{ReplayFault}
 use Rattle.replay_main.specs.declared.fault.ReplayFault.TheVariants.{Read, Write, InputTooLong, OutOfMemory, Close}
 use Rattle.replay_main.specs.declared.trace.Summary.{Summary}

@@ -4,8 +4,8 @@ use Rattle.std.specs.List.{flat_map, count_by}
 use Rattle.flat_model.specs.Command.{Reply}
 use Rattle.flat_model.specs.Replies.{commands_in, fault_bytes, reply_bytes}
 use Rattle.flat_model.specs.Trace as trace
-use Rattle.undo_journal.specs.Meaning.{command_of}
-use Rattle.trace_lines.specs.Meaning.{text_fault_of}
+use Rattle.undo_journal.specs.CommandMeaning.{command_of}
+use Rattle.trace_lines.specs.LineMeaning.{text_fault_of}
 use Rattle.replay_main.specs.declared.reading.Place.{Place}
 use Rattle.replay_main.specs.declared.reading.Place.TheVariants.{Command, Fault}
 use Rattle.replay_main.specs.declared.reading.Script.{Script}

@@ -2,7 +2,7 @@
 
 ghost use Rattle.std.specs.Prelude.{◌≡◌, ◌≤◌, drop, map, option_map, string_bytes, IfOk, IfSome};
 ghost use Rattle.clap.specs.Words.{app_of, kind_of};
-ghost use Rattle.replay_main.specs.Asks.{Asks, IsAskedBy, Collects, app, digit_said, rehearsal_said, workers_said};
+ghost use Rattle.replay_main.specs.ReplayArguments.{Asks, IsAskedBy, Collects, app, digit_said, rehearsal_said, workers_said};
 
 use clap::error::ErrorKind;
 use clap::{Arg, ArgAction, Command, Error};

@@ -22,10 +22,10 @@
 //! - Memory is proportional to the trace and its answers. Not promised: how long a replay takes,
 //!   and when a device answers.
 //!
-//! `specs/Replayed.antt` says what a replay leaves. `specs/Program.antt` says what the program
-//! leaves, and defines its statuses. `specs/Device.antt` says what a whole read and a whole write
-//! leave. `specs/Asks.antt` says what a command line asks for. `session_laws` states the laws that
-//! follow from these definitions.
+//! `specs/Replayed.antt` says what a replay leaves. `specs/ReplayProgram.antt` says what the
+//! program leaves, and defines its statuses. `specs/Device.antt` says what a whole read and a whole
+//! write leave. `specs/ReplayArguments.antt` says what a command line asks for. `session_laws`
+//! states the laws that follow from these definitions.
 #![tactic(auto)]
 
 mod arguments;

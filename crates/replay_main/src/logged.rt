@@ -1,7 +1,7 @@
 //! Whether a log has the commands of a trace, in their order, each run by the session whose turn it was.
 
 ghost use Rattle.std.specs.Prelude.{◌≡◌, ◌<◌, length, map, IsTrue};
-ghost use Rattle.undo_journal.specs.Meaning.{command_of};
+ghost use Rattle.undo_journal.specs.CommandMeaning.{command_of};
 ghost use Rattle.replay_main.specs.Turns.{TakesTurns};
 
 use sessions::Entry;

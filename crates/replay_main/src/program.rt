@@ -4,7 +4,7 @@ ghost use Rattle.std.specs.Prelude.{◌≡◌, ◌≢◌, ◌≤◌, drop, true,
 ghost use Rattle.replay_main.specs.declared.arguments.LineFault.{LineFault};
 ghost use Rattle.replay_main.specs.declared.fault.ReplayFault.TheVariants.{Close};
 ghost use Rattle.replay_main.specs.declared.program.ProgramFault.TheVariants.{Line};
-ghost use Rattle.replay_main.specs.Program.{Ran, status_of};
+ghost use Rattle.replay_main.specs.ReplayProgram.{Ran, status_of};
 ghost use Rattle.replay_main.specs.Replayed.{Replayed};
 
 use crate::arguments::{Ask, LineFault, read_arguments};

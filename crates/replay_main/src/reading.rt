@@ -4,8 +4,8 @@ ghost use Rattle.std.specs.Prelude.{◌≡◌, ◌<◌, ◌≤◌, ◌^◌, ◌+
 ghost use Rattle.std.specs.List.{flat_map, count_by};
 ghost use Rattle.flat_model.specs.Replies.{command_in};
 ghost use Rattle.flat_model.specs.Trace.{lines_in, read_line, read_trace, trace_max};
-ghost use Rattle.undo_journal.specs.Meaning.{command_of};
-ghost use Rattle.trace_lines.specs.Meaning.{trace_line_of};
+ghost use Rattle.undo_journal.specs.CommandMeaning.{command_of};
+ghost use Rattle.trace_lines.specs.LineMeaning.{trace_line_of};
 ghost use Rattle.replay_main.specs.Script.{IsScript, is_command, place_in, place_of, run_of};
 
 use crate::runs::{in_runs, put_behind, run_of, run_size};

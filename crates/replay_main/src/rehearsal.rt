@@ -3,7 +3,7 @@
 ghost use Rattle.std.specs.Prelude.{◌≡◌, ◌≢◌, ◌≤◌, length, map, false, Err, IfOk};
 ghost use Rattle.std.specs.List.{count_by};
 ghost use Rattle.flat_model.specs.Trace.{trace_max};
-ghost use Rattle.undo_journal.specs.Meaning.{reply_of};
+ghost use Rattle.undo_journal.specs.CommandMeaning.{reply_of};
 ghost use Rattle.replay_main.specs.declared.fault.ReplayFault.TheVariants.{Close};
 ghost use Rattle.replay_main.specs.Rehearsed.{answers_at_hand, is_refusal};
 ghost use Rattle.replay_main.specs.Replayed.{IsAnswered, Replayed};

@@ -1,7 +1,7 @@
 //! Work in contiguous runs, with a thread for each worker.
 
 ghost use Rattle.std.specs.Prelude.{◌≡◌, ◌+◌, ◌++◌, ◌*◌, ◌<◌, ◌≤◌, ◌^◌, ℕ, take, drop, IfOk, OnOk};
-ghost use Rattle.replay_main.specs.Runs.{IsRun};
+ghost use Rattle.replay_main.specs.RangeResults.{IsRun};
 ghost use Rattle.replay_main.specs.Script.{run_of};
 ghost use denote.Param.Send.{IsSend, IsSync};
 

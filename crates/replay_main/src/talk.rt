@@ -2,9 +2,9 @@
 
 ghost use Rattle.std.specs.Prelude.{◌≡◌, ◌+◌, ◌<◌, ◌≤◌, ◌^◌, length, IfOk, OnOk, if◌then◌else◌};
 ghost use Rattle.flat_model.specs.Trace.{Fault, Run, read_line, trace_max};
-ghost use Rattle.trace_lines.specs.Meaning.{text_fault_of};
-ghost use Rattle.undo_journal.specs.Meaning.{command_of};
-ghost use Rattle.replay_main.specs.Points.{IsSaid, number_max, start_point, summary_of};
+ghost use Rattle.trace_lines.specs.LineMeaning.{text_fault_of};
+ghost use Rattle.undo_journal.specs.CommandMeaning.{command_of};
+ghost use Rattle.replay_main.specs.Points.{IsSaid, number_max, start_point, summary_of, without_past};
 ghost use Rattle.replay_main.specs.Replayed.{IsAnswered};
 
 use crate::Summary;
@@ -26,7 +26,7 @@ pub struct Talk {
 impl Model for Talk {
     ghost use Rattle.std.specs.Prelude.{◌≤◌};
     ghost use Rattle.std.specs.Coded.{codes};
-    ghost use Rattle.flat_model.specs.Codes.{state_code};
+    ghost use Rattle.flat_model.specs.StateCodes.{state_code};
     ghost use Rattle.replay_main.specs.Points.{Point};
 
     ghost Value = { Point };
@@ -84,6 +84,14 @@ impl Talk {
             Line::Fault(fault) => self.refuse(fault, bytes),
             Line::Run(command) => self.run(alloc, &command, bytes),
         }
+    }
+
+    /// Forgets all recorded commands and frees their memory: groups, processes and counts stay. It takes no memory and
+    /// cannot fail. Costs as much as dropping the records.
+    pub fn forget(&mut self)
+        ensures { self.new ≡ without_past self.old }
+    {
+        self.engine.forget();
     }
 
     /// Answers a line that is not a command.

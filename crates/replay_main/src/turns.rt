@@ -6,10 +6,10 @@
 
 ghost use Rattle.std.specs.Prelude.{◌≡◌, ◌*◌, ◌<◌, ◌≤◌, length, map, replicate, set, vec_len, false, true, IfOk, IfErr};
 ghost use Rattle.flat_model.specs.Machine.{new_machine, replies};
-ghost use Rattle.undo_journal.specs.Meaning.{command_of};
+ghost use Rattle.undo_journal.specs.CommandMeaning.{command_of};
 ghost use Rattle.replay_main.specs.Replayed.{EndsWork};
 ghost use Rattle.replay_main.specs.Turns.{TakesTurns};
-ghost use Rattle.sessions.specs.Meaning.{slots};
+ghost use Rattle.sessions.specs.SessionMeaning.{slots};
 ghost use denote.Param.Send.{IsSync};
 
 use crate::ReplayFault;

@@ -33,7 +33,7 @@ ghost use Rattle.flat_model.specs.Machine.{Machine};
 ghost use Rattle.undo_journal.specs.Answer.{Answers};
 ghost use Rattle.undo_journal.specs.declared.reply.Reply.{Reply};
 ghost use Rattle.undo_journal.specs.declared.reply.Reply.TheVariants as reply;
-ghost use Rattle.undo_journal.specs.Meaning.{reply_of};
+ghost use Rattle.undo_journal.specs.CommandMeaning.{reply_of};
 ghost use Rattle.pids_charge.specs.declared.plain.TheConstants.{SLOTS};
 ghost use Rattle.sessions.specs.declared.book.Book.{Book};
 ghost use Rattle.sessions.specs.declared.hall.Hall.{Hall};
@@ -42,7 +42,7 @@ ghost use Rattle.sessions.specs.declared.fault.CloseFault.TheVariants as fault;
 ghost use Rattle.sessions.specs.declared.fault.RunFault.{RunFault};
 ghost use Rattle.sessions.specs.declared.fault.RunFault.TheVariants as run_fault;
 ghost use Rattle.sessions.specs.Faults.{IsFirstFault};
-ghost use Rattle.sessions.specs.Meaning.{slots, answer_of};
+ghost use Rattle.sessions.specs.SessionMeaning.{slots, answer_of};
 ghost use Rattle.sessions.specs.Ran.{Last, LastAt, Ran, RanAt};
 ghost use Rattle.sessions.specs.Marks.{AllClear, IsFirstClear};
 ghost use Rattle.sessions.specs.Served.{

@@ -47,8 +47,8 @@ ghost use Rattle.replay_main.specs.declared.fault.ReplayFault.{ReplayFault};
 ghost use Rattle.replay_main.specs.declared.fault.ReplayFault.TheVariants as fault;
 ghost use Rattle.replay_main.specs.declared.program.ProgramFault.TheVariants as program;
 ghost use Rattle.replay_main.specs.declared.trace.Summary.{Summary};
-ghost use Rattle.sessions.specs.Meaning.{slots};
-ghost use Rattle.replay_main.specs.Asks.{
+ghost use Rattle.sessions.specs.SessionMeaning.{slots};
+ghost use Rattle.replay_main.specs.ReplayArguments.{
   Asks,
   Collects,
   IsAskedBy,
@@ -60,7 +60,7 @@ ghost use Rattle.replay_main.specs.Asks.{
   workers_said,
 };
 ghost use Rattle.replay_main.specs.Device.{TakesFront, WholeRead, WholeWrite};
-ghost use Rattle.replay_main.specs.Program.{Ran, status_of};
+ghost use Rattle.replay_main.specs.ReplayProgram.{Ran, status_of};
 ghost use Rattle.replay_main.specs.Replayed.{EndsWork, IsAnswered, Replayed};
 
 /// If source and sink report their bytes, a replay that succeeded has appended to the sink exactly the output for all that

@@ -12,6 +12,7 @@ use Rattle.group_tree.proofs.attr.Attr.TheSendSync as attr
 use Rattle.group_tree.proofs.node.Node.TheLaws.TheKnot as knot
 use Rattle.std.proofs.alloc.Global.TheSendSync as global
 use Rattle.pids_charge.proofs.pid.Pid.TheSendSync as pid
+use Rattle.process_table.proofs.table.ProcessTable.TheSendSync as process_table
 use Rattle.undo_journal.proofs.command.Command.TheSendSync as command
 use Rattle.undo_journal.proofs.inverse.Inverse.TheSendSync as inverse
 use Rattle.board_meter.proofs.meter.BoardMeter.TheSendSync as meter
@@ -24,11 +25,11 @@ use Rattle.sessions.specs.contracts.session.Session as Session
 use Rattle.sessions.specs.contracts.desk.Desk as Desk
 
 -- the name of a node
-name_send : (T : RattleType) → (g : Ghosts T.Denot) → IsSend T → Frees {D = T.Denot} {G = Ghosts T.Denot} g g.dealloc_token → IsSend (as_row (InlineBytes.the_field T g))
-name_send T g s f = inline_bytes.the_send T g s f
+name_send : (T : RattleType) → (g : Ghosts T.Denot) → IsSend T → IsSync T → Frees {D = T.Denot} {G = Ghosts T.Denot} g g.dealloc_token → IsSend (as_row (InlineBytes.the_field T g))
+name_send T g s y f = inline_bytes.the_send T g s y f
 
 book_send : IsSend Book.the_row
-book_send = search (entry.the_send, command.the_field_send, inverse.the_field_send, meter.the_send, knot.crosses, pid.the_send, attr.the_send, name_send, group_path.the_send, global.the_send, sendable, crosses, maps.crosses) depth 20
+book_send = search (entry.the_send, command.the_field_send, inverse.the_field_send, meter.the_send, knot.crosses, pid.the_send, process_table.the_send, attr.the_send, name_send, group_path.the_send, global.the_send, global.the_sync, sendable, crosses, maps.crosses) depth 20
 
 hall_send : IsSend Hall.the_row
 hall_send = search (book_send, sendable, crosses) depth 20

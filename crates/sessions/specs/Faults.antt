@@ -3,7 +3,7 @@ use Rattle.std.specs.Prelude.{ℕ, List}
 use Rattle.flat_model.specs.Log.{Entry, IsLegal, Session}
 use Rattle.flat_model.specs.Audit as model
 use Rattle.flat_model.specs.Audit.{FirstFault}
-use Rattle.sessions.specs.Meaning.{slots}
+use Rattle.sessions.specs.SessionMeaning.{slots}
 use Rattle.sessions.specs.declared.fault.CloseFault.{CloseFault}
 use Rattle.sessions.specs.declared.fault.CloseFault.TheVariants.{Stranger, Mismatch, Missing, OutOfMemory}
 

@@ -1,4 +1,4 @@
-pub mod Meaning
+pub mod SessionMeaning
 pub mod Served
 pub mod Ran
 pub mod Faults

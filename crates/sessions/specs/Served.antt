@@ -4,12 +4,12 @@ use Rattle.flat_model.specs.Command as model
 use Rattle.flat_model.specs.Machine.{Machine, tick}
 use Rattle.flat_model.specs.Log.{Entry, Receipt, entry_of}
 use Rattle.undo_journal.specs.declared.reply.Reply.{Reply}
-use Rattle.undo_journal.specs.Meaning.{reply_of}
+use Rattle.undo_journal.specs.CommandMeaning.{reply_of}
 use Rattle.sessions.specs.declared.fault.RunFault.{RunFault}
 use Rattle.sessions.specs.declared.fault.RunFault.TheVariants.{OutOfMemory, TurnPassed, Halted}
 use Rattle.sessions.specs.declared.book.Book.{Book}
 use Rattle.sessions.specs.declared.hall.Hall.{Hall}
-use Rattle.sessions.specs.Meaning.{slots}
+use Rattle.sessions.specs.SessionMeaning.{slots}
 
 -- on this command the machine goes from old to new, and both replies are its reply
 pub record AnswersTwice {A : Type 0} (old : Machine) (c : model.Command) (reply again : Reply A) (new : Machine) : Type 0 where

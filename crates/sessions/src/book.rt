@@ -2,8 +2,8 @@
 
 ghost use Rattle.std.specs.Prelude.{◌≡◌, ◌++◌, ◌∷◌, [], IfOk, OnErr, vec_len};
 ghost use Rattle.flat_model.specs.Log.{IsLegal, log_end, entry_of};
-ghost use Rattle.undo_journal.specs.Meaning.{command_of};
-ghost use Rattle.sessions.specs.Meaning.{slots};
+ghost use Rattle.undo_journal.specs.CommandMeaning.{command_of};
+ghost use Rattle.sessions.specs.SessionMeaning.{slots};
 
 use crate::step::answer_twice;
 use crate::{Entry, Receipt};

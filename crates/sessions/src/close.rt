@@ -4,7 +4,7 @@ ghost use Rattle.std.specs.Prelude.{◌≡◌, IfOk, IfErr};
 ghost use Rattle.flat_model.specs.Log.{IsLegal, log_end};
 ghost use Rattle.flat_model.specs.Audit.{AreEntries};
 ghost use Rattle.sessions.specs.Faults.{IsRefused};
-ghost use Rattle.sessions.specs.Meaning.{slots};
+ghost use Rattle.sessions.specs.SessionMeaning.{slots};
 
 use crate::book::{Book, DeskEngine};
 use crate::desk::Desk;

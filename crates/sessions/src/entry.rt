@@ -22,8 +22,8 @@ impl Model for Entry {
     ghost Value = { log.Entry };
 
     ghost use Rattle.std.specs.Prelude.{◌≢◌, None};
-    ghost use Rattle.undo_journal.specs.Meaning.{command_of, reply_of};
-    ghost use Rattle.sessions.specs.Meaning.{answer_of};
+    ghost use Rattle.undo_journal.specs.CommandMeaning.{command_of, reply_of};
+    ghost use Rattle.sessions.specs.SessionMeaning.{answer_of};
 
     ghost view = { λ e. record {
       session = e.session;
@@ -51,8 +51,8 @@ impl Model for Receipt {
     ghost Value = { log.Receipt };
 
     ghost use Rattle.std.specs.Prelude.{◌≢◌, None};
-    ghost use Rattle.undo_journal.specs.Meaning.{command_of, reply_of};
-    ghost use Rattle.sessions.specs.Meaning.{answer_of};
+    ghost use Rattle.undo_journal.specs.CommandMeaning.{command_of, reply_of};
+    ghost use Rattle.sessions.specs.SessionMeaning.{answer_of};
 
     ghost view = { λ r. record {
       number = r.number;

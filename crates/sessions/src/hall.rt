@@ -2,7 +2,7 @@
 
 ghost use Rattle.std.specs.Prelude.{◌≡◌, ◌↔◌, ◌≤◌, ◌%◌, ℕ, IsTrue, IfOk, IfErr, IfSome, OnErr, Some, None, slice_index_or, true};
 ghost use Rattle.flat_model.specs.Audit.{AreEntries};
-ghost use Rattle.undo_journal.specs.Meaning.{command_of};
+ghost use Rattle.undo_journal.specs.CommandMeaning.{command_of};
 ghost use Rattle.sessions.specs.Faults.{IsFirstFault};
 ghost use Rattle.sessions.specs.Served.{
   Answer,

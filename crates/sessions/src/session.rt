@@ -3,7 +3,7 @@
 ghost use Rattle.std.specs.Prelude.{◌≡◌, IfErr, MatchResult};
 ghost use Rattle.std.specs.Borrow.{sem};
 ghost use Rattle.std.specs.Io.BufRead.{Rests};
-ghost use Rattle.undo_journal.specs.Meaning.{command_of};
+ghost use Rattle.undo_journal.specs.CommandMeaning.{command_of};
 ghost use Rattle.sessions.specs.Ran.{Ran, RanAt, Last, LastAt};
 ghost use Rattle.sessions.specs.Served.{IsLate, NamesNoTurn};
 

@@ -4,9 +4,9 @@ ghost use Rattle.std.specs.Prelude.{◌≡◌, ◌≢◌, IfOk, OnOk, OnErr, Som
 ghost use Rattle.flat_model.specs.Command as model;
 ghost use Rattle.flat_model.specs.Command.{is_undo};
 ghost use Rattle.flat_model.specs.Machine.{tick};
-ghost use Rattle.undo_journal.specs.Meaning.{command_of, reply_of};
+ghost use Rattle.undo_journal.specs.CommandMeaning.{command_of, reply_of};
 ghost use Rattle.undo_journal.specs.Answer.{undoes_without_memory};
-ghost use Rattle.sessions.specs.Meaning.{slots};
+ghost use Rattle.sessions.specs.SessionMeaning.{slots};
 ghost use Rattle.sessions.specs.Served.{AnswersTwice};
 
 use crate::book::DeskEngine;

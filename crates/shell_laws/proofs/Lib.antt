@@ -1,2 +1,4 @@
 pub mod Shorts
 pub mod Prefixes
+pub mod Stricts
+pub mod Dropped

@@ -4,9 +4,11 @@
 //! of `shell_main` cite, for every value or for a worked one.
 //!
 //! - `shells`: a shell writes what a replay writes, or a prefix of it after a fault; what is
-//!   flushed at a failed read.
+//!   flushed at a failed read; that a strict shell is a shell.
+//! - `forgetful`: what a shell without a history answers, compared with one that has one.
 //! - `words`: what a command line requests, and the statuses.
 #![tactic(auto)]
 
+pub mod forgetful;
 pub mod shells;
 pub mod words;

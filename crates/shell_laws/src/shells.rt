@@ -19,13 +19,13 @@ ghost use Rattle.std.specs.Prelude.{
   codes,
   length,
 };
-ghost use Rattle.flat_model.specs.Replies.{answers};
-ghost use Rattle.sessions.specs.Meaning.{slots};
 ghost use Rattle.replay_main.specs.declared.trace.Summary.{Summary};
 ghost use Rattle.replay_main.specs.Replayed.{Replayed};
 ghost use Rattle.shell_main.specs.declared.fault.ShellFault.{ShellFault};
 ghost use Rattle.shell_main.specs.declared.fault.ShellFault.TheVariants as fault;
-ghost use Rattle.shell_main.specs.Shelled.{Shelled};
+ghost use Rattle.shell_main.specs.declared.options.Options.{Options};
+ghost use Rattle.shell_main.specs.Forgetful.{output_of};
+ghost use Rattle.shell_main.specs.Shelled.{Shelled, ShelledBy};
 ghost use Rattle.shell_main.specs.WholeLines.{HasNoFeed, ends_line};
 
 /// For a source that a replay reads completely, a shell that no fault ends leaves exactly what the
@@ -33,30 +33,37 @@ ghost use Rattle.shell_main.specs.WholeLines.{HasNoFeed, ends_line};
 pub fn what_a_replay_says()
     ensures { (left : List ℕ) (rest before after : Option (List ℕ)) (read_failed write_failed flushed : Bool) (summary : Summary)
         → length left ≤ 16777216
-        → Shelled (Some left) rest read_failed before after write_failed flushed (Ok summary)
+        → Shelled true (Some left) rest read_failed before after write_failed flushed (Ok summary)
         ↔ Replayed (Some left) read_failed before after write_failed flushed (Ok summary) }
 {}
 
 /// Whatever the result of a shell, what it wrote is a prefix of the output for all that the source
 /// had.
 pub fn a_prefix_of_all_answers()
-    ensures { (left before : List ℕ) (rest after : Option (List ℕ)) (read_failed write_failed flushed : Bool) (r : Result Summary ShellFault)
-        → Shelled (Some left) rest read_failed (Some before) after write_failed flushed r
-        → (front more : List ℕ) × (front ++ more ≡ answers slots left) × (after ≡ Some (before ++ front)) }
+    ensures { (history : Bool) (left before : List ℕ) (rest after : Option (List ℕ)) (read_failed write_failed flushed : Bool) (r : Result Summary ShellFault)
+        → Shelled history (Some left) rest read_failed (Some before) after write_failed flushed r
+        → (front more : List ℕ) × (front ++ more ≡ output_of history left) × (after ≡ Some (before ++ front)) }
 {}
 
 /// The output for whole lines is a prefix of the output for them and whatever follows.
 pub fn whole_lines_come_first()
-    ensures { (lines more : List ℕ) → ends_line lines ≡ true
-        → (rest : List ℕ) × (answers slots (lines ++ more) ≡ answers slots lines ++ rest) }
+    ensures { (history : Bool) (lines more : List ℕ) → ends_line lines ≡ true
+        → (rest : List ℕ) × (output_of history (lines ++ more) ≡ output_of history lines ++ rest) }
 {}
 
 /// At a failed read, exactly the output for the whole lines that were read is flushed.
 pub fn what_is_out_at_a_failed_read()
-    ensures { (left rest before : List ℕ) (after : Option (List ℕ)) (read_failed write_failed flushed : Bool)
-        → Shelled (Some left) (Some rest) read_failed (Some before) after write_failed flushed (Err fault.Read)
+    ensures { (history : Bool) (left rest before : List ℕ) (after : Option (List ℕ)) (read_failed write_failed flushed : Bool)
+        → Shelled history (Some left) (Some rest) read_failed (Some before) after write_failed flushed (Err fault.Read)
         → (lines line : List ℕ) × (left ≡ (lines ++ line) ++ rest) × (ends_line lines ≡ true)
-        × HasNoFeed line × (after ≡ Some (before ++ answers slots lines)) × (flushed ≡ true) }
+        × HasNoFeed line × (after ≡ Some (before ++ output_of history lines)) × (flushed ≡ true) }
+{}
+
+/// What a strict shell leaves, a shell may leave, unless it stopped behind a line that is not a command.
+pub fn a_strict_shell_is_a_shell()
+    ensures { (how : Options) (left rest before after : Option (List ℕ)) (read_failed write_failed flushed : Bool) (r : Result Summary ShellFault)
+        → ShelledBy how left rest read_failed before after write_failed flushed r → (r ≡ Err fault.NotACommand → ⊥)
+        → Shelled how.keeps_history left rest read_failed before after write_failed flushed r }
 {}
 
 /// Texts of whole lines, by example.

@@ -1,29 +1,46 @@
 //! What a command line requests, and the exit status.
 
-ghost use Rattle.std.specs.Prelude.{◌≡◌, [], ◌∷◌, Ok, Err, codes};
+ghost use Rattle.std.specs.Prelude.{◌≡◌, [], ◌∷◌, true, false, Some, None, Ok, Err, codes};
 ghost use Rattle.clap.specs.Words.{fault_of};
 ghost use Rattle.clap.specs.declared.error.kind.ErrorKind.TheVariants as kind;
 ghost use Rattle.replay_main.specs.declared.arguments.LineFault.TheVariants as line;
 ghost use Rattle.shell_main.specs.declared.fault.ShellFault.{ShellFault};
 ghost use Rattle.shell_main.specs.declared.program.ProgramFault.TheVariants as program;
-ghost use Rattle.shell_main.specs.Asks.{Asks, app};
+ghost use Rattle.shell_main.specs.Asks.{Asks, app, file_in, no_undo_in, options_in, strict_in};
 ghost use Rattle.shell_main.specs.Program.{status_of};
 
-/// Without words a shell is requested; `--` alone changes nothing; `--help` requests help. Any other word is a bad line.
+/// Without words a shell is requested; `--` alone changes nothing. One word names a file; `--strict` requests a strict shell,
+/// `--no-undo` one without a history, in any order; `--help` help and `--version` the version. An unknown option,
+/// `--workers 3`, a second file, and a second `--strict` or `--no-undo` are bad lines.
 pub fn words_that_ask()
     ensures none { fault_of app [] ≡ [] }
     ensures dashes { fault_of app (codes "--" ∷ []) ≡ [] }
     ensures help { fault_of app (codes "--help" ∷ []) ≡ kind.DisplayHelp ∷ [] }
     ensures help_alone { Asks (codes "--help" ∷ []) (Err line.Bad) → ⊥ }
+    ensures version { fault_of app (codes "--version" ∷ []) ≡ kind.DisplayVersion ∷ [] }
+    ensures file { (fault_of app (codes "x" ∷ []) ≡ []) × (file_in (codes "x" ∷ []) ≡ Some (codes "x")) }
+    ensures no_file { file_in [] ≡ None }
+    ensures strict { (fault_of app (codes "--strict" ∷ []) ≡ []) × (strict_in (codes "--strict" ∷ []) ≡ true) }
+    ensures lenient { strict_in (codes "x" ∷ []) ≡ false }
+    ensures no_undo { (fault_of app (codes "--no-undo" ∷ []) ≡ []) × (no_undo_in (codes "--no-undo" ∷ []) ≡ true) }
+    ensures history { options_in [] ≡ record { is_strict = false; keeps_history = true } }
+    ensures all { (fault_of app (codes "--no-undo" ∷ codes "x" ∷ codes "--strict" ∷ []) ≡ [])
+        × (file_in (codes "--no-undo" ∷ codes "x" ∷ codes "--strict" ∷ []) ≡ Some (codes "x"))
+        × (options_in (codes "--no-undo" ∷ codes "x" ∷ codes "--strict" ∷ []) ≡ record { is_strict = true; keeps_history = false }) }
     ensures unknown { Asks (codes "--bogus" ∷ []) (Err line.Bad) }
     ensures workers { Asks (codes "--workers" ∷ codes "3" ∷ []) (Err line.Bad) }
-    ensures stray { Asks (codes "x" ∷ []) (Err line.Bad) }
+    ensures second { Asks (codes "x" ∷ codes "y" ∷ []) (Err line.Bad) }
+    ensures twice { Asks (codes "--strict" ∷ codes "--strict" ∷ []) (Err line.Bad) }
+    ensures again { Asks (codes "--no-undo" ∷ codes "--no-undo" ∷ []) (Err line.Bad) }
 {}
 
-/// The program's status is 0 if everything was done, 2 for a bad command line, and 1 for any other fault.
+/// The program's status is 0 if everything was done, 2 for a bad command line, 141 for a closed pipe, and 1 for any other
+/// fault.
 pub fn statuses()
     ensures done { (u : Unit {0}) → status_of (Ok u) ≡ 0 }
     ensures bad_line { status_of (Err (program.Line line.Bad)) ≡ 2 }
     ensures memory { status_of (Err (program.Line line.OutOfMemory)) ≡ 1 }
     ensures shell { (f : ShellFault) → status_of (Err (program.Shell f)) ≡ 1 }
+    ensures opening { status_of (Err program.Open) ≡ 1 }
+    ensures pipe { status_of (Err program.ClosedPipe) ≡ 141 }
 {}

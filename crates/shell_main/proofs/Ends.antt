@@ -1,24 +1,24 @@
 -- What a shell leaves where it ends, by what stood before.
-use Rattle.std.proofs.Common.{◌≡◌, ◌∙◌, ◌⊎◌, inl, inr, ℕ, ◌≤◌, ◌<◌, Bool, true, false, List, [], ◌∷◌, ◌++◌, length, ◌==◌, append_assoc, append-nil, refl, sym, ap, subst, take, zero-add, Option, Some, None, Result, Ok, Err, is_err}
+use Rattle.std.proofs.Common.{◌≡◌, ◌∙◌, ◌⊎◌, inl, inr, ℕ, suc, ◌≤◌, ◌<◌, Bool, true, false, List, [], ◌∷◌, ◌++◌, length, ◌==◌, append_assoc, append-nil, refl, sym, ap, subst, arith, take, zero-add, Option, Some, None, Result, Ok, Err}
 use Rattle.std.specs.Io.KnownBytes.{Consumes, IsAtEnd}
 use Rattle.std.specs.Io.KnownBytes as known
 use Rattle.std.specs.Result.{IsErrAnd}
-use Rattle.std.proofs.lemmas.List.Elements.{All-append, All-nil}
-use Rattle.flat_model.specs.Replies.{answers, command_count, refused_count}
-use Rattle.flat_model.specs.Trace.{is_line_feed, read_line, read_trace, trace_max}
-use Rattle.sessions.specs.Meaning.{slots}
-use Rattle.replay_main.specs.declared.device.DeviceFault.{DeviceFault}
-use Rattle.replay_main.specs.declared.trace.Summary.{Summary}
-use Rattle.replay_main.specs.Device.{IsInput, TakesFront, WholeWrite}
-use Rattle.replay_main.specs.Replayed.{IsSummary}
+use Rattle.std.proofs.lemmas.Bool.{eqb-true}
+use Rattle.flat_model.specs.Replies.{command_count}
+use Rattle.flat_model.specs.Trace.{read_line, read_trace, trace_max}
+use Rattle.replay_main.specs.Device.{IsInput, TakesFront}
 use Rattle.shell_main.specs.declared.fault.ShellFault.{ShellFault}
-use Rattle.shell_main.specs.declared.fault.ShellFault.TheVariants.{Read, Write, InputTooLong, OutOfMemory}
-use Rattle.shell_main.specs.Shelled.{BeginsWith, IsServed, IsStopped, NothingOwed, Shelled}
-use Rattle.replay_main.specs.Points.{Point, number_max, point_after, start_point, summary_of}
-use Rattle.shell_main.specs.Talks.{Keeps, Says, Serves, Stands}
-use Rattle.shell_main.specs.WholeLines.{HasNoFeed, ends_line}
-use Rattle.shell_main.proofs.LineCuts.{HasOneMore, ends_more, with_feed, without_feed}
-use Rattle.shell_main.proofs.Standing.{both_written, came, point_more, written_more}
+use Rattle.shell_main.specs.declared.fault.ShellFault.TheVariants.{Read, Write, InputTooLong, OutOfMemory, NotACommand}
+use Rattle.shell_main.specs.Shelled.{BeginsWith, IsBarred, IsBroken, IsStopped, NothingOwed, ShelledBy}
+use Rattle.replay_main.specs.Points.{Point, answers_on, number_max, start_point, summary_of}
+use Rattle.shell_main.specs.declared.options.Options.{Options}
+use Rattle.shell_main.specs.Forgetful.{after_by, answers_by, output_of, refused_of}
+use Rattle.shell_main.specs.Talks.{Answered, Finishes, IsCutOff, IsOut, IsStruck, Serves, Stands, Stops}
+use Rattle.shell_main.specs.WholeLines.{HasCommandsOnly, IsClean}
+use Rattle.shell_main.proofs.ForgetfulCuts.{commands_by}
+use Rattle.shell_main.proofs.LineCuts.{with_feed, without_feed}
+use Rattle.shell_main.proofs.Standing.{both_written, came, read_cut, written_both, written_more}
+use Rattle.shell_main.proofs.Texts.{answers_both, answers_more, clean_both, clean_more, ends_both, point_both, point_more, short_both}
 
 -- ---- the source
 
@@ -44,20 +44,20 @@ kept_left (Some xs) (Some ys) None front c k = absurd k
 kept_left (Some xs) (Some ys) (Some zs) front c k = c ∙ ap (λ y. front ++ y) (sym k)
 
 -- the numbers of a point are those of the lines before it
-counted : (trace : List ℕ) (now : Point) → now ≡ point_after start_point (read_trace trace) → IsSummary trace (summary_of now)
-counted trace now p = record {
-  commands = ap (λ q. q.commands) p ∙ zero-add (command_count (read_trace trace));
-  refused = ap (λ q. q.refused) p ∙ zero-add (refused_count slots (read_trace trace));
-}
+commands_at : (history : Bool) (lines : List ℕ) (now : Point) → now ≡ after_by history start_point (read_trace lines) → now.commands ≡ command_count (read_trace lines)
+commands_at history lines now p = ap (λ q. q.commands) p ∙ commands_by history start_point (read_trace lines) ∙ zero-add (command_count (read_trace lines))
+
+refused_at : (history : Bool) (lines : List ℕ) (now : Point) → now ≡ after_by history start_point (read_trace lines) → now.refused ≡ refused_of history lines
+refused_at history lines now p = ap (λ q. q.refused) p
 
 -- ---- before a read
 
-pub nothing_owed : (start left before taken : Option (List ℕ)) (failed flushed : Bool) (now : Point) (lines line : List ℕ)
-    → Stands start left before taken failed flushed now lines line [] → NothingOwed start left before taken failed flushed lines line
-nothing_owed start left before taken failed flushed now lines line s = record {
+pub nothing_owed : (how : Options) (start left before taken : Option (List ℕ)) (failed flushed : Bool) (now : Point) (lines line : List ℕ)
+    → Stands how start left before taken failed flushed now lines line [] → NothingOwed how.keeps_history start left before taken failed flushed lines line
+nothing_owed how start left before taken failed flushed now lines line s = record {
   whole = s.whole;
   short = s.short;
-  unended = s.unended;
+  unended = s.unended.no_feed;
   read = subst (λ x. Consumes start left (lines ++ x)) (append-nil line) s.read;
   written = s.written;
   good = s.good;
@@ -65,10 +65,10 @@ nothing_owed start left before taken failed flushed now lines line s = record {
 }
 
 -- the read failed
-pub read_ended : (start left later before taken : Option (List ℕ)) (read_failed failed flushed : Bool) (now : Point) (lines line : List ℕ)
-    → Stands start left before taken failed flushed now lines line [] → known.Keeps left later → read_failed ≡ true → Shelled start later read_failed before taken failed flushed (Err Read)
-read_ended start left later before taken read_failed failed flushed now lines line s k r =
-    let n = nothing_owed start left before taken failed flushed now lines line s in (
+pub read_ended : (how : Options) (start left later before taken : Option (List ℕ)) (read_failed failed flushed : Bool) (now : Point) (lines line : List ℕ)
+    → Stands how start left before taken failed flushed now lines line [] → known.Keeps left later → read_failed ≡ true → ShelledBy how start later read_failed before taken failed flushed (Err Read)
+read_ended how start left later before taken read_failed failed flushed now lines line s k r =
+    let n = nothing_owed how start left before taken failed flushed now lines line s in (
       r,
       (
         lines,
@@ -82,260 +82,248 @@ read_ended start left later before taken read_failed failed flushed now lines li
           good = n.good;
           is_out = n.is_out;
         },
+        s.clean,
       ),
     )
 
 -- ---- behind whole lines
 
-is_stopped : (start left before taken : Option (List ℕ)) (read_failed failed flushed : Bool) (now : Point) (lines line pending : List ℕ)
-    → Stands start left before taken failed flushed now lines line pending → read_failed ≡ false → IsStopped start before taken read_failed failed flushed lines
-is_stopped start left before taken read_failed failed flushed now lines line pending s r = record {
-  whole = s.whole;
-  short = s.short;
-  is_front = begins start left lines (line ++ pending) s.read;
-  written = s.written;
-  good_reads = r;
-  good_writes = s.good;
-  is_out = s.is_out;
-}
+-- some more lines were answered, and their output is out
+record StoppedAt (how : Options) (start left before after : Option (List ℕ)) (read_failed failed flushed : Bool) (new : Point) (lines more : List ℕ) : Type 0 where
+  stopped : IsStopped how.keeps_history start before after read_failed failed flushed lines
+  clean : IsClean how.is_strict lines
+  point : new ≡ after_by how.keeps_history start_point (read_trace lines)
+  read : Consumes start left (lines ++ more)
 
--- the line got too long, or out of memory for it
-pub keep_ended : (fault : ShellFault) (start left before taken : Option (List ℕ)) (read_failed failed flushed : Bool) (now : Point) (lines line piece more line2 : List ℕ)
-    → Stands start left before taken failed flushed now lines line (piece ++ more) → HasNoFeed piece → read_failed ≡ false → Keeps line piece (Err fault) line2
-    → Shelled start left read_failed before taken failed flushed (Err fault)
-keep_ended Read start left before taken read_failed failed flushed now lines line piece more line2 s h r k = absurd k
-keep_ended Write start left before taken read_failed failed flushed now lines line piece more line2 s h r k = absurd k
-keep_ended OutOfMemory start left before taken read_failed failed flushed now lines line piece more line2 s h r k =
-    (lines, is_stopped start left before taken read_failed failed flushed now lines line (piece ++ more) s r)
-keep_ended InputTooLong start left before taken read_failed failed flushed now lines line piece more line2 s h r k =
-    let joined : lines ++ (line ++ (piece ++ more)) ≡ (lines ++ (line ++ piece)) ++ more = ap (λ x. lines ++ x) (sym (append_assoc line piece more)) ∙ sym (append_assoc lines (line ++ piece) more) in (
-      lines,
-      line ++ piece,
-      (
-        is_stopped start left before taken read_failed failed flushed now lines line (piece ++ more) s r,
-        record {
-          is_next = begins start left (lines ++ (line ++ piece)) more (subst (Consumes start left) joined s.read);
-          unended = All-append (λ b. is_line_feed b ≡ false) line piece s.unended h;
-          too_long = inl k;
-        },
-      ),
-    )
-
--- a line was not answered: no number was left, or out of memory, or a part of its answer may have been written
-say_ended : (fault : ShellFault) (start left before taken after : Option (List ℕ)) (read_failed failed failed2 flushed flushed2 : Bool) (now new : Point) (lines line more text : List ℕ)
-    → Stands start left before taken failed flushed now lines line more → HasOneMore lines line text → ((ends_line text ≡ true) ⊎ IsInput start text) × BeginsWith start text → read_failed ≡ false
-    → Says now (read_line line) taken flushed after failed2 flushed2 (Err fault) new → Shelled start left read_failed before after failed2 flushed2 (Err fault)
-say_ended Read start left before taken after read_failed failed failed2 flushed flushed2 now new lines line more text s one e r w = absurd w
-say_ended Write start left before taken after read_failed failed failed2 flushed flushed2 now new lines line more text s one e r w = record {
-  lines = text;
-  whole = e.0;
-  short = one.short s.short s.fits;
-  is_front = e.1;
-  rest = w.1.0;
-  written = written_more lines line text w.1.0 now before taken after one s.point s.written w.1.1;
-  good_reads = r;
-  bad_write = w.0;
-}
-say_ended OutOfMemory start left before taken after read_failed failed failed2 flushed flushed2 now new lines line more text s one e r w =
-    let t = is_stopped start left before taken read_failed failed flushed now lines line more s r in (
-      lines,
-      record {
-        whole = t.whole;
-        short = t.short;
-        is_front = t.is_front;
-        written = subst (λ x. TakesFront before (answers slots lines) [] x) (sym w.0) t.written;
+stopped_at : (how : Options) (start left before taken after : Option (List ℕ)) (read_failed failed failed2 flushed flushed2 : Bool) (now new : Point) (lines line pending more out : List ℕ)
+    → Stands how start left before taken failed flushed now lines line pending → (a : Answered how now (line ++ pending) more out new) → IsOut taken out after failed2 flushed2 → read_failed ≡ false
+    → StoppedAt how start left before after read_failed failed2 flushed2 new (lines ++ a.text) more
+stopped_at how start left before taken after read_failed failed failed2 flushed flushed2 now new lines line pending more out s a o r =
+    let read = read_cut start left lines (line ++ pending) a.text more s.read a.is_front in
+    record {
+      stopped = record {
+        whole = ends_both lines a.text s.whole a.whole;
+        short = short_both lines a.text s.whole s.short a.short;
+        is_front = begins start left (lines ++ a.text) more read;
+        written = written_both how.keeps_history lines a.text [] now before taken after s.whole s.point s.written (subst (λ x. TakesFront taken x [] after) a.output o.written);
         good_reads = r;
-        good_writes = w.1;
-        is_out = w.2 ∙ s.is_out;
-      },
-    )
-say_ended InputTooLong start left before taken after read_failed failed failed2 flushed flushed2 now new lines line more text s one e r w =
-    let t = is_stopped start left before taken read_failed failed flushed now lines line more s r in (
-      lines,
-      line,
+        good_writes = o.good;
+        is_out = o.is_out;
+      };
+      clean = clean_both how.is_strict lines a.text s.whole s.clean a.clean;
+      point = point_both how.keeps_history start_point now new lines a.text s.whole s.point a.point;
+      read = read;
+    }
+
+-- a write or a flush failed
+cut_off : (how : Options) (start left before taken after : Option (List ℕ)) (read_failed failed failed2 flushed : Bool) (now : Point) (lines line pending : List ℕ)
+    → Stands how start left before taken failed flushed now lines line pending → IsCutOff how.keeps_history now (line ++ pending) taken after failed2 → read_failed ≡ false → IsBroken how.keeps_history start before after read_failed failed2
+cut_off how start left before taken after read_failed failed failed2 flushed now lines line pending s c r = record {
+  lines = lines ++ c.text;
+  whole = inl (ends_both lines c.text s.whole c.whole);
+  short = short_both lines c.text s.whole s.short c.short;
+  is_front = begins start left (lines ++ c.text) c.more (read_cut start left lines (line ++ pending) c.text c.more s.read c.is_front);
+  rest = c.rest;
+  written = written_both how.keeps_history lines c.text c.rest now before taken after s.whole s.point s.written c.written;
+  good_reads = r;
+  bad_write = c.bad;
+}
+
+-- a strict shell answered commands only
+strictly : (how : Options) (lines : List ℕ) → how.is_strict ≡ true → IsClean how.is_strict lines → HasCommandsOnly lines
+strictly how lines e c = subst (λ b. IsClean b lines) e c
+
+-- a strict shell stopped behind a line with its line feed
+struck : (how : Options) (start left before taken after : Option (List ℕ)) (read_failed failed failed2 flushed flushed2 : Bool) (now : Point) (lines line pending out : List ℕ)
+    → Stands how start left before taken failed flushed now lines line pending → (h : IsStruck how now (line ++ pending) out) → IsOut taken out after failed2 flushed2 → read_failed ≡ false
+    → IsBarred how.keeps_history start before after read_failed failed2 flushed2
+struck how start left before taken after read_failed failed failed2 flushed flushed2 now lines line pending out s h o r =
+    let a = h.answered in
+    let front = lines ++ a.text in
+    let whole = ends_both lines a.text s.whole a.whole in
+    let text = front ++ (h.line ++ 0x0A ∷ []) in
+    let one = with_feed front h.line whole h.unended.no_feed in
+    let read = read_cut start left lines (line ++ pending) a.text (h.line ++ 0x0A ∷ h.more) s.read a.is_front in
+    let joined : front ++ (h.line ++ 0x0A ∷ h.more) ≡ text ++ h.more = ap (λ x. front ++ x) (sym (append_assoc h.line (0x0A ∷ []) h.more)) ∙ sym (append_assoc front (h.line ++ 0x0A ∷ []) h.more) in
+    record {
+      lines = front;
+      line = h.line;
+      text = text;
+      whole = whole;
+      unended = h.unended.no_feed;
+      is_next = inl (refl, begins start left text h.more (subst (Consumes start left) joined read));
+      clean = strictly how front h.is_strict (clean_both how.is_strict lines a.text s.whole s.clean a.clean);
+      fault = h.fault;
+      short = one.short (short_both lines a.text s.whole s.short a.short) h.unended.fits;
+      written =
+          let all : output_of how.keeps_history text ≡ output_of how.keeps_history lines ++ out = answers_more how.keeps_history start_point h.now front h.line text one (point_both how.keeps_history start_point now h.now lines a.text s.whole s.point a.point)
+          ∙ ap (λ x. x ++ answers_on h.now (read_line h.line ∷ [])) (answers_both how.keeps_history start_point now lines a.text s.whole s.point)
+          ∙ append_assoc (output_of how.keeps_history lines) (answers_by how.keeps_history now (read_trace a.text)) (answers_on h.now (read_line h.line ∷ []))
+          ∙ ap (λ x. output_of how.keeps_history lines ++ x) (ap (λ x. x ++ answers_on h.now (read_line h.line ∷ [])) (sym a.output) ∙ sym h.output) in
+          subst (λ x. TakesFront before x [] after) (sym all) (both_written before taken after (output_of how.keeps_history lines) out [] s.written o.written);
+      good_reads = r;
+      good_writes = o.good;
+      is_out = o.is_out;
+    }
+
+-- some of what came was answered; a fault ended that, or a write did
+pub stop_ended : (fault : ShellFault) (how : Options) (start left before taken after : Option (List ℕ)) (read_failed failed failed2 flushed flushed2 : Bool) (now : Point) (lines line pending : List ℕ)
+    → Stands how start left before taken failed flushed now lines line pending → Stops how now (line ++ pending) taken after failed2 flushed2 fault → read_failed ≡ false
+    → ShelledBy how start left read_failed before after failed2 flushed2 (Err fault)
+stop_ended Read how start left before taken after read_failed failed failed2 flushed flushed2 now lines line pending s h r = absurd h.1.0
+stop_ended Write how start left before taken after read_failed failed failed2 flushed flushed2 now lines line pending s h r =
+    cut_off how start left before taken after read_failed failed failed2 flushed now lines line pending s h r
+stop_ended OutOfMemory how start left before taken after read_failed failed failed2 flushed flushed2 now lines line pending s h r =
+    let a = h.1.0.2 in
+    let t = stopped_at how start left before taken after read_failed failed failed2 flushed flushed2 now h.1.0.1 lines line pending h.1.0.0 h.0 s a h.1.1 r in
+    (lines ++ a.text, (t.stopped, t.clean))
+stop_ended InputTooLong how start left before taken after read_failed failed failed2 flushed flushed2 now lines line pending s h r =
+    let line2 = h.1.0.0 in
+    let more = h.1.0.1 in
+    let new = h.1.0.2 in
+    let a = h.1.0.3.0 in
+    let front = lines ++ a.text in
+    let t = stopped_at how start left before taken after read_failed failed failed2 flushed flushed2 now new lines line pending (line2 ++ more) h.0 s a h.1.1 r in
+    let why : (trace_max < length line2) ⊎ (number_max ≤ command_count (read_trace front)) = elim h.1.0.3.2 [
+      | inl e ↦ inl e
+      | inr e ↦ inr (subst (λ n. number_max ≤ n) (commands_at how.keeps_history front new t.point) e)
+    ] in (
+      front,
+      line2,
       (
-        record {
-          whole = t.whole;
-          short = t.short;
-          is_front = t.is_front;
-          written = subst (λ x. TakesFront before (answers slots lines) [] x) (sym w.1) t.written;
-          good_reads = r;
-          good_writes = w.2;
-          is_out = w.3 ∙ s.is_out;
-        },
-        record {
-          is_next = begins start left (lines ++ line) more (subst (Consumes start left) (sym (append_assoc lines line more)) s.read);
-          unended = s.unended;
-          too_long = inr (subst (λ n. number_max ≤ n) (ap (λ q. q.commands) s.point ∙ zero-add (command_count (read_trace lines))) w.0);
-        },
+        t.stopped,
+        record { is_next = begins start left (front ++ line2) more (subst (Consumes start left) (sym (append_assoc front line2 more)) t.read); unended = h.1.0.3.1; too_long = why },
+        t.clean,
       ),
     )
-
-pub feed_ended : (fault : ShellFault) (start left before taken after : Option (List ℕ)) (read_failed failed failed2 flushed flushed2 : Bool) (now new : Point) (lines line more : List ℕ)
-    → Stands start left before taken failed flushed now lines line (0x0A ∷ more) → read_failed ≡ false → Says now (read_line line) taken flushed after failed2 flushed2 (Err fault) new
-    → Shelled start left read_failed before after failed2 flushed2 (Err fault)
-feed_ended fault start left before taken after read_failed failed failed2 flushed flushed2 now new lines line more s r w =
-    let text = lines ++ (line ++ 0x0A ∷ []) in
-    let joined : lines ++ (line ++ 0x0A ∷ more) ≡ text ++ more = ap (λ x. lines ++ x) (sym (append_assoc line (0x0A ∷ []) more)) ∙ sym (append_assoc lines (line ++ 0x0A ∷ []) more) in
-    say_ended fault start left before taken after read_failed failed failed2 flushed flushed2 now new lines line (0x0A ∷ more) text s
-    (with_feed lines line s.whole s.unended) (inl (ends_more lines line), begins start left text more (subst (Consumes start left) joined s.read)) r w
+stop_ended NotACommand how start left before taken after read_failed failed failed2 flushed flushed2 now lines line pending s h r =
+    (h.1.0.is_strict, struck how start left before taken after read_failed failed failed2 flushed flushed2 now lines line pending h.0 s h.1.0 h.1.1 r)
 
 -- ---- at the end of the source
 
-input_of : (start left before taken : Option (List ℕ)) (failed flushed : Bool) (now : Point) (lines line : List ℕ)
-    → Stands start left before taken failed flushed now lines line [] → IsAtEnd left → IsInput start (lines ++ line)
-input_of start left before taken failed flushed now lines line s e = all_read start left (lines ++ line) (subst (λ x. Consumes start left (lines ++ x)) (append-nil line) s.read) e
+input_of : (how : Options) (start left before taken : Option (List ℕ)) (failed flushed : Bool) (now : Point) (lines line : List ℕ)
+    → Stands how start left before taken failed flushed now lines line [] → IsAtEnd left → IsInput start (lines ++ line)
+input_of how start left before taken failed flushed now lines line s e = all_read start left (lines ++ line) (subst (λ x. Consumes start left (lines ++ x)) (append-nil line) s.read) e
 
-pub last_ended : (fault : ShellFault) (start left before taken after : Option (List ℕ)) (read_failed failed failed2 flushed flushed2 : Bool) (now new : Point) (lines line : List ℕ)
-    → Stands start left before taken failed flushed now lines line [] → IsAtEnd left → (length line == 0) ≡ false → read_failed ≡ false
-    → Says now (read_line line) taken flushed after failed2 flushed2 (Err fault) new → Shelled start left read_failed before after failed2 flushed2 (Err fault)
-last_ended fault start left before taken after read_failed failed failed2 flushed flushed2 now new lines line s e some r w =
-    let i = input_of start left before taken failed flushed now lines line s e in
-    say_ended fault start left before taken after read_failed failed failed2 flushed flushed2 now new lines line [] (lines ++ line) s
-    (without_feed lines line s.whole s.unended some) (inr i, all_begins start (lines ++ line) i) r w
-
-pub last_served : (start left before taken after : Option (List ℕ)) (read_failed failed failed2 flushed flushed2 : Bool) (now new : Point) (lines line : List ℕ) (u : Unit {0})
-    → Stands start left before taken failed flushed now lines line [] → IsAtEnd left → (length line == 0) ≡ false → read_failed ≡ false
-    → Says now (read_line line) taken flushed after failed2 flushed2 (Ok u) new → IsServed start before after read_failed failed2 flushed2 (summary_of new)
-last_served start left before taken after read_failed failed failed2 flushed flushed2 now new lines line u s e some r w =
-    let text = lines ++ line in
-    let one = without_feed lines line s.whole s.unended some in
-    record {
-      trace = text;
-      is_input = input_of start left before taken failed flushed now lines line s e;
-      short = one.short s.short s.fits;
-      written = written_more lines line text [] now before taken after one s.point s.written w.1;
-      counts = counted text new (point_more lines line text now new one s.point w.0);
-      good_reads = r;
-      good_writes = w.2;
-      is_out = w.3;
-    }
-
-pub served : (start left before taken : Option (List ℕ)) (read_failed failed flushed : Bool) (now : Point) (lines line : List ℕ)
-    → Stands start left before taken failed flushed now lines line [] → IsAtEnd left → line ≡ [] → read_failed ≡ false → IsServed start before taken read_failed failed flushed (summary_of now)
-served start left before taken read_failed failed flushed now lines line s e none r = record {
-  trace = lines;
-  is_input = subst (IsInput start) (ap (λ x. lines ++ x) none ∙ append-nil lines) (input_of start left before taken failed flushed now lines line s e);
-  short = s.short;
-  written = s.written;
-  counts = counted lines now s.point;
-  good_reads = r;
-  good_writes = s.good;
-  is_out = s.is_out;
-}
-
--- ---- the first flush
-
-nothing : (left : Option (List ℕ)) → BeginsWith left []
-nothing None = tt
-nothing (Some xs) = (xs, refl)
-
-stopped_after : (left before mid after : Option (List ℕ)) (read_failed failed flushed : Bool) (lines : List ℕ)
-    → TakesFront before [] [] mid → IsStopped left mid after read_failed failed flushed lines → IsStopped left before after read_failed failed flushed lines
-stopped_after left before mid after read_failed failed flushed lines w s = record {
+-- nothing was written behind whole lines
+last_stopped : (how : Options) (start left before taken after : Option (List ℕ)) (read_failed failed failed2 flushed flushed2 : Bool) (now : Point) (lines line : List ℕ)
+    → Stands how start left before taken failed flushed now lines line [] → IsOut taken [] after failed2 flushed2 → read_failed ≡ false → IsStopped how.keeps_history start before after read_failed failed2 flushed2 lines
+last_stopped how start left before taken after read_failed failed failed2 flushed flushed2 now lines line s o r = record {
   whole = s.whole;
   short = s.short;
-  is_front = s.is_front;
-  written = both_written before mid after [] (answers slots lines) [] w s.written;
-  good_reads = s.good_reads;
-  good_writes = s.good_writes;
-  is_out = s.is_out;
+  is_front = begins start left lines (line ++ []) s.read;
+  written = subst (λ x. TakesFront before x [] after) (append-nil (output_of how.keeps_history lines)) (both_written before taken after (output_of how.keeps_history lines) [] [] s.written o.written);
+  good_reads = r;
+  good_writes = o.good;
+  is_out = o.is_out;
 }
 
--- what a shell leaves of a sink that was flushed before
-pub after_flush : (r : Result Summary ShellFault) (left rest before mid after : Option (List ℕ)) (read_failed failed flushed : Bool)
-    → TakesFront before [] [] mid → Shelled left rest read_failed mid after failed flushed r → Shelled left rest read_failed before after failed flushed r
-after_flush (Ok summary) left rest before mid after read_failed failed flushed w s = record {
-  trace = s.trace;
-  is_input = s.is_input;
-  short = s.short;
-  written = both_written before mid after [] (answers slots s.trace) [] w s.written;
-  counts = s.counts;
-  good_reads = s.good_reads;
-  good_writes = s.good_writes;
-  is_out = s.is_out;
-}
-after_flush (Err Read) left rest before mid after read_failed failed flushed w s =
-    let n = s.1.2 in (
-      s.0,
+pub last_ended : (fault : ShellFault) (how : Options) (start left before taken after : Option (List ℕ)) (read_failed failed failed2 flushed flushed2 : Bool) (now new : Point) (lines line : List ℕ)
+    → Stands how start left before taken failed flushed now lines line [] → IsAtEnd left → (length line == 0) ≡ false → read_failed ≡ false
+    → Finishes how now (read_line line) taken after failed2 flushed2 (Err fault) new → ShelledBy how start left read_failed before after failed2 flushed2 (Err fault)
+last_ended Read how start left before taken after read_failed failed failed2 flushed flushed2 now new lines line s e some r w = absurd w
+last_ended Write how start left before taken after read_failed failed failed2 flushed flushed2 now new lines line s e some r w =
+    let i = input_of how start left before taken failed flushed now lines line s e in
+    let one = without_feed lines line s.whole s.unended.no_feed some in
+    record {
+      lines = lines ++ line;
+      whole = inr i;
+      short = one.short s.short s.unended.fits;
+      is_front = all_begins start (lines ++ line) i;
+      rest = w.1.0;
+      written = written_more how.keeps_history lines line (lines ++ line) w.1.0 now before taken after one s.point s.written w.1.1;
+      good_reads = r;
+      bad_write = w.0;
+    }
+last_ended OutOfMemory how start left before taken after read_failed failed failed2 flushed flushed2 now new lines line s e some r w =
+    (lines, (last_stopped how start left before taken after read_failed failed failed2 flushed flushed2 now lines line s w r, s.clean))
+last_ended InputTooLong how start left before taken after read_failed failed failed2 flushed flushed2 now new lines line s e some r w =
+    let i = input_of how start left before taken failed flushed now lines line s e in (
+      lines,
+      line,
       (
-        s.1.0,
-        s.1.1,
-        record {
-          whole = n.whole;
-          short = n.short;
-          unended = n.unended;
-          read = n.read;
-          written = both_written before mid after [] (answers slots s.1.0) [] w n.written;
-          good = n.good;
-          is_out = n.is_out;
-        },
+        last_stopped how start left before taken after read_failed failed failed2 flushed flushed2 now lines line s w.1 r,
+        record { is_next = all_begins start (lines ++ line) i; unended = s.unended.no_feed; too_long = inr (subst (λ n. number_max ≤ n) (commands_at how.keeps_history lines now s.point) w.0) },
+        s.clean,
       ),
     )
-after_flush (Err Write) left rest before mid after read_failed failed flushed w s = record {
-  lines = s.lines;
-  whole = s.whole;
-  short = s.short;
-  is_front = s.is_front;
-  rest = s.rest;
-  written = both_written before mid after [] (answers slots s.lines) s.rest w s.written;
-  good_reads = s.good_reads;
-  bad_write = s.bad_write;
-}
-after_flush (Err InputTooLong) left rest before mid after read_failed failed flushed w s = (s.0, s.1, (stopped_after left before mid after read_failed failed flushed s.0 w s.2.0, s.2.1))
-after_flush (Err OutOfMemory) left rest before mid after read_failed failed flushed w s = (s.0, stopped_after left before mid after read_failed failed flushed s.0 w s.1)
+last_ended NotACommand how start left before taken after read_failed failed failed2 flushed flushed2 now new lines line s e some r w =
+    let i = input_of how start left before taken failed flushed now lines line s e in
+    let one = without_feed lines line s.whole s.unended.no_feed some in (
+      w.0,
+      record {
+        lines = lines;
+        line = line;
+        text = lines ++ line;
+        whole = s.whole;
+        unended = s.unended.no_feed;
+        is_next = inr (refl, i);
+        clean = strictly how lines w.0 s.clean;
+        fault = w.1;
+        short = one.short s.short s.unended.fits;
+        written = written_more how.keeps_history lines line (lines ++ line) [] now before taken after one s.point s.written w.2.written;
+        good_reads = r;
+        good_writes = w.2.good;
+        is_out = w.2.is_out;
+      },
+    )
 
--- the flush failed
-pub unflushed : (r : Result (Unit {0}) DeviceFault) (left rest before after : Option (List ℕ)) (read_failed failed flushed : Bool)
-    → WholeWrite before [] after failed flushed r → is_err r ≡ true → read_failed ≡ false → Shelled left rest read_failed before after failed flushed (Err Write)
-unflushed (Ok u) left rest before after read_failed failed flushed w e r = cc
-unflushed (Err f) left rest before after read_failed failed flushed w e r = record {
-  lines = [];
-  whole = inl refl;
-  short = All-nil (λ (l : List ℕ). length l ≤ trace_max);
-  is_front = nothing left;
-  rest = w.1.0;
-  written = w.1.1;
-  good_reads = r;
-  bad_write = w.0;
-}
+pub last_served : (how : Options) (start left before taken after : Option (List ℕ)) (read_failed failed failed2 flushed flushed2 : Bool) (now new : Point) (lines line : List ℕ) (u : Unit {0})
+    → Stands how start left before taken failed flushed now lines line [] → IsAtEnd left → (length line == 0) ≡ false → read_failed ≡ false
+    → Finishes how now (read_line line) taken after failed2 flushed2 (Ok u) new → ShelledBy how start left read_failed before after failed2 flushed2 (Ok (summary_of new))
+last_served how start left before taken after read_failed failed failed2 flushed flushed2 now new lines line u s e some r w =
+    let text = lines ++ line in
+    let one = without_feed lines line s.whole s.unended.no_feed some in
+    let point = point_more how.keeps_history start_point now new lines line text one s.point w.0 in (
+      record {
+        trace = text;
+        is_input = input_of how start left before taken failed flushed now lines line s e;
+        short = one.short s.short s.unended.fits;
+        written = written_more how.keeps_history lines line text [] now before taken after one s.point s.written w.1.written;
+        commands = commands_at how.keeps_history text new point;
+        refused = refused_at how.keeps_history text new point;
+        good_reads = r;
+        good_writes = w.1.good;
+        is_out = w.1.is_out;
+      },
+      clean_more how.is_strict lines line text one s.clean w.2,
+    )
 
--- it did not
-pub flushed_by : (r : Result (Unit {0}) DeviceFault) (before after : Option (List ℕ)) (failed flushed : Bool)
-    → WholeWrite before [] after failed flushed r → is_err r ≡ false → (failed ≡ false) × (flushed ≡ true) × TakesFront before [] [] after
-flushed_by (Ok u) before after failed flushed w e = w
-flushed_by (Err f) before after failed flushed w e = cc
+none_left : (line : List ℕ) → (length line == 0) ≡ true → line ≡ []
+none_left [] e = refl
+none_left (x ∷ line) e = let n : suc (length line) ≡ 0 = eqb-true (suc (length line)) 0 e in absurd (omega (arith, n))
 
--- there was no memory for the engine
-pub unstarted : (left rest before after : Option (List ℕ)) (read_failed failed flushed : Bool)
-    → (failed ≡ false) × (flushed ≡ true) × TakesFront before [] [] after → read_failed ≡ false → Shelled left rest read_failed before after failed flushed (Err OutOfMemory)
-unstarted left rest before after read_failed failed flushed w r = (
-  [],
+pub served : (how : Options) (start left before taken : Option (List ℕ)) (read_failed failed flushed : Bool) (now : Point) (lines line : List ℕ)
+    → Stands how start left before taken failed flushed now lines line [] → IsAtEnd left → (length line == 0) ≡ true → read_failed ≡ false → ShelledBy how start left read_failed before taken failed flushed (Ok (summary_of now))
+served how start left before taken read_failed failed flushed now lines line s e none r = (
   record {
-    whole = refl;
-    short = All-nil (λ (l : List ℕ). length l ≤ trace_max);
-    is_front = nothing left;
-    written = w.2;
+    trace = lines;
+    is_input = subst (IsInput start) (ap (λ x. lines ++ x) (none_left line none) ∙ append-nil lines) (input_of how start left before taken failed flushed now lines line s e);
+    short = s.short;
+    written = s.written;
+    commands = commands_at how.keeps_history lines now s.point;
+    refused = refused_at how.keeps_history lines now s.point;
     good_reads = r;
-    good_writes = w.0;
-    is_out = w.1;
+    good_writes = s.good;
+    is_out = s.is_out;
   },
+  s.clean,
 )
 
 -- ---- what one read leaves
 
 -- nothing came: the source is at its end
-pub at_end : (start left later before taken : Option (List ℕ)) (failed flushed : Bool) (now : Point) (lines line buf : List ℕ) (count : ℕ)
-    → Stands start left before taken failed flushed now lines line [] → Consumes left later (take count buf) × (count ≡ 0 → 0 < length buf → IsAtEnd later) → count ≡ 0 → 0 < length buf
-    → Stands start later before taken failed flushed now lines line [] × IsAtEnd later
-at_end start left later before taken failed flushed now lines line buf count s c none room =
-    let P : ℕ → Type 0 = λ n. Stands start later before taken failed flushed now lines line (take n buf) in
-    (subst P none (came start left later before taken failed flushed now lines line (take count buf) s c.0), c.1 none room)
+pub at_end : (how : Options) (start left later before taken : Option (List ℕ)) (failed flushed : Bool) (now : Point) (lines line buf : List ℕ) (count : ℕ)
+    → Stands how start left before taken failed flushed now lines line [] → Consumes left later (take count buf) × (count ≡ 0 → 0 < length buf → IsAtEnd later) → count ≡ 0 → 0 < length buf
+    → Stands how start later before taken failed flushed now lines line [] × IsAtEnd later
+at_end how start left later before taken failed flushed now lines line buf count s c none room =
+    let P : ℕ → Type 0 = λ n. Stands how start later before taken failed flushed now lines line (take n buf) in
+    (subst P none (came how start left later before taken failed flushed now lines line (take count buf) s c.0), c.1 none room)
 
 -- the fault is handed on
-pub handed_on : (r : Result Bool ShellFault) (fault : ShellFault) (start left before taken : Option (List ℕ)) (read_failed failed flushed : Bool) (now : Point) (line : List ℕ)
-    → IsErrAnd r (λ e. e ≡ fault) → Shelled start left read_failed before taken failed flushed (Err fault) → Serves start left read_failed before taken failed flushed r now line
-handed_on (Ok b) fault start left before taken read_failed failed flushed now line e s = absurd e
-handed_on (Err f) fault start left before taken read_failed failed flushed now line e s =
-    let P : ShellFault → Type 0 = λ v. Shelled start left read_failed before taken failed flushed (Err v) in
+pub handed_on : (r : Result Bool ShellFault) (fault : ShellFault) (how : Options) (start left before taken : Option (List ℕ)) (read_failed failed flushed : Bool) (now : Point) (line : List ℕ)
+    → IsErrAnd r (λ e. e ≡ fault) → ShelledBy how start left read_failed before taken failed flushed (Err fault) → Serves how start left read_failed before taken failed flushed r now line
+handed_on (Ok b) fault how start left before taken read_failed failed flushed now line e s = absurd e
+handed_on (Err f) fault how start left before taken read_failed failed flushed now line e s =
+    let P : ShellFault → Type 0 = λ v. ShelledBy how start left read_failed before taken failed flushed (Err v) in
     subst P (sym e) s

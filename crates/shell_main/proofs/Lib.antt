@@ -1,5 +1,11 @@
 pub mod LineCuts
 pub mod Feeds
+pub mod ForgetfulCuts
+pub mod Texts
+pub mod Lines
+pub mod Outputs
+pub mod Lasts
 pub mod Standing
 pub mod Ends
+pub mod Starts
 pub mod CommandLine

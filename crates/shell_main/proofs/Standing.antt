@@ -1,16 +1,18 @@
--- What stands before each read, from one read, one piece and one line to the next.
-use Rattle.std.proofs.Common.{◌≡◌, ◌∙◌, ℕ, ◌≤◌, Bool, true, false, List, [], ◌∷◌, ◌++◌, length, append_assoc, append-nil, refl, sym, ap, subst, arith, Option, Some, None, Ok}
+-- What stands before each read, from one part of what was read to the next.
+use Rattle.std.proofs.Common.{◌≡◌, ◌∙◌, ℕ, ◌≤◌, Bool, true, false, List, [], ◌∷◌, ◌++◌, length, append_assoc, append-nil, refl, sym, ap, subst, Option, Some, None}
 use Rattle.std.specs.Io.KnownBytes.{Consumes}
-use Rattle.std.proofs.lemmas.List.Elements.{All-append, All-nil}
-use Rattle.flat_model.specs.Replies.{answers}
-use Rattle.flat_model.specs.Trace.{is_line_feed, read_line, read_trace, trace_max}
-use Rattle.sessions.specs.Meaning.{slots}
+use Rattle.std.proofs.lemmas.List.Elements.{All-nil}
+use Rattle.flat_model.specs.Trace.{read_line, read_trace, trace_max}
 use Rattle.replay_main.specs.Device.{TakesFront}
-use Rattle.replay_main.specs.Points.{Point, answers_on, point_after, start_point}
-use Rattle.shell_main.specs.Talks.{Says, Stands}
-use Rattle.shell_main.specs.WholeLines.{HasNoFeed}
-use Rattle.shell_main.proofs.LineCuts.{HasOneMore, ends_more, with_feed}
-use Rattle.replay_main.proofs.PointCuts.{answers_on_cut, point_cut}
+use Rattle.replay_main.specs.Points.{Point, answers_on, start_point}
+use Rattle.shell_main.specs.declared.options.Options.{Options}
+use Rattle.shell_main.specs.Forgetful.{after_by, answers_by, output_of}
+use Rattle.shell_main.specs.Talks.{GoesOn, Stands}
+use Rattle.shell_main.specs.WholeLines.{ends_line}
+use Rattle.shell_main.proofs.LineCuts.{HasOneMore}
+use Rattle.shell_main.proofs.ForgetfulCuts.{after_none, answers_none}
+use Rattle.shell_main.proofs.Lines.{nothing_unended}
+use Rattle.shell_main.proofs.Texts.{answers_both, answers_more, clean_both, clean_none, ends_both, point_both, short_both}
 
 -- ---- bytes
 
@@ -40,47 +42,42 @@ none_consumed : (left : Option (List ℕ)) → Consumes left left []
 none_consumed None = tt
 none_consumed (Some xs) = refl
 
--- ---- one line more
+-- ---- the answers to more lines
 
--- the point and the answers behind one line more
-pub point_more : (lines line text : List ℕ) (now new : Point) → HasOneMore lines line text → now ≡ point_after start_point (read_trace lines) → new ≡ point_after now (read_line line ∷ []) → new ≡ point_after start_point (read_trace text)
-point_more lines line text now new one p n =
-    n ∙ ap (λ q. point_after q (read_line line ∷ [])) p ∙ sym (point_cut start_point (read_trace lines) (read_line line ∷ [])) ∙ ap (point_after start_point) (sym one.reads)
+pub written_both : (history : Bool) (lines text rest : List ℕ) (now : Point) (before taken after : Option (List ℕ)) → ends_line lines ≡ true → now ≡ after_by history start_point (read_trace lines)
+    → TakesFront before (output_of history lines) [] taken → TakesFront taken (answers_by history now (read_trace text)) rest after → TakesFront before (output_of history (lines ++ text)) rest after
+written_both history lines text rest now before taken after e p w v =
+    subst (λ x. TakesFront before x rest after) (sym (answers_both history start_point now lines text e p)) (both_written before taken after (output_of history lines) (answers_by history now (read_trace text)) rest w v)
 
-pub answers_more : (lines line text : List ℕ) (now : Point) → HasOneMore lines line text → now ≡ point_after start_point (read_trace lines) → answers slots text ≡ answers slots lines ++ answers_on now (read_line line ∷ [])
-answers_more lines line text now one p =
-    ap (answers_on start_point) one.reads ∙ answers_on_cut start_point (read_trace lines) (read_line line ∷ [])
-    ∙ ap (λ q. answers slots lines ++ answers_on q (read_line line ∷ [])) (sym p)
-
-pub written_more : (lines line text rest : List ℕ) (now : Point) (before taken after : Option (List ℕ)) → HasOneMore lines line text → now ≡ point_after start_point (read_trace lines)
-    → TakesFront before (answers slots lines) [] taken → TakesFront taken (answers_on now (read_line line ∷ [])) rest after → TakesFront before (answers slots text) rest after
-written_more lines line text rest now before taken after one p w v =
-    subst (λ x. TakesFront before x rest after) (sym (answers_more lines line text now one p)) (both_written before taken after (answers slots lines) (answers_on now (read_line line ∷ [])) rest w v)
+pub written_more : (history : Bool) (lines line text rest : List ℕ) (now : Point) (before taken after : Option (List ℕ)) → HasOneMore lines line text → now ≡ after_by history start_point (read_trace lines)
+    → TakesFront before (output_of history lines) [] taken → TakesFront taken (answers_on now (read_line line ∷ [])) rest after → TakesFront before (output_of history text) rest after
+written_more history lines line text rest now before taken after one p w v =
+    subst (λ x. TakesFront before x rest after) (sym (answers_more history start_point now lines line text one p)) (both_written before taken after (output_of history lines) (answers_on now (read_line line ∷ [])) rest w v)
 
 -- ---- steps
 
 -- before the first line
-pub at_start : (left before : Option (List ℕ)) (failed flushed : Bool) (now : Point) → now ≡ start_point → failed ≡ false → flushed ≡ true → Stands left left before before failed flushed now [] [] []
-at_start left before failed flushed now p f o = record {
+pub at_start : (how : Options) (left before : Option (List ℕ)) (failed flushed : Bool) (now : Point) → now ≡ start_point → failed ≡ false → flushed ≡ true → Stands how left left before before failed flushed now [] [] []
+at_start how left before failed flushed now p f o = record {
   whole = refl;
   short = All-nil (λ (l : List ℕ). length l ≤ trace_max);
-  unended = All-nil (λ b. is_line_feed b ≡ false);
-  fits = search arith;
+  clean = clean_none how.is_strict;
+  unended = nothing_unended;
   read = none_consumed left;
-  point = p;
-  written = none_written before;
+  point = p ∙ after_none how.keeps_history start_point;
+  written = subst (λ x. TakesFront before x [] before) (sym (answers_none how.keeps_history start_point)) (none_written before);
   good = f;
   is_out = o;
 }
 
 -- bytes came in
-pub came : (start left later before taken : Option (List ℕ)) (failed flushed : Bool) (now : Point) (lines line bytes : List ℕ)
-    → Stands start left before taken failed flushed now lines line [] → Consumes left later bytes → Stands start later before taken failed flushed now lines line bytes
-came start left later before taken failed flushed now lines line bytes s c = record {
+pub came : (how : Options) (start left later before taken : Option (List ℕ)) (failed flushed : Bool) (now : Point) (lines line bytes : List ℕ)
+    → Stands how start left before taken failed flushed now lines line [] → Consumes left later bytes → Stands how start later before taken failed flushed now lines line bytes
+came how start left later before taken failed flushed now lines line bytes s c = record {
   whole = s.whole;
   short = s.short;
+  clean = s.clean;
   unended = s.unended;
-  fits = s.fits;
   read =
       let joined : (lines ++ (line ++ [])) ++ bytes ≡ lines ++ (line ++ bytes) = ap (λ x. (lines ++ x) ++ bytes) (append-nil line) ∙ append_assoc lines line bytes in
       subst (Consumes start later) joined (consumed_more start left later (lines ++ (line ++ [])) bytes s.read c);
@@ -90,41 +87,24 @@ came start left later before taken failed flushed now lines line bytes s c = rec
   is_out = s.is_out;
 }
 
--- a piece without a line feed was appended to the line
-pub kept : (start left before taken : Option (List ℕ)) (failed flushed : Bool) (now : Point) (lines line piece more line2 : List ℕ)
-    → Stands start left before taken failed flushed now lines line (piece ++ more) → HasNoFeed piece → (line2 ≡ line ++ piece) × (length line2 ≤ trace_max)
-    → Stands start left before taken failed flushed now lines line2 more
-kept start left before taken failed flushed now lines line piece more line2 s h k = record {
-  whole = s.whole;
-  short = s.short;
-  unended = subst HasNoFeed (sym k.0) (All-append (λ b. is_line_feed b ≡ false) line piece s.unended h);
-  fits = k.1;
-  read =
-      let joined : lines ++ (line ++ (piece ++ more)) ≡ lines ++ (line2 ++ more) = ap (λ x. lines ++ x) (sym (append_assoc line piece more)) ∙ ap (λ x. lines ++ (x ++ more)) (sym k.0) in
-      subst (Consumes start left) joined s.read;
-  point = s.point;
-  written = s.written;
-  good = s.good;
-  is_out = s.is_out;
-}
+-- what was read, cut behind lines that are answered
+pub read_cut : (start left : Option (List ℕ)) (lines bytes text more : List ℕ) → Consumes start left (lines ++ bytes) → bytes ≡ text ++ more → Consumes start left ((lines ++ text) ++ more)
+read_cut start left lines bytes text more c e = subst (Consumes start left) (ap (λ x. lines ++ x) e ∙ sym (append_assoc lines text more)) c
 
--- a line that ended is answered
-pub said : (start left before taken after : Option (List ℕ)) (failed failed2 flushed flushed2 : Bool) (now new : Point) (lines line more : List ℕ) (u : Unit {0})
-    → Stands start left before taken failed flushed now lines line (0x0A ∷ more) → Says now (read_line line) taken flushed after failed2 flushed2 (Ok u) new
-    → Stands start left before after failed2 flushed2 new (lines ++ (line ++ 0x0A ∷ [])) [] more
-said start left before taken after failed failed2 flushed flushed2 now new lines line more u s w =
-    let text = lines ++ (line ++ 0x0A ∷ []) in
-    let one = with_feed lines line s.whole s.unended in
+-- lines of what came are answered, and their output is out
+pub went_on : (how : Options) (start left before taken after : Option (List ℕ)) (failed failed2 flushed flushed2 : Bool) (now new : Point) (lines line pending line2 rest : List ℕ)
+    → Stands how start left before taken failed flushed now lines line pending → (g : GoesOn how now (line ++ pending) taken after failed2 flushed2 new line2 rest)
+    → Stands how start left before after failed2 flushed2 new (lines ++ g.answered.text) line2 rest
+went_on how start left before taken after failed failed2 flushed flushed2 now new lines line pending line2 rest s g =
+    let a = g.answered in
     record {
-      whole = ends_more lines line;
-      short = one.short s.short s.fits;
-      unended = All-nil (λ b. is_line_feed b ≡ false);
-      fits = search arith;
-      read =
-          let joined : lines ++ (line ++ 0x0A ∷ more) ≡ text ++ more = ap (λ x. lines ++ x) (sym (append_assoc line (0x0A ∷ []) more)) ∙ sym (append_assoc lines (line ++ 0x0A ∷ []) more) in
-          subst (Consumes start left) joined s.read;
-      point = point_more lines line text now new one s.point w.0;
-      written = written_more lines line text [] now before taken after one s.point s.written w.1;
-      good = w.2;
-      is_out = w.3;
+      whole = ends_both lines a.text s.whole a.whole;
+      short = short_both lines a.text s.whole s.short a.short;
+      clean = clean_both how.is_strict lines a.text s.whole s.clean a.clean;
+      unended = g.unended;
+      read = read_cut start left lines (line ++ pending) a.text (line2 ++ rest) s.read a.is_front;
+      point = point_both how.keeps_history start_point now new lines a.text s.whole s.point a.point;
+      written = written_both how.keeps_history lines a.text [] now before taken after s.whole s.point s.written (subst (λ x. TakesFront taken x [] after) a.output g.is_out.written);
+      good = g.is_out.good;
+      is_out = g.is_out.is_out;
     }

@@ -1,4 +1,5 @@
 pub mod WholeLines
+pub mod Forgetful
 pub mod Shelled
 pub mod Talks
 pub mod Asks

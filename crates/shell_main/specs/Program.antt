@@ -1,45 +1,52 @@
 -- What the program leaves, and its exit status.
 use Rattle.std.specs.Prelude.{◌≡◌, ◌⊎◌, ℕ, List, [], Option, Bool, true, false, Result, Ok, Err}
-use Rattle.clap.specs.Words.{IsAmong, Text, fault_of}
-use Rattle.clap.specs.declared.error.kind.ErrorKind.TheVariants as kind
+use Rattle.clap.specs.Words.{Text, fault_of}
 use Rattle.replay_main.specs.declared.arguments.LineFault.TheVariants.{Bad, OutOfMemory}
 use Rattle.replay_main.specs.declared.trace.Summary.{Summary}
 use Rattle.replay_main.specs.Device.{TakesFront}
-use Rattle.replay_main.specs.Program.{IsUnread}
+use Rattle.replay_main.specs.ReplayProgram.{IsUnread}
 use Rattle.replay_main.specs.Replayed.{IsUnwritten}
 use Rattle.shell_main.specs.declared.fault.ShellFault.TheVariants as shell
 use Rattle.shell_main.specs.declared.program.ProgramFault.{ProgramFault}
-use Rattle.shell_main.specs.declared.program.ProgramFault.TheVariants.{Line, Shell}
-use Rattle.shell_main.specs.Asks.{Asks, app}
-use Rattle.shell_main.specs.Shelled.{IsServed, Shelled}
+use Rattle.shell_main.specs.declared.program.ProgramFault.TheVariants.{Line, Shell, Open, ClosedPipe}
+use Rattle.shell_main.specs.Asks.{Asks, RequestsText, app, options_in}
+use Rattle.shell_main.specs.Shelled.{ShelledBy}
 
--- help is requested; nothing was read, and all of a text was written and flushed
+-- help or the version is requested; nothing was read, and all of a text was written and flushed
 pub record IsHelped (words : List Text) (left rest : Option (List ℕ)) (read_failed : Bool) (before after : Option (List ℕ)) (write_failed flushed : Bool) : Type 0 where
-  pub called : IsAmong kind.DisplayHelp (fault_of app words)
+  pub called : RequestsText words
   pub unread : IsUnread left rest read_failed
   pub text : List ℕ
   pub written : TakesFront before text [] after
   pub good_writes : write_failed ≡ false
   pub is_out : flushed ≡ true
 
--- a shell is requested, and it ran to the end
-pub record IsShelled (words : List Text) (left before after : Option (List ℕ)) (read_failed write_failed flushed : Bool) : Type 0 where
+-- a shell is requested, with these options, and it ran to the end
+pub record IsShelled (words : List Text) (left rest before after : Option (List ℕ)) (read_failed write_failed flushed : Bool) : Type 0 where
   pub no_fault : fault_of app words ≡ []
   pub summary : Summary
-  pub served : IsServed left before after read_failed write_failed flushed summary
+  pub served : ShelledBy (options_in words) left rest read_failed before after write_failed flushed (Ok summary)
 
 -- by the words of the command line: what the program leaves of a source that had `left` and of a sink that had `before`, and why it ended early
 abbrev pub Ran : List Text → Option (List ℕ) → Option (List ℕ) → Bool → Option (List ℕ) → Option (List ℕ) → Bool → Bool → Result (Unit {0}) ProgramFault → Type 0
 Ran words left rest read_failed before after write_failed flushed (Ok u) =
-    IsShelled words left before after read_failed write_failed flushed
+    IsShelled words left rest before after read_failed write_failed flushed
     ⊎ IsHelped words left rest read_failed before after write_failed flushed
 Ran words left rest read_failed before after write_failed flushed (Err (Line fault)) =
     Asks words (Err fault) × IsUnread left rest read_failed × IsUnwritten before after write_failed
 Ran words left rest read_failed before after write_failed flushed (Err (Shell fault)) =
-    ((fault_of app words ≡ []) × Shelled left rest read_failed before after write_failed flushed (Err fault))
-    ⊎ (IsAmong kind.DisplayHelp (fault_of app words) × IsUnread left rest read_failed × (fault ≡ shell.Write) × (write_failed ≡ true))
+    ((fault_of app words ≡ []) × ShelledBy (options_in words) left rest read_failed before after write_failed flushed (Err fault))
+    ⊎ (RequestsText words × IsUnread left rest read_failed × (fault ≡ shell.Write) × (write_failed ≡ true))
+Ran words left rest read_failed before after write_failed flushed (Err Open) = ⊥
+Ran words left rest read_failed before after write_failed flushed (Err ClosedPipe) = ⊥
 
--- 0 if everything was done, 2 for a bad command line, and 1 for any other fault
+-- a failed write to a closed pipe is a fault of its own
+abbrev pub told_apart : Bool → Result (Unit {0}) ProgramFault → Result (Unit {0}) ProgramFault
+told_apart true (Err (Shell shell.Write)) = Err ClosedPipe
+told_apart true outcome = outcome
+told_apart false outcome = outcome
+
+-- 0 if everything was done, 2 for a bad command line, 141 for a closed pipe (128 and the number of SIGPIPE), and 1 for any other fault
 abbrev pub status_of : Result (Unit {0}) ProgramFault → ℕ
 status_of (Ok u) = 0
 status_of (Err (Line Bad)) = 2
@@ -48,3 +55,6 @@ status_of (Err (Shell shell.Read)) = 1
 status_of (Err (Shell shell.Write)) = 1
 status_of (Err (Shell shell.InputTooLong)) = 1
 status_of (Err (Shell shell.OutOfMemory)) = 1
+status_of (Err (Shell shell.NotACommand)) = 1
+status_of (Err Open) = 1
+status_of (Err ClosedPipe) = 141

@@ -1,7 +1,8 @@
 -- Texts of whole lines, and a line that has not ended.
 use Rattle.std.specs.Prelude.{◌≡◌, ◌≤◌, ℕ, Bool, true, false, List, [], ◌∷◌, length}
 use Rattle.std.specs.List.{All}
-use Rattle.flat_model.specs.Trace.{is_line_feed, lines_in, trace_max}
+use Rattle.flat_model.specs.Replies.{is_fault}
+use Rattle.flat_model.specs.Trace.{is_line_feed, lines_in, read_trace, trace_max}
 
 -- the text is empty, or its last byte is a line feed
 abbrev pub ends_line : List ℕ → Bool
@@ -16,3 +17,12 @@ HasNoFeed bytes = All (λ b. is_line_feed b ≡ false) bytes
 -- no line has more bytes than a whole trace may have
 abbrev pub HasShortLines : List ℕ → Type 0
 HasShortLines text = All (λ line. length line ≤ trace_max) (lines_in text)
+
+-- each line is a command, or is skipped
+abbrev pub HasCommandsOnly : List ℕ → Type 0
+HasCommandsOnly text = All (λ line. is_fault line ≡ false) (read_trace text)
+
+-- what a strict shell has answered without stopping; any other shell answers every line
+abbrev pub IsClean : Bool → List ℕ → Type 0
+IsClean false text = Unit {0}
+IsClean true text = HasCommandsOnly text

@@ -19,4 +19,7 @@ pub enum ShellFault {
     /// An allocation for a line, the groups and processes, or the output failed.
     #[error("out of memory")]
     OutOfMemory,
+    /// A strict shell has answered a line that is not a command. Its answer is the last output.
+    #[error("line is not a command")]
+    NotACommand,
 }

@@ -4,25 +4,27 @@ ghost use Rattle.std.specs.Prelude.{◌≡◌, ◌≤◌, ℕ, List, Option, tru
 ghost use Rattle.std.specs.Io.KnownBytes.{ReadConsumes};
 ghost use Rattle.shell_main.specs.Shelled.{NothingOwed};
 
+use crate::Options;
 use replay_main::{DeviceFault, Sink, Source};
 
 /// Reads the next bytes. Requires that exactly the whole lines read before are answered and the
-/// output is flushed. It uses only the reader; the writer and the line that has not ended are
-/// parameters for the contract.
+/// output is flushed. It uses only the reader; the others are parameters for the contract.
 pub(crate) fn next_chunk<S: Source, W: Sink>(
+    options: Options,
     reader: &mut S,
     writer: &W,
     line: &[u8],
     buf: &mut [u8],
 ) -> Result<usize, DeviceFault>
     ghost start: { Option (List ℕ) × Option (List ℕ) }
-    requires { (lines : List ℕ) × NothingOwed start.0 (S.left reader.old) start.1 (W.taken writer.now)
+    requires { (lines : List ℕ) × NothingOwed options.keeps_history start.0 (S.left reader.old) start.1 (W.taken writer.now)
         (W.is_failed writer.now) (W.is_flushed writer.now) lines line.now }
     ensures bound { IfOk result (λ n. n ≤ length buf.new) }
     ensures bytes { ReadConsumes (S.left reader.old) (S.left reader.new) result buf.new }
     ensures mark { S.is_failed reader.new
         ≡ (if is_err result then true else S.is_failed reader.old) }
 {
+    let _ = options;
     let _ = writer;
     let _ = line;
     reader.read(buf)

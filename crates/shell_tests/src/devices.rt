@@ -1,19 +1,10 @@
-//! Devices for the tests: some wait for an answer, some fail.
+//! Devices of a talk: a source that waits for answers, and a sink that reports its flushes.
 
-ghost use Rattle.std.specs.Prelude.{◌≡◌, ◌≤◌, None, false, length};
+ghost use Rattle.std.specs.Prelude.{◌≡◌, None, false};
 
 use replay_main::{DeviceFault, Sink, Source};
 use std::alloc::Global;
 use std::sync::atomic::{AtomicU64, Ordering};
-
-/// Copies a text into the front of a buffer, as far as there is room, and returns how many bytes.
-fn fill(buf: &mut [u8], text: &[u8]) -> usize
-    ensures { result ≤ length buf.new }
-{
-    let count = buf.len().min(text.len());
-    buf[..count].copy_from_slice(&text[..count]);
-    count
-}
 
 /// Gives its next text only when the output so far is flushed. If it is not, the read fails.
 #[derive(Drop)]
@@ -54,7 +45,9 @@ impl<'a> Source for Asker<'a> {
             Some((asked, told)) => {
                 self.at = self.at.saturating_add(1);
                 self.wanted = self.wanted.saturating_add(told.len() as u64);
-                Ok(fill(buf, asked.as_bytes()))
+                let count = buf.len().min(asked.len());
+                buf[..count].copy_from_slice(&asked.as_bytes()[..count]);
+                Ok(count)
             }
             None => Ok(0),
         }
@@ -108,91 +101,6 @@ impl<'a> Sink for Listener<'a> {
     fn flush(&mut self) -> Result<(), DeviceFault> {
         self.flushed
             .store(self.bytes.len() as u64, Ordering::SeqCst);
-        self.is_flushed = true;
-        Ok(())
-    }
-}
-
-/// Gives a text in pieces of so many bytes, then ends or fails.
-#[derive(Drop)]
-pub(crate) struct Pieces<'a> {
-    pub(crate) rest: &'a [u8],
-    pub(crate) size: usize,
-    pub(crate) fails: bool,
-    pub(crate) is_failed: bool,
-}
-
-impl<'a> Source for Pieces<'a> {
-    ghost left = { λ s. None };
-
-    ghost is_failed = { λ s. s.is_failed };
-
-    fn read(&mut self, buf: &mut [u8]) -> Result<usize, DeviceFault> {
-        if self.rest.is_empty() && self.fails {
-            self.is_failed = true;
-            return Err(DeviceFault);
-        }
-        let (piece, _) = self.rest.split_at(self.size.min(self.rest.len()));
-        let count = fill(buf, piece);
-        self.rest = &self.rest[count.min(self.rest.len())..];
-        Ok(count)
-    }
-}
-
-/// Takes so many bytes, two at a time, and fails at the next, or at the flush after so many.
-#[derive(Drop)]
-pub(crate) struct Narrow {
-    bytes: Vec<u8>,
-    room: usize,
-    flushes: usize,
-    is_failed: bool,
-    is_flushed: bool,
-}
-
-impl Narrow {
-    /// Has room for so many bytes, and for so many flushes.
-    pub(crate) fn new(alloc: Global, room: usize, flushes: usize) -> Narrow
-        ensures { result.is_failed ≡ false }
-    {
-        Narrow {
-            bytes: Vec::new(alloc),
-            room,
-            flushes,
-            is_failed: false,
-            is_flushed: false,
-        }
-    }
-
-    /// The bytes that were taken.
-    pub(crate) fn bytes(&self) -> &[u8] {
-        self.bytes.as_slice()
-    }
-}
-
-impl Sink for Narrow {
-    ghost taken = { λ s. None };
-
-    ghost is_failed = { λ s. s.is_failed };
-
-    ghost is_flushed = { λ s. s.is_flushed };
-
-    fn write(&mut self, bytes: &[u8]) -> Result<usize, DeviceFault> {
-        self.is_flushed = false;
-        let count = bytes.len().min(2).min(self.room);
-        if count == 0 || self.bytes.extend_from_slice(&bytes[..count]).is_err() {
-            self.is_failed = true;
-            return Err(DeviceFault);
-        }
-        self.room -= count;
-        Ok(count)
-    }
-
-    fn flush(&mut self) -> Result<(), DeviceFault> {
-        if self.flushes == 0 {
-            self.is_failed = true;
-            return Err(DeviceFault);
-        }
-        self.flushes -= 1;
         self.is_flushed = true;
         Ok(())
     }

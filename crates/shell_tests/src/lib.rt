@@ -7,7 +7,9 @@
 //! - `traces`: lines with their output, in whatever pieces they arrive.
 //! - `faults`: reads, writes and flushes that fail, and a refused allocation.
 //! - `programs`: the command line, what the program does for it, its statuses and messages.
-//! - `devices`: the sources and sinks of these tests.
+//! - `stricts`: where a strict shell stops.
+//! - `forgetful`: a shell without a history.
+//! - `devices`: the source and the sink of a talk; the others are in `test_devices`.
 #![tactic(auto)]
 
 #[cfg(test)]
@@ -15,7 +17,11 @@ mod devices;
 #[cfg(test)]
 mod faults;
 #[cfg(test)]
+mod forgetful;
+#[cfg(test)]
 mod programs;
+#[cfg(test)]
+mod stricts;
 #[cfg(test)]
 mod talks;
 #[cfg(test)]

@@ -1,11 +1,11 @@
 //! Lines and their output, in whatever pieces the lines arrive.
 
-use crate::devices::Pieces;
 use replay_main::{MemorySink, Summary};
 use shell_main::{ShellFault, shell};
 use std::alloc::Global;
 use std::sync::Wait;
 use std::thread::Threads;
+use test_devices::Pieces;
 
 /// Each source with its output.
 const TRACES: [(&str, &str); 8] = [
@@ -38,12 +38,7 @@ fn written<R: Threads + Wait + Sync>(
     text: &str,
     size: usize,
 ) -> (Result<Summary, ShellFault>, MemorySink) {
-    let mut reader = Pieces {
-        rest: text.as_bytes(),
-        size,
-        fails: false,
-        is_failed: false,
-    };
+    let mut reader = Pieces::new(text.as_bytes(), size);
     let mut writer = MemorySink::new(alloc);
     let outcome = shell(rt, alloc, &mut reader, &mut writer);
     (outcome, writer)

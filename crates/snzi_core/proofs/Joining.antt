@@ -12,7 +12,7 @@ use Rattle.snzi_core.specs.declared.holding.Role.{Role}
 use Rattle.snzi_core.specs.declared.holding.Role.TheVariants.{Main, Helper, Spent}
 use Rattle.snzi_core.specs.Holding.{empty, main_weight, tokens_at, rejoined, merged}
 use Rattle.snzi_core.specs.Changes.{Unites}
-use Rattle.snzi_core.specs.State.{State, hand_of, kind_of, above, span}
+use Rattle.snzi_core.specs.CoreState.{State, hand_of, kind_of, above, span}
 use Rattle.snzi_core.specs.Lawful.{lives, helps, some_word, overflows}
 use Rattle.snzi_core.specs.Effect.{joined}
 use Rattle.snzi_core.specs.Kept.{HasTables, IsCore}

@@ -4,7 +4,7 @@ use Rattle.std.specs.Prelude.{OnOk, IfErr}
 use Rattle.snzi_core.specs.declared.unlawful.Unlawful.{Unlawful}
 use Rattle.snzi_core.specs.declared.event.Event.{Event}
 use Rattle.snzi_core.specs.declared.event.Event.TheVariants.{Load, FastAdd, RootAdd, ChildAdd, Leave, StripeAdd, Split, Join}
-use Rattle.snzi_core.specs.State.{State, node_of, SameShape}
+use Rattle.snzi_core.specs.CoreState.{State, node_of, SameShape}
 use Rattle.snzi_core.specs.Lawful.{refusal, is_zero, passes_up}
 use Rattle.snzi_core.specs.Effect.{after, Runs, Refuses}
 use Rattle.snzi_core.specs.Kept.{IsCore}

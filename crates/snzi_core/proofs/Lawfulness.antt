@@ -4,7 +4,7 @@ use Rattle.std.specs.Prelude.{nat_eq, nat_lt}
 use Rattle.snzi_core.specs.declared.event.At.{At}
 use Rattle.snzi_core.specs.declared.event.Event.TheVariants.{FastAdd, RootAdd, ChildAdd, Leave, StripeAdd, Join}
 use Rattle.snzi_core.specs.declared.unlawful.Unlawful.{Unlawful}
-use Rattle.snzi_core.specs.State.{State, hand_of, node_of, parent_of, root_of}
+use Rattle.snzi_core.specs.CoreState.{State, hand_of, node_of, parent_of, root_of}
 use Rattle.snzi_core.specs.Lawful.{refuse, refusal, has_node, has_stripe, is_live, is_zero, is_at_cap, lacks, passes_up, helps, some_word, overflows, stays}
 
 pub refuse_none : (t : Bool) (u : Unlawful) (rest : Option Unlawful) → refuse t u rest ≡ None → (t ≡ false) × (rest ≡ None)

@@ -5,7 +5,7 @@ use Rattle.snzi_core.specs.declared.event.At.{At}
 use Rattle.snzi_core.specs.declared.event.Event.TheVariants.{FastAdd, RootAdd, ChildAdd, Leave, StripeAdd}
 use Rattle.snzi_core.specs.Holding.{tokens_at}
 use Rattle.snzi_core.specs.Shape.{leaves, node_word}
-use Rattle.snzi_core.specs.State.{State, span, hand_of, node_of, parent_of, root_of, stripe_of, kind_of, above}
+use Rattle.snzi_core.specs.CoreState.{State, span, hand_of, node_of, parent_of, root_of, stripe_of, kind_of, above}
 use Rattle.snzi_core.specs.Lawful.{refusal, is_live, is_zero, is_at_cap, lacks, passes_up}
 use Rattle.snzi_core.specs.Effect.{arrived, descended, departed, ascended, summed}
 use Rattle.snzi_core.specs.Kept.{IsCore}

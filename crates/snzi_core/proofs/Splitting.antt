@@ -15,7 +15,7 @@ use Rattle.snzi_core.specs.declared.holding.Role.TheVariants.{Main, Helper, Spen
 use Rattle.snzi_core.specs.Holding.{empty, main_weight, out, tokens_at, keeper, helper_with, put, gain}
 use Rattle.snzi_core.specs.Shape.{leaves}
 use Rattle.snzi_core.specs.Changes.{Parts}
-use Rattle.snzi_core.specs.State.{State, hand_of, kind_of, above, span, token_of, fresh}
+use Rattle.snzi_core.specs.CoreState.{State, hand_of, kind_of, above, span, token_of, fresh}
 use Rattle.snzi_core.specs.Lawful.{lives, has_token, count_at, main_covers, main_has, is_crowded, refuses_split}
 use Rattle.snzi_core.specs.Effect.{counts, regrouped, split_off}
 use Rattle.snzi_core.specs.Kept.{HasTables, IsCore}

@@ -6,7 +6,7 @@ use Rattle.snzi_core.specs.declared.holding.Role.TheVariants.{Main, Spent}
 use Rattle.snzi_core.specs.declared.holding.Holding.{Holding}
 use Rattle.snzi_core.specs.Shape.{Line, inner, leaf, stripe}
 use Rattle.snzi_core.specs.Balance.{Stands, up}
-use Rattle.snzi_core.specs.State.{start, fresh, size, kind_of}
+use Rattle.snzi_core.specs.CoreState.{start, fresh, size, kind_of}
 use Rattle.snzi_core.specs.Kept.{IsCore}
 
 pub zeros : (n i : ℕ) → slice_index (replicate n 0) i ≡ 0

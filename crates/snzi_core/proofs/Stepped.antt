@@ -10,7 +10,7 @@ use Rattle.snzi_core.specs.Holding.{empty, main_weight, tokens_at, amount_at, pu
 use Rattle.snzi_core.specs.Changes.{Moves}
 use Rattle.snzi_core.specs.Shape.{stripe, IsShape, Family}
 use Rattle.snzi_core.specs.Balance.{Ruled, Each}
-use Rattle.snzi_core.specs.State.{State, hand_of, kind_of, above, span}
+use Rattle.snzi_core.specs.CoreState.{State, hand_of, kind_of, above, span}
 use Rattle.snzi_core.specs.Lawful.{lives, is_live}
 use Rattle.snzi_core.specs.Effect.{stepped, arrived, descended, departed, ascended, summed}
 use Rattle.snzi_core.specs.Kept.{HasTables, IsCore}

@@ -4,7 +4,7 @@ use Rattle.std.specs.Prelude.{slice_index, nat_lt}
 use Rattle.snzi_core.specs.Holding.{amount_at}
 use Rattle.snzi_core.specs.Shape.{Line, stripe, leaves, node_word}
 use Rattle.snzi_core.specs.Balance.{total, Present, Stands}
-use Rattle.snzi_core.specs.State.{State, span, kind_of, above, stripe_of}
+use Rattle.snzi_core.specs.CoreState.{State, span, kind_of, above, stripe_of}
 use Rattle.snzi_core.specs.Effect.{slot_amounts}
 use Rattle.snzi_core.specs.Kept.{IsCore}
 use Rattle.snzi_core.proofs.Shapes.{is_node, is_stripe, is_family}

@@ -10,7 +10,7 @@ use Rattle.snzi_core.specs.declared.unlawful.Unlawful.{Unlawful}
 use Rattle.snzi_core.specs.declared.unlawful.Unlawful.TheVariants.{NoHand, NoToken, Cap, StillHolding, OutOfMemory, NoNode, ZeroNode}
 use Rattle.snzi_core.specs.Holding.{gain, lose, raise, empty, keeper, helper_with, rejoined, amount_at}
 use Rattle.snzi_core.specs.Balance.{total}
-use Rattle.snzi_core.specs.State.{State, hand_of, node_of, parent_of, root_of, stripe_of}
+use Rattle.snzi_core.specs.CoreState.{State, hand_of, node_of, parent_of, root_of, stripe_of}
 use Rattle.snzi_core.specs.Lawful.{count_at, is_zero, passes_up, refusal}
 
 -- the core with x at the word i, and with the hand replaced by h

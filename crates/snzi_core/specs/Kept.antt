@@ -3,7 +3,7 @@ use Rattle.std.specs.Prelude.{◌≡◌, ℕ, ◌%◌, ◌<◌, ◌^◌, length,
 use Rattle.snzi_core.specs.declared.holding.Holding.{Holding}
 use Rattle.snzi_core.specs.Holding.{main_weight}
 use Rattle.snzi_core.specs.Balance.{Each}
-use Rattle.snzi_core.specs.State.{State, hand_of, size, IsRuled}
+use Rattle.snzi_core.specs.CoreState.{State, hand_of, size, IsRuled}
 use Rattle.snzi_core.specs.Lawful.{lives}
 
 -- a live hand has an entry for each of n words

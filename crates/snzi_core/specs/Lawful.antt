@@ -12,7 +12,7 @@ use Rattle.snzi_core.specs.declared.unlawful.Unlawful.TheVariants.{NoHand, NoTok
 use Rattle.snzi_core.specs.Caps.{token_cap, helper_cap}
 use Rattle.snzi_core.specs.Shape.{Line, inner, leaf, stripe, leaves}
 use Rattle.snzi_core.specs.Holding.{tokens_at, out}
-use Rattle.snzi_core.specs.State.{State, hand_of, node_of, parent_of, root_of, token_of, span, kind_of}
+use Rattle.snzi_core.specs.CoreState.{State, hand_of, node_of, parent_of, root_of, token_of, span, kind_of}
 
 -- the slot, node, word or stripe that an event names is in the shape
 abbrev pub has_node : State → At → Bool

@@ -11,7 +11,7 @@ use Rattle.snzi_core.specs.Changes.{Gains, Loses, Moves, Raises, Parts, Unites}
 use Rattle.snzi_core.specs.Caps.{token_cap, helper_cap}
 use Rattle.snzi_core.specs.Shape.{Line, stripe, line, parent, IsShape}
 use Rattle.snzi_core.specs.Balance.{Balanced, Mustered, Ruled, Present, Covers}
-use Rattle.snzi_core.specs.State.{State, start, IsRuled}
+use Rattle.snzi_core.specs.CoreState.{State, start, IsRuled}
 use Rattle.snzi_core.specs.Effect.{Runs}
 
 -- a law of one step, for each shape of w nodes among s words, and each hand id with h that acts on the word j
@@ -32,7 +32,8 @@ LoadKeeps = OfAHand (λ w s words hands id j h. Keeps (line w s) words hands id 
 
 -- one more at a node that is not zero, and a token there
 abbrev pub FastAddKeeps : Type 0
-FastAddKeeps = OfAHand (λ w s words hands id j h. line w s j ≢ stripe → 0 < slice_index words j → (g : Holding) → Gains j h g → Keeps (line w s) words hands id j h (slice_index words j + 1) g (Room j h))
+FastAddKeeps = OfAHand (λ w s words hands id j h. line w s j ≢ stripe → 0 < slice_index words j → (g : Holding) → Gains j h g
+    → Keeps (line w s) words hands id j h (slice_index words j + 1) g (Room j h))
 
 -- one more at a root, and a token there
 abbrev pub RootAddKeeps : Type 0
@@ -52,7 +53,8 @@ LeaveKeeps = OfAHand (λ w s words hands id j h. line w s j ≢ stripe → (g : 
 
 -- n more in a stripe, modulo 2^64, counted for the hand
 abbrev pub StripeAddKeeps : Type 0
-StripeAddKeeps = OfAHand (λ w s words hands id j h. line w s j ≡ stripe → (n : ℕ) (g : Holding) → Raises j n h g → Keeps (line w s) words hands id j h ((slice_index words j + n) % 2 ^ 64) g (Unit {0}))
+StripeAddKeeps = OfAHand (λ w s words hands id j h. line w s j ≡ stripe → (n : ℕ) (g : Holding) → Raises j n h g
+    → Keeps (line w s) words hands id j h ((slice_index words j + n) % 2 ^ 64) g (Unit {0}))
 
 -- main gives a share to a new hand; no word changes
 abbrev pub SplitKeeps : Type 0
@@ -61,7 +63,8 @@ SplitKeeps = (w s : ℕ) (words : List ℕ) (hands : List Holding) (id : ℕ) (h
 
 -- main takes all that a helper has, which is then spent; no word changes
 abbrev pub JoinKeeps : Type 0
-JoinKeeps = (w s : ℕ) (words : List ℕ) (hands : List Holding) (id other : ℕ) (h helper g : Holding) → IsShape w s → get_elem? hands id ≡ some h → get_elem? (set hands id g) other ≡ some helper → Unites h helper g
+JoinKeeps = (w s : ℕ) (words : List ℕ) (hands : List Holding) (id other : ℕ) (h helper g : Holding) → IsShape w s → get_elem? hands id ≡ some h
+    → get_elem? (set hands id g) other ≡ some helper → Unites h helper g
     → (Balanced (line w s) words hands → Balanced (line w s) words (set (set hands id g) other (empty Spent)))
     × (Mustered hands → ((i : ℕ) → tokens_at i g ≤ token_cap) → Mustered (set (set hands id g) other (empty Spent)))
 

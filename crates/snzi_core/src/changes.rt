@@ -2,7 +2,7 @@
 ghost use Rattle.std.specs.Prelude.{◌≡◌, ◌≢◌, ℕ, ◌+◌, ◌-◌, ◌*◌, ◌/◌, ◌%◌, ◌^◌, ◌<◌, ◌≤◌, length, slice_index, true};
 ghost use Rattle.snzi_core.specs.Caps.{token_cap};
 ghost use Rattle.snzi_core.specs.Holding.{tokens_at};
-ghost use Rattle.snzi_core.specs.State.{hand_of};
+ghost use Rattle.snzi_core.specs.CoreState.{hand_of};
 ghost use Rattle.snzi_core.specs.Lawful.{is_live};
 ghost use Rattle.snzi_core.specs.Effect.{arrived, descended, departed, ascended, summed};
 ghost use Rattle.snzi_core.specs.Kept.{IsCore};

@@ -3,8 +3,9 @@ ghost use Rattle.std.specs.Prelude.{◌≡◌, ℕ, ◌+◌, ◌-◌, ◌*◌, �
 ghost use Rattle.std.specs.List.{list_all};
 ghost use Rattle.snzi_core.specs.Caps.{token_cap};
 ghost use Rattle.snzi_core.specs.Holding.{tokens_at, out};
-ghost use Rattle.snzi_core.specs.State.{span, node_of, parent_of, root_of, stripe_of, token_of, hand_of, kind_of};
-ghost use Rattle.snzi_core.specs.Lawful.{has_node, has_word, has_stripe, has_token, is_live, helps, is_zero, is_at_cap, lacks, passes_up, count_at, main_covers, main_has, is_crowded, is_inner, overflows, stays, some_word};
+ghost use Rattle.snzi_core.specs.CoreState.{span, node_of, parent_of, root_of, stripe_of, token_of, hand_of, kind_of};
+ghost use Rattle.snzi_core.specs.Lawful.{has_node, has_word, has_stripe, has_token, is_live, helps, is_zero, is_at_cap, lacks, passes_up};
+ghost use Rattle.snzi_core.specs.Lawful.{count_at, main_covers, main_has, is_crowded, is_inner, overflows, stays, some_word};
 
 use crate::caps::{HELPER_CAP, TOKEN_CAP};
 use crate::event::{At, Token};

@@ -2,7 +2,7 @@
 ghost use Rattle.std.specs.Prelude.{◌≡◌, ◌≢◌, ℕ, ◌+◌, ◌-◌, ◌*◌, ◌%◌, ◌^◌, ◌<◌, ◌≤◌, [], length, replicate, IfOk, slice_index};
 ghost use Rattle.snzi_core.specs.Caps.{token_cap, helper_cap};
 ghost use Rattle.snzi_core.specs.Holding.{tokens_at, gain, lose, raise, empty, keeper, rejoined, out};
-ghost use Rattle.snzi_core.specs.State.{fresh};
+ghost use Rattle.snzi_core.specs.CoreState.{fresh};
 
 use crate::holding::Role;
 use crate::table::{add_each, subtract_each, wrapping_add_each};

@@ -1,6 +1,6 @@
 //! The core: words and hands, seen by contracts as one state.
 ghost use Rattle.std.specs.Prelude.{◌≡◌, ℕ, ◌+◌, ◌-◌, ◌*◌, ◌/◌, ◌%◌, ◌^◌, ◌<◌, ◌≤◌, ◌⊎◌, length, IfOk};
-ghost use Rattle.snzi_core.specs.State.{start};
+ghost use Rattle.snzi_core.specs.CoreState.{start};
 
 use crate::hand::Hand;
 use crate::holding::Role;
@@ -17,7 +17,7 @@ pub struct Core<A: Allocator + Clone> {
 }
 
 impl<A: Allocator + Clone> Model for Core<A> {
-    ghost use Rattle.snzi_core.specs.State.{State};
+    ghost use Rattle.snzi_core.specs.CoreState.{State};
 
     ghost Value = { State };
 

@@ -2,7 +2,7 @@
 ghost use Rattle.std.specs.Prelude.{◌≡◌, ℕ, ◌+◌, ◌-◌, ◌*◌, ◌/◌, ◌%◌, ◌^◌, ◌<◌, ◌≤◌, ◌↔◌, IsTrue, length, slice_index};
 ghost use Rattle.snzi_core.specs.Shape.{leaves};
 ghost use Rattle.snzi_core.specs.Balance.{Present};
-ghost use Rattle.snzi_core.specs.State.{span, node_of, parent_of, stripe_of, token_of, above};
+ghost use Rattle.snzi_core.specs.CoreState.{span, node_of, parent_of, stripe_of, token_of, above};
 ghost use Rattle.snzi_core.specs.Effect.{slot_amounts};
 
 use crate::event::{At, Token};

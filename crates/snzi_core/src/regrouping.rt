@@ -2,7 +2,7 @@
 ghost use Rattle.std.specs.Prelude.{◌≡◌, ◌≢◌, ℕ, ◌+◌, ◌-◌, ◌*◌, ◌/◌, ◌%◌, ◌^◌, ◌<◌, ◌≤◌, length, replicate, slice_index_or, slice_set, true, false, None, IfOk, MatchResult};
 ghost use Rattle.std.specs.List.{list_all};
 ghost use Rattle.snzi_core.specs.Holding.{tokens_at, empty, helper_with, rejoined};
-ghost use Rattle.snzi_core.specs.State.{hand_of};
+ghost use Rattle.snzi_core.specs.CoreState.{hand_of};
 ghost use Rattle.snzi_core.specs.Lawful.{has_token, helps, overflows, some_word, refuses_split};
 ghost use Rattle.snzi_core.specs.Effect.{counts, split_off, joined};
 ghost use Rattle.snzi_core.specs.Kept.{IsCore};

@@ -1,6 +1,6 @@
 //! One event, and a list of events.
 ghost use Rattle.std.specs.Prelude.{◌≡◌, ◌≢◌, ℕ, ◌+◌, ◌-◌, ◌*◌, ◌/◌, ◌%◌, ◌^◌, ◌<◌, ◌≤◌, length, None, OnOk, IfErr, MatchResult};
-ghost use Rattle.snzi_core.specs.State.{IsRuled, SameShape};
+ghost use Rattle.snzi_core.specs.CoreState.{IsRuled, SameShape};
 ghost use Rattle.snzi_core.specs.Lawful.{refusal};
 ghost use Rattle.snzi_core.specs.Effect.{after, Refuses, Runs, Stops};
 

@@ -5,7 +5,7 @@ use native.Mathlib.Decide.{ℕ_discrete}
 use Rattle.atomic_table.specs.Table.{Step}
 use Rattle.snzi_core.specs.Shape.{parent}
 use Rattle.snzi_tree.specs.declared.board.View.{View}
-use Rattle.snzi_tree.specs.Events.{StaysActive}
+use Rattle.snzi_tree.specs.BoardEvents.{StaysActive}
 use Rattle.snzi_tree.specs.Tell.{looked, queried, summed, root_added, child_added, fast_added, left, added_on, staged, unstaged}
 use Rattle.snzi_tree.specs.View.{Acts, Knows}
 

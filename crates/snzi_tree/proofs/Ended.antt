@@ -13,12 +13,12 @@ use Rattle.snzi_core.specs.Holding.{main_weight, helper_weight, out, empty}
 use Rattle.snzi_core.specs.Laws.{MainKnows}
 use Rattle.snzi_core.specs.Shape.{line, stripe, parent}
 use Rattle.snzi_core.specs.Balance.{total, mains, helpers, outs, Mustered, Covers}
-use Rattle.snzi_core.specs.State.{hand_of}
+use Rattle.snzi_core.specs.CoreState.{hand_of}
 use Rattle.snzi_core.proofs.Muster.{sole, no_main_no_out}
 use Rattle.snzi_tree.specs.declared.board.View.{View}
 use Rattle.snzi_tree.specs.declared.board.Tally.{Tally}
 use Rattle.snzi_tree.specs.View.{holding, BoardRule, IsBoard}
-use Rattle.snzi_tree.specs.Events.{core_of}
+use Rattle.snzi_tree.specs.BoardEvents.{core_of}
 use Rattle.snzi_tree.specs.Tallies.{view_of, Seated, plain, events_in, all_events, SpentCountNothing, HasRun, RunRule}
 use Rattle.snzi_tree.specs.Ended.{HasEnded, ended}
 use Rattle.snzi_tree.proofs.Shared.{is_first, first_is}

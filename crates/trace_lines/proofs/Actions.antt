@@ -11,7 +11,7 @@ use Rattle.trace_lines.specs.declared.fault.TextFault.{TextFault}
 use Rattle.trace_lines.specs.declared.fault.Unread.{Unread}
 use Rattle.trace_lines.specs.Action.{write_at, show_at, action_at, ReadsAction}
 use Rattle.trace_lines.specs.Cut.{the_two, the_three}
-use Rattle.trace_lines.specs.Meaning.{ReadsPath, ReadsCommand}
+use Rattle.trace_lines.specs.LineMeaning.{ReadsPath, ReadsCommand}
 
 -- ---- the words
 

@@ -14,7 +14,7 @@ use Rattle.trace_lines.specs.declared.fault.TextFault.TheVariants as text
 use Rattle.trace_lines.specs.declared.fault.Unread.{Unread}
 use Rattle.trace_lines.specs.declared.fault.Unread.TheVariants as unread
 use Rattle.trace_lines.specs.Action.{command_at, action_at, ReadsAction}
-use Rattle.trace_lines.specs.Meaning.{text_fault_of, has_path, is_at_path, ReadsCommand}
+use Rattle.trace_lines.specs.LineMeaning.{text_fault_of, has_path, is_at_path, ReadsCommand}
 
 abbrev fault_from : trace.TextFault → TextFault
 fault_from trace.BadSyntax = text.Syntax

@@ -6,13 +6,13 @@ use Rattle.flat_model.specs.Path.{Path}
 use Rattle.flat_model.specs.Command as model
 use Rattle.flat_model.specs.Trace.{Word, file_word, write_of, show_of}
 use Rattle.flat_model.specs.Trace as trace
-use Rattle.interface_files.specs.Meaning.{file_of}
+use Rattle.interface_files.specs.FileMeaning.{file_of}
 use Rattle.undo_journal.specs.declared.command.Command.{Command}
 use Rattle.trace_lines.specs.declared.action.Action.{Action}
 use Rattle.trace_lines.specs.declared.action.Action.TheVariants.{Move, SetLimit, Kill, Show}
 use Rattle.trace_lines.specs.declared.fault.TextFault.{TextFault}
 use Rattle.trace_lines.specs.declared.fault.Unread.{Unread}
-use Rattle.trace_lines.specs.Meaning.{text_fault_of, ReadsPath, ReadsCommand}
+use Rattle.trace_lines.specs.LineMeaning.{text_fault_of, ReadsPath, ReadsCommand}
 
 -- the meaning of the words after the path of a `write`, and of a `cat`
 abbrev pub write_at : Path → Word → Word → Result model.Command trace.TextFault

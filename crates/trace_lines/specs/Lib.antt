@@ -1,4 +1,4 @@
 pub mod Cut
-pub mod Meaning
+pub mod LineMeaning
 pub mod Action
 pub mod Replied

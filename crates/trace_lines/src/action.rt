@@ -5,7 +5,7 @@ ghost use Rattle.flat_model.specs.Path.{Path};
 ghost use Rattle.flat_model.specs.Trace.{show_of, write_of};
 ghost use Rattle.group_tree.specs.Flat.{limit_file_of};
 ghost use Rattle.flat_model.specs.File as model_file;
-ghost use Rattle.interface_files.specs.Meaning.{file_of};
+ghost use Rattle.interface_files.specs.FileMeaning.{file_of};
 ghost use Rattle.trace_lines.specs.Action.{action_at, show_at, write_at};
 
 use crate::TextFault;

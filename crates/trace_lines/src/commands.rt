@@ -3,9 +3,9 @@
 
 ghost use Rattle.std.specs.Prelude.{◌≡◌};
 ghost use Rattle.flat_model.specs.Trace.{path_word, mkdir_of, rmdir_of, fork_of, exit_of, write_words, cat_of, where_of, undo_of, command_of_words};
-ghost use Rattle.undo_journal.specs.Meaning.{command_of};
+ghost use Rattle.undo_journal.specs.CommandMeaning.{command_of};
 ghost use Rattle.trace_lines.specs.Action.{command_at, ReadsAction};
-ghost use Rattle.trace_lines.specs.Meaning.{ReadsPath, ReadsCommand};
+ghost use Rattle.trace_lines.specs.LineMeaning.{ReadsPath, ReadsCommand};
 
 use crate::TextFault;
 use crate::action::{Action, read_shown, read_written};

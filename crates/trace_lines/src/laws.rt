@@ -10,7 +10,7 @@ ghost use Rattle.flat_model.specs.Path.{Path};
 ghost use Rattle.flat_model.specs.State as model_state;
 ghost use Rattle.flat_model.specs.Trace.{line_of};
 ghost use Rattle.flat_model.specs.Trace as trace;
-ghost use Rattle.undo_journal.specs.Meaning.{command_of};
+ghost use Rattle.undo_journal.specs.CommandMeaning.{command_of};
 ghost use Rattle.undo_journal.specs.declared.command.Command.{Command};
 ghost use Rattle.group_tree.specs.declared.attr.Limit.TheVariants as limits;
 ghost use Rattle.group_tree.specs.declared.attr.LimitFile.TheVariants as limit_files;
@@ -22,7 +22,7 @@ ghost use Rattle.trace_lines.specs.declared.fault.Unread.{Unread};
 ghost use Rattle.trace_lines.specs.declared.fault.Unread.TheVariants as unread;
 ghost use Rattle.trace_lines.specs.declared.line.Line.TheVariants as lines;
 ghost use Rattle.trace_lines.specs.Action.{command_at, ReadsAction};
-ghost use Rattle.trace_lines.specs.Meaning.{text_fault_of, Says, ReadsPath, ReadsCommand};
+ghost use Rattle.trace_lines.specs.LineMeaning.{text_fault_of, Says, ReadsPath, ReadsCommand};
 
 /// A path that was read is the model's, and so is a fault. Out of memory comes only if the model has a path.
 pub fn paths_are_told_apart()

@@ -11,8 +11,8 @@
 //!   `put_fault`).
 //!
 //! The meaning of a line is `read_line` of `flat_model`, and its output `reply_bytes` and `fault_bytes` there.
-//! `specs/Meaning.antt` relates `Line` and `TextFault` to them. The laws of these definitions are in `journal_laws`; those
-//! of what only this crate can name are in `laws`. Each call is linear in its bytes; nothing else is promised about time.
+//! `specs/LineMeaning.antt` relates `Line` and `TextFault` to them. The laws of these definitions are in `journal_laws`;
+//! those of what only this crate can name are in `laws`. Each call is linear in its bytes; nothing else is promised about time.
 #![tactic(auto)]
 
 mod action;

@@ -2,7 +2,7 @@
 
 ghost use Rattle.std.specs.Prelude.{◌≡◌};
 ghost use Rattle.flat_model.specs.Trace.{is_comment, read_line};
-ghost use Rattle.trace_lines.specs.Meaning.{Says};
+ghost use Rattle.trace_lines.specs.LineMeaning.{Says};
 
 use crate::TextFault;
 use crate::commands::read_command;

@@ -4,8 +4,8 @@ ghost use Rattle.std.specs.Prelude.{◌≡◌, ◌++◌, decimal, codes, false, 
 ghost use Rattle.flat_model.specs.Replies.{refusal_text, fault_text, ok_line, bar_line, fault_bytes, is_refused, reply_bytes};
 ghost use Rattle.flat_model.specs.Trace.{lines_in};
 ghost use Rattle.std.specs.List.{flat_map};
-ghost use Rattle.undo_journal.specs.Meaning.{refusal_of, reply_of};
-ghost use Rattle.trace_lines.specs.Meaning.{text_fault_of};
+ghost use Rattle.undo_journal.specs.CommandMeaning.{refusal_of, reply_of};
+ghost use Rattle.trace_lines.specs.LineMeaning.{text_fault_of};
 ghost use Rattle.trace_lines.specs.Replied.{AddsReply};
 
 use crate::TextFault;

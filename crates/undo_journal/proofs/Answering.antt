@@ -16,7 +16,7 @@ use Rattle.pids_charge.specs.Answers as charges
 use Rattle.undo_journal.specs.declared.reply.Refusal.{Refusal}
 use Rattle.undo_journal.specs.declared.reply.Reply.{Reply}
 use Rattle.undo_journal.specs.declared.reply.Reply.TheVariants.{Refused}
-use Rattle.undo_journal.specs.Meaning.{refusal_of, reply_of}
+use Rattle.undo_journal.specs.CommandMeaning.{refusal_of, reply_of}
 use Rattle.undo_journal.specs.Answer.{Answers, state_by}
 
 abbrev pub is_fork : model.Command → Bool

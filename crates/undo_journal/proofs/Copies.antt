@@ -8,7 +8,7 @@ use Rattle.flat_model.specs.Machine.{Machine, replies, tick}
 use Rattle.undo_journal.specs.declared.command.Command.{Command}
 use Rattle.undo_journal.specs.declared.reply.Reply.{Reply}
 use Rattle.undo_journal.specs.declared.journal.Entry.{Entry}
-use Rattle.undo_journal.specs.Meaning.{command_of, reply_of}
+use Rattle.undo_journal.specs.CommandMeaning.{command_of, reply_of}
 use Rattle.undo_journal.specs.Answer.{Answers}
 use Rattle.undo_journal.specs.History.{journal_entry, records, machine_of, IsHistory}
 

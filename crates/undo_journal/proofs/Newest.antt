@@ -1,5 +1,6 @@
 -- The newest record is the one that the past calls for.
-use Rattle.std.proofs.Common.{◌≡◌, ℕ, List, Some, refl, sym, ap, subst, ◌∙◌}
+use Rattle.std.proofs.Common.{◌≡◌, ℕ, List, [], ◌∷◌, Some, None, refl, sym, ap, subst, arith, ◌∙◌}
+use Rattle.std.proofs.lemmas.Option.{slice_get-get_or}
 use Rattle.std.specs.List.{slice_get}
 use Rattle.std.proofs.Common.{length, ◌-◌}
 use Rattle.flat_model.specs.State.{State}
@@ -22,3 +23,10 @@ pub newest_command_is : {A : Type 0} (s : State) (journal : List (Entry A)) (e :
 newest_command_is {A} s journal e at =
     let r = snoc_of journal e at in
     sym (ap (λ (es : List (model.Command × Inverse)). newest_command (past_of s es)) (ap (λ (js : List (Entry A)). records js) r.1 ∙ records_push r.0 e))
+
+-- a journal without a last entry is empty, and so is its past
+pub no_newest : {A : Type 0} (s : State) (journal : List (Entry A)) → slice_get journal (length journal - 1) ≡ None → past_of s (records journal) ≡ []
+no_newest s [] at = refl
+no_newest s (e ∷ journal) at =
+    let some = slice_get-get_or (e ∷ journal) (length (e ∷ journal) - 1) e (omega (arith)) in
+    absurd cc

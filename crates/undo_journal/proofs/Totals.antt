@@ -12,7 +12,7 @@ use Rattle.flat_model.specs.Step.{refusal, after, after_refusal, home_of, attr_o
 use Rattle.flat_model.proofs.PathLaws.{path_cmp-IsTotalOrder, path_cmp-IsAntisymmetric}
 use Rattle.flat_model.proofs.Maps.{get-each}
 use Rattle.flat_model.proofs.Reachable.{start_well_formed}
-use Rattle.flat_model.specs.Events.{HasEventsUpTo}
+use Rattle.flat_model.specs.EventTotals.{HasEventsUpTo}
 use Rattle.flat_model.specs.WellFormed.{WellFormed}
 use Rattle.pids_charge.specs.Events.{HasRoomForEvents}
 use Rattle.undo_journal.specs.Answer.{state_by}

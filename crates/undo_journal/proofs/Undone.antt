@@ -9,7 +9,7 @@ use Rattle.flat_model.proofs.Counting.{current_is, populated_is}
 use Rattle.std.proofs.Common.{◌≢◌, Result, Ok, Err}
 use Rattle.std.specs.Prelude.{IfOk, OnErr, IsOk}
 use Rattle.undo_journal.specs.declared.reply.Reply.{Reply}
-use Rattle.undo_journal.specs.Meaning.{reply_of}
+use Rattle.undo_journal.specs.CommandMeaning.{reply_of}
 use Rattle.undo_journal.specs.Answer.{Answers}
 use Rattle.undo_journal.specs.Beginning.{beginning}
 use Rattle.undo_journal.specs.Headline.{IsReached, KeepsHistory}

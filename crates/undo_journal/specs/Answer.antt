@@ -7,7 +7,7 @@ use Rattle.flat_model.specs.Inverse as model_inverse
 use Rattle.flat_model.specs.Inverse.{back, inverse, inverse_of_refusal}
 use Rattle.flat_model.specs.Machine.{Machine, tick}
 use Rattle.undo_journal.specs.declared.reply.Reply.{Reply}
-use Rattle.undo_journal.specs.Meaning.{reply_of}
+use Rattle.undo_journal.specs.CommandMeaning.{reply_of}
 
 -- on this command the machine with so many slots goes from old to new, and this is its reply
 pub record Answers {A : Type 0} (slots : ℕ) (old : Machine) (c : model.Command) (reply : Reply A) (new : Machine) : Type 0 where

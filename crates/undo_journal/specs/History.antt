@@ -10,10 +10,10 @@ use Rattle.flat_model.specs.Inverse as model_inverse
 use Rattle.flat_model.specs.Inverse.{back, past_of}
 use Rattle.flat_model.specs.Machine.{Machine}
 use Rattle.flat_model.specs.WellFormed.{WellFormed}
-use Rattle.flat_model.specs.Events.{HasEventsUpTo}
+use Rattle.flat_model.specs.EventTotals.{HasEventsUpTo}
 use Rattle.pids_charge.specs.Events.{HasEvents}
 use Rattle.undo_journal.specs.declared.journal.Entry.{Entry}
-use Rattle.undo_journal.specs.Meaning.{command_of, inverse_of}
+use Rattle.undo_journal.specs.CommandMeaning.{command_of, inverse_of}
 use Rattle.undo_journal.specs.Answer.{record_of, state_after}
 
 -- ---- the journal

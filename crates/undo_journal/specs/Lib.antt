@@ -1,4 +1,4 @@
-pub mod Meaning
+pub mod CommandMeaning
 pub mod Answer
 pub mod Beginning
 pub mod Headline

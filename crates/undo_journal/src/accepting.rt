@@ -4,8 +4,8 @@ ghost use Rattle.std.specs.Prelude.{◌≡◌, is_none};
 ghost use Rattle.flat_model.specs.Command as model;
 ghost use Rattle.flat_model.specs.Step.{refusal};
 ghost use Rattle.group_tree.specs.Flat.{limit_of, limit_file_of};
-ghost use Rattle.interface_files.specs.Meaning.{file_of};
-ghost use Rattle.undo_journal.specs.Meaning.{command_of};
+ghost use Rattle.interface_files.specs.FileMeaning.{file_of};
+ghost use Rattle.undo_journal.specs.CommandMeaning.{command_of};
 
 use crate::command::Command;
 use crate::engine::Engine;

@@ -6,7 +6,7 @@ ghost use Rattle.flat_model.specs.Inverse as model_inverse;
 ghost use Rattle.flat_model.specs.Inverse.{back};
 ghost use Rattle.flat_model.specs.Machine.{recorded};
 ghost use Rattle.flat_model.specs.Command as model;
-ghost use Rattle.undo_journal.specs.Meaning.{command_of, inverse_of, reply_of};
+ghost use Rattle.undo_journal.specs.CommandMeaning.{command_of, inverse_of, reply_of};
 ghost use Rattle.undo_journal.specs.Answer.{Answers, needs_no_memory, undoes_without_memory};
 ghost use Rattle.undo_journal.specs.Headline.{KeepsHistory};
 ghost use Rattle.undo_journal.specs.History.{IsReady};

@@ -2,7 +2,7 @@
 
 ghost use Rattle.std.specs.Prelude.{◌≡◌, IfOk, OnErr};
 ghost use Rattle.flat_model.specs.Command as model;
-ghost use Rattle.interface_files.specs.Meaning.{file_of};
+ghost use Rattle.interface_files.specs.FileMeaning.{file_of};
 ghost use Rattle.undo_journal.specs.Answer.{Answers};
 
 use crate::bytes::Bytes;

@@ -2,7 +2,7 @@
 
 ghost use Rattle.std.specs.Prelude.{◌≡◌, ◌∷◌, ◌++◌, IfOk, codes};
 ghost use Rattle.flat_model.specs.CommandText.{command_text};
-ghost use Rattle.undo_journal.specs.Meaning.{command_of};
+ghost use Rattle.undo_journal.specs.CommandMeaning.{command_of};
 
 use group_path::GroupPath;
 use group_tree::{Limit, LimitFile};

@@ -5,7 +5,7 @@ ghost use Rattle.flat_model.specs.Counts.{is_group, has_process};
 ghost use Rattle.flat_model.specs.Command as model;
 ghost use Rattle.flat_model.specs.Machine.{new_machine};
 ghost use Rattle.pids_charge.specs.Content.{IsEmpty};
-ghost use Rattle.undo_journal.specs.Meaning.{command_of, inverse_of, reply_of};
+ghost use Rattle.undo_journal.specs.CommandMeaning.{command_of, inverse_of, reply_of};
 ghost use Rattle.undo_journal.specs.Answer.{Answers, IsNewest, newest_command, undoes_without_memory};
 ghost use Rattle.undo_journal.specs.Headline.{KeepsHistory, IsReached};
 
@@ -32,7 +32,7 @@ pub struct Engine<A: Allocator + Clone, M: Meter> {
 
 impl<A: Allocator + Clone, M: Meter> Model for Engine<A, M> {
     ghost use Rattle.std.specs.Coded.{codes};
-    ghost use Rattle.flat_model.specs.Codes.{state_code};
+    ghost use Rattle.flat_model.specs.StateCodes.{state_code};
     ghost use Rattle.flat_model.specs.Machine.{Machine};
 
     ghost Value = { Machine };
@@ -85,9 +85,9 @@ impl<A: Allocator + Clone, M: Meter> Engine<A, M> {
     /// Answers one command that the session `who` has issued. A kill, or an undo of one, may wait for the threads that
     /// settle parts of its charges.
     ///
-    /// Costs O(log processes + depth · log children) comparisons, where `depth` is that of the group or of the
-    /// process's group. `mkdir` and `rmdir` also shift the siblings that come after the group. A kill visits all
-    /// processes.
+    /// Costs O(depth · log children) comparisons, where `depth` is that of the group or of the process's group; a process
+    /// is found in constant time. `mkdir` and `rmdir` also shift the siblings that come after the group. A kill costs
+    /// time in the number of its processes, plus one test of a path for each slot that has been used.
     pub fn apply<R: Threads + Wait + Sync, B: Allocator + Clone>(
         &mut self,
         rt: &R,

@@ -1,9 +1,8 @@
-//! `fork`: the making of a process or the counting of its refusal, the record of either, and what takes it back.
+//! `fork`: makes a process, or counts a refusal by a limit, and records which; and the undo of both.
 
-ghost use Rattle.std.specs.Prelude.{◌≡◌, ◌<◌, ◌≤◌, true, Some, None, IfOk, OnOk, OnErr, length, take};
+ghost use Rattle.std.specs.Prelude.{◌≡◌, ◌<◌, ◌≤◌, true, false, Some, IfOk, OnErr, length, take};
 ghost use Rattle.flat_model.specs.Counts.{has_process};
-ghost use Rattle.flat_model.specs.Step.{refusal, after, home_of};
-ghost use Rattle.flat_model.specs.Machine.{recorded};
+ghost use Rattle.flat_model.specs.Step.{refusal, home_of};
 ghost use Rattle.flat_model.specs.Inverse as model_inverse;
 ghost use Rattle.flat_model.specs.Inverse.{back};
 ghost use Rattle.flat_model.specs.Command as model;
@@ -21,37 +20,18 @@ use pids_charge::{ChargeFault, Charges, Meter, Peaks, Pid};
 use std::alloc::{AllocError, Allocator};
 
 impl<A: Allocator + Clone, M: Meter> Engine<A, M> {
-    /// The group that a process belongs to, in other memory.
-    fn home_copy(&self, pid: Pid) -> Result<GroupPath<A>, AllocError>
+    /// The path of the first `n` names of the group that a process belongs to.
+    fn front_of_home(&self, pid: Pid, n: usize) -> Result<GroupPath<A>, AllocError>
         requires { has_process self.now.state pid ≡ true }
-        ensures { IfOk result (λ home. home ≡ home_of self.now.state pid) }
+        ensures { IfOk result (λ front. front ≡ take n (home_of self.now.state pid)) }
     {
         let Some(home) = self.charges.home(pid) else {
             unreachable!()
         };
-        home.copy(self.alloc.clone()?)
+        home.front(self.alloc.clone()?, n)
     }
 
-    /// Makes a process that may be made, in the group of its parent, and records it with the peaks along that group.
-    fn make_process(&mut self, who: u8, parent: Pid, child: Pid) -> Result<(), AllocError>
-        requires { refusal M.SLOTS self.old.state (model.Fork parent child) ≡ None }
-        ensures ok { OnOk result (self.new ≡ recorded self.old (model.Fork parent child) (after self.old.state (model.Fork parent child))) }
-        ensures err { OnErr result (self.new ≡ self.old) }
-    {
-        self.journal.reserve(1)?;
-        match self.charges.make_process(who, parent, child) {
-            Ok(peaks) => {
-                self.journal.push(Entry {
-                    command: Command::Fork { parent, child },
-                    inverse: Inverse::Forked { pid: child, peaks },
-                })?;
-                Ok(())
-            }
-            Err(fault) => Err(out_of_memory(fault)),
-        }
-    }
-
-    /// Counts and records a fork that the limit of the group at the first `n` names of the parent's path refuses.
+    /// Counts and records a refused fork. The group that refuses it has the first `n` names of the parent's group.
     fn count_fork(&mut self, parent: Pid, child: Pid, n: usize) -> Result<Reply<A>, AllocError>
         requires refused { refusal M.SLOTS self.old.state (model.Fork parent child) ≡ Some (model.OverPidsMax (take n (home_of self.old.state parent))) }
         requires below_root { 0 < n }
@@ -62,8 +42,7 @@ impl<A: Allocator + Clone, M: Meter> Engine<A, M> {
         if u64::MAX - self.forgotten <= self.journal.len() as u64 {
             return Err(AllocError);
         }
-        let mut limiting = self.home_copy(parent)?;
-        limiting.cut(n);
+        let limiting = self.front_of_home(parent, n)?;
         let counted = limiting.copy(self.alloc.clone()?)?;
         self.journal.reserve(1)?;
         self.charges.count_fork(parent, n);
@@ -74,26 +53,45 @@ impl<A: Allocator + Clone, M: Meter> Engine<A, M> {
         Ok(Reply::Refused(Refusal::PidsMax(limiting)))
     }
 
+    /// Makes a process in its parent's group, and records it with the peaks of that group and its ancestors as they were
+    /// before. If a limit refuses it, counts and records that instead.
+    fn try_process(&mut self, who: u8, parent: Pid, child: Pid) -> Result<Reply<A>, AllocError>
+        requires parent { has_process self.old.state parent ≡ true }
+        requires child { has_process self.old.state child ≡ false }
+        ensures ok { IfOk result (λ reply. Answers M.SLOTS self.old (model.Fork parent child) reply self.new) }
+        ensures err { OnErr result (self.new ≡ self.old) }
+    {
+        self.journal.reserve(1)?;
+        match self.charges.try_process(who, parent, child) {
+            Ok(peaks) => {
+                self.journal.push(Entry {
+                    command: Command::Fork { parent, child },
+                    inverse: Inverse::Forked { pid: child, peaks },
+                })?;
+                Ok(Reply::Done)
+            }
+            Err(fault) => match fault {
+                ChargeFault::PidsMax(n) => self.count_fork(parent, child, n),
+                _ => Err(out_of_memory(fault)),
+            },
+        }
+    }
+
     pub(crate) fn fork(&mut self, who: u8, parent: Pid, child: Pid) -> Result<Reply<A>, AllocError>
         ensures ok { IfOk result (λ reply. Answers M.SLOTS self.old (model.Fork parent child) reply self.new) }
         ensures err { OnErr result (self.new ≡ self.old) }
     {
-        match self.charges.refuses_fork(parent, child) {
-            None => {
-                self.make_process(who, parent, child)?;
-                Ok(Reply::Done)
-            }
-            Some(fault) => match fault {
-                ChargeFault::NoProcess(pid) => Ok(Reply::Refused(Refusal::NoProcess(pid))),
-                ChargeFault::PidInUse(pid) => Ok(Reply::Refused(Refusal::PidInUse(pid))),
-                ChargeFault::PidsMax(n) => self.count_fork(parent, child, n),
-                _ => unreachable!(),
-            },
+        if !self.has_process(parent) {
+            return Ok(Reply::Refused(Refusal::NoProcess(parent)));
         }
+        if self.has_process(child) {
+            return Ok(Reply::Refused(Refusal::PidInUse(child)));
+        }
+        self.try_process(who, parent, child)
     }
 }
 
-/// Takes out a process that was made, and sets the peaks along its group as they were.
+/// Removes the process that a fork made, and restores the peaks of its group and that group's ancestors.
 pub(crate) fn undo_fork<A: Allocator + Clone, M: Meter>(
     charges: &mut Charges<A, M>,
     who: u8,
@@ -109,7 +107,7 @@ pub(crate) fn undo_fork<A: Allocator + Clone, M: Meter>(
     charges.set_peaks(&home, peaks.as_slice());
 }
 
-/// Counts a fork no longer that this group's limit refused.
+/// Subtracts a fork that this group's limit refused from the counts of refused forks.
 pub(crate) fn undo_counted<A: Allocator + Clone, M: Meter>(
     charges: &mut Charges<A, M>,
     path: &GroupPath<A>,

@@ -1,7 +1,7 @@
 //! The record from which a command is undone.
 
 ghost use Rattle.std.specs.Prelude.{◌≡◌, IfOk};
-ghost use Rattle.undo_journal.specs.Meaning.{inverse_of};
+ghost use Rattle.undo_journal.specs.CommandMeaning.{inverse_of};
 
 use group_path::GroupPath;
 use group_tree::{Attr, Limit, LimitFile};

@@ -6,7 +6,7 @@ ghost use Rattle.flat_model.specs.Inverse as model_inverse;
 ghost use Rattle.flat_model.specs.Inverse.{back};
 ghost use Rattle.flat_model.specs.Machine.{recorded};
 ghost use Rattle.flat_model.specs.Command as model;
-ghost use Rattle.undo_journal.specs.Meaning.{refusal_of};
+ghost use Rattle.undo_journal.specs.CommandMeaning.{refusal_of};
 ghost use Rattle.undo_journal.specs.Answer.{Answers};
 ghost use Rattle.undo_journal.specs.History.{IsReady};
 

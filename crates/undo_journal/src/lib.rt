@@ -26,11 +26,12 @@
 //!   number of the meter's slots.
 //! - Undoing a removal restores the group with its limits and event totals. Only undoing a removal, an exit, a move or
 //!   a kill allocates. If that runs out of memory, state and journal are unchanged.
+//! - `copy` copies an engine with its journal into another allocator, over plain numbers.
 //! - `rehearse` returns the replies that a list of commands would get, undos included. It runs them on a copy of the
 //!   engine in the caller's arena, and only reads the engine.
 //!
-//! Each command has its own file, with its refusals, its change, its record and its undo. `specs/Meaning.antt` says
-//! what commands, replies and records mean. `specs/Answer.antt` says that a reply is the machine's.
+//! Each command has its own file, with its refusals, its change, its record and its undo. `specs/CommandMeaning.antt`
+//! says what commands, replies and records mean. `specs/Answer.antt` says that a reply is the machine's.
 //! `specs/Headline.antt` says what each answered command promises about undo and counts, and what undoing everything
 //! leaves. `specs/History.antt` says what a journal knows of the earlier states. `journal_laws` states the laws that
 //! follow from these definitions.

@@ -7,7 +7,7 @@ ghost use Rattle.flat_model.specs.Inverse.{back};
 ghost use Rattle.flat_model.specs.Machine.{recorded};
 ghost use Rattle.flat_model.specs.Command as model;
 ghost use Rattle.group_tree.specs.Flat.{limit_of, limit_file_of};
-ghost use Rattle.undo_journal.specs.Meaning.{refusal_of};
+ghost use Rattle.undo_journal.specs.CommandMeaning.{refusal_of};
 ghost use Rattle.undo_journal.specs.Answer.{Answers};
 ghost use Rattle.undo_journal.specs.History.{IsReady};
 
@@ -48,7 +48,9 @@ impl<A: Allocator + Clone, M: Meter> Engine<A, M> {
         value: Limit,
     ) -> Result<(), AllocError>
         requires { refusal M.SLOTS self.old.state (model.SetLimit path.now (limit_file_of file) (limit_of value)) ≡ None }
-        ensures ok { OnOk result (self.new ≡ recorded self.old (model.SetLimit path.now (limit_file_of file) (limit_of value)) (after self.old.state (model.SetLimit path.now (limit_file_of file) (limit_of value)))) }
+        ensures ok { OnOk result (self.new ≡ recorded self.old
+            (model.SetLimit path.now (limit_file_of file) (limit_of value))
+            (after self.old.state (model.SetLimit path.now (limit_file_of file) (limit_of value)))) }
         ensures err { OnErr result (self.new ≡ self.old) }
     {
         let named = path.copy(self.alloc.clone()?)?;

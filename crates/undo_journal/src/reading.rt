@@ -5,7 +5,7 @@ ghost use Rattle.std.specs.Prelude.{◌≡◌, ◌&&◌, not, is_some, IfSome};
 ghost use Rattle.flat_model.specs.Counts as flat;
 ghost use Rattle.flat_model.specs.Counts.{is_group};
 ghost use Rattle.flat_model.specs.Path.{is_root};
-ghost use Rattle.interface_files.specs.Meaning.{file_of};
+ghost use Rattle.interface_files.specs.FileMeaning.{file_of};
 ghost use Rattle.interface_files.specs.Shown.{Shows};
 
 use crate::engine::Engine;
@@ -35,8 +35,8 @@ impl<A: Allocator + Clone, M: Meter> Engine<A, M> {
         self.charges.populated(path)
     }
 
-    /// The text of a file of the group at the path. `cgroup.procs` costs a visit to all processes. Any other file costs
-    /// one descent of the tree, and a refusal two.
+    /// The text of a file of the group at the path. `cgroup.procs` costs O(n log n) for n processes of the group. Any
+    /// other file costs one descent of the tree, and a refusal two.
     ///
     /// # Errors
     ///

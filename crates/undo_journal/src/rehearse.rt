@@ -2,7 +2,7 @@
 
 ghost use Rattle.std.specs.Prelude.{◌≡◌, IfOk, Some, map};
 ghost use Rattle.flat_model.specs.Machine.{replies};
-ghost use Rattle.undo_journal.specs.Meaning.{command_of, reply_of};
+ghost use Rattle.undo_journal.specs.CommandMeaning.{command_of, reply_of};
 ghost use Rattle.undo_journal.specs.Answer.{Answers};
 ghost use Rattle.undo_journal.specs.History.{journal_entry};
 

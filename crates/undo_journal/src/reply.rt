@@ -1,7 +1,7 @@
 //! The reply to a command, and the reasons for a refusal.
 
 ghost use Rattle.std.specs.Prelude.{◌≡◌, IfOk};
-ghost use Rattle.undo_journal.specs.Meaning.{refusal_of, reply_of};
+ghost use Rattle.undo_journal.specs.CommandMeaning.{refusal_of, reply_of};
 
 use crate::bytes::Bytes;
 use crate::command::Command;

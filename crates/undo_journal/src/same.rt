@@ -2,8 +2,8 @@
 
 ghost use Rattle.std.specs.Prelude.{◌≡◌, ◌↔◌, IsTrue};
 ghost use Rattle.group_tree.specs.Flat.{limit_of, limit_file_of};
-ghost use Rattle.interface_files.specs.Meaning.{file_of};
-ghost use Rattle.undo_journal.specs.Meaning.{command_of, refusal_of, reply_of};
+ghost use Rattle.interface_files.specs.FileMeaning.{file_of};
+ghost use Rattle.undo_journal.specs.CommandMeaning.{command_of, refusal_of, reply_of};
 
 use crate::command::Command;
 use crate::reply::{Refusal, Reply};

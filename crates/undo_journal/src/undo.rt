@@ -4,7 +4,7 @@ ghost use Rattle.std.specs.Prelude.{◌≡◌, true, Some, IsOk, OnOk, OnErr, If
 ghost use Rattle.flat_model.specs.Command as model;
 ghost use Rattle.flat_model.specs.Inverse.{back};
 ghost use Rattle.flat_model.specs.Machine.{tick};
-ghost use Rattle.undo_journal.specs.Meaning.{inverse_of};
+ghost use Rattle.undo_journal.specs.CommandMeaning.{inverse_of};
 ghost use Rattle.undo_journal.specs.Answer.{Answers, needs_no_memory, undoes_without_memory};
 ghost use Rattle.undo_journal.specs.Headline.{UndoesAll};
 ghost use Rattle.undo_journal.specs.History.{IsReady};

@@ -5,12 +5,9 @@
 //!
 //! - `replays`: a trace with a kill and its undo by 1, 2, 3 and 8 workers, by a rehearsal, and with a barrier.
 //! - `runs`: traces of so many lines that a worker runs several commands in a row.
-//! - `barrier`: where all parts of a phase have to meet.
 //! - `messages`: the messages for lines that are not commands.
 #![tactic(auto)]
 
-#[cfg(test)]
-mod barrier;
 #[cfg(test)]
 mod messages;
 #[cfg(test)]

@@ -1,9 +1,9 @@
 //! A trace with a kill and its undo, by several workers and by a rehearsal.
 
-use crate::barrier::PhaseBarrier;
 use replay_main::{
-    MemorySink, MemorySource, ReplayFault, Summary, rehearse_trace, replay, replay_gated,
+    Gate, MemorySink, MemorySource, ReplayFault, Summary, rehearse_trace, replay, replay_gated,
 };
+use test_support::Barrier;
 
 const TRACE: &[u8] = b"mkdir /k\nmkdir /k/a\nmkdir /k/b\nfork 1 2\nfork 1 3\nfork 1 4\n\
 write /k cgroup.procs 2\nwrite /k/a cgroup.procs 3\nwrite /k/b cgroup.procs 4\nfork 3 5\nfork 4 6\n\
@@ -40,14 +40,23 @@ fn by_a_rehearsal(rt: HostRuntime) {
     assert!(&rt; sink.bytes() == ANSWERS);
 }
 
+/// Where the three parts of a phase meet.
+#[derive(Drop)]
+struct Meeting(Barrier);
+
+impl Gate for Meeting {
+    fn pass(&self, part: u8) {
+        self.0.pass(part);
+    }
+}
+
 #[test]
 fn a_thread_for_each_worker(rt: HostRuntime) {
-    let barrier = PhaseBarrier::new();
+    let barrier = Meeting(Barrier::new(9, 3));
     let mut source = MemorySource::new(TRACE);
     let mut sink = MemorySink::new(rt.alloc());
     let summary = replay_gated(&rt, rt.alloc(), &barrier, &mut source, &mut sink, 3);
     assert!(&rt; summary == WHOLE);
     assert!(&rt; sink.bytes() == ANSWERS);
-    assert!(&rt; barrier.misses() == 0);
-    assert!(&rt; barrier.is_full());
+    assert!(&rt; barrier.0.met());
 }

@@ -25,7 +25,7 @@ ghost use Rattle.flat_model.specs.Replies.{
   out,
 };
 ghost use Rattle.flat_model.specs.Trace as trace;
-ghost use Rattle.undo_journal.specs.Meaning.{command_of};
+ghost use Rattle.undo_journal.specs.CommandMeaning.{command_of};
 ghost use Rattle.replay_main.specs.Rehearsed.{answers_at_hand, is_refusal};
 ghost use Rattle.replay_main.specs.Script.{
   IsScript,

@@ -1,5 +1,5 @@
 use Rattle.std.proofs.Common.{◌≤◌, length}
-use Rattle.flat_model.specs.Events.{HasEventsUpTo}
+use Rattle.flat_model.specs.EventTotals.{HasEventsUpTo}
 use Rattle.charge_tests.proofs.calls.first_wrong.Given as goal
 
 abbrev pub invariant-loop-i : goal.invariant-loop-i

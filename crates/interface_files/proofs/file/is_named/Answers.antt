@@ -1,5 +1,5 @@
 use Rattle.flat_model.specs.File.{file_name}
-use Rattle.interface_files.specs.Meaning.{file_of}
+use Rattle.interface_files.specs.FileMeaning.{file_of}
 use Rattle.interface_files.proofs.Names.{same_bytes}
 use Rattle.interface_files.proofs.file.is_named.Goals as goal
 

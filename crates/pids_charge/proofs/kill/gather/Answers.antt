@@ -1,30 +1,38 @@
-use Rattle.std.proofs.Common.{length, sym, ◌∙◌}
-use Rattle.pids_charge.proofs.Gathers.{one_more_lost, one_more, one_less_lost, one_less}
-use Rattle.pids_charge.specs.Lists.{Row}
-use Rattle.pids_charge.specs.Recount.{charges_of}
+use Rattle.std.proofs.Common.{option_copied, drop, get_or, length, ◌≡◌, ℕ, ◌+◌, ◌∷◌, sym, ap, ◌∙◌}
+use Rattle.std.specs.BTreeMap.{is_at}
+use Rattle.std.specs.Ordering.{nat_cmp}
+use Rattle.pids_charge.specs.Lists.{Row, inside, is_inside}
+use Rattle.pids_charge.specs.Recount.{IsPlaced, charges_of}
+use Rattle.pids_charge.proofs.Copied.{one_more_summed}
+use Rattle.pids_charge.proofs.Gathers.{is_found, next_row}
+use Rattle.pids_charge.proofs.TableSlots.{found_value}
 use Rattle.pids_charge.proofs.kill.gather.Goals as goal
 
-pub loop-pid-preserved-in_ok-gather_one : goal.loop-pid-preserved-in_ok-gather_one
-loop-pid-preserved-in_ok-gather_one g c =
-    let e : Row g.row.A.Denot = (c.in-Some.pid.now, c.in-Some.process.now) in
-    let step = (c.in-Some.ensures).steps in
-    let is = sym c.is_at_or_below.ensures ∙ c.if-is_at_or_below.true in
-    let told = c.in_ok-gather_one.ensures in
-    record {
-      lost = one_more_lost c.args.path.now e c.next.new.self c.loop-pid.pid-iterator c.loop-pid.gathered.lost.items c.gather_one.new.gathered.lost.items _ step is told.lost c.loop-pid.invariant.lost;
-      counted = λ s j. one_more (λ p. charges_of c.args.tree.now p s j) c.args.path.now e c.next.new.self c.loop-pid.pid-iterator _ _ _ step is (told.counted s j) (c.loop-pid.invariant.counted s j);
-      many = one_more (λ p. length p.home) c.args.path.now e c.next.new.self c.loop-pid.pid-iterator _ _ _ step is told.many c.loop-pid.invariant.many;
-      within = told.within;
-    }
+pub unreachable-requires : goal.unreachable-requires
+unreachable-requires g c =
+    is_found (is_inside c.args.path.now) c.args.processes.now c.known.ensures c.as_slice-pid-items.result.now (c.as_slice-pid-items.ensures.value ∙ c.in_ok-pids.ensures) c.loop-pid.pid-index c.loop-pid-test.true (sym c.get.ensures ∙ ap option_copied c.in_default.is)
+
+pub push_tokens-requires-clause-leaf_below : goal.push_tokens-requires-clause-leaf_below
+push_tokens-requires-clause-leaf_below g c =
+    let k : ℕ = get_or c.as_slice-pid-items.result.now c.loop-pid.pid-index 0 in
+    (found_value (λ p. IsPlaced g.M.Meter.LEAVES c.args.tree.now p) (is_at (nat_cmp k)) c.args.processes.now c.in-Some.process.now c.requires.placed (sym c.in-Some.ensures)).leaf_below
+
+pub push_tokens-requires-clause-home : goal.push_tokens-requires-clause-home
+push_tokens-requires-clause-home g c =
+    let k : ℕ = get_or c.as_slice-pid-items.result.now c.loop-pid.pid-index 0 in
+    (found_value (λ p. IsPlaced g.M.Meter.LEAVES c.args.tree.now p) (is_at (nat_cmp k)) c.args.processes.now c.in-Some.process.now c.requires.placed (sym c.in-Some.ensures)).home
 
 pub loop-pid-preserved : goal.loop-pid-preserved
 loop-pid-preserved g c =
-    let e : Row g.row.A.Denot = (c.in-Some.pid.now, c.in-Some.process.now) in
-    let step = (c.in-Some.ensures).steps in
-    let is = sym c.is_at_or_below.ensures ∙ c.if-is_at_or_below.false in
+    let es = c.args.processes.now in
+    let i : ℕ = c.loop-pid.pid-index in
+    let e : Row g.row.A.Denot = (get_or c.as_slice-pid-items.result.now i 0, c.in-Some.process.now) in
+    let rest = drop (i + 1) (inside c.args.path.now es) in
+    let all = drop i (inside c.args.path.now es) in
+    let step : all ≡ e ∷ rest = next_row (is_inside c.args.path.now) es c.known.ensures c.as_slice-pid-items.result.now (c.as_slice-pid-items.ensures.value ∙ c.in_ok-pids.ensures) i c.loop-pid-test.true c.in-Some.process.now (sym c.in-Some.ensures) in
+    let told = c.in_ok-push_tokens.ensures in
     record {
-      lost = one_less_lost c.args.path.now e c.next.new.self c.loop-pid.pid-iterator c.loop-pid.gathered.lost.items _ step is c.loop-pid.invariant.lost;
-      counted = λ s j. one_less (λ p. charges_of c.args.tree.now p s j) c.args.path.now e c.next.new.self c.loop-pid.pid-iterator _ _ step is (c.loop-pid.invariant.counted s j);
-      many = one_less (λ p. length p.home) c.args.path.now e c.next.new.self c.loop-pid.pid-iterator _ _ step is c.loop-pid.invariant.many;
-      within = c.loop-pid.invariant.within;
+      counted = λ s j. one_more_summed (λ p. charges_of c.args.tree.now p s j) e rest all _ _ _ step (told.counted s j) (c.loop-pid.invariant.counted s j);
+      many = one_more_summed (λ p. length p.home) e rest all _ _ _ step told.many c.loop-pid.invariant.many;
+      within = told.within;
     }

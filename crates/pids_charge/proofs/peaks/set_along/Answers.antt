@@ -1,6 +1,6 @@
 use Rattle.std.proofs.Common.{refl}
 use Rattle.flat_model.specs.Step.{set_peak}
-use Rattle.group_tree.specs.Peaks.{peaked_by}
+use Rattle.group_tree.specs.PeaksAlong.{peaked_by}
 use Rattle.pids_charge.proofs.Totals.{flat_changed, slots_changed}
 use Rattle.pids_charge.proofs.peaks.set_along.Goals as goal
 

@@ -5,5 +5,5 @@ use Rattle.pids_charge.proofs.place.take_out.Given as goal
 abbrev pub invariant-loop-i : goal.invariant-loop-i
 invariant-loop-i g l = record {
   bound : l.i ≤ length l.list;
-  rest : without (drop l.i l.list) l.processes.entries ≡ without (drop l.at l.list) l.fn.processes.entries;
+  rest : without (drop l.i l.list) l.processes ≡ without (drop l.at l.list) l.fn.processes;
 }

@@ -1,4 +1,4 @@
-use Rattle.flat_model.specs.Events.{HasEventsUpTo}
+use Rattle.flat_model.specs.EventTotals.{HasEventsUpTo}
 use Rattle.pids_charge.specs.declared.plain.TheConstants.{SLOTS}
 use Rattle.refusal_tests.proofs.Given.{up_group, up_move}
 use Rattle.refusal_tests.proofs.forks.move_to_new.Goals as goal

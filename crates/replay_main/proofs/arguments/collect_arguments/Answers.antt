@@ -3,7 +3,7 @@ use Rattle.std.specs.Iterator.{Drains}
 use Rattle.std.specs.Vec.Iter.{into_iter_steps}
 use Rattle.std.specs.declared.alloc.Global.{Global}
 use Rattle.std.specs.declared.string.String.{String}
-use Rattle.replay_main.specs.Asks.{Collects}
+use Rattle.replay_main.specs.ReplayArguments.{Collects}
 use Rattle.replay_main.proofs.arguments.collect_arguments.Goals as goal
 
 pub returns-in-Ok-collect : goal.returns-in-Ok-collect

@@ -1,7 +1,7 @@
 use Rattle.std.proofs.Common.{List, map, string_bytes, subst}
 use Rattle.std.specs.declared.alloc.Global.{Global}
 use Rattle.std.specs.declared.string.String.{String}
-use Rattle.replay_main.specs.Asks.{Asks}
+use Rattle.replay_main.specs.ReplayArguments.{Asks}
 use Rattle.replay_main.proofs.arguments.read_arguments.Goals as goal
 
 pub returns : goal.returns

@@ -1,5 +1,5 @@
 use Rattle.std.proofs.Common.{◌≡◌, map, take}
-use Rattle.undo_journal.specs.Meaning.{command_of}
+use Rattle.undo_journal.specs.CommandMeaning.{command_of}
 use Rattle.replay_main.proofs.logged.has_commands.Given as goal
 
 abbrev pub invariant-loop-i : goal.invariant-loop-i

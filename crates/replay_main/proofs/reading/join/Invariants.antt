@@ -1,6 +1,6 @@
 use Rattle.std.proofs.Common.{◌≡◌, map}
 use Rattle.std.specs.List.{flat_map}
-use Rattle.undo_journal.specs.Meaning.{command_of}
+use Rattle.undo_journal.specs.CommandMeaning.{command_of}
 use Rattle.replay_main.specs.Script.{place_of}
 use Rattle.replay_main.proofs.reading.join.Given as goal
 

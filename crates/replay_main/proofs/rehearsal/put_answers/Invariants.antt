@@ -1,5 +1,5 @@
 use Rattle.std.proofs.Common.{◌≡◌, ◌≤◌, ◌+◌, ◌++◌, map, drop, length}
-use Rattle.undo_journal.specs.Meaning.{reply_of}
+use Rattle.undo_journal.specs.CommandMeaning.{reply_of}
 use Rattle.replay_main.specs.Rehearsed.{answers_at_hand}
 use Rattle.replay_main.specs.Script.{place_of}
 use Rattle.replay_main.proofs.rehearsal.put_answers.Given as goal

@@ -1,9 +1,9 @@
 use Rattle.std.proofs.Common.{◌∙◌, Some, is_some, map, length, refl, ap}
 use Rattle.std.specs.List.{count_by}
 use Rattle.flat_model.specs.Machine.{replies}
-use Rattle.undo_journal.specs.Meaning.{command_of, reply_of}
+use Rattle.undo_journal.specs.CommandMeaning.{command_of, reply_of}
 use Rattle.replay_main.specs.Rehearsed.{answers_at_hand, is_refusal}
-use Rattle.sessions.specs.Meaning.{slots}
+use Rattle.sessions.specs.SessionMeaning.{slots}
 use Rattle.replay_main.specs.Script.{place_of}
 use Rattle.replay_main.proofs.Rehearsals.{rehearsed_is}
 use Rattle.replay_main.proofs.rehearsal.rehearsed.Goals as goal

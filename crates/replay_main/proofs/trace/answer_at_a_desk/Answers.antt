@@ -3,8 +3,8 @@ use Rattle.std.specs.List.{count_by}
 use Rattle.std.proofs.lemmas.List.{length-map}
 use Rattle.flat_model.specs.Machine.{new_machine, replies}
 use Rattle.flat_model.specs.Replies.{is_refused}
-use Rattle.undo_journal.specs.Meaning.{command_of}
-use Rattle.sessions.specs.Meaning.{slots}
+use Rattle.undo_journal.specs.CommandMeaning.{command_of}
+use Rattle.sessions.specs.SessionMeaning.{slots}
 use Rattle.replay_main.specs.Script.{answers_from, place_of}
 use Rattle.replay_main.proofs.Answered.{few_places, is_answered}
 use Rattle.replay_main.proofs.trace.answer_at_a_desk.Goals as goal

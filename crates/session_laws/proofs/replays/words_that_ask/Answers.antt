@@ -3,7 +3,7 @@ use Rattle.clap.specs.Words.{IsAmong, fault_of}
 use Rattle.clap.specs.declared.error.kind.ErrorKind.{ErrorKind}
 use Rattle.clap.specs.declared.error.kind.ErrorKind.TheVariants as kind
 use Rattle.clap.proofs.OnLiterals.{clap_on_literals}
-use Rattle.replay_main.specs.Asks.{HasFault, app, workers_in}
+use Rattle.replay_main.specs.ReplayArguments.{HasFault, app, workers_in}
 use Rattle.session_laws.proofs.replays.words_that_ask.Goals as goal
 
 alone : (k : ErrorKind) → IsAmong k (kind.DisplayHelp ∷ []) → k ≢ kind.DisplayHelp → ⊥

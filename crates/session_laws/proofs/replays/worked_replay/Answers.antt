@@ -4,7 +4,7 @@ use Rattle.flat_model.specs.Values.{number_fault}
 use Rattle.flat_model.specs.PathText.{name_fault, path_fault}
 use Rattle.flat_model.specs.Trace.{command_of_words, read_trace}
 use Rattle.flat_model_laws.proofs.ExamplesMachine.{answers_by_lists, refused_by_lists}
-use Rattle.sessions.specs.Meaning.{slots}
+use Rattle.sessions.specs.SessionMeaning.{slots}
 use Rattle.session_laws.proofs.replays.worked_replay.Goals as goal
 
 pub returns : goal.returns

@@ -1,7 +1,7 @@
 use Rattle.std.proofs.Common.{arith, ◌≡◌, ◌≢◌, ◌<◌, ◌≤◌, ◌∙◌, None, length, ap}
 use Rattle.flat_model.specs.Machine.{Machine}
-use Rattle.undo_journal.specs.Meaning.{command_of, reply_of}
-use Rattle.sessions.specs.Meaning.{slots}
+use Rattle.undo_journal.specs.CommandMeaning.{command_of, reply_of}
+use Rattle.sessions.specs.SessionMeaning.{slots}
 use Rattle.sessions.proofs.TakenBack.{left, answered, certain_at}
 use Rattle.sessions.proofs.step.apply_twice.Goals.{then-depth, else-depth}
 use Rattle.sessions.proofs.step.apply_twice.Goals as goal

@@ -1,7 +1,8 @@
 use Rattle.flat_model.specs.Trace.{read_trace}
-use Rattle.replay_main.specs.Points.{answers_on, point_after, start_point}
-use Rattle.shell_laws.proofs.Prefixes.{answers_cut}
+use Rattle.replay_main.specs.Points.{start_point}
+use Rattle.shell_main.specs.Forgetful.{after_by, answers_by}
+use Rattle.shell_laws.proofs.Prefixes.{output_cut}
 use Rattle.shell_laws.proofs.shells.whole_lines_come_first.Goals as goal
 
 pub returns : goal.returns
-returns c = λ lines more e. (answers_on (point_after start_point (read_trace lines)) (read_trace more), answers_cut lines more e)
+returns c = λ history lines more e. (answers_by history (after_by history start_point (read_trace lines)) (read_trace more), output_cut history lines more e)

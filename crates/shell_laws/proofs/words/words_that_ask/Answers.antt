@@ -27,12 +27,52 @@ returns-clause-help_alone c = λ h. alone h.0 h.1 h.2
 
 pub returns-clause-unknown : goal.returns-clause-unknown
 unfolding clap_on_literals
-returns-clause-unknown c = (kind.UnknownArgument, inl refl, λ e. cc)
+returns-clause-unknown c = (kind.UnknownArgument, inl refl, λ e. cc, λ e. cc)
 
 pub returns-clause-workers : goal.returns-clause-workers
 unfolding clap_on_literals
-returns-clause-workers c = (kind.UnknownArgument, inl refl, λ e. cc)
+returns-clause-workers c = (kind.UnknownArgument, inl refl, λ e. cc, λ e. cc)
 
-pub returns-clause-stray : goal.returns-clause-stray
+pub returns-clause-version : goal.returns-clause-version
 unfolding clap_on_literals
-returns-clause-stray c = (kind.UnknownArgument, inl refl, λ e. cc)
+returns-clause-version c = refl
+
+pub returns-clause-file : goal.returns-clause-file
+unfolding clap_on_literals
+returns-clause-file c = (refl, refl)
+
+pub returns-clause-no_file : goal.returns-clause-no_file
+unfolding clap_on_literals
+returns-clause-no_file c = refl
+
+pub returns-clause-strict : goal.returns-clause-strict
+unfolding clap_on_literals
+returns-clause-strict c = (refl, refl)
+
+pub returns-clause-lenient : goal.returns-clause-lenient
+unfolding clap_on_literals
+returns-clause-lenient c = refl
+
+pub returns-clause-second : goal.returns-clause-second
+unfolding clap_on_literals
+returns-clause-second c = (kind.UnknownArgument, inl refl, λ e. cc, λ e. cc)
+
+pub returns-clause-twice : goal.returns-clause-twice
+unfolding clap_on_literals
+returns-clause-twice c = (kind.ArgumentConflict, inl refl, λ e. cc, λ e. cc)
+
+pub returns-clause-no_undo : goal.returns-clause-no_undo
+unfolding clap_on_literals
+returns-clause-no_undo c = (refl, refl)
+
+pub returns-clause-history : goal.returns-clause-history
+unfolding clap_on_literals
+returns-clause-history c = refl
+
+pub returns-clause-all : goal.returns-clause-all
+unfolding clap_on_literals
+returns-clause-all c = (refl, refl, refl)
+
+pub returns-clause-again : goal.returns-clause-again
+unfolding clap_on_literals
+returns-clause-again c = (kind.ArgumentConflict, inl refl, λ e. cc, λ e. cc)

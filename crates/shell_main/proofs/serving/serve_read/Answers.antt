@@ -1,142 +1,115 @@
-use Rattle.std.proofs.Common.{◌≡◌, ◌∙◌, ◌+◌, ◌-◌, ◌++◌, ◌∷◌, ◌==◌, [], ℕ, List, false, Ok, Err, length, take, drop, sym, subst, append-nil, rules, ◌<◌}
-use Rattle.std.proofs.lemmas.List.{take_rest}
+use Rattle.std.proofs.Common.{◌≡◌, ◌∙◌, ◌++◌, ◌==◌, [], ℕ, List, false, true, Ok, Err, length, subst, rules, ◌<◌}
 use Rattle.flat_model.specs.Trace.{read_line}
-use Rattle.shell_main.specs.Talks.{Says, Stands}
-use Rattle.shell_main.proofs.Ends.{at_end, feed_ended, handed_on, keep_ended, last_ended, last_served}
-use Rattle.shell_main.proofs.Feeds.{at_feed, no_feed}
-use Rattle.shell_main.proofs.Standing.{kept, said}
+use Rattle.shell_main.specs.Talks.{Finishes, Stands}
+use Rattle.shell_main.proofs.Ends.{at_end, handed_on, last_ended, last_served, served, stop_ended}
+use Rattle.shell_main.proofs.Standing.{went_on}
 use Rattle.shell_main.proofs.serving.serve_read.Goals as goal
 
 -- ---- at the end of the source
 
-pub returns-in_err-say-clause-serves : goal.returns-in_err-say-clause-serves
-returns-in_err-say-clause-serves g c =
+pub returns-in_err-answer_last-clause-serves : goal.returns-in_err-answer_last-clause-serves
+returns-in_err-answer_last-clause-serves g c =
     let taken = g.W.Sink.taken in
     let left = g.S.Source.left in
-    let stands = c.requires.1.1.1.1.1 in
+    let failed = g.W.Sink.is_failed in
+    let flushed = g.W.Sink.is_flushed in
+    let how = c.args.options in
+    let read_failed = g.S.Source.is_failed c.next_chunk.new.reader in
+    let later = left c.next_chunk.new.reader in
+    let good : g.S.Source.is_failed c.args.reader.now ≡ false = search rules in
+    let mark : read_failed ≡ false = c.in-Ok.ensures.mark ∙ good in
+    let writer = c.args.writer.now in
     let now = c.args.talk.now in
     let line = c.args.line.now.items in
-    let fault = c.in_err-say.field-0.0 in
+    let stands : (lines : List ℕ) × Stands how g.start.0 (left c.args.reader.now) g.start.1 (taken writer) (failed writer) (flushed writer) now lines line [] = search rules in
     let room : 0 < length c.next_chunk.new.buf = search rules in
     let none : c.in-Ok.count ≡ 0 = search rules in
+    let end = at_end how g.start.0 (left c.args.reader.now) later g.start.1 (taken writer) (failed writer) (flushed writer) now stands.0 line c.next_chunk.new.buf c.in-Ok.count stands.1 c.in-Ok.ensures.bytes none room in
     let some : (length line == 0) ≡ false = search rules in
-    let end = at_end g.start.0 (left c.args.reader.now) (left c.next_chunk.new.reader) g.start.1 (taken c.args.writer.now) (g.W.Sink.is_failed c.args.writer.now) (g.W.Sink.is_flushed c.args.writer.now)
-    now stands.0 line c.next_chunk.new.buf c.in-Ok.count stands.1 c.in-Ok.ensures.bytes none room in
-    let P : List ℕ → Type 0 = λ x. Says now (read_line x) (taken c.args.writer.now) (g.W.Sink.is_flushed c.args.writer.now) (taken c.say.new.writer) (g.W.Sink.is_failed c.say.new.writer)
-    (g.W.Sink.is_flushed c.say.new.writer) (Err fault) c.say.new.talk in
-    handed_on c.from_residual.result fault g.start.0 (left c.next_chunk.new.reader) g.start.1 (taken c.say.new.writer) (g.S.Source.is_failed c.next_chunk.new.reader) (g.W.Sink.is_failed c.say.new.writer)
-    (g.W.Sink.is_flushed c.say.new.writer) c.say.new.talk line c.from_residual.ensures.1
-    (last_ended fault g.start.0 (left c.next_chunk.new.reader) g.start.1 (taken c.args.writer.now) (taken c.say.new.writer) (g.S.Source.is_failed c.next_chunk.new.reader)
-    (g.W.Sink.is_failed c.args.writer.now) (g.W.Sink.is_failed c.say.new.writer) (g.W.Sink.is_flushed c.args.writer.now) (g.W.Sink.is_flushed c.say.new.writer) now c.say.new.talk stands.0 line
-    end.0 end.1 some (c.in-Ok.ensures.mark ∙ c.requires.1.1.1.1.0) (subst P c.as_slice-then-not-is_empty.ensures.value c.in_err-say.ensures))
+    let fault = c.in_err-answer_last.field-0.0 in
+    let after = c.answer_last.new.writer in
+    let new = c.answer_last.new.talk in
+    let P : List ℕ → Type 0 = λ x. Finishes how now (read_line x) (taken writer) (taken after) (failed after) (flushed after) (Err fault) new in
+    handed_on c.from_residual.result fault how g.start.0 later g.start.1 (taken after) read_failed (failed after) (flushed after) new line c.from_residual.ensures.1
+    (last_ended fault how g.start.0 later g.start.1 (taken writer) (taken after) read_failed (failed writer) (failed after) (flushed writer) (flushed after) now new stands.0 line
+    end.0 end.1 some mark (subst P c.as_slice-then-not-is_empty.ensures.value c.in_err-answer_last.ensures))
 
-pub returns-in_ok-say-clause-serves : goal.returns-in_ok-say-clause-serves
-returns-in_ok-say-clause-serves g c =
+pub returns-in_ok-answer_last-clause-serves : goal.returns-in_ok-answer_last-clause-serves
+returns-in_ok-answer_last-clause-serves g c =
     let taken = g.W.Sink.taken in
     let left = g.S.Source.left in
-    let stands = c.requires.1.1.1.1.1 in
+    let failed = g.W.Sink.is_failed in
+    let flushed = g.W.Sink.is_flushed in
+    let how = c.args.options in
+    let read_failed = g.S.Source.is_failed c.next_chunk.new.reader in
+    let later = left c.next_chunk.new.reader in
+    let good : g.S.Source.is_failed c.args.reader.now ≡ false = search rules in
+    let mark : read_failed ≡ false = c.in-Ok.ensures.mark ∙ good in
+    let writer = c.args.writer.now in
     let now = c.args.talk.now in
     let line = c.args.line.now.items in
+    let stands : (lines : List ℕ) × Stands how g.start.0 (left c.args.reader.now) g.start.1 (taken writer) (failed writer) (flushed writer) now lines line [] = search rules in
     let room : 0 < length c.next_chunk.new.buf = search rules in
     let none : c.in-Ok.count ≡ 0 = search rules in
+    let end = at_end how g.start.0 (left c.args.reader.now) later g.start.1 (taken writer) (failed writer) (flushed writer) now stands.0 line c.next_chunk.new.buf c.in-Ok.count stands.1 c.in-Ok.ensures.bytes none room in
     let some : (length line == 0) ≡ false = search rules in
-    let end = at_end g.start.0 (left c.args.reader.now) (left c.next_chunk.new.reader) g.start.1 (taken c.args.writer.now) (g.W.Sink.is_failed c.args.writer.now) (g.W.Sink.is_flushed c.args.writer.now)
-    now stands.0 line c.next_chunk.new.buf c.in-Ok.count stands.1 c.in-Ok.ensures.bytes none room in
-    let P : List ℕ → Type 0 = λ x. Says now (read_line x) (taken c.args.writer.now) (g.W.Sink.is_flushed c.args.writer.now) (taken c.say.new.writer) (g.W.Sink.is_failed c.say.new.writer)
-    (g.W.Sink.is_flushed c.say.new.writer) (Ok tt) c.say.new.talk in
-    last_served g.start.0 (left c.next_chunk.new.reader) g.start.1 (taken c.args.writer.now) (taken c.say.new.writer) (g.S.Source.is_failed c.next_chunk.new.reader)
-    (g.W.Sink.is_failed c.args.writer.now) (g.W.Sink.is_failed c.say.new.writer) (g.W.Sink.is_flushed c.args.writer.now) (g.W.Sink.is_flushed c.say.new.writer) now c.say.new.talk stands.0 line tt
-    end.0 end.1 some (c.in-Ok.ensures.mark ∙ c.requires.1.1.1.1.0) (subst P c.as_slice-then-not-is_empty.ensures.value c.in_ok-say.ensures)
+    let after = c.answer_last.new.writer in
+    let new = c.answer_last.new.talk in
+    let P : List ℕ → Type 0 = λ x. Finishes how now (read_line x) (taken writer) (taken after) (failed after) (flushed after) (Ok tt) new in
+    last_served how g.start.0 later g.start.1 (taken writer) (taken after) read_failed (failed writer) (failed after) (flushed writer) (flushed after) now new stands.0 line tt
+    end.0 end.1 some mark (subst P c.as_slice-then-not-is_empty.ensures.value c.in_ok-answer_last.ensures)
 
--- ---- from line to line
-
-pub returns-in_err-keep-clause-serves : goal.returns-in_err-keep-clause-serves
-returns-in_err-keep-clause-serves g c =
+pub returns-else-not-is_empty-clause-serves : goal.returns-else-not-is_empty-clause-serves
+returns-else-not-is_empty-clause-serves g c =
     let taken = g.W.Sink.taken in
     let left = g.S.Source.left in
-    let inv = c.loop-end.invariant in
-    let rest = c.loop-end.rest.now in
-    let end = c.in-Some.end in
-    let feed = at_feed rest end (sym c.in-Some.is ∙ c.line_end.ensures) in
-    let fault = c.in_err-keep.field-0.0 in
-    let P : List ℕ → Type 0 = λ x. Stands g.start.0 (left c.next_chunk.new.reader) g.start.1 (taken c.loop-end.writer) (g.W.Sink.is_failed c.loop-end.writer) (g.W.Sink.is_flushed c.loop-end.writer)
-    c.loop-end.talk inv.0 c.loop-end.line.items x in
-    handed_on c.from_residual-in_err-keep.result fault g.start.0 (left c.next_chunk.new.reader) g.start.1 (taken c.loop-end.writer) (g.S.Source.is_failed c.next_chunk.new.reader) (g.W.Sink.is_failed c.loop-end.writer)
-    (g.W.Sink.is_flushed c.loop-end.writer) c.loop-end.talk c.keep.new.line.items c.from_residual-in_err-keep.ensures.1
-    (keep_ended fault g.start.0 (left c.next_chunk.new.reader) g.start.1 (taken c.loop-end.writer) (g.S.Source.is_failed c.next_chunk.new.reader) (g.W.Sink.is_failed c.loop-end.writer) (g.W.Sink.is_flushed c.loop-end.writer)
-    c.loop-end.talk inv.0 c.loop-end.line.items (take end rest) (0x0A ∷ drop (end + 1) rest) c.keep.new.line.items (subst P feed.0 inv.1) feed.1 (c.in-Ok.ensures.mark ∙ c.requires.1.1.1.1.0) c.in_err-keep.ensures)
+    let failed = g.W.Sink.is_failed in
+    let flushed = g.W.Sink.is_flushed in
+    let how = c.args.options in
+    let read_failed = g.S.Source.is_failed c.next_chunk.new.reader in
+    let later = left c.next_chunk.new.reader in
+    let good : g.S.Source.is_failed c.args.reader.now ≡ false = search rules in
+    let mark : read_failed ≡ false = c.in-Ok.ensures.mark ∙ good in
+    let writer = c.args.writer.now in
+    let now = c.args.talk.now in
+    let line = c.args.line.now.items in
+    let stands : (lines : List ℕ) × Stands how g.start.0 (left c.args.reader.now) g.start.1 (taken writer) (failed writer) (flushed writer) now lines line [] = search rules in
+    let room : 0 < length c.next_chunk.new.buf = search rules in
+    let none : c.in-Ok.count ≡ 0 = search rules in
+    let end = at_end how g.start.0 (left c.args.reader.now) later g.start.1 (taken writer) (failed writer) (flushed writer) now stands.0 line c.next_chunk.new.buf c.in-Ok.count stands.1 c.in-Ok.ensures.bytes none room in
+    let empty : (length line == 0) ≡ true = search rules in
+    served how g.start.0 later g.start.1 (taken writer) read_failed (failed writer) (flushed writer) now stands.0 line end.0 end.1 empty mark
 
-pub returns-in_err-say-2-clause-serves : goal.returns-in_err-say-2-clause-serves
-returns-in_err-say-2-clause-serves g c =
+-- ---- from part to part of what was read
+
+pub returns-in_err-rest-clause-serves : goal.returns-in_err-rest-clause-serves
+returns-in_err-rest-clause-serves g c =
     let taken = g.W.Sink.taken in
     let left = g.S.Source.left in
-    let inv = c.loop-end.invariant in
-    let rest = c.loop-end.rest.now in
-    let end = c.in-Some.end in
-    let feed = at_feed rest end (sym c.in-Some.is ∙ c.line_end.ensures) in
-    let fault = c.in_err-say-2.field-0.0 in
-    let line = c.keep.new.line.items in
-    let now = c.loop-end.talk in
-    let P : List ℕ → Type 0 = λ x. Stands g.start.0 (left c.next_chunk.new.reader) g.start.1 (taken c.loop-end.writer) (g.W.Sink.is_failed c.loop-end.writer) (g.W.Sink.is_flushed c.loop-end.writer)
-    now inv.0 c.loop-end.line.items x in
-    let stands = kept g.start.0 (left c.next_chunk.new.reader) g.start.1 (taken c.loop-end.writer) (g.W.Sink.is_failed c.loop-end.writer) (g.W.Sink.is_flushed c.loop-end.writer)
-    now inv.0 c.loop-end.line.items (take end rest) (0x0A ∷ drop (end + 1) rest) line (subst P feed.0 inv.1) feed.1 c.in_ok-keep.ensures in
-    let Q : List ℕ → Type 0 = λ x. Says now (read_line x) (taken c.loop-end.writer) (g.W.Sink.is_flushed c.loop-end.writer) (taken c.say-in-Some.new.writer) (g.W.Sink.is_failed c.say-in-Some.new.writer)
-    (g.W.Sink.is_flushed c.say-in-Some.new.writer) (Err fault) c.say-in-Some.new.talk in
-    handed_on c.from_residual-in_err-say-2.result fault g.start.0 (left c.next_chunk.new.reader) g.start.1 (taken c.say-in-Some.new.writer) (g.S.Source.is_failed c.next_chunk.new.reader) (g.W.Sink.is_failed c.say-in-Some.new.writer)
-    (g.W.Sink.is_flushed c.say-in-Some.new.writer) c.say-in-Some.new.talk line c.from_residual-in_err-say-2.ensures.1
-    (feed_ended fault g.start.0 (left c.next_chunk.new.reader) g.start.1 (taken c.loop-end.writer) (taken c.say-in-Some.new.writer) (g.S.Source.is_failed c.next_chunk.new.reader)
-    (g.W.Sink.is_failed c.loop-end.writer) (g.W.Sink.is_failed c.say-in-Some.new.writer) (g.W.Sink.is_flushed c.loop-end.writer) (g.W.Sink.is_flushed c.say-in-Some.new.writer)
-    now c.say-in-Some.new.talk inv.0 line (drop (end + 1) rest) stands (c.in-Ok.ensures.mark ∙ c.requires.1.1.1.1.0) (subst Q c.as_slice-in-Some.ensures.value c.in_err-say-2.ensures))
+    let failed = g.W.Sink.is_failed in
+    let flushed = g.W.Sink.is_flushed in
+    let how = c.args.options in
+    let read_failed = g.S.Source.is_failed c.next_chunk.new.reader in
+    let later = left c.next_chunk.new.reader in
+    let good : g.S.Source.is_failed c.args.reader.now ≡ false = search rules in
+    let mark : read_failed ≡ false = c.in-Ok.ensures.mark ∙ good in
+    let inv = c.more.invariant in
+    let fault = c.in_err-rest.field-0.0 in
+    let after = c.answer_some.new.writer in
+    let new = c.answer_some.new.talk in
+    handed_on c.from_residual-in_err-rest.result fault how g.start.0 later g.start.1 (taken after) read_failed (failed after) (flushed after) new c.answer_some.new.line.items c.from_residual-in_err-rest.ensures.1
+    (stop_ended fault how g.start.0 later g.start.1 (taken c.more.writer) (taken after) read_failed (failed c.more.writer) (failed after) (flushed c.more.writer) (flushed after)
+    c.more.talk inv.0 c.more.line.items c.more.rest.now inv.1 c.in_err-rest.ensures.err mark)
 
-pub loop-end-preserved : goal.loop-end-preserved
-loop-end-preserved g c =
+pub more-preserved : goal.more-preserved
+more-preserved g c =
     let taken = g.W.Sink.taken in
-    let left = g.S.Source.left in
-    let inv = c.loop-end.invariant in
-    let rest = c.loop-end.rest.now in
-    let end = c.in-Some.end in
-    let feed = at_feed rest end (sym c.in-Some.is ∙ c.line_end.ensures) in
-    let line = c.keep.new.line.items in
-    let now = c.loop-end.talk in
-    let P : List ℕ → Type 0 = λ x. Stands g.start.0 (left c.next_chunk.new.reader) g.start.1 (taken c.loop-end.writer) (g.W.Sink.is_failed c.loop-end.writer) (g.W.Sink.is_flushed c.loop-end.writer)
-    now inv.0 c.loop-end.line.items x in
-    let stands = kept g.start.0 (left c.next_chunk.new.reader) g.start.1 (taken c.loop-end.writer) (g.W.Sink.is_failed c.loop-end.writer) (g.W.Sink.is_flushed c.loop-end.writer)
-    now inv.0 c.loop-end.line.items (take end rest) (0x0A ∷ drop (end + 1) rest) line (subst P feed.0 inv.1) feed.1 c.in_ok-keep.ensures in
-    let Q : List ℕ → Type 0 = λ x. Says now (read_line x) (taken c.loop-end.writer) (g.W.Sink.is_flushed c.loop-end.writer) (taken c.say-in-Some.new.writer) (g.W.Sink.is_failed c.say-in-Some.new.writer)
-    (g.W.Sink.is_flushed c.say-in-Some.new.writer) (Ok tt) c.say-in-Some.new.talk in
-    let next = said g.start.0 (left c.next_chunk.new.reader) g.start.1 (taken c.loop-end.writer) (taken c.say-in-Some.new.writer)
-    (g.W.Sink.is_failed c.loop-end.writer) (g.W.Sink.is_failed c.say-in-Some.new.writer) (g.W.Sink.is_flushed c.loop-end.writer) (g.W.Sink.is_flushed c.say-in-Some.new.writer)
-    now c.say-in-Some.new.talk inv.0 line (drop (end + 1) rest) tt stands (subst Q c.as_slice-in-Some.ensures.value c.in_ok-say-2.ensures) in
-    let R : List ℕ → List ℕ → Type 0 = λ x y. Stands g.start.0 (left c.next_chunk.new.reader) g.start.1 (taken c.say-in-Some.new.writer) (g.W.Sink.is_failed c.say-in-Some.new.writer) (g.W.Sink.is_flushed c.say-in-Some.new.writer)
-    c.say-in-Some.new.talk (inv.0 ++ (line ++ 0x0A ∷ [])) x y in
-    (inv.0 ++ (line ++ 0x0A ∷ []), subst (λ x. R x (take (length rest - (end + 1)) (drop (end + 1) rest))) (sym c.clear.ensures.items) (subst (λ y. R [] y) (sym (take_rest rest (end + 1))) next))
-
--- ---- what is left of the bytes that came
-
-pub returns-in_err-keep-2-clause-serves : goal.returns-in_err-keep-2-clause-serves
-returns-in_err-keep-2-clause-serves g c =
-    let taken = g.W.Sink.taken in
-    let left = g.S.Source.left in
-    let inv = c.loop-end.invariant in
-    let rest = c.loop-end.rest.now in
-    let fault = c.in_err-keep-2.field-0.0 in
-    let P : List ℕ → Type 0 = λ x. Stands g.start.0 (left c.next_chunk.new.reader) g.start.1 (taken c.loop-end.writer) (g.W.Sink.is_failed c.loop-end.writer) (g.W.Sink.is_flushed c.loop-end.writer)
-    c.loop-end.talk inv.0 c.loop-end.line.items x in
-    handed_on c.from_residual-in_err-keep-2.result fault g.start.0 (left c.next_chunk.new.reader) g.start.1 (taken c.loop-end.writer) (g.S.Source.is_failed c.next_chunk.new.reader) (g.W.Sink.is_failed c.loop-end.writer)
-    (g.W.Sink.is_flushed c.loop-end.writer) c.loop-end.talk c.keep-2.new.line.items c.from_residual-in_err-keep-2.ensures.1
-    (keep_ended fault g.start.0 (left c.next_chunk.new.reader) g.start.1 (taken c.loop-end.writer) (g.S.Source.is_failed c.next_chunk.new.reader) (g.W.Sink.is_failed c.loop-end.writer) (g.W.Sink.is_flushed c.loop-end.writer)
-    c.loop-end.talk inv.0 c.loop-end.line.items rest [] c.keep-2.new.line.items (subst P (sym (append-nil rest)) inv.1) (no_feed rest (sym c.in_default-line_end.is ∙ c.line_end.ensures)) (c.in-Ok.ensures.mark ∙ c.requires.1.1.1.1.0) c.in_err-keep-2.ensures)
-
-pub returns-clause-serves : goal.returns-clause-serves
-returns-clause-serves g c =
-    let taken = g.W.Sink.taken in
-    let left = g.S.Source.left in
-    let inv = c.loop-end.invariant in
-    let rest = c.loop-end.rest.now in
-    let P : List ℕ → Type 0 = λ x. Stands g.start.0 (left c.next_chunk.new.reader) g.start.1 (taken c.loop-end.writer) (g.W.Sink.is_failed c.loop-end.writer) (g.W.Sink.is_flushed c.loop-end.writer)
-    c.loop-end.talk inv.0 c.loop-end.line.items x in (
-      inv.0,
-      kept g.start.0 (left c.next_chunk.new.reader) g.start.1 (taken c.loop-end.writer) (g.W.Sink.is_failed c.loop-end.writer) (g.W.Sink.is_flushed c.loop-end.writer)
-          c.loop-end.talk inv.0 c.loop-end.line.items rest [] c.keep-2.new.line.items (subst P (sym (append-nil rest)) inv.1) (no_feed rest (sym c.in_default-line_end.is ∙ c.line_end.ensures)) c.in_ok-keep-2.ensures,
+    let failed = g.W.Sink.is_failed in
+    let flushed = g.W.Sink.is_flushed in
+    let inv = c.more.invariant in
+    let after = c.answer_some.new.writer in
+    let went = c.in_ok-rest.ensures.ok in (
+      inv.0 ++ went.answered.text,
+      went_on c.args.options g.start.0 (g.S.Source.left c.next_chunk.new.reader) g.start.1 (taken c.more.writer) (taken after) (failed c.more.writer) (failed after) (flushed c.more.writer) (flushed after)
+          c.more.talk c.answer_some.new.talk inv.0 c.more.line.items c.more.rest.now c.answer_some.new.line.items c.in_ok-rest.rest.now inv.1 went,
     )

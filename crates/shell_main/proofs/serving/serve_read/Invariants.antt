@@ -5,9 +5,9 @@ use Rattle.shell_main.proofs.serving.serve_read.Given as goal
 abbrev pub ghost-next_chunk : goal.ghost-next_chunk
 ghost-next_chunk g a = g.start
 
-abbrev pub invariant-loop-end : goal.invariant-loop-end
-invariant-loop-end g l =
-    (lines : List ℕ) × Stands g.start.0 (g.S.Source.left l.reader) g.start.1 (g.W.Sink.taken l.writer) (g.W.Sink.is_failed l.writer) (g.W.Sink.is_flushed l.writer) l.talk lines l.line.items l.rest
+abbrev pub invariant-more : goal.invariant-more
+invariant-more g l =
+    (lines : List ℕ) × Stands l.options g.start.0 (g.S.Source.left l.reader) g.start.1 (g.W.Sink.taken l.writer) (g.W.Sink.is_failed l.writer) (g.W.Sink.is_flushed l.writer) l.talk lines l.line.items l.rest
 
-abbrev pub decreases-loop-end : goal.decreases-loop-end
-decreases-loop-end g l = length l.rest
+abbrev pub decreases-more : goal.decreases-more
+decreases-more g l = length l.rest

@@ -1,4 +1,4 @@
-use Rattle.snzi_core.specs.State.{start}
+use Rattle.snzi_core.specs.CoreState.{start}
 use Rattle.snzi_core.proofs.Keeps.{runs_core}
 use Rattle.snzi_core.proofs.Start.{start_core, odd_nodes}
 use Rattle.snzi_core.proofs.laws.lists_keep.Goals as goal

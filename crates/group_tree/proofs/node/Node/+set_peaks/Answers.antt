@@ -1,5 +1,5 @@
 use Rattle.std.proofs.Common.{rules, arith, refl, ◌∙◌}
-use Rattle.group_tree.specs.Peaks.{peaked_by}
+use Rattle.group_tree.specs.PeaksAlong.{peaked_by}
 use Rattle.group_tree.proofs.Copies.{child_at_smaller}
 use Rattle.group_tree.proofs.Changed.{child_changes, changes_at, changes_down, changes_none, changed_node}
 use Rattle.group_tree.proofs.PeaksSet.{split_peaks, peaked_along}

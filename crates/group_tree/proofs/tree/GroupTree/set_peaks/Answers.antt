@@ -1,4 +1,4 @@
-use Rattle.group_tree.specs.Peaks.{peaked_by}
+use Rattle.group_tree.specs.PeaksAlong.{peaked_by}
 use Rattle.group_tree.proofs.Changed.{closed_changes}
 use Rattle.group_tree.proofs.tree.GroupTree.set_peaks.Goals as goal
 

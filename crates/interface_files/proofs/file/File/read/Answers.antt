@@ -1,5 +1,5 @@
 use Rattle.std.proofs.Common.{◌∙◌, ap, option_map}
-use Rattle.interface_files.specs.Meaning.{file_of}
+use Rattle.interface_files.specs.FileMeaning.{file_of}
 use Rattle.interface_files.proofs.Names.{file_is}
 use Rattle.interface_files.proofs.file.File.read.Goals as goal
 

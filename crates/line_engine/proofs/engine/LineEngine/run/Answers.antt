@@ -1,8 +1,8 @@
 use Rattle.std.proofs.Common.{◌∙◌, sym, ap, subst, rules}
 use Rattle.flat_model.specs.Machine.{Machine}
 use Rattle.flat_model.specs.Replies.{reply_bytes}
-use Rattle.undo_journal.specs.Meaning.{command_of}
-use Rattle.line_engine.specs.Answers.{AnswersRun}
+use Rattle.undo_journal.specs.CommandMeaning.{command_of}
+use Rattle.line_engine.specs.LineAnswers.{AnswersRun}
 use Rattle.line_engine.specs.Ready.{ready_reply}
 use Rattle.line_engine.proofs.Runs.{by_reply, certain_back}
 use Rattle.line_engine.proofs.engine.LineEngine.run.Goals as goal

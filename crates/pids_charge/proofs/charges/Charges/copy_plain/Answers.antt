@@ -9,13 +9,18 @@ use Rattle.pids_charge.specs.Recount.{IsPlaced, SlotsBelow, HasSlots, Recounted,
 use Rattle.pids_charge.specs.Table.{table_at, table_held}
 use Rattle.pids_charge.specs.declared.plain.TheConstants.{SLOTS, LEAVES}
 use Rattle.pids_charge.proofs.Charged.{held_small}
+use Rattle.pids_charge.proofs.TableSlots.{one_home}
 use Rattle.pids_charge.proofs.Copied.{same_state, recounted}
 use Rattle.pids_charge.proofs.charges.Charges.copy_plain.Goals as goal
+
+pub copy_each-requires-clause-one : goal.copy_each-requires-clause-one
+copy_each-requires-clause-one g c =
+    one_home g.M.Meter.SLOTS c.self.inside.tree c.self.inside.free.items c.self.invariant.has_slots g.M.Meter.LEAVES c.self.inside.processes c.self.invariant.recounted.placed
 
 pub copy_each-requires-clause-homes : goal.copy_each-requires-clause-homes
 copy_each-requires-clause-homes g c =
     All-weaker (λ p. IsPlaced g.M.Meter.LEAVES c.self.inside.tree p) (λ p. IsSome (fin.get c.in_ok-tree.tree p.home)) (λ p h. subst (λ (t : Groups). IsSome (fin.get t p.home)) (sym c.in_ok-tree.ensures) h.home)
-    (values_of c.self.inside.processes.entries) c.self.invariant.recounted.placed
+    (values_of c.self.inside.processes) c.self.invariant.recounted.placed
 
 pub copy_each-requires-clause-slots : goal.copy_each-requires-clause-slots
 copy_each-requires-clause-slots g c =
@@ -27,7 +32,7 @@ copy_each-requires-clause-room g c =
 
 pub invariant_of-result : goal.invariant_of-result
 invariant_of-result g c =
-    let es = c.self.inside.processes.entries in
+    let es = c.self.inside.processes in
     let tree = c.in_ok-tree.tree in
     let content : Content = g.M.Meter.content c.self.inside.meter in
     let held : ℕ = g.M.Meter.held c.self.inside.meter in
@@ -48,5 +53,5 @@ invariant_of-result g c =
 pub returns : goal.returns
 returns g c =
     ap (state_of c.in_ok-tree.tree) c.in_ok-processes.ensures.rows
-    ∙ same_state g.row.B.Denot LEAVES c.in_ok-tree.tree c.self.inside.processes.entries
-    ∙ ap (λ (t : Groups). state_of t c.self.inside.processes.entries) c.in_ok-tree.ensures ∙ c.self.view_is
+    ∙ same_state g.row.B.Denot LEAVES c.in_ok-tree.tree c.self.inside.processes
+    ∙ ap (λ (t : Groups). state_of t c.self.inside.processes) c.in_ok-tree.ensures ∙ c.self.view_is

@@ -9,11 +9,11 @@ use Rattle.pids_charge.proofs.charges.Charges.descendants.Goals as goal
 
 pub returns-clause-some : goal.returns-clause-some
 returns-clause-some g c =
-    matched c.descendants.result (fin.get c.self.inside.tree c.args.path.now) _ c.descendants.ensures.counted ∙ sym (group-is c.args.self.now c.self.inside.tree c.self.inside.processes.entries c.self.view_is c.args.path.now)
+    matched c.descendants.result (fin.get c.self.inside.tree c.args.path.now) _ c.descendants.ensures.counted ∙ sym (group-is c.args.self.now c.self.inside.tree c.self.inside.processes c.self.view_is c.args.path.now)
 
 pub returns-clause-count : goal.returns-clause-count
 returns-clause-count g c =
     let whole = c.self.invariant.has_slots.whole in
     let exact = c.descendants.ensures.exact (omega (arith, whole, c.self.invariant.has_slots.few)) in
-    let same = c.known.ensures.flat.counts (state_of c.self.inside.tree c.self.inside.processes.entries).home c.args.path.now in
+    let same = c.known.ensures.flat.counts (state_of c.self.inside.tree c.self.inside.processes).home c.args.path.now in
     subst (λ (k : ℕ). IfSome c.descendants.result (λ n. n ≡ k)) (sym same ∙ ap (λ (t : State). flat.descendant_count t c.args.path.now) c.self.view_is) exact

@@ -16,17 +16,17 @@ pub returns-in_default-clause-first : goal.returns-in_default-clause-first
 returns-in_default-clause-first g c =
     let s : State = c.args.self.now in
     let long : 0 < length c.args.path.now = omega arith in
-    let gone = group-gone s c.self.inside.tree c.self.inside.processes.entries c.self.view_is c.args.path.now c.in_default.ensures.found in
+    let gone = group-gone s c.self.inside.tree c.self.inside.processes c.self.view_is c.args.path.now c.in_default.ensures.found in
     remove_no_group g.M.Meter.SLOTS s c.args.path.now c.depth-depth.result long gone c.depth-depth.ensures
 
 pub returns-then-below-gt0-clause-first : goal.returns-then-below-gt0-clause-first
 returns-then-below-gt0-clause-first g c =
     let s : State = c.args.self.now in
     let long : 0 < length c.args.path.now = omega arith in
-    let there = group-here s c.self.inside.tree c.self.inside.processes.entries c.self.view_is c.args.path.now c.in-Some.attr.now c.in-Some.ensures.found in
+    let there = group-here s c.self.inside.tree c.self.inside.processes c.self.view_is c.args.path.now c.in-Some.attr.now c.in-Some.ensures.found in
     let whole = c.self.invariant.has_slots.whole in
     let exact = c.in-Some.ensures.exact (omega (arith, whole, c.self.invariant.has_slots.few)) in
-    let number = below-is s c.self.inside.tree c.self.inside.processes.entries c.self.view_is c.args.path.now c.known.ensures.flat c.in-Some.below exact in
+    let number = below-is s c.self.inside.tree c.self.inside.processes c.self.view_is c.args.path.now c.known.ensures.flat c.in-Some.below exact in
     let some : ltb 0 (descendant_count s c.args.path.now) ≡ true = grind (arith, nat_tests, c.if-below-gt0.true, number) in
     remove_children g.M.Meter.SLOTS s c.args.path.now long there (any-count (λ q. strictly_below q c.args.path.now) (fin.keys s.groups) ∙ some)
 
@@ -34,38 +34,38 @@ pub returns-then-populated-clause-first : goal.returns-then-populated-clause-fir
 returns-then-populated-clause-first g c =
     let s : State = c.args.self.now in
     let long : 0 < length c.args.path.now = omega arith in
-    let there = group-here s c.self.inside.tree c.self.inside.processes.entries c.self.view_is c.args.path.now c.in-Some.attr.now c.in-Some.ensures.found in
+    let there = group-here s c.self.inside.tree c.self.inside.processes c.self.view_is c.args.path.now c.in-Some.attr.now c.in-Some.ensures.found in
     let whole = c.self.invariant.has_slots.whole in
     let exact = c.in-Some.ensures.exact (omega (arith, whole, c.self.invariant.has_slots.few)) in
-    let number = below-is s c.self.inside.tree c.self.inside.processes.entries c.self.view_is c.args.path.now c.known.ensures.flat c.in-Some.below exact in
+    let number = below-is s c.self.inside.tree c.self.inside.processes c.self.view_is c.args.path.now c.known.ensures.flat c.in-Some.below exact in
     let zero : ltb 0 (descendant_count s c.args.path.now) ≡ false = grind (arith, nat_tests, c.if-below-gt0.false, number) in
     let none = any-count (λ q. strictly_below q c.args.path.now) (fin.keys s.groups) ∙ zero in
     let none_here = ap (λ (t : State). list_any (λ q. strictly_below q c.args.path.now) (fin.keys t.groups)) c.self.view_is ∙ none in
     let found : IsSome (fin.get c.self.inside.tree c.args.path.now) = subst IsSome c.in-Some.ensures.found refl in
     let told = is_positive c.populated.result _ _ c.populated.ensures.answer (
     ap (λ (k : ℕ). over_leaves g.M.Meter.LEAVES (g.M.Meter.content c.self.inside.meter k)) (ap slot_of c.in-Some.ensures.found)
-    ∙ current-is g.M.Meter.SLOTS g.M.Meter.LEAVES c.self.inside.tree c.self.inside.processes.entries (g.M.Meter.content c.self.inside.meter) (g.M.Meter.held c.self.inside.meter) c.self.invariant.recounted c.self.inside.free.items c.self.invariant.has_slots c.known.ensures.prefixes c.args.path.now long found
+    ∙ current-is g.M.Meter.SLOTS g.M.Meter.LEAVES c.self.inside.tree c.self.inside.processes (g.M.Meter.content c.self.inside.meter) (g.M.Meter.held c.self.inside.meter) c.self.invariant.recounted c.self.inside.free.items c.self.invariant.has_slots c.known.ensures.prefixes c.args.path.now long found
     ∙ ap (λ (t : State). current t c.args.path.now) c.self.view_is) in
     let here = ap (λ (t : State). list_any (λ q. same_path q c.args.path.now) (fin.values t.home)) (sym c.self.view_is)
-    ∙ processes-are g.M.Meter.LEAVES c.self.inside.tree c.self.inside.processes.entries (g.M.Meter.content c.self.inside.meter) (g.M.Meter.held c.self.inside.meter) c.self.invariant.recounted c.args.path.now c.known.ensures.flat none_here ∙ ap (λ (t : State). populated t c.args.path.now) c.self.view_is in
+    ∙ processes-are g.M.Meter.LEAVES c.self.inside.tree c.self.inside.processes (g.M.Meter.content c.self.inside.meter) (g.M.Meter.held c.self.inside.meter) c.self.invariant.recounted c.args.path.now c.known.ensures.flat none_here ∙ ap (λ (t : State). populated t c.args.path.now) c.self.view_is in
     remove_processes g.M.Meter.SLOTS s c.args.path.now long there none (here ∙ sym told ∙ c.if-populated.true)
 
 pub returns-clause-first : goal.returns-clause-first
 returns-clause-first g c =
     let s : State = c.args.self.now in
     let long : 0 < length c.args.path.now = omega arith in
-    let there = group-here s c.self.inside.tree c.self.inside.processes.entries c.self.view_is c.args.path.now c.in-Some.attr.now c.in-Some.ensures.found in
+    let there = group-here s c.self.inside.tree c.self.inside.processes c.self.view_is c.args.path.now c.in-Some.attr.now c.in-Some.ensures.found in
     let whole = c.self.invariant.has_slots.whole in
     let exact = c.in-Some.ensures.exact (omega (arith, whole, c.self.invariant.has_slots.few)) in
-    let number = below-is s c.self.inside.tree c.self.inside.processes.entries c.self.view_is c.args.path.now c.known.ensures.flat c.in-Some.below exact in
+    let number = below-is s c.self.inside.tree c.self.inside.processes c.self.view_is c.args.path.now c.known.ensures.flat c.in-Some.below exact in
     let zero : ltb 0 (descendant_count s c.args.path.now) ≡ false = grind (arith, nat_tests, c.if-below-gt0.false, number) in
     let none = any-count (λ q. strictly_below q c.args.path.now) (fin.keys s.groups) ∙ zero in
     let none_here = ap (λ (t : State). list_any (λ q. strictly_below q c.args.path.now) (fin.keys t.groups)) c.self.view_is ∙ none in
     let found : IsSome (fin.get c.self.inside.tree c.args.path.now) = subst IsSome c.in-Some.ensures.found refl in
     let told = is_positive c.populated.result _ _ c.populated.ensures.answer (
     ap (λ (k : ℕ). over_leaves g.M.Meter.LEAVES (g.M.Meter.content c.self.inside.meter k)) (ap slot_of c.in-Some.ensures.found)
-    ∙ current-is g.M.Meter.SLOTS g.M.Meter.LEAVES c.self.inside.tree c.self.inside.processes.entries (g.M.Meter.content c.self.inside.meter) (g.M.Meter.held c.self.inside.meter) c.self.invariant.recounted c.self.inside.free.items c.self.invariant.has_slots c.known.ensures.prefixes c.args.path.now long found
+    ∙ current-is g.M.Meter.SLOTS g.M.Meter.LEAVES c.self.inside.tree c.self.inside.processes (g.M.Meter.content c.self.inside.meter) (g.M.Meter.held c.self.inside.meter) c.self.invariant.recounted c.self.inside.free.items c.self.invariant.has_slots c.known.ensures.prefixes c.args.path.now long found
     ∙ ap (λ (t : State). current t c.args.path.now) c.self.view_is) in
     let here = ap (λ (t : State). list_any (λ q. same_path q c.args.path.now) (fin.values t.home)) (sym c.self.view_is)
-    ∙ processes-are g.M.Meter.LEAVES c.self.inside.tree c.self.inside.processes.entries (g.M.Meter.content c.self.inside.meter) (g.M.Meter.held c.self.inside.meter) c.self.invariant.recounted c.args.path.now c.known.ensures.flat none_here ∙ ap (λ (t : State). populated t c.args.path.now) c.self.view_is in
+    ∙ processes-are g.M.Meter.LEAVES c.self.inside.tree c.self.inside.processes (g.M.Meter.content c.self.inside.meter) (g.M.Meter.held c.self.inside.meter) c.self.invariant.recounted c.args.path.now c.known.ensures.flat none_here ∙ ap (λ (t : State). populated t c.args.path.now) c.self.view_is in
     remove_allowed g.M.Meter.SLOTS s c.args.path.now long there none (here ∙ sym told ∙ c.if-populated.false)

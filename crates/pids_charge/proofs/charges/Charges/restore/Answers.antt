@@ -11,11 +11,11 @@ use Rattle.pids_charge.proofs.charges.Charges.restore.Goals as goal
 
 pub overflow_sub-last : goal.overflow_sub-last
 overflow_sub-last g c =
-    omega (arith, c.self.invariant.has_slots.whole, len-is c.self.inside.tree c.self.inside.processes.entries c.args.self.now c.self.view_is, c.requires.slot, c.len-last.ensures)
+    omega (arith, c.self.invariant.has_slots.whole, len-is c.self.inside.tree c.self.inside.processes c.args.self.now c.self.view_is, c.requires.slot, c.len-last.ensures)
 
 pub index-slot-requires : goal.index-slot-requires
 index-slot-requires g c =
-    omega (arith, c.self.invariant.has_slots.whole, len-is c.self.inside.tree c.self.inside.processes.entries c.args.self.now c.self.view_is, c.requires.slot, c.len-last.ensures)
+    omega (arith, c.self.invariant.has_slots.whole, len-is c.self.inside.tree c.self.inside.processes c.args.self.now c.self.view_is, c.requires.slot, c.len-last.ensures)
 
 pub invariant_of-self-2 : goal.invariant_of-self-2
 invariant_of-self-2 g c =
@@ -23,7 +23,7 @@ invariant_of-self-2 g c =
     let free : List ℕ = c.self.inside.free.items in
     let x : Attr = record { limits = c.args.attr.limits; local = c.args.attr.local; total = c.args.attr.total; peak = c.args.attr.peak; slot = c.index-slot.result.now } in
     let done = inserted c.self.inside.tree c.insert-made.new.self c.args.path.now x c.insert-made.result c.insert-made.ensures (sym c.is_err.ensures.value ∙ c.if-is_err.false) in
-    let pos : 0 < length free = omega (arith, h.whole, len-is c.self.inside.tree c.self.inside.processes.entries c.args.self.now c.self.view_is, c.requires.slot) in
+    let pos : 0 < length free = omega (arith, h.whole, len-is c.self.inside.tree c.self.inside.processes c.args.self.now c.self.view_is, c.requires.slot) in
     let many : c.len-last.result ≡ length free = omega (arith, c.len-last.ensures) in
     let now : ℕ = c.index-slot.result.now in
     let split : free ≡ take (length free - 1) free ++ x.slot ∷ [] =
@@ -34,7 +34,7 @@ invariant_of-self-2 g c =
     record {
       has_slots = subst (λ (t : Groups). HasSlots g.M.Meter.SLOTS t c.truncate.new.self.items) (sym done.1) (subst (λ (f : List ℕ). HasSlots g.M.Meter.SLOTS (fin.insert c.self.inside.tree c.args.path.now x) f) (sym gone) made);
       room = omega (arith, c.self.invariant.room, c.truncate.ensures.capacity);
-      recounted = grown_tree g.M.Meter.LEAVES c.self.inside.tree c.self.inside.processes.entries (g.M.Meter.content c.self.inside.meter) (g.M.Meter.held c.self.inside.meter) c.self.invariant.recounted c.insert-made.new.self
+      recounted = grown_tree g.M.Meter.LEAVES c.self.inside.tree c.self.inside.processes (g.M.Meter.content c.self.inside.meter) (g.M.Meter.held c.self.inside.meter) c.self.invariant.recounted c.insert-made.new.self
           (λ q i. ap (λ (t : Groups). fin.get t q) done.1 ∙ kept c.self.inside.tree c.args.path.now x done.0 q i) c.known-2.ensures.prefixes;
     }
 
@@ -42,4 +42,4 @@ pub returns-clause-restored : goal.returns-clause-restored
 returns-clause-restored g c =
     let x : Attr = record { limits = c.args.attr.limits; local = c.args.attr.local; total = c.args.attr.total; peak = c.args.attr.peak; slot = c.index-slot.result.now } in
     let done = inserted c.self.inside.tree c.insert-made.new.self c.args.path.now x c.insert-made.result c.insert-made.ensures (sym c.is_err.ensures.value ∙ c.if-is_err.false) in
-    written-is c.args.self.now c.self.inside.tree c.self.inside.processes.entries c.self.view_is c.insert-made.new.self c.args.path.now x done.1
+    written-is c.args.self.now c.self.inside.tree c.self.inside.processes c.self.view_is c.insert-made.new.self c.args.path.now x done.1

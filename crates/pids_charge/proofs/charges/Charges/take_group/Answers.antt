@@ -16,8 +16,8 @@ pub unreachable-requires : goal.unreachable-requires
 unreachable-requires g c =
     let may = remove_may g.M.Meter.SLOTS c.args.self.now c.args.path.now c.requires in
     not_refused c.self.inside.tree c.remove.new.self c.args.path.now c.in_default.field-0 c.in_default.ensures may.below_root
-    (is_group_there c.args.self.now c.self.inside.tree c.self.inside.processes.entries c.self.view_is c.args.path.now may)
-    (has_below c.args.self.now c.self.inside.tree c.self.inside.processes.entries c.self.view_is c.args.path.now c.known.ensures.flat may)
+    (is_group_there c.args.self.now c.self.inside.tree c.self.inside.processes c.self.view_is c.args.path.now may)
+    (has_below c.args.self.now c.self.inside.tree c.self.inside.processes c.self.view_is c.args.path.now c.known.ensures.flat may)
 
 pub unreachable-requires-in_default-push : goal.unreachable-requires-in_default-push
 unreachable-requires-in_default-push g c =
@@ -40,7 +40,7 @@ invariant_of-self g c =
     let closed = subst IsClosed made c.known-2.ensures.closed in
     let free : List ℕ = c.self.inside.free.items in
     let slots : HasSlots g.M.Meter.SLOTS (fin.remove tree c.args.path.now) (free ++ c.in-Ok.attr.slot ∷ []) = freed g.M.Meter.SLOTS tree free c.self.invariant.has_slots c.args.path.now c.in-Ok.attr pos here closed in
-    let es = c.self.inside.processes.entries in
+    let es = c.self.inside.processes in
     let same = nobody g.M.Meter.SLOTS tree free c.self.invariant.has_slots c.args.path.now c.in-Ok.attr pos here g.M.Meter.LEAVES es (g.M.Meter.content c.self.inside.meter) (g.M.Meter.held c.self.inside.meter) c.self.invariant.recounted c.known.ensures.flat
     (subst (λ (t : State). MayGo t c.args.path.now) (sym c.self.view_is) may) in
     record {
@@ -51,10 +51,10 @@ invariant_of-self g c =
 
 pub returns-clause-state : goal.returns-clause-state
 returns-clause-state g c =
-    let es = c.self.inside.processes.entries in
+    let es = c.self.inside.processes in
     ap (λ (t : Groups). state_of t es) c.in-Ok.ensures.3
     ∙ ap (λ m. record (state_of c.self.inside.tree es) { groups = m }) (map_values-remove group_of path_cmp-IsTotalOrder path_cmp-IsAntisymmetric c.self.inside.tree c.args.path.now)
     ∙ ap (λ (t : State). after t (RemoveGroup c.args.path.now)) c.self.view_is
 
 pub returns-clause-attr : goal.returns-clause-attr
-returns-clause-attr g c = sym (group-at c.args.self.now c.self.inside.tree c.self.inside.processes.entries c.self.view_is c.args.path.now c.in-Ok.attr c.in-Ok.ensures.1)
+returns-clause-attr g c = sym (group-at c.args.self.now c.self.inside.tree c.self.inside.processes c.self.view_is c.args.path.now c.in-Ok.attr c.in-Ok.ensures.1)

@@ -11,11 +11,11 @@ pub invariant_of-self : goal.invariant_of-self
 invariant_of-self g c = record {
   has_slots = slots_stay c.self.inside.tree c.uncount_refusal.new.tree c.uncount_refusal.ensures.slots g.M.Meter.SLOTS c.self.inside.free.items c.self.invariant.has_slots;
   room = c.self.invariant.room;
-  recounted = charges_stay c.self.inside.tree c.uncount_refusal.new.tree c.uncount_refusal.ensures.slots g.M.Meter.LEAVES c.self.inside.processes.entries (g.M.Meter.content c.self.inside.meter) (g.M.Meter.held c.self.inside.meter) c.self.invariant.recounted;
+  recounted = charges_stay c.self.inside.tree c.uncount_refusal.new.tree c.uncount_refusal.ensures.slots g.M.Meter.LEAVES c.self.inside.processes (g.M.Meter.content c.self.inside.meter) (g.M.Meter.held c.self.inside.meter) c.self.invariant.recounted;
 }
 
 pub returns : goal.returns
 returns g c =
     let whole : take c.depth.result c.args.path.now ≡ c.args.path.now = ap (λ n. take n c.args.path.now) c.depth.ensures ∙ take-length c.args.path.now in
-    let s : State = state_of c.self.inside.tree c.self.inside.processes.entries in
+    let s : State = state_of c.self.inside.tree c.self.inside.processes in
     c.uncount_refusal.ensures.counted s.home ∙ ap (λ p. at_each (count_down p) s) whole ∙ ap (λ (t : State). back (Counted c.args.path.now) t) c.self.view_is

@@ -1,8 +1,8 @@
 use Rattle.std.proofs.Common.{rules, ◌≡◌, ◌∙◌, sym, ap}
 use Rattle.flat_model.specs.Log.{Entry}
 use Rattle.flat_model.specs.Machine.{tick}
-use Rattle.undo_journal.specs.Meaning.{command_of}
-use Rattle.sessions.specs.Meaning.{slots, known, answer_of}
+use Rattle.undo_journal.specs.CommandMeaning.{command_of}
+use Rattle.sessions.specs.SessionMeaning.{slots, known, answer_of}
 use Rattle.sessions.proofs.Legal.{longer}
 use Rattle.sessions.proofs.book.Book.record.Goals as goal
 

@@ -1,7 +1,7 @@
 use Rattle.std.proofs.Common.{ℕ, ◌-◌, ◌^◌, ◌<◌, sym, subst}
 use Rattle.snzi_core.specs.declared.holding.Holding.{Holding}
 use Rattle.snzi_core.specs.Holding.{tokens_at, gain, lose}
-use Rattle.snzi_core.specs.State.{State}
+use Rattle.snzi_core.specs.CoreState.{State}
 use Rattle.snzi_core.specs.Kept.{IsCore}
 use Rattle.snzi_core.proofs.Stepped.{closing, found, found_tables}
 use Rattle.snzi_core.proofs.machine.Core.ascend.Goals as goal

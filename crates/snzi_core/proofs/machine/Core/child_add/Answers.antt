@@ -1,5 +1,5 @@
 use Rattle.std.proofs.Common.{◌≡◌, ℕ, true, false, sym, ap, ◌∙◌, subst}
-use Rattle.snzi_core.specs.State.{node_of, parent_of}
+use Rattle.snzi_core.specs.CoreState.{node_of, parent_of}
 use Rattle.snzi_core.specs.Lawful.{is_zero}
 use Rattle.snzi_core.specs.Kept.{IsCore}
 use Rattle.snzi_core.proofs.Ready.{Arrives, Descends, ready_first, ready_child}

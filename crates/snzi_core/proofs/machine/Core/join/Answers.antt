@@ -2,7 +2,7 @@ use Rattle.std.proofs.Common.{◌≡◌, true, false, List, length, get_or, set,
 use Rattle.snzi_core.specs.declared.holding.Holding.{Holding}
 use Rattle.snzi_core.specs.declared.holding.Role.TheVariants.{Spent}
 use Rattle.snzi_core.specs.Holding.{empty, rejoined}
-use Rattle.snzi_core.specs.State.{State, hand_of}
+use Rattle.snzi_core.specs.CoreState.{State, hand_of}
 use Rattle.snzi_core.specs.Lawful.{helps, overflows, some_word}
 use Rattle.snzi_core.specs.Kept.{IsCore}
 use Rattle.snzi_core.proofs.Joining.{helper_tables, main_tables, join_core, whole}

@@ -1,5 +1,5 @@
 use Rattle.std.proofs.Common.{take}
-use Rattle.snzi_core.specs.State.{SameShape}
+use Rattle.snzi_core.specs.CoreState.{SameShape}
 use Rattle.snzi_core.specs.Effect.{Runs}
 use Rattle.snzi_core.proofs.machine.Core.replay.Given as goal
 

@@ -1,7 +1,7 @@
 use Rattle.std.proofs.Common.{◌≡◌, List, length, arith, sym, ap, ◌∙◌, subst}
 use Rattle.snzi_core.specs.declared.holding.Holding.{Holding}
 use Rattle.snzi_core.specs.Holding.{tokens_at}
-use Rattle.snzi_core.specs.State.{State}
+use Rattle.snzi_core.specs.CoreState.{State}
 use Rattle.snzi_core.specs.Kept.{IsCore}
 use Rattle.snzi_core.proofs.Stepped.{found}
 use Rattle.snzi_core.proofs.Joining.{first_tables}

@@ -1,4 +1,4 @@
-use Rattle.undo_journal.specs.Meaning.{command_of}
+use Rattle.undo_journal.specs.CommandMeaning.{command_of}
 use Rattle.undo_journal.proofs.Undone.{keeps_history}
 use Rattle.undo_journal.proofs.engine.Engine.apply_gated.Goals as goal
 

@@ -18,8 +18,8 @@ use Rattle.undo_journal.proofs.Answering.{parent_there, answers_by}
 use Rattle.undo_journal.proofs.engine.Engine.count_fork.Goals as goal
 use Rattle.undo_journal.proofs.engine.Engine.count_fork.Goals.{In_ok-push}
 
-pub home_copy-requires : goal.home_copy-requires
-home_copy-requires g c = parent_there g.M.Meter.SLOTS c.args.self.now.state c.args.parent c.args.child _ c.requires.refused
+pub front_of_home-requires : goal.front_of_home-requires
+front_of_home-requires g c = parent_there g.M.Meter.SLOTS c.args.self.now.state c.args.parent c.args.child _ c.requires.refused
 
 pub count_fork-requires-clause-parent : goal.count_fork-requires-clause-parent
 count_fork-requires-clause-parent g c = subst (λ (m : Machine). has_process m.state c.args.parent ≡ true) (sym c.self.view_is) (parent_there g.M.Meter.SLOTS c.args.self.now.state c.args.parent c.args.child _ c.requires.refused)
@@ -41,8 +41,8 @@ limiting g c = take c.args.n (home_of c.self.inside.charges c.args.parent)
 refused : (g : _) (c : In_ok-push g) → refusal g.M.Meter.SLOTS c.self.inside.charges (model.Fork c.args.parent c.args.child) ≡ Some (model.OverPidsMax (limiting g c))
 refused g c = subst (λ (m : Machine). refusal g.M.Meter.SLOTS m.state (model.Fork c.args.parent c.args.child) ≡ Some (model.OverPidsMax (take c.args.n (home_of m.state c.args.parent)))) (sym c.self.view_is) c.requires.refused
 
-cut_is : (g : _) (c : In_ok-push g) → c.cut.new.self ≡ limiting g c
-cut_is g c = c.cut.ensures ∙ ap (take c.args.n) (c.in_ok-limiting.ensures ∙ ap (λ (m : Machine). home_of m.state c.args.parent) (sym c.self.view_is))
+limiting_is : (g : _) (c : In_ok-push g) → c.in_ok-limiting.limiting ≡ limiting g c
+limiting_is g c = c.in_ok-limiting.ensures ∙ ap (λ (m : Machine). take c.args.n (home_of m.state c.args.parent)) (sym c.self.view_is)
 
 abbrev entry : (g : _) (c : In_ok-push g) → Entry g.row.A.Denot
 entry g c = record { command = Fork c.args.parent c.args.child; inverse = Counted c.in_ok-counted.counted }
@@ -51,7 +51,7 @@ journal_is : (g : _) (c : In_ok-push g) → c.push.new.self.items ≡ c.self.ins
 journal_is g c = c.in_ok-push.ensures.items ∙ ap (λ js. js ++ entry g c ∷ []) c.reserve.ensures.items
 
 entry_is : (g : _) (c : In_ok-push g) → ◌≡◌ {A = model.Command × model_inverse.Inverse} (journal_entry (entry g c)) (model.Fork c.args.parent c.args.child, model_inverse.Counted (limiting g c))
-entry_is g c = λ i. (model.Fork c.args.parent c.args.child, model_inverse.Counted ((c.in_ok-counted.ensures ∙ cut_is g c) i))
+entry_is g c = λ i. (model.Fork c.args.parent c.args.child, model_inverse.Counted ((c.in_ok-counted.ensures ∙ limiting_is g c) i))
 
 pub invariant_of-self-2 : goal.invariant_of-self-2
 invariant_of-self-2 g c =
@@ -64,8 +64,8 @@ returns-clause-ok g c =
     let s = c.self.inside.charges in
     let command = model.Fork c.args.parent c.args.child in
     let over = Some (model.OverPidsMax (limiting g c)) in
-    subst (λ (m : Machine). Answers {A = g.row.A.Denot} g.M.Meter.SLOTS m command (Refused (PidsMax c.cut.new.self)) (machine_of c.count_fork.new.self c.push.new.self.items)) c.self.view_is
-    (answers_by g.M.Meter.SLOTS (machine_of s c.self.inside.journal.items) command over (Refused (PidsMax c.cut.new.self)) (machine_of c.count_fork.new.self c.push.new.self.items) refl (refused g c)
+    subst (λ (m : Machine). Answers {A = g.row.A.Denot} g.M.Meter.SLOTS m command (Refused (PidsMax c.in_ok-limiting.limiting)) (machine_of c.count_fork.new.self c.push.new.self.items)) c.self.view_is
+    (answers_by g.M.Meter.SLOTS (machine_of s c.self.inside.journal.items) command over (Refused (PidsMax c.in_ok-limiting.limiting)) (machine_of c.count_fork.new.self c.push.new.self.items) refl (refused g c)
     ((λ i. machine_of c.count_fork.new.self (journal_is g c i))
     ∙ recorded_is g.M.Meter.SLOTS s c.count_fork.new.self c.self.inside.journal.items (entry g c) command (model_inverse.Counted (limiting g c)) over (entry_is g c) (refused g c) refl c.count_fork.ensures)
-    (λ i. Some (model.Refused (model.OverPidsMax (cut_is g c i)))))
+    (λ i. Some (model.Refused (model.OverPidsMax (limiting_is g c i)))))

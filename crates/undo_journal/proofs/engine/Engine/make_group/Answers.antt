@@ -2,7 +2,7 @@ use Rattle.std.proofs.Common.{◌≡◌, Some, refl, sym, ◌∙◌, subst}
 use Rattle.flat_model.specs.Command as model
 use Rattle.flat_model.specs.Machine.{Machine}
 use Rattle.flat_model.specs.Step.{refusal}
-use Rattle.undo_journal.specs.Meaning.{refusal_of}
+use Rattle.undo_journal.specs.CommandMeaning.{refusal_of}
 use Rattle.undo_journal.proofs.Answering.{refused_answers}
 use Rattle.undo_journal.proofs.engine.Engine.make_group.Goals as goal
 

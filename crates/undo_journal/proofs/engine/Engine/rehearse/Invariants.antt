@@ -1,6 +1,6 @@
 use Rattle.std.proofs.Common.{◌≡◌, ◌++◌, Some, map, drop}
 use Rattle.flat_model.specs.Machine.{replies}
-use Rattle.undo_journal.specs.Meaning.{command_of, reply_of}
+use Rattle.undo_journal.specs.CommandMeaning.{command_of, reply_of}
 use Rattle.pids_charge.specs.declared.plain.TheConstants.{SLOTS}
 use Rattle.undo_journal.proofs.engine.Engine.rehearse.Given as goal
 

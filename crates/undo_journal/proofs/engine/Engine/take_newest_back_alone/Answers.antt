@@ -5,7 +5,7 @@ use Rattle.flat_model.specs.Inverse.{back}
 use Rattle.undo_journal.specs.Answer.{Answers, undoes_without_memory}
 use Rattle.undo_journal.specs.declared.reply.Reply.TheVariants.{NothingToUndo}
 use Rattle.flat_model.specs.State.{State}
-use Rattle.undo_journal.specs.Meaning.{inverse_of}
+use Rattle.undo_journal.specs.CommandMeaning.{inverse_of}
 use Rattle.undo_journal.specs.History.{machine_of, records, IsHistory}
 use Rattle.undo_journal.specs.declared.journal.Entry.{Entry}
 use Rattle.undo_journal.proofs.Undos.{on_err, empty_of, nothing_undone, snoc_of, popped, read_through, last_ready, needs_none, undone_is, reply_is, undone_history}

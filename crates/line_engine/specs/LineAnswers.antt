@@ -1,0 +1,49 @@
+-- What answering a line returns and leaves.
+use Rattle.std.specs.Prelude.{◌≡◌, ℕ, Bool, true, false, List}
+use Rattle.flat_model.specs.Command.{Command}
+use Rattle.flat_model.specs.Machine.{Machine, tick}
+use Rattle.flat_model.specs.Replies.{reply_bytes, fault_bytes}
+use Rattle.flat_model.specs.Trace.{TextFault, Line, Skip, Run, Fault}
+use Rattle.pids_charge.specs.declared.plain.TheConstants.{SLOTS}
+use Rattle.undo_journal.specs.Headline.{KeepsHistory}
+use Rattle.line_engine.specs.Buffer.{Holds, LacksRoom}
+use Rattle.line_engine.specs.FaultCodes.{reply_code, fault_code}
+use Rattle.line_engine.specs.declared.answer.Answer.{Answer}
+use Rattle.line_engine.specs.declared.answer.Answer.TheVariants.{Skipped, Answered, TooSmall, OutOfMemory}
+
+-- the number of groups besides the root: as many as a plain meter has slots
+abbrev pub slots : ℕ
+slots = SLOTS
+
+abbrev pub is_told : Answer → Bool
+is_told Skipped = false
+is_told (Answered len code) = true
+is_told (TooSmall needed) = false
+is_told OutOfMemory = false
+
+-- the first len bytes of the buffer are the output for the n-th line, which is not a command; or the output is longer than the buffer
+abbrev pub AnswersFault : ℕ → TextFault → List ℕ → Answer → Type 0
+AnswersFault n f out Skipped = ⊥
+AnswersFault n f out (Answered len code) = Holds out len (fault_bytes n f) × (code ≡ fault_code f)
+AnswersFault n f out (TooSmall needed) = LacksRoom out needed (fault_bytes n f)
+AnswersFault n f out OutOfMemory = Unit {0}
+
+-- the machine has run the command as the n-th, the first len bytes of the buffer are its output, and this is its code
+pub record Ran (m : Machine) (n : ℕ) (c : Command) (out : List ℕ) (len code : ℕ) (next : Machine) : Type 0 where
+  pub goes : next ≡ (tick slots m c).0
+  pub answered : Holds out len (reply_bytes n (tick slots m c).1)
+  pub code_is : code ≡ reply_code (tick slots m c).1
+  -- what was recorded can be undone, one command or a whole run, and the counts are exact
+  pub history : KeepsHistory slots m c next
+
+-- the command has run so; or the machine is unchanged, because the output is longer than the buffer or when out of memory
+abbrev pub AnswersRun : Machine → ℕ → Command → List ℕ → Answer → Machine → Type 0
+AnswersRun m n c out Skipped next = ⊥
+AnswersRun m n c out (Answered len code) next = Ran m n c out len code next
+AnswersRun m n c out (TooSmall needed) next = (next ≡ m) × LacksRoom out needed (reply_bytes n (tick slots m c).1)
+AnswersRun m n c out OutOfMemory next = next ≡ m
+
+abbrev pub AnswersLine : Machine → ℕ → Line → List ℕ → Answer → Machine → Type 0
+AnswersLine m n Skip out a next = (next ≡ m) × (a ≡ Skipped)
+AnswersLine m n (Fault f) out a next = (next ≡ m) × AnswersFault n f out a
+AnswersLine m n (Run c) out a next = AnswersRun m n c out a next

@@ -1,0 +1,144 @@
+//! The table of processes, by `Pid`s.
+
+ghost use Rattle.std.specs.Prelude.{◌≡◌, None, Some, is_some, IfOk, IsSome, OnOk, OnErr};
+ghost use Rattle.std.specs.BTreeMap.{insert_entry, is_at};
+ghost use Rattle.std.specs.List.Sorted.{IsStrictlySortedBy};
+ghost use Rattle.std.specs.Map.{keys_of, lookup, remove_entry};
+ghost use Rattle.std.specs.Option.{option_copied};
+ghost use Rattle.std.specs.Ordering.{nat_cmp};
+ghost use Rattle.flat_model.specs.CommandText.{IsPid};
+ghost use Rattle.process_table.specs.declared.process.Process.{Process};
+ghost use Rattle.pids_charge.specs.Lists.{process_in};
+
+use crate::pid::Pid;
+use group_path::GroupPath;
+use process_table::{Process, ProcessTable};
+use std::alloc::{AllocError, Allocator};
+
+// The process with this pid.
+pub(crate) fn find_row<A: Allocator + Clone>(
+    processes: &ProcessTable<A>,
+    pid: Pid,
+) -> Option<&Process<A>>
+    ensures { option_copied result ≡ lookup (is_at (nat_cmp pid)) processes.now }
+{
+    processes.get(pid.get())
+}
+
+// Whether a process has this pid.
+pub(crate) fn has_row<A: Allocator + Clone>(processes: &ProcessTable<A>, pid: Pid) -> bool
+    ensures { result ≡ is_some (lookup (is_at (nat_cmp pid)) processes.now) }
+{
+    processes.has(pid.get())
+}
+
+// Inserts a process, and returns the one that had this pid, if any.
+pub(crate) fn put_row<A: Allocator + Clone>(
+    processes: &mut ProcessTable<A>,
+    pid: Pid,
+    process: Process<A>,
+) -> Result<Option<Process<A>>, AllocError>
+    ensures old { IfOk result (λ old. old ≡ lookup (is_at (nat_cmp pid)) processes.old) }
+    ensures entries { OnOk result (processes.new ≡ insert_entry nat_cmp processes.old pid process) }
+    ensures found { OnOk result (lookup (is_at (nat_cmp pid)) processes.new ≡ Some process) }
+    ensures ordered { IsStrictlySortedBy nat_cmp (keys_of processes.new) }
+    ensures kept { OnErr result (processes.new ≡ processes.old) }
+    ensures pid { IsPid pid }
+{
+    let number = pid.get();
+    processes.insert(number, process)
+}
+
+// The group of one of the processes in a slot, if there is one.
+fn home_of_slot<A: Allocator + Clone>(
+    processes: &ProcessTable<A>,
+    slot: u16,
+) -> Option<&GroupPath<A>> {
+    match processes.unordered(slot).first() {
+        None => None,
+        Some(pid) => match processes.get(*pid) {
+            None => None,
+            Some(process) => Some(&process.home),
+        },
+    }
+}
+
+// The path for a process that comes into a slot. Processes of a slot are in one group, so a long text is copied for the
+// first of them, and the others share it. It costs a comparison of the two texts, which also proves that they are equal.
+pub(crate) fn home_in<A: Allocator + Clone, B: Allocator + Clone>(
+    processes: &ProcessTable<A>,
+    alloc: &A,
+    path: &GroupPath<B>,
+    slot: u16,
+) -> Result<GroupPath<A>, AllocError>
+    ensures { IfOk result (λ home. home ≡ path.now) }
+{
+    if !path.is_short() {
+        if let Some(home) = home_of_slot(processes, slot) {
+            if home.is_same(path) {
+                return home.share();
+            }
+        }
+    }
+    path.copy(alloc.clone()?)
+}
+
+// The same with a path from another allocator.
+pub(crate) fn put_copy<A: Allocator + Clone, B: Allocator + Clone>(
+    processes: &mut ProcessTable<A>,
+    alloc: &A,
+    pid: Pid,
+    path: &GroupPath<B>,
+    slot: u16,
+    leaf: u8,
+) -> Result<Option<Process<A>>, AllocError>
+    ensures old { IfOk result (λ old. old ≡ lookup (is_at (nat_cmp pid)) processes.old) }
+    ensures entries { OnOk result (processes.new ≡ insert_entry nat_cmp processes.old pid (process_in path.now slot leaf)) }
+    ensures ordered { IsStrictlySortedBy nat_cmp (keys_of processes.new) }
+    ensures kept { OnErr result (processes.new ≡ processes.old) }
+    ensures pid { IsPid pid }
+{
+    pid.get();
+    processes.known();
+    let home = home_in(processes, alloc, path, slot)?;
+    put_row(processes, pid, Process { home, slot, leaf })
+}
+
+// Inserts a process into the group and the slot of another one. They share the text of a long path.
+pub(crate) fn put_beside<A: Allocator + Clone>(
+    processes: &mut ProcessTable<A>,
+    parent: Pid,
+    pid: Pid,
+    leaf: u8,
+) -> Result<(), AllocError>
+    requires { IsSome (lookup (is_at (nat_cmp parent)) processes.old) }
+    ensures entries { OnOk result ((from : Process A) → lookup (is_at (nat_cmp parent)) processes.old ≡ Some from → processes.new ≡ insert_entry nat_cmp processes.old pid (process_in from.home from.slot leaf)) }
+    ensures found { OnOk result ((from : Process A) → lookup (is_at (nat_cmp parent)) processes.old ≡ Some from → lookup (is_at (nat_cmp pid)) processes.new ≡ Some (process_in from.home from.slot leaf)) }
+    ensures ordered { IsStrictlySortedBy nat_cmp (keys_of processes.new) }
+    ensures kept { OnErr result (processes.new ≡ processes.old) }
+    ensures pid { IsPid pid }
+{
+    processes.known();
+    pid.get();
+    let Some(from) = find_row(processes, parent) else {
+        unreachable!()
+    };
+    let slot = from.slot;
+    let home = from.home.share()?;
+    let _ = put_row(processes, pid, Process { home, slot, leaf })?;
+    Ok(())
+}
+
+// Removes a process and returns it.
+pub(crate) fn take_row<A: Allocator + Clone>(
+    processes: &mut ProcessTable<A>,
+    pid: Pid,
+) -> Option<Process<A>>
+    ensures value { result ≡ lookup (is_at (nat_cmp pid)) processes.old }
+    ensures entries { processes.new ≡ remove_entry (is_at (nat_cmp pid)) processes.old }
+    ensures unchanged { result ≡ None → processes.new ≡ processes.old }
+    ensures ordered { IsStrictlySortedBy nat_cmp (keys_of processes.new) }
+{
+    let number = pid.get();
+    processes.take(number)
+}

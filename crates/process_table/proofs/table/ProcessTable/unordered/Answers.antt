@@ -1,0 +1,15 @@
+use Rattle.std.proofs.Common.{ℕ, List, eqb, count_by, ap, ◌∙◌}
+use Rattle.process_table.specs.Cells.{cell_at}
+use Rattle.process_table.specs.SlotPids.{list_at}
+use Rattle.process_table.proofs.Gathered.{member_counted}
+use Rattle.process_table.proofs.Tables.{listed_now, each_found}
+use Rattle.process_table.proofs.table.ProcessTable.unordered.Goals as goal
+
+pub returns-clause-present : goal.returns-clause-present
+returns-clause-present g c =
+    each_found c.self.inside.pages c.self.inside.slots c.self.invariant c.args.self.now c.self.view_is c.args.slot c.pids.result.now (c.pids.ensures ∙ ap (list_at c.self.inside.slots) c.from.ensures)
+
+pub returns-clause-sorted : goal.returns-clause-sorted
+returns-clause-sorted g c = λ pids moved up.
+    listed_now c.self.inside.pages c.self.inside.slots c.self.invariant c.args.self.now c.self.view_is (λ e. eqb e.1.slot c.args.slot) c.pids.result.now pids moved up
+    (λ q. ap (count_by (eqb q)) (c.pids.ensures ∙ ap (list_at c.self.inside.slots) c.from.ensures) ∙ c.self.invariant.counted c.args.slot q ∙ member_counted c.args.slot q (cell_at c.self.inside.pages q))
