@@ -235,4 +235,4 @@ def test_the_program_starts_programs(tmp_path):
     for words in (["nothing"], ["broken"], ["../hello", "x"], [""], ["a/b"], ["x" * 5000], ["--wrong"], [], ["mount"]):
         status, out, error = start(*words)
         assert (status, out, error.count("\n")) == (2, "", 1) and len(error) < 5200, (words, status, error)
-    assert "'nothing' is no command" in start("nothing")[2]
+    assert "'nothing' is not a command" in start("nothing")[2]

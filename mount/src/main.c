@@ -14,32 +14,32 @@ static const char help[] =
 	"makhloeum tree DIR [--watch]\n"
 	"makhloeum check DIR\n"
 	"\n"
-	"mount lays a hierarchy of process groups over the directory DIR, as a cgroup2 file system looks. A process is a\n"
-	"number there. It returns once the mount is there; fusermount3 -u DIR, or the end of its process, takes it away.\n"
-	"run lays one over /sys/fs/cgroup in namespaces of its own and runs PROGRAM there: it sees a cgroup2 file system,\n"
-	"and its processes are those of the hierarchy. What it leaves behind ends with it. No privilege is needed.\n"
+	"mount shows a hierarchy of process groups on the directory DIR, as a cgroup2 file system. A process is only a number\n"
+	"there. It returns once the mount is in place. fusermount3 -u DIR unmounts it; so does killing the server.\n"
+	"run mounts a hierarchy on /sys/fs/cgroup in its own namespaces and runs PROGRAM there. PROGRAM sees a cgroup2 file\n"
+	"system with its own processes. When it ends, the processes that it left behind are killed. No privileges are needed.\n"
 	"view makes a page of a run from its trace. tree shows the groups of a directory. check compares a directory with the\n"
-	"engine. They are programs of their own: makhloeum NAME starts makhloeum-NAME.\n"
+	"engine. These three are separate programs: makhloeum NAME starts makhloeum-NAME.\n"
 	"\n"
-	"  --trace FILE    keep each line that was asked, with its time: `cgreplay < FILE` gives the same answers\n"
-	"  --answers FILE  keep these answers\n"
-	"  --extra         files that clients look for and the hierarchy does not have (run: always). cgroup.freeze freezes;\n"
-	"                  the others are constants: cgroup.controllers and cgroup.subtree_control `pids`, cgroup.type\n"
+	"  --trace FILE    write each line that the engine gets to FILE, with its time: `cgreplay < FILE` gives the same answers\n"
+	"  --answers FILE  write these answers to FILE\n"
+	"  --extra         add files that clients look for and the engine does not have (run always has them). cgroup.freeze\n"
+	"                  freezes; the others are constant: cgroup.controllers and cgroup.subtree_control `pids`, cgroup.type\n"
 	"                  `domain`, cpu.stat all 0. A write of the current value succeeds; any other is EOPNOTSUPP.\n"
-	"  --keep LIST     nothing is limited by these controllers (memory, cpu, io, cpuset, with commas between): their files\n"
-	"                  check a value as the kernel does, keep it and give it back, and their counters are 0. Then\n"
-	"                  cgroup.subtree_control turns controllers on and off, pids too. With the files of --extra\n"
-	"  --adopt         a process that is written to cgroup.procs is a real one: it exits when it dies, its children are\n"
-	"                  forked, cgroup.kill kills it\n"
-	"  --control       keep a history, and list the directory .makhloeum: undo (written: undoes the newest command, or as\n"
-	"                  many as the number), depth, newest, trace, fork (PARENT CHILD), exit (PID). Without this option a\n"
-	"                  mount has fork and exit alone, a run has no such directory, and neither keeps a history\n"
+	"  --keep LIST     add the files of these controllers (memory, cpu, io, cpuset, with commas between), and of --extra.\n"
+	"                  They check a value as the kernel does, store it and return it, but limit nothing; their counters\n"
+	"                  are 0. cgroup.subtree_control then turns controllers on and off, pids too\n"
+	"  --adopt         each process that is written to cgroup.procs is a real one: the hierarchy follows its exit and its\n"
+	"                  children, and cgroup.kill kills it\n"
+	"  --control       keep a history, and list the directory .makhloeum: undo (an empty line undoes the newest command, a\n"
+	"                  number so many), forget, depth, newest, trace, fork (PARENT CHILD), exit (PID). Without this option\n"
+	"                  a mount has only fork and exit, a run has no such directory, and neither keeps a history\n"
 	"  --foreground    mount stays in the foreground\n"
 	"  --root          PROGRAM sees itself as the superuser\n"
-	"  --users         PROGRAM has all users and groups of the caller, who is the superuser, and not just his own\n"
+	"  --users         PROGRAM has all users and groups of the caller, who must be a superuser\n"
 	"\n"
-	"The status of run is that of PROGRAM (128 and the signal where one ended it). It is 2 on a bad command line and where\n"
-	"the machine does not allow what is needed, which one sentence then names.\n";
+	"The status of run is that of PROGRAM, or 128 plus the signal that ended it. It is 2 for a bad command line, or if\n"
+	"the machine does not allow what is needed; one sentence then names it.\n";
 
 /* A standard stream that is closed is /dev/null: else the next file that is opened has its number. */
 static bool have_streams(void)
@@ -55,7 +55,7 @@ static bool have_streams(void)
 
 static int bad(void)
 {
-	fprintf(stderr, "makhloeum: bad command line; makhloeum --help tells it\n");
+	fprintf(stderr, "makhloeum: bad command line; see makhloeum --help\n");
 	return 2;
 }
 

@@ -240,7 +240,7 @@ int run_program(char **program, const struct wishes *asked)
 	int ends[2], freezer;
 	wishes.extra = true;
 	if (is_traced()) {
-		say("run does not work inside run, strace or gdb: this process is traced already, and has one tracer at most");
+		say("run does not work inside run, strace or gdb: this process already has a tracer, and can have only one");
 		return REFUSED_HERE;
 	}
 	if (!serve_prepare(&wishes))
@@ -253,7 +253,7 @@ int run_program(char **program, const struct wishes *asked)
 	hide(true);
 	real_are_reported();
 	if (!watch_begin(cgroup_mount, false) || !link_make(ends) || !freezer_begin(&freezer)) {
-		say("this machine does not allow a process or a descriptor more: %s", strerror(errno));
+		say("this machine does not allow another process or descriptor: %s", strerror(errno));
 		return REFUSED_HERE;
 	}
 	int connection = space_mount();
@@ -265,7 +265,7 @@ int run_program(char **program, const struct wishes *asked)
 	watch_leave();
 	engine_end();
 	if (server < 0) {
-		say("this machine does not allow a process more: %s", strerror(errno));
+		say("this machine does not allow another process: %s", strerror(errno));
 		return REFUSED_HERE;
 	}
 	sigemptyset(&held);

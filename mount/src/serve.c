@@ -139,7 +139,7 @@ static int answer(struct fuse *fuse, void (*ready)(void))
 	struct fuse_session *session = fuse_get_session(fuse);
 	fuse_set_log_func(say_for_fuse);
 	if (!use_own_io(session) || fuse_set_signal_handlers(session)) {
-		say("the file system cannot be answered for: %s", strerror(errno));
+		say("the file system cannot be served: %s", strerror(errno));
 		return -EIO;
 	}
 	ready();
@@ -232,7 +232,7 @@ int mount_directory(const char *directory, const struct wishes *wishes)
 	if (!serve_prepare(wishes))
 		return REFUSED;
 	if (!watch_begin(whole, true)) {
-		say("no process can be had");
+		say("a process cannot be started");
 		return 1;
 	}
 	if (chdir("/proc") && chdir("/"))

@@ -31,7 +31,7 @@ int subcommand_start(char **words)
 	char folder[PATH_MAX], file[PATH_MAX + 4 * NAME_MOST], program[2 * NAME_MOST];
 	const char *name = words[0];
 	if (!is_name(name)) {
-		say("'%s' is no command; makhloeum --help lists them", name);
+		say("'%s' is not a command; makhloeum --help lists them", name);
 		return UNKNOWN;
 	}
 	snprintf(program, sizeof program, "makhloeum-%s", name);
@@ -43,7 +43,7 @@ int subcommand_start(char **words)
 	}
 	execvp(program, words);
 	if (errno == ENOENT)
-		say("'%s' is no command, and there is no %s on PATH; makhloeum --help lists the commands", name, program);
+		say("'%s' is not a command, and there is no %s on PATH; makhloeum --help lists the commands", name, program);
 	else
 		say("%s cannot be started: %s", program, strerror(errno));
 	return UNKNOWN;
