@@ -5,11 +5,11 @@
 #include <string.h>
 #include <sys/xattr.h>
 
-enum { NAMES_MAX = 128, VALUES_MAX = 128 * 1024 }; /* the kernel's, for one group or file */
+enum { NAMES_MAX = 128, VALUES_MAX = 128 * 1024 }; /* the kernel's bounds, for one group or file */
 
 struct attribute {
 	struct attribute *next;
-	const struct file *file; /* NULL: the group's own */
+	const struct file *file; /* NULL: of the group itself */
 	char *name, *value;
 	size_t size;
 };
@@ -23,7 +23,7 @@ static int find_place(const char *path, struct place *place)
 	return fault ? fault : engine_has_group(place->group);
 }
 
-/* Of these attributes, the place where a name of a file stands, or the end. */
+/* The place of a file's name among these attributes, or the end. */
 static struct attribute **find(struct attribute **at, const struct file *file, const char *name)
 {
 	while (*at && ((*at)->file != file || strcmp((*at)->name, name)))

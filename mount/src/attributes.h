@@ -1,4 +1,4 @@
-/* Extended attributes of the name space `user`, of groups and of their files. */
+/* Extended attributes in the namespace `user`, of groups and of their files. */
 #ifndef ATTRIBUTES_H
 #define ATTRIBUTES_H
 

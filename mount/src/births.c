@@ -15,23 +15,24 @@
 #include <sys/wait.h>
 #include <time.h>
 
-/* How long a child whose creator was killed may take to its first stop: it has been made, and only has to be run. */
+/* How long a child whose creator was killed may take to reach its first stop. It exists already and only has to be
+   scheduled. */
 enum { SLOTS = 65536, GRACE = 1000 };
 
 struct birth {
 	unsigned long ticket;
 	struct thread *creator;  /* NULL: gone */
 	pid_t process, child;
-	bool is_thread, has_space, reads, reserved, told, runs; /* has_space: in a cgroup namespace of its own; runs: the call is being made */
-	int fault;               /* where told: what the call is to answer instead of a child */
+	bool is_thread, has_space, reads, reserved, told, runs; /* has_space: in a new cgroup namespace; runs: the call is being made */
+	int fault;               /* if told: the errno that the call returns instead of a child */
 	unsigned reservation;
 	long long given_up_at;
-	struct registers before; /* of the creator, at the stop */
+	struct registers before; /* the creator's, at the stop */
 };
 
 static struct birth *slots[SLOTS];
 static unsigned long last_ticket;
-static size_t lost; /* births without a creator whose child did not come yet */
+static size_t lost; /* births without a creator whose child has not come yet */
 static long long next_look;
 
 static long long now(void)
@@ -76,7 +77,7 @@ static void end(struct birth *b)
 	free(b);
 }
 
-/* A birth is over once neither its creator nor its child needs what is kept of it. */
+/* A birth ends once neither its creator nor its child needs its record. */
 static void end_if_over(struct birth *b)
 {
 	struct thread *child = threads_find(b->child);
@@ -119,8 +120,8 @@ static void refuse(struct thread *t, int error)
 	ptrace(PTRACE_CONT, t->id, 0, 0);
 }
 
-/* The program chose all of `args`, and can change none of them now: they go into registers of a thread that is stopped.
-   CLONE_UNTRACED would take the child away from its supervisor. A thread that is not stopped any more was killed. */
+/* The program chose all of `args`, but can no longer change them: they are set in registers of a stopped thread.
+   CLONE_UNTRACED would take the child away from its supervisor. A thread that is no longer stopped was killed. */
 static void make(struct thread *t, struct birth *b, long number, struct clone_registers *args, const char *group)
 {
 	bool goes_on;
@@ -145,13 +146,13 @@ static void make(struct thread *t, struct birth *b, long number, struct clone_re
 		ptrace(PTRACE_SYSCALL, t->id, 0, 0);
 }
 
-/* clone3 has its arguments in memory, which other threads of the program write, and which a file system of the program
-   can keep from being read: they are read once, by a process that may be kept waiting. */
+/* clone3 has its arguments in memory. Other threads of the program can write there, and a file system of the program can
+   block a read. So another process, which may wait, reads them once. */
 static void read_arguments(struct thread *t, struct birth *b, const struct clone_registers *regs)
 {
 	int fault = clones_check_size(regs->stack);
 	if (fault == 0 && !helper_read(b->ticket, t->id, regs->flags, regs->stack))
-		fault = -ENOSYS; /* too many wait already: C libraries take `clone` then */
+		fault = -ENOSYS; /* too many wait already: C libraries then use `clone` */
 	b->reads = fault == 0;
 	if (fault)
 		refuse(t, -fault);
@@ -204,16 +205,17 @@ void births_arguments(const struct memory_reply *reply)
 		make(t, b, SYS_clone, &args, elsewhere ? group : NULL);
 }
 
-/* ---------------------------------------------------------------- the child is there */
+/* ---------------------------------------------------------------- the child exists */
 
-/* Whether a child was killed before its first stop, and its death was seen before its creator told of it. */
+/* Whether a child was killed before its first stop and its death was seen before the event of its creator. */
 static bool is_no_more(pid_t child)
 {
 	siginfo_t unused;
 	return waitid(P_PID, (id_t)child, &unused, WEXITED | WSTOPPED | WNOHANG | WNOWAIT | __WALL) && errno == ECHILD;
 }
 
-/* Tells the hierarchy of a child that has not run. What cannot be told does not run: the call then answers an errno. */
+/* Tells the hierarchy about a child that has not run. If that fails, the child does not run, and the call returns an errno.
+    */
 static struct thread *settle(struct birth *b, pid_t child)
 {
 	struct thread *t = NULL;
@@ -243,7 +245,7 @@ static struct thread *settle(struct birth *b, pid_t child)
 	if (fault) {
 		if (!ended)
 			kill(child, SIGKILL);
-		b->fault = fault == -ESRCH ? 0 : fault; /* a kill of the hierarchy finds the child made */
+		b->fault = fault == -ESRCH ? 0 : fault; /* a kill in the hierarchy now finds the child */
 	}
 	return t;
 }
@@ -256,7 +258,7 @@ void births_told(struct thread *creator, pid_t child)
 		return;
 	}
 	settle(b, child);
-	if (b->fault) { /* its answer is set behind the call */
+	if (b->fault) { /* its result is set after the call */
 		ptrace(PTRACE_SYSCALL, creator->id, 0, 0);
 		return;
 	}
@@ -267,7 +269,7 @@ void births_told(struct thread *creator, pid_t child)
 	ptrace(PTRACE_CONT, creator->id, 0, 0);
 }
 
-/* The call made none, or its child may not run. It may be begun anew, and then has to find its arguments. */
+/* The call made no child, or its child may not run. The call may be restarted, and then needs its arguments. */
 void births_returned(struct thread *t)
 {
 	struct birth *b = t->makes;
@@ -293,7 +295,7 @@ struct thread *births_appeared(pid_t child)
 		b = find(registers_ticket(&here));
 		t = b && b->runs && !b->told ? settle(b, child) : NULL;
 	}
-	if (!t) { /* nobody was asked for it, or it came too late */
+	if (!t) { /* nobody asked for it, or it came too late */
 		kill(child, SIGKILL);
 		return NULL;
 	}

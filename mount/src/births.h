@@ -1,7 +1,7 @@
-/* Forks and clones. Each is decided at the stop before it, from the supervisor's own copy of its arguments; it goes on
-   with its arguments in registers, and one of them is a ticket. The child, whose registers are a copy of its creator's,
-   shows the ticket at its first stop: so a birth is known from the creator's event or from the child, whichever comes
-   first, and waits for neither. */
+/* Forks and clones. Each is decided at the stop before it, from the supervisor's own copy of its arguments. It continues
+   with its arguments in registers, and one of these is a ticket. The child's registers are a copy of its creator's, so its
+   first stop shows the ticket. So the creator's event or the child's first stop reports a birth, whichever comes first, and
+   neither waits for the other. */
 #ifndef BIRTHS_H
 #define BIRTHS_H
 
@@ -10,23 +10,23 @@
 #include <stdbool.h>
 #include <sys/types.h>
 
-/* The first process; false where it cannot be held. */
+/* The first process; false if it cannot be recorded. */
 bool births_first(pid_t program);
 bool births_is_fork(long number);
-/* A thread stands before such a call. */
+/* A thread is at the stop before such a call. */
 void births_ask(struct thread *t, long number);
-/* The arguments of a clone3, which were read beside. */
+/* The arguments of a clone3, which the helper has read. */
 void births_arguments(const struct memory_reply *reply);
-/* Its creator tells of a child (its event). */
+/* The creator's event names a child. */
 void births_told(struct thread *creator, pid_t child);
-/* It stands behind a call. */
+/* It is at the stop after a call. */
 void births_returned(struct thread *t);
-/* A thread stands at its first stop. NULL where it never runs. */
+/* A thread is at its first stop. NULL if it never runs. */
 struct thread *births_appeared(pid_t child);
-/* A thread has ended, or another has its number by an exec: what it was making is left to the child. */
+/* A thread has ended, or another has its number by an exec: its child completes the birth. */
 void births_abandon(struct thread *t);
-/* Gives up the births whose creator is gone and whose child did not come. How long until the next has to be: in
-   milliseconds, -1 for never. */
+/* Gives up the births whose creator is gone and whose child did not come. Returns how long until the next look is needed:
+   in milliseconds, -1 for never. */
 int births_give_up(void);
 
 #endif

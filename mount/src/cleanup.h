@@ -1,5 +1,5 @@
-/* Descriptors and memory that end with the block in which they are declared: cleanup_fd int fd = open(..). What outlives
-   the block is taken out of the variable first, by steal_fd or steal_pointer. errno stays as it was. */
+/* Descriptors and memory that end with the block in which they are declared: cleanup_fd int fd = open(..). To keep one
+   longer, take it out of the variable first, with steal_fd or steal_pointer. errno stays unchanged. */
 #ifndef CLEANUP_H
 #define CLEANUP_H
 

@@ -16,7 +16,7 @@ int clones_check_size(size_t size)
 		return -E2BIG;
 	if (size < CLONE_ARGS_SIZE_VER0)
 		return -EINVAL;
-	/* larger ones have fields that no register has */
+	/* larger ones have fields that do not fit into registers */
 	return size > CLONE_ARGS_SIZE_VER2 ? -ENOSYS : 0;
 }
 
@@ -41,7 +41,7 @@ int clones_fit(const struct clone_args *a, struct clone_registers *out)
 	const __u64 beyond = CLONE_CLEAR_SIGHAND | CLONE_NEWTIME;
 	if (!is_valid(a))
 		return -EINVAL;
-	/* `clone` has one place for two of the numbers that it writes */
+	/* `clone` has one argument for two of the numbers that it writes */
 	if (a->flags & beyond || a->set_tid_size || a->set_tid || ((a->flags & CLONE_PIDFD) && (a->flags & CLONE_PARENT_SETTID)))
 		return -ENOSYS;
 	*out = (struct clone_registers){

@@ -12,7 +12,7 @@
 /* A path of one byte that no file has. */
 static const char farewell[] = "-";
 
-/* A truncation is one call, changes nothing, and shows itself to inotify as a modification alone. */
+/* A truncation is one call and changes nothing, and inotify reports it only as a modification. */
 static void touch(const char *mountpoint, const char *path)
 {
 	char whole[2 * PATH_MAX_SAID];
@@ -52,7 +52,7 @@ static void serve(int from, const char *mountpoint, bool unmount)
 		take_away(mountpoint);
 }
 
-/* Whoever waits for the end of what the program says does not wait for this process. */
+/* A reader that waits for the end of the program's output must not wait for this process. */
 static void let_go(void)
 {
 	int null = open("/dev/null", O_RDWR);
@@ -69,8 +69,8 @@ int companion_start(const char *mountpoint, bool unmount)
 		return -1;
 	pid_t pid = fork();
 	if (pid == 0) {
-		/* of a mount it outlives the server, so it forks twice, and nobody has to wait for it; of a run it ends with the supervisor,
-		   even where the program has stopped it */
+		/* The companion of a mount outlives the server, so it forks twice, and nobody has to wait for it. The
+		   companion of a run ends with the supervisor, even if the program has stopped it. */
 		if (unmount && fork())
 			_exit(0);
 		if (!unmount)

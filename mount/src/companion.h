@@ -1,13 +1,13 @@
-/* The process beside the one that serves a mount. */
+/* The second process of a mount, beside the server. */
 #ifndef COMPANION_H
 #define COMPANION_H
 
 #include <stdbool.h>
 
-/* Starts it, and gives the pipe on which it is told paths below the mount, each ended by a zero byte; -1 where it cannot
-   be had. With `unmount` it takes the mount away where the pipe ends without a word of farewell. */
+/* Starts it, and returns the pipe on which it receives paths below the mount, each ended by a zero byte; -1 if it cannot be
+   started. With `unmount` it unmounts if the pipe closes without companion_end. */
 int companion_start(const char *mountpoint, bool unmount);
-/* Says farewell. */
+/* Ends it without an unmount. */
 void companion_end(int pipe);
 
 #endif

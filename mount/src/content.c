@@ -19,7 +19,7 @@ static struct opened *opened_of(const struct fuse_file_info *fi)
 	return (struct opened *)(uintptr_t)fi->fh;
 }
 
-/* As in the kernel, the superuser opens against the mode, and is refused when he reads or writes. */
+/* As in the kernel, the superuser can open a file against its mode, and then gets an error from the read or write. */
 static int may_open(mode_t mode, int flags)
 {
 	int way = flags & O_ACCMODE;
@@ -93,7 +93,7 @@ int content_read(const char *path, char *out, size_t size, off_t at, struct fuse
 	return n;
 }
 
-/* A move takes the process of any of its threads, and 0 is the writer's own. */
+/* A move takes the whole process if the number is that of one of its threads; 0 is the writer. */
 static int move(const struct opened *o, char said[SAID_MAX], pid_t writer)
 {
 	char from[PATH_MAX_SAID];

@@ -25,8 +25,8 @@ static const struct {
 	[EXIT] = { "exit", 0200, false },
 };
 
-/* The process of /.makhloeum.PID.SPACE, which is there under `run` and not listed: what it has is the text of
-   /proc/PID/cgroup, as it is read in a cgroup namespace; of process 0, where the root of that namespace is. */
+/* The process of /.makhloeum.PID.SPACE, a file that exists under `run` and is not listed. It has the text of
+   /proc/PID/cgroup as a reader in that cgroup namespace sees it; for process 0, the root of that namespace. */
 static long where_of(const char *path)
 {
 	size_t n = sizeof control_directory - 1;
@@ -80,7 +80,7 @@ mode_t control_mode(long file)
 	return file >= CONTROL_WHERE ? 0444 : files[file].mode;
 }
 
-/* One that no supervisor knows is in the root, as all others of the machine. */
+/* A process that no supervisor knows is in the root, like all others of the machine. */
 static int read_where(long which, int (*keep)(void *, const char *, size_t), void *to)
 {
 	char group[PATH_MAX_SAID], seen[PATH_MAX_SAID], text[PATH_MAX_SAID + 8];
@@ -123,7 +123,7 @@ static void watch_process(long pid)
 		watch_above(group);
 }
 
-/* Tells what an undo has changed: `command` is what it took back. */
+/* Notifies those whom an undo concerns: `command` is the undone command. */
 static void tell_undone(const char *command, size_t size)
 {
 	char text[2 * PATH_MAX_SAID], group[PATH_MAX_SAID], file[64];
@@ -142,7 +142,7 @@ static void tell_undone(const char *command, size_t size)
 		watch_process(pid);
 }
 
-/* Takes the newest `count` commands back. Where there are not so many, none. */
+/* Undoes the newest `count` commands. If there are fewer, it undoes none. */
 static int undo(unsigned long count)
 {
 	if (count > engine_depth())

@@ -1,5 +1,5 @@
-/* The control directory at the mount's root, .makhloeum: fork and exit, and with a history undo, forget, depth, newest and trace.
-   Under `run` it is there only with a history: a program that could write its own exit would not be counted any more. */
+/* The control directory at the mount's root, .makhloeum: fork and exit, and with a history undo, forget, depth, newest and
+   trace. Under `run` it exists only with a history: a program that could write its own exit would no longer be counted. */
 #ifndef CONTROL_H
 #define CONTROL_H
 
@@ -15,12 +15,12 @@ enum { CONTROL_ITSELF = -1 };
 /* The number of the file at such a path; CONTROL_ITSELF for the directory; -ENOENT. */
 long control_find(const char *path);
 enum { CONTROL_FILES = 7, CONTROL_PIDS = 4194304 };
-enum { CONTROL_WHERE = CONTROL_FILES }; /* and the number of a process and of a cgroup namespace: /.makhloeum.PID.SPACE, under `run` */
+enum { CONTROL_WHERE = CONTROL_FILES }; /* or the number of a process and of a cgroup namespace: /.makhloeum.PID.SPACE, under `run` */
 const char *control_name(long file);
 bool control_is_there(long file);
 mode_t control_mode(long file);
 
-/* Both want the engine's lock. The text of a file: 0 or -errno, with what `keep` gave. */
+/* Both require the engine's lock. The text of a file: 0 or -errno, with what `keep` returned. */
 int control_read(long file, int (*keep)(void *, const char *, size_t), void *to);
 /* 0 or -errno. */
 int control_write(long file, const char *data, size_t size);

@@ -8,7 +8,8 @@
 #include <stdio.h>
 #include <string.h>
 
-/* Those whose groups could have threads of one process: they may be shared out where there are processes. */
+/* Threads of one process could be in different groups of these controllers: a group with processes may enable them for its
+   children. */
 enum { ALL = HAS_CPUSET | HAS_CPU | HAS_IO | HAS_MEMORY | HAS_PIDS, FOR_THREADS = HAS_CPUSET | HAS_CPU | HAS_PIDS };
 
 static const struct {
@@ -88,7 +89,7 @@ static bool is_populated(const char *group)
 	return strncmp(text, "populated 1", 11) == 0;
 }
 
-/* Asks of each child: the first answer that is not 0. */
+/* Calls `ask` for each child, until one returns something other than 0. */
 static int each_child(const char *group, int (*ask)(const char *child, unsigned which), unsigned which)
 {
 	char child[PATH_MAX_SAID];
@@ -116,10 +117,11 @@ static int ask_shares(const char *child, unsigned which)
 	return (subtree_of(child) & which) != 0;
 }
 
-/* ---------------------------------------------------------------- processes beside children */
+/* ---------------------------------------------------------------- processes and children in one group */
 
-/* The kernel's words: a group with processes that shares out controllers of threads is the root of a threaded subtree, and
-   groups below it are no domains. Threads are not in groups of their own here, but that much can be seen. */
+/* In the kernel's words: a group with processes that enables such controllers for its children is the root of a threaded
+   subtree, and the groups below it are not domains. Threads are not in groups of their own here, but that much is visible.
+    */
 static bool is_thread_root(const char *group)
 {
 	return !is_root(group) && subtree_of(group) & FOR_THREADS && has_processes(group);
@@ -190,7 +192,7 @@ void subtree_show(const char *group, const struct file *file, char out[TEXT_ROOM
 	show(subtree_of(group), out);
 }
 
-/* Reads +NAME and -NAME with blanks between; the last that is said of a name holds. */
+/* Reads +NAME and -NAME with blanks between; the last mention of a name counts. */
 static int read_change(char *text, unsigned *enable, unsigned *disable)
 {
 	char *rest = text, *word;
@@ -207,7 +209,7 @@ static int read_change(char *text, unsigned *enable, unsigned *disable)
 	return 0;
 }
 
-/* What a child has of controllers that it loses is gone. The engine's limit is lifted. */
+/* A child loses these controllers: their values are dropped. The engine's limit becomes `max`. */
 static int forget_in(const char *child, unsigned which)
 {
 	size_t size;
@@ -245,7 +247,7 @@ static int change(const char *group, unsigned enable, unsigned disable)
 	return fault ? fault : set_subtree(group, (now | enable) & ~disable);
 }
 
-/* A file that says what is so already takes that, and nothing else. */
+/* A file that accepts its current value and nothing else. */
 static int take_unchanged(const char *text, const char *unchanged)
 {
 	return !*text || strcmp(text, unchanged) == 0 ? 0 : -EOPNOTSUPP;

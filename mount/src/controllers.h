@@ -1,5 +1,5 @@
-/* Controllers: which a group has, which its children have, and what that decides. The engine is the pids controller. The
-   others are only kept (--keep): their files take values and give them back, and nothing is limited. Without any kept
+/* Controllers: which a group has, which its children have, and what follows from that. The engine is the pids controller.
+   The others only store values (--keep): their files check values and return them, and nothing is limited. Without any kept
    controller each group has pids, and nothing can be turned off. */
 #ifndef CONTROLLERS_H
 #define CONTROLLERS_H
@@ -9,14 +9,14 @@
 /* In the kernel's order. */
 enum { HAS_CPUSET = 1, HAS_CPU = 2, HAS_IO = 4, HAS_MEMORY = 8, HAS_PIDS = 16 };
 
-/* Takes the names of --keep, with commas between; false: one of them is none. */
+/* Reads the names of --keep, with commas between; false if one of them is unknown. */
 bool controllers_keep(const char *names);
 /* Which are kept, and 0 for none. */
 unsigned controllers_kept(void);
 
-/* All below want the engine's lock. Whether a group has this file now. */
+/* All below require the engine's lock. Whether a group has this file now. */
 bool controllers_have(const char *group, const struct file *file);
-/* 0; -EBUSY or -EOPNOTSUPP where the group may have no processes, since its children share out what it has. */
+/* 0; -EBUSY or -EOPNOTSUPP if the group may have no processes because it enables controllers for its children. */
 int controllers_may_enter(const char *group);
 
 /* cgroup.controllers, cgroup.subtree_control, cgroup.type. */

@@ -16,7 +16,7 @@ static const struct file files[] = {
 	{ .name = "pids.peak", .readable = true, .controller = HAS_PIDS },
 	{ .name = "pids.events", .readable = true, .notified = true, .controller = HAS_PIDS },
 	{ .name = "pids.events.local", .readable = true, .notified = true, .controller = HAS_PIDS },
-	/* What the engine does not have. */
+	/* The files that the engine does not have. */
 	{ .name = "cgroup.controllers", .on_root = true, .readable = true, .extra = true, .show = controllers_show },
 	{ .name = "cgroup.subtree_control", .on_root = true, .readable = true, .extra = true, .value = WRITES, .show = subtree_show,
 	  .write = subtree_write },
@@ -39,7 +39,7 @@ static bool is_there(const struct file *f)
 	return (!f->extra || with_extra) && (!f->controller || f->controller & (controllers_kept() | HAS_PIDS));
 }
 
-/* The i-th of both tables, or NULL. */
+/* The i-th file of both tables, or NULL. */
 static const struct file *entry(size_t i)
 {
 	return i < FILES ? &files[i] : i - FILES < values_count ? &values_files[i - FILES] : NULL;
@@ -57,7 +57,7 @@ const struct file *file_at(size_t i)
 const struct file *file_named(const char *name, bool on_root)
 {
 	const struct file *f;
-	/* every name has a dot, which few names of groups have */
+	/* every name has a dot, and few names of groups have one */
 	if (!strchr(name, '.'))
 		return NULL;
 	for (size_t i = 0; (f = entry(i)); i++)

@@ -24,7 +24,7 @@
 #define SECCOMP_FILTER_FLAG_WAIT_KILLABLE_RECV (1UL << 5)
 #endif
 
-/* The bit of the numbers of x32: the same calls by another way. */
+/* The bit that marks system call numbers of x32: other numbers for the same calls. */
 enum { X32 = 0x40000000 };
 
 #define LOAD(field) BPF_STMT(BPF_LD | BPF_W | BPF_ABS, offsetof(struct seccomp_data, field))
@@ -33,21 +33,22 @@ enum { X32 = 0x40000000 };
 #define UNLESS(number, skipped) BPF_JUMP(BPF_JMP | BPF_JEQ | BPF_K, number, 0, skipped)
 #define IF_ANY(bits, skipped) BPF_JUMP(BPF_JMP | BPF_JSET | BPF_K, bits, 0, skipped)
 
-/* A call that is seen; and one that is seen unless its argument has any of these bits. */
+/* A call that is intercepted; and one that is intercepted unless its argument has any of these bits. */
 #define SEEN(number, how) UNLESS(number, 1), ANSWER(how)
 #define SEEN_WITHOUT(number, argument, bits, how) \
 	UNLESS(number, 4), LOAD(args[argument]), IF_ANY(bits, 1), ANSWER(SECCOMP_RET_ALLOW), ANSWER(how)
 
-/* The other way round: unless its argument has none of these bits. */
+/* The reverse: unless its argument has none of these bits. */
 #define SEEN_WITH(number, argument, bits, how) \
 	UNLESS(number, 4), LOAD(args[argument]), IF_ANY(bits, 1), ANSWER(how), ANSWER(SECCOMP_RET_ALLOW)
 
-/* These mounts are of no new file system. */
+/* Mounts with these flags make no new file system. */
 static const unsigned other_mounts = MS_REMOUNT | MS_BIND | MS_MOVE | MS_SHARED | MS_PRIVATE | MS_SLAVE | MS_UNBINDABLE;
-/* These opens read no text of /proc. */
+/* Opens with these flags do not read a text of /proc. */
 static const unsigned other_opens = O_WRONLY | O_DIRECTORY | O_PATH;
 
-/* A call that waits for the helper is not interrupted by a signal, as no open of a file on a disk is; before Linux 5.19 it is. */
+/* A signal does not interrupt a call that waits for the helper, as it does not interrupt an open of a file on a disk.
+   Before Linux 5.19 it does. */
 static int install(const struct sock_fprog *program)
 {
 	const unsigned long flags = SECCOMP_FILTER_FLAG_NEW_LISTENER;
@@ -55,10 +56,10 @@ static int install(const struct sock_fprog *program)
 	return fd < 0 && errno == EINVAL ? (int)syscall(SYS_seccomp, SECCOMP_SET_MODE_FILTER, flags, program) : fd;
 }
 
-/* The program chooses the way by which it calls, the number and every argument. Each call that makes a process or a
-   thread stops, whatever its flags; every other way to the same calls (32-bit, x32) does not exist here; and io_uring,
-   which opens files that no filter sees, is not allowed, as where kernel.io_uring_disabled is set. A filter that the
-   program adds later can refuse more, and can let nothing through that this one stops. */
+/* The program chooses the system call, its number and every argument. Each call that makes a process or a thread stops,
+   whatever its flags. All other entries to the same calls (32-bit, x32) do not exist here. io_uring, which opens files that
+   no filter sees, is not allowed, as with kernel.io_uring_disabled. A filter that the program adds later can refuse more,
+   but can allow nothing that this filter stops. */
 int filter_install(void)
 {
 	struct sock_filter filter[] = {
@@ -92,7 +93,7 @@ int filter_install(void)
 		ANSWER(SECCOMP_RET_ALLOW),
 	};
 	struct sock_fprog program = { sizeof filter / sizeof *filter, filter };
-	/* the superuser of his own namespace needs no promise that nothing gains privileges; another makes it */
+	/* the superuser of its namespace may install a filter; others first give up gaining privileges */
 	int fd = install(&program);
 	if (fd < 0 && prctl(PR_SET_NO_NEW_PRIVS, 1, 0, 0, 0) == 0)
 		fd = install(&program);

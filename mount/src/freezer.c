@@ -13,15 +13,15 @@
 
 enum { PIDS_MAX = 4194304 };
 
-/* What is known of each process: it is to stop; it has; and an order about it waits. */
+/* What is known of each process: whether it has to stop, whether it has stopped, and whether an order about it waits. */
 enum { WANTED = 1, STOPPED = 2, ORDERED = 4 };
 static unsigned char state[PIDS_MAX];
 
-static size_t freezing; /* groups that were told to freeze */
-static size_t wanted;   /* processes that are to stop */
+static size_t freezing; /* groups in which 1 was written */
+static size_t wanted;   /* processes that have to stop */
 static int supervisor = -1;
 
-/* A ring would do; a process has one order at most, so the array is as long as there are processes. */
+/* A process has at most one order, so an array as long as the number of processes is enough. */
 static pid_t *orders;
 static size_t first_order, orders_end, orders_room;
 
@@ -45,7 +45,7 @@ static bool freezes_itself(const char *group)
 	return r && r->freezes;
 }
 
-/* Whether it or a group above it is to be frozen. */
+/* Whether it or a group above it has to be frozen. */
 static bool is_to_freeze(const char *group)
 {
 	char at[PATH_MAX_SAID];
@@ -56,7 +56,7 @@ static bool is_to_freeze(const char *group)
 	return false;
 }
 
-/* Calls `act` for each process at and below a group, with the group; until one answers false. */
+/* Calls `act` for each process at and below a group, with the process's group, until it returns false. */
 static bool each_process(const char *top, bool (*act)(pid_t pid, bool to_freeze))
 {
 	const char *paths;
@@ -130,7 +130,7 @@ static bool add_order(pid_t pid)
 	return true;
 }
 
-/* One that is not to stop has not stopped. */
+/* A process that does not have to stop has not stopped. */
 static void set_wanted(pid_t pid, bool stops)
 {
 	wanted -= !!(state[pid] & WANTED);
@@ -156,7 +156,7 @@ static void wake(void)
 {
 	uint64_t one = 1;
 	if (first_order != orders_end && write(supervisor, &one, sizeof one) < 0) {
-		/* it has been woken, and did not look yet */
+		/* it was woken and has not looked yet */
 	}
 }
 
@@ -189,7 +189,7 @@ void freezer_moved(pid_t pid, const char *group)
 	wake();
 }
 
-/* ---------------------------------------------------------------- what happens */
+/* ---------------------------------------------------------------- events */
 
 static void set(struct remembered *r, bool freezes)
 {

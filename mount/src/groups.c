@@ -9,7 +9,7 @@
 #include <sys/stat.h>
 #include <sys/syscall.h>
 
-/* No request goes to a file system that the program may have made: what the kernel has of the file is enough. */
+/* No request may go to a file system that the program may have made. What the kernel knows of the file is enough. */
 enum { ASKS_NOBODY = AT_EMPTY_PATH | AT_STATX_DONT_SYNC | AT_NO_AUTOMOUNT };
 
 static int root = -1;
@@ -56,7 +56,7 @@ static bool is_same(const char *path, const struct statx *wanted)
 	return fd >= 0 && statx(fd, "", ASKS_NOBODY, STATX_INO, &st) == 0 && st.stx_ino == wanted->stx_ino;
 }
 
-/* Looks for a directory at and below a group. `group` is its path where it is found. */
+/* Looks for a directory at and below a group. If it is found, `group` is its path. */
 static bool search(char group[PATH_MAX_SAID], const struct statx *wanted)
 {
 	if (is_same(group, wanted))
@@ -78,8 +78,8 @@ static bool search(char group[PATH_MAX_SAID], const struct statx *wanted)
 	return false;
 }
 
-/* The path by which the supervisor sees the directory is tried first. The program may have it from another mount
-   namespace, where the path means another: so it is the file itself that is compared. */
+/* First the path by which the supervisor sees the directory. The program may have the directory from another mount
+   namespace, where the path means something else, so the file itself is compared. */
 int groups_of_open(pid_t thread, int fd, char group[PATH_MAX_SAID])
 {
 	char link[64], seen[PATH_MAX_SAID];

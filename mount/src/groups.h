@@ -1,4 +1,4 @@
-/* Which group a directory is that is open in the program. */
+/* The group of a directory that is open in the program. */
 #ifndef GROUPS_H
 #define GROUPS_H
 
@@ -6,16 +6,16 @@
 #include <stdbool.h>
 #include <sys/types.h>
 
-/* Keeps the mount's root open, so that a mount of the program over it is not met. */
+/* Keeps the mount's root open, so that a mount of the program over it has no effect. */
 bool groups_begin(void);
 void groups_end(void);
 int groups_root(void);
-/* Opens below the mount's root, and never what the program has mounted there. */
+/* Opens a file below the mount's root, and never one that the program has mounted there. */
 int groups_open(const char *path, int flags);
-/* 0, or as the kernel answers a clone3 into this descriptor: -EBADF for what is no group's directory, -ENOENT for that of
-   a group which was removed. */
+/* 0, or the kernel's errno for a clone3 into this descriptor: -EBADF if it is not the directory of a group, -ENOENT if that
+   group was removed. */
 int groups_of_open(pid_t thread, int fd, char group[PATH_MAX_SAID]);
-/* Whether a descriptor of this process (also one with O_PATH) is of the mount. It asks no file system. */
+/* Whether a descriptor of this process (also one with O_PATH) is in the mount. It sends no request to a file system. */
 bool groups_have(int fd);
 
 #endif

@@ -8,7 +8,7 @@
 #include <sys/ptrace.h>
 #include <unistd.h>
 
-/* So many orders are taken before anything else is looked at: the program decides how many there are. */
+/* At most so many orders are handled before anything else, since the program decides how many there are. */
 enum { ORDERS = 32 };
 
 static int wake = -1;
@@ -28,7 +28,7 @@ static void set(struct thread *t, enum rest how)
 	t->rest = how;
 }
 
-/* A first thread that has ended before the others never stops again, and is not reported before they end too. */
+/* A first thread that ended before the others never stops again, and its end is not reported before theirs. */
 static bool has_ended(pid_t id)
 {
 	char path[40], line[512];
@@ -86,7 +86,7 @@ void halts_vforks(struct thread *t, pid_t child)
 	set(t, VFORKS);
 }
 
-/* A frozen one has a stop before it before it runs again: so it still rests. */
+/* A frozen one first has a stop before it runs again: so it still rests. */
 void halts_vfork_over(struct thread *t)
 {
 	struct thread *by = threads_find(t->vforked_by);
@@ -109,7 +109,7 @@ static void freeze(struct thread *t)
 	halts_insists(t);
 }
 
-/* It may have been killed meanwhile, and another that called execve may have its number. */
+/* It may have been killed meanwhile, and another thread that called execve may have its number. */
 static bool stands_parked(pid_t id)
 {
 	siginfo_t now;

@@ -1,24 +1,24 @@
-/* Frozen processes: each of their threads stays at its next stop, until the server says that its process goes on. */
+/* Frozen processes: each of their threads stays at its next stop until the server says that the process continues. */
 #ifndef HALTS_H
 #define HALTS_H
 
 #include "threads.h"
 
-/* The eventfd by which the server says that it has orders. */
+/* The eventfd by which the server reports orders. */
 void halts_begin(int wake);
-/* Takes some of the orders that are there; true where there may be more. A thread that stands before a call is let go by
-   `call`. */
+/* Handles some of the pending orders; true if there may be more. `call` continues a thread that is at the stop before a
+   call. */
 bool halts_take_orders(void (*call)(struct thread *t));
 /* At a stop: whether the thread stays there. */
 bool halts_keeps(struct thread *t, enum rest how);
 /* The thread has come to another stop. */
 void halts_moves(struct thread *t);
-/* After a stop from which the thread was let go: interrupts it again if it is to stay. Whatever the stop was for, the kernel
-   drops an interruption that was asked for before it. */
+/* After a stop from which the thread continued: interrupts it again if it has to stay, because at every stop the kernel
+   drops an earlier interruption. */
 void halts_insists(struct thread *t);
-/* It rests although nobody asked: stopped by a signal. */
+/* It rests although nobody asked: a signal stopped it. */
 void halts_listens(struct thread *t);
-/* It waits for a child that it made by vfork; and the wait of who made this one by vfork is over. */
+/* It waits for the child that it made by vfork; the wait of the thread that made this one by vfork has ended. */
 void halts_vforks(struct thread *t, pid_t child);
 void halts_vfork_over(struct thread *t);
 /* After a change: tells the server whether all threads of the process rest now. */

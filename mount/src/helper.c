@@ -14,7 +14,8 @@
 #include <sys/socket.h>
 #include <unistd.h>
 
-/* So many reads may be kept waiting by the program; and so many opens, before others are let through unseen. */
+/* READERS: so many reads the program may keep waiting. ANSWERERS: so many opens it may keep waiting before others pass
+   unseen. */
 enum { READERS = 16, AT_FIRST = 2, SPARE = 14, ANSWERERS = 512, PATIENCE = 100, STACK = 256 * 1024, OPEN_AT_FIRST = 64 };
 
 struct memory_question {
@@ -54,14 +55,14 @@ bool helper_take(struct memory_reply *reply)
 
 /* ---------------------------------------------------------------- the helper's */
 
-/* The thread may have been killed, and its number may be another's: then the ticket is of no birth any more. */
+/* The thread may have been killed, and another may have its number: then no birth has the ticket any more. */
 static void *read_all(void *end)
 {
 	int fd = (int)(intptr_t)end;
 	struct memory_question q;
 	while (recv(fd, &q, sizeof q, 0) == sizeof q) {
 		struct memory_reply r = { .ticket = q.ticket };
-		/* of a program whose file nobody may read no memory is read: C libraries take `clone` then */
+		/* If nobody may read the program's file, its memory is not read: C libraries then use `clone`. */
 		if (q.size > sizeof r.args || !memory_read(q.thread, q.at, &r.args, q.size))
 			r.fault = errno == EPERM ? -ENOSYS : -EFAULT;
 		if (send(fd, &r, sizeof r, MSG_NOSIGNAL) != sizeof r)
@@ -93,8 +94,8 @@ static void add_answerer(int listener)
 	atomic_fetch_sub(&idle, 1);
 }
 
-/* Whether another is idle again soon, as it is if the program keeps none of them waiting: then only threads are lacking, or the
-   machine is busy. If none came, the next call waits for a millisecond only, until one has answered. */
+/* Whether another thread will soon be idle, as it is if the program keeps none of them waiting: then only threads are
+   lacking, or the machine is busy. If none came, the next call waits only for a millisecond, until one has answered. */
 static bool is_another_idle(void)
 {
 	for (int left = atomic_load(&stalled) ? 1 : PATIENCE; left > 0 && atomic_load(&idle) == 0; left--)
@@ -104,8 +105,8 @@ static bool is_another_idle(void)
 	return another;
 }
 
-/* There is always one more that waits, until there are very many: then the last lets every call through, since the
-   program may keep all others waiting, and shall stop no one. */
+/* There is always one more thread that waits, until there are very many. Then the last one lets every call pass, since the
+   program may keep all others waiting and must not block other programs. */
 static void *answer_all(void *argument)
 {
 	int listener = (int)(intptr_t)argument;
@@ -125,8 +126,8 @@ static void *answer_all(void *argument)
 	return NULL;
 }
 
-/* Spare threads are made while threads are to be had, and look at nothing until they are needed: all who wait for a call are
-   woken by each. */
+/* Spare threads are made while threads can be made, and do not wait for calls until they are needed, since each call wakes
+   all who wait for one. */
 static void *answer_later(void *listener)
 {
 	while (sem_wait(&needed))
@@ -150,7 +151,7 @@ static void serve(int listener, int end)
 		files.rlim_cur = files.rlim_max;
 		setrlimit(RLIMIT_NOFILE, &files);
 	}
-	/* what else the supervisor has open would keep the mount, and the other ends of its pipes */
+	/* other descriptors of the supervisor would keep the mount and the other ends of its pipes open */
 	for (int fd = STDERR_FILENO + 1; fd < OPEN_AT_FIRST; fd++)
 		if (fd != listener && fd != end && fd != groups_root())
 			close(fd);
@@ -160,7 +161,7 @@ static void serve(int listener, int end)
 		add_answerer(listener);
 	if (atomic_load(&answerers) == 0)
 		_exit(1);
-	/* where few threads may be made, fewer wait for the program; this one reads too */
+	/* if few threads can be made, fewer wait for the program; this one reads too */
 	for (int i = 0; i < READERS - 1; i++)
 		if (pthread_create(&thread, &small, read_all, (void *)(intptr_t)end))
 			break;

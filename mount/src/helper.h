@@ -1,5 +1,5 @@
-/* A process beside the supervisor, for all that the program can keep waiting: its memory, its paths and its file systems.
-   The supervisor sends, and takes what has come; it waits for nothing. */
+/* A second process for everything that the program can block: its memory, its paths and its file systems. The supervisor
+   sends requests and receives the answers that have come; it never waits. */
 #ifndef HELPER_H
 #define HELPER_H
 
@@ -14,11 +14,11 @@ struct memory_reply {
 	struct clone_args args;
 };
 
-/* Starts it. It answers the notifications of `listener`. Its descriptor to poll, or -1. */
+/* Starts it. It answers the notifications of `listener`. Returns its descriptor to poll, or -1. */
 int helper_start(int listener);
-/* It is not waited for: a file system of the program may keep it. */
+/* Nobody waits for it: a file system of the program may block it. */
 void helper_end(void);
-/* Asks for the arguments of a clone3. False where too many are being read. */
+/* Requests the arguments of a clone3. False if too many are being read. */
 bool helper_read(unsigned long ticket, pid_t thread, unsigned long at, size_t size);
 bool helper_take(struct memory_reply *reply);
 

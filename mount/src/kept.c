@@ -5,7 +5,7 @@
 #include <string.h>
 #include <unistd.h>
 
-/* Never waits: a FIFO without a reader is refused, and not opened. */
+/* It never waits: a FIFO without a reader is refused and not opened. */
 static int open_to_write(const char *name, bool *was_made)
 {
 	const int flags = O_WRONLY | O_CLOEXEC | O_NONBLOCK | O_NOCTTY;
@@ -57,7 +57,7 @@ void kept_abandon(struct kept *k)
 	k->fd = -1;
 }
 
-/* Cuts off what a refused text left. Where that fails too, the next text is written over it, or the close cuts it off. */
+/* Cuts off what a refused text left. If that fails too, the next text overwrites it, or the close cuts it off. */
 static void cut_rest(struct kept *k)
 {
 	k->has_rest = ftruncate(k->fd, k->size) != 0;

@@ -17,7 +17,7 @@
 
 enum what { RESERVE, BORN, CANCEL, EXITED, STOPPED, ORDER, SPACE };
 
-/* Only the beginning of a question is sent: as far as its text reaches. */
+/* Only the beginning of a question is sent, up to the end of its text. */
 struct question {
 	enum what what;
 	pid_t pid;
@@ -80,7 +80,7 @@ static void *answer_all(void *argument)
 		if (send(end, &r, sizeof r, MSG_NOSIGNAL) != sizeof r)
 			break;
 	}
-	/* the mount is being taken away, and its threads end; where something still holds it, they are ended */
+	/* The mount is being unmounted, and its threads end. If something still holds it, they are killed. */
 	sleep(1);
 	_exit(0);
 }
@@ -102,7 +102,7 @@ void link_use(int end, pid_t process)
 	setsockopt(end, SOL_SOCKET, SO_RCVTIMEO, &patience, sizeof patience);
 }
 
-/* The program may stop the server, which is its user's: it is continued then. */
+/* The program may stop the server, which has the same user: then it is continued. */
 static bool hear(struct reply *r)
 {
 	for (;;) {
@@ -115,7 +115,7 @@ static bool hear(struct reply *r)
 	}
 }
 
-/* Where there is no answer, the one that lets nothing happen is given. */
+/* Without an answer the caller gets the one that allows nothing. */
 static void ask(struct question *q, const char *group, struct reply *r)
 {
 	q->elsewhere = group != NULL;

@@ -1,4 +1,4 @@
-/* What the supervisor of a program asks of the process that serves the mount. */
+/* The requests of a program's supervisor to the process that serves the mount. */
 #ifndef LINK_H
 #define LINK_H
 
@@ -6,25 +6,24 @@
 #include <stddef.h>
 #include <sys/types.h>
 
-/* A pair of ends; false where it cannot be had. */
+/* A pair of ends; false if it cannot be made. */
 bool link_make(int ends[2]);
 /* The server's side: a thread that answers until the other end closes, and then ends this process. */
 bool link_answer(int end);
 /* The supervisor's side; `process` is the server. */
 void link_use(int end, pid_t process);
-/* 0 and a reservation, or the negated errno by which the process may not fork (into a group, where that is not NULL).
-   Where the server has died nothing may fork. */
+/* 0 and a reservation, or the negated errno if the process may not fork (into a group, if that is not NULL). If the server
+   has died, nothing may fork. */
 int link_reserve(pid_t parent, const char *group, unsigned *reservation);
-/* 0, or a negated errno where the child may not run. The reservation has ended.
-   `frozen`: it stays at its first stop. */
+/* 0, or a negated errno if the child may not run. The reservation has ended. `frozen`: it stays at its first stop. */
 int link_born(unsigned reservation, pid_t child, bool *frozen);
 void link_cancel(unsigned reservation);
 void link_exited(pid_t pid);
-/* All threads of a frozen process rest; or no longer. */
+/* All threads of a frozen process rest, or no longer do. */
 void link_stopped(pid_t pid, bool stopped);
 /* A process has made a cgroup namespace. */
 void link_space(unsigned number, pid_t maker);
-/* The next process that is to stop or to go on; false: there is none. */
+/* The next process that has to stop or to continue; false if there is none. */
 bool link_order(pid_t *pid, bool *stop);
 
 #endif

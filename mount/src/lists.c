@@ -16,12 +16,12 @@ static bool is_blank(char c)
 
 /* ---------------------------------------------------------------- reading */
 
-/* FIRST-LAST:USED/OF, of which all but the first may be left out: of each OF numbers the first USED. */
+/* FIRST-LAST:USED/OF, of which all but the first may be missing: of each OF numbers the first USED. */
 struct region {
 	unsigned first, last, used, of;
 };
 
-/* A number; N is the last one that there can be. NULL: it is none. */
+/* A number; N is the last possible one. NULL: not a number. */
 static const char *take_number(const char *at, unsigned bits, unsigned *out, int *fault)
 {
 	if (*at == 'N') {

@@ -1,4 +1,4 @@
-/* The command line: makhloeum mount, makhloeum run, and the commands that are programs of their own. */
+/* The command line: makhloeum mount, makhloeum run, and the commands that are separate programs. */
 #include "run.h"
 #include "serve.h"
 #include "subcommand.h"
@@ -41,7 +41,7 @@ static const char help[] =
 	"The status of run is that of PROGRAM, or 128 plus the signal that ended it. It is 2 for a bad command line, or if\n"
 	"the machine does not allow what is needed; one sentence then names it.\n";
 
-/* A standard stream that is closed is /dev/null: else the next file that is opened has its number. */
+/* A closed standard stream becomes /dev/null; else the next opened file would get its number. */
 static bool have_streams(void)
 {
 	int fd;
@@ -59,7 +59,7 @@ static int bad(void)
 	return 2;
 }
 
-/* Reads the options from argv[at] on; the place behind them, or -1. */
+/* Reads the options from argv[at] on. Returns the index after them, or -1. */
 static int read_options(int argc, char **argv, int at, struct wishes *w)
 {
 	struct { const char *name; bool *flag; const char **word; } options[] = {

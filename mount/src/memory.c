@@ -18,7 +18,7 @@ bool memory_write(pid_t thread, unsigned long at, const void *bytes, size_t size
 
 bool memory_text(pid_t thread, unsigned long at, char *out, size_t size)
 {
-	for (size_t done = 0; done < size;) { /* page by page: the next may not be there */
+	for (size_t done = 0; done < size;) { /* page by page: the next page may not exist */
 		size_t step = PAGE - (at + done) % PAGE;
 		if (step > size - done)
 			step = size - done;

@@ -16,7 +16,7 @@
 #include <sys/syscall.h>
 #include <sys/wait.h>
 
-enum { READ_ONLY = 1, NAME = 16 }; /* MS_RDONLY, which sys/mount.h has beside other names of linux/mount.h */
+enum { READ_ONLY = 1, NAME = 16 }; /* MS_RDONLY; sys/mount.h conflicts with other names of linux/mount.h */
 
 static bool names_cgroup2(const struct seccomp_notif *call, int argument)
 {
@@ -42,7 +42,7 @@ bool mounting_root(pid_t thread, char *out, size_t size)
 	return snprintf(out, size, "%s", text + 3) < (int)size;
 }
 
-/* What the thread may do in its own user namespace. */
+/* The thread's capabilities in its own user namespace. */
 static bool has_capability(pid_t thread, int which)
 {
 	char path[40], line[256];
@@ -70,8 +70,8 @@ static bool is_own(int space, const char *which)
 	return fstat(space, &st) == 0 && stat(path, &own) == 0 && st.st_ino == own.st_ino;
 }
 
-/* In a process of its own, since a namespace is entered by one without other threads. Only calls that a fork of a process
-   with threads may make. */
+/* In a separate process, since only a process without other threads can enter a namespace. It may make only calls that are
+   allowed after a fork of a process with threads. */
 static int attach(int tree, int target, int users, int mounts)
 {
 	int status;
@@ -92,7 +92,7 @@ static int attach(int tree, int target, int users, int mounts)
 	return WIFEXITED(status) ? WEXITSTATUS(status) : EIO;
 }
 
-/* A copy of the mount, from the root of the caller's namespace on. */
+/* A copy of the mount, starting at the root of the caller's namespace. */
 static int copy_of_mount(pid_t thread, bool read_only)
 {
 	char group[PATH_MAX_SAID];

@@ -7,10 +7,10 @@
 #include <stddef.h>
 #include <sys/types.h>
 
-/* mount: true where it asks for cgroup2, and then the errno of the answer. The caller is still there as long as `call` is
-   valid at the listener. */
+/* mount: true if it asks for cgroup2, and then the errno of the answer. The caller still exists as long as `call` is valid
+   at the listener. */
 bool mounting_takes(int listener, const struct seccomp_notif *call, int *error);
-/* fsopen: true where it asks for cgroup2. */
+/* fsopen: true if it asks for cgroup2. */
 bool mounting_opens(const struct seccomp_notif *call);
 /* The root of a thread's cgroup namespace. */
 bool mounting_root(pid_t thread, char *out, size_t size);

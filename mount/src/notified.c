@@ -50,8 +50,8 @@ static void let_through(int listener, const struct seccomp_notif *call)
 
 /* ---------------------------------------------------------------- statfs */
 
-/* The number of the caller is its own as long as the call is not over; its memory is opened before that is asked, so that
-   what is written goes to no other. It can be kept waiting, and then only this call waits. */
+/* The caller keeps its number until the call ends. Its memory is opened before that is checked, so the write reaches no
+   other process. The read may block, and then only this call waits. */
 static bool write_answer(int listener, const struct seccomp_notif *call, unsigned long at, const void *bytes, size_t size)
 {
 	char path[40];
@@ -61,7 +61,7 @@ static bool write_answer(int listener, const struct seccomp_notif *call, unsigne
 	       pwrite(memory, bytes, size, (off_t)at) == (ssize_t)size;
 }
 
-/* True where the mount was asked for, and the answer has been given. */
+/* True if the mount was asked for and the answer has been given. */
 static bool answer_statfs(int listener, const struct seccomp_notif *call)
 {
 	char path[PATH_MAX];
@@ -86,8 +86,8 @@ struct open_call {
 	char path[PATH_MAX];
 };
 
-/* The supervisor's own copy of what is asked. The program can change its memory afterwards: then the kernel opens another
-   file than was looked at, and what is in the text of /proc is what the machine has. */
+/* The supervisor's own copy of the arguments. The program can change its memory afterwards; then the kernel opens another
+   file than the one that was checked, and a text of /proc is the machine's. */
 static bool read_open(const struct seccomp_notif *call, struct open_call *out)
 {
 	const __u64 *a = call->data.args;
@@ -124,7 +124,7 @@ static bool answer_open(int listener, const struct seccomp_notif *call)
 	cleanup_fd int text = file < 0 ? -1 : procfiles_text(thread, file);
 	if (text < 0)
 		return false;
-	if (asked.flags & O_RDWR) { /* these files are for reading alone */
+	if (asked.flags & O_RDWR) { /* these files can only be read */
 		respond(listener, call, EACCES, 0);
 		return true;
 	}
@@ -138,12 +138,12 @@ static bool answer_open(int listener, const struct seccomp_notif *call)
 		return true;
 	if (errno != EMFILE)
 		return false;
-	/* the caller may have a descriptor again by the time the kernel looks, and would read the machine's text by it */
+	/* the caller may have a descriptor again when the kernel looks, and could read the machine's text through it */
 	respond(listener, call, EMFILE, 0);
 	return true;
 }
 
-/* A caller that knows only the new calls gets ENOSYS, as on an older kernel, and takes mount then. */
+/* A caller that knows only the new calls gets ENOSYS, as on an older kernel, and then uses mount. */
 static bool answer_mount(int listener, const struct seccomp_notif *call)
 {
 	int error = ENOSYS;
@@ -153,7 +153,7 @@ static bool answer_mount(int listener, const struct seccomp_notif *call)
 	return answered;
 }
 
-/* A process has one tracer, and here that is the supervisor. The kernel refuses these too, but says nothing of the reason. */
+/* A process has one tracer, and here that is the supervisor. The kernel refuses these calls too, but does not say why. */
 static bool answer_trace(int listener, const struct seccomp_notif *call)
 {
 	static atomic_flag said = ATOMIC_FLAG_INIT;
@@ -166,7 +166,8 @@ static bool answer_trace(int listener, const struct seccomp_notif *call)
 	return true;
 }
 
-/* Whether it is to change the limits of a process of makhloeum: without descriptors none could look at an open. */
+/* Whether the call changes the limits of a process of makhloeum: without descriptors such a process could not look at an
+   open. */
 static bool limits_us(const struct seccomp_notif *call)
 {
 	return call->data.nr == __NR_prlimit64 && call->data.args[2] && opening_is_own((pid_t)call->pid, (pid_t)call->data.args[0]);

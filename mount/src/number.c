@@ -1,12 +1,12 @@
 /* The kernel reads a number by kstrtoll with base 0: an optional sign, then 0x and hexadecimal, 0 and octal, or decimal
-   digits. The ranges, and which errno a number outside them has, differ from file to file. */
+   digits. The ranges, and the errno of a number outside them, differ from file to file. */
 #include "number.h"
 #include <errno.h>
 #include <limits.h>
 #include <stdio.h>
 #include <string.h>
 
-enum { LARGEST = 4096 }; /* what one write may have: a page */
+enum { LARGEST = 4096 }; /* the most that one write may have: a page */
 
 static const long long pid_max = 4194303, pids_limit_max = 4194304;
 
@@ -77,7 +77,7 @@ static int limit_said(const char *text, long long largest, int beyond, char said
 		return fault;
 	if (n < 0 || n > largest)
 		return -beyond;
-	/* the greatest int is no limit */
+	/* the greatest int means no limit */
 	return n == INT_MAX ? say_max(said) : say(said, n);
 }
 
@@ -89,7 +89,7 @@ static int pid_said(const char *text, char said[SAID_MAX])
 	return n > pid_max ? -ESRCH : say(said, n);
 }
 
-/* A number in a range, as cgroup.kill and cgroup.freeze take it. */
+/* A number in a range, as in cgroup.kill and cgroup.freeze. */
 static int int_said(const char *text, long long least, long long most, char said[SAID_MAX])
 {
 	long long n;

@@ -42,7 +42,7 @@ static void wake(struct opened *o)
 	o->waiting = NULL;
 }
 
-/* Takes it out of those of its group. */
+/* Removes it from the list of its group. */
 static void leave(struct opened *o)
 {
 	if (!o->of)
@@ -84,7 +84,7 @@ int opened_keep(struct opened *o, const char *text, size_t size)
 	return 0;
 }
 
-/* A read that begins where the last one ended goes on in the text that it gave; any other is one of the text of now. */
+/* A read that begins where the last one ended continues the earlier text; any other gets the current text. */
 bool opened_goes_on(const struct opened *o, off_t at)
 {
 	WANTS_LOCK();

@@ -1,4 +1,4 @@
-/* Open files: each keeps the text that it began to read, and who waits for another. */
+/* Open files: each keeps the text that it began to read, and who waits for a change. */
 #ifndef OPENED_H
 #define OPENED_H
 
@@ -8,31 +8,31 @@
 enum { A_DIRECTORY = -1 }; /* as `control` */
 
 struct opened {
-	struct opened *next, *before; /* among those of the group */
+	struct opened *next, *before; /* in the list of its group */
 	struct remembered *of;     /* NULL once the group was removed */
-	const struct file *file;   /* NULL: a directory, or one of the control directory */
+	const struct file *file;   /* NULL: a directory, or a file of the control directory */
 	long control;
 	char *group;
-	char *text;                /* as of the last read that did not go on where another ended */
+	char *text;                /* of the last read that did not continue an earlier one */
 	size_t size;
 	off_t read_to;             /* where the last read ended */
-	bool changed;              /* since it was last read; at first it is */
+	bool changed;              /* since its last read; true at first */
 	struct fuse_pollhandle *waiting;
 };
 
-/* All calls want the engine's lock. */
+/* All calls require the engine's lock. */
 struct opened *opened_new(const char *group, const struct file *file, long control);
 void opened_free(struct opened *o);
-/* Keeps a text for the reads that go on. */
+/* Keeps a text for the reads that continue it. */
 int opened_keep(struct opened *o, const char *text, size_t size);
 bool opened_goes_on(const struct opened *o, off_t at);
 int opened_read(struct opened *o, char *out, size_t size, off_t at);
-/* A poll: what is to be told, and who is to be woken once it is otherwise. */
+/* A poll: returns what it reports, and notes whom to wake at the next change. */
 unsigned opened_poll(struct opened *o, struct fuse_pollhandle *waiter);
 bool opened_is_gone(const struct opened *o);
 /* The text of a file has changed. */
 void opened_wake(const struct remembered *r, const struct file *file);
-/* The group is there no more. */
+/* The group was removed. */
 void opened_lose(struct remembered *r);
 
 #endif

@@ -12,7 +12,7 @@
 
 enum { LINKS = 40, PROC_ROOT = 1 };
 
-/* ---------------------------------------------------------------- numbers of processes */
+/* ---------------------------------------------------------------- process numbers */
 
 bool opening_same_numbers(pid_t a, pid_t b)
 {
@@ -25,7 +25,7 @@ bool opening_same_numbers(pid_t a, pid_t b)
 	return stat(path, &other) == 0 && one.st_ino == other.st_ino && one.st_dev == other.st_dev;
 }
 
-/* A number in /proc/PID/status: the last one of the line that begins so. */
+/* A number in /proc/PID/status: the last one of the line with this beginning. */
 static pid_t status_number(pid_t pid, const char *key)
 {
 	char path[40], line[256];
@@ -45,8 +45,8 @@ pid_t opening_process_of(pid_t thread)
 	return status_number(thread, "Tgid:");
 }
 
-/* The helper asks: its parent is the supervisor, whose other children it traces, but for those that are of makhloeum. In
-   another namespace of numbers none of them has one. */
+/* The caller is the helper. Its parent is the supervisor, which traces its other children, except those of makhloeum. In
+   another PID namespace none of these has a number. */
 bool opening_is_own(pid_t thread, pid_t number)
 {
 	if (!opening_same_numbers(thread, getpid()))
@@ -70,7 +70,7 @@ pid_t opening_seen_from(pid_t thread, pid_t number)
 
 /* ---------------------------------------------------------------- one step of a path */
 
-/* Where a walk is. `rest` is what is left of the path. */
+/* How far a walk has come. `rest` is what is left of the path. */
 struct walk {
 	pid_t thread;
 	int root, at;
@@ -150,7 +150,7 @@ static bool is_own_proc(int fd)
 	       st.stx_dev_minor == own.stx_dev_minor;
 }
 
-/* /proc/self and /proc/thread-self are what the thread is where that /proc was mounted. */
+/* /proc/self and /proc/thread-self mean the thread as it is numbered where that /proc was mounted. */
 static bool follow_self(struct walk *w, const char *name)
 {
 	char text[64];
@@ -164,7 +164,8 @@ static bool follow_self(struct walk *w, const char *name)
 	return go_on_with(w, text);
 }
 
-/* The directory of descriptors of a process that is not dumpable is the superuser's alone, but who may trace it may have one. */
+/* Only the superuser may open the directory of descriptors of a process that is not dumpable, but a process that may trace
+   it may get one. */
 static int take_descriptor(int directory, const char *name)
 {
 	char link[40], path[64];
@@ -187,7 +188,7 @@ static bool follow(struct walk *w, int link, const char *name)
 		bool at_root = is_proc_root(w->at);
 		if (at_root && (strcmp(name, "self") == 0 || strcmp(name, "thread-self") == 0))
 			return follow_self(w, name);
-		if (!at_root) { /* not a text, but a file: a descriptor, a directory, a program */
+		if (!at_root) { /* not a text but a file: a descriptor, a directory, a program */
 			int to = openat(w->at, name, O_PATH | O_CLOEXEC);
 			if (to >= 0)
 				go(w, to);
@@ -255,8 +256,8 @@ static int walk_by_hand(pid_t thread, int root, int from, const char *path, bool
 
 /* ---------------------------------------------------------------- the whole path */
 
-/* Where the root is that of this process the kernel finds the file at once, unless it is one of /proc, where it depends on
-   who asks; or is not there for this process. */
+/* If the thread has the root of this process, the kernel finds the file directly. The exceptions are files of /proc, where
+   it depends on who asks, and files that this process does not see. */
 int opening_find(pid_t thread, int directory, const char *path, bool follows)
 {
 	cleanup_fd int root = open_of(thread, "root");

@@ -1,5 +1,6 @@
-/* Which file an open of the program would open: as the kernel finds it for that thread, from its root and its directory,
-   through its /proc/self and its descriptors. Any of this may take as long as a file system of the program likes. */
+/* The file that an open of the program would open. It is found as the kernel finds it for that thread: from its root and
+   its directory, through its /proc/self and its descriptors. A file system of the program can delay any of this for any
+   time. */
 #ifndef OPENING_H
 #define OPENING_H
 
@@ -8,15 +9,15 @@
 
 /* A descriptor (O_PATH) of the file, or -1. */
 int opening_find(pid_t thread, int directory, const char *path, bool follows);
-/* That of a descriptor of the thread. */
+/* The same for a descriptor of the thread. */
 int opening_of_descriptor(pid_t thread, int fd);
 /* Whether two threads see the same process numbers. */
 bool opening_same_numbers(pid_t a, pid_t b);
-/* The process of a thread here. */
+/* The process of a thread, in the numbers of this process. */
 pid_t opening_process_of(pid_t thread);
-/* Whether the number, as the asking thread sees it, is that of a thread of makhloeum. */
+/* Whether the number, in the numbers of the asking thread, is that of a thread of makhloeum. */
 bool opening_is_own(pid_t thread, pid_t number);
-/* The process here that has this number, or a thread with it, where the asking thread is. */
+/* The process that has this number, or a thread with it, in the numbers of the asking thread. */
 pid_t opening_seen_from(pid_t thread, pid_t number);
 
 #endif

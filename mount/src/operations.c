@@ -17,7 +17,7 @@ static void *start(struct fuse_conn_info *connection, struct fuse_config *config
 	return NULL;
 }
 
-/* An open with truncation, and a truncation, are taken and mean nothing. */
+/* An open with truncation and a truncation succeed and do nothing. */
 static int truncate_nothing(const char *path, off_t size, struct fuse_file_info *fi)
 {
 	(void)path, (void)size, (void)fi;

@@ -7,18 +7,18 @@
 #include <stdbool.h>
 #include <sys/stat.h>
 
-/* How the mount looks. */
+/* The options of the mount. */
 struct look {
 	bool history;      /* the control directory is listed, and has the files of a history */
 	bool marked;       /* statfs carries a mark by which the supervisor knows this file system */
 	uid_t uid;
 	gid_t gid;
-	struct timespec born; /* every time that it tells */
+	struct timespec born; /* at each notification */
 };
 extern struct look look;
 extern const struct fuse_operations operations;
 
-/* What the mark is: a number of free files that no file system has. */
+/* The mark: a number of free files that no file system has. */
 enum { MARK = 0x6d6b6872 };
 
 /* Groups (tree.c) */
@@ -38,7 +38,7 @@ int content_write(const char *path, const char *data, size_t size, off_t at, str
 int content_poll(const char *path, struct fuse_file_info *fi, struct fuse_pollhandle *waiter, unsigned *told);
 int content_release(const char *path, struct fuse_file_info *fi);
 
-/* Owners and modes that were given to a group or file (owner.c); all want the engine's lock. */
+/* Owners and modes that were given to a group or file (owner.c); all require the engine's lock. */
 void owner_apply(const struct place *place, struct stat *st);
 int owner_set(const struct place *place, const struct stat *st);
 void owner_forget(struct remembered *r);

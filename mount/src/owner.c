@@ -1,4 +1,4 @@
-/* Owners and modes are remembered and shown, and decide nothing: the mount is one user's. */
+/* Owners and modes are stored and shown, and decide nothing: the mount belongs to one user. */
 #include "engine.h"
 #include "operations.h"
 #include "remembered.h"
@@ -7,7 +7,7 @@
 
 struct owned {
 	struct owned *next;
-	const struct file *file; /* NULL: the group's own */
+	const struct file *file; /* NULL: of the group itself */
 	uid_t uid;
 	gid_t gid;
 	mode_t mode;

@@ -27,7 +27,7 @@ static int new_text(const char *name, FILE **out)
 	return fd;
 }
 
-/* A file of the mount, so that it has today's group also where it stays open. */
+/* A file of the mount, so that it shows the current group even if it stays open. */
 static int cgroup_text(pid_t reader, pid_t pid)
 {
 	char name[48];
@@ -51,7 +51,7 @@ static bool take_word(const char *line, int which, char *out, size_t size)
 	return true;
 }
 
-/* A line of mountinfo without its tail. The mount's root is said as it is seen from that of the reader's namespace. */
+/* A line of mountinfo without its end. The mount's root is shown relative to the root of the reader's namespace. */
 static void put_info(FILE *out, const char *line, const char *root)
 {
 	char group[LONG], seen[LONG];
@@ -64,7 +64,7 @@ static void put_info(FILE *out, const char *line, const char *root)
 	fprintf(out, "%.*s%s%s - cgroup2 cgroup2 rw\n", (int)before, line, seen, line + before + strlen(group));
 }
 
-/* One line of a table: the mount as the kernel would show a cgroup2 one; the machine's own are left out. */
+/* One line of a table: the mount as the kernel would show a cgroup2 mount; the machine's own are left out. */
 static void put_mount(FILE *out, char *line, const char *what, const char *root)
 {
 	char place[LONG], type[64], source[64];
@@ -122,7 +122,7 @@ static int constant_text(const char *name, const char *text)
 
 /* ---------------------------------------------------------------- which file it is */
 
-/* Cuts the last name off a path, and gives it. */
+/* Cuts the last name off a path, and returns it. */
 static const char *cut_name(char *path)
 {
 	char *slash = strrchr(path, '/');

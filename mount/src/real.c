@@ -17,7 +17,7 @@
 
 enum { PIDS = 4194304, PROCESS_ONE = 1 };
 
-/* What is known of each number. A process that a kill of the hierarchy has met is dying: it may fork no more. */
+/* What is known of each number. A process that a kill in the hierarchy reached is dying: it may fork no more. */
 enum { UNKNOWN, LIVE, DYING };
 static unsigned char known[PIDS];
 static enum { NUMBERS, ADOPTED, REPORTED } way;
@@ -56,7 +56,7 @@ static bool is_known(pid_t pid)
 	return pid > 0 && pid < PIDS && known[pid] != UNKNOWN;
 }
 
-/* The group of a process, or false. */
+/* The group of a process; false if there is no such process. */
 static bool find_group(pid_t pid, char group[PATH_MAX_SAID])
 {
 	size_t size;
@@ -120,7 +120,7 @@ static void drop_adopted(pid_t pid)
 		}
 }
 
-/* False where the exit cannot be kept now: an adopted one exits at a later look. */
+/* False if the exit cannot be kept now: an adopted process exits at a later look. */
 static bool die(pid_t pid)
 {
 	char group[PATH_MAX_SAID];
@@ -136,8 +136,8 @@ static bool die(pid_t pid)
 	return true;
 }
 
-/* Asked once the child's descriptor is held: whatever the number means now, a signal goes to a child of an adopted process,
-   or nowhere. */
+/* Called once the child's descriptor is open: whatever the number means now, a signal reaches a child of an adopted
+   process, or nothing. */
 static bool is_child_of(pid_t child, pid_t parent)
 {
 	char path[40], said[64];
@@ -157,13 +157,13 @@ static void adopt_child(pid_t parent, long child)
 	if (remember((pid_t)child))
 		return;
 	int fault = is_child_of((pid_t)child, parent) ? engine_line("fork %d %ld", parent, child) : -ENOENT;
-	/* One that the hierarchy refuses (pids.max, or a parent that it refused) is counted once: the child is real all the same,
-	   and remembered. One that cannot be kept now is adopted at a later look. */
+	/* A child that the hierarchy refuses (pids.max, or a refused parent) is counted once. The child is real all the
+	   same, and is remembered. A child that cannot be kept now is adopted at a later look. */
 	if (fault && fault != -EAGAIN && fault != -ESRCH && fault != -EEXIST)
 		drop_adopted((pid_t)child);
 }
 
-/* The children of each thread. Their list has any length, and a number of it is taken only whole. */
+/* The children of each thread. Their list may have any length; a number at the end of a read may be incomplete. */
 static void adopt_children(pid_t pid)
 {
 	char path[320];
@@ -253,11 +253,11 @@ void real_note(const char *group)
 	}
 }
 
-/* A number stands for the same process until its death is noticed: of an adopted one the descriptor says so. */
+/* A number means the same process until its death is noticed; for an adopted process the descriptor tells. */
 static void slay(pid_t pid)
 {
 	if (way == REPORTED) {
-		/* the supervisor tells of a death before the number is free: a living one is still this process */
+		/* the supervisor reports a death before the number is free, so a living one is still this process */
 		if (reported_kill(pid))
 			kill(pid, SIGKILL);
 		return;

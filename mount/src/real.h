@@ -1,5 +1,5 @@
-/* Real processes that stand in the hierarchy: those that were written to cgroup.procs (mount --adopt), or those of a
-   program under the supervisor (run). Without either a process is a number, and nothing real is ever touched. */
+/* Real processes in the hierarchy: those that were written to cgroup.procs (mount --adopt), or those of a program under the
+   supervisor (run). Without either, a process is only a number, and no real process is ever touched. */
 #ifndef REAL_H
 #define REAL_H
 
@@ -9,17 +9,17 @@
 bool real_adopt_all(void);  /* for mount --adopt */
 void real_are_reported(void); /* for run */
 
-/* The rest wants the engine's lock. */
+/* The rest requires the engine's lock. */
 
-/* Before an operation: those that died exit, and their children that nobody has told of are forked. */
+/* Before an operation: sends the engine an exit for each that died, and a fork for each child that it does not know. */
 void real_sweep(void);
 /* The process of a thread. */
 pid_t real_process_of(pid_t thread);
-/* Before a move: a process that the engine does not have is forked from process 1. 0 or -errno; 1 where it is a zombie,
-   which moves nowhere. */
+/* Before a move: a process that the engine does not have is forked from process 1. 0 or -errno; 1 for a zombie, which does
+   not move. */
 int real_adopt(pid_t pid);
 
-/* Before a kill, the real ones at and below a group; and what becomes of them afterwards. */
+/* Before a kill, notes the real processes at and below a group; after it, kills them. */
 void real_note(const char *group);
 void real_kill_noted(void);
 

@@ -120,7 +120,7 @@ bool registers_set_ticket(pid_t thread, const struct registers *before, unsigned
 	return write_all(thread, &k);
 }
 
-/* The first register has the result, and where a call is begun anew the kernel has kept the first argument. */
+/* The first register has the result; if a call is restarted, the kernel has kept the first argument. */
 bool registers_restore(pid_t thread, const struct registers *before)
 {
 	struct registers now;

@@ -14,7 +14,7 @@
 
 enum { PIDS = 4194304, PROCESS_ONE = 1 };
 
-/* A process that a kill of the hierarchy has met is dying: it may fork no more. */
+/* A process that a kill in the hierarchy reached is dying: it may fork no more. */
 enum { UNKNOWN, LIVE, DYING };
 static unsigned char known[PIDS];
 
@@ -33,7 +33,7 @@ static bool in_range(pid_t pid)
 	return pid > PROCESS_ONE && pid < PIDS;
 }
 
-/* 0; -ESRCH where the hierarchy has no such process; any other errno where it can't be known. */
+/* 0; -ESRCH if the hierarchy has no such process; any other errno if it can't be known. */
 static int find_group(pid_t pid, char group[PATH_MAX_SAID])
 {
 	if (pid == 0)
@@ -90,8 +90,8 @@ static long reserved_below(const char *top)
 	return count;
 }
 
-/* 1 where one more than `coming` does not go into this group; 0; or -errno where it can't be known, and nothing may be
-   made. */
+/* 1 if one more than `coming` does not fit into this group; 0 if it does; -errno if it can't be known, and then nothing may
+   be made. */
 static int is_full(const char *group, long coming)
 {
 	uint64_t most, count;
@@ -121,7 +121,8 @@ static pid_t free_number(pid_t below)
 	return pid;
 }
 
-/* The engine counts a refusal that it makes itself. Where only reservations fill the group, they stand in it meanwhile. */
+/* The engine counts only a refusal that it makes itself. If only reservations fill the group, temporary processes take
+   their places meanwhile. */
 static int refuse(pid_t parent, const char *group)
 {
 	pid_t lowest = PIDS;
@@ -142,8 +143,8 @@ static bool trace_may_be_full;
 
 enum { AS_LONG_AS_A_FORK = 64 };
 
-/* A fork whose line can't be kept is found out when its child is there already. Afterwards a line that changes nothing, and
-   is longer with its blanks, is tried first, until one is kept. */
+/* That a fork's line can't be kept is noticed only when its child already exists. Afterwards a line that changes nothing,
+   and that blanks make longer, is tried first, until one is kept. */
 static bool has_room(pid_t parent)
 {
 	if (trace_may_be_full) {
@@ -168,21 +169,21 @@ int reported_reserve(pid_t parent, const char *group, unsigned *reservation)
 	int fault = group ? controllers_may_enter(group) : find_group(parent, at);
 	if (group && fault)
 		return fault;
-	if (group || fault == -ESRCH) /* where there is none, its own fork was undone */
+	if (group || fault == -ESRCH) /* if there is none, its own fork was undone */
 		snprintf(at, sizeof at, "%s", group ? group : "/");
 	else if (fault)
 		return fault;
 	int full = is_any_full(at, true);
 	if (full < 0)
 		return full;
-	if (full) /* one that is born in another group is refused there, where nobody forks: no event is counted */
+	if (full) /* a child for another group is refused in that group, where nobody forks: no event is counted */
 		return group ? -EAGAIN : refuse(parent, at);
 	return reserve(at, parent, group != NULL, reservation);
 }
 
 /* ---------------------------------------------------------------- births and deaths */
 
-/* A move asks no limit, and process 1 stands in the root, which has none: the child was allowed already. */
+/* A move checks no limit, and process 1 is in the root, which has none: the child was allowed already. */
 static int place(pid_t child, const char *group)
 {
 	int fault = engine_line("fork %d %d", PROCESS_ONE, child);
@@ -247,14 +248,14 @@ void reported_exited(pid_t pid)
 	watch_above(group);
 }
 
-/* ---------------------------------------------------------------- what else the file system asks */
+/* ---------------------------------------------------------------- what else the file system needs */
 
 void reported_sweep(void)
 {
 	zombies_sweep();
 }
 
-/* A program writes any number: what is none of its own processes stays where it is. */
+/* A program may write any number; a process that is not its own stays where it is. */
 int reported_move(pid_t pid)
 {
 	if (zombies_has(pid))

@@ -73,9 +73,9 @@ static int receive_listener(int from)
 	return fd;
 }
 
-/* With --root the program has every capability over what is in its namespace. What is not dumpable belongs to the
-   namespace in which makhloeum was begun: so the program takes hold of no process that nobody counts, by ptrace or by its
-   memory. (A sanitizer looks for leaks by ptrace.) */
+/* With --root the program has every capability over what is in its namespace. What is not dumpable belongs to the namespace
+   in which makhloeum was started, so the program reaches no uncounted process by ptrace or by its memory. (A sanitizer
+   looks for leaks by ptrace.) */
 static void hide(bool hidden)
 {
 #ifndef __SANITIZE_ADDRESS__
@@ -84,7 +84,7 @@ static void hide(bool hidden)
 	(void)hidden;
 }
 
-/* Waits until it is held, takes the filter, and becomes the program. */
+/* Waits until it is traced, installs the filter, and becomes the program. */
 static void become(char **program, int control, const sigset_t *signals)
 {
 	char go;
@@ -109,7 +109,7 @@ static void become(char **program, int control, const sigset_t *signals)
 
 /* ---------------------------------------------------------------- the supervisor */
 
-/* Passes signals on that were meant for the program: some at a time, since the program may send them too. */
+/* Passes on signals that were meant for the program: a few at a time, since the program may send them too. */
 static void pass_on(int signals, pid_t program)
 {
 	struct signalfd_siginfo one;
@@ -118,7 +118,7 @@ static void pass_on(int signals, pid_t program)
 			kill(program, (int)one.ssi_signo);
 }
 
-/* What the supervisor listens to. Each is asked once in a turn, and none is waited for while another has something. */
+/* What the supervisor listens to. It asks each once in a turn, and waits for none while another has something. */
 struct ears {
 	int signals, link, helper, freezer;
 };
@@ -130,8 +130,8 @@ static void hear_helper(void)
 		births_arguments(&reply);
 }
 
-/* The program decides how often it forks and ends, and how long a reading of its memory takes. A turn takes what is there,
-   answers each thread once, and then hears the signals and the server again. */
+/* The program decides how often it forks and ends, and how long a read of its memory takes. A turn takes the pending stops,
+   answers each thread once, and then looks at the signals and the server again. */
 static int watch_over(const struct ears *ears, pid_t program)
 {
 	int status = 0;
@@ -160,7 +160,7 @@ static int watch_over(const struct ears *ears, pid_t program)
 	return WIFEXITED(status) ? WEXITSTATUS(status) : KILLED + WTERMSIG(status);
 }
 
-/* Ends a program that was not let run. */
+/* Ends a program that was not allowed to run. */
 static int give_up(pid_t program, const char *why)
 {
 	int status;
@@ -179,11 +179,11 @@ static int supervise(char **program, const sigset_t *before, int signals, int li
 		say("this machine does not allow a socket: %s", strerror(errno));
 		return REFUSED_HERE;
 	}
-	/* what the program leaves without a parent is waited for here, and not by the machine's first process */
+	/* this process, not the machine's first one, waits for the orphans that the program leaves */
 	prctl(PR_SET_CHILD_SUBREAPER, 1, 0, 0, 0);
 	pid_t pid = fork();
 	if (pid == 0) {
-		close(control[0]); /* or it would wait for ever where the supervisor is killed */
+		close(control[0]); /* else it would wait forever if the supervisor is killed */
 		become(program, control[1], before);
 	}
 	close(control[1]);
@@ -205,7 +205,7 @@ static int supervise(char **program, const sigset_t *before, int signals, int li
 	return watch_over(&ears, pid);
 }
 
-/* The mount goes, and with it the process that serves it. */
+/* Unmounts, which ends the server. */
 static void end_server(pid_t server, int end)
 {
 	int status;
@@ -221,7 +221,7 @@ static void end_server(pid_t server, int end)
 	waitpid(server, &status, 0);
 }
 
-/* Whether a tracer is seen, as it is inside another run. */
+/* Whether there is a tracer, as inside another run. */
 static bool is_traced(void)
 {
 	char line[128];
@@ -277,7 +277,7 @@ int run_program(char **program, const struct wishes *asked)
 	signal(SIGQUIT, SIG_IGN);
 	int signals = signalfd(-1, &held, SFD_CLOEXEC | SFD_NONBLOCK);
 	link_use(ends[0], server);
-	/* until it is asked for once, the kernel takes the mount's root for nobody's, where nothing may be made */
+	/* until its first request, the kernel thinks that nobody owns the mount's root, and nothing can be made there */
 	int status = 1;
 	if (stat(cgroup_mount, &(struct stat){ 0 }))
 		say("the mount does not answer: %s", strerror(errno));

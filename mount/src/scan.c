@@ -45,7 +45,7 @@ bool scan_word(const char **at, char *out, size_t size)
 	return n > 0;
 }
 
-/* Digits of a base: how many there are. */
+/* The number of digits of a base. */
 static size_t digits(const char *text, unsigned base, unsigned long long *out, bool *wraps)
 {
 	size_t n = 0;
@@ -67,7 +67,7 @@ bool scan_decimal(const char **at, unsigned long long *out)
 	return n > 0;
 }
 
-/* Skips what tells the base. */
+/* Skips the prefix that says the base. */
 static unsigned base_of(const char **at)
 {
 	if ((*at)[0] != '0')

@@ -35,7 +35,7 @@ void say(const char *format, ...)
 
 static struct kept trace, answers;
 
-/* Nothing is changed before all is found to be right. */
+/* Nothing is changed before everything was found right. */
 static bool open_kept(const struct wishes *wishes)
 {
 	bool right = kept_open(&trace, wishes->trace);
@@ -85,9 +85,9 @@ static struct fuse *make_session(void)
 	return fuse;
 }
 
-/* What is otherwise than libfuse has it. A read from an unmounted connection fails with ENODEV, or with ECONNABORTED if a request was still pending. At ENODEV
-   libfuse ends its loop quietly; at any other errno it prints a message and returns an error. And of a node that was removed
-   libfuse answers ESTALE by itself, where a group that is there no more is ENOENT. */
+/* What differs from libfuse. A read from an unmounted connection fails with ENODEV, or with ECONNABORTED if a request was
+   still pending. At ENODEV libfuse ends its loop quietly; at any other errno it prints a message and returns an error. For
+   a removed node libfuse answers ESTALE by itself; a removed group has to be ENOENT. */
 #if FUSE_VERSION >= FUSE_MAKE_VERSION(3, 14)
 static ssize_t read_request(int from, void *request, size_t size, void *unused)
 {
@@ -123,7 +123,7 @@ static bool use_own_io(struct fuse_session *session)
 }
 #endif
 
-/* Where no more threads may be made libfuse says so for each that it wants: it goes on with those that it has. */
+/* If no more threads can be made, libfuse says so for each that it wants, and continues with those that it has. */
 static void say_for_fuse(enum fuse_log_level level, const char *format, va_list words)
 {
 	static atomic_flag said = ATOMIC_FLAG_INIT;
@@ -133,7 +133,7 @@ static void say_for_fuse(enum fuse_log_level level, const char *format, va_list 
 	vfprintf(stderr, format, words);
 }
 
-/* Answers until the mount is taken away, or cannot begin to. */
+/* Answers until it is unmounted, or cannot begin to. */
 static int answer(struct fuse *fuse, void (*ready)(void))
 {
 	struct fuse_session *session = fuse_get_session(fuse);
@@ -167,7 +167,7 @@ int serve(const char *where, void (*ready)(void))
 
 /* ---------------------------------------------------------------- makhloeum mount */
 
-static int to_starter = -1; /* a pipe to the process that waits until the mount is there */
+static int to_starter = -1; /* a pipe to the process that waits until the mount is in place */
 
 static void tell_starter(void)
 {
@@ -175,7 +175,7 @@ static void tell_starter(void)
 		return;
 	char status = 0;
 	if (write(to_starter, &status, 1) < 0) {
-		/* it has gone */
+		/* it was unmounted */
 	}
 	close(to_starter);
 	to_starter = -1;
@@ -186,7 +186,7 @@ static void tell_starter(void)
 		close(null);
 }
 
-/* The starter's part: it ends once the mount is there, or with the status of the process that failed. */
+/* The starter's part: it ends once the mount is in place, or with the status of the process that failed. */
 static int wait_for(pid_t server, int from)
 {
 	char status;

@@ -12,7 +12,7 @@
 #include <sys/wait.h>
 #include <unistd.h>
 
-/* The kernel takes less than a page of text; two lines are shorter than TWO_LINES. */
+/* The kernel accepts less than a page of text; two lines are shorter than TWO_LINES. */
 enum { MAP_SIZE = 4096, TWO_LINES = 80 };
 
 const char cgroup_mount[] = "/sys/fs/cgroup", cgroup_source[] = "cgroup2";
@@ -29,7 +29,7 @@ static bool put(const char *file, const char *text)
 	return done;
 }
 
-/* With the map of one user, which a process writes for itself; the numbers are taken before it is nobody there. */
+/* With the map of one user, which a process writes for itself; the numbers are read before it has none there. */
 static bool enter_alone(bool as_root)
 {
 	char users[64], groups[64];
@@ -39,8 +39,8 @@ static bool enter_alone(bool as_root)
 	       put("/proc/self/gid_map", groups);
 }
 
-/* Gives a process the numbers that this one has, each as itself. 0 has a line of its own: a map of one line with all numbers
-   is how programs know the machine's first user namespace, where they expect to be allowed more. */
+/* Gives a process the user numbers that this one has, each mapped to itself. 0 has its own line: programs take a map of one
+   line with all numbers for the machine's first user namespace, where they expect to be allowed more. */
 static bool map_all(pid_t pid, const char *which)
 {
 	char path[40], text[MAP_SIZE] = "";
@@ -60,7 +60,8 @@ static bool map_all(pid_t pid, const char *which)
 	return own && feof(own) && put(path, text);
 }
 
-/* Only a process outside may write maps of several users: so one is left outside, and writes once the namespace is there. */
+/* Only a process outside may write maps of several users, so one stays outside and writes them once the namespace exists.
+    */
 static bool enter_with_all(void)
 {
 	int is_in[2], status = 0;
@@ -96,7 +97,7 @@ bool space_enter(const struct wishes *wishes)
 		say("this machine does not allow user namespaces: %s", strerror(errno));
 		return false;
 	}
-	/* what is read past the supervisor then has no path of the machine's own; where there is no such namespace, it has */
+	/* then a file that is read past the supervisor has no path of the machine's; without such a namespace it has */
 	(void)unshare(CLONE_NEWCGROUP);
 	return true;
 }

@@ -6,7 +6,8 @@
 #include <string.h>
 #include <sys/stat.h>
 
-/* The kernel uses a number again once its namespace has gone: so there are as many as were ever there at once. */
+/* The kernel reuses a number once its namespace is gone, so there are as many entries as there ever were namespaces at
+   once. */
 static struct space {
 	struct space *next;
 	unsigned number;
@@ -34,7 +35,7 @@ void spaces_made(unsigned number, pid_t maker)
 	}
 	size_t size = strlen(group) + 1;
 	struct space *s = malloc(sizeof *s + size);
-	if (!s) /* its root is the hierarchy's then */
+	if (!s) /* then its root is the hierarchy's */
 		return;
 	*s = (struct space){ .next = all, .number = number };
 	memcpy(s->root, group, size);

@@ -8,7 +8,7 @@
 
 enum { UNKNOWN = 2, NAME_MOST = 64 };
 
-/* A name has no slash, so that makhloeum-NAME is a file of the folders that are looked into. */
+/* A name has no slash, so that makhloeum-NAME is a file in the folders that are searched. */
 static int is_name(const char *word)
 {
 	size_t size = strlen(word);

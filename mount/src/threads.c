@@ -63,7 +63,7 @@ size_t threads_count(void)
 	return count;
 }
 
-/* A number in the table is not free in the kernel: nobody but the supervisor takes a death of one that it holds. */
+/* A number in the table is not free in the kernel: only the supervisor can wait for a thread that it traces. */
 void threads_kill_all(void)
 {
 	for (struct thread *t = all; t; t = t->next)

@@ -1,4 +1,4 @@
-/* The threads that the supervisor holds. */
+/* The threads that the supervisor traces. */
 #ifndef THREADS_H
 #define THREADS_H
 
@@ -8,34 +8,35 @@
 
 struct birth;
 
-/* Where a thread is that does not run: kept at a stop of all of its process, or before a call; stopped by a signal; waiting
-   for the child that it made by vfork. */
+/* Why a thread does not run: kept at a stop of its whole process, or before a call; stopped by a signal; waiting for the
+   child that it made by vfork. */
 enum rest { RUNS, PARKED, BEFORE_CALL, LISTENS, VFORKS };
 
 struct thread {
 	struct thread *next, *before;
 	pid_t id, process;
 	bool started;         /* it has left its first stop */
-	bool counted;         /* a process that the hierarchy was told of */
-	struct birth *makes;  /* the call by which it is making another */
+	bool counted;         /* a process that the hierarchy knows */
+	struct birth *makes;  /* the call by which it is making a child */
 	struct birth *made_by; /* until it has left its first stop */
 	bool frozen;           /* it stays at its next stop */
-	bool unshares;         /* it asks for a cgroup namespace, and has been in that of `space` */
+	bool unshares;         /* it asks for a cgroup namespace, and has been in the namespace `space` */
 	unsigned space;
 	enum rest rest;
 	pid_t vforked_by;
-	/* of the first thread of a process: how many there are, how many of them rest, and whether the server was told that all do */
+	/* of the first thread of a process: how many threads there are, how many of them rest, and whether the server knows
+	   that all do */
 	unsigned members, resting;
 	bool told;
 };
 
-/* NULL where there is none. */
+/* NULL if there is none. */
 struct thread *threads_find(pid_t id);
-/* NULL for want of memory, or where the number is out of range. */
+/* NULL if out of memory, or if the number is out of range. */
 struct thread *threads_add(pid_t id, pid_t process);
 void threads_drop(struct thread *t);
 size_t threads_count(void);
-/* The first of all, and `next` goes on. */
+/* The first of all; `next` leads to the others. */
 struct thread *threads_all(void);
 void threads_kill_all(void);
 

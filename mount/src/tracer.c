@@ -13,7 +13,8 @@
 #include <sys/wait.h>
 #include <unistd.h>
 
-/* So many stops are taken at once, before any of them is answered: no thread is met twice while another waits. */
+/* At most so many stops are taken at once, before any of them is answered: no thread is handled twice while another waits.
+    */
 enum { STOPS = 1024, PATIENCE = 2000 };
 
 static pid_t program;
@@ -35,7 +36,7 @@ bool tracer_hold(pid_t pid)
 /* ---------------------------------------------------------------- stops */
 
 /* The stop was taken a while ago. Meanwhile the thread may have been killed, and another that called execve may have its
-   number and stand at another stop: so the kernel is asked at which it stands now. */
+   number and be at another stop. So the kernel is asked at which stop it is now. */
 static void on_call(struct thread *t)
 {
 	struct __ptrace_syscall_info call;
@@ -43,13 +44,13 @@ static void on_call(struct thread *t)
 		return;
 	if (call.op != PTRACE_SYSCALL_INFO_SECCOMP || halts_keeps(t, BEFORE_CALL))
 		return;
-	if (call.seccomp.nr == SYS_unshare) { /* what it made is looked at behind the call */
+	if (call.seccomp.nr == SYS_unshare) { /* its child is handled after the call */
 		t->unshares = true;
 		t->space = spaces_of(t->id);
 		ptrace(PTRACE_SYSCALL, t->id, 0, 0);
 	} else if (births_is_fork((long)call.seccomp.nr))
 		births_ask(t, (long)call.seccomp.nr);
-	else /* of a filter that the program made for a tracer of its own */
+	else /* of a filter that the program made for its own tracer */
 		ptrace(PTRACE_CONT, t->id, 0, 0);
 }
 
@@ -64,8 +65,8 @@ static void on_birth(struct thread *t, bool waits)
 		ptrace(PTRACE_CONT, t->id, 0, 0);
 }
 
-/* All other threads of the process have been killed. Where it was not the first that called execve, it has the first
-   one's number from now on; and the first, whatever it was doing, is no more, and no death of it is reported. */
+/* All other threads of the process have been killed. If the caller of execve was not the first thread, it has the first
+   one's number from now on. The first thread, whatever it was doing, no longer exists, and its death is not reported. */
 static void on_exec(struct thread *t)
 {
 	unsigned long former = 0;
@@ -81,7 +82,7 @@ static void on_exec(struct thread *t)
 	ptrace(PTRACE_CONT, t->id, 0, 0);
 }
 
-/* The first stop of a new thread, or a stop of all of a process (job control), in which it stays until it is continued. */
+/* The first stop of a new thread, or a stop of a whole process (job control), in which it stays until it is continued. */
 static void on_pause(pid_t id, int signal)
 {
 	struct thread *t = threads_find(id);
@@ -96,7 +97,7 @@ static void on_pause(pid_t id, int signal)
 		ptrace(PTRACE_CONT, id, 0, 0);
 }
 
-/* A call that failed has made none. */
+/* A call that failed has made no child. */
 static void on_unshared(struct thread *t)
 {
 	unsigned space = t->unshares ? spaces_of(t->id) : 0;
@@ -112,7 +113,7 @@ static void on_stop_of(pid_t id, struct thread *t, int status)
 		on_pause(id, signal);
 		return;
 	}
-	if (!t) { /* it has not been let run: so it can have been killed only */
+	if (!t) { /* it was never allowed to run, so it can only have been killed */
 		kill(id, SIGKILL);
 		return;
 	}
@@ -137,8 +138,8 @@ static void on_stop_of(pid_t id, struct thread *t, int status)
 		ptrace(PTRACE_CONT, id, 0, signal);
 }
 
-/* Between the look and the answer another thread of the process may have called execve: then its stop is behind this number,
-   and is met at the next look. */
+/* Between the look and the answer another thread of the process may have called execve: then its stop now has this number,
+   and is handled at the next look. */
 static bool stands_there(pid_t id, int status)
 {
 	siginfo_t now;
@@ -163,7 +164,7 @@ static void on_stop(pid_t id, int status)
 	halts_tell(t->process);
 }
 
-/* The hierarchy hears of a death before the parent does. */
+/* The hierarchy is told about a death before the parent is. */
 static void on_end(pid_t id)
 {
 	struct thread *t = threads_find(id);
@@ -185,7 +186,7 @@ static struct {
 	int status;
 } stops[STOPS];
 
-/* Takes the next one. Returns 0 where there is none, 1 for a stop, and -1 for a death, which is told already. */
+/* Takes the next event. Returns 0 if there is none, 1 for a stop, and -1 for a death, which was reported already. */
 static int take_next(size_t at)
 {
 	siginfo_t next;
@@ -199,7 +200,7 @@ static int take_next(size_t at)
 		return -1;
 	}
 	if (next.si_code == CLD_TRAPPED) {
-		next.si_pid = 0; /* killed in between, it is met again as a death */
+		next.si_pid = 0; /* killed in between; the next look finds its death */
 		if (waitid(P_PID, id, &next, WSTOPPED | WNOHANG | __WALL) || next.si_pid == 0)
 			return -1;
 		stops[at].id = (pid_t)id;

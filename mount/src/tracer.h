@@ -5,17 +5,17 @@
 #include <stdbool.h>
 #include <sys/types.h>
 
-/* Takes hold of the program before it runs; false with errno. Its death ends whatever is left: nothing outlives its
-   tracer. */
+/* Attaches to the program before it runs; false with errno. If the tracer dies, the kernel kills everything that is left.
+    */
 bool tracer_hold(pid_t program);
-/* Looks at what has happened: every stop and death that is there is taken first, and then each stop is answered once. False
-   where nothing had happened. */
+/* Handles what has happened: it takes every pending stop and death, and then answers each stop once. False if nothing had
+   happened. */
 bool tracer_look(void);
-/* Stops and lets go what the freezer says; true where it says more than was done. */
+/* Stops and continues what the freezer says; true if it says more than was done. */
 bool tracer_obey(void);
 /* True once the program has ended, with its wait status. */
 bool tracer_has_ended(int *status);
-/* Ends all that the program left behind. */
+/* Kills everything that the program left behind. */
 void tracer_end_rest(void);
 
 #endif

@@ -55,7 +55,7 @@ static int group_getattr(const char *path, struct stat *st)
 	return 0;
 }
 
-/* A file is as long as its text: sendfile and splice give no more than that of a file of FUSE. */
+/* The size of a file is the length of its text: sendfile and splice transfer no more than that from a FUSE file. */
 static size_t text_size(const struct place *place)
 {
 	const char *text;
@@ -86,7 +86,7 @@ static int getattr(const char *path, struct place *place, struct stat *st)
 	return fault;
 }
 
-/* Of what is open, libfuse tells no path. NULL: its group was removed. */
+/* libfuse gives no path for an open file. NULL: its group was removed. */
 static const char *path_of(const char *path, const struct fuse_file_info *fi, char *out, size_t size)
 {
 	const struct opened *o = path ? NULL : (const struct opened *)(uintptr_t)(fi ? fi->fh : 0);
@@ -170,7 +170,7 @@ int tree_mkdir(const char *path, mode_t mode)
 	int fault = control_has(path) ? -EPERM : path_fault(path);
 	if (fault || (fault = place_of(path, &place)))
 		return fault;
-	if (place.file) /* of a controller that the group may have later */
+	if (place.file) /* of a controller that the group may get later */
 		return -EEXIST;
 	engine_lock();
 	fault = engine_line("mkdir %s", path);
@@ -202,7 +202,7 @@ static void apply(struct stat *st, mode_t mode, uid_t uid, gid_t gid)
 		st->st_gid = gid;
 }
 
-/* Keeps a mode and an owner; what has all bits set stays as it was. */
+/* Stores a mode and an owner; a value with all bits set leaves the old one. */
 static int set_owner(const char *path, mode_t mode, uid_t uid, gid_t gid, struct fuse_file_info *fi)
 {
 	struct stat st;

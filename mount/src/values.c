@@ -21,15 +21,15 @@ static const char memory_stat[] =
 	"pgscan 0\npgsteal 0\npgscan_kswapd 0\npgscan_direct 0\npgsteal_kswapd 0\npgsteal_direct 0\npgfault 0\npgmajfault 0\n"
 	"pgrefill 0\npgactivate 0\npgdeactivate 0\npglazyfree 0\npglazyfreed 0\nthp_fault_alloc 0\nthp_collapse_alloc 0\n";
 
-/* A file that takes values: its parser makes the normal form, or says the errno. `normal` is what a new group has. */
+/* A file that accepts values: its parser returns the normal form or an errno. `normal` is the value in a new group. */
 #define TAKES(file_name, whose, normal, parser) \
 	{ .name = (file_name), .readable = true, .value = WRITES, .write = values_write, .controller = (whose), .constant = (normal), \
 	  .take = (parser) }
-/* One whose text is made from other values. */
+/* A file whose text is made from other values. */
 #define SHOWN(file_name, whose, normal, parser, shower) \
 	{ .name = (file_name), .readable = true, .value = WRITES, .write = values_write, .controller = (whose), .constant = (normal), \
 	  .take = (parser), .show = (shower) }
-/* A counter: nothing was ever counted. `root`: it is on the root too. */
+/* A counter that stays 0. `root`: the root has it too. */
 #define COUNTS(file_name, whose, root, text) \
 	{ .name = (file_name), .on_root = (root), .readable = true, .controller = (whose), .constant = (text) }
 

@@ -1,5 +1,6 @@
-/* Values of other controllers, which are kept and given back. One table has each file with its parser, its normal form, what
-   a new group has, and on which groups it is. The values of a group are remembered with it; the engine has none of them. */
+/* Values of other controllers, which are stored and returned. One table has each file with its parser, its normal form, its
+   value in a new group, and which groups have it. The values of a group are remembered with it; the engine has none of
+   them. */
 #ifndef VALUES_H
 #define VALUES_H
 
@@ -8,11 +9,11 @@
 extern const struct file values_files[];
 extern const size_t values_count;
 
-/* All want the engine's lock. What was last taken for this file of the group, else what stands in for it. */
+/* All require the engine's lock. The last value that this file of the group accepted, else the one of a new group. */
 const char *values_kept(const char *group, const char *name);
-/* Keeps it. 0 or -ENOMEM. */
+/* Stores it. 0 or -ENOMEM. */
 int values_keep(const char *group, const char *name, const char *text);
-/* Drops those of these controllers. */
+/* Drops the values of these controllers. */
 void values_forget(struct remembered *r, unsigned controllers);
 
 /* The write of any kept file. */

@@ -1,4 +1,4 @@
-/* cpu.*: a weight and a nice value are two readings of one number of shares, which is what is kept. */
+/* cpu.*: a weight and a nice value are two forms of one number of shares, which is what is stored. */
 #include "controllers.h"
 #include "scan.h"
 #include "values.h"
@@ -125,7 +125,7 @@ static unsigned long long burst_of(const char *group)
 	return strtoull(values_kept(group, "cpu.max.burst"), NULL, 10);
 }
 
-/* A quota or `max`, and a period, which stays as it was where none is said. */
+/* A quota or `max`, and a period, which stays unchanged if none is given. */
 int cpu_take_max(const char *group, const struct file *file, const char *said, char out[TEXT_ROOM])
 {
 	char word[21];
@@ -167,7 +167,7 @@ int cpu_take_burst(const char *group, const struct file *file, const char *said,
 	return 0;
 }
 
-/* ---------------------------------------------------------------- cpu.stat, which is there without the controller too */
+/* ---------------------------------------------------------------- cpu.stat, which exists without the controller too */
 
 void cpu_stat_show(const char *group, const struct file *file, char out[TEXT_ROOM])
 {

@@ -1,4 +1,4 @@
-/* cpuset.*: lists of processors and of memory nodes, which are those of this machine. */
+/* cpuset.*: lists of processors and of memory nodes of this machine. */
 #include "cleanup.h"
 #include "engine.h"
 #include "lists.h"
@@ -8,7 +8,7 @@
 #include <stdio.h>
 #include <string.h>
 
-/* What the machine has, as it says itself. Where it says nothing it has one of each. */
+/* What the machine itself reports. If it reports nothing, it has one of each. */
 static void read_machine(bool is_mems, const char *what, struct list *out)
 {
 	char path[80], line[TEXT_ROOM] = "0";
@@ -25,7 +25,7 @@ static bool is_mems(const struct file *file)
 	return strncmp(file->name, "cpuset.mems", 11) == 0;
 }
 
-/* Nothing means: as the group above has it. A number beyond the kernel's own is ERANGE, one that the machine can't have EINVAL. */
+/* Empty means: as the group above. A number beyond the kernel's own is ERANGE, one that the machine can't have EINVAL. */
 int cpuset_take_list(const char *group, const struct file *file, const char *said, char out[TEXT_ROOM])
 {
 	char text[TEXT_ROOM];
@@ -42,7 +42,7 @@ int cpuset_take_list(const char *group, const struct file *file, const char *sai
 	return list_write(&wanted, out, TEXT_ROOM) ? 0 : -ENOMEM;
 }
 
-/* What the group's list leaves of that above it; where that is nothing, all of it. */
+/* What is both in the group's list and in that above it; if that is nothing, all of the list above. */
 static void narrow(const char *group, const char *name, struct list *effective)
 {
 	struct list own, left = *effective;

@@ -1,4 +1,4 @@
-/* io.*: a write speaks of one device, and leaves the others as they are. The text that is kept is the text that is read. */
+/* io.*: a write names one device and leaves the others unchanged. The text that is stored is the text that is read. */
 #include "scan.h"
 #include "values.h"
 #include <errno.h>
@@ -12,7 +12,8 @@ enum { RATES = 4, WEIGHT_MAX = 10000 };
 
 static const char *const rate_names[RATES] = { "rbps", "wbps", "riops", "wiops" };
 
-/* The device at the start, as MAJOR:MINOR and a blank: 0, -EINVAL, or -ENODEV for what is no whole block device here. */
+/* The device at the start, as MAJOR:MINOR and a blank: 0, -EINVAL, or -ENODEV if it is not a whole block device of this
+   machine. */
 static int take_device(const char **at, char device[32])
 {
 	char path[80];
@@ -30,7 +31,7 @@ static int take_device(const char **at, char device[32])
 	return access(path, F_OK) == 0 ? -ENODEV : 0;
 }
 
-/* The line of a device in a text, and how long it is; the end of the text where it has none. */
+/* The line of a device in a text, and its length; the end of the text if it has none. */
 static const char *find_line(const char *text, const char *device, size_t *size)
 {
 	size_t n = strlen(device);
@@ -46,7 +47,7 @@ static const char *find_line(const char *text, const char *device, size_t *size)
 	return text;
 }
 
-/* The text with the line of a device replaced, or put at the end; an empty line takes it out. */
+/* The text with the line of a device replaced, or added at the end; an empty line removes it. */
 static int replace_line(const char *text, const char *device, const char *line, char out[TEXT_ROOM])
 {
 	size_t size;

@@ -1,4 +1,4 @@
-/* memory.*: bytes are kept as whole pages. */
+/* memory.*: bytes are stored as whole pages. */
 #include "scan.h"
 #include "values.h"
 #include <errno.h>
@@ -7,7 +7,7 @@
 #include <string.h>
 #include <unistd.h>
 
-/* `max`, or a number of bytes. As in the kernel nothing at all is 0 bytes, and what is beyond the greatest counter is no
+/* `max`, or a number of bytes. As in the kernel, an empty value is 0 bytes, and a number beyond the greatest counter is no
    limit. */
 int memory_take_limit(const char *group, const struct file *file, const char *said, char out[TEXT_ROOM])
 {

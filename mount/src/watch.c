@@ -14,7 +14,7 @@ enum { TEXT_MAX = 40 };
 
 struct watched {
 	struct watched *next;      /* among those of the group */
-	struct watched *to_tell;   /* behind it in the queue of those that the companion is to be told */
+	struct watched *to_tell;   /* next in the queue of files that the companion is told about */
 	const struct file *file;
 	char text[TEXT_MAX];
 	bool queued;
@@ -108,7 +108,7 @@ void watch_below(const char *group)
 	watch_above(group);
 }
 
-/* Takes an entry out of the queue. */
+/* Removes an entry from the queue. */
 static void unqueue(struct watched *w)
 {
 	pthread_mutex_lock(&queue_lock);
@@ -133,7 +133,7 @@ void watch_forget(struct remembered *r)
 	}
 }
 
-/* The thread that tells the companion: it alone may wait for the pipe, and holds no lock meanwhile. */
+/* The thread that writes to the companion: only this thread may wait for the pipe, and it holds no lock meanwhile. */
 static void *tell(void *unused)
 {
 	char path[PATH_MAX_SAID + 32];

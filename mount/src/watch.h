@@ -1,25 +1,25 @@
-/* Who is told that a file's text has changed: those that poll it, and those that watch it by inotify. A file system cannot
-   see such a watch: so each notified file that was ever looked up is remembered with its group, and compared with its last
-   text when something changes in the group or below it. */
+/* Notification of changed files: wakes those that poll a file, and those that watch it by inotify. A file system cannot see
+   an inotify watch. So each notified file that was ever looked up is remembered with its group, and is compared with its
+   last text when something changes in the group or below it. */
 #ifndef WATCH_H
 #define WATCH_H
 
 #include "remembered.h"
 
-/* A change that inotify shows has to be made through the mount, and never by the process that answers for it: so a
-   companion process does it, and is told by a pipe. It also takes the mount away where its process died. */
+/* inotify reports only a change that is made through the mount, and the process that serves it must never make one. So a
+   companion process makes the change, and receives its path by a pipe. It also unmounts if the server died. */
 bool watch_begin(const char *mountpoint, bool unmount);
-/* In a process that does not serve: the companion is none of its own. */
+/* In a process that does not serve: closes its end of the companion's pipe. */
 void watch_leave(void);
-/* In the process that serves, once its threads may run; and before the mount is taken away. */
+/* Call these in the server: once its threads may run, and before the unmount. */
 bool watch_run(void);
 void watch_stop(void);
 
-/* The rest wants the engine's lock. A notified file was looked up. */
+/* The rest requires the engine's lock. A notified file was looked up. */
 void watch_seen(const char *group, const struct file *file);
-/* The processes of a group, or its refused forks, have changed, which its files and those above it tell. */
+/* The processes of a group, or its refused forks, have changed: its files and those above it may have changed. */
 void watch_above(const char *group);
-/* Those of a group and of groups below it have, which its files, those below it and those above it tell. */
+/* Those of a group and of groups below it have changed: its files, those below it and those above it may have changed. */
 void watch_below(const char *group);
 void watch_forget(struct remembered *r);
 

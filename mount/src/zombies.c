@@ -13,13 +13,13 @@ enum { PIDS = 4194304, SCANNED = 16, TAKEN = 64, SPARED = 64 };
 
 static struct zombie {
 	pid_t pid;
-	int fd; /* -1: none was to be had */
+	int fd; /* -1: it could not be opened */
 	bool gone;
 } *all;
 static size_t count, room, gone_count, next_scanned;
-static unsigned place[PIDS]; /* of a number among all, from 1; 0: it is none */
+static unsigned place[PIDS]; /* its place in the list of all, from 1; 0: it is not a zombie */
 
-/* A pidfd hangs up once its process was waited for (Linux 6.9): so the kernel names those of very many. */
+/* A pidfd hangs up once its process was waited for (Linux 6.9): so the kernel names those to look at, among very many. */
 static int hangups = -1;
 
 static struct zombie *find(pid_t pid)
@@ -57,7 +57,7 @@ static void add(pid_t pid, int fd, bool gone)
 	gone_count += gone;
 }
 
-/* The program chooses how many of its children it does not wait for: some descriptors are spared for the server. */
+/* The program chooses how many of its children it does not wait for, so some descriptors are left for the server. */
 static bool may_open(void)
 {
 	struct rlimit most;
@@ -80,8 +80,9 @@ void zombies_add_gone(pid_t pid)
 	add(pid, -1, true);
 }
 
-/* A descriptor means this process, whoever has its number later. Without one another process of the run that has the number
-   is met by its birth, and one outside it holds the place as long as it lives. */
+/* A descriptor means this process, even if another has its number later. Without a descriptor: if another process of the
+   run gets the number, its birth shows that this one is gone; a process outside the run that has the number keeps the place
+   as long as it lives. */
 static bool was_waited_for(const struct zombie *z)
 {
 	if (z->gone)
@@ -91,7 +92,7 @@ static bool was_waited_for(const struct zombie *z)
 	return kill(z->pid, 0) && errno == ESRCH;
 }
 
-/* False where the line could not be kept: it is tried again. */
+/* False if the line could not be kept: it is tried again. */
 static bool let_exit(struct zombie *z)
 {
 	gone_count += !z->gone;
@@ -103,7 +104,8 @@ static bool let_exit(struct zombie *z)
 	return true;
 }
 
-/* Those that the kernel names; all whose exit was tried before; and, where it names none, a few of the others in turn. */
+/* Those that the kernel names; all whose exit was tried before; and if the kernel names none, a few of the others in turn.
+    */
 void zombies_sweep(void)
 {
 	struct epoll_event waited[TAKEN];

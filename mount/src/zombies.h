@@ -1,5 +1,5 @@
-/* Processes that have ended and stand in the hierarchy still: zombies until their parent waits for them, and those whose
-   exit could not be told, for want of room in the trace. All want the engine's lock. */
+/* Processes that have ended and are still in the hierarchy: zombies until their parent waits for them, and those whose exit
+   could not be kept because the trace had no room. All require the engine's lock. */
 #ifndef ZOMBIES_H
 #define ZOMBIES_H
 
@@ -7,20 +7,20 @@
 #include <stddef.h>
 #include <sys/types.h>
 
-/* It has ended, and nobody was able to wait for it yet. */
+/* It has ended, and nobody could have waited for it yet. */
 void zombies_add(pid_t pid);
-/* There is no such process: it only has to exit. */
+/* There is no such process any more: only its exit is missing. */
 void zombies_add_gone(pid_t pid);
-/* Lets those exit that were waited for. */
+/* Sends the exits of those that were waited for. */
 void zombies_sweep(void);
-/* Whether the number is free in the hierarchy for a new process, which has it in the kernel: an older one of that number
+/* Whether the number is free in the hierarchy for a new process that has it in the kernel: an older process of that number
    is gone, whatever else is known. */
 bool zombies_settle(pid_t pid);
 bool zombies_has(pid_t pid);
-/* True where it was one. The hierarchy has it no more. */
+/* True if it was one. The hierarchy no longer has it. */
 bool zombies_forget(pid_t pid);
 size_t zombies_count(void);
-/* How many stand at or below a group. */
+/* How many there are at or below a group. */
 long zombies_below(const char *group);
 
 #endif
