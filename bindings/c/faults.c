@@ -8,7 +8,7 @@
 
 struct fault {
     struct fault *next;
-    uint64_t left; /* calls that name the path, up to the one that the fault meets */
+    uint64_t left; /* calls that name the path, up to the one that the fault hits */
     int32_t error; /* 0: the group vanishes */
     size_t len;
     char path[];
@@ -96,7 +96,7 @@ void faults_again(mk0_handle *engine, const uint8_t *path, size_t len) {
         if (is_for(fault, path, len)) fault->left++;
 }
 
-/* ---- what a test calls */
+/* ---- calls for tests */
 
 static uint32_t add_fault(struct slot *slot, const char *path, uint64_t nth, int32_t error) {
     size_t len = strlen(path);

@@ -51,7 +51,7 @@ void add_value(struct line *line, const char *value) {
 
 static bool is_blank(uint8_t byte) { return byte == ' ' || byte == '\t' || byte == '\r'; }
 
-/* the second word of a line, if it is a path and the line is no comment */
+/* the second word of a line, if it is a path and the line is not a comment */
 static size_t path_of_line(const uint8_t *line, size_t len, const uint8_t **path) {
     size_t at = 0, from;
     *path = line;

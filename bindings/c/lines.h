@@ -11,7 +11,7 @@ enum {
     PATH_BYTES = 4095,
     WORD_BYTES = 255,
     LINE_BYTES = PATH_BYTES + 2 * WORD_BYTES + 16,
-    /* longer than each answer but a long file's: a path, a command, or a few numbers */
+    /* longer than each answer except a long file's: a path, a command, or a few numbers */
     ANSWER_BYTES = LINE_BYTES + 64,
 };
 
@@ -24,21 +24,22 @@ struct line {
 void command_line(struct line *line, const char *command);
 void begin_line(struct line *line, const char *command, const char *path);
 
-/* Adds a word: any text that is one, a text as it is, a pid, a value without the blanks at its ends. */
+/* Adds a word: any text that is one word, a text without changes, a pid, a value without the blanks at its ends. */
 void add_word(struct line *line, const char *word);
 void add(struct line *line, const char *text);
 void add_pid(struct line *line, int64_t pid);
 void add_value(struct line *line, const char *value);
 
-/* mk0_line, with the faults that were asked for. */
+/* mk0_line, with the faults that a test asked for. */
 uint32_t answer_line(mk0_handle *engine, uint64_t number, const uint8_t *line, size_t len, uint8_t *out, size_t size,
                      mk0_info *told);
 uint32_t ask(mk0_handle *engine, const struct line *line, char *out, size_t size, mk0_info *told);
 
-/* The answer did not fit into what the caller gave, so it will ask again: faults don't count this call. */
+/* The answer did not fit into the caller's buffer, so the caller will ask again: faults don't count this call. */
 void ask_again(mk0_handle *engine, const struct line *line);
 
-/* The text behind the first line of an answer, without the mark before each line; may be in the same memory. Its length. */
+/* The text after the first line of an answer, without the mark before each line; it may be in the same memory. Returns its
+   length. */
 size_t take_text(const char *answer, size_t len, char *text);
 
 #endif

@@ -16,7 +16,7 @@
 #include <stdlib.h>
 #include <time.h>
 
-/* Guards what follows it here. It is taken before the lock of a slot, never behind it. */
+/* Guards the variables after it. It is taken before the lock of a slot, never after it. */
 static pthread_mutex_t registry = PTHREAD_MUTEX_INITIALIZER;
 static struct slot *slots;
 static struct slot *free_slots;
@@ -24,7 +24,7 @@ static uint64_t last_serial;
 
 static bool forks_are_watched;
 
-/* The thread's own. A handler may look at any moment, so no access may move across a lock: see begin and end. */
+/* One for each thread. A handler may look at any moment, so no access may move across a lock: see begin and end. */
 static __thread volatile sig_atomic_t inside __attribute__((tls_model("initial-exec")));
 static __thread volatile sig_atomic_t skipped_forks __attribute__((tls_model("initial-exec")));
 
@@ -149,8 +149,8 @@ static uint32_t copy_engine(const mk_handle *from, mk0_handle *to) {
     return status;
 }
 
-/* with the registry locked: a new engine, or a copy of that of `from`. Nobody else has the slot yet, so two locks of slots
-   are never held together, and threads that copy crosswise can't wait for each other. */
+/* with the registry locked: a new engine, or a copy of that of `from`. No other thread knows the slot yet, so two locks of
+   slots are never held together, and threads that copy in opposite directions can't wait for each other. */
 static uint32_t fill(mk_handle *h, const mk_handle *from) {
     struct slot *slot = forks_are_watched ? take_slot() : NULL;
     if (slot == NULL) return MK_OUT_OF_MEMORY;
@@ -165,7 +165,7 @@ static uint32_t fill(mk_handle *h, const mk_handle *from) {
     slot->changes = 0;
     mk0_depth(&slot->engine, &slot->depth);
     pthread_mutex_unlock(&slot->lock);
-    /* whoever reads the new slot with the old serial number, or the other way round, finds it closed */
+    /* who reads the new slot with the old serial number, or the reverse, finds it closed */
     __atomic_store_n(&h->serial, serial, __ATOMIC_RELAXED);
     __atomic_store_n(&h->slot, (void *)slot, __ATOMIC_RELEASE);
     return MK_DONE;

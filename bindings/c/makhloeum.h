@@ -45,11 +45,11 @@ typedef struct {
     uint64_t serial;
 } mk_handle;
 
-/* What a call returns beside its status. A field is 0 unless its line says otherwise. */
+/* What a call returns besides its status. A field is 0 unless its line says otherwise. */
 typedef struct {
     size_t len;    /* how many bytes of the buffer are the answer, the text or the names */
     size_t count;  /* how many names, pids or texts these are; for mk_undo_to how many commands were undone */
-    size_t needed; /* with MK_TOO_SMALL: so many bytes, or pids, are room enough for this call in this state */
+    size_t needed; /* with MK_TOO_SMALL: so many bytes, or pids, are enough for this call in this state */
     uint32_t code; /* with MK_REFUSED and MK_FAULT: which refusal or fault */
     int32_t error; /* the errno for status and code: see mk_status_errno; for mk_put and MK_FAILED it is said there */
 } mk_info;
@@ -58,7 +58,7 @@ typedef struct {
 enum {
     MK_DONE = 0,          /* answered */
     MK_REFUSED = 1,       /* answered `refused`. Only MK_PIDS_MAX changes anything: event totals; it is recorded */
-    MK_FAULT = 2,         /* the text is no command, or no path; nothing has changed */
+    MK_FAULT = 2,         /* the text is not a command, or not a path; nothing has changed */
     MK_TOO_SMALL = 3,     /* the buffer is too small; nothing has changed */
     MK_OUT_OF_MEMORY = 4, /* out of memory; nothing has changed */
     MK_SKIPPED = 5,       /* a comment, or a line without words: it has no answer; nothing has changed */
@@ -86,7 +86,7 @@ enum {
     MK_NOTHING_TO_UNDO = 14
 };
 
-/* The code of a fault (MK_FAULT): why the text is no command. */
+/* The code of a fault (MK_FAULT): why the text is not a command. */
 enum {
     MK_SYNTAX = 32,
     MK_PATH = 33,
@@ -95,7 +95,7 @@ enum {
     MK_VALUE = 36
 };
 
-/* What is wrong with a text that is no path: see mk_path_fault. */
+/* The fault of a text that is not a path: see mk_path_fault. */
 enum {
     MK_NOT_ROOTED = 1,
     MK_PATH_TOO_LONG = 2,
@@ -107,17 +107,18 @@ enum {
     MK_RESERVED = 8
 };
 
-/* A buffer of so many bytes is never too small for the children of a group. */
+/* A buffer of so many bytes is large enough for the children of any group. */
 enum { MK_CHILDREN_MAX = 1024 * 256 };
 
-/* Nor is one of so many for all groups: a path has 4,095 bytes at most. */
+/* A buffer of so many bytes is large enough for all groups: a path has at most 4,095 bytes. */
 enum { MK_GROUPS_MAX = 1025 * 4096 };
 
-/* Nor is one of so many for the answer to a line: at most 4,194,303 lines of a pid behind the first line. */
+/* A buffer of so many bytes is large enough for the answer to any line: the first line, and at most 4,194,303 lines of a
+   pid. */
 enum { MK_ANSWER_MAX = 32 + 10 * 4194303 };
 
-/* Makes an engine in a handle that has none: the root alone, and process 1 in it. MK_DONE, MK_OUT_OF_MEMORY, MK_BUSY, or
-   MK_CLOSED if the handle has one. */
+/* Makes an engine in a handle that has none: only the root group, and process 1 in it. MK_DONE, MK_OUT_OF_MEMORY, MK_BUSY,
+   or MK_CLOSED if the handle has one. */
 uint32_t mk_open(mk_handle *h);
 
 /* Waits for the call that is running, and frees the engine. Every later call returns MK_CLOSED until the handle is opened
@@ -141,29 +142,30 @@ uint32_t mk_depth(mk_handle *h, size_t *depth);
    the memory of the journal is freed. Needs no memory. MK_DONE, MK_CLOSED or MK_BUSY. */
 uint32_t mk_forget(mk_handle *h);
 
-/* Makes a copy of an engine in a handle that has none: the same groups, processes, counts and recorded commands. What one
-   does from then on, the other doesn't see. The copy has no faults of mk_fail and mk_vanish, and mk_changes begins at 0.
-   MK_DONE, MK_OUT_OF_MEMORY, MK_BUSY, or MK_CLOSED if from has no engine or to has one. Unless MK_DONE is returned, to is as
-   it was; from never changes. Threads may copy crosswise. Calls on from, forks, and mk_open, mk_copy and mk_close of other
+/* Makes a copy of an engine in a handle that has none: the same groups, processes, counts and recorded commands. From then
+   on the two are independent. The copy has no faults of mk_fail and mk_vanish, and mk_changes begins at 0. MK_DONE,
+   MK_OUT_OF_MEMORY, MK_BUSY, or MK_CLOSED if from has no engine or to has one. from never changes, and to changes only with
+   MK_DONE. Two threads may copy in opposite directions. Calls on from, forks, and mk_open, mk_copy and mk_close of other
    threads wait until the copy is made. */
 uint32_t mk_copy(mk_handle *from, mk_handle *to);
 
 /* The names of the groups one name below the one at the path, in the order of their bytes, each ended by a zero byte:
    info->count names in info->len bytes. MK_DONE; MK_REFUSED with MK_NO_GROUP if there is no such group; MK_FAULT with
-   MK_PATH if the text is no path; MK_TOO_SMALL, MK_OUT_OF_MEMORY, MK_CLOSED, MK_BUSY. Only MK_DONE returns names. */
+   MK_PATH if the text is not a path; MK_TOO_SMALL, MK_OUT_OF_MEMORY, MK_CLOSED, MK_BUSY. Only MK_DONE returns names. */
 uint32_t mk_children(mk_handle *h, const uint8_t *path, size_t path_len, uint8_t *out, size_t out_size, mk_info *info);
 
-/* The paths of all groups, the root's first, and behind each group's those of the groups below it, child by child in the
-   order of their names' bytes; each is ended by a zero byte: info->count paths in info->len bytes. MK_DONE, MK_TOO_SMALL,
+/* The paths of all groups: the root first, and after each group the groups below it, child by child in the order of their
+   names' bytes. Each path is ended by a zero byte: info->count paths in info->len bytes. MK_DONE, MK_TOO_SMALL,
    MK_OUT_OF_MEMORY, MK_CLOSED or MK_BUSY. Costs a descent for each group. */
 uint32_t mk_groups(mk_handle *h, uint8_t *out, size_t out_size, mk_info *info);
 
 /* Whether there is such a group: MK_DONE if there is, MK_REFUSED with MK_NO_GROUP if not, MK_FAULT with MK_PATH if the text
-   is no path; MK_OUT_OF_MEMORY, MK_CLOSED, MK_BUSY. */
+   is not a path; MK_OUT_OF_MEMORY, MK_CLOSED, MK_BUSY. */
 uint32_t mk_has_group(mk_handle *h, const uint8_t *path, size_t path_len, mk_info *info);
 
 /* ---- a call for each command: paths, files and values are texts that end with a zero byte.
-   Each argument is one word of a command: "/a b" is no path, and never two words. MK_DONE; MK_REFUSED, MK_FAULT,
+
+   Each argument is one word of a command: "/a b" is not a path, and never two words. MK_DONE; MK_REFUSED, MK_FAULT,
    MK_OUT_OF_MEMORY, MK_CLOSED and MK_BUSY as for mk_line, with info->code and info->error. */
 uint32_t mk_mkdir(mk_handle *h, const char *path, mk_info *info);
 uint32_t mk_rmdir(mk_handle *h, const char *path, mk_info *info);
@@ -195,9 +197,9 @@ uint32_t mk_populated(mk_handle *h, const char *path, bool *populated, mk_info *
    there are more than room; pids may be overwritten then. */
 uint32_t mk_processes(mk_handle *h, const char *path, uint32_t *pids, size_t room, mk_info *info);
 
-/* Undoes recorded commands until no more than mark are left: mk_depth, called earlier, gives the mark; 0 undoes all.
-   info->count commands were undone. No other call comes in between. MK_REFUSED with MK_NOTHING_TO_UNDO if fewer are left
-   already. With MK_OUT_OF_MEMORY the commands that were undone so far stay undone. */
+/* Undoes recorded commands until only mark are left. An earlier mk_depth gives the mark; 0 undoes all. info->count commands
+   were undone. No other call comes in between. MK_REFUSED with MK_NOTHING_TO_UNDO if fewer are left already. With
+   MK_OUT_OF_MEMORY the commands that were undone so far stay undone. */
 uint32_t mk_undo_to(mk_handle *h, size_t mark, mk_info *info);
 
 /* ---- many files in one call */
@@ -211,8 +213,8 @@ typedef struct {
     int32_t error;
 } mk_text;
 
-/* Reads count files, all of one state: no other call comes in between. names has a path and a file for each, each ended by a zero
-   byte. MK_DONE if each text has its own status: a file of a group that is not there is MK_REFUSED, and has no bytes.
+/* Reads count files, all of the same state: no other call comes in between. names has a path and a file for each, each
+   ended by a zero byte. MK_DONE if each text has its own status: a file of a missing group is MK_REFUSED and has no bytes.
    MK_TOO_SMALL with info->needed, MK_OUT_OF_MEMORY, MK_CLOSED, MK_BUSY. */
 uint32_t mk_read_many(mk_handle *h, const char *names, size_t count, mk_text *texts, char *out, size_t size, mk_info *info);
 
@@ -221,26 +223,27 @@ uint32_t mk_read_many(mk_handle *h, const char *names, size_t count, mk_text *te
 /* How many calls have changed the hierarchy, undos included; 0 without an engine. MK_DONE, MK_CLOSED or MK_BUSY. */
 uint32_t mk_changes(mk_handle *h, uint64_t *changes);
 
-/* Waits until the number of changes is another one than seen, and returns it: MK_DONE. MK_TIMED_OUT after so many milliseconds,
-   MK_CLOSED when the handle is closed, MK_BUSY. Other threads' calls go on meanwhile. */
+/* Waits until the number of changes differs from seen, and returns it: MK_DONE. MK_TIMED_OUT after so many milliseconds,
+   MK_CLOSED when the handle is closed, MK_BUSY. Other threads can make calls meanwhile. */
 #define MK_FOREVER UINT32_MAX
 uint32_t mk_wait(mk_handle *h, uint64_t seen, uint32_t milliseconds, uint64_t *changes);
 
-/* ---- faults, for tests of programs that use a hierarchy. Calls that name a path are mk_line with a path, mk_children,
-   mk_has_group, mk_read_many for each of its files, and every call here with a path but mk_fail, mk_vanish and mk_path_fault. A
-   call that returns MK_TOO_SMALL does not count. Of several faults that meet one call the newest comes, and the others are
-   gone. */
+/* ---- faults, for tests of programs that use a hierarchy.
+
+   Calls that name a path are mk_line with a path, mk_children, mk_has_group, mk_read_many for each of its files, and every
+   call here with a path but mk_fail, mk_vanish and mk_path_fault. A call that returns MK_TOO_SMALL does not count. If
+   several faults are due at one call, the newest occurs, and the others are dropped. */
 
 /* The nth call from now on that names the path fails: it returns MK_FAILED with that errno. nth is 1 for the next. MK_DONE;
    MK_FAULT with MK_PATH, or with MK_VALUE if nth or the errno is not positive; MK_OUT_OF_MEMORY, MK_CLOSED, MK_BUSY. */
 uint32_t mk_fail(mk_handle *h, const char *path, uint64_t nth, int32_t error, mk_info *info);
 
-/* The group vanishes just before the nth call from now on that names it, as if another process had killed and removed it with all
-   groups below it: these are commands of their own, and recorded. If that call returns MK_OUT_OF_MEMORY, some of them may be
-   missing. Statuses as for mk_fail; MK_VALUE for the root. */
+/* The group vanishes just before the nth call from now on that names it, as if another process had killed and removed it
+   with all groups below it. The commands that do this are recorded like others. If that call returns MK_OUT_OF_MEMORY, some
+   of them may be missing. Statuses as for mk_fail; MK_VALUE for the root. */
 uint32_t mk_vanish(mk_handle *h, const char *path, uint64_t nth, mk_info *info);
 
-/* Drops the faults that have not come, and says how many they were. MK_DONE, MK_CLOSED or MK_BUSY. */
+/* Drops the faults that have not occurred, and returns how many there were. MK_DONE, MK_CLOSED or MK_BUSY. */
 uint32_t mk_clear_faults(mk_handle *h, size_t *left);
 
 /* ---- the files of a group as a mount shows them, for adapters that serve a hierarchy as files */
@@ -251,23 +254,23 @@ typedef struct {
     const char *constant; /* the text of a file that a mount adds with --extra; NULL for a file of the hierarchy */
 } mk_file;
 
-/* The i-th file, in the order of the names; NULL behind the last. */
+/* The i-th file, in the order of the names; NULL after the last. */
 const mk_file *mk_file_at(size_t i);
 
-/* Writes a file as a write to a mount's does (docs/MOUNT.md, "Files"): numbers may be octal, hexadecimal or signed, a constant
-   takes the value that it has, and a pid of 0 is self. Statuses as for mk_write; info->error is the mount's errno, which for
-   MK_VALUE is ERANGE, ESRCH, E2BIG or EOPNOTSUPP where the kernel's or the mount's is. */
+/* Writes a file as a write to a mount's does (docs/MOUNT.md, "Files"): numbers may be octal, hexadecimal or signed, a
+   constant accepts its current value, and a pid of 0 is self. Statuses as for mk_write; info->error is the mount's errno.
+   For MK_VALUE it can be ERANGE, ESRCH, E2BIG or EOPNOTSUPP, as in the kernel or the mount. */
 uint32_t mk_put(mk_handle *h, const char *path, const char *file, const char *data, size_t size, int64_t self, mk_info *info);
 
-/* The errno of a mkdir of a text with this fault of mk_path_fault in a mount; 0 for 0. */
+/* The errno that a mkdir in a mount gives for a name with this fault of mk_path_fault; 0 for 0. */
 int mk_path_errno(uint32_t fault);
 
-/* What is wrong with a text that is no path, and where: 0 if it is a path. *position is the place, from 0, of the byte at
-   fault, of the first byte of the name at fault, or of the first byte too many. The order is that of docs/FORMATS.md,
+/* The first fault of a text that is not a path, and where it is: 0 if it is a path. *position is the place, from 0, of the
+   bad byte, of the first byte of the bad name, or of the first byte too many. The order is that of docs/FORMATS.md,
    "Paths". */
 uint32_t mk_path_fault(const uint8_t *path, size_t path_len, size_t *position);
 
-/* The word of the answer for a code, as "exists" for MK_EXISTS; "ok" for 0, NULL for a number that is no code. */
+/* The word of the answer for a code, such as "exists" for MK_EXISTS; "ok" for 0, NULL for a number that is not a code. */
 const char *mk_name(uint32_t code);
 
 /* A sentence without capital and full stop: for a code, a status, and a fault of mk_path_fault; NULL for other numbers. */
@@ -275,8 +278,8 @@ const char *mk_message(uint32_t code);
 const char *mk_status_message(uint32_t status);
 const char *mk_path_message(uint32_t fault);
 
-/* The errno that the kernel gives for a code, as the table of docs/FORMATS.md ("Codes for C") has it in its first
-   column of errno; 0 for 0. If the kernel's differs by case, that table has both. */
+/* The errno that the kernel gives for a code, as the first column of errnos in docs/FORMATS.md ("Codes for C") has it; 0
+   for 0. If the kernel gives others in some cases, that table has them too. */
 static inline int mk_errno(uint32_t code) {
     switch (code) {
     case 0:

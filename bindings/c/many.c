@@ -1,4 +1,4 @@
-/* The texts of many files in one call, all of one state. */
+/* The texts of many files in one call, all of the same state. */
 #include "lines.h"
 #include <string.h>
 
@@ -10,7 +10,7 @@ static uint32_t next(mk0_handle *engine, const char *path, const char *file, cha
     return ask(engine, &line, out, size, told);
 }
 
-/* One text behind `used` bytes of the buffer. Returns how many bytes it takes there, or more than are left. */
+/* Puts one text after `used` bytes of the buffer. Returns how many bytes it takes there, or more than are left. */
 static size_t read_one(mk0_handle *engine, const char *path, const char *file, char *out, size_t used, size_t size,
                        mk_text *text) {
     char answer[ANSWER_BYTES];
@@ -36,7 +36,7 @@ static size_t read_one(mk0_handle *engine, const char *path, const char *file, c
     return len + 1;
 }
 
-/* Returns how many bytes all texts take; with MK_OUT_OF_MEMORY they are not all there. */
+/* Returns how many bytes all texts take; with MK_OUT_OF_MEMORY some are missing. */
 static size_t read_all(mk0_handle *engine, const char *names, size_t count, mk_text *texts, char *out, size_t size,
                        uint32_t *status) {
     size_t used = 0;
@@ -57,7 +57,7 @@ PUBLIC uint32_t mk_read_many(mk_handle *h, const char *names, size_t count, mk_t
     if (status != MK_DONE) return tell(info, status, &told);
     struct slot *slot = slot_of(engine);
     struct fault *faults = slot->faults;
-    /* Faults come once, so a call that will be made again must not meet them: without them no text is shorter. */
+    /* A fault occurs once, so a call that will be made again must not use it up: without faults no text is shorter. */
     slot->faults = NULL;
     size_t used = read_all(engine, names, count, texts, out, size, &status);
     slot->faults = faults;

@@ -14,7 +14,7 @@ enum { PAGE = 4096, SAID_BYTES = 24, PID_MAX = 4194303, PIDS_LIMIT_MAX = 4194304
 struct file {
     mk_file shown;
     enum value value;
-    const char *unchanged; /* of a constant: the word that may be written, since it says what is so already */
+    const char *unchanged; /* of a constant: the word that may be written, since it is the current value */
 };
 
 #define CPU_STAT "usage_usec 0\nuser_usec 0\nsystem_usec 0\n"
@@ -47,7 +47,8 @@ static const struct file *find(const char *name, bool on_root) {
     return NULL;
 }
 
-/* ---- numbers, as kstrtoll reads them with base 0: what is beyond 64 bits is out of range, also in a text that is no number */
+/* ---- numbers, as kstrtoll reads them with base 0: what is beyond 64 bits is out of range, also in a text that isn't a
+   number */
 
 static bool is_blank(unsigned char c) { return c == ' ' || (c >= '\t' && c <= '\r') || c == 0xa0; }
 
@@ -156,7 +157,7 @@ static uint32_t put(mk0_handle *engine, const char *path, const char *name, cons
                     mk0_info *told, int *error) {
     char out[ANSWER_BYTES], said[SAID_BYTES];
     const struct file *file = find(name, strcmp(path, "/") == 0);
-    /* whether there is such a group; with the faults that were asked for */
+    /* whether there is such a group; faults that a test asked for can occur */
     struct line line;
     begin_line(&line, "cat", path);
     add(&line, "cgroup.stat");

@@ -18,7 +18,7 @@ struct slot {
     uint64_t serial; /* 0: closed */
     pthread_cond_t changed;
     uint64_t changes;
-    size_t depth; /* as of the newest change */
+    size_t depth; /* at the newest change */
     struct fault *faults;
     struct slot *next;
     struct slot *next_free;
@@ -30,13 +30,13 @@ static inline struct slot *slot_of(mk0_handle *engine) { return (struct slot *)e
 uint32_t enter(const mk_handle *h, mk0_handle **engine);
 void leave(mk0_handle *engine);
 
-/* The end of a call whose engine may have been closed meanwhile: no change is looked for. */
+/* The end of a call whose engine may have been closed meanwhile: it does not look for a change. */
 void leave_closed(struct slot *slot);
 
 /* Fills the caller's info. Returns the status. */
 uint32_t tell(mk_info *info, uint32_t status, const mk0_info *told);
 
-/* What mk_fail and mk_vanish asked for, at a call that names the path: MK_DONE if the call goes on; else what it returns,
+/* The faults of mk_fail and mk_vanish, at a call that names the path: MK_DONE if the call continues; else what it returns,
    with the errno in told->code for MK_FAILED. */
 uint32_t faults_before(mk0_handle *engine, const uint8_t *path, size_t len, mk0_info *told);
 

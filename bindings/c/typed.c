@@ -73,7 +73,7 @@ PUBLIC uint32_t mk_kill(mk_handle *h, const char *path, mk_info *info) {
 
 /* ---- texts */
 
-/* An answer that is short goes by way of a buffer here, so that exactly the text need fit into the caller's. */
+/* A short answer goes through a buffer here, so the caller's buffer needs room only for the text. */
 static uint32_t read_text(mk_handle *h, const struct line *line, char *text, size_t size, mk_info *info) {
     mk0_handle *engine;
     mk0_info told = {0};
@@ -152,7 +152,7 @@ PUBLIC uint32_t mk_limit(mk_handle *h, const char *path, uint64_t *value, mk_inf
     return read_number(h, path, mk0_limit, value, info);
 }
 
-/* the answer to a cat, in memory of its own if it is long */
+/* the answer to a cat, in allocated memory if it is long */
 static uint32_t read_answer(mk0_handle *engine, const struct line *line, char *first, size_t size, char **answer, mk0_info *told) {
     *answer = first;
     uint32_t status = ask(engine, line, first, size, told);
@@ -163,7 +163,7 @@ static uint32_t read_answer(mk0_handle *engine, const struct line *line, char *f
     return *answer == NULL ? (uint32_t)MK_OUT_OF_MEMORY : ask(engine, line, *answer, needed, told);
 }
 
-/* the pids behind the first line of an answer, as many as there is room for; how many there are */
+/* the pids after the first line of an answer, as many as there is room for; returns how many there are */
 static size_t read_pids(const char *answer, size_t len, uint32_t *pids, size_t room) {
     const char *end = answer + len, *feed = answer;
     size_t count = 0;

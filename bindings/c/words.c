@@ -1,4 +1,4 @@
-/* What codes, statuses and faults are called, and what is wrong with a path. */
+/* Names and messages of codes, statuses and faults, and the first fault of a path. */
 #include "private.h"
 #include <string.h>
 
@@ -17,7 +17,7 @@ static const struct code refusals[] = {
     [MK_NO_GROUP] = {"nogroup", "there is no such group"},
     [MK_DESCENDANTS] = {"descendants", "a limit on the number of descendants is reached"},
     [MK_DEPTH] = {"depth", "a limit on the depth is reached"},
-    [MK_NO_SLOT] = {"noslot", "there are 1,024 groups beside the root"},
+    [MK_NO_SLOT] = {"noslot", "there are 1,024 groups besides the root"},
     [MK_ROOT_FIXED] = {"rootfixed", "the root cannot be removed"},
     [MK_HAS_CHILDREN] = {"haschildren", "the group has children"},
     [MK_HAS_PROCESSES] = {"hasprocesses", "the group has processes"},
@@ -31,16 +31,16 @@ static const struct code refusals[] = {
 
 static const struct code faults[] = {
     [MK_SYNTAX - MK_SYNTAX] = {"syntax", "an unknown command, a wrong number of words, or a line that is too long"},
-    [MK_PATH - MK_SYNTAX] = {"path", "the word is no path"},
+    [MK_PATH - MK_SYNTAX] = {"path", "the word is not a path"},
     [MK_FILE - MK_SYNTAX] = {"file", "there is no file of that name"},
     [MK_DIRECTION - MK_SYNTAX] = {"direction", "the file cannot be read or written in this way"},
-    [MK_VALUE - MK_SYNTAX] = {"value", "the value is no number, or out of range"},
+    [MK_VALUE - MK_SYNTAX] = {"value", "the value is not a number, or out of range"},
 };
 
 static const char *const statuses[] = {
     [MK_DONE] = "done",
     [MK_REFUSED] = "refused",
-    [MK_FAULT] = "the text is no command or no path",
+    [MK_FAULT] = "the text is not a command, or not a path",
     [MK_TOO_SMALL] = "the buffer is too small",
     [MK_OUT_OF_MEMORY] = "out of memory",
     [MK_SKIPPED] = "a line without a command",

@@ -33,7 +33,7 @@ func TestTextOfErrors(t *testing.T) {
 		{h.Rmdir("/"), "rmdir /: device or resource busy (rootfixed)", syscall.EBUSY},
 		{h.Fork(1, 1), "fork 1 1: file exists (pidinuse 1)", syscall.EEXIST},
 		{h.Exit(9), "exit 9: no such process (noprocess 9)", syscall.ESRCH},
-		{h.Exit(-1), "exit -1: invalid argument (value: the value is no number, or out of range)", syscall.EINVAL},
+		{h.Exit(-1), "exit -1: invalid argument (value: the value is not a number, or out of range)", syscall.EINVAL},
 		{read("/a", "x"), "read /a x: no such file or directory (file: there is no file of that name)", fs.ErrNotExist},
 		{h.Mkdir("/my service"), "mkdir /my service: invalid argument (path: a name cannot have this byte, at 3)", syscall.EINVAL},
 		{children("/x"), "children /x: no such file or directory (nogroup /x)", syscall.ENOENT},

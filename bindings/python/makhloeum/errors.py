@@ -207,7 +207,7 @@ class BadValue(Fault):
     """A value is no number, or outside its range."""
 
     code, number = 36, errno.EINVAL
-    explained = "the value is no number, or out of range"
+    explained = "the value is not a number, or out of range"
 
 
 def asked_for(number: int, command: str, path: str | None) -> OSError:

@@ -45,7 +45,7 @@ TEXTS = [
     (lambda h: h.fork(1, 1), "fork 1 1: File exists (pidinuse 1)"),
     (lambda h: h.exit(9), "exit 9: No such process (noprocess 9)"),
     (lambda h: h.read("/a", "x"), "read /a x: No such file or directory (file: there is no file of that name)"),
-    (lambda h: h.write("/a", "pids.max", -1), "write /a pids.max -1: Invalid argument (value: the value is no number, or out of range)"),
+    (lambda h: h.write("/a", "pids.max", -1), "write /a pids.max -1: Invalid argument (value: the value is not a number, or out of range)"),
     (lambda h: h.mkdir("/my service"), "mkdir /my service: Invalid argument (path: a name cannot have this byte, at 3)"),
     (lambda h: h.children("/x"), "children /x: No such file or directory (nogroup /x)"),
     (lambda h: h.groups("/x"), "groups /x: No such file or directory (nogroup /x)"),
