@@ -59,7 +59,7 @@ class Shell(cmd.Cmd):
                 intro = ""
 
     def get_names(self) -> list[str]:
-        # help and completion list these; the end of input is no command
+        # help and completion list these; the end of input is not a command
         return [name for name in super().get_names() if name != "do_EOF"]
 
     def onecmd(self, line: str) -> bool:

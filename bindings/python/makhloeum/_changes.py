@@ -9,7 +9,7 @@ from typing import Any
 from ._library import DONE, TIMED_OUT, library, waiting
 from ._words import _raise
 
-# The interpreter handles signals between two waits: Ctrl-C ends a wait after so many seconds at most.
+# The interpreter handles signals between two waits: Ctrl-C ends a wait after at most so many seconds.
 _SLICE = 0.1
 
 

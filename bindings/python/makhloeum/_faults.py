@@ -35,7 +35,7 @@ class Faults:
             _raise(status, info.code, "value", path, command)
 
     def clear_faults(self) -> int:
-        """Drops the faults that have not come, and returns how many they were."""
+        """Drops the faults that have not occurred, and returns how many there were."""
         left = ctypes.c_size_t()
         status = library.mk_clear_faults(self._at, ctypes.byref(left))
         if status != DONE:

@@ -37,7 +37,7 @@ def error(number: int, path: str) -> OSError:
 
 
 class Node:
-    """A group, or a file of a group, that was there when it was looked at."""
+    """A group, or a file of a group, that existed at the time of the look."""
 
     def __init__(self, tree: Tree, group: str, file: Any, shown: str) -> None:
         self.tree, self.group, self.file, self.shown = tree, group, file, shown
@@ -52,7 +52,7 @@ class Node:
             return self.tree.h.read(self.group, self.file.name).encode()
 
     def check(self) -> None:
-        """That the group is there."""
+        """Raises FileNotFoundError if the group is missing."""
         with as_mount(self.shown):
             if not self.tree.h.has_group(self.group):
                 raise error(errno.ENOENT, self.shown)
@@ -146,7 +146,7 @@ class Tree:
             file.gone = file.gone or file.node.group == group
 
     def open(self, node: Node, reads: bool, writes: bool) -> RawFile:
-        """As in the kernel, the superuser opens against the mode, and is refused when he reads or writes."""
+        """As in the kernel, the superuser can open a file against its mode, and then gets an error from the read or write."""
         node.check()
         if node.file is None:
             raise error(errno.EISDIR, node.shown)
@@ -193,7 +193,7 @@ class RawFile(io.RawIOBase):
         return self._position
 
     def truncate(self, size: int | None = None) -> int:
-        """Means nothing, as in the kernel."""
+        """Does nothing, as in the kernel."""
         return self._position if size is None else size
 
     def _current(self) -> bytes:

@@ -51,7 +51,7 @@ def _pid(number: int) -> bytes:
 
 
 def _shown(answer: bytes) -> str:
-    """The text behind an answer's first line."""
+    """The text after an answer's first line."""
     return "".join(line[2:] + "\n" for line in answer.decode().split("\n")[1:-1])
 
 

@@ -8,7 +8,7 @@ from typing import Any
 
 
 class Refused(OSError):
-    """A command was refused, or is none.
+    """A command was refused, or the text is not a command.
 
     `code` is the library's code, `reply` the words of the answer (as 'nogroup /b'), `command` the command (as 'mkdir /b/c'),
     and `filename` its path, if it has one. The text is 'mkdir /b/c: No such file or directory (nogroup /b)'.
@@ -56,7 +56,7 @@ class Depth(Refused, BlockingIOError):
 
 
 class NoSlot(Refused):
-    """There are 1,024 groups beside the root. The kernel has no such limit."""
+    """There are 1,024 groups besides the root. The kernel has no such limit."""
 
     code, number = 5, errno.ENOSPC
 
@@ -116,13 +116,13 @@ class NotReadable(Refused):
 
 
 class NothingToUndo(Refused):
-    """No recorded command is left to undo. The kernel undoes nothing."""
+    """No recorded command is left to undo. The kernel has no undo."""
 
     code, number = 14, errno.ENODATA
 
 
 class Fault(Refused):
-    """The text is no command, or no path."""
+    """The text is not a command, or not a path."""
 
 
 class BadSyntax(Fault):
@@ -133,7 +133,7 @@ class BadSyntax(Fault):
 
 
 class BadPath(Fault):
-    """A word is no path. `fault` is the library's number for what is wrong with it, and `position` the place in the path,
+    """A word is not a path. `fault` is the library's number for what is wrong with it, and `position` the place in the path,
     from 0, of the byte at fault, of the name at fault, or of the first byte too many; None if the path is not known."""
 
     code, number = 33, errno.EINVAL
@@ -160,13 +160,13 @@ class TooDeep(BadPath):
 
 
 class EmptyName(BadPath):
-    """A name is empty, as behind a slash at the end."""
+    """A name is empty, as after a slash at the end."""
 
     fault = 4
 
 
 class BadByte(BadPath):
-    """A name cannot have the byte at the position: names are of printed ASCII."""
+    """A name cannot have the byte at the position: names consist of printable ASCII."""
 
     fault = 5
 
@@ -204,14 +204,14 @@ class BadDirection(Fault):
 
 
 class BadValue(Fault):
-    """A value is no number, or outside its range."""
+    """A value is not a number, or outside its range."""
 
     code, number = 36, errno.EINVAL
     explained = "the value is not a number, or out of range"
 
 
 def asked_for(number: int, command: str, path: str | None) -> OSError:
-    """The error of a call that `fail` was asked to let fail: the one that Python has for the errno, as for a real file."""
+    """The error of a call that fails because of `fail`: the exception that Python raises for the errno of a real file."""
     return OSError(number, f"{os.strerror(number)} (asked for by fail, at {command})", path)
 
 

@@ -18,7 +18,7 @@ _Call = Callable[[Any, int, Any], int]
 
 
 class Hierarchy(Changes, Faults, Many):
-    """A hierarchy of groups: at first the root alone, and process 1 in it.
+    """A hierarchy of groups: at first only the root, and process 1 in it.
 
     A context manager, once: its end frees the engine. Paths are texts as '/' and '/a/b', pids numbers. Threads may share a
     hierarchy: commands take effect one after the other. Each call raises a `Refused` if the command is refused,
@@ -57,8 +57,8 @@ class Hierarchy(Changes, Faults, Many):
         _close(self._at)
 
     def copy(self) -> Hierarchy:
-        """A hierarchy of its own with the same groups, processes, counts and recorded commands. What one does from then on,
-        the other doesn't see. The copy has no faults of `fail` and `vanish`, `changes()` begins at 0, and it is to be closed
+        """A new hierarchy with the same groups, processes, counts and recorded commands. From then on the two are
+        independent. The copy has no faults of `fail` and `vanish`, its `changes()` begins at 0, and it has to be closed
         like any other. `copy.copy` and `copy.deepcopy` return the same. A copy of a subclass is a plain `Hierarchy`."""
         made = Hierarchy.__new__(Hierarchy)
         handle = Handle()

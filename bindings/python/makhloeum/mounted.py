@@ -114,7 +114,7 @@ class _Mount:
         return name[len(self.at) :] if name.startswith(self.at + "/") else None
 
     def node(self, path: Any, dir_fd: int | None = None) -> Node | None:
-        """What the path names, which may not be there; None for a path elsewhere."""
+        """What the path names, which may not exist; None for a path elsewhere."""
         group = self.group(path, dir_fd)
         return None if group is None else self.tree.locate(group, str(path if isinstance(path, int) else os.fsdecode(path)))
 
@@ -176,7 +176,7 @@ class _Mount:
         else:
             makes = bool(flags & os.O_CREAT)
             opened = self._open(path, group, way != os.O_WRONLY, way != os.O_RDONLY, makes, makes and bool(flags & os.O_EXCL))
-        fd = self.was["os_open"](os.devnull, os.O_RDWR | os.O_CLOEXEC)  # a number of its own
+        fd = self.was["os_open"](os.devnull, os.O_RDWR | os.O_CLOEXEC)  # a number that no other file has
         self.descriptors[fd] = opened
         return fd
 
@@ -281,7 +281,7 @@ class _Mount:
         raise error(errno.EINVAL, os.fsdecode(path))
 
     def other(self, name: str) -> Callable[..., Any]:
-        """A function that a mount refuses, or that means nothing there."""
+        """A function that a mount refuses, or that does nothing there."""
         was = self.was[name]
 
         def call(*words: Any, **more: Any) -> Any:

@@ -1,4 +1,4 @@
-"""The pytest fixture `hierarchy`: a hierarchy of process groups that begins each test with the root alone.
+"""The pytest fixture `hierarchy`: a hierarchy of process groups that begins each test with only the root.
 
 An installed package brings the fixture with it. Otherwise a conftest.py says: pytest_plugins = ["makhloeum.pytest_plugin"]
 """
@@ -14,7 +14,7 @@ from .hierarchy import Hierarchy
 
 @pytest.fixture
 def hierarchy() -> Iterator[Hierarchy]:
-    """A hierarchy of its own for each test, with the root alone and process 1 in it; it is closed after the test."""
+    """A new hierarchy for each test, with only the root and process 1 in it; it is closed after the test."""
     h = Hierarchy()
     try:
         yield h

@@ -29,14 +29,14 @@ _RESERVED = ("cgroup.", "pids.")
 
 
 def names(max_size: int = 12) -> st.SearchStrategy[str]:
-    """Names of groups: printed ASCII without a slash, and not reserved."""
+    """Names of groups: printable ASCII without a slash, and not reserved."""
     letters = st.characters(min_codepoint=0x21, max_codepoint=0x7E, blacklist_characters="/")
     texts = st.text(letters, min_size=1, max_size=min(max_size, 255))
     return texts.filter(lambda name: name not in (".", "..") and not name.startswith(_RESERVED))
 
 
 def paths(max_names: int = 4, name: st.SearchStrategy[str] | None = None) -> st.SearchStrategy[str]:
-    """Paths of groups, the root's among them."""
+    """Paths of groups, including the root's."""
     return st.lists(names() if name is None else name, max_size=min(max_names, 32)).map(lambda parts: "/" + "/".join(parts))
 
 
@@ -81,7 +81,7 @@ class HierarchyMachine(RuleBasedStateMachine):
         self.h.close()
 
     def do(self, line: str) -> str | Refused:
-        """Answers a command; what it shows, or why it was refused."""
+        """Answers a command, and returns what it shows, or why it was refused."""
         try:
             return self.h.line(line)
         except Refused as refused:
@@ -91,7 +91,7 @@ class HierarchyMachine(RuleBasedStateMachine):
         return data.draw(st.sampled_from(self.h.groups()))
 
     def _pid(self, data: st.DataObject) -> int:
-        """Most often one that is there."""
+        """Most often an existing one."""
         there = [pid for group in self.h.groups() for pid in self.h.processes(group)]
         return data.draw(st.one_of(*([st.sampled_from(there)] if there else []), pids(self.pids)))
 

@@ -1,4 +1,4 @@
-"""Whether two answers to a command are the same, differ as is known, or contradict each other."""
+"""Whether two answers to a command are the same, have a known difference, or contradict each other."""
 
 from __future__ import annotations
 
@@ -29,7 +29,7 @@ def difference(words: Words, ours: Answer, theirs: Answer, engine: Engine, direc
 
 
 def _told_alike(path: str, ours: Answer, theirs: Answer, engine: Engine) -> bool:
-    """One change is notified once. Several may be notified at once, or some of them later."""
+    """One change is notified once. Several changes may be notified together, or some of them later."""
     if theirs.text == ours.text:
         return True
     if not ours.reply or (ours.text != "nothing" and not theirs.text.startswith(ours.text)):

@@ -208,7 +208,7 @@ class Groups:
         return ""
 
     def end(self) -> list[str]:
-        """Ends all, and returns what is left."""
+        """Ends all processes, and returns what is left."""
         for watch in self.watches.values():
             watch.close()
         for process in self.processes.values():

@@ -69,7 +69,7 @@ class Engine:
             return False
 
     def dying(self, words: Words) -> list[int]:
-        """The processes that a kill ends, also one whose value only a kernel takes."""
+        """The processes that a kill ends, also a kill whose value only a kernel accepts."""
         if words[0] != "write" or words[2] != "cgroup.kill" or kernel_number(words[3]) != 1 or not self._is_group(words[1]):
             return []
         return self.alive(words[1])
@@ -80,7 +80,7 @@ class Engine:
     # ---- which commands a directory can do
 
     def can_do(self, words: Words) -> bool:
-        """Whether the command is one for the directory: neither for its root alone, nor about processes that are none."""
+        """Whether the directory can do the command: it is not about the root only, and its processes are real ones."""
         kind = words[0]
         if kind in ("undo", "#"):
             return False

@@ -1,4 +1,4 @@
-"""What a kernel is known to answer otherwise than this project: the one list of it (docs/DECISIONS.md, "What differs from
+"""The known differences between a kernel's answers and this project's, in one list (docs/DECISIONS.md, "What differs from
 the kernel").
 
 evidence/compare names these differences in recorded answers, `makhloeum check` in those of a directory. The module imports
@@ -30,7 +30,7 @@ MORE_KEYS = "the kernel's cgroup.stat has more keys"
 OLD_EVENTS = "before Linux 6.11 a refused fork is counted at the group of the process"
 NOT_STOPPED = "a file system of FUSE counts a refused fork and cannot stop it"
 
-# What the kernel says with one errno, and the words of it here.
+# The kernel's answers with one errno for several words here.
 SAID_WITH_LESS = {
     "refused limit": ("refused descendants", "refused depth"),
     "refused busy": ("refused haschildren", "refused hasprocesses"),
@@ -116,7 +116,7 @@ _NUMBER = re.compile(r"([+-]?)(0[xX][0-9a-fA-F]+|0[0-7]*|[1-9][0-9]*)")
 
 
 def kernel_number(text: str) -> Optional[int]:
-    """The number as the kernel reads it: with a sign, octal or hexadecimal; None if it is no number."""
+    """The number as the kernel reads it: with a sign, octal or hexadecimal; None if it is not a number."""
     parts = _NUMBER.fullmatch(text)
     if not parts:
         return None

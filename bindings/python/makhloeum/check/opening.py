@@ -38,7 +38,7 @@ def _file(*steps: str) -> str:
 
 
 def _look(directory: str) -> None:
-    """Refuses what is no directory of a hierarchy, and one where the controller is missing."""
+    """Refuses a path that is not a directory of a hierarchy, and a directory without the controller."""
     if not os.path.isdir(directory):
         os.stat(directory)
         raise Unusable("it is not a directory")
@@ -55,7 +55,7 @@ def _look(directory: str) -> None:
 
 
 def _room(directory: str) -> None:
-    """Refuses a directory whose own limits would answer for the check's."""
+    """Refuses a directory whose own limits could refuse operations of the check."""
     for name, used, wanted in (
         ("pids.max", "pids.current", ROOM),
         ("cgroup.max.descendants", "", 4 * ROOM),

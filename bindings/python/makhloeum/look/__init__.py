@@ -1,1 +1,1 @@
-"""What one looks at: the page of a run (`view`) and the tree of a directory (`tree`)."""
+"""The page of a run (`view`) and the tree of a directory (`tree`)."""

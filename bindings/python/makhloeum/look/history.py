@@ -31,7 +31,7 @@ _BLANKS = b" \t\r"
 
 
 class Group:
-    """A group of the copy: `numbers` by field, the pids of its own, the groups below."""
+    """A group of the copy: `numbers` by field, its own pids, the groups below."""
 
     __slots__ = ("id", "path", "above", "numbers", "pids", "below")
 
@@ -58,7 +58,7 @@ class Group:
 
 
 class Copy:
-    """The state as the page has it: it changes by differences alone."""
+    """The state as the page has it: only differences change it."""
 
     def __init__(self) -> None:
         self.names: List[str] = ["/"]
@@ -73,7 +73,7 @@ class Copy:
         self._apply = (self.make, self.gone, self.born, self.died, self.move, self.kill, self.back, self.set, self.add)
 
     def id_of(self, path: str) -> int:
-        """The number of a path, the same whenever there is a group."""
+        """The number of a path, the same each time that there is a group."""
         if path not in self.ids:
             above, name = path.rsplit("/", 1)
             parent = self.id_of(above or "/")

@@ -55,7 +55,7 @@ def _hash(text: str) -> str:
 
 
 def page(history: History, title: str) -> str:
-    """The whole page. Its policy lets it run this script alone and load nothing."""
+    """The whole page. Its policy allows it to run only this script and to load nothing."""
     parts = {"STYLE": _file("page.css"), "SCRIPT": script(), "DATA": data(history), "TITLE": html.escape(title)}
     parts["POLICY"] = f"default-src 'none'; script-src {_hash(parts['SCRIPT'])}; style-src {_hash(parts['STYLE'])}"
     return re.sub("@([A-Z]+)@", lambda found: parts[found.group(1)], _file("page.html"))

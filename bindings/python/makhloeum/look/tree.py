@@ -25,7 +25,7 @@ _EIGHTHS = " ▏▎▍▌▋▊▉█"
 
 @dataclass
 class Node:
-    """A group as the tree shows it; None is what its directory doesn't say."""
+    """A group as the tree shows it; None if its directory doesn't have the number."""
 
     name: str
     processes: List[int]
@@ -61,7 +61,7 @@ def _read(folder: str, file: str) -> List[str]:
 
 
 def _number(folder: str, file: str, key: str = "") -> Optional[int]:
-    """The number of a file, or that behind a key. `max` is none."""
+    """The number of a file, or the number after a key. `max` is None."""
     words = _read(folder, file)
     word = words[words.index(key) + 1] if key in words[:-1] else "" if key else "".join(words[:1])
     return int(word) if word.isdigit() else None
@@ -105,7 +105,7 @@ def _printable(name: str) -> str:
 
 
 def _bar(node: Node, paint: _Paint) -> str:
-    """The count as a part of the limit, with a mark at the peak; without a limit nothing is a part of it."""
+    """The count as a part of the limit, with a mark at the peak; without a limit there are no parts."""
     if node.current is None or node.limit is None:
         return " " * (BAR + 2)
     eighths = min(BAR * 8, node.current * BAR * 8 // max(node.limit, 1))
