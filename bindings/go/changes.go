@@ -9,7 +9,7 @@ import (
 	"time"
 )
 
-// A wait looks at its context once in such a time.
+// A wait looks at its context once in each such time.
 const slice = 50 * time.Millisecond
 
 // Changes returns how many calls have changed the hierarchy, undos included.
@@ -23,7 +23,7 @@ func (h *Hierarchy) Changes() (uint64, error) {
 	return uint64(changes), nil
 }
 
-// Wait waits until Changes is another number than seen, and returns it. The error is that of the context when it ends, or
+// Wait waits until Changes differs from seen, and returns it. The error is that of the context when it ends, or
 // ErrClosed when the hierarchy is closed. Each wait keeps a thread.
 func (h *Hierarchy) Wait(ctx context.Context, seen uint64) (uint64, error) {
 	defer runtime.KeepAlive(h)

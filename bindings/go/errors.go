@@ -42,7 +42,7 @@ const (
 	BadValue      Code = C.MK_VALUE
 )
 
-// PathFault says what is wrong with a text that is no path.
+// PathFault is the fault of a text that is not a path.
 type PathFault uint32
 
 // The faults of the header.
@@ -57,13 +57,13 @@ const (
 	ReservedName PathFault = C.MK_RESERVED
 )
 
-// Refused is the error of a command that was refused, or that is none.
+// Refused is the error of a command that was refused, or of a text that is not a command.
 type Refused struct {
 	// Code says why.
 	Code Code
-	// Reply has the words of the answer, as "nogroup /b".
+	// Reply has the words of the answer, such as "nogroup /b".
 	Reply string
-	// Command is the command, as "mkdir /b/c".
+	// Command is the command, such as "mkdir /b/c".
 	Command string
 	// Path is the path of the command, if it has one.
 	Path string
@@ -81,13 +81,13 @@ func (r *Refused) Error() string {
 	return fmt.Sprintf("%s: %v (%s: %s)", r.Command, r.Errno(), r.Reply, C.GoString(C.mk_message(C.uint32_t(r.Code))))
 }
 
-// Errno is what the kernel gives for it; where the kernel's differs by case, the first.
+// Errno is the kernel's errno for it; if the kernel has several, the most common one.
 func (r *Refused) Errno() syscall.Errno { return syscall.Errno(C.mk_errno(C.uint32_t(r.Code))) }
 
 // Unwrap lets errors.Is find the errno, and with it fs.ErrExist and fs.ErrNotExist.
 func (r *Refused) Unwrap() error { return r.Errno() }
 
-// command is what an error says of the call.
+// command is the text of the call in an error.
 type command struct {
 	text, path string
 	hasPath    bool
@@ -100,7 +100,7 @@ func pathFault(path string) (PathFault, int) {
 	return PathFault(fault), int(position)
 }
 
-// failed is the error of a call that names a path, which Fail may have let fail.
+// failed is the error of a call that names a path; the call may have failed because of Fail.
 func failed(what command, status uint32, info C.mk_info, answer []byte) error {
 	if status == C.MK_FAILED {
 		return fmt.Errorf("%s: %w (asked for by Fail)", what.text, syscall.Errno(info.error))

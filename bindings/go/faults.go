@@ -11,7 +11,7 @@ import (
 	"unsafe"
 )
 
-// Fail lets the nth call from now on that names the path fail with the errno; it changes nothing. nth is 1 for the next. It is
+// Fail makes the nth call from now on that names the path fail with the errno; it changes nothing. nth is 1 for the next. It is
 // for tests of programs that use a hierarchy.
 func (h *Hierarchy) Fail(path string, nth uint64, errno syscall.Errno) error {
 	return h.plan(fmt.Sprintf("fail %s", path), path, func(text *C.char, info *C.mk_info) C.uint32_t {
@@ -39,7 +39,7 @@ func (h *Hierarchy) plan(what, path string, plan func(*C.char, *C.mk_info) C.uin
 	return failed(command{text: what, path: path, hasPath: true}, uint32(status), info, nil)
 }
 
-// ClearFaults drops the faults that have not come, and returns how many they were.
+// ClearFaults drops the faults that have not occurred, and returns how many there were.
 func (h *Hierarchy) ClearFaults() (int, error) {
 	var left C.size_t
 	status := C.mk_clear_faults(&h.handle, &left)

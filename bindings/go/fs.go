@@ -26,10 +26,10 @@ var (
 	_ fs.StatFS     = FS{}
 )
 
-// FS gives the hierarchy as a file system, as process 1 has it.
+// FS returns the hierarchy as a file system, as process 1 sees it.
 func (h *Hierarchy) FS() FS { return FS{h, 1} }
 
-// As is the same file system as another process has it: the one that moves when 0 is written to cgroup.procs.
+// As returns the same file system for another process: the one that moves when 0 is written to cgroup.procs.
 func (f FS) As(pid int) FS { return FS{f.h, pid} }
 
 // node is a group or a file, as it was found.
@@ -46,7 +46,7 @@ func (n *node) ModTime() time.Time { return time.Time{} }
 func (n *node) IsDir() bool        { return n.mode.IsDir() }
 func (n *node) Sys() interface{}   { return nil }
 
-// groupOf gives the path of the group for a name of a file system.
+// groupOf returns the path of the group for a name of a file system.
 func groupOf(name string) string {
 	if name == "." {
 		return "/"
@@ -64,7 +64,7 @@ func (f FS) fileNode(group string, it file) (*node, error) {
 	return n, err
 }
 
-// find gives what has the name. A group that is removed meanwhile is not found.
+// find returns the group or file of that name. A group that is removed meanwhile is not found.
 func (f FS) find(operation, name string) (*node, error) {
 	if !fs.ValidPath(name) {
 		return nil, &fs.PathError{Op: operation, Path: name, Err: fs.ErrInvalid}
@@ -101,7 +101,7 @@ func (f FS) node(name string) (*node, error) {
 	return &node{name: base, mode: fs.ModeDir | 0o755}, nil
 }
 
-// notFound turns a text that is no path of a group into one that does not exist.
+// notFound turns a text that is not the path of a group into one that does not exist.
 func notFound(err error) error {
 	var refused *Refused
 	if !errors.As(err, &refused) || refused.Code != BadPath {
@@ -128,7 +128,7 @@ func (f FS) ReadFile(name string) ([]byte, error) {
 	return []byte(n.text), nil
 }
 
-// entry is a group or a file in a listing, which is looked at when Info is called.
+// entry is a group or a file in a listing. It is read when Info is called.
 type entry struct {
 	f          FS
 	name, path string
@@ -186,7 +186,7 @@ type openFile struct {
 func (o *openFile) Stat() (fs.FileInfo, error) { return o.node, nil }
 func (o *openFile) Close() error               { return nil }
 
-// openGroup lists what is there at its first ReadDir.
+// openGroup is an open group. It is listed at its first ReadDir.
 type openGroup struct {
 	f       FS
 	path    string
@@ -221,8 +221,8 @@ func (o *openGroup) ReadDir(n int) ([]fs.DirEntry, error) {
 	return part, nil
 }
 
-// WriteFile writes a file, as os.WriteFile does below a mount: numbers may be octal, hexadecimal or signed, a constant takes the
-// value that it has, and 0 in cgroup.procs is this process.
+// WriteFile writes a file, as os.WriteFile does below a mount: numbers may be octal, hexadecimal or signed, a constant accepts
+// its current value, and 0 in cgroup.procs is this process.
 func (f FS) WriteFile(name string, data []byte) error {
 	if !fs.ValidPath(name) || name == "." {
 		return &fs.PathError{Op: "open", Path: name, Err: fs.ErrInvalid}
@@ -271,7 +271,7 @@ func (f FS) change(operation, name string, change func(string) error) error {
 	return nil
 }
 
-// asMount gives the errno of a mount for a name that no group can have: a missing parent comes first.
+// asMount returns the errno of a mount for a name that no group can have: a missing parent comes first.
 func (f FS) asMount(operation, name string, err error) error {
 	var refused *Refused
 	if !errors.As(err, &refused) || refused.Code != BadPath {

@@ -1,5 +1,5 @@
-// Package makhloeum keeps a hierarchy of process groups in memory and answers as the kernel's cgroup files do, for tests of
-// what reads and writes such files.
+// Package makhloeum keeps a hierarchy of process groups in memory that behaves like the kernel's cgroup files, for tests of
+// programs that read and write such files.
 //
 //	func show() error {
 //		h, err := makhloeum.New()
@@ -37,14 +37,14 @@ import (
 	"unsafe"
 )
 
-// Hierarchy is a hierarchy of groups: at first the root alone, and process 1 in it. Goroutines may share it: commands take
+// Hierarchy is a hierarchy of groups: at first only the root, and process 1 in it. Goroutines may share it: commands take
 // effect one after the other.
 type Hierarchy struct {
 	_      [0]sync.Mutex // go vet reports a copy, whose original the garbage collector would close
 	handle C.mk_handle
 }
 
-// New makes a hierarchy. Close frees it, and so does the garbage collector, in a goroutine of its own, once nothing refers
+// New makes a hierarchy. Close frees it, and so does the garbage collector, in another goroutine, once nothing refers
 // to it. The error is syscall.ENOMEM.
 func New() (*Hierarchy, error) {
 	h := new(Hierarchy)
@@ -59,7 +59,7 @@ func New() (*Hierarchy, error) {
 // nothing.
 func (h *Hierarchy) Close() { C.mk_close(&h.handle) }
 
-// at gives a pointer for a text that may be empty.
+// at returns a pointer for a text that may be empty.
 func at(text []byte) *C.uint8_t {
 	if len(text) == 0 {
 		return (*C.uint8_t)(unsafe.Pointer(&[1]byte{}))
@@ -85,7 +85,7 @@ func (c *call) end() {
 	calls.Put(c)
 }
 
-// told returns the bytes that the call gives, which are good until the call ends. Another goroutine may make the
+// told returns the bytes of the call's answer, which are valid until the call ends. Another goroutine may make the
 // answer longer between two calls, so the buffer may grow more than once, but not beyond the longest answer.
 func (c *call) told(what command, do func() C.uint32_t) ([]byte, error) {
 	c.info = C.mk_info{}
@@ -114,7 +114,7 @@ func grown(size, needed int) int {
 	return 4 * size
 }
 
-// shown returns the text behind an answer's first line.
+// shown returns the text after an answer's first line.
 func shown(answer []byte) string {
 	lines := strings.SplitAfter(string(answer), "\n")[1:]
 	for i := range lines {
@@ -138,7 +138,7 @@ func (h *Hierarchy) asked(line string, what command) (string, error) {
 	return shown(answer), nil
 }
 
-// Line answers one line of the trace language, and returns the text that it shows: the file's for a cat and a where, the
+// Line answers one line of the trace language, and returns its text: the file's for a cat and a where, the
 // undone command for an undo, else none.
 func (h *Hierarchy) Line(line string) (string, error) {
 	what := command{text: line}
@@ -244,8 +244,8 @@ func (h *Hierarchy) Forget() error {
 	return nil
 }
 
-// Copy makes a hierarchy of its own with the same groups, processes, counts and recorded commands. What one does from then
-// on, the other doesn't see. The copy has no faults of Fail and Vanish, and Changes begins at 0. It is freed as one that New
+// Copy makes a new hierarchy with the same groups, processes, counts and recorded commands. From then on the two are
+// independent. The copy has no faults of Fail and Vanish, and its Changes begins at 0. It is freed like one that New
 // makes.
 func (h *Hierarchy) Copy() (*Hierarchy, error) {
 	made := new(Hierarchy)

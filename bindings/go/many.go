@@ -18,8 +18,8 @@ type Text struct {
 	Err  error
 }
 
-// ReadMany returns the texts of many files, all of one state: no other call comes in between. A file that cannot be read has its
-// own error, so a group that was removed since it was listed takes nothing from the others.
+// ReadMany returns the texts of many files, all of the same state: no other call comes in between. A file that cannot be read
+// has its own error, so a group that was removed since it was listed does not affect the others.
 func (h *Hierarchy) ReadMany(files []File) ([]Text, error) {
 	if len(files) == 0 {
 		return nil, nil

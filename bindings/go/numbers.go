@@ -11,7 +11,7 @@ import (
 	"unsafe"
 )
 
-// cPath gives the path to C, to be freed. One with a zero byte would be cut there.
+// cPath copies the path for C; the caller frees it. C would cut a path at a zero byte.
 func cPath(path string) *C.char {
 	if strings.Contains(path, "\x00") {
 		path = "?"
@@ -92,7 +92,7 @@ func (h *Hierarchy) Processes(path string) ([]int, error) {
 	return pids, err
 }
 
-// UndoTo undoes recorded commands until no more than mark are left: Depth, called earlier, gives the mark. No other call
+// UndoTo undoes recorded commands until only mark are left. An earlier Depth gives the mark. No other call
 // comes in between.
 func (h *Hierarchy) UndoTo(mark int) error {
 	if mark < 0 {

@@ -156,7 +156,7 @@ class Shell(cmd.Cmd):
     # ---- completion
 
     def completedefault(self, *given: Any) -> list[str]:
-        """Paths for the second word, files for the third. Given are the text to complete, its line, and where it begins and ends."""
+        """Paths for the second word, files for the third; given the text to complete, its line, and where it begins and ends."""
         text, line, begin, end = given
         words = line[:end].split(" ")
         if len(words) == 2:
@@ -185,7 +185,7 @@ def run_script(shell: Shell, file: str) -> bool:
 
 
 def command(name: str, words: list[str]) -> int:
-    """A command of its own: the `main` of its module."""
+    """A separate command: the `main` of its module."""
     module = COMMANDS[name]
     if importlib.util.find_spec(module) is None:
         print(f"makhloeum: {name} is not part of this installation", file=sys.stderr)

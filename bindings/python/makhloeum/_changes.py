@@ -26,7 +26,7 @@ class Changes:
 
     def wait(self, seen: int, timeout: float | None = None) -> int:
         """Waits until changes() is another number than `seen`, and returns it. TimeoutError after `timeout` seconds, ValueError
-        when the hierarchy is closed. Other threads go on meanwhile."""
+        when the hierarchy is closed. Other threads can make calls meanwhile."""
         end = None if timeout is None else time.monotonic() + timeout
         count = ctypes.c_uint64()
         while True:

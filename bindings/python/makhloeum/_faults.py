@@ -16,7 +16,7 @@ class Faults:
         """The nth call from now on that names the path fails with the errno, as `fail("/a", errno.EIO)` lets the next
         `read("/a", ..)` raise an OSError; it changes nothing."""
         if error <= 0:
-            raise ValueError(f"fail {_text(path)}: {error} is no errno")
+            raise ValueError(f"fail {_text(path)}: {error} is not an errno")
         self._plan(lambda word, info: library.mk_fail(self._at, word, nth, error, info), f"fail {_text(path)}", path, nth)
 
     def vanish(self, path: Path, nth: int = 1) -> None:

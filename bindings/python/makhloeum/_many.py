@@ -23,8 +23,8 @@ class Many:
 
     def read_many(self, files: Iterable[tuple[Path, str]]) -> list[str | Refused | OSError]:
         """The texts of many files, given as pairs of a path and a file's name. All are of one state: no other thread's command
-        comes in between. A file that can't be read has the exception in the place of its text, so a group that was removed since it was
-        listed takes nothing from the others."""
+        comes in between. A file that can't be read has the exception in the place of its text, so a group that was removed since
+        it was listed does not affect the others."""
         pairs = list(files)
         names = b"".join(_part(path) + _part(file) for path, file in pairs)
         texts, size = (Text * len(pairs))(), _BYTES_EACH * len(pairs) + 64

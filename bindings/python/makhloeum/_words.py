@@ -16,7 +16,7 @@ Value = Union[str, bytes, int]
 
 _WORD = re.compile(rb"[^ \t\r\n]{1,4095}")
 _BLANKS = b" \t\r\n"
-_NO_WORD = b"?"  # neither a path nor a file nor a value, so the library refuses it as what it stands for
+_NO_WORD = b"?"  # neither a path nor a file nor a value, so the library refuses it in the place of the bad word
 _FIRST_SIZE = 512
 
 

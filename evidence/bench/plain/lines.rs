@@ -80,7 +80,7 @@ impl File {
     }
 }
 
-/// `None` is no limit.
+/// `None` means no limit.
 pub type Limit = Option<u32>;
 
 pub enum Command<'a> {

@@ -1,4 +1,4 @@
-//! The job of cgreplay in plain Rust, as a yardstick: the standard library alone, no contracts and no proofs.
+//! The job of cgreplay in plain Rust, to compare with: only the standard library, no contracts and no proofs.
 //!
 //! It reads a trace on standard input and writes the replies on standard output, byte for byte those of cgreplay
 //! (docs/FORMATS.md). It counts in plain numbers, keeps peaks and a journal, and has the same bounds.

@@ -35,7 +35,7 @@ SAID_WITH_LESS = {
     "refused limit": ("refused descendants", "refused depth"),
     "refused busy": ("refused haschildren", "refused hasprocesses"),
 }
-# The limits: only their own text follows from a write that the kernel alone took.
+# The limits: a write that only the kernel accepted affects only their own text.
 LIMITS = ("pids.max", "cgroup.max.descendants", "cgroup.max.depth")
 # The known differences of a peak by the points that give the kernel's number, the plainest first.
 PEAKS_BY = {(True, False): REFUSED_RAISES, (False, True): MOVE_RAISES, (True, True): BOTH_RAISE}

@@ -1,4 +1,4 @@
-"""One sequence, played on the engine and in the directory at once."""
+"""One sequence, played on the engine and in the directory together."""
 
 from __future__ import annotations
 
@@ -85,7 +85,7 @@ class Player:
         return self._worker.ask(*request)
 
     def _replace(self) -> None:
-        """Leaves a worker behind that hangs, and begins another."""
+        """Gives up a worker that hangs, and starts another."""
         self._worker.abandon()
         self._worker = Worker(self.limit)
         try:
@@ -169,7 +169,7 @@ class Player:
         return None
 
     def _settle(self, words: Words, value: Optional[Words], engine: Engine) -> None:
-        """After a command that the directory alone took: the engine gets its value in decimal, or the group is removed."""
+        """After a command that only the directory accepted: the engine gets its value in decimal, or the group is removed."""
         if words[0] == "mkdir":
             self._ask("play", "unmake", words[1])
         elif value:

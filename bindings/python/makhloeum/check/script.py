@@ -180,7 +180,7 @@ class _Script:
         return line
 
     def _body(self) -> None:
-        """Commands that belong together stand in one line."""
+        """Puts commands that belong together on one line."""
         commands = self._difference.played
         if self._own_first and self._use("1", 0) == "write":
             self._starting["1"] = self._FIRST

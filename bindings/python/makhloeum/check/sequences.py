@@ -10,7 +10,7 @@ from typing import Iterator, Optional
 from .engine import Engine, FILES, LIMITS, Words
 
 HERE = os.path.dirname(os.path.abspath(__file__))
-# beside this module where it is installed, else in the repository
+# beside this module if it is installed, else in the repository
 _PLACES = (os.path.join(HERE, "worked"), os.path.normpath(os.path.join(HERE, "../../../../evidence/linux")))
 _SETS = ("rows", "text")
 NAMES = ("a", "b", "c")
@@ -135,7 +135,7 @@ class Random:
         return ["write", self._group(engine), file, str(self._choice.choice([0, 1, 2, 3, "max", "max"]))]
 
     def _kill(self, engine: Engine) -> Words:
-        """Of a group that has processes below it, where there is one."""
+        """Of a group that has processes below it, if there is one."""
         self._waiting = [["cat", group, "pids.current"] for group in engine.h.groups()[1:]]
         full = [group for group in engine.h.groups()[1:] if len(engine.alive(group)) > len(engine.h.processes(group))]
         group = self._choice.choice(full) if full and self._choice.random() < 0.7 else self._group(engine, beside_root=True)

@@ -157,7 +157,7 @@ class Worker:
                 return error, value
 
     def abandon(self) -> None:
-        """Kills it and the sleeping processes. Where it hangs in the directory it ends once that answers."""
+        """Kills it and the sleeping processes. If it hangs in the directory, it ends once the directory answers."""
         try:
             os.killpg(self.pid, signal.SIGKILL)
         except (ProcessLookupError, PermissionError):

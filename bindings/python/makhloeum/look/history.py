@@ -240,7 +240,7 @@ class History:
         return NONE if text == "max" else int(text)
 
     def _settle(self, group: Group, *fields: int) -> None:
-        """The numbers of the group and of those above it, where they are others than the copy has."""
+        """The numbers of the group and of those above it that differ from the copy's."""
         for field in fields:
             run: List[int] = []
             for at in group.up():
@@ -346,7 +346,7 @@ class History:
 
 
 def shown(line: bytes) -> str:
-    """The line as the page shows it: what cannot be printed as an escape, and no more than a command can have."""
+    """The line as the page shows it: escapes for what cannot be printed, and at most as long as a command."""
     text = line[:LINE_MAX].decode("utf-8", "backslashreplace")
     if not text.isprintable():
         text = "".join(c if c.isprintable() else c.encode("unicode_escape").decode("ascii") for c in text)

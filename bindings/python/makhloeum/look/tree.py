@@ -166,7 +166,7 @@ class Watch:
         self.poll = select.poll()
 
     def follow(self, node: Node) -> None:
-        """Polls the event files of the groups that are there."""
+        """Polls the event files of the existing groups."""
         wanted = set()
         for path in list(_paths(self.folder, node))[:WATCHED_MOST]:
             wanted |= {os.path.join(path, file) for file in ("cgroup.events", "pids.events")}
@@ -258,7 +258,7 @@ def main(words: List[str]) -> int:
         os.close(os.open(os.path.join(folder, "cgroup.procs"), os.O_RDONLY))
     except OSError as failure:
         why = "it has no cgroup.procs" if os.path.isdir(folder) and not os.path.exists(failure.filename) else failure.strerror
-        print(f"makhloeum tree: {_printable(folder)} is no cgroup2 directory: {why}", file=sys.stderr)
+        print(f"makhloeum tree: {_printable(folder)} is not a cgroup2 directory: {why}", file=sys.stderr)
         return 2
     try:
         if seconds is None:
