@@ -84,7 +84,7 @@ def others_go_on(name):
         if text != b"0::/\n":
             wrong.append(text)
         times += 1
-    same("%s: the others go on" % name, (times, wrong[:1]), (40, []))
+    same("%s: the others still run" % name, (times, wrong[:1]), (40, []))
 
 
 def quiet(name):

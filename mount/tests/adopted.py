@@ -1,4 +1,4 @@
-"""mount --adopt: real processes stand in the hierarchy, without a supervisor."""
+"""mount --adopt: real processes in the hierarchy, without a supervisor."""
 import os
 import signal
 import subprocess
@@ -35,7 +35,7 @@ write(m.path("b", "cgroup.procs"), b"0\n")
 same("0 is the writer", read(m.path("b", "cgroup.procs")), b"%d\n" % os.getpid())
 m.end()
 
-# a list of children that is longer than a page, and ends within a number where it is cut
+# a list of children that is longer than a page, so a read ends within a number
 CHILDREN = 2000
 FORKS = """import ctypes, os, signal
 libc = ctypes.CDLL(None)

@@ -1,4 +1,4 @@
-"""--keep: which controllers a group has, and that groups which share them out have no processes of their own."""
+"""--keep: which controllers a group has, and that groups which enable them for their children have no processes."""
 import os
 import subprocess
 
@@ -44,7 +44,7 @@ def enabling():
 
 
 def lost_pids():
-    """Where pids is taken away its limit is lifted; an open file of it ends."""
+    """If pids is disabled, its limit becomes `max`, and its open files fail."""
     m = Mount("--keep", "memory")
     change(m, ".", "+pids")
     os.mkdir(m.path("a"))
@@ -80,34 +80,35 @@ def internal():
     same("to the root, which may have both", error_of(write, m.path("cgroup.procs"), b"2\n"), "ok")
     same("into the group that shares", error_of(write, m.path("a", "cgroup.procs"), b"2\n"), "EBUSY")
     write(m.path("a", "b", "cgroup.procs"), b"2\n")
-    same("memory below is taken away", change(m, "a", "-memory"), "ok")
+    same("memory below is disabled", change(m, "a", "-memory"), "ok")
     same("then it may be entered", error_of(write, m.path("a", "cgroup.procs"), b"2\n"), "ok")
     m.end()
 
 
 def threaded():
-    """Controllers of threads may be enabled beside a process; then groups below are no domains. There are no threaded groups."""
+    """Controllers of threads may be enabled in a group with processes; then groups below are not domains. There are no threaded
+    groups."""
     m = Mount("--keep", KEPT)
     change(m, ".", "+memory +cpu +pids")
     os.makedirs(m.path("a", "b"))
     write(m.control("fork"), b"1 2\n")
     write(m.path("a", "cgroup.procs"), b"2\n")
-    same("pids beside a process", change(m, "a", "+pids"), "ok")
+    same("pids in a group with a process", change(m, "a", "+pids"), "ok")
     same("the type", (text_of(m, "a", "cgroup.type"), text_of(m, "a", "b", "cgroup.type")), ("domain threaded", "domain invalid"))
-    same("memory beside it", change(m, "a", "+memory"), "ENOTSUP")
+    same("memory in the same group", change(m, "a", "+memory"), "ENOTSUP")
     same("a move below", error_of(write, m.path("a", "b", "cgroup.procs"), b"2\n"), "ENOTSUP")
     same("enabling below", change(m, "a/b", "+pids"), "ENOTSUP")
     write(m.path("cgroup.procs"), b"2\n")
     same("without processes they are domains", (text_of(m, "a", "cgroup.type"), text_of(m, "a", "b", "cgroup.type")), ("domain", "domain"))
     same("a move below", error_of(write, m.path("a", "b", "cgroup.procs"), b"2\n"), "ok")
-    same("beside a group with processes", error_of(write, m.path("a", "cgroup.procs"), b"2\n"), "EBUSY")
+    same("below a group with processes", error_of(write, m.path("a", "cgroup.procs"), b"2\n"), "EBUSY")
     same("to be threaded", error_of(write, m.path("a", "cgroup.type"), b"threaded\n"), "ENOTSUP")
     same("to be a domain", error_of(write, m.path("a", "cgroup.type"), b"domain\n"), "ok")
     m.end()
 
 
 def without():
-    """Without --keep nothing of this is there."""
+    """Without --keep none of this exists."""
     m = Mount("--extra")
     os.mkdir(m.path("a"))
     same("controllers", (text_of(m, "a", "cgroup.controllers"), text_of(m, "a", "cgroup.subtree_control")), ("pids", "pids"))

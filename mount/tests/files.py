@@ -180,7 +180,7 @@ def control():
     same("three more", read(m.control("trace")), b"mkdir /a\n")
     fd = os.open(m.path("a", "pids.max"), os.O_RDONLY)
     write(m.control("undo"), b"1\n")
-    same("an open file of a group that was taken back", error_of(os.read, fd, 9), "ENODEV")
+    same("an open file of a group whose mkdir was undone", error_of(os.read, fd, 9), "ENODEV")
     os.close(fd)
     same("nothing is left to undo", error_of(write, m.control("undo"), b"1\n"), "ENODATA")
     for name, words in (("undo", "x"), ("undo", "-1"), ("undo", "+1"), ("undo", "1 1"), ("fork", "1"), ("fork", "1 2 3"), ("fork", "1 -2"),
@@ -203,7 +203,7 @@ def control():
 
 
 def no_history():
-    """Without --control: fork and exit alone."""
+    """Without --control: only fork and exit."""
     m = Mount(control=False)
     same("the control directory", sorted(os.listdir(m.path(".makhloeum"))), ["exit", "fork"])
     same("it is not listed", ".makhloeum" in os.listdir(m.at), False)

@@ -1,4 +1,4 @@
-"""The freezer. Without real processes a group is frozen at once; under `makhloeum run` processes really stop. This file is also
+"""The freezer. Without real processes a group is frozen immediately; under `makhloeum run` processes really stop. This file is also
 the program (freezer.py inside NAME)."""
 import ctypes
 import os
@@ -36,7 +36,7 @@ def numbers():
     write(a + "/cgroup.freeze", b"1\n")
     same("a frozen group", (frozen(a), read(a + "/cgroup.freeze")), (FROZEN, b"1\n"))
     same("the group below", (frozen(b), read(b + "/cgroup.freeze")), (FROZEN, b"0\n"))
-    same("the group beside", frozen(c), THAWED)
+    same("the other group", frozen(c), THAWED)
     write(b + "/cgroup.freeze", b"1\n")
     write(a + "/cgroup.freeze", b"0\n")
     same("thawed above, frozen itself", (frozen(a), frozen(b)), (THAWED, FROZEN))
@@ -98,7 +98,7 @@ class Counter:
             return b""
 
     def counts(self):
-        """Whether it goes on within the patience of these tests."""
+        """Whether it runs again within the patience of these tests."""
         self.read()
         return until(lambda: self.read() != b"")
 
@@ -131,15 +131,15 @@ def stops():
     step("they rest", one.rests() and two.rests())
     freeze("/a/b", 1)
     freeze("/a", 0)
-    step("the one above goes on", one.counts())
+    step("the one above runs", one.counts())
     step("the one below rests", two.rests())
-    same("what is told", (frozen(AT + "/a"), frozen(AT + "/a/b")), (THAWED, FROZEN))
+    same("what the files say", (frozen(AT + "/a"), frozen(AT + "/a/b")), (THAWED, FROZEN))
     freeze("/a/b", 0)
-    step("it goes on", two.counts())
+    step("it runs again", two.counts())
     for _ in range(100):
         freeze("/a", 1)
         freeze("/a", 0)
-    step("after a hundred changes both go on", one.counts() and two.counts())
+    step("after a hundred changes both run", one.counts() and two.counts())
     freeze("/a", 1)
     freeze("/a", 0)
     freeze("/a", 1)
@@ -160,7 +160,7 @@ def moves():
     becomes("a process that moves in stops", "/cold", FROZEN)
     step("it rests", one.rests())
     write(AT + "/warm/cgroup.procs", b"%d\n" % one.process.pid)
-    step("moved out it goes on", one.counts())
+    step("moved out it runs again", one.counts())
     one.end()
     fd = os.open(AT + "/cold", os.O_RDONLY)
     mark = os.path.join(os.environ["TMPDIR"], "mark%d" % os.getpid())
@@ -174,7 +174,7 @@ def moves():
     time.sleep(0.2)
     same("before its first instruction", os.path.exists(mark), False)
     freeze("/cold", 0)
-    same("it goes on", os.waitpid(pid, 0)[1], 0)
+    same("it runs again", os.waitpid(pid, 0)[1], 0)
     same("and did what it was made for", os.path.exists(mark), True)
     os.rmdir(mark)
 
@@ -242,7 +242,7 @@ def kinds():
 
 
 def signals():
-    """Job control is the program's own, and goes on beside the freezer."""
+    """The program's job control works together with the freezer."""
     os.mkdir(AT + "/a")
     one = Counter("/a")
     one.process.send_signal(signal.SIGSTOP)
@@ -252,7 +252,7 @@ def signals():
     one.process.send_signal(signal.SIGCONT)
     step("continued it still rests", one.rests())
     freeze("/a", 0)
-    step("thawed it goes on", one.counts())
+    step("thawed it runs again", one.counts())
     freeze("/a", 1)
     becomes("frozen", "/a", FROZEN)
     one.process.send_signal(signal.SIGSTOP)
@@ -260,7 +260,7 @@ def signals():
     same("a stop that was sent meanwhile", os.waitpid(one.process.pid, os.WUNTRACED)[1] & 0xFF, 0x7F)
     step("it rests", one.rests())
     one.process.send_signal(signal.SIGCONT)
-    step("continued it goes on", one.counts())
+    step("continued it runs again", one.counts())
     freeze("/a", 1)
     becomes("frozen", "/a", FROZEN)
     one.process.send_signal(signal.SIGTERM)
@@ -307,7 +307,7 @@ def many():
         freeze("/a", 1)
         becomes("a hundred stop", "/a", FROZEN)
         freeze("/a", 0)
-        same("and go on", frozen(AT + "/a"), THAWED)
+        same("and run again", frozen(AT + "/a"), THAWED)
     freeze("/a", 1)
     write(AT + "/a/cgroup.kill", b"1\n")
     same("all are killed", {p.wait(PATIENCE) for p in all_of}, {-signal.SIGKILL})

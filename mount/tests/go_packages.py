@@ -1,7 +1,7 @@
 """The tests of runc's and containerd's Go packages for cgroup2, as Debian ships them, without the lines by which Debian skips them.
 
 go_packages.py build FOLDER  compiles them into the folder; the status is 3 if the packages are not installed.
-go_packages.py run FOLDER    runs them, under `makhloeum run --root --keep memory,cpu,io,cpuset`, beside a systemd of the user's own."""
+go_packages.py run FOLDER    runs them, under `makhloeum run --root --keep memory,cpu,io,cpuset`, together with the user's own systemd."""
 import glob
 import json
 import os
@@ -63,7 +63,7 @@ def build(folder):
 
 
 def start_manager():
-    """Where these packages look for the machine's systemd they find the user's, which makes its groups in the root."""
+    """These packages look for the machine's systemd and find the user's, which makes its groups in the root."""
     home = os.path.join(os.environ["TMPDIR"], "manager")
     os.makedirs(home, 0o700)
     if not os.path.isdir("/run/systemd/system"):

@@ -1,5 +1,5 @@
 """What is looked at and what is changed then stay under one lock; and a mount that cannot begin is not left in place.
-Each needs a library that is loaded before libc: beside the plain build alone."""
+Each needs a library that is loaded before libc, so only the plain build runs it."""
 import os
 import stat
 import subprocess

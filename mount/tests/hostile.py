@@ -27,7 +27,7 @@ def started(*words, group="/", program=HOSTILE):
 
 
 def said(*words, seconds=60, program=HOSTILE):
-    """What it prints, as words; what is wrong, where it does not end."""
+    """What it prints, as words; a description of the fault if it does not end."""
     p = started(*words, program=program)
     try:
         return p.communicate(timeout=seconds)[0].decode().split()
@@ -75,7 +75,7 @@ def arguments():
     wrong = said("rewritten")
     step("arguments that are rewritten: each child is in one group", wrong[0] == "0" and int(wrong[1]) > 50, wrong)
     same("arguments that threads share, in constant memory", said("shared"), ["0"])
-    same("a clone3 into what is no group", said("into"), ["ENOENT", "ENOENT", "EBADF", "EBADF", "EBADF", "EBADF", "ok"])
+    same("a clone3 into what is not a group", said("into"), ["ENOENT", "ENOENT", "EBADF", "EBADF", "EBADF", "EBADF", "ok"])
     same("nobody is left", (read(AT + "/one/cgroup.procs"), read(AT + "/two/cgroup.procs")), (b"", b""))
 
 
@@ -121,7 +121,7 @@ def zombies():
         into("/b")
         os._exit(0)
     os.waitid(os.P_PID, child, os.WEXITED | os.WNOWAIT)
-    same("a group of zombies alone", (read(AT + "/b/cgroup.events"), count("/b")), (b"populated 0\nfrozen 0\n", 1))
+    same("a group with only zombies", (read(AT + "/b/cgroup.events"), count("/b")), (b"populated 0\nfrozen 0\n", 1))
     same("one moves nowhere", error_of(write, AT + "/a/cgroup.procs", b"%d\n" % child), "ok")
     same("and does not hold its group", error_of(os.rmdir, AT + "/b"), "ok")
     os.waitpid(child, 0)

@@ -1,4 +1,4 @@
-"""The files that a mount keeps, --trace and --answers: which may be given, and what happens when they can grow no more."""
+"""The files that a mount keeps, --trace and --answers: which may be given, and what happens when they cannot grow."""
 import os
 import re
 import resource
@@ -93,7 +93,7 @@ def full_answers():
 
 
 def snapshot(m):
-    """All that the hierarchy tells without a line of its own: groups, sizes of texts, history."""
+    """What can be seen of the hierarchy without sending a line: groups, sizes of texts, history."""
     sizes = {}
     for folder, _, files in os.walk(m.at):
         for f in files:
@@ -132,7 +132,7 @@ def limit_of(m, size):
 
 
 def limited():
-    """A file that may grow no more: a limit of the process, which is lifted again."""
+    """A file that cannot grow because of a limit of the process, which is lifted again."""
     m = Mount()
     recovers("both files", m, lambda: limit_of(m, 1), lambda: limit_of(m, None))
     m = Mount()
@@ -146,11 +146,11 @@ def limited():
         for _ in range(8):
             read(m.path("cgroup.stat"))
     step("the answers are longer than the trace", os.path.getsize(m.answers) > os.path.getsize(trace) + 100)
-    recovers("the answers alone", m, stop, lambda: limit_of(m, None))
+    recovers("only the answers", m, stop, lambda: limit_of(m, None))
 
 
 def small_device():
-    """Inside name spaces of its own: a file system of 16 pages, filled and emptied."""
+    """In new namespaces: a file system of 16 pages, filled and emptied."""
     disk = tempfile.mkdtemp()
     subprocess.run(["mount", "-t", "tmpfs", "-o", "size=64k", "none", disk], check=True)
     ballast = os.path.join(disk, "ballast")
@@ -173,7 +173,7 @@ def small_device():
         errors.append(error_of(os.mkdir, m.path("g%d" % i)))
         if errors[-1] != "ok":
             break
-    same("a full device is told", errors[-1], "ENOSPC")
+    same("a full device is reported", errors[-1], "ENOSPC")
     made = errors.count("ok")
     same("as many groups as answers", (sum(n.startswith("g") for n in os.listdir(m.at)), sum(1 for _ in open(m.answers))), (made, made))
     same("a kill", error_of(write, m.control("fork"), b"1 2\n"), "ENOSPC")
@@ -184,7 +184,7 @@ def small_device():
 
 
 def long_trace():
-    """cgreplay takes 16 MiB; a longer trace is told once, and is one for cgshell."""
+    """cgreplay accepts 16 MiB; a longer trace is reported once, and cgshell replays it."""
     m = Mount()
     deep = m.at
     for _ in range(16):
@@ -202,7 +202,7 @@ def long_trace():
     step("with the program that takes it", "cgshell" in m.words() and "16,777,216" in m.words(), m.words())
     os.close(fd)
     os.chdir("/")
-    step("it can be taken away", m.unmounted())
+    step("it can be unmounted", m.unmounted())
     same("the process ends", m.ended(), 0)
     with open(m.trace) as trace:
         same("cgreplay refuses it", subprocess.run(CGREPLAY, stdin=trace, stdout=-3, stderr=-3).returncode, 1)

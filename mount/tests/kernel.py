@@ -55,7 +55,7 @@ def play(m, words):
 
 
 def is_left_out(words):
-    """`where` is no file of the mount; the peaks differ; 0 is the writer, who is no process of this hierarchy."""
+    """`where` is not a file of the mount; the peaks differ; 0 is the writer, which is not a process of this hierarchy."""
     return words[0] == "where" or "pids.peak" in words[2:3] or words[2:] == ["cgroup.procs", "0"]
 
 
@@ -86,7 +86,7 @@ for trace in sorted(glob.glob(os.path.join(HERE, "*", "*.trace"))):
         if not agrees(words, got, reply):
             wrong.append((words, got, reply))
     same(name, wrong[:3], [])
-    same("%s: its mount is taken away" % name, (m.unmounted(), m.ended(), m.words()), (True, 0, ""))
+    same("%s: its mount is unmounted" % name, (m.unmounted(), m.ended(), m.words()), (True, 0, ""))
     step("%s is replayed" % name, m.replay())
     shutil.rmtree(m.home)
 print("  %d operations are Linux's, %d but for the bounds of names and groups" % (played, bounded))

@@ -1,5 +1,5 @@
 """Programs under `makhloeum run` that meddle with the processes of makhloeum, and readers for whom something is short: the run
-goes on, and a reader sees the hierarchy."""
+still runs, and a reader sees the hierarchy."""
 import ctypes
 import errno
 import os
@@ -43,13 +43,13 @@ def line_of(pid):
 
 
 def own():
-    """The processes of makhloeum beside its supervisor: the server, the helper, and the one that tells inotify."""
+    """The processes of makhloeum besides its supervisor: the server, the helper, and the companion."""
     line = line_of(tracer())
     return [int(p) for p in os.listdir("/proc") if p.isdigit() and int(p) not in (tracer(), os.getpid()) and line_of(int(p)) == line]
 
 
 def forks(times=20):
-    """Whether so many forks and reads go on in time."""
+    """Whether this number of forks and reads ends in time."""
     end = time.monotonic() + PATIENCE
     for _ in range(times):
         pid = os.fork()
@@ -68,18 +68,18 @@ def unshares():
     reader = subprocess.Popen(["sh", "-c", "read x; cat /proc/self/cgroup"], stdin=subprocess.PIPE, stdout=subprocess.PIPE)
     same("unshare without privileges", (libc.unshare(CLONE_NEWCGROUP), ctypes.get_errno()), (-1, errno.EPERM))
     same("another sees its group", reader.communicate(b"\n")[0], b"0::/a\n")
-    # a filter of its own sends unshare(0) to the supervisor
+    # the program's own filter sends unshare(0) to the supervisor
     code = ctypes.create_string_buffer(struct.pack("HBBI" * 4, 0x20, 0, 0, 0, 0x15, 0, 1, 272 if os.uname().machine == "x86_64" else 97,
                                                    6, 0, 0, 0x7FF00000, 6, 0, 0, 0x7FFF0000))
     program = ctypes.create_string_buffer(struct.pack("HxxxxxxP", 4, ctypes.addressof(code)))
     libc.prctl(38, 1, 0, 0, 0)
-    same("a filter of its own", libc.prctl(22, 2, program, 0, 0), 0)
+    same("the program's own filter", libc.prctl(22, 2, program, 0, 0), 0)
     same("it unshares nothing", libc.unshare(0), 0)
     same("it sees its group", read("/proc/self/cgroup"), b"0::/a\n")
 
 
 def crowds():
-    same("two hundred readers at once", said("crowd", "200"), [0, 1])
+    same("two hundred readers in parallel", said("crowd", "200"), [0, 1])
     same("readers that use up their descriptors", said("descriptors"), [0, 1])
 
 
@@ -115,7 +115,7 @@ def stopped():
             os.kill(pid, signal.SIGSTOP)
         if not forks(2):
             break
-    step("the others go on", forks())
+    step("the others still run", forks())
     for pid in own():
         os.kill(pid, signal.SIGSTOP)
 
@@ -131,7 +131,7 @@ def limited():
     same("a limit for another process", resource.prlimit(child.pid, resource.RLIMIT_NOFILE), (20, 20))
     child.kill()
     child.wait()
-    step("the others go on", forks())
+    step("the others still run", forks())
 
 
 def flooded():
@@ -142,7 +142,7 @@ def flooded():
     while 0 in floods:
         os.kill(supervisor, signal.SIGHUP)
         os.kill(supervisor, signal.SIGCHLD)
-    step("the others go on", forks(40))
+    step("the others still run", forks(40))
     for pid in floods:
         os.kill(pid, signal.SIGKILL)
         os.waitpid(pid, 0)
@@ -163,7 +163,7 @@ def untold():
     same("who polls is woken", [mask & select.POLLPRI for _, mask in poller.poll(1000 * PATIENCE)], [select.POLLPRI])
     child.kill()
     child.wait()
-    step("the others go on", forks())
+    step("the others still run", forks())
 
 
 # ---------------------------------------------------------------- files

@@ -1,4 +1,4 @@
-"""Without --control neither a mount nor a run keeps a history: forks and exits for hours take no more memory."""
+"""Without --control neither a mount nor a run keeps a history: hours of forks and exits do not increase the memory."""
 import os
 import subprocess
 import sys

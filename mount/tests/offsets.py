@@ -31,7 +31,7 @@ for name in FILES:
 fd = os.open(m.path("a", "pids.max"), os.O_RDONLY)
 same("a piece", os.read(fd, 3), b"123")
 write(m.path("a", "pids.max"), b"4193210\n")
-same("what goes on is of the same text", os.read(fd, 3), b"456")
+same("a continued read has the same text", os.read(fd, 3), b"456")
 same("another offset is of today's", os.pread(fd, 9, 3), b"3210\n")
 os.lseek(fd, 1, os.SEEK_SET)
 same("after a seek too", os.read(fd, 9), b"193210\n")

@@ -24,7 +24,7 @@ step "start" $R start c1
 p=$(sed -n 's/.*"init_process_pid":\([0-9]*\).*/\1/p' "$w/root/c1/state.json" 2>/dev/null)
 [ -n "$p" ] || p=$(sed -n 's/.*"pid" *: *\([0-9]*\).*/\1/p' "$w/root/c1/status")
 g=/sys/fs/cgroup$(sed s/0::// /proc/$p/cgroup)
-step "a group of its own" test "$g" != /sys/fs/cgroup/
+step "its own group" test "$g" != /sys/fs/cgroup/
 says "one process there" "$p" cat "$g/cgroup.procs"
 step "type to the shell" sh -c "echo 'cat /proc/self/cgroup && touch /x; sleep 30 & sleep 30 &' > $w/in"
 soon "three processes" grep -qx 3 "$g/pids.current"

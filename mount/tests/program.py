@@ -75,7 +75,7 @@ def forks():
     same("and gone when wait returns", read(AT + "/a/cgroup.procs"), me)
     thread = threading.Thread(target=time.sleep, args=(0.2,))
     thread.start()
-    same("a thread is no process", read(AT + "/a/pids.current"), b"1\n")
+    same("a thread is not a process", read(AT + "/a/pids.current"), b"1\n")
     thread.join()
     write(AT + "/a/pids.max", b"1\n")
     same("fork beyond pids.max", fork_error(), "EAGAIN")
@@ -93,7 +93,7 @@ def forks():
     into("/a/b")
     write(AT + "/a/pids.max", b"8\n")
     got = [fork_in_thread() for _ in range(3)]
-    same("threads that fork at once stay below the limit", [g for g in got if g > 8], [])
+    same("threads that fork in parallel stay below the limit", [g for g in got if g > 8], [])
 
 
 def fork_in_thread():
@@ -164,7 +164,7 @@ def clones():
 
 
 def stops():
-    """Job control goes on under the supervisor."""
+    """Job control works under the supervisor."""
     child = subprocess.Popen(["sleep", "60"])
     child.send_signal(signal.SIGSTOP)
     same("a stop is seen by the parent", os.waitpid(child.pid, os.WUNTRACED)[1] & 0xFF, 0x7F)
@@ -187,7 +187,7 @@ def taken_back():
         write(AT + "/.makhloeum/undo", b"\n")
     same("each undo takes the newest back", wrong, [])
     same("the start", (read(AT + "/cgroup.procs"), read(AT + "/.makhloeum/depth"), os.path.exists(AT + "/a")), (b"1\n", b"0\n", False))
-    same("a program goes on", fork_error(), 0)
+    same("a program still runs", fork_error(), 0)
 
 
 # ---------------------------------------------------------------- outside
@@ -262,7 +262,7 @@ print(*(libc.ptrace(request, os.getppid(), 0, 0) == -1 and ctypes.get_errno() fo
 
 
 def listen():
-    """Takes a seccomp listener that is told nothing: a process has one at most."""
+    """Installs a seccomp listener that gets no call: a process has at most one."""
     allow = struct.pack("HBBI", 6, 0, 0, 0x7FFF0000)
     code = ctypes.create_string_buffer(allow)
     program = ctypes.create_string_buffer(struct.pack("HxxxxxxP", 1, ctypes.addressof(code)))
@@ -284,7 +284,7 @@ def refused_here():
     ran = run("true", preexec_fn=listen)
     same("without seccomp notification", (ran.returncode, ran.stderr.count(b"\n")), (2, 1))
     step("it is named", b"does not allow seccomp notification" in ran.stderr, ran.stderr)
-    # a leak is looked for by ptrace, which is what is not to be had here
+    # the leak sanitizer needs ptrace, which does not work here
     ran = run("--", PROGRAM, "run", "true", env=dict(os.environ, ASAN_OPTIONS="detect_leaks=0"))
     same("run inside run", (ran.returncode, ran.stderr.count(b"\n")), (2, 1))
     step("it is named", b"run does not work inside run" in ran.stderr, ran.stderr)

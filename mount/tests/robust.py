@@ -51,7 +51,7 @@ def full_in_between():
     errors = [error_of(os.mkdir, m.path("group%d" % i)) for i in range(100)]
     made = errors.count("ok")
     step("of 100 groups %d had room in the trace" % made, 5 < made < 100 and set(errors) == {"ok", "EFBIG"})
-    same("so many are there", sum(n.startswith("group") for n in os.listdir(m.at)), made)
+    same("that number of groups exists", sum(n.startswith("group") for n in os.listdir(m.at)), made)
     same("the trace ends with a whole line", open(m.trace).read()[-1:], "\n")
     m.end()
 
@@ -62,7 +62,7 @@ def unmounted_while_open():
     fd = os.open(m.path("a", "pids.max"), os.O_RDWR)
     step("an unmount while a file is open is refused", m.unmount() != 0)
     same("a lazy one is not", m.unmount("-z"), 0)
-    same("the file goes on", (os.write(fd, b"5\n"), os.pread(fd, 9, 0)), (2, b"5\n"))
+    same("the file still works", (os.write(fd, b"5\n"), os.pread(fd, 9, 0)), (2, b"5\n"))
     os.close(fd)
     same("its close ends the process", m.ended(), 0)
     step("cgreplay gives the same answers", m.replay())
@@ -126,7 +126,7 @@ def background(closed=""):
     same("mount %sreturns once it is there" % closed, (ran.returncode, os.path.ismount(at)), (0, True))
     os.mkdir(at + "/a")
     same("and stays", (read(at + "/a/pids.current"), os.path.ismount(at)), (b"0\n", True))
-    step("fusermount3 -u takes it away", until(lambda: subprocess.run(["fusermount3", "-u", at], stderr=-3).returncode == 0))
+    step("fusermount3 -u unmounts it", until(lambda: subprocess.run(["fusermount3", "-u", at], stderr=-3).returncode == 0))
     os.rmdir(at)
 
 
@@ -135,7 +135,7 @@ for test, args in ((dying_clients, ()), (full_device, ()), (full_in_between, ())
                    (killed_under_load, ()), (bad_lines, ()), (background, ()), (background, ("<&- ",)), (background, (">&- ",)),
                    (background, ("<&- >&- 2>&- ",))):
     test(*args)
-# only beside the plain build: the sanitizers' library has to be loaded first
+# only with the plain build: the sanitizers' library has to be loaded first
 ABORTED = os.path.join(os.path.dirname(PROGRAM), "aborted.so")
 if os.path.exists(ABORTED):
     unmounted_with_a_request_pending(ABORTED)

@@ -1,5 +1,5 @@
 #!/bin/sh
-# runtime.sh runc|crun: the life of a container, under `makhloeum run`; then all of it is taken back.
+# runtime.sh runc|crun: the life of a container, under `makhloeum run`; then all of it is undone.
 here=$(dirname "$(readlink -f "$0")")
 rt=$1
 w=$(mktemp -d) || exit 1
@@ -45,6 +45,6 @@ soon "populated 0" grep -qx "populated 0" $g/cgroup.events
 soon "state: stopped" sh -c "$R state c1 | grep -q '\"stopped\"'"
 step "delete" $R delete c1
 step "the group is gone" test ! -e $g
-step "the whole life taken back, newest first" python3 "$here/taken_back.py"
+step "the whole life undone, newest first" python3 "$here/taken_back.py"
 chmod -R u+rwx "$w"; rm -rf "$w"
 [ $bad = 0 ]

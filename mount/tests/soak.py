@@ -1,4 +1,4 @@
-"""Thirty-two threads at once for a while (SOAK seconds); then the kept trace replays to the same bytes."""
+"""Thirty-two threads in parallel for SOAK seconds; then the kept trace replays to the same bytes."""
 import os
 import subprocess
 
@@ -9,7 +9,7 @@ m = Mount(control=False)
 ran = subprocess.run([os.path.join(os.path.dirname(PROGRAM), "load"), m.at, "32", SECONDS], stdout=subprocess.PIPE, text=True)
 print("  " + ran.stdout.strip())
 same("each client finds its own group as it left it", ran.returncode, 0)
-step("it can be taken away", m.unmounted())
+step("it can be unmounted", m.unmounted())
 same("its process ends", m.ended(), 0)
 size = os.path.getsize(m.trace)
 by = CGREPLAY if size <= 16 << 20 else [CGSHELL]

@@ -75,7 +75,7 @@ grep " %s " /proc/self/mountinfo | cut -d ' ' -f 4-5""" % (where, where, where)
 
 
 def covered():
-    """Something else is mounted over /proc: a process with a mount namespace of its own sees the hierarchy as before."""
+    """Something else is mounted over /proc: a process with its own mount namespace sees the hierarchy as before."""
     if b"__asan_init" in open(PROGRAM, "rb").read():
         return  # a sanitizer reads /proc
     os.mkdir(AT + "/a")

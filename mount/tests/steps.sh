@@ -1,4 +1,4 @@
-# Steps of a life, each printed with what became of it. Sourced; $w is a folder of its own.
+# Steps of a container's life, each printed with its result. Sourced; $w is an empty folder.
 bad=0
 step() { # NAME COMMAND..
 	name=$1; shift

@@ -1,4 +1,4 @@
-"""A mount of its own for each test; what failed is printed, and with STEPS=1 every step."""
+"""A new mount for each test; prints what failed, and with STEPS=1 every step."""
 import ctypes
 import errno
 import os
@@ -105,11 +105,11 @@ class Mount:
         return subprocess.run(["fusermount3", "-u", *options, self.at], stderr=subprocess.DEVNULL).returncode
 
     def unmounted(self):
-        """Whether it can be taken away: for a moment it may be busy, since the process that tells inotify is still at it."""
+        """Whether it can be unmounted: for a moment it may be busy, since the companion still uses it."""
         return until(lambda: self.unmount() == 0 or self.process.poll() is not None)
 
     def ended(self):
-        """The status of its process, or None where it does not end in time."""
+        """The status of its process, or None if it does not end in time."""
         try:
             return self.process.wait(PATIENCE)
         except subprocess.TimeoutExpired:
@@ -122,7 +122,7 @@ class Mount:
             return subprocess.run(CGREPLAY, stdin=trace, stdout=subprocess.PIPE).stdout == answers.read()
 
     def end(self, replayed=True):
-        step("fusermount3 -u takes it away", self.unmounted())
+        step("fusermount3 -u unmounts it", self.unmounted())
         same("the process ends with the mount", self.ended(), 0)
         same("it says nothing", self.words(), "")
         if replayed:

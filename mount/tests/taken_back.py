@@ -1,4 +1,4 @@
-"""Takes back, newest first and one by one, all that a session has done: the start is left."""
+"""Undoes, newest first and one by one, all commands of a run, and compares the result with the start."""
 import os
 import sys
 

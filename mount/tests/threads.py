@@ -1,4 +1,4 @@
-"""Eight writers and two readers at once, in threads of libfuse: the trace is one order of what they did."""
+"""Eight writers and two readers in parallel, in threads of libfuse: the trace is one order of what they did."""
 import os
 import random
 import threading
@@ -9,7 +9,7 @@ ROUNDS = 300
 
 
 def writer(m, n, wrong):
-    """Makes, fills, empties and removes groups of its own, and fights for one that all share."""
+    """Makes, fills, empties and removes its own groups, and one that all threads share."""
     dice = random.Random(n)
     own = m.path("w%d" % n)
     pid = 100 + n

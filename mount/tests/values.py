@@ -5,7 +5,7 @@ import os
 from support import Mount, error_of, finish, read, same, step, write
 
 PAGE = os.sysconf("SC_PAGE_SIZE")
-# The greatest counter of pages, in bytes, is no limit.
+# The greatest counter of pages, in bytes, means no limit.
 NO_LIMIT = (2 ** 63 - 1) // PAGE * PAGE
 LIMITS = ("memory.min", "memory.low", "memory.high", "memory.max", "memory.swap.high", "memory.swap.max")
 FRESH = {
@@ -192,10 +192,10 @@ def lives():
     write(m.path("v", "memory.max"), b"1m\n")
     write(m.path("v", "cpu.max"), b"5000\n")
     write(m.path("cgroup.subtree_control"), b"-memory\n")
-    same("a controller that was taken away", error_of(read, m.path("v", "memory.max")), "ENOENT")
+    same("a controller that was disabled", error_of(read, m.path("v", "memory.max")), "ENOENT")
     same("another stays", text_of(m, "cpu.max"), "5000 100000\n")
     write(m.path("cgroup.subtree_control"), b"+memory\n")
-    same("given back, it is new", text_of(m, "memory.max"), "max\n")
+    same("enabled again, it is new", text_of(m, "memory.max"), "max\n")
     os.mkdir(m.path("u"))
     write(m.path("u", "memory.max"), b"1m\n")
     write(m.control("undo"), b"1\n")

@@ -1,4 +1,4 @@
-"""A change is told to the groups on its path: files of other groups that were looked up before cost it nothing."""
+"""A change looks only at the groups on its path: files of other groups that were looked up before cost nothing."""
 import os
 import time
 
@@ -8,7 +8,7 @@ PAIRS, GROUPS = 3000, 1000
 
 
 def seconds(m):
-    """For so many forks and exits, the better of two."""
+    """The time of this number of forks and exits, the better of two."""
     fork, leave = os.open(m.control("fork"), os.O_WRONLY), os.open(m.control("exit"), os.O_WRONLY)
     took = []
     for _ in range(2):
