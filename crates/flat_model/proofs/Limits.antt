@@ -9,7 +9,9 @@ use Rattle.flat_model.specs.Path.{Path, is_root, parent, at_or_below, strictly_b
 use Rattle.flat_model.specs.State.{State, Attr, Limit, Limits, Unlimited, At}
 use Rattle.flat_model.specs.Counts.{current, descendant_count, is_group, has_process, exceeds, reaches, asks, is_full, blocked_fork}
 use Rattle.flat_model.specs.File.{readable, on_root, is_pids_max}
-use Rattle.flat_model.specs.Command.{Command, MakeGroup, RemoveGroup, Fork, Exit, Move, SetLimit, Kill, Show, Locate, Undo, Refusal, Exists, NoGroup, Descendants, Depth, NoSlot, RootFixed, HasChildren, HasProcesses, NoProcess, PidInUse, OverPidsMax, NoFile, NotReadable}
+use Rattle.flat_model.specs.Command.{Command, MakeGroup, RemoveGroup, Fork, Exit, Move, SetLimit, Kill, Show, Locate, Undo, Refusal, Exists}
+use Rattle.flat_model.specs.Command.{NoGroup, Descendants, Depth, NoSlot, RootFixed, HasChildren, HasProcesses, NoProcess, PidInUse}
+use Rattle.flat_model.specs.Command.{OverPidsMax, NoFile, NotReadable}
 use Rattle.flat_model.specs.Refuse.{refuse}
 use Rattle.flat_model.specs.Step.{refusal, after, after_refusal, home_of, limit_met, first_refusal, blocked_make, raise_peak}
 use Rattle.flat_model.specs.WellFormed.{WellFormed}
@@ -91,7 +93,8 @@ limiting s g a e =
     }
 
 -- where none blocks a fork, each group above has room for one process more
-pub fork_fits : (s : State) (g : Path) → blocked_fork s g ≡ None → (a : Path) (attr : Attr) (m : ℕ) → at_or_below g a ≡ true → is_root a ≡ false → get s.groups a ≡ Some attr → attr.limits.pids ≡ At m → current s a + 1 ≤ m
+pub fork_fits : (s : State) (g : Path) → blocked_fork s g ≡ None → (a : Path) (attr : Attr) (m : ℕ) → at_or_below g a ≡ true
+    → is_root a ≡ false → get s.groups a ≡ Some attr → attr.limits.pids ≡ At m → current s a + 1 ≤ m
 fork_fits s g e a attr m above not_root there limit =
     let no = first_path_none (is_full s) (upward g) a e ((upward_are g a).1 above) in
     let left = neither_by (is_root a) (asks (λ attr. exceeds (current s a + 1) attr.limits.pids) (get s.groups a)) no not_root in
@@ -179,7 +182,8 @@ fork_open false false x y None e = (refl, refl, refl)
 fork_open false false x y (Some a) e = cc
 
 -- the tests that an accepted fork passed
-pub fork_passed : (slots : ℕ) (s : State) (from child : ℕ) → refusal slots s (Fork from child) ≡ None → (not (has_process s from) ≡ false) × (has_process s child ≡ false) × (blocked_fork s (home_of s from) ≡ None)
+pub fork_passed : (slots : ℕ) (s : State) (from child : ℕ) → refusal slots s (Fork from child) ≡ None → (not (has_process s from) ≡ false)
+    × (has_process s child ≡ false) × (blocked_fork s (home_of s from) ≡ None)
 fork_passed slots s from child e = fork_open (not (has_process s from)) (has_process s child) from child (blocked_fork s (home_of s from)) e
 
 -- a refusal keeps a state well formed

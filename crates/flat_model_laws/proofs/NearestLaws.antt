@@ -15,7 +15,8 @@ strictly : (b a : Path) → at_or_below b a ≡ true → same_path b a ≡ false
 strictly b a h n = (strictly_below_is b a).1 (h, n)
 
 -- a group that passes, with none below it on the walk that does, is what the walk finds
-pub nearest_found : (test : Path → Bool) (g a : Path) → at_or_below g a ≡ true → test a ≡ true → ((b : Path) → at_or_below g b ≡ true → strictly_below b a ≡ true → test b ≡ false) → first_path test (upward g) ≡ Some a
+pub nearest_found : (test : Path → Bool) (g a : Path) → at_or_below g a ≡ true → test a ≡ true
+    → ((b : Path) → at_or_below g b ≡ true → strictly_below b a ≡ true → test b ≡ false) → first_path test (upward g) ≡ Some a
 nearest_found test g a above passes near =
     elim (first_path test (upward g)) as (λ o. first_path test (upward g) ≡ o → o ≡ Some a) [
       | None ↦ λ e. absurd (apart (test a) passes (first_path_none test (upward g) a e ((upward_are g a).1 above)))

@@ -30,12 +30,16 @@ cut_at bytes end h =
     slice_split_first is_slash bytes 0 p.0 ∙ ap (λ n. take n bytes ∷ slice_split is_slash (drop (n + 1) bytes)) p.1
 
 -- the name before a slash is the first that is left
-cut_name : (names : List Name) (left end : ℕ) (rest : Option (List ℕ)) (bytes : List ℕ) → take left (names_behind rest) ≡ names → (left ≡ 0 → ⊥) → rest ≡ Some bytes → Some end ≡ position is_slash bytes → names ≡ take end bytes ∷ take (left - 1) (slice_split is_slash (drop (end + 1) bytes))
+cut_name : (names : List Name) (left end : ℕ) (rest : Option (List ℕ)) (bytes : List ℕ) → take left (names_behind rest) ≡ names
+    → (left ≡ 0 → ⊥) → rest ≡ Some bytes → Some end ≡ position is_slash bytes
+    → names ≡ take end bytes ∷ take (left - 1) (slice_split is_slash (drop (end + 1) bytes))
 cut_name names left end rest bytes is some e h =
     sym is ∙ ap (λ r. take left (names_behind r)) e ∙ ap (take left) (cut_at bytes end h) ∙ take_more left (take end bytes) (slice_split is_slash (drop (end + 1) bytes)) some
 
 -- the same with the rest as the code slices it
-pub cut_slice : (names : List Name) (left end : ℕ) (rest : Option (List ℕ)) (bytes : List ℕ) → take left (names_behind rest) ≡ names → (left ≡ 0 → ⊥) → rest ≡ Some bytes → Some end ≡ position is_slash bytes → names ≡ take end bytes ∷ take (left - 1) (slice_split is_slash (take (length bytes - (end + 1)) (drop (end + 1) bytes)))
+pub cut_slice : (names : List Name) (left end : ℕ) (rest : Option (List ℕ)) (bytes : List ℕ) → take left (names_behind rest) ≡ names
+    → (left ≡ 0 → ⊥) → rest ≡ Some bytes → Some end ≡ position is_slash bytes
+    → names ≡ take end bytes ∷ take (left - 1) (slice_split is_slash (take (length bytes - (end + 1)) (drop (end + 1) bytes)))
 cut_slice names left end rest bytes is some e h =
     cut_name names left end rest bytes is some e h ∙ ap (λ x. take end bytes ∷ take (left - 1) (slice_split is_slash x)) (sym (take_rest bytes (end + 1)))
 
@@ -46,6 +50,7 @@ whole bytes h =
     slice_split_none is_slash bytes (λ k d l. fails_before_first is_slash bytes k d (let j : k < position_or_len is_slash bytes = omega arith in j))
 
 -- that is then the last
-pub last_name : (names : List Name) (left : ℕ) (rest : Option (List ℕ)) (bytes : List ℕ) → take left (names_behind rest) ≡ names → (left ≡ 0 → ⊥) → rest ≡ Some bytes → None ≡ position is_slash bytes → names ≡ bytes ∷ take (left - 1) []
+pub last_name : (names : List Name) (left : ℕ) (rest : Option (List ℕ)) (bytes : List ℕ) → take left (names_behind rest) ≡ names
+    → (left ≡ 0 → ⊥) → rest ≡ Some bytes → None ≡ position is_slash bytes → names ≡ bytes ∷ take (left - 1) []
 last_name names left rest bytes is some e h =
     sym is ∙ ap (λ r. take left (names_behind r)) e ∙ ap (take left) (whole bytes h) ∙ take_more left bytes [] some

@@ -40,7 +40,9 @@ pub sets : (old new : Groups) (p : Path) (a : Attr) (r : Option Attr) (b : Bool)
 sets old new p a None b h e = subst (Sets old new p a) e h
 sets old new p a (Some was) b h e = subst (Sets old new p a) e (subst IsSome (sym h.there) refl, inserted_map old new p h.now h.updated ∙ ap (fin.insert old p) h.made)
 
-pub replaces : (old new : Groups) (p : Path) (file : LimitFile) (limit earlier : Limit) (was : Attr) → SetsAt (OneLimit file limit) old new p was → limit_of earlier ≡ limit_at (limit_file_of file) (group_of was) → ReplacesAt old new p file limit earlier
+pub replaces : (old new : Groups) (p : Path) (file : LimitFile) (limit earlier : Limit) (was : Attr)
+    → SetsAt (OneLimit file limit) old new p was → limit_of earlier ≡ limit_at (limit_file_of file) (group_of was)
+    → ReplacesAt old new p file limit earlier
 replaces old new p file limit earlier was h e = record {
   was = was;
   now = h.now;
