@@ -17,8 +17,8 @@ module _ {K X : Type 0} {R : K → K → Ordering} (o : IsTotalOrder R) (P : X �
   count_put k v [] h = omega arith
   count_put k v (e ∷ es) h =
       elim (R k e.0) as (λ r. cond (is_eq r) (Some e.1) (find R k es) ≡ None
-          → count_by P (map (λ e. e.1) (by_order r ((k, v) ∷ e ∷ es) ((e.0, v) ∷ es) (e ∷ put R k v es)))
-          ≡ cond (P v) 1 0 + count_by P (map (λ e. e.1) (e ∷ es))) [
+      → count_by P (map (λ e. e.1) (by_order r ((k, v) ∷ e ∷ es) ((e.0, v) ∷ es) (e ∷ put R k v es)))
+      ≡ cond (P v) 1 0 + count_by P (map (λ e. e.1) (e ∷ es))) [
         | Less ↦ λ n. count_by-cons P v (map (λ e. e.1) (e ∷ es))
         | Equal ↦ λ n. cc
         | Greater ↦ λ n. let ih = count_put k v es n in

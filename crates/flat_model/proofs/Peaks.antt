@@ -81,9 +81,10 @@ module _ (s t : State) (a : Path) where
   raised_back : (q : Path) (x : Attr) → get s.groups q ≡ Some x → set_peak a (peaks_upward s a) q (raise_peak t a q x) ≡ x
   raised_back q x there =
       elim (counts_for a q) as (λ b. counts_for a q ≡ b
-          → ◌≡◌ {A = Attr} (record x
-          { peak = cond b (get_or (peaks_upward s a) (length a - length q) (cond b (max x.peak (current t q)) x.peak))
-          (cond b (max x.peak (current t q)) x.peak) }) x) [
+      → ◌≡◌ {A = Attr} (record x {
+        peak = cond b (get_or (peaks_upward s a) (length a - length q) (cond b (max x.peak (current t q)) x.peak))
+            (cond b (max x.peak (current t q)) x.peak);
+      }) x) [
         | true ↦ λ c. ap (λ (n : ℕ). record x { peak = n }) (peak_there s a q x (max x.peak (current t q)) c there)
         | false ↦ λ c. refl
       ] refl
@@ -92,6 +93,6 @@ module _ (s t : State) (a : Path) where
   pub groups_back : t.groups ≡ s.groups → (set_peaks a (peaks_upward s a) (raise_peaks a t)).groups ≡ s.groups
   groups_back same =
       ap (λ (g : FinMap path_cmp Attr). from_entries {R = path_cmp}
-          (map (λ e. (e.0, set_peak a (peaks_upward s a) e.0 e.1))
-          (entries (from_entries {R = path_cmp} (map (λ e. (e.0, raise_peak t a e.0 e.1)) (entries g)))))) same
+      (map (λ e. (e.0, set_peak a (peaks_upward s a) e.0 e.1))
+      (entries (from_entries {R = path_cmp} (map (λ e. (e.0, raise_peak t a e.0 e.1)) (entries g)))))) same
       ∙ each_there_back path_cmp-IsTotalOrder path_cmp-IsAntisymmetric (raise_peak t a) (set_peak a (peaks_upward s a)) s.groups raised_back

@@ -32,8 +32,8 @@ undos_reach : (slots floor : ℕ) (s : State) (past : List (Command × State)) �
 undos_reach slots floor s [] = let z : 0 - floor ≡ 0 = omega arith in ap (λ n. end_of slots (record { state = s; past = [] }) (undos n)) z
 undos_reach slots floor s (e ∷ past) =
     elim (leb (length (e ∷ past)) floor) as (λ b. leb (length (e ∷ past)) floor ≡ b
-        → end_of slots (record { state = s; past = e ∷ past }) (undos (length (e ∷ past) - floor))
-        ≡ cond b (record { state = s; past = e ∷ past }) (back_to floor e.1 past)) [
+    → end_of slots (record { state = s; past = e ∷ past }) (undos (length (e ∷ past) - floor))
+    ≡ cond b (record { state = s; past = e ∷ past }) (back_to floor e.1 past)) [
       | true ↦ λ t. ap (λ n. end_of slots (record { state = s; past = e ∷ past }) (undos n)) (none_by (length (e ∷ past)) floor t)
       | false ↦ λ t. ap (λ n. end_of slots (record { state = s; past = e ∷ past }) (undos n)) (less_by (length past) floor t) ∙ undos_reach slots floor e.1 past
     ] refl
@@ -57,7 +57,7 @@ undone_keeps floor s (e ∷ past) h = sym (ap (λ b. cond b (record { state = s;
 tick_keeps : (slots floor : ℕ) (m : Machine) (c : Command) → floor ≤ length m.past → floor ≤ length (tick slots m c).0.past → machine_back_to floor (tick slots m c).0 ≡ machine_back_to floor m
 tick_keeps slots floor m c h k =
     elim (is_undo c) as (λ b. floor ≤ length (cond b (undone m.state m.past) (outcome m c (refusal slots m.state c))).0.past
-        → machine_back_to floor (cond b (undone m.state m.past) (outcome m c (refusal slots m.state c))).0 ≡ machine_back_to floor m) [
+    → machine_back_to floor (cond b (undone m.state m.past) (outcome m c (refusal slots m.state c))).0 ≡ machine_back_to floor m) [
       | true ↦ λ l. undone_keeps floor m.state m.past l
       | false ↦ λ l. outcome_keeps floor m c (refusal slots m.state c) h
     ] k

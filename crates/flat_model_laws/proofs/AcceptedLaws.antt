@@ -167,9 +167,11 @@ remove_is slots s p = (
 
 pub kill_is : (slots : ℕ) (s : State) (p : Path) → (refusal slots s (Kill p) ≡ None) ↔ ((p ≢ []) × (is_group s p ≡ true))
 kill_is slots s p = (
-  λ e. ((not_root p).0 (passed (is_root p) NoFile (refuse (not (is_group s p)) (NoGroup p) None) e),
-      affirmed (is_group s p)
-      (passed (not (is_group s p)) (NoGroup p) None (beyond (is_root p) NoFile (refuse (not (is_group s p)) (NoGroup p) None) e))),
+  λ e. (
+    (not_root p).0 (passed (is_root p) NoFile (refuse (not (is_group s p)) (NoGroup p) None) e),
+    affirmed (is_group s p)
+        (passed (not (is_group s p)) (NoGroup p) None (beyond (is_root p) NoFile (refuse (not (is_group s p)) (NoGroup p) None) e)),
+  ),
   λ h. let root = (not_root p).1 h.0 in λ i. refuse (root i) NoFile (refuse (not (h.1 i)) (NoGroup p) None),
 )
 

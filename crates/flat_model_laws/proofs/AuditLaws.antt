@@ -170,7 +170,7 @@ greater : (hs : List Handed) (place i : ℕ) → Any (λ e. (e.list ≡ place) �
 greater [] place i = inr (λ w. omega (arith, w.2))
 greater (h ∷ hs) place i =
     elim (both (cases_eq h.list place) (below i h.receipt.number)) as (λ _. Any (λ e. (e.list ≡ place) × (i < e.receipt.number)) (h ∷ hs)
-        ⊎ (Any (λ e. (e.list ≡ place) × (i < e.receipt.number)) (h ∷ hs) → ⊥)) [
+    ⊎ (Any (λ e. (e.list ≡ place) × (i < e.receipt.number)) (h ∷ hs) → ⊥)) [
       | inl here ↦ inl (0, h, omega arith, refl, here)
       | inr other ↦ elim (greater hs place i) as (λ _. Any (λ e. (e.list ≡ place) × (i < e.receipt.number)) (h ∷ hs) ⊎ (Any (λ e. (e.list ≡ place) × (i < e.receipt.number)) (h ∷ hs) → ⊥)) [
         | inl w ↦ inl (suc w.0, w.1, (let lt : w.0 < length hs = w.2 in omega (arith, lt)), w.3, w.4)

@@ -59,11 +59,11 @@ pub room_for : (s : State) (q a : Path) → limit_met s q a ≡ None → HasRoom
 room_for s q a e = record {
   count = λ attr m there limit.
       room_by _ attr.limits.descendants m (asked_no (λ attr. reaches (descendant_count s a) attr.limits.descendants) (get s.groups a) attr
-          (passed (counts s a) (Descendants a) (refuse (deepens s q a) (Depth a) None) e) there) limit;
+      (passed (counts s a) (Descendants a) (refuse (deepens s q a) (Depth a) None) e) there) limit;
   deep = λ attr m there limit.
       room_by _ attr.limits.depth m (asked_no (λ attr. reaches (length q - length a) attr.limits.depth) (get s.groups a) attr
-          (passed (deepens s q a) (Depth a) None (beyond (counts s a) (Descendants a) (refuse (deepens s q a) (Depth a) None) e)) there)
-          limit;
+      (passed (deepens s q a) (Depth a) None (beyond (counts s a) (Descendants a) (refuse (deepens s q a) (Depth a) None) e)) there)
+      limit;
 }
 
 pub room_below : (s : State) (p : Path) → blocked_make s p ≡ None → HasRoomBelow s (parent p)

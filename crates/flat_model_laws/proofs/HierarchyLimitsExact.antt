@@ -32,7 +32,7 @@ room_at : (s : State) (q a : Path) → HasRoomFor s q a → limit_met s q a ≡ 
 room_at s q a h =
     free_of (counts s a) (deepens s q a) a
     (asks_not (λ attr. reaches (descendant_count s a) attr.limits.descendants) (get s.groups a)
-        (λ attr there. reaches_not (descendant_count s a) attr.limits.descendants (λ m limit. h.count attr m there limit)))
+    (λ attr there. reaches_not (descendant_count s a) attr.limits.descendants (λ m limit. h.count attr m there limit)))
     (asks_not (λ attr. reaches (length q - length a) attr.limits.depth) (get s.groups a) (λ attr there. reaches_not (length q - length a) attr.limits.depth (λ m limit. h.deep attr m there limit)))
 
 pub room_is : (s : State) (q a : Path) → HasRoomFor s q a ↔ (limit_met s q a ≡ None)

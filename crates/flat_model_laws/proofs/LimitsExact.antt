@@ -63,8 +63,8 @@ fits s from child free h =
           let l = limiting s (home_of s from) a e in
           let now : get (after s (Fork from child)).groups a ≡ Some (raise_peak (record s { home = insert s.home child (home_of s from) }) (home_of s from) a l.attr) =
           get-each path_cmp-IsTotalOrder path_cmp-IsAntisymmetric (raise_peak (record s { home = insert s.home child (home_of s from) })
-              (home_of s from)) s.groups a
-              ∙ ap (option_map (raise_peak (record s { home = insert s.home child (home_of s from) }) (home_of s from) a)) l.there in
+          (home_of s from)) s.groups a
+          ∙ ap (option_map (raise_peak (record s { home = insert s.home child (home_of s from) }) (home_of s from) a)) l.there in
           let most = h a (raise_peak (record s { home = insert s.home child (home_of s from) }) (home_of s from) a l.attr) l.most l.above l.not_root now l.limit in
           let past = l.past in
           let one : ◌≡◌ {A = ℕ} (cond (at_or_below (home_of s from) a) 1 0) 1 = ap (λ b. cond b 1 0) l.above in

@@ -195,11 +195,17 @@ read_limit_only file text l e =
 limit_from_text : (file : LimitFile) (n : ℕ) (text : List ℕ) → text ≡ decimal n → IsLimitText file (limit_from file n) text
 limit_from_text PidsMax n text h = h
 limit_from_text MaxDescendants n text h =
-    cond_both (n == hierarchy_limit_max) Unlimited (At n) (λ l. IsLimitText MaxDescendants l text) (λ e. inr (refl, h
-    ∙ ap decimal (eqb-true n hierarchy_limit_max e))) (λ e. h)
+    cond_both (n == hierarchy_limit_max) Unlimited (At n) (λ l. IsLimitText MaxDescendants l text) (λ e. inr (
+      refl,
+      h
+          ∙ ap decimal (eqb-true n hierarchy_limit_max e),
+    )) (λ e. h)
 limit_from_text MaxDepth n text h =
-    cond_both (n == hierarchy_limit_max) Unlimited (At n) (λ l. IsLimitText MaxDepth l text) (λ e. inr (refl, h
-    ∙ ap decimal (eqb-true n hierarchy_limit_max e))) (λ e. h)
+    cond_both (n == hierarchy_limit_max) Unlimited (At n) (λ l. IsLimitText MaxDepth l text) (λ e. inr (
+      refl,
+      h
+          ∙ ap decimal (eqb-true n hierarchy_limit_max e),
+    )) (λ e. h)
 
 number_limit_text : (file : LimitFile) (text : List ℕ) (r : Result ℕ ValueFault) (l : Limit) → ((n : ℕ) → r ≡ Ok n → text ≡ decimal n) → map_ok (limit_from file) r ≡ Ok l → IsLimitText file l text
 number_limit_text file text (Ok n) l h e = subst (λ (k : Limit). IsLimitText file k text) (same_limit (limit_from file n) l e) (limit_from_text file n text (h n refl))

@@ -43,8 +43,8 @@ unfolding child_fault
 child_fault_is p name u e d =
     let l : length (path_text (p ++ name ∷ [])) ≡ length (spelled p) + 1 + length name = let k = ap length (path_text-child p name) ∙ length-append (spelled p) (47 ∷ name) in omega arith in
     option_or_passed (name_fault 0 name)
-        (refuse (nat_le depth_max (length p)) grammar.TooDeep
-        (refuse (nat_lt text_max (length (path_text (p ++ name ∷ [])))) grammar.TooLong None)) (no_fault (name_fault 0 name) u e)
+    (refuse (nat_le depth_max (length p)) grammar.TooDeep
+    (refuse (nat_lt text_max (length (path_text (p ++ name ∷ [])))) grammar.TooLong None)) (no_fault (name_fault 0 name) u e)
     ∙ refuse_passed (nat_le depth_max (length p)) grammar.TooDeep (refuse (nat_lt text_max (length (path_text (p ++ name ∷ [])))) grammar.TooLong None) (not_deep (length p) d)
     ∙ ap (λ n. refuse (nat_lt text_max n) grammar.TooLong None) l
 

@@ -113,7 +113,7 @@ decided Free here other = absurd (other refl)
 pub admits_decided : (attr : Attr) (kids slice : List Branch) (b kid : Branch) (nm : Name) (names : Path) (x : Name) (p : Path)
     (i depth n : ℕ) (r : Admission) → ◌≡◌ {A = Branch} (record { name = nm; groups = groups_of attr kids }) b → HasAscendingNames kids →
     names ≡ x ∷ p → Ok i ≡ place_of x slice → slice ≡ kids → kid ≡ get_or kids i kid → depth ≡ n + length names
-        → IsSome (fin.get kid.groups []) → NodeAdmits kid.groups p (n + 1) r → (r ≡ Free → ⊥) → NodeAdmits b.groups names n r
+    → IsSome (fin.get kid.groups []) → NodeAdmits kid.groups p (n + 1) r → (r ≡ Free → ⊥) → NodeAdmits b.groups names n r
 admits_decided attr kids slice b kid nm names x p i depth n r is h e at s item far root said other =
     let here : Admission = admission_by (met_here (fin.get b.groups []) (kept b.groups []) (depth - n - 1) n) in
     subst (NodeAdmits b.groups names n) (decided r here other) (admits_down attr kids slice b kid nm names x p i depth n r here is h e at s item far root said refl)

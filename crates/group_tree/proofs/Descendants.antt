@@ -82,7 +82,7 @@ count_found : (n : Name) (p : Path) (kids : List Branch) (i : ℕ) (d : Branch) 
 count_found n p [] i d h e = cc
 count_found n p (k ∷ kids) i d h e =
     elim (name_cmp n k.name) as (λ r. name_cmp n k.name ≡ r → place_by r (place_of n kids) ≡ Ok i
-        → count_in (n ∷ p) (under k.name (fin.entries k.groups) ++ below kids) ≡ count_in p (fin.entries (get_or (k ∷ kids) i d).groups)) [
+    → count_in (n ∷ p) (under k.name (fin.entries k.groups) ++ below kids) ≡ count_in p (fin.entries (get_or (k ∷ kids) i d).groups)) [
       | Less ↦ λ o e. cc
       | Equal ↦ λ o e.
           let z : 0 ≡ i = cc in

@@ -41,12 +41,12 @@ same_test : (m : Groups) (q a : Path) (ref : MetLimit → Refusal) (c levels n :
     levels ≡ length q - length a → fin.get (without_processes m).groups a ≡ option_map group_of o → option_map ref (met_here o c levels n) ≡ limit_met (without_processes m) q a
 same_test m q a ref c levels n None e1 e2 counted far has =
     λ i. refuse (asks (λ x. reaches (flat.descendant_count (without_processes m) a) x.limits.descendants) (sym has i)) (model.Descendants a)
-        (refuse (asks (λ x. reaches (length q - length a) x.limits.depth) (sym has i)) (model.Depth a) None)
+    (refuse (asks (λ x. reaches (length q - length a) x.limits.depth) (sym has i)) (model.Depth a) None)
 same_test m q a ref c levels n (Some attr) e1 e2 counted far has =
     by_tests ref (reaches c (limit_of attr.limits.descendants)) (reaches levels (limit_of attr.limits.depth)) (Descendants n) (Depth n)
     ∙ (λ i. refuse (reaches (counted i) (limit_of attr.limits.descendants)) (e1 i) (refuse (reaches (far i) (limit_of attr.limits.depth)) (e2 i) None))
     ∙ (λ i. refuse (asks (λ x. reaches (flat.descendant_count (without_processes m) a) x.limits.descendants) (sym has i))
-        (model.Descendants a) (refuse (asks (λ x. reaches (length q - length a) x.limits.depth) (sym has i)) (model.Depth a) None))
+    (model.Descendants a) (refuse (asks (λ x. reaches (length q - length a) x.limits.depth) (sym has i)) (model.Depth a) None))
 
 -- a front of a front
 take_front : (j n : ℕ) (p : Path) → j ≤ n → take j (take n p) ≡ take j p

@@ -101,7 +101,7 @@ names_below [] = refl
 names_below (k ∷ kids) =
     names_append (under k.name (fin.entries k.groups)) (below kids) []
     ∙ ap (λ (xs : List Name). xs ++ names_in (below kids) []) (names_root k.name (fin.entries k.groups) (fin.entries_sorted k.groups)
-        ∙ ap (λ (o : Option Attr). cond (is_some o) (k.name ∷ []) []) (sym (fin.get-entries k.groups [])))
+    ∙ ap (λ (o : Option Attr). cond (is_some o) (k.name ∷ []) []) (sym (fin.get-entries k.groups [])))
     ∙ cond_cons (fin.contains_key k.groups []) k.name (names_in (below kids) [])
     ∙ ap (λ (xs : List Name). cond (fin.contains_key k.groups []) (k.name ∷ xs) xs) (names_below kids)
 

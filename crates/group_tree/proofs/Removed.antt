@@ -116,7 +116,7 @@ pub has_child : (attr : Attr) (kids slice : List Branch) (b kid : Branch) (nm : 
     → (length slice == 0) ≡ false → kid ≡ get_or slice 0 kid → Some a ≡ fin.get kid.groups [] → IsLeafOrNot b.groups false
 has_child attr kids slice b kid nm a is h s some item root =
     subst (λ (c : Branch). IsLeafOrNot c.groups false) is (first_child attr kids kid a h (ap (λ (x : List Branch). length x == 0) (sym s)
-        ∙ some) (item ∙ ap (λ (x : List Branch). get_or x 0 kid) s) root)
+    ∙ some) (item ∙ ap (λ (x : List Branch). get_or x 0 kid) s) root)
 
 pub there_is : (items slice : List Branch) (at len : ℕ) (kid : Branch) (attr : Attr) → slice ≡ items → length slice ≡ len → at < len
     → kid ≡ get_or slice at kid → kid.groups ≡ groups_of attr [] → (d : Branch) → (get_or items at d).groups ≡ groups_of attr []

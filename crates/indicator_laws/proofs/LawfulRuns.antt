@@ -27,7 +27,7 @@ split_done k share can room =
     let b : length k.hands < 4294967295 = omega (arith, room) in
     passed (not (list_all (has_token k) share)) _ _ (ap not can.0) (passed (not (main_has k share)) _ _ (ap not can.1)
     (passed (is_crowded k) _ _ (neither (nat_le 65535 (out (hand_of k 0).role)) (nat_le 4294967295 (length k.hands))
-        (below_cap (out (hand_of k 0).role) 65535 a) (below_cap (length k.hands) 4294967295 b)) refl))
+    (below_cap (out (hand_of k 0).role) 65535 a) (below_cap (length k.hands) 4294967295 b)) refl))
 
 pub lawful_done : (k : Core) (e : Event) → IsLawful k e → length k.hands < 2 ^ 32 - 1 → refusal k e ≡ None
 lawful_done k e lawful room = ⊎_elim

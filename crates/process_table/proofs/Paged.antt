@@ -39,7 +39,7 @@ module _ {X : Type 0} (pages : List (List (Option X))) where
         | false ↦ λ e.
             let apart : pid ≢ q = eqb-false pid q e in
             elim (eqb (q / 64) (pid / 64)) as (λ b. eqb (q / 64) (pid / 64) ≡ b
-                → get_or (get_or (set pages (pid / 64) page) (q / 64) []) (q % 64) None ≡ get_or (get_or pages (q / 64) []) (q % 64) None) [
+            → get_or (get_or (set pages (pid / 64) page) (q / 64) []) (q % 64) None ≡ get_or (get_or pages (q / 64) []) (q % 64) None) [
               | true ↦ λ f.
                   let same : q / 64 ≡ pid / 64 = eqb-true _ _ f in
                   let ne : q % 64 ≢ pid % 64 = omega arith in

@@ -114,7 +114,7 @@ module _ {X : Type 0} where
         elim (eqb q k) as (λ b. eqb q k ≡ b → lookup (is_at (nat_cmp q)) (cons_row k (f k) (rows_from f (suc k) n)) ≡ f q) [
           | true ↦ λ e.
               rw (eqb-true q k e) (elim (f k) as (λ o. lookup (is_at (nat_cmp k)) (cons_row k o (rows_from f (suc k) n)) ≡ o)
-                  [ None ↦ found_below k (suc k) n (omega arith) | Some x ↦ rw (cmp_same k) refl ])
+              [ None ↦ found_below k (suc k) n (omega arith) | Some x ↦ rw (cmp_same k) refl ])
           | false ↦ λ e.
               let ne : q ≢ k = eqb-false q k e in
               let rest = rows_found q (suc k) n (omega arith) (λ h. past (omega arith)) in
@@ -161,14 +161,16 @@ module _ {X : Type 0} where
             let rest = alike_from f g (suc k) n (λ r h. others r (omega arith)) in
             subst (λ j. cons_row j (g j) (rows_from g (suc k) n) ≡ insert_entry nat_cmp (cons_row j (f j) (rows_from f (suc k) n)) q x) same
             (rw (here, rest) (elim (f q) as (λ o. (q, x) ∷ rows_from f (suc k) n
-                ≡ insert_entry nat_cmp (cons_row q o (rows_from f (suc k) n)) q x) [ None ↦ sym (put_below f q x (suc k) n (omega arith))
-                | Some y ↦ rw (cmp_same q) refl ]))
+            ≡ insert_entry nat_cmp (cons_row q o (rows_from f (suc k) n)) q x) [
+              | None ↦ sym (put_below f q x (suc k) n (omega arith))
+              | Some y ↦ rw (cmp_same q) refl
+            ]))
         | false ↦ λ e.
             let ne : k ≢ q = λ h. eqb-false q k e (sym h) in
             let greater = cmp_greater q k (omega arith) in
             rw (others k ne, rows_put f g q x here others (suc k) n (omega arith) (omega arith))
             (elim (f k) as (λ o. cons_row k o (insert_entry nat_cmp (rows_from f (suc k) n) q x)
-                ≡ insert_entry nat_cmp (cons_row k o (rows_from f (suc k) n)) q x) [ None ↦ refl | Some y ↦ rw greater refl ])
+            ≡ insert_entry nat_cmp (cons_row k o (rows_from f (suc k) n)) q x) [ None ↦ refl | Some y ↦ rw greater refl ])
       ] refl
 
   -- ---- one row less
@@ -182,12 +184,12 @@ module _ {X : Type 0} where
             let rest = alike_from f g (suc k) n (λ r h. others r (omega arith)) in
             subst (λ j. cons_row j (g j) (rows_from g (suc k) n) ≡ remove_entry (is_at (nat_cmp q)) (cons_row j (f j) (rows_from f (suc k) n))) same
             (rw (here, rest) (elim (f q) as (λ o. rows_from f (suc k) n
-                ≡ remove_entry (is_at (nat_cmp q)) (cons_row q o (rows_from f (suc k) n)))
-                [ None ↦ sym (taken_below f q (suc k) n (omega arith)) | Some y ↦ rw (cmp_same q) refl ]))
+            ≡ remove_entry (is_at (nat_cmp q)) (cons_row q o (rows_from f (suc k) n)))
+            [ None ↦ sym (taken_below f q (suc k) n (omega arith)) | Some y ↦ rw (cmp_same q) refl ]))
         | false ↦ λ e.
             let ne : k ≢ q = λ h. eqb-false q k e (sym h) in
             let greater = cmp_greater q k (omega arith) in
             rw (others k ne, rows_taken f g q here others (suc k) n (omega arith))
             (elim (f k) as (λ o. cons_row k o (remove_entry (is_at (nat_cmp q)) (rows_from f (suc k) n))
-                ≡ remove_entry (is_at (nat_cmp q)) (cons_row k o (rows_from f (suc k) n))) [ None ↦ refl | Some y ↦ rw greater refl ])
+            ≡ remove_entry (is_at (nat_cmp q)) (cons_row k o (rows_from f (suc k) n))) [ None ↦ refl | Some y ↦ rw greater refl ])
       ] refl

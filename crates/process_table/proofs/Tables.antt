@@ -79,14 +79,14 @@ module _ {A : Type 0} where
   table_put before after pid x h each =
       let lt = small pid h in
       rows_put (process_at before) (process_at after) pid x (written (process_at before) (process_at after) pid (Some x) each)
-          (unwritten (process_at before) (process_at after) pid (Some x) each) 0 pid_count (omega arith) (omega (arith, lt))
+      (unwritten (process_at before) (process_at after) pid (Some x) each) 0 pid_count (omega arith) (omega (arith, lt))
 
   pub table_taken : (before after : List (List (Option (Cell A)))) (pid : ℕ)
       → ((q : ℕ) → process_at after q ≡ cond (eqb pid q) None (process_at before q))
       → table_of after ≡ remove_entry (is_at (nat_cmp pid)) (table_of before)
   table_taken before after pid each =
       rows_taken (process_at before) (process_at after) pid (written (process_at before) (process_at after) pid None each)
-          (unwritten (process_at before) (process_at after) pid None each) 0 pid_count (omega arith)
+      (unwritten (process_at before) (process_at after) pid None each) 0 pid_count (omega arith)
 
   module _ (pages : List (List (Option (Cell A)))) (lists : List (List ℕ)) (t : IsTied (cell_at pages) lists) where
     past : (q : ℕ) → 0 + pid_count ≤ q → process_at pages q ≡ None

@@ -245,8 +245,8 @@ module _ {A : Type 0} where
     count_after s q =
         ap (count_by (eqb q)) (pushed s)
         ∙ elim (eqb d.process.slot s) as (λ b. count_by (eqb q) (cond b (list_at lists s ++ p ∷ []) (list_at lists s))
-            ≡ count_by (eqb q) (list_at lists s) + cond b (cond (eqb q p) 1 0) 0)
-            [ true ↦ count-push q p (list_at lists s) | false ↦ omega arith ]
+        ≡ count_by (eqb q) (list_at lists s) + cond b (cond (eqb q p) 1 0) 0)
+        [ true ↦ count-push q p (list_at lists s) | false ↦ omega arith ]
 
     -- what p was counted as, and what it is counted as
     counts_here : (s : ℕ) → count_by (eqb p) (list_at after s) ≡ in_slot s (cells p) + in_slot s (changed p)

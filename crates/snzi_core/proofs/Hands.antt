@@ -69,8 +69,13 @@ moves_up h j p apart have = (
 )
 
 pub raises : (h : Holding) (j n : ℕ) → Raises j n h (raise h j n)
-raises h j n = (let a = at_put_same h.amounts j ((slice_index h.amounts j + n) % 18446744073709551616) in
-    omega arith, (λ i apart. at_put_else h.amounts j i ((slice_index h.amounts j + n) % 18446744073709551616) apart), refl, refl)
+raises h j n = (
+  let a = at_put_same h.amounts j ((slice_index h.amounts j + n) % 18446744073709551616) in
+      omega arith,
+  (λ i apart. at_put_else h.amounts j i ((slice_index h.amounts j + n) % 18446744073709551616) apart),
+  refl,
+  refl,
+)
 
 -- a hand's tokens in all bound those at one node
 pub at_held : (h : Holding) (i : ℕ) → tokens_at i h ≤ held h

@@ -101,13 +101,13 @@ module _ (kind : ℕ → Line) (parent : ℕ → ℕ) (tree : Family kind parent
         d.1
     at_parent leaf apart is was =
         ⊎_elim (λ (e : kind (parent j) ≡ inner (j) (tree.child j apart).0). absurd (no_leaf _ _ (sym e ∙ is))) (λ (e : kind (parent j)
-            ≡ inner (tree.child j apart).0 j). absurd (no_leaf _ _ (sym e ∙ is))) (tree.child j apart).1
+        ≡ inner (tree.child j apart).0 j). absurd (no_leaf _ _ (sym e ∙ is))) (tree.child j apart).1
       where
         no_leaf : (a b : ℕ) → inner a b ≡ leaf → ⊥
         no_leaf a b e = cc
     at_parent stripe apart is was =
         ⊎_elim (λ (e : kind (parent j) ≡ inner (j) (tree.child j apart).0). absurd (no_stripe _ _ (sym e ∙ is))) (λ (e : kind (parent j)
-            ≡ inner (tree.child j apart).0 j). absurd (no_stripe _ _ (sym e ∙ is))) (tree.child j apart).1
+        ≡ inner (tree.child j apart).0 j). absurd (no_stripe _ _ (sym e ∙ is))) (tree.child j apart).1
       where
         no_stripe : (a b : ℕ) → inner a b ≡ stripe → ⊥
         no_stripe a b e = cc

@@ -112,8 +112,10 @@ module _ (kind : ℕ → Line) (parent : ℕ → ℕ) (tree : Family kind parent
     left_within was = ((λ i. let a = parts.0 i in let b = was.0 i in omega arith), λ s. absurd (not_spent left.role (let a = left_main in omega arith) s))
 
     right_within : Within v → Within right
-    right_within was = ((λ i. let a = parts.0 i in let b = was.0 i in omega arith),
-        λ s. absurd (not_spent right.role (let d : helper_weight right.role ≡ 1 = ap helper_weight parts.5 in omega arith) s))
+    right_within was = (
+      (λ i. let a = parts.0 i in let b = was.0 i in omega arith),
+      λ s. absurd (not_spent right.role (let d : helper_weight right.role ≡ 1 = ap helper_weight parts.5 in omega arith) s),
+    )
 
     pub split_muster : Mustered hands → out v.role < 65535 → Mustered (set hands id left ++ right ∷ [])
     split_muster m room =

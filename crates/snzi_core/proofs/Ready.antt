@@ -153,7 +153,7 @@ module _ (k : State) (c : IsCore k) where
       let t = leave k hand at e in let n = named at.slot k.slots at.node k.nodes t.0 in
       let b = both_true (nat_eq (slice_index k.words (node_of k at)) 1) (not (nat_eq at.node 0)) p in
       ascends at.slot at.node n.0 n.1 hand (some_of at.node (not_true (nat_eq at.node 0) b.1)) t.1 t.2
-          (both_false (passes_up k at) (is_at_cap k hand (parent_of k at)) t.3 p) (eqb-true (slice_index k.words (node_of k at)) 1 b.0)
+      (both_false (passes_up k at) (is_at_cap k hand (parent_of k at)) t.3 p) (eqb-true (slice_index k.words (node_of k at)) 1 b.0)
     where
       not_true : (b : Bool) → not b ≡ true → b ≡ false
       not_true true e = absurd (true≢false (sym e))
@@ -164,8 +164,8 @@ module _ (k : State) (c : IsCore k) where
       let t = leave k hand at e in let n = named at.slot k.slots at.node k.nodes t.0 in
       departs at.slot at.node n.0 n.1 hand t.1 t.2
       (λ apart one. apart (at_root at.node
-          (not_false' (nat_eq at.node 0) (both_false (nat_eq (slice_index k.words (node_of k at)) 1) (not (nat_eq at.node 0)) p
-          (eq-eqb (slice_index k.words (node_of k at)) 1 one)))))
+      (not_false' (nat_eq at.node 0) (both_false (nat_eq (slice_index k.words (node_of k at)) 1) (not (nat_eq at.node 0)) p
+      (eq-eqb (slice_index k.words (node_of k at)) 1 one)))))
     where
       not_false' : (b : Bool) → not b ≡ false → b ≡ true
       not_false' true e = refl

@@ -22,7 +22,7 @@ module _ (f : ℕ → ℕ → ℕ) (old part : List ℕ) where
     length-set table i y ∙ was.0,
     (λ j h. dite (ℕ_discrete j i)
         (λ e. subst (λ (m : ℕ). slice_index (set table i y) m ≡ f (slice_index old m) (slice_index part m)) (sym e)
-            (get_or-set_same table i y 0 inside ∙ is ∙ ap (λ (x : ℕ). f x (slice_index part i)) (was.2 i (omega arith))))
+        (get_or-set_same table i y 0 inside ∙ is ∙ ap (λ (x : ℕ). f x (slice_index part i)) (was.2 i (omega arith))))
         (λ ne. get_or-set_other table i j y 0 ne ∙ was.1 j (omega arith))),
     (λ j h. get_or-set_other table i j y 0 (λ e. absurd (omega arith)) ∙ was.2 j (omega arith)),
   )

@@ -66,8 +66,8 @@ module _ (k : State) (share : List Token) where
       dite (ℕ_discrete (token_of k t) i)
       (λ e. subst (λ (m : ℕ). count_at k share m ≤ tokens_at m (hand_of k 0)) e (leb-true (count_at k share (token_of k t)) (tokens_at (token_of k t) (hand_of k 0)) b.0))
       (λ ne. covers i ts b.1 (let c = count_cons k t ts i in
-          let z : cond {A = ℕ} (nat_eq (token_of k t) i) 1 0 ≡ 0 = ap (λ (x : Bool). cond {A = ℕ} x 1 0) (ne_eqb (token_of k t) i ne) in
-          omega arith))
+      let z : cond {A = ℕ} (nat_eq (token_of k t) i) 1 0 ≡ 0 = ap (λ (x : Bool). cond {A = ℕ} x 1 0) (ne_eqb (token_of k t) i ne) in
+      omega arith))
 
   pub at_counts : (i : ℕ) → i < length k.words → slice_index (counts k share) i ≡ count_at k share i
   at_counts i h = get_or-map-range_with_len (count_at k share) 0 (length k.words) i i 0 h (omega arith)
@@ -201,6 +201,9 @@ module _ (k : State) (share : List Token) where
 pub split_is : (k now : State) (share : List Token) (v h g : Holding) → k ≡ now → v ≡ hand_of now 0 → h ≡ helper_with (counts now share) (replicate (length now.words) 0) → g ≡ keeper v h.tokens
     → regrouped k (set k.hands 0 g ++ h ∷ []) ≡ split_off now share
 split_is k now share v h g same main is gave =
-    ap (λ (y : Holding × Holding). regrouped k (set k.hands 0 y.0 ++ y.1 ∷ [])) (λ i. ((gave ∙ ap (λ (x : Holding). keeper x h.tokens) main
-        ∙ ap (λ (x : Holding). keeper (hand_of now 0) x.tokens) is) i, is i))
+    ap (λ (y : Holding × Holding). regrouped k (set k.hands 0 y.0 ++ y.1 ∷ [])) (λ i. (
+      (gave ∙ ap (λ (x : Holding). keeper x h.tokens) main
+          ∙ ap (λ (x : Holding). keeper (hand_of now 0) x.tokens) is) i,
+      is i,
+    ))
     ∙ ap (λ (s : State). regrouped s (set s.hands 0 (keeper (hand_of now 0) (counts now share)) ++ helper_with (counts now share) (replicate (length now.words) 0) ∷ [])) same

@@ -111,8 +111,8 @@ module _ (k : State) (c : IsCore k) (id i : ℕ) (live : is_live k id ≡ true) 
         let m = moves_down (hand_of k id) i p apart have in
         stepped_core k i (slice_index k.words i + 1) id (lose (gain (hand_of k id) i) p) c refl
         (written (lose (gain (hand_of k id) i) p) refl
-            (λ e. put_kept (gain (hand_of k id) i).tokens p (tokens_at p (gain (hand_of k id) i) - 1) below
-            (put_kept (hand_of k id).tokens i (tokens_at i (hand_of k id) + 1) inside e)) (λ e. e)) (
+        (λ e. put_kept (gain (hand_of k id) i).tokens p (tokens_at p (gain (hand_of k id) i) - 1) below
+        (put_kept (hand_of k id).tokens i (tokens_at i (hand_of k id) + 1) inside e)) (λ e. e)) (
           first_balance (kind_of k) (above k) tree k.words k.hands id i (hand_of k id) (lose (gain (hand_of k id) i) p) at inside node
               (λ e. apart (sym is ∙ e)) none (subst (λ (q : ℕ). Moves q i (hand_of k id) (lose (gain (hand_of k id) i) p)) (sym is) m)
               c.rule.0,
@@ -124,7 +124,7 @@ module _ (k : State) (c : IsCore k) (id i : ℕ) (live : is_live k id ≡ true) 
         let m = moves_up (hand_of k id) i p apart have in
         stepped_core k i (slice_index k.words i - 1) id (gain (lose (hand_of k id) i) p) c refl
         (written (gain (lose (hand_of k id) i) p) refl (λ e. put_kept (lose (hand_of k id) i).tokens p (tokens_at p (lose (hand_of k id) i)
-            + 1) below (put_kept (hand_of k id).tokens i (tokens_at i (hand_of k id) - 1) inside e)) (λ e. e)) (
+        + 1) below (put_kept (hand_of k id).tokens i (tokens_at i (hand_of k id) - 1) inside e)) (λ e. e)) (
           last_balance (kind_of k) (above k) tree k.words k.hands id i (hand_of k id) (gain (lose (hand_of k id) i) p) at inside node
               (λ e. apart (sym is ∙ e)) one (subst (λ (q : ℕ). Moves i q (hand_of k id) (gain (lose (hand_of k id) i) p)) (sym is) m)
               c.rule.0,

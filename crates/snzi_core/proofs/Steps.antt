@@ -37,8 +37,8 @@ module _ (kind : ℕ → Line) (parent : ℕ → ℕ) (tree : Family kind parent
   add_balance filled g was = node_law kind parent tree words hands id j (slice_index words j + 1) v w at inside node
       (let a = g.0 in omega arith)
       (λ apart. let e = g.1 (parent j) apart in
-          let u : up (slice_index words j + 1) ≡ up (slice_index words j) =
-          up_same (slice_index words j + 1) (slice_index words j) (omega arith) (filled apart) in omega arith)
+      let u : up (slice_index words j + 1) ≡ up (slice_index words j) =
+      up_same (slice_index words j + 1) (slice_index words j) (omega arith) (filled apart) in omega arith)
       (λ i off _. g.1 i off) g.3 was
 
   -- the first at a node below a root uses up the token at the parent
@@ -46,7 +46,7 @@ module _ (kind : ℕ → Line) (parent : ℕ → ℕ) (tree : Family kind parent
   first_balance apart none m was = node_law kind parent tree words hands id j (slice_index words j + 1) v w at inside node
       (let a = m.0 in omega arith)
       (λ _. let e = m.1 in let u : up (slice_index words j + 1) ≡ 1 = up_same (slice_index words j + 1) 1 (omega arith) (omega arith) in
-          let z : up (slice_index words j) ≡ 0 = ap up none in omega arith)
+      let z : up (slice_index words j) ≡ 0 = ap up none in omega arith)
       (λ i off_j off_p. m.2 i off_j off_p) m.4 was
 
   -- one less at a node whose parent does not hear of it
@@ -57,8 +57,8 @@ module _ (kind : ℕ → Line) (parent : ℕ → ℕ) (tree : Family kind parent
       node_law kind parent tree words hands id j (slice_index words j - 1) v w at inside node
       (omega arith)
       (λ apart. let e = l.1 (parent j) apart in let ne = more apart in
-          let u : up (slice_index words j - 1) ≡ up (slice_index words j) =
-          up_same (slice_index words j - 1) (slice_index words j) (omega arith) (omega arith) in omega arith)
+      let u : up (slice_index words j - 1) ≡ up (slice_index words j) =
+      up_same (slice_index words j - 1) (slice_index words j) (omega arith) (omega arith) in omega arith)
       (λ i off _. l.1 i off) l.3 was
 
   -- the last to leave a node below a root has a token at the parent instead

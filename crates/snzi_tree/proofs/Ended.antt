@@ -90,7 +90,7 @@ module _ (g w l : ℕ) (board : IsBoard g w l) (t : Table (Unit {0}) Tally) (r :
         λ j.
             let told = knows w (w + l) s.words (map holding s.views) id j v.holding board.0 r.1 there main in
             subst (λ (ws : List ℕ). (line w (w + l) j ≡ stripe → slice_index ws j ≡ slice_index v.holding.amounts j % 2 ^ 64)
-                × (line w (w + l) j ≢ stripe → 0 < slice_index ws j ↔ Covers (parent w (w + l)) v.holding j)) (sym like.2) told,
+            × (line w (w + l) j ≢ stripe → 0 < slice_index ws j ↔ Covers (parent w (w + l)) v.holding j)) (sym like.2) told,
       )
 
 pub ends : (g w l slots id j : ℕ) (me : Seated) → IsBoard g w l → MainKnows → Allows (RunRule g w l) slots id me j (λ x. x) (ended g w l (step slots j 0 0 none) me)

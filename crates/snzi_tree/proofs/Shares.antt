@@ -69,8 +69,11 @@ shared m k h n all is = omega arith
 pub parts_seen : (v u k : View) (h : Holding) → main_weight v.holding.role ≡ 1 → u ≡ kept v → k ≡ given v → v.holding ≡ h
     → ((i : ℕ) → slice_index v.plan i ≤ tokens_at i v.holding) → Parts h u.holding k.holding
 parts_seen v u k h main is helper same fits =
-    subst (λ (x : Holding × View × View). Parts x.0 x.1.holding x.2.holding) (λ i. (same i, sym is i,
-    sym helper i)) (parts v.holding v.plan [] main fits at_nothing)
+    subst (λ (x : Holding × View × View). Parts x.0 x.1.holding x.2.holding) (λ i. (
+      same i,
+      sym is i,
+      sym helper i,
+    )) (parts v.holding v.plan [] main fits at_nothing)
 
 -- main v takes what w has, and is u then
 module _ (v w u : View) (main : main_weight v.holding.role ≡ 1) (is : u ≡ joined v w) where

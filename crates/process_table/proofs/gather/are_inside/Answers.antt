@@ -13,4 +13,4 @@ pub returns : goal.returns
 returns g c = λ q x is same.
     c.is_at_or_below.ensures
     ∙ answers (cell_at c.args.pages.now) c.args.slots.now c.requires.tied c.args.slot c.in-Some.pid c.in-Some-get.cell.now c.args.path.now
-        c.requires.homes c.in-Some.ensures (sym c.get.ensures ∙ ap option_copied c.in-Some-get.is) q x is same
+    c.requires.homes c.in-Some.ensures (sym c.get.ensures ∙ ap option_copied c.in-Some-get.is) q x is same

@@ -23,6 +23,8 @@ pub index-requires : goal.index-requires
 index-requires g t c = omega (arith, c.in-Ok.ensures.bound, c.deref.ensures.len)
 
 pub child_names-requires : goal.child_names-requires
-child_names-requires g t c κs within =
-    (falls_child _ _ _ c.decreases (child_at_smaller _ _ _ _ _ _ _ c.self.view_is c.self.invariant.ascending c.deref.ensures.value
-    c.index.ensures c.in-Ok.ensures.bound), search (rules, within))
+child_names-requires g t c κs within = (
+  falls_child _ _ _ c.decreases (child_at_smaller _ _ _ _ _ _ _ c.self.view_is c.self.invariant.ascending c.deref.ensures.value
+      c.index.ensures c.in-Ok.ensures.bound),
+  search (rules, within),
+)

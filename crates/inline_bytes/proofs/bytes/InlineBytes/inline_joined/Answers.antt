@@ -24,6 +24,8 @@ joined front back bytes between k fits =
 
 pub returns : goal.returns
 returns g c =
-    rw (c.copy_from_slice.ensures.after,
-        c.copy_from_slice-2.ensures.after) (joined c.args.front.now c.args.back.now (replicate 23 0) c.args.between (length c.args.front.now
-        + 1 + length c.args.back.now - (length c.args.front.now + 1)) c.requires)
+    rw (
+      c.copy_from_slice.ensures.after,
+      c.copy_from_slice-2.ensures.after,
+    ) (joined c.args.front.now c.args.back.now (replicate 23 0) c.args.between (length c.args.front.now
+    + 1 + length c.args.back.now - (length c.args.front.now + 1)) c.requires)

@@ -28,6 +28,6 @@ returns g c =
     let by = c.swap_remove.ensures.by_index in
     subst (λ l. HasLeft l c.args.place c.read.result new.items) c.self.view_is
     (left_by old.items new.items c.args.place c.swap_remove.result c.read.result (rw c.self.view_is c.requires) c.swap_remove.ensures.value
-        c.swap_remove.ensures.items (omega (arith, c.swap_remove.ensures.len, long, short))
+    c.swap_remove.ensures.items (omega (arith, c.swap_remove.ensures.len, long, short))
     (λ d lt. by.0 d (omega (arith, lt, long)) ∙ ap (λ n. get_or old.items (n - 1) d) long) (λ k d ne lt. by.1 k d ne (omega (arith, lt, long)))
     (subst (λ l. IsRead l c.args.place c.read.result) c.as_slice.ensures.value c.read.ensures))

@@ -23,8 +23,8 @@ pub returns-clause-entries : goal.returns-clause-entries
 returns-clause-entries g c = on_ok c.put_in.result (λ each.
     table_put c.grow.new.self c.put_in.new.pages c.args.pid c.args.process c.ranges.pid.fits each
     ∙ ap (λ (es : List (ℕ × Process g.row.A.Denot)). insert_entry nat_cmp es c.args.pid c.args.process)
-        (table_alike c.self.inside.pages c.grow.new.self (λ q. ap process_of (c.grow.ensures.same q))
-        ∙ c.self.view_is)) c.put_in.ensures.after
+    (table_alike c.self.inside.pages c.grow.new.self (λ q. ap process_of (c.grow.ensures.same q))
+    ∙ c.self.view_is)) c.put_in.ensures.after
 
 pub returns-clause-ordered : goal.returns-clause-ordered
 returns-clause-ordered g c = table_ascends c.put_in.new.pages
