@@ -23,6 +23,7 @@ use Rattle.flat_model.proofs.PathLaws.{path_cmp-IsTotalOrder, path_cmp-IsAntisym
 use Rattle.flat_model.proofs.PathLaws.{at_or_below_take, at_or_below_through, at_or_below_length, take_above, parent_above}
 use Rattle.flat_model.proofs.Maps.{key_of}
 use Rattle.flat_model.proofs.Sums.{count_by-cons, count_by-map, count_by-filter, count_none, sum_by-plus, sum_by-same, sum_by-zero}
+use Rattle.flat_model.proofs.Booleans.{to_false}
 
 -- ---- one key among sorted keys
 
@@ -157,10 +158,6 @@ front_leads g h below long =
     let len = length-take-le (suc (length g)) h (omega arith) in
     let up : parent (take (suc (length g)) h) ≡ g = parent_take h (length g) (omega arith) ∙ sym (at_or_below_take h g below) in
     λ i. is_child_front g (take (suc (length g)) h) (omega (arith, len)) up i && take_above (suc (length g)) h i
-
-pub to_false : (b : Bool) → (b ≡ true → ⊥) → b ≡ false
-to_false true h = absurd (h refl)
-to_false false h = refl
 
 -- ---- one process
 

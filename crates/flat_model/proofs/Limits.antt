@@ -24,6 +24,7 @@ use Rattle.flat_model.proofs.Maps.{get-each}
 use Rattle.flat_model.proofs.Refusing.{absent}
 use Rattle.flat_model.proofs.Nearest.{first_path_found, first_path_none, first_is_nearest}
 use Rattle.flat_model.proofs.Kept.{counted}
+use Rattle.flat_model.proofs.Booleans.{both_by}
 
 -- ---- tests of a limit
 pub record IsPast (n : ℕ) (l : Limit) : Type 0 where
@@ -44,7 +45,7 @@ pub met_by : (n : ℕ) (l : Limit) → reaches n l ≡ true → IsMet n l
 met_by n Unlimited e = cc
 met_by n (At m) e = record { most = m; limit = refl; met = grind (arith, nat_tests) }
 
-within_by : (n : ℕ) (l : Limit) (m : ℕ) → exceeds n l ≡ false → l ≡ At m → n ≤ m
+pub within_by : (n : ℕ) (l : Limit) (m : ℕ) → exceeds n l ≡ false → l ≡ At m → n ≤ m
 within_by n Unlimited m e is = cc
 within_by n (At k) m e is = let same : k ≡ m = cc in let h : n ≤ k = grind (arith, nat_tests) in omega arith
 
@@ -64,10 +65,6 @@ asked_by test (Some attr) e = record { attr = attr; there = refl; yes = e }
 
 pub asked_no : (test : Attr → Bool) (o : Option Attr) (attr : Attr) → asks test o ≡ false → o ≡ Some attr → test attr ≡ false
 asked_no test o attr e is = sym (ap (asks test) is) ∙ e
-
-both_by : (a b : Bool) → (not a && b) ≡ true → (a ≡ false) × (b ≡ true)
-both_by true b e = cc
-both_by false b e = (refl, e)
 
 neither_by : (a b : Bool) → (not a && b) ≡ false → a ≡ false → b ≡ false
 neither_by a b e n = sym (ap (λ c. not c && b) n) ∙ e

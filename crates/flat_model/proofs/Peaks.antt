@@ -1,5 +1,5 @@
 -- The peaks along a path: those that a record keeps are those that were there, and set again they are there again.
-use Rattle.std.proofs.Common.{◌≡◌, ℕ, zero, suc, ◌+◌, ◌-◌, ◌<◌, ◌≤◌, Bool, true, false, cond, not, ◌&&◌, [], ◌∷◌, map, length, get_or, take, Option, Some, refl, sym, ap, ◌∙◌, arith}
+use Rattle.std.proofs.Common.{◌≡◌, ℕ, zero, suc, ◌+◌, ◌-◌, ◌<◌, ◌≤◌, true, false, cond, [], ◌∷◌, map, length, get_or, take, Option, Some, refl, sym, ap, ◌∙◌, arith}
 use Rattle.std.specs.Prelude.{max, unwrap_or}
 use Rattle.std.proofs.lemmas.List.{get_or-map, get_or-reverse, get_or-take, length-map, length-reverse, length-take-le}
 use Rattle.std.specs.FinMap.{FinMap, get, from_entries, entries}
@@ -9,6 +9,7 @@ use Rattle.flat_model.specs.Counts.{current}
 use Rattle.flat_model.specs.Step.{attr_of, counts_for, raise_peak, raise_peaks, peaks_upward, set_peak, set_peaks}
 use Rattle.flat_model.proofs.PathLaws.{path_cmp-IsTotalOrder, path_cmp-IsAntisymmetric, at_or_below_take, at_or_below_length}
 use Rattle.flat_model.proofs.Maps.{each_there_back}
+use Rattle.flat_model.proofs.Booleans.{both_by}
 
 -- ---- the groups from p upward
 
@@ -54,10 +55,6 @@ peak_upward s p i d h =
     let many = length-groups_upward p in
     get_or-map (λ q. (attr_of s q).peak) (take (length p) (upward p)) i [] d (omega (arith, many))
     ∙ ap (λ q. (attr_of s q).peak) (group_upward p i [] h)
-
-pub both_by : (a b : Bool) → (not a && b) ≡ true → (a ≡ false) × (b ≡ true)
-both_by true b e = cc
-both_by false b e = (refl, e)
 
 pub named : (q : Path) → is_root q ≡ false → 0 < length q
 named [] e = cc

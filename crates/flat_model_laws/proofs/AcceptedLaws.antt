@@ -16,7 +16,8 @@ use Rattle.flat_model.specs.Step.{refusal, after, home_of, blocked_make}
 use Rattle.flat_model.specs.Limiting.{IsWithinPids, HasRoomBelow}
 use Rattle.flat_model.proofs.PathLaws.{same_path_is, same_path_itself}
 use Rattle.flat_model.proofs.Sums.{count_by-cons}
-use Rattle.flat_model.proofs.Counting.{to_false, found_by, counted_by}
+use Rattle.flat_model.proofs.Counting.{found_by, counted_by}
+use Rattle.flat_model.proofs.Booleans.{to_false, or_right, apart}
 use Rattle.flat_model.proofs.Refusing.{passed, beyond, neither, affirmed}
 use Rattle.flat_model.proofs.Limits.{fork_passed, fork_within}
 use Rattle.flat_model_laws.proofs.LimitsExact.{accepted_is}
@@ -51,13 +52,6 @@ not_root p = (λ f e. differ p e f, λ n. to_false (is_root p) (λ t. n (root_is
     differ (x ∷ p) e f = cc
 
 -- ---- none of the keys, and none of the values
-
-or_right : (b c : Bool) → c ≡ true → (b || c) ≡ true
-or_right true c e = refl
-or_right false c e = e
-
-apart : (b : Bool) → b ≡ true → b ≡ false → ⊥
-apart b t f = cc
 
 record Passing (test : Path → Bool) (ps : List Path) : Type 0 where
   path : Path

@@ -14,6 +14,7 @@ use Rattle.flat_model.proofs.PathLaws.{path_cmp-IsTotalOrder, path_cmp-IsAntisym
 use Rattle.flat_model.proofs.Maps.{get-each}
 use Rattle.flat_model.proofs.Limits.{limiting, fork_within, current_forked, asked_no}
 use Rattle.flat_model_laws.proofs.NearestLaws.{asks_not, nearest_found}
+use Rattle.flat_model.proofs.Limits.{within_by}
 
 past_is : (n m : ℕ) (l : Limit) → l ≡ At m → m < n → exceeds n l ≡ true
 past_is n m l e h = ap (exceeds n) e ∙ (let h : m < n = h in grind (arith, nat_tests))
@@ -40,10 +41,6 @@ one_limiting s g a b h k = let e : Some a ≡ Some b = sym (limited s g a h) ∙
 exceeds_not : (n : ℕ) (l : Limit) → ((m : ℕ) → l ≡ At m → n ≤ m) → exceeds n l ≡ false
 exceeds_not n Unlimited h = refl
 exceeds_not n (At m) h = let l : n ≤ m = h m refl in grind (arith, nat_tests)
-
-within_by : (n : ℕ) (l : Limit) (m : ℕ) → exceeds n l ≡ false → l ≡ At m → n ≤ m
-within_by n Unlimited m e is = cc
-within_by n (At k) m e is = let same : k ≡ m = cc in let h : n ≤ k = grind (arith, nat_tests) in omega arith
 
 -- the same by the test of each group above
 pub within_is : (s : State) (g : Path) → IsWithinPids s g ↔ ((a : Path) → at_or_below g a ≡ true → is_root a ≡ false → asks (λ attr. exceeds (current s a) attr.limits.pids) (get s.groups a) ≡ false)

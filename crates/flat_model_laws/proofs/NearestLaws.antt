@@ -6,9 +6,7 @@ use Rattle.flat_model.specs.Counts.{first_path, asks}
 use Rattle.flat_model.proofs.PathLaws.{at_or_below_either, strictly_below_is, same_path_is}
 use Rattle.flat_model.proofs.PathMembers.{upward_are}
 use Rattle.flat_model.proofs.Nearest.{first_path_found, first_path_none, first_is_nearest}
-
-apart : (b : Bool) → b ≡ true → b ≡ false → ⊥
-apart b t f = cc
+use Rattle.flat_model.proofs.Booleans.{apart}
 
 -- of two groups, one is strictly below the other or they are one
 strictly : (b a : Path) → at_or_below b a ≡ true → same_path b a ≡ false → strictly_below b a ≡ true

@@ -1,27 +1,18 @@
 -- The next name of an iterator: what stands before the next slash.
-use Rattle.std.proofs.Common.{◌≡◌, ℕ, ◌+◌, ◌-◌, ◌<◌, ◌≤◌, Bool, true, false, cond, nat_lt, List, [], ◌∷◌, length, take, drop, zero, suc, refl, ap, sym, ◌∙◌, arith, Option, Some, None}
+use Rattle.std.proofs.Common.{◌≡◌, ℕ, ◌+◌, ◌-◌, ◌<◌, nat_lt, List, [], ◌∷◌, length, take, drop, zero, suc, refl, ap, sym, ◌∙◌, arith, Option, Some, None}
 use Rattle.std.specs.List.{position, position_or_len, slice_split}
-use Rattle.std.proofs.lemmas.Bool.Decides.{nat_tests}
 use Rattle.std.proofs.lemmas.List.{take_rest}
 use Rattle.std.proofs.lemmas.List.Sums.{fails_before_first}
 use Rattle.std.proofs.lemmas.List.Splits.{slice_split_first, slice_split_none}
 use Rattle.flat_model.specs.Path.{Name}
 use Rattle.flat_model.specs.PathText.{is_slash}
 use Rattle.group_path.specs.Names.{names_behind}
+use Rattle.flat_model.proofs.Booleans.{place_by, no_place}
 
 -- the first of what is taken
 take_more : {X : Type 0} (n : ℕ) (x : X) (xs : List X) → (n ≡ 0 → ⊥) → take n (x ∷ xs) ≡ x ∷ take (n - 1) xs
 take_more zero x xs e = absurd (e refl)
 take_more (suc n) x xs e = let k : n ≡ suc n - 1 = omega arith in ap (λ m. x ∷ take m xs) k
-
--- what a place found, or none, says of the first slash
-place_by : (n m end : ℕ) (t : Bool) → nat_lt n m ≡ t → Some end ≡ cond t (Some n) None → (n < m) × (n ≡ end)
-place_by n m end true e h = (grind (arith, nat_tests), cc)
-place_by n m end false e h = cc
-
-no_place : (n m : ℕ) (t : Bool) → nat_lt n m ≡ t → None ≡ cond t (Some n) None → m ≤ n
-no_place n m true e h = cc
-no_place n m false e h = grind (arith, nat_tests)
 
 -- the parts, at the first slash
 cut_at : (bytes : List ℕ) (end : ℕ) → Some end ≡ position is_slash bytes → slice_split is_slash bytes ≡ take end bytes ∷ slice_split is_slash (drop (end + 1) bytes)

@@ -10,14 +10,10 @@ use Rattle.group_tree.specs.Groups.{Groups, slot_of, groups_upward, chain_of}
 use Rattle.group_tree.specs.Node.{Branch, groups_of, HasAscendingNames, place_of}
 use Rattle.group_tree.proofs.Walk.{find_down}
 use Rattle.group_tree.proofs.Steps.{root_is_some}
+use Rattle.flat_model.proofs.Lists.{reverse_map}
 
 reverse_first : (p : Path) (ps : List Path) → reverse (p ∷ ps) ≡ reverse ps ++ p ∷ []
 reverse_first p ps = reverse-append (p ∷ []) ps
-
-reverse_map : {X Y : Type 0} (f : X → Y) (xs : List X) → reverse (map f xs) ≡ map f (reverse xs)
-reverse_map f [] = refl
-reverse_map f (x ∷ xs) =
-    reverse-append (f x ∷ []) (map f xs) ∙ ap (λ ys. ys ++ f x ∷ []) (reverse_map f xs) ∙ sym (map-append f (reverse xs) (x ∷ [])) ∙ ap (map f) (sym (reverse-append (x ∷ []) xs))
 
 -- the way up from below n: the way up there behind n, and then the root
 pub upward-cons : (n : Name) (p : Path) → upward (n ∷ p) ≡ map (λ (q : Path). n ∷ q) (upward p) ++ [] ∷ []

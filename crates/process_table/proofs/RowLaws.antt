@@ -7,8 +7,8 @@ use Rattle.std.specs.List.Sorted.{IsStrictlySortedBy}
 use Rattle.std.specs.Map.{keys_of, lookup, remove_entry}
 use Rattle.std.specs.BTreeMap.{is_at, insert_entry}
 use Rattle.std.proofs.lemmas.Bool.{eqb-true, eqb-false, eq-eqb, ne_eqb, lt-ltb, le-ltb}
-use Rattle.std.proofs.lemmas.List.Sums.{sum_by-cons}
 use Rattle.process_table.specs.Rows.{cons_row, rows_from}
+use Rattle.flat_model.proofs.Sums.{count_by-cons}
 
 -- ---- the order of two numbers
 pub cmp_less : (a b : ℕ) → a < b → nat_cmp a b ≡ Less
@@ -19,10 +19,6 @@ cmp_same a = rw (le-ltb a a (omega arith), eq-eqb a a refl) refl
 
 pub cmp_greater : (a b : ℕ) → b < a → nat_cmp a b ≡ Greater
 cmp_greater a b h = rw (le-ltb a b (omega arith), ne_eqb a b (omega arith)) refl
-
--- the count of a list that begins with x
-pub count_by-cons : {X : Type 0} (p : X → Bool) (x : X) (xs : List X) → count_by p (x ∷ xs) ≡ cond (p x) 1 0 + count_by p xs
-count_by-cons p x xs = sum_by-cons (λ y. cond (p y) 1 0) x xs
 
 pub count-same : (q x : ℕ) (xs : List ℕ) → eqb q x ≡ true → count_by (eqb q) (x ∷ xs) ≡ 1 + count_by (eqb q) xs
 count-same q x xs e = let weight : Bool → ℕ = λ b. cond b 1 0 in let one : weight (eqb q x) ≡ 1 = ap weight e in omega (arith, count_by-cons (eqb q) x xs, one)

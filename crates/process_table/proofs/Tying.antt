@@ -9,7 +9,8 @@ use Rattle.process_table.specs.Cells.{at_place}
 use Rattle.process_table.specs.Rows.{pid_count}
 use Rattle.process_table.specs.SlotPids.{list_at, IsAt, IsRead, HasLeft}
 use Rattle.process_table.specs.Tied.{in_slot, owed, IsTied, Owes}
-use Rattle.process_table.proofs.RowLaws.{count_by-cons, count-same}
+use Rattle.process_table.proofs.RowLaws.{count-same}
+use Rattle.flat_model.proofs.Sums.{count_by-cons}
 use Rattle.process_table.proofs.SameNumbers.{count-IsPermutation}
 
 -- ---- lists of numbers

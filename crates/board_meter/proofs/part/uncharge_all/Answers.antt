@@ -1,7 +1,7 @@
 use Rattle.std.proofs.Common.{rules, ◌∙◌}
 use Rattle.snzi_tree.specs.Hands.{holds}
 use Rattle.snzi_tree.specs.Contents.{content_of}
-use Rattle.board_meter.proofs.Tokens.{still_charged}
+use Rattle.pids_charge.proofs.Tokens.{still_charged}
 use Rattle.board_meter.proofs.part.uncharge_all.Goals as goal
 
 pub uncharge-requires : goal.uncharge-requires

@@ -1,4 +1,4 @@
-use Rattle.board_meter.proofs.Tokens.{still_charged}
+use Rattle.pids_charge.proofs.Tokens.{still_charged}
 use Rattle.board_tests.proofs.swap.uncharge_each.Goals as goal
 
 pub uncharge-requires-clause-charged : goal.uncharge-requires-clause-charged
