@@ -32,7 +32,7 @@ struct Load {
 
 // Where the hands of a run arrive.
 #[derive(Clone, Copy)]
-enum Place {
+enum Arrival {
     // Each at a leaf of its own, where main has a token, so that no arrival climbs to the root.
     OwnHeldLeaf,
     // All at one leaf, on an empty board.
@@ -123,7 +123,7 @@ fn send_all<'a>(
     board: &'a Board<1, 7, 4>,
     main: &mut Hand,
     alloc: Global,
-    place: Place,
+    place: Arrival,
     threads: u8,
 ) -> Result<Vec<Visitor<'a>>, AllocError>
     requires here { IsHandOf board.now main.old × IsMain main.old }
@@ -133,8 +133,8 @@ fn send_all<'a>(
     let mut visitors = Vec::with_capacity(alloc, usize::from(threads))?;
     for number in 0..threads {
         let leaf = match place {
-            Place::OwnHeldLeaf => number,
-            Place::OneEmptyLeaf => 0,
+            Arrival::OwnHeldLeaf => number,
+            Arrival::OneEmptyLeaf => 0,
         };
         visitors.push(send(board, main, leaf))?;
     }
@@ -145,13 +145,13 @@ fn send_all<'a>(
 fn board_time<R: Threads + Clock + Sync>(
     rt: &R,
     alloc: Global,
-    place: Place,
+    place: Arrival,
     load: Load,
 ) -> io::Result<u128>
     requires { load.threads ≤ 4 }
 {
     let (board, mut main) = Board::<1, 7, 4>::new(alloc)?;
-    if matches!(place, Place::OwnHeldLeaf) {
+    if matches!(place, Arrival::OwnHeldLeaf) {
         hold_leaves(&board, &mut main);
     }
     let visitors = send_all(&board, &mut main, alloc, place, load.threads)?;
@@ -200,8 +200,8 @@ fn show<R: Threads + Wait + Clock + Print + Sync>(
     let mut atomic = u128::MAX;
     let mut mutex = u128::MAX;
     for _ in 0..RUNS {
-        own = own.min(board_time(rt, alloc, Place::OwnHeldLeaf, load)?);
-        one = one.min(board_time(rt, alloc, Place::OneEmptyLeaf, load)?);
+        own = own.min(board_time(rt, alloc, Arrival::OwnHeldLeaf, load)?);
+        one = one.min(board_time(rt, alloc, Arrival::OneEmptyLeaf, load)?);
         atomic = atomic.min(atomic_time(rt, alloc, load)?);
         mutex = mutex.min(mutex_time(rt, alloc, load)?);
     }

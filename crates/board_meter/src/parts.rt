@@ -4,7 +4,7 @@ ghost use Rattle.snzi_tree.specs.Contents.{AtLeaves};
 ghost use Rattle.snzi_tree.specs.Hands.{IsHandOf, holds, SameHand};
 ghost use Rattle.board_meter.specs.Held.{CanSettle, HasRoomFor, Settled};
 
-use crate::hands::{hand_out, take_back};
+use crate::hands::{hand_out, join_back};
 use crate::part::do_part;
 use pids_charge::{Gate, Token, last_run};
 use snzi_tree::{Board, Hand};
@@ -72,5 +72,5 @@ pub(crate) fn settle_parts<R: Threads, A: Gate, const G: usize, const W: usize, 
         )
     };
     join_mut(rt, &mut last, &mut rest);
-    take_back(board, main, helper);
+    join_back(board, main, helper);
 }

@@ -1,7 +1,6 @@
 -- How far the event totals get with each call.
-use Rattle.std.proofs.Common.{◌≡◌, ℕ, ◌+◌, ◌-◌, ◌<◌, ◌≤◌, Bool, true, false, cond, List, [], ◌∷◌, Option, Some, None, Result, Ok, Err, length, is_some, eqb, refl, sym, ap, subst, ◌∙◌, arith}
+use Rattle.std.proofs.Common.{◌≡◌, ℕ, ◌+◌, ◌-◌, ◌<◌, ◌≤◌, Bool, true, false, cond, List, [], ◌∷◌, Option, Some, None, Result, Ok, Err, length, is_some, refl, sym, ap, subst, ◌∙◌, arith}
 use Rattle.std.specs.Prelude.{option_map, unwrap_or, OnOk, OnErr}
-use Rattle.std.specs.List.{IsDistinct}
 use Rattle.std.specs.Ordering.{eq_by_cmp}
 use Rattle.std.specs.FinMap.{get, insert, remove, get-insert, get-remove}
 use Rattle.flat_model.specs.Path.{Path, path_cmp, same_path}
@@ -138,11 +137,6 @@ up_restored n s new p q a b (Err x) h there local total ok err = subst (HasEvent
 -- the start has none
 pub start_up : (s : State) → s ≡ start → HasEventsUpTo 0 s
 start_up s e = subst (HasEventsUpTo 0) (sym e) (λ p attr h. subst (IsUpTo 0) (only_root p attr h).1 (omega arith, omega arith))
-
--- a list of one
-pub one_distinct : (x : ℕ) → IsDistinct eqb (x ∷ [])
-unfolding IsDistinct
-one_distinct x = (tt, tt)
 
 -- the conditions of `uncount` at a group below the root, from its own totals
 some_is : (o : Option Attr) (a : Attr) → o ≡ Some a → (attr : Attr) → o ≡ Some attr → a ≡ attr

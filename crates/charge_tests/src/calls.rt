@@ -187,14 +187,14 @@ fn place_all<R: Threads + Wait + Sync>(
     done(charges.place_all(rt, &OpenGate, 0, &[Lost { pid, path }]))
 }
 
-fn rehome(charges: &mut Plain, who: u32, path: &GroupPath<Global>) -> Answer
+fn move_back(charges: &mut Plain, who: u32, path: &GroupPath<Global>) -> Answer
     ensures up { (n : ℕ) → HasEventsUpTo n charges.old → HasEventsUpTo (n + 1) charges.new }
 {
     let pid = pid(who);
     if charges.attr(path).is_none() || charges.home(pid).is_none() {
         return Answer::Nothing;
     }
-    path_answered(charges.rehome(0, pid, path))
+    path_answered(charges.move_back(0, pid, path))
 }
 
 fn set_peaks(charges: &mut Plain, path: &GroupPath<Global>, peaks: &[u64]) -> Answer
@@ -284,7 +284,7 @@ fn make_call<R: Threads + Wait + Sync>(
         }
         Call::Rehome(who, text) => {
             let path = path(alloc, text)?;
-            Ok(rehome(charges, who, &path))
+            Ok(move_back(charges, who, &path))
         }
         Call::SetPeaks(text, peaks) => {
             let path = path(alloc, text)?;

@@ -5,7 +5,8 @@ use Rattle.std.specs.declared.cmp.Ordering.{Ordering}
 use Rattle.std.specs.declared.cmp.Ordering.TheVariants.{Less, Equal, Greater}
 use Rattle.std.specs.Ordering.{nat_cmp, is_eq, eq_by_cmp}
 use Rattle.std.specs.Cmp.{IsTotalOrder, nat_cmp_total, eq_by_cmp_equiv}
-use Rattle.std.specs.FinMap.{FinMap, IsAntisymmetric, nat_cmp-IsAntisymmetric, get, insert, remove, values, entries, find, is_sorted, entries-insert, entries_sorted, get-entries, get-insert, get-remove}
+use Rattle.std.specs.FinMap.{FinMap, IsAntisymmetric, nat_cmp-IsAntisymmetric, get, insert, remove, values, entries, find, is_sorted}
+use Rattle.std.specs.FinMap.{entries-insert, entries_sorted, get-entries, get-insert, get-remove}
 use Rattle.std.specs.FinMap.Entries.{put, by_order, below_all}
 use Rattle.flat_model.proofs.Maps.{insert_remove, key_of}
 use Rattle.flat_model.proofs.Counting.{halves, find_behind, find_first}
@@ -15,7 +16,9 @@ module _ {K X : Type 0} {R : K → K → Ordering} (o : IsTotalOrder R) (P : X �
   count_put : (k : K) (v : X) (es : List (K × X)) → find R k es ≡ None → count_by P (map (λ e. e.1) (put R k v es)) ≡ cond (P v) 1 0 + count_by P (map (λ e. e.1) es)
   count_put k v [] h = omega arith
   count_put k v (e ∷ es) h =
-      elim (R k e.0) as (λ r. cond (is_eq r) (Some e.1) (find R k es) ≡ None → count_by P (map (λ e. e.1) (by_order r ((k, v) ∷ e ∷ es) ((e.0, v) ∷ es) (e ∷ put R k v es))) ≡ cond (P v) 1 0 + count_by P (map (λ e. e.1) (e ∷ es))) [
+      elim (R k e.0) as (λ r. cond (is_eq r) (Some e.1) (find R k es) ≡ None
+      → count_by P (map (λ e. e.1) (by_order r ((k, v) ∷ e ∷ es) ((e.0, v) ∷ es) (e ∷ put R k v es)))
+      ≡ cond (P v) 1 0 + count_by P (map (λ e. e.1) (e ∷ es))) [
         | Less ↦ λ n. count_by-cons P v (map (λ e. e.1) (e ∷ es))
         | Equal ↦ λ n. cc
         | Greater ↦ λ n. let ih = count_put k v es n in
@@ -36,7 +39,8 @@ module _ {K X : Type 0} {R : K → K → Ordering} (o : IsTotalOrder R) (P : X �
 
 module _ {X : Type 0} (P : X → Bool) where
   -- entries that a map has count no more than all that it has
-  count_among : (es : List (ℕ × X)) → T (is_sorted nat_cmp es) → (m : FinMap nat_cmp X) → ((q : ℕ) (x : X) → find nat_cmp q es ≡ Some x → get m q ≡ Some x) → count_by P (map (λ e. e.1) es) ≤ count_by P (values m)
+  count_among : (es : List (ℕ × X)) → T (is_sorted nat_cmp es) → (m : FinMap nat_cmp X)
+      → ((q : ℕ) (x : X) → find nat_cmp q es ≡ Some x → get m q ≡ Some x) → count_by P (map (λ e. e.1) es) ≤ count_by P (values m)
   count_among [] s m h = omega arith
   count_among (e ∷ es) s m h =
       let two = halves (below_all nat_cmp e.0 es) (is_sorted nat_cmp es) s in

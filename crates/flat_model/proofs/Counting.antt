@@ -1,5 +1,6 @@
 -- The count of a group is the sum of its own members and of its children's counts.
-use Rattle.std.proofs.Common.{◌≡◌, ℕ, zero, suc, ◌+◌, ◌-◌, ◌<◌, ◌≤◌, Bool, true, false, cond, not, ◌&&◌, ◌↔◌, T, List, [], ◌∷◌, map, length, take, Some, None, refl, sym, ap, subst, ◌∙◌, is_some, ltb, arith}
+use Rattle.std.proofs.Common.{◌≡◌, ℕ, zero, suc, ◌+◌, ◌-◌, ◌<◌, ◌≤◌, Bool, true, false, cond, not, ◌&&◌, ◌↔◌, T, List, [], ◌∷◌, map, length}
+use Rattle.std.proofs.Common.{take, Some, None, refl, sym, ap, subst, ◌∙◌, is_some, ltb, arith}
 use Rattle.std.proofs.lemmas.Bool.Decides.{nat_tests}
 use Rattle.std.proofs.lemmas.List.{length-take-le}
 use Rattle.std.proofs.lemmas.List.Sums.{sum_by-cons, length-filter}
@@ -18,9 +19,11 @@ use Rattle.flat_model.specs.Path.{Path, path_cmp, parent, is_root, at_or_below, 
 use Rattle.flat_model.specs.State.{State}
 use Rattle.flat_model.specs.Counts.{is_group, current, populated, members, children, IsInhabited}
 use Rattle.flat_model.specs.WellFormed.{WellFormed}
-use Rattle.flat_model.proofs.PathLaws.{path_cmp-IsTotalOrder, path_cmp-IsAntisymmetric, same_path_is, same_path_itself, at_or_below_itself, at_or_below_take, at_or_below_through, at_or_below_length, take_above, parent_above}
+use Rattle.flat_model.proofs.PathLaws.{path_cmp-IsTotalOrder, path_cmp-IsAntisymmetric, same_path_is, same_path_itself, at_or_below_itself}
+use Rattle.flat_model.proofs.PathLaws.{at_or_below_take, at_or_below_through, at_or_below_length, take_above, parent_above}
 use Rattle.flat_model.proofs.Maps.{key_of}
 use Rattle.flat_model.proofs.Sums.{count_by-cons, count_by-map, count_by-filter, count_none, sum_by-plus, sum_by-same, sum_by-zero}
+use Rattle.flat_model.proofs.Booleans.{to_false}
 
 -- ---- one key among sorted keys
 
@@ -156,10 +159,6 @@ front_leads g h below long =
     let up : parent (take (suc (length g)) h) ≡ g = parent_take h (length g) (omega arith) ∙ sym (at_or_below_take h g below) in
     λ i. is_child_front g (take (suc (length g)) h) (omega (arith, len)) up i && take_above (suc (length g)) h i
 
-pub to_false : (b : Bool) → (b ≡ true → ⊥) → b ≡ false
-to_false true h = absurd (h refl)
-to_false false h = refl
-
 -- ---- one process
 
 module _ (slots : ℕ) (s : State) (w : WellFormed slots s) (g : Path) where
@@ -195,8 +194,11 @@ module _ (slots : ℕ) (s : State) (w : WellFormed slots s) (g : Path) where
             elim (at_or_below h g) as (λ b. at_or_below h g ≡ b → cond b 1 0 ≡ 0 + count_by (leads g h) (keys s.groups)) [
               | true ↦ λ below.
                   let long = longer h below t in
-                  let there_is : is_some (find path_cmp (take (suc (length g)) h) (entries s.groups)) ≡ true = ap is_some (sym (get-entries s.groups (take (suc (length g)) h))) ∙ prefix_is_group slots s w h there (length h - suc (length g)) (suc (length g)) (omega arith) in
-                  let one = once_among path_cmp-IsTotalOrder path_cmp-IsAntisymmetric (leads g h) (take (suc (length g)) h) (leads_is g h) (front_leads g h below long) (entries s.groups) (entries_sorted s.groups) there_is in
+                  let there_is : is_some (find path_cmp (take (suc (length g)) h) (entries s.groups)) ≡ true =
+                  ap is_some (sym (get-entries s.groups (take (suc (length g)) h)))
+                  ∙ prefix_is_group slots s w h there (length h - suc (length g)) (suc (length g)) (omega arith) in
+                  let one = once_among path_cmp-IsTotalOrder path_cmp-IsAntisymmetric (leads g h) (take (suc (length g)) h) (leads_is g h)
+                  (front_leads g h below long) (entries s.groups) (entries_sorted s.groups) there_is in
                   omega (arith, one)
               | false ↦ λ off.
                   let none = count_none (leads g h) (keys s.groups) (λ p. to_false (leads g h p) (λ l. let f : true ≡ false = sym (leads_below g h p l) ∙ off in cc)) in
@@ -258,7 +260,9 @@ module _ {X : Type 0} where
       ] refl
 
 -- the homes of a well-formed state are groups
-homes_of : (s : State) (es : List (ℕ × Path)) → T (is_sorted nat_cmp es) → ((pid : ℕ) (p : Path) → find nat_cmp pid es ≡ Some p → is_group s p ≡ true) → AllByRecursion (λ h. is_group s h ≡ true) (map (λ e. e.1) es)
+homes_of : (s : State) (es : List (ℕ × Path)) → T (is_sorted nat_cmp es)
+    → ((pid : ℕ) (p : Path) → find nat_cmp pid es ≡ Some p → is_group s p ≡ true)
+    → AllByRecursion (λ h. is_group s h ≡ true) (map (λ e. e.1) es)
 homes_of s [] k h = tt
 homes_of s (e ∷ es) k h = (
   h e.0 e.1 (find_first e es),

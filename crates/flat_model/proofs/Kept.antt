@@ -9,7 +9,9 @@ use Rattle.std.specs.Option.{option_or}
 use Rattle.std.specs.declared.cmp.Ordering.{Ordering}
 use Rattle.std.specs.Ordering.{nat_cmp, eq_by_cmp}
 use Rattle.std.specs.Cmp.{nat_cmp_total, IsTotalOrder}
-use Rattle.std.specs.FinMap.{FinMap, IsAntisymmetric, nat_cmp-IsAntisymmetric, get, insert, remove, retain_keys, entries, keys, values, find, len, from_entries, get-insert, get-remove, get-retain_keys, get-entries, len-insert, len-remove, len-entries, len-empty}
+use Rattle.std.specs.FinMap.{FinMap, IsAntisymmetric, nat_cmp-IsAntisymmetric, get, insert, remove, retain_keys, entries, keys, values}
+use Rattle.std.specs.FinMap.{find, len, from_entries, get-insert, get-remove, get-retain_keys, get-entries, len-insert, len-remove}
+use Rattle.std.specs.FinMap.{len-entries, len-empty}
 use Rattle.flat_model.specs.Path.{Path, path_cmp, parent, is_root, at_or_below, strictly_below, same_path}
 use Rattle.flat_model.specs.State.{State, Attr, Limit, fresh}
 use Rattle.flat_model.specs.Counts.{is_group, current}
@@ -97,7 +99,9 @@ module _ (slots : ℕ) (s : State) (w : WellFormed slots s) where
         | false ↦ λ t e. w.root_peak attr e
       ] refl (sym (get-insert path_cmp-IsTotalOrder s.groups p a []) ∙ h)
 
-  with_group : (p : Path) (a : Attr) → is_group s (parent p) ≡ true → IsEven a → (is_root p ≡ false → current s p ≤ a.peak) → (is_root p ≡ true → a.peak ≡ 0) → len (insert s.groups p a) ≤ slots + 1 → WellFormed slots (record s { groups = insert s.groups p a })
+  with_group : (p : Path) (a : Attr) → is_group s (parent p) ≡ true → IsEven a → (is_root p ≡ false → current s p ≤ a.peak)
+      → (is_root p ≡ true → a.peak ≡ 0) → len (insert s.groups p a) ≤ slots + 1
+      → WellFormed slots (record s { groups = insert s.groups p a })
   with_group p a above even fits bare few = record {
     root = more p a [] w.root;
     parents = λ q h. more p a (parent q) (elim (eq_by_cmp path_cmp q p) as (λ b. eq_by_cmp path_cmp q p ≡ b → is_group s (parent q) ≡ true) [
@@ -226,7 +230,8 @@ module _ (slots : ℕ) (s : State) (w : WellFormed slots s) where
   }
 
 -- ---- a group taken out
-key_passes : {K X : Type 0} {R : K → K → Ordering} → IsAntisymmetric R → (test : K → Bool) (q : K) (es : List (K × X)) → is_some (find R q es) ≡ true → test q ≡ true → list_any test (map (λ e. e.0) es) ≡ true
+key_passes : {K X : Type 0} {R : K → K → Ordering} → IsAntisymmetric R → (test : K → Bool) (q : K) (es : List (K × X))
+    → is_some (find R q es) ≡ true → test q ≡ true → list_any test (map (λ e. e.0) es) ≡ true
 key_passes same test q [] h t = cc
 key_passes {R = R} same test q (e ∷ es) h t =
     elim (eq_by_cmp R q e.0) as (λ b. eq_by_cmp R q e.0 ≡ b → is_some (cond b (Some e.1) (find R q es)) ≡ true → list_any test (map (λ x. x.0) (e ∷ es)) ≡ true) [
@@ -261,7 +266,9 @@ below_parent (x ∷ q) h = (strictly_below_is (x ∷ q) (parent (x ∷ q))).1 (p
         let e = ap length ((same_path_is (x ∷ q) (parent (x ∷ q))).0 t) in
         let k = length-take (length (x ∷ q) - 1) (x ∷ q) in absurd (omega (arith, e, k))
 
-module _ (slots : ℕ) (s : State) (w : WellFormed slots s) (p : Path) (not_root : is_root p ≡ false) (no_child : list_any (λ q. strictly_below q p) (keys s.groups) ≡ false) (no_member : list_any (λ q. same_path q p) (values s.home) ≡ false) where
+module _ (slots : ℕ) (s : State) (w : WellFormed slots s) (p : Path) (not_root : is_root p ≡ false)
+    (no_child : list_any (λ q. strictly_below q p) (keys s.groups) ≡ false)
+    (no_member : list_any (λ q. same_path q p) (values s.home) ≡ false) where
   left : (q : Path) → is_group s q ≡ true → (q ≡ p → ⊥) → is_some (get (remove s.groups p) q) ≡ true
   left q h n =
       ap is_some (get-remove path_cmp-IsTotalOrder s.groups p q)
@@ -296,10 +303,14 @@ module _ (slots : ℕ) (s : State) (w : WellFormed slots s) (p : Path) (not_root
           | true ↦ λ t. let f : true ≡ false = sym (ap is_root (root_parent q t)) ∙ ap is_root e ∙ not_root in cc
           | false ↦ λ t.
               let under : strictly_below q p ≡ true = ap (λ a. strictly_below q a) (sym e) ∙ below_parent q t in
-              let f : true ≡ false = sym (key_passes path_cmp-IsAntisymmetric (λ a. strictly_below a p) q (entries s.groups) (ap is_some (sym (get-entries s.groups q)) ∙ group_before q h) under) ∙ no_child in cc
+              let f : true ≡ false =
+              sym (key_passes path_cmp-IsAntisymmetric (λ a. strictly_below a p) q (entries s.groups)
+              (ap is_some (sym (get-entries s.groups q)) ∙ group_before q h) under) ∙ no_child in cc
         ] refl);
     homes = λ pid q h. left q (w.homes pid q h) (λ e.
-        let f : true ≡ false = sym (value_passes nat_cmp (λ a. same_path a p) pid q (entries s.home) (sym (get-entries s.home pid) ∙ h) (ap (λ a. same_path a p) e ∙ same_path_itself p)) ∙ no_member in cc);
+        let f : true ≡ false =
+        sym (value_passes nat_cmp (λ a. same_path a p) pid q (entries s.home) (sym (get-entries s.home pid) ∙ h) (ap (λ a. same_path a p) e
+        ∙ same_path_itself p)) ∙ no_member in cc);
     few = subst (λ n. n ≤ slots + 1) (sym (len-remove path_cmp-IsTotalOrder s.groups p)) (one_less _ _ _ w.few);
     totals = λ q attr h. w.totals q attr (there_before q attr h);
     peaks = λ q attr h r. w.peaks q attr (there_before q attr h) r;

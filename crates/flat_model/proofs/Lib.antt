@@ -1,3 +1,5 @@
+pub mod Booleans
+pub mod Lists
 pub mod PathLaws
 pub mod PathMembers
 pub mod PathTextLaws

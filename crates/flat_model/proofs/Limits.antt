@@ -9,7 +9,9 @@ use Rattle.flat_model.specs.Path.{Path, is_root, parent, at_or_below, strictly_b
 use Rattle.flat_model.specs.State.{State, Attr, Limit, Limits, Unlimited, At}
 use Rattle.flat_model.specs.Counts.{current, descendant_count, is_group, has_process, exceeds, reaches, asks, is_full, blocked_fork}
 use Rattle.flat_model.specs.File.{readable, on_root, is_pids_max}
-use Rattle.flat_model.specs.Command.{Command, MakeGroup, RemoveGroup, Fork, Exit, Move, SetLimit, Kill, Show, Locate, Undo, Refusal, Exists, NoGroup, Descendants, Depth, NoSlot, RootFixed, HasChildren, HasProcesses, NoProcess, PidInUse, OverPidsMax, NoFile, NotReadable}
+use Rattle.flat_model.specs.Command.{Command, MakeGroup, RemoveGroup, Fork, Exit, Move, SetLimit, Kill, Show, Locate, Undo, Refusal, Exists}
+use Rattle.flat_model.specs.Command.{NoGroup, Descendants, Depth, NoSlot, RootFixed, HasChildren, HasProcesses, NoProcess, PidInUse}
+use Rattle.flat_model.specs.Command.{OverPidsMax, NoFile, NotReadable}
 use Rattle.flat_model.specs.Refuse.{refuse}
 use Rattle.flat_model.specs.Step.{refusal, after, after_refusal, home_of, limit_met, first_refusal, blocked_make, raise_peak}
 use Rattle.flat_model.specs.WellFormed.{WellFormed}
@@ -22,6 +24,7 @@ use Rattle.flat_model.proofs.Maps.{get-each}
 use Rattle.flat_model.proofs.Refusing.{absent}
 use Rattle.flat_model.proofs.Nearest.{first_path_found, first_path_none, first_is_nearest}
 use Rattle.flat_model.proofs.Kept.{counted}
+use Rattle.flat_model.proofs.Booleans.{both_by}
 
 -- ---- tests of a limit
 pub record IsPast (n : ℕ) (l : Limit) : Type 0 where
@@ -42,7 +45,7 @@ pub met_by : (n : ℕ) (l : Limit) → reaches n l ≡ true → IsMet n l
 met_by n Unlimited e = cc
 met_by n (At m) e = record { most = m; limit = refl; met = grind (arith, nat_tests) }
 
-within_by : (n : ℕ) (l : Limit) (m : ℕ) → exceeds n l ≡ false → l ≡ At m → n ≤ m
+pub within_by : (n : ℕ) (l : Limit) (m : ℕ) → exceeds n l ≡ false → l ≡ At m → n ≤ m
 within_by n Unlimited m e is = cc
 within_by n (At k) m e is = let same : k ≡ m = cc in let h : n ≤ k = grind (arith, nat_tests) in omega arith
 
@@ -62,10 +65,6 @@ asked_by test (Some attr) e = record { attr = attr; there = refl; yes = e }
 
 pub asked_no : (test : Attr → Bool) (o : Option Attr) (attr : Attr) → asks test o ≡ false → o ≡ Some attr → test attr ≡ false
 asked_no test o attr e is = sym (ap (asks test) is) ∙ e
-
-both_by : (a b : Bool) → (not a && b) ≡ true → (a ≡ false) × (b ≡ true)
-both_by true b e = cc
-both_by false b e = (refl, e)
 
 neither_by : (a b : Bool) → (not a && b) ≡ false → a ≡ false → b ≡ false
 neither_by a b e n = sym (ap (λ c. not c && b) n) ∙ e
@@ -91,7 +90,8 @@ limiting s g a e =
     }
 
 -- where none blocks a fork, each group above has room for one process more
-pub fork_fits : (s : State) (g : Path) → blocked_fork s g ≡ None → (a : Path) (attr : Attr) (m : ℕ) → at_or_below g a ≡ true → is_root a ≡ false → get s.groups a ≡ Some attr → attr.limits.pids ≡ At m → current s a + 1 ≤ m
+pub fork_fits : (s : State) (g : Path) → blocked_fork s g ≡ None → (a : Path) (attr : Attr) (m : ℕ) → at_or_below g a ≡ true
+    → is_root a ≡ false → get s.groups a ≡ Some attr → attr.limits.pids ≡ At m → current s a + 1 ≤ m
 fork_fits s g e a attr m above not_root there limit =
     let no = first_path_none (is_full s) (upward g) a e ((upward_are g a).1 above) in
     let left = neither_by (is_root a) (asks (λ attr. exceeds (current s a + 1) attr.limits.pids) (get s.groups a)) no not_root in
@@ -179,7 +179,8 @@ fork_open false false x y None e = (refl, refl, refl)
 fork_open false false x y (Some a) e = cc
 
 -- the tests that an accepted fork passed
-pub fork_passed : (slots : ℕ) (s : State) (from child : ℕ) → refusal slots s (Fork from child) ≡ None → (not (has_process s from) ≡ false) × (has_process s child ≡ false) × (blocked_fork s (home_of s from) ≡ None)
+pub fork_passed : (slots : ℕ) (s : State) (from child : ℕ) → refusal slots s (Fork from child) ≡ None → (not (has_process s from) ≡ false)
+    × (has_process s child ≡ false) × (blocked_fork s (home_of s from) ≡ None)
 fork_passed slots s from child e = fork_open (not (has_process s from)) (has_process s child) from child (blocked_fork s (home_of s from)) e
 
 -- a refusal keeps a state well formed

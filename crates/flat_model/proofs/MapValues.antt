@@ -4,7 +4,8 @@ use Rattle.std.specs.Prelude.{option_map}
 use Rattle.std.specs.declared.cmp.Ordering.{Ordering}
 use Rattle.std.specs.Ordering.{eq_by_cmp, is_lt}
 use Rattle.std.specs.Cmp.{IsTotalOrder}
-use Rattle.std.specs.FinMap.{FinMap, IsAntisymmetric, same_map, get, insert, remove, entries, keys, len, find, is_sorted, get-insert, get-remove, get-entries, len-entries, entries_sorted, entries-from_sorted, get-from_sorted}
+use Rattle.std.specs.FinMap.{FinMap, IsAntisymmetric, same_map, get, insert, remove, entries, keys, len, find, is_sorted, get-insert}
+use Rattle.std.specs.FinMap.{get-remove, get-entries, len-entries, entries_sorted, entries-from_sorted, get-from_sorted}
 use Rattle.std.specs.FinMap.Entries.{below_all}
 use Rattle.std.proofs.lemmas.List.{length-map}
 use Rattle.flat_model.specs.Mapped.{map_values}

@@ -6,7 +6,8 @@ use Rattle.std.specs.Ordering.{eq_by_cmp, is_eq, nat_cmp}
 use Rattle.std.specs.Prelude.{option_map}
 use Rattle.std.specs.Option.{option_or}
 use Rattle.std.specs.Cmp.{IsTotalOrder, nat_cmp_total, eq_by_cmp_equiv}
-use Rattle.std.specs.FinMap.{FinMap, IsAntisymmetric, nat_cmp-IsAntisymmetric, same_map, get, insert, remove, retain_keys, entries, find, from_entries, get-insert, get-remove, get-retain_keys, get-from_entries, get-entries}
+use Rattle.std.specs.FinMap.{FinMap, IsAntisymmetric, nat_cmp-IsAntisymmetric, same_map, get, insert, remove, retain_keys, entries, find}
+use Rattle.std.specs.FinMap.{from_entries, get-insert, get-remove, get-retain_keys, get-from_entries, get-entries}
 use Rattle.flat_model.specs.Path.{Path}
 use Rattle.flat_model.specs.Inverse.{place_all}
 

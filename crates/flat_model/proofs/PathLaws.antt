@@ -1,5 +1,6 @@
 -- The orders of names and paths, and what it is to be at or below a group.
-use Rattle.std.proofs.Common.{◌≡◌, ℕ, ◌-◌, ◌≤◌, Bool, true, false, not, ◌&&◌, ◌⊎◌, ◌↔◌, [], ◌∷◌, ◌++◌, length, take, drop, refl, ap, sym, ◌∙◌, subst, inl, inr, append_assoc, length-append, take-append-drop, arith}
+use Rattle.std.proofs.Common.{◌≡◌, ℕ, ◌-◌, ◌≤◌, Bool, true, false, not, ◌&&◌, ◌⊎◌, ◌↔◌, [], ◌∷◌, ◌++◌, length, take, drop, refl, ap, sym}
+use Rattle.std.proofs.Common.{◌∙◌, subst, inl, inr, append_assoc, length-append, take-append-drop, arith}
 use Rattle.std.specs.Cmp.{IsTotalOrder, first_so, second_so}
 use Rattle.std.specs.Cmp.Lexicographic.{nat_list_cmp_total, lists_total}
 use Rattle.std.specs.FinMap.{IsAntisymmetric, nat_cmp-IsAntisymmetric, slice_cmp-IsAntisymmetric}
@@ -115,7 +116,8 @@ at_or_below_either p (m ∷ q) [] h k = inl refl
 at_or_below_either [] (m ∷ q) (x ∷ r) h k = cc
 at_or_below_either (n ∷ p) (m ∷ q) (x ∷ r) h k =
     let e : m ≡ x = sym ((same_name_is n m).0 (first_so (same_name n m) (at_or_below p q) h)) ∙ (same_name_is n x).0 (first_so (same_name n x) (at_or_below p r) k) in
-    elim (at_or_below_either p q r (second_so (same_name n m) (at_or_below p q) h) (second_so (same_name n x) (at_or_below p r) k)) as (λ _. (at_or_below (m ∷ q) (x ∷ r) ≡ true) ⊎ (at_or_below (x ∷ r) (m ∷ q) ≡ true)) [
+    elim (at_or_below_either p q r (second_so (same_name n m) (at_or_below p q) h) (second_so (same_name n x) (at_or_below p r) k)) as
+    (λ _. (at_or_below (m ∷ q) (x ∷ r) ≡ true) ⊎ (at_or_below (x ∷ r) (m ∷ q) ≡ true)) [
       | inl g ↦ inl (ap (λ b. b && at_or_below q r) ((same_name_is m x).1 e) ∙ g)
       | inr g ↦ inr (ap (λ b. b && at_or_below r q) ((same_name_is x m).1 (sym e)) ∙ g)
     ]

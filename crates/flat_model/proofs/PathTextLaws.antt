@@ -5,7 +5,9 @@ use Rattle.std.specs.List.{position_from, AllByRecursion, slice_split, onto_firs
 use Rattle.std.specs.Option.{option_or}
 use Rattle.std.proofs.lemmas.Bool.Decides.{nat_tests}
 use Rattle.flat_model.specs.Path.{Name, Path}
-use Rattle.flat_model.specs.PathText.{is_slash, spelled, path_text, is_name_byte, is_bad_byte, is_dots, is_reserved, name_max, depth_max, text_max, IsName, IsPath, PathFault, NotRooted, EmptyName, BadByte, DotName, Reserved, NameTooLong, TooDeep, TooLong, name_fault, names_fault, is_rooted, names_in, path_fault, read_path}
+use Rattle.flat_model.specs.PathText.{is_slash, spelled, path_text, is_name_byte, is_bad_byte, is_dots, is_reserved, name_max, depth_max}
+use Rattle.flat_model.specs.PathText.{text_max, IsName, IsPath, PathFault, NotRooted, EmptyName, BadByte, DotName, Reserved, NameTooLong}
+use Rattle.flat_model.specs.PathText.{TooDeep, TooLong, name_fault, names_fault, is_rooted, names_in, path_fault, read_path}
 use Rattle.flat_model.specs.Refuse.{refuse, unless}
 
 -- ---- tests in their order
@@ -128,7 +130,8 @@ spelled_onto b [] xs e = cc
 spelled_onto b (part ∷ parts) xs e = cc
 
 -- one byte more: a slash begins a part, another byte goes onto the first
-glued_by : (b : ℕ) (xs : List ℕ) (t : Bool) → is_slash b ≡ t → spelled (slice_split is_slash xs) ≡ 47 ∷ xs → spelled (cond t ([] ∷ slice_split is_slash xs) (onto_first b (slice_split is_slash xs))) ≡ 47 ∷ b ∷ xs
+glued_by : (b : ℕ) (xs : List ℕ) (t : Bool) → is_slash b ≡ t → spelled (slice_split is_slash xs) ≡ 47 ∷ xs
+    → spelled (cond t ([] ∷ slice_split is_slash xs) (onto_first b (slice_split is_slash xs))) ≡ 47 ∷ b ∷ xs
 glued_by b xs true e h = ap (λ (x : List ℕ). 47 ∷ x) h ∙ ap (λ (x : ℕ). 47 ∷ x ∷ xs) (sym (slash_is b e))
 glued_by b xs false e h = spelled_onto b (slice_split is_slash xs) xs h
 

@@ -1,5 +1,6 @@
 -- The first names of a path of the grammar are one too, and one more name is by the test of `child_path`.
-use Rattle.std.proofs.Common.{◌≡◌, ℕ, ◌+◌, ◌≤◌, false, nat_lt, nat_le, ◌↔◌, List, [], ◌∷◌, ◌++◌, length, take, zero, suc, refl, ap, sym, ◌∙◌, arith, None, Ok, append_assoc, append-nil, length-append, length-take}
+use Rattle.std.proofs.Common.{◌≡◌, ℕ, ◌+◌, ◌≤◌, false, nat_lt, nat_le, ◌↔◌, List, [], ◌∷◌, ◌++◌, length, take, zero, suc, refl, ap, sym}
+use Rattle.std.proofs.Common.{◌∙◌, arith, None, Ok, append_assoc, append-nil, length-append, length-take}
 use Rattle.std.specs.List.{AllByRecursion}
 use Rattle.std.proofs.lemmas.Bool.Decides.{nat_tests}
 use Rattle.flat_model.specs.Path.{Name, Path}

@@ -1,5 +1,5 @@
 -- The peaks along a path: those that a record keeps are those that were there, and set again they are there again.
-use Rattle.std.proofs.Common.{◌≡◌, ℕ, zero, suc, ◌+◌, ◌-◌, ◌<◌, ◌≤◌, Bool, true, false, cond, not, ◌&&◌, [], ◌∷◌, map, length, get_or, take, Option, Some, refl, sym, ap, ◌∙◌, arith}
+use Rattle.std.proofs.Common.{◌≡◌, ℕ, zero, suc, ◌+◌, ◌-◌, ◌<◌, ◌≤◌, true, false, cond, [], ◌∷◌, map, length, get_or, take, Option, Some, refl, sym, ap, ◌∙◌, arith}
 use Rattle.std.specs.Prelude.{max, unwrap_or}
 use Rattle.std.proofs.lemmas.List.{get_or-map, get_or-reverse, get_or-take, length-map, length-reverse, length-take-le}
 use Rattle.std.specs.FinMap.{FinMap, get, from_entries, entries}
@@ -9,6 +9,7 @@ use Rattle.flat_model.specs.Counts.{current}
 use Rattle.flat_model.specs.Step.{attr_of, counts_for, raise_peak, raise_peaks, peaks_upward, set_peak, set_peaks}
 use Rattle.flat_model.proofs.PathLaws.{path_cmp-IsTotalOrder, path_cmp-IsAntisymmetric, at_or_below_take, at_or_below_length}
 use Rattle.flat_model.proofs.Maps.{each_there_back}
+use Rattle.flat_model.proofs.Booleans.{both_by}
 
 -- ---- the groups from p upward
 
@@ -55,10 +56,6 @@ peak_upward s p i d h =
     get_or-map (λ q. (attr_of s q).peak) (take (length p) (upward p)) i [] d (omega (arith, many))
     ∙ ap (λ q. (attr_of s q).peak) (group_upward p i [] h)
 
-pub both_by : (a b : Bool) → (not a && b) ≡ true → (a ≡ false) × (b ≡ true)
-both_by true b e = cc
-both_by false b e = (refl, e)
-
 pub named : (q : Path) → is_root q ≡ false → 0 < length q
 named [] e = cc
 named (n ∷ q) e = omega arith
@@ -80,7 +77,11 @@ peak_there s a q x d c there =
 module _ (s t : State) (a : Path) where
   raised_back : (q : Path) (x : Attr) → get s.groups q ≡ Some x → set_peak a (peaks_upward s a) q (raise_peak t a q x) ≡ x
   raised_back q x there =
-      elim (counts_for a q) as (λ b. counts_for a q ≡ b → ◌≡◌ {A = Attr} (record x { peak = cond b (get_or (peaks_upward s a) (length a - length q) (cond b (max x.peak (current t q)) x.peak)) (cond b (max x.peak (current t q)) x.peak) }) x) [
+      elim (counts_for a q) as (λ b. counts_for a q ≡ b
+      → ◌≡◌ {A = Attr} (record x {
+        peak = cond b (get_or (peaks_upward s a) (length a - length q) (cond b (max x.peak (current t q)) x.peak))
+            (cond b (max x.peak (current t q)) x.peak);
+      }) x) [
         | true ↦ λ c. ap (λ (n : ℕ). record x { peak = n }) (peak_there s a q x (max x.peak (current t q)) c there)
         | false ↦ λ c. refl
       ] refl
@@ -88,5 +89,7 @@ module _ (s t : State) (a : Path) where
   -- the groups after a raise, with the peaks that were there
   pub groups_back : t.groups ≡ s.groups → (set_peaks a (peaks_upward s a) (raise_peaks a t)).groups ≡ s.groups
   groups_back same =
-      ap (λ (g : FinMap path_cmp Attr). from_entries {R = path_cmp} (map (λ e. (e.0, set_peak a (peaks_upward s a) e.0 e.1)) (entries (from_entries {R = path_cmp} (map (λ e. (e.0, raise_peak t a e.0 e.1)) (entries g)))))) same
+      ap (λ (g : FinMap path_cmp Attr). from_entries {R = path_cmp}
+      (map (λ e. (e.0, set_peak a (peaks_upward s a) e.0 e.1))
+      (entries (from_entries {R = path_cmp} (map (λ e. (e.0, raise_peak t a e.0 e.1)) (entries g)))))) same
       ∙ each_there_back path_cmp-IsTotalOrder path_cmp-IsAntisymmetric (raise_peak t a) (set_peak a (peaks_upward s a)) s.groups raised_back

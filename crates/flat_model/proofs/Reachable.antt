@@ -61,7 +61,8 @@ module _ (slots : ℕ) where
 
   outcome_well : (m : Machine) (c : Command) (o : Option Refusal) → refusal slots m.state c ≡ o → MachineWellFormed slots m → MachineWellFormed slots (outcome m c o).0
   outcome_well m c None e w = elim (changes c) as (λ b. MachineWellFormed slots (cond b (recorded m c (after m.state c)) m)) [ true ↦ recorded_well m c _ w (kept slots m.state c w.0 e) | false ↦ w ]
-  outcome_well m c (Some r) e w = elim (is_counted r) as (λ b. MachineWellFormed slots (cond b (recorded m c (after_refusal m.state r)) m)) [ true ↦ recorded_well m c _ w (kept_refused slots m.state c r w.0 e) | false ↦ w ]
+  outcome_well m c (Some r) e w = elim (is_counted r) as (λ b. MachineWellFormed slots (cond b (recorded m c (after_refusal m.state r)) m))
+      [ true ↦ recorded_well m c _ w (kept_refused slots m.state c r w.0 e) | false ↦ w ]
 
   undone_well : (s : State) (past : List (Command × State)) → WellFormed slots s → PastWellFormed slots past → MachineWellFormed slots (undone s past).0
   undone_well s [] w p = (w, p)

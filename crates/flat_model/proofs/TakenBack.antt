@@ -7,7 +7,9 @@ use Rattle.std.specs.FinMap.{FinMap, get, insert, nat_cmp-IsAntisymmetric}
 use Rattle.flat_model.specs.Path.{Path, path_cmp, same_path}
 use Rattle.flat_model.specs.State.{State, Attr, Limit, fresh}
 use Rattle.flat_model.specs.File.{LimitFile, PidsMax, MaxDescendants, MaxDepth}
-use Rattle.flat_model.specs.Command.{Command, MakeGroup, RemoveGroup, Fork, Exit, Move, SetLimit, Kill, Show, Locate, Undo, Refusal, Exists, NoGroup, Descendants, Depth, NoSlot, RootFixed, HasChildren, HasProcesses, NoProcess, PidInUse, OverPidsMax, NoFile, NotReadable, changes, is_counted}
+use Rattle.flat_model.specs.Command.{Command, MakeGroup, RemoveGroup, Fork, Exit, Move, SetLimit, Kill, Show, Locate, Undo, Refusal, Exists}
+use Rattle.flat_model.specs.Command.{NoGroup, Descendants, Depth, NoSlot, RootFixed, HasChildren, HasProcesses, NoProcess, PidInUse}
+use Rattle.flat_model.specs.Command.{OverPidsMax, NoFile, NotReadable, changes, is_counted}
 use Rattle.flat_model.specs.Step.{refusal, after, after_refusal, count_up, count_down, with_limit, limit_at, attr_of, home_of, lives_in, counts_for, raise_peaks, peaks_upward, set_peaks}
 use Rattle.flat_model.specs.Refuse.{refuse}
 use Rattle.flat_model.specs.Inverse.{Inverse, Made, Removed, Forked, Exited, Moved, Limited, Counted, Killed, back, inverse, inverse_of_refusal, lost}

@@ -31,7 +31,9 @@ none_by n floor h = let l : n ≤ floor = grind (arith, nat_tests) in omega arit
 undos_reach : (slots floor : ℕ) (s : State) (past : List (Command × State)) → end_of slots (record { state = s; past = past }) (undos (length past - floor)) ≡ back_to floor s past
 undos_reach slots floor s [] = let z : 0 - floor ≡ 0 = omega arith in ap (λ n. end_of slots (record { state = s; past = [] }) (undos n)) z
 undos_reach slots floor s (e ∷ past) =
-    elim (leb (length (e ∷ past)) floor) as (λ b. leb (length (e ∷ past)) floor ≡ b → end_of slots (record { state = s; past = e ∷ past }) (undos (length (e ∷ past) - floor)) ≡ cond b (record { state = s; past = e ∷ past }) (back_to floor e.1 past)) [
+    elim (leb (length (e ∷ past)) floor) as (λ b. leb (length (e ∷ past)) floor ≡ b
+    → end_of slots (record { state = s; past = e ∷ past }) (undos (length (e ∷ past) - floor))
+    ≡ cond b (record { state = s; past = e ∷ past }) (back_to floor e.1 past)) [
       | true ↦ λ t. ap (λ n. end_of slots (record { state = s; past = e ∷ past }) (undos n)) (none_by (length (e ∷ past)) floor t)
       | false ↦ λ t. ap (λ n. end_of slots (record { state = s; past = e ∷ past }) (undos n)) (less_by (length past) floor t) ∙ undos_reach slots floor e.1 past
     ] refl
@@ -41,8 +43,12 @@ recorded_keeps : (floor : ℕ) (m : Machine) (c : Command) (s : State) → floor
 recorded_keeps floor m c s h = ap (λ b. cond b (recorded m c s) (back_to floor m.state m.past)) (above (length m.past) floor h)
 
 outcome_keeps : (floor : ℕ) (m : Machine) (c : Command) (o : Option Refusal) → floor ≤ length m.past → machine_back_to floor (outcome m c o).0 ≡ machine_back_to floor m
-outcome_keeps floor m c None h = elim (changes c) as (λ b. machine_back_to floor (cond b (recorded m c (after m.state c)) m) ≡ machine_back_to floor m) [ true ↦ recorded_keeps floor m c _ h | false ↦ refl ]
-outcome_keeps floor m c (Some r) h = elim (is_counted r) as (λ b. machine_back_to floor (cond b (recorded m c (after_refusal m.state r)) m) ≡ machine_back_to floor m) [ true ↦ recorded_keeps floor m c _ h | false ↦ refl ]
+outcome_keeps floor m c None h =
+    elim (changes c) as (λ b. machine_back_to floor (cond b (recorded m c (after m.state c)) m) ≡ machine_back_to floor m)
+    [ true ↦ recorded_keeps floor m c _ h | false ↦ refl ]
+outcome_keeps floor m c (Some r) h =
+    elim (is_counted r) as (λ b. machine_back_to floor (cond b (recorded m c (after_refusal m.state r)) m) ≡ machine_back_to floor m)
+    [ true ↦ recorded_keeps floor m c _ h | false ↦ refl ]
 
 undone_keeps : (floor : ℕ) (s : State) (past : List (Command × State)) → floor ≤ length (undone s past).0.past → machine_back_to floor (undone s past).0 ≡ back_to floor s past
 undone_keeps floor s [] h = refl
@@ -50,7 +56,8 @@ undone_keeps floor s (e ∷ past) h = sym (ap (λ b. cond b (record { state = s;
 
 tick_keeps : (slots floor : ℕ) (m : Machine) (c : Command) → floor ≤ length m.past → floor ≤ length (tick slots m c).0.past → machine_back_to floor (tick slots m c).0 ≡ machine_back_to floor m
 tick_keeps slots floor m c h k =
-    elim (is_undo c) as (λ b. floor ≤ length (cond b (undone m.state m.past) (outcome m c (refusal slots m.state c))).0.past → machine_back_to floor (cond b (undone m.state m.past) (outcome m c (refusal slots m.state c))).0 ≡ machine_back_to floor m) [
+    elim (is_undo c) as (λ b. floor ≤ length (cond b (undone m.state m.past) (outcome m c (refusal slots m.state c))).0.past
+    → machine_back_to floor (cond b (undone m.state m.past) (outcome m c (refusal slots m.state c))).0 ≡ machine_back_to floor m) [
       | true ↦ λ l. undone_keeps floor m.state m.past l
       | false ↦ λ l. outcome_keeps floor m c (refusal slots m.state c) h
     ] k
@@ -64,7 +71,8 @@ itself s [] = refl
 itself s (e ∷ past) = ap (λ b. cond b (record { state = s; past = e ∷ past }) (back_to (length (e ∷ past)) e.1 past)) (full (length (e ∷ past)))
 
 -- a run, and as many undos as it left records
-pub run_undone : (slots : ℕ) (m : Machine) (cs : List Command) → TakesBackItsOwn slots (length m.past) m cs → end_of slots (end_of slots m cs) (undos (length (end_of slots m cs).past - length m.past)) ≡ m
+pub run_undone : (slots : ℕ) (m : Machine) (cs : List Command) → TakesBackItsOwn slots (length m.past) m cs
+    → end_of slots (end_of slots m cs) (undos (length (end_of slots m cs).past - length m.past)) ≡ m
 run_undone slots m cs own =
     undos_reach slots (length m.past) (end_of slots m cs).state (end_of slots m cs).past
     ∙ run_keeps slots (length m.past) m cs (omega arith) own

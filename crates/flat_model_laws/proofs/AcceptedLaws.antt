@@ -9,13 +9,15 @@ use Rattle.flat_model.specs.Path.{Path, parent, is_root, same_path, strictly_bel
 use Rattle.flat_model.specs.State.{State, Limit}
 use Rattle.flat_model.specs.Counts.{is_group, has_process}
 use Rattle.flat_model.specs.File.{File, LimitFile, is_pids_max, readable, on_root}
-use Rattle.flat_model.specs.Command.{MakeGroup, RemoveGroup, Fork, Exit, Move, SetLimit, Kill, Show, Locate, Refusal, Exists, NoGroup, NoSlot, RootFixed, HasChildren, HasProcesses, NoProcess, NoFile, NotReadable}
+use Rattle.flat_model.specs.Command.{MakeGroup, RemoveGroup, Fork, Exit, Move, SetLimit, Kill, Show, Locate, Refusal, Exists, NoGroup}
+use Rattle.flat_model.specs.Command.{NoSlot, RootFixed, HasChildren, HasProcesses, NoProcess, NoFile, NotReadable}
 use Rattle.flat_model.specs.Refuse.{refuse}
 use Rattle.flat_model.specs.Step.{refusal, after, home_of, blocked_make}
 use Rattle.flat_model.specs.Limiting.{IsWithinPids, HasRoomBelow}
 use Rattle.flat_model.proofs.PathLaws.{same_path_is, same_path_itself}
 use Rattle.flat_model.proofs.Sums.{count_by-cons}
-use Rattle.flat_model.proofs.Counting.{to_false, found_by, counted_by}
+use Rattle.flat_model.proofs.Counting.{found_by, counted_by}
+use Rattle.flat_model.proofs.Booleans.{to_false, or_right, apart}
 use Rattle.flat_model.proofs.Refusing.{passed, beyond, neither, affirmed}
 use Rattle.flat_model.proofs.Limits.{fork_passed, fork_within}
 use Rattle.flat_model_laws.proofs.LimitsExact.{accepted_is}
@@ -50,13 +52,6 @@ not_root p = (λ f e. differ p e f, λ n. to_false (is_root p) (λ t. n (root_is
     differ (x ∷ p) e f = cc
 
 -- ---- none of the keys, and none of the values
-
-or_right : (b c : Bool) → c ≡ true → (b || c) ≡ true
-or_right true c e = refl
-or_right false c e = e
-
-apart : (b : Bool) → b ≡ true → b ≡ false → ⊥
-apart b t f = cc
 
 record Passing (test : Path → Bool) (ps : List Path) : Type 0 where
   path : Path
@@ -115,7 +110,9 @@ nobody_at s p = (
 below_bound : (n m : ℕ) → (ltb n m ≡ false) ↔ (m ≤ n)
 below_bound n m = (λ e. grind (arith, nat_tests), λ h. grind (arith, nat_tests))
 
-make_tests : (a b : Bool) (q : Path) (o : Option Refusal) (d : Bool) → refuse a Exists (refuse (not b) (NoGroup q) (option_or o (refuse d NoSlot None))) ≡ None → (a ≡ false) × (b ≡ true) × (o ≡ None) × (d ≡ false)
+make_tests : (a b : Bool) (q : Path) (o : Option Refusal) (d : Bool)
+    → refuse a Exists (refuse (not b) (NoGroup q) (option_or o (refuse d NoSlot None))) ≡ None → (a ≡ false) × (b ≡ true) × (o ≡ None)
+    × (d ≡ false)
 make_tests a b q o d e =
     let one = beyond a Exists (refuse (not b) (NoGroup q) (option_or o (refuse d NoSlot None))) e in
     let two = beyond (not b) (NoGroup q) (option_or o (refuse d NoSlot None)) one in (
@@ -125,16 +122,20 @@ make_tests a b q o d e =
       passed d NoSlot None (neither o (refuse d NoSlot None) two),
     )
 
-pub make_is : (slots : ℕ) (s : State) (p : Path) → (refusal slots s (MakeGroup p) ≡ None) ↔ ((is_group s p ≡ false) × (is_group s (parent p) ≡ true) × HasRoomBelow s (parent p) × (len s.groups ≤ slots))
+pub make_is : (slots : ℕ) (s : State) (p : Path) → (refusal slots s (MakeGroup p) ≡ None)
+    ↔ ((is_group s p ≡ false) × (is_group s (parent p) ≡ true) × HasRoomBelow s (parent p) × (len s.groups ≤ slots))
 make_is slots s p = (
-  λ e. let t = make_tests (is_group s p) (is_group s (parent p)) (parent p) (blocked_make s p) (ltb slots (len s.groups)) e in (t.0, t.1, (free_is s p).1 t.2, (below_bound slots (len s.groups)).0 t.3),
+  λ e. let t = make_tests (is_group s p) (is_group s (parent p)) (parent p) (blocked_make s p) (ltb slots (len s.groups)) e in
+      (t.0, t.1, (free_is s p).1 t.2, (below_bound slots (len s.groups)).0 t.3),
   λ h.
       let room = (free_is s p).0 h.2 in
       let few = (below_bound slots (len s.groups)).1 h.3 in
       λ i. refuse (h.0 i) Exists (refuse (not (h.1 i)) (NoGroup (parent p)) (option_or (room i) (refuse (few i) NoSlot None))),
 )
 
-remove_tests : (a b c d : Bool) (p : Path) → refuse a RootFixed (refuse (not b) (NoGroup p) (refuse c HasChildren (refuse d HasProcesses None))) ≡ None → (a ≡ false) × (b ≡ true) × (c ≡ false) × (d ≡ false)
+remove_tests : (a b c d : Bool) (p : Path)
+    → refuse a RootFixed (refuse (not b) (NoGroup p) (refuse c HasChildren (refuse d HasProcesses None))) ≡ None → (a ≡ false) × (b ≡ true)
+    × (c ≡ false) × (d ≡ false)
 remove_tests a b c d p e =
     let one = beyond a RootFixed (refuse (not b) (NoGroup p) (refuse c HasChildren (refuse d HasProcesses None))) e in
     let two = beyond (not b) (NoGroup p) (refuse c HasChildren (refuse d HasProcesses None)) one in (
@@ -144,7 +145,9 @@ remove_tests a b c d p e =
       passed d HasProcesses None (beyond c HasChildren (refuse d HasProcesses None) two),
     )
 
-pub remove_is : (slots : ℕ) (s : State) (p : Path) → (refusal slots s (RemoveGroup p) ≡ None) ↔ ((p ≢ []) × (is_group s p ≡ true) × ((q : Path) → is_group s q ≡ true → strictly_below q p ≡ false) × ((pid : ℕ) → get s.home pid ≢ Some p))
+pub remove_is : (slots : ℕ) (s : State) (p : Path) → (refusal slots s (RemoveGroup p) ≡ None)
+    ↔ ((p ≢ []) × (is_group s p ≡ true) × ((q : Path) → is_group s q ≡ true → strictly_below q p ≡ false)
+    × ((pid : ℕ) → get s.home pid ≢ Some p))
 remove_is slots s p = (
   λ e.
       let t = remove_tests (is_root p) (is_group s p) (list_any (λ q. strictly_below q p) (keys s.groups)) (list_any (λ q. same_path q p) (values s.home)) p e in
@@ -158,7 +161,11 @@ remove_is slots s p = (
 
 pub kill_is : (slots : ℕ) (s : State) (p : Path) → (refusal slots s (Kill p) ≡ None) ↔ ((p ≢ []) × (is_group s p ≡ true))
 kill_is slots s p = (
-  λ e. ((not_root p).0 (passed (is_root p) NoFile (refuse (not (is_group s p)) (NoGroup p) None) e), affirmed (is_group s p) (passed (not (is_group s p)) (NoGroup p) None (beyond (is_root p) NoFile (refuse (not (is_group s p)) (NoGroup p) None) e))),
+  λ e. (
+    (not_root p).0 (passed (is_root p) NoFile (refuse (not (is_group s p)) (NoGroup p) None) e),
+    affirmed (is_group s p)
+        (passed (not (is_group s p)) (NoGroup p) None (beyond (is_root p) NoFile (refuse (not (is_group s p)) (NoGroup p) None) e)),
+  ),
   λ h. let root = (not_root p).1 h.0 in λ i. refuse (root i) NoFile (refuse (not (h.1 i)) (NoGroup p) None),
 )
 
@@ -196,7 +203,8 @@ show_is slots s p file = (
 
 -- ---- processes
 
-pub fork_is : (slots : ℕ) (s : State) (from child : ℕ) → (refusal slots s (Fork from child) ≡ None) ↔ ((has_process s from ≡ true) × (has_process s child ≡ false) × IsWithinPids (after s (Fork from child)) (home_of s from))
+pub fork_is : (slots : ℕ) (s : State) (from child : ℕ) → (refusal slots s (Fork from child) ≡ None)
+    ↔ ((has_process s from ≡ true) × (has_process s child ≡ false) × IsWithinPids (after s (Fork from child)) (home_of s from))
 fork_is slots s from child = (
   λ e. let t = fork_passed slots s from child e in (affirmed (has_process s from) t.0, t.1, fork_within slots s from child e),
   λ h. (accepted_is slots s from child h.0 h.1).1 h.2,

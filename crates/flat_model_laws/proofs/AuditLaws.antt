@@ -1,15 +1,18 @@
 -- What the definition of an audit says: there is a fault or the receipts are the entries, never both, and one fault at most.
-use Rattle.std.proofs.Common.{◌≡◌, ◌≢◌, ◌∙◌, ℕ, ◌+◌, ◌<◌, ◌≤◌, ◌⊎◌, inl, inr, List, [], ◌∷◌, ◌++◌, map, take, drop, length, Bool, true, false, slice_get, get_or, Some, None, Option, suc, zero, refl, sym, ap, subst, arith, cond, ◌==◌}
+use Rattle.std.proofs.Common.{◌≡◌, ◌≢◌, ◌∙◌, ℕ, ◌+◌, ◌<◌, ◌≤◌, ◌⊎◌, inl, inr, List, [], ◌∷◌, ◌++◌, map, take, drop, length, Bool, true}
+use Rattle.std.proofs.Common.{false, slice_get, get_or, Some, None, Option, suc, zero, refl, sym, ap, subst, arith, cond, ◌==◌}
 use Rattle.std.specs.Prelude.{count_by}
 use Rattle.std.specs.List.{All, Any, AllPairs, Contains}
 use Rattle.std.specs.List.Sorted.{IsStrictlyIncreasing}
-use Rattle.std.proofs.lemmas.List.{append-nil, append_assoc, take_at, get_or_append_left, get_or_at, get_or-map, length-map, length-append, length_push, take-append-le, take-append-drop, get_or_default}
+use Rattle.std.proofs.lemmas.List.{append-nil, append_assoc, take_at, get_or_append_left, get_or_at, get_or-map, length-map, length-append}
+use Rattle.std.proofs.lemmas.List.{length_push, take-append-le, take-append-drop, get_or_default}
 use Rattle.std.proofs.lemmas.List.Elements.{All-nil, All-cons, Contains-append_right}
 use Rattle.std.proofs.lemmas.List.Sums.{sum_by-cons}
 use Rattle.std.proofs.lemmas.Option.{slice_get_within, none-some, same_Some}
 use Rattle.std.proofs.lemmas.Bool.{cases_eq, cases_order, cases_lt, ne_eqb, eq-eqb}
 use Rattle.flat_model.specs.Log.{Entry, Receipt, Session, entry_of}
-use Rattle.flat_model.specs.Audit.{ReceiptFault, Stranger, Mismatch, Missing, Handed, list_of, handed_from, handed, numbers, IsEntry, InOrder, AreSound, AreEntries, IsStranger, Differs, Reached, FirstFault}
+use Rattle.flat_model.specs.Audit.{ReceiptFault, Stranger, Mismatch, Missing, Handed, list_of, handed_from, handed, numbers, IsEntry}
+use Rattle.flat_model.specs.Audit.{InOrder, AreSound, AreEntries, IsStranger, Differs, Reached, FirstFault}
 use Rattle.flat_model.proofs.AuditSound.{IsNext, sound_more, sound_none, sound_front, sound_last, number_at, not_named, hand}
 
 -- ---- a receipt is a stranger exactly where it cannot come next
@@ -28,7 +31,8 @@ known_no_stranger n log hs h known in_log order (inr (inr (inr b))) =
 pub next_no_stranger : (n : ℕ) (log : List Entry) (hs : List Handed) (h : Handed) → IsNext n log hs h → IsStranger n log hs h → ⊥
 next_no_stranger n log hs h x s = known_no_stranger n log hs h x.entry.0 (slice_get_within log h.receipt.number (entry_of h.session h.receipt) x.entry.1) x.order s
 
-pub no_stranger_next : (n : ℕ) (log : List Entry) (hs : List Handed) (h : Handed) → (IsStranger n log hs h → ⊥) → slice_get log h.receipt.number ≡ Some (entry_of h.session h.receipt) → IsNext n log hs h
+pub no_stranger_next : (n : ℕ) (log : List Entry) (hs : List Handed) (h : Handed) → (IsStranger n log hs h → ⊥)
+    → slice_get log h.receipt.number ≡ Some (entry_of h.session h.receipt) → IsNext n log hs h
 no_stranger_next n log hs h denied same = record {
   entry = (elim (cases_lt h.session n) as (λ _. h.session < n) [ inl lt ↦ lt | inr ge ↦ absurd (denied (inl ge)) ], same);
   order = λ k d lt. (
@@ -165,7 +169,8 @@ below a b = elim (cases_lt a b) as (λ _. (a < b) ⊎ (a < b → ⊥)) [ inl lt 
 greater : (hs : List Handed) (place i : ℕ) → Any (λ e. (e.list ≡ place) × (i < e.receipt.number)) hs ⊎ (Any (λ e. (e.list ≡ place) × (i < e.receipt.number)) hs → ⊥)
 greater [] place i = inr (λ w. omega (arith, w.2))
 greater (h ∷ hs) place i =
-    elim (both (cases_eq h.list place) (below i h.receipt.number)) as (λ _. Any (λ e. (e.list ≡ place) × (i < e.receipt.number)) (h ∷ hs) ⊎ (Any (λ e. (e.list ≡ place) × (i < e.receipt.number)) (h ∷ hs) → ⊥)) [
+    elim (both (cases_eq h.list place) (below i h.receipt.number)) as (λ _. Any (λ e. (e.list ≡ place) × (i < e.receipt.number)) (h ∷ hs)
+    ⊎ (Any (λ e. (e.list ≡ place) × (i < e.receipt.number)) (h ∷ hs) → ⊥)) [
       | inl here ↦ inl (0, h, omega arith, refl, here)
       | inr other ↦ elim (greater hs place i) as (λ _. Any (λ e. (e.list ≡ place) × (i < e.receipt.number)) (h ∷ hs) ⊎ (Any (λ e. (e.list ≡ place) × (i < e.receipt.number)) (h ∷ hs) → ⊥)) [
         | inl w ↦ inl (suc w.0, w.1, (let lt : w.0 < length hs = w.2 in omega (arith, lt)), w.3, w.4)
@@ -295,7 +300,8 @@ pub entries-each : (n : ℕ) (log : List Entry) (ss : List Session) (i : ℕ) �
     → Any (λ h. (h.receipt.number ≡ i) × (h.session < n) × (slice_get log i ≡ Some (entry_of h.session h.receipt))) (handed ss)
 entries-each n log ss i e lt = found (handed ss) i e.sound.entries (e.each i lt)
   where
-    found : (hs : List Handed) (i : ℕ) → All (IsEntry n log) hs → Contains (numbers hs) i → Any (λ h. (h.receipt.number ≡ i) × (h.session < n) × (slice_get log i ≡ Some (entry_of h.session h.receipt))) hs
+    found : (hs : List Handed) (i : ℕ) → All (IsEntry n log) hs → Contains (numbers hs) i
+        → Any (λ h. (h.receipt.number ≡ i) × (h.session < n) × (slice_get log i ≡ Some (entry_of h.session h.receipt))) hs
     found [] i all c = absurd (omega (arith, c.1))
     found (h ∷ hs) i all c =
         let in_hs : c.0 < length (h ∷ hs) = omega (arith, c.1, length-map (h ∷ hs) (λ (x : Handed). x.receipt.number)) in

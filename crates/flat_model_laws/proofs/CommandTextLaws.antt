@@ -12,7 +12,9 @@ use Rattle.flat_model.specs.FileText.{limit_text}
 use Rattle.flat_model.specs.Values.{number_fault, ValueFault}
 use Rattle.flat_model.specs.Command.{Command, MakeGroup, RemoveGroup, Fork, Exit, Move, SetLimit, Kill, Show, Locate, Undo}
 use Rattle.flat_model.specs.CommandText.{command_words, command_text, IsPid, IsSayable}
-use Rattle.flat_model.specs.Trace.{Word, TextFault, BadSyntax, BadPath, BadFile, BadDirection, BadValue, Skip, Run, Fault, line_max, path_word, pid_word, file_word, write_of, show_of, command_of_words, is_comment, line_of, line_with, read_line}
+use Rattle.flat_model.specs.Trace.{Word, TextFault, BadSyntax, BadPath, BadFile, BadDirection, BadValue, Skip, Run, Fault, line_max}
+use Rattle.flat_model.specs.Trace.{path_word, pid_word, file_word, write_of, show_of, command_of_words, is_comment, line_of, line_with}
+use Rattle.flat_model.specs.Trace.{read_line}
 use Rattle.flat_model.proofs.PathTextLaws.{read_path-path_text}
 use Rattle.flat_model_laws.proofs.WordLaws.{are_words, words_in-joined}
 use Rattle.flat_model_laws.proofs.CommandTextLawsWords.{total, length-joined, words_are, words_fit}
@@ -23,7 +25,8 @@ use Rattle.flat_model_laws.proofs.ValueLaws.{read_pid-decimal, read_limit-limit_
 not_past : (len : ℕ) → len ≤ line_max → nat_lt line_max len ≡ false
 not_past len h = grind (arith, nat_tests)
 
-said : (first : Word) (rest : List Word) → are_words (first ∷ rest) ≡ true → is_comment first ≡ false → total (first ∷ rest) ≤ line_max → read_line (join_with_byte 0x20 (first ∷ rest)) ≡ line_of (command_of_words first rest)
+said : (first : Word) (rest : List Word) → are_words (first ∷ rest) ≡ true → is_comment first ≡ false → total (first ∷ rest) ≤ line_max
+    → read_line (join_with_byte 0x20 (first ∷ rest)) ≡ line_of (command_of_words first rest)
 said first rest words plain short =
     let text = join_with_byte 0x20 (first ∷ rest) in
     let fits : length text ≤ line_max = let k = length-joined (first ∷ rest) in omega arith in
@@ -59,12 +62,14 @@ file_word_is f = ap (some_or BadFile) (file_named-file_name f)
 -- ---- the commands
 
 -- a line of these words is the command that they say
-said_command : (c : Command) (first : Word) (rest : List Word) → IsSayable c → command_words c ≡ first ∷ rest → is_comment first ≡ false → read_line (command_text c) ≡ line_of (command_of_words first rest)
+said_command : (c : Command) (first : Word) (rest : List Word) → IsSayable c → command_words c ≡ first ∷ rest → is_comment first ≡ false
+    → read_line (command_text c) ≡ line_of (command_of_words first rest)
 said_command c first rest h is plain =
     ap (λ (ws : List Word). read_line (join_with_byte 0x20 ws)) is
     ∙ said first rest (subst (λ (ws : List Word). are_words ws ≡ true) is (words_are c h)) plain (subst (λ (ws : List Word). total ws ≤ line_max) is (words_fit c h))
 
-said_write : (c : Command) (p : Path) (f : File) (value : Word) → IsSayable c → IsPath p → command_words c ≡ codes "write" ∷ path_text p ∷ file_name f ∷ value ∷ [] → read_line (command_text c) ≡ line_of (write_of p f value)
+said_write : (c : Command) (p : Path) (f : File) (value : Word) → IsSayable c → IsPath p
+    → command_words c ≡ codes "write" ∷ path_text p ∷ file_name f ∷ value ∷ [] → read_line (command_text c) ≡ line_of (write_of p f value)
 unfolding command_of_words
 said_write c p f value h path is =
     said_command c (codes "write") (path_text p ∷ file_name f ∷ value ∷ []) h is refl

@@ -9,7 +9,9 @@ use Rattle.flat_model.specs.File.{LimitFile, File, Procs, Events, Stat, LimitOf,
 use Rattle.flat_model.specs.Values.{read_pid, read_limit, read_kill}
 use Rattle.flat_model.specs.Command.{Command, MakeGroup, RemoveGroup, Fork, Exit, Move, SetLimit, Kill, Show, Locate, Undo}
 use Rattle.flat_model.specs.CommandText.{IsPid, IsLimit, IsSayable}
-use Rattle.flat_model.specs.Trace.{Word, TextFault, BadSyntax, BadPath, BadValue, BadDirection, Skip, Run, Fault, line_max, path_word, file_word, pid_word, write_of, show_of, mkdir_of, rmdir_of, fork_of, exit_of, write_words, cat_of, where_of, undo_of, command_of_words, is_comment, line_of, line_with, read_line, words_in}
+use Rattle.flat_model.specs.Trace.{Word, TextFault, BadSyntax, BadPath, BadValue, BadDirection, Skip, Run, Fault, line_max, path_word}
+use Rattle.flat_model.specs.Trace.{file_word, pid_word, write_of, show_of, mkdir_of, rmdir_of, fork_of, exit_of, write_words, cat_of}
+use Rattle.flat_model.specs.Trace.{where_of, undo_of, command_of_words, is_comment, line_of, line_with, read_line, words_in}
 use Rattle.flat_model.proofs.PathLaws.{same_name_is}
 use Rattle.flat_model.proofs.PathTextLaws.{read_path_is}
 use Rattle.flat_model_laws.proofs.ValueLaws.{read_pid_only, read_limit_only}
@@ -95,7 +97,9 @@ said_rmdir (p ∷ q ∷ rest) = said_fault BadSyntax
 said_fork : (ws : List Word) → IsSaid (fork_of ws)
 said_fork [] = said_fault BadSyntax
 said_fork (from ∷ []) = said_fault BadSyntax
-said_fork (from ∷ child ∷ []) = said_then IsPid (λ m. map_ok (Fork m) (pid_word child)) (pid_word from) (pid_word_only from) (λ m h. said_map IsPid (Fork m) (pid_word child) (pid_word_only child) (λ n k. (h, k)))
+said_fork (from ∷ child ∷ []) =
+    said_then IsPid (λ m. map_ok (Fork m) (pid_word child)) (pid_word from) (pid_word_only from)
+    (λ m h. said_map IsPid (Fork m) (pid_word child) (pid_word_only child) (λ n k. (h, k)))
 said_fork (from ∷ child ∷ more ∷ rest) = said_fault BadSyntax
 
 said_exit : (ws : List Word) → IsSaid (exit_of ws)

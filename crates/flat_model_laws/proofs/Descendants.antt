@@ -55,7 +55,8 @@ split_count c (k ∷ ks) =
 
 -- a group stands once among the groups
 once : (s : State) (c : Path) → is_group s c ≡ true → count_by (λ p. same_path p c) (keys s.groups) ≡ 1
-once s c h = once_among path_cmp-IsTotalOrder path_cmp-IsAntisymmetric (λ p. same_path p c) c (λ k t. (same_path_is k c).0 t) (same_path_itself c) (entries s.groups) (entries_sorted s.groups) (ap is_some (sym (get-entries s.groups c)) ∙ h)
+once s c h = once_among path_cmp-IsTotalOrder path_cmp-IsAntisymmetric (λ p. same_path p c) c (λ k t. (same_path_is k c).0 t)
+    (same_path_itself c) (entries s.groups) (entries_sorted s.groups) (ap is_some (sym (get-entries s.groups c)) ∙ h)
 
 each_child : (s : State) (cs : List Path) → AllByRecursion (λ c. is_group s c ≡ true) cs → sum_by (λ c. count_by (λ p. at_or_below p c) (keys s.groups)) cs ≡ length cs + sum_by (descendant_count s) cs
 each_child s [] h = omega arith

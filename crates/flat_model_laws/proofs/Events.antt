@@ -6,13 +6,15 @@ use Rattle.std.specs.FinMap.{get, insert, remove, get-insert, get-remove}
 use Rattle.flat_model.specs.Path.{Path, path_cmp, HasPrefix, at_or_below, same_path, is_root}
 use Rattle.flat_model.specs.State.{State, Attr, Limit, fresh}
 use Rattle.flat_model.specs.File.{LimitFile, PidsMax, MaxDescendants, MaxDepth}
-use Rattle.flat_model.specs.Command.{Command, MakeGroup, RemoveGroup, Fork, Exit, Move, SetLimit, Kill, Show, Locate, Undo, Refusal, Exists, NoGroup, Descendants, Depth, NoSlot, RootFixed, HasChildren, HasProcesses, NoProcess, PidInUse, OverPidsMax, NoFile, NotReadable, is_undo, changes, is_counted}
+use Rattle.flat_model.specs.Command.{Command, MakeGroup, RemoveGroup, Fork, Exit, Move, SetLimit, Kill, Show, Locate, Undo, Refusal, Exists}
+use Rattle.flat_model.specs.Command.{NoGroup, Descendants, Depth, NoSlot, RootFixed, HasChildren, HasProcesses, NoProcess, PidInUse}
+use Rattle.flat_model.specs.Command.{OverPidsMax, NoFile, NotReadable, is_undo, changes, is_counted}
 use Rattle.flat_model.specs.Step.{refusal, after, after_refusal, home_of, with_limit, at_each, counts_for, count_up, raise_peak, raise_peaks}
 use Rattle.flat_model.specs.Machine.{Machine, new_machine, recorded, outcome, undone, tick, end_of, after_all}
 use Rattle.flat_model.specs.EventTotals.{IsCounted, HasEventsUpTo, PastEventsBounded, EventsBounded}
 use Rattle.flat_model.proofs.PathLaws.{path_cmp-IsTotalOrder, path_cmp-IsAntisymmetric, same_path_is, at_or_below_is}
 use Rattle.flat_model.proofs.Maps.{get-each}
-use Rattle.flat_model.proofs.Counting.{to_false}
+use Rattle.flat_model.proofs.Booleans.{to_false, both_by}
 use Rattle.flat_model.proofs.Reachable.{only_root}
 
 -- ---- one counted fork
@@ -57,10 +59,6 @@ counted_up a p x = record {
 number_is : (n m : ℕ) (b : Bool) → (b ≡ true → m ≡ n + 1) → (b ≡ false → m ≡ n) → m ≡ n + cond b 1 0
 number_is n m true h g = h refl
 number_is n m false h g = let e = g refl in omega (arith, e)
-
-both_by : (a b : Bool) → (not a && b) ≡ true → (a ≡ false) × (b ≡ true)
-both_by true b e = cc
-both_by false b e = (refl, e)
 
 prefix_of : (a p : Path) → counts_for a p ≡ true → HasPrefix a p × (is_root p ≡ false)
 prefix_of a p h = let two = both_by (is_root p) (at_or_below a p) h in ((at_or_below_is a p).0 two.1, two.0)

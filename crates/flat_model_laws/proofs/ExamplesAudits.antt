@@ -78,7 +78,9 @@ pub taken_out : (a b c : Exchange) → FirstFault 2 (three a b c) (session 0 (re
 taken_out a b c = (
   second (three a b c) (H 0 0 0 a) (H 1 1 1 b) (first (three a b c) 0 0 0 a (omega arith) refl) (omega arith, refl) ((let ne : 0 ≢ 1 = omega arith in ne), λ e. absurd (omega (arith, e))),
   omega arith,
-  not_named (H 0 0 0 a ∷ H 1 1 1 b ∷ []) 2 (All-cons (λ (e : Handed). e.receipt.number ≢ 2) (H 0 0 0 a) (H 1 1 1 b ∷ []) (let ne : 0 ≢ 2 = omega arith in ne) (All-cons (λ (e : Handed). e.receipt.number ≢ 2) (H 1 1 1 b) [] (let ne : 1 ≢ 2 = omega arith in ne) (All-nil (λ (e : Handed). e.receipt.number ≢ 2)))),
+  not_named (H 0 0 0 a ∷ H 1 1 1 b ∷ []) 2 (All-cons (λ (e : Handed). e.receipt.number ≢ 2) (H 0 0 0 a) (H 1 1 1 b ∷ [])
+      (let ne : 0 ≢ 2 = omega arith in ne) (All-cons (λ (e : Handed). e.receipt.number ≢ 2) (H 1 1 1 b) [] (let ne : 1 ≢ 2 = omega arith in
+      ne) (All-nil (λ (e : Handed). e.receipt.number ≢ 2)))),
   below_two (λ i. Contains (0 ∷ 1 ∷ []) i) (named0 0 0 (1 ∷ []) refl) (named1 0 1 1 [] refl),
 )
 

@@ -2,13 +2,16 @@
 use Rattle.std.proofs.Common.{◌≡◌, ℕ, arith, Bool, true, false, cond, not, List, [], ◌∷◌, map, length, refl, ap, sym, ◌∙◌, Option, None}
 use Rattle.std.specs.Prelude.{filter, max, count_by}
 use Rattle.std.specs.Cmp.{IsTotalOrder, nat_cmp_total}
-use Rattle.std.specs.FinMap.{FinMap, IsAntisymmetric, nat_cmp-IsAntisymmetric, insert, retain_keys, remove, from_entries, entries, put, entries_sorted, get-entries, get-retain_keys, get-remove, entries-insert, empty, len-empty, len-entries}
+use Rattle.std.specs.FinMap.{FinMap, IsAntisymmetric, nat_cmp-IsAntisymmetric, insert, retain_keys, remove, from_entries, entries, put}
+use Rattle.std.specs.FinMap.{entries_sorted, get-entries, get-retain_keys, get-remove, entries-insert, empty, len-empty, len-entries}
 use Rattle.std.specs.FinMap.Entries.{same_entries, is_sorted-where_key, find-where_key}
 use Rattle.std.specs.Ordering.{nat_cmp, eq_by_cmp}
 use Rattle.std.specs.declared.cmp.Ordering.{Ordering}
 use Rattle.flat_model.specs.Path.{Path, path_cmp, at_or_below}
 use Rattle.flat_model.specs.State.{State, Attr, fresh, start}
-use Rattle.flat_model.specs.Command.{Command, MakeGroup, RemoveGroup, Fork, Exit, Move, SetLimit, Kill, Show, Locate, Undo, Refusal, Exists, NoGroup, Descendants, Depth, NoSlot, RootFixed, HasChildren, HasProcesses, NoProcess, PidInUse, OverPidsMax, NoFile, NotReadable}
+use Rattle.flat_model.specs.Command.{Command, MakeGroup, RemoveGroup, Fork, Exit, Move, SetLimit, Kill, Show, Locate, Undo, Refusal, Exists}
+use Rattle.flat_model.specs.Command.{NoGroup, Descendants, Depth, NoSlot, RootFixed, HasChildren, HasProcesses, NoProcess, PidInUse}
+use Rattle.flat_model.specs.Command.{OverPidsMax, NoFile, NotReadable}
 use Rattle.flat_model.specs.Step.{with_limit, is_within, after, count_up, after_refusal, counts_for, raise_peak, raise_peaks, home_of}
 use Rattle.flat_model.proofs.PathLaws.{path_cmp-IsTotalOrder, path_cmp-IsAntisymmetric}
 use Rattle.flat_model_laws.proofs.ExamplesReads.{Lists, lists_of, reads_in, reads_are, home_by, attr_by}
@@ -101,7 +104,9 @@ after_leaves s (RemoveGroup p) = in_groups s (entries-remove path_cmp-IsTotalOrd
 after_leaves s (Fork from child) = come_leaves s child (home_of s from) ∙ ap (λ r. come (lists_of s) child (home_by r from)) (reads_are s)
 after_leaves s (Exit pid) = in_home s (entries-remove nat_cmp_total nat_cmp-IsAntisymmetric s.home pid)
 after_leaves s (Move p pid) = come_leaves s pid p
-after_leaves s (SetLimit p file value) = in_groups s (entries-insert path_cmp-IsTotalOrder s.groups p _ ∙ ap (λ r. put path_cmp p (with_limit file value (attr_by r p)) (entries s.groups)) (reads_are s))
+after_leaves s (SetLimit p file value) =
+    in_groups s (entries-insert path_cmp-IsTotalOrder s.groups p _
+    ∙ ap (λ r. put path_cmp p (with_limit file value (attr_by r p)) (entries s.groups)) (reads_are s))
 after_leaves s (Kill g) = in_home s (entries-retain_keys nat_cmp_total nat_cmp-IsAntisymmetric s.home _ ∙ ap (λ r. filter (λ e. not (is_within g (r.home e.0))) (entries s.home)) (reads_are s))
 after_leaves s (Show p file) = refl
 after_leaves s (Locate pid) = refl

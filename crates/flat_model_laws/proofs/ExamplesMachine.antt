@@ -49,7 +49,8 @@ undone_lists : (s : State) (past : List (Command × State)) → step_lists (undo
 undone_lists s [] = refl
 undone_lists s (e ∷ past) = refl
 
-recorded_lists : (m : Machine) (c : Command) (s : State) (l : Lists) (b : Bool) → lists_of s ≡ l → machine_lists (cond b (recorded m c s) m) ≡ cond b (list_recorded (machine_lists m) c l) (machine_lists m)
+recorded_lists : (m : Machine) (c : Command) (s : State) (l : Lists) (b : Bool) → lists_of s ≡ l
+    → machine_lists (cond b (recorded m c s) m) ≡ cond b (list_recorded (machine_lists m) c l) (machine_lists m)
 recorded_lists m c s l true e = λ i. list_recorded (machine_lists m) c (e i)
 recorded_lists m c s l false e = refl
 

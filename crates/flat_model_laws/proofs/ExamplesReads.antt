@@ -11,7 +11,9 @@ use Rattle.flat_model.specs.Refuse.{refuse}
 use Rattle.flat_model.specs.State.{State, Attr, fresh}
 use Rattle.flat_model.specs.Counts.{exceeds, reaches, asks, first_path}
 use Rattle.flat_model.specs.File.{File, Procs, Events, Stat, LimitOf, KillFile, PidsCurrent, PidsPeak, PidsEvents, PidsEventsLocal, is_pids_max, readable, on_root}
-use Rattle.flat_model.specs.Command.{Command, MakeGroup, RemoveGroup, Fork, Exit, Move, SetLimit, Kill, Show, Locate, Undo, Refusal, Exists, NoGroup, Descendants, Depth, NoSlot, RootFixed, HasChildren, HasProcesses, NoProcess, PidInUse, OverPidsMax, NoFile, NotReadable, Reply, Done, Text}
+use Rattle.flat_model.specs.Command.{Command, MakeGroup, RemoveGroup, Fork, Exit, Move, SetLimit, Kill, Show, Locate, Undo, Refusal, Exists}
+use Rattle.flat_model.specs.Command.{NoGroup, Descendants, Depth, NoSlot, RootFixed, HasChildren, HasProcesses, NoProcess, PidInUse}
+use Rattle.flat_model.specs.Command.{OverPidsMax, NoFile, NotReadable, Reply, Done, Text}
 use Rattle.flat_model.specs.Step.{first_refusal, refusal, limit_at}
 use Rattle.flat_model.specs.FileText.{line, limit_text, flag_text, file_text}
 use Rattle.flat_model.specs.Machine.{accepted}

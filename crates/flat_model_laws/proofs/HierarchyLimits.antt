@@ -58,9 +58,12 @@ deepens s q a = asks (λ attr. reaches (length q - length a) attr.limits.depth) 
 pub room_for : (s : State) (q a : Path) → limit_met s q a ≡ None → HasRoomFor s q a
 room_for s q a e = record {
   count = λ attr m there limit.
-      room_by _ attr.limits.descendants m (asked_no (λ attr. reaches (descendant_count s a) attr.limits.descendants) (get s.groups a) attr (passed (counts s a) (Descendants a) (refuse (deepens s q a) (Depth a) None) e) there) limit;
+      room_by _ attr.limits.descendants m (asked_no (λ attr. reaches (descendant_count s a) attr.limits.descendants) (get s.groups a) attr
+      (passed (counts s a) (Descendants a) (refuse (deepens s q a) (Depth a) None) e) there) limit;
   deep = λ attr m there limit.
-      room_by _ attr.limits.depth m (asked_no (λ attr. reaches (length q - length a) attr.limits.depth) (get s.groups a) attr (passed (deepens s q a) (Depth a) None (beyond (counts s a) (Descendants a) (refuse (deepens s q a) (Depth a) None) e)) there) limit;
+      room_by _ attr.limits.depth m (asked_no (λ attr. reaches (length q - length a) attr.limits.depth) (get s.groups a) attr
+      (passed (deepens s q a) (Depth a) None (beyond (counts s a) (Descendants a) (refuse (deepens s q a) (Depth a) None) e)) there)
+      limit;
 }
 
 pub room_below : (s : State) (p : Path) → blocked_make s p ≡ None → HasRoomBelow s (parent p)
@@ -98,7 +101,8 @@ met_depth s q a h near free e =
       room = λ most limit. room_by _ k.attr.limits.descendants most (asked_no (λ attr. reaches (descendant_count s a) attr.limits.descendants) (get s.groups a) k.attr free k.there) limit;
     }
 
-met_of : (s : State) (q a : Path) (b c : Bool) (r : Refusal) → (b ≡ true → MeetsDescendants s q a) → (b ≡ false → c ≡ true → MeetsDepth s q a) → refuse b (Descendants a) (refuse c (Depth a) None) ≡ Some r → MeetsLimit s q r
+met_of : (s : State) (q a : Path) (b c : Bool) (r : Refusal) → (b ≡ true → MeetsDescendants s q a)
+    → (b ≡ false → c ≡ true → MeetsDepth s q a) → refuse b (Descendants a) (refuse c (Depth a) None) ≡ Some r → MeetsLimit s q r
 met_of s q a true c r h k e = subst (MeetsLimit s q) (let same : Descendants a ≡ r = cc in same) (h refl)
 met_of s q a false true r h k e = subst (MeetsLimit s q) (let same : Depth a ≡ r = cc in same) (k refl refl)
 met_of s q a false false r h k e = cc
@@ -119,7 +123,8 @@ by_limit (Descendants a) = true
 by_limit (Depth a) = true
 by_limit _ = false
 
-from_limit : (a b : Bool) (q : Path) (o : Option Refusal) (d : Bool) (r : Refusal) → by_limit r ≡ true → refuse a Exists (refuse b (NoGroup q) (option_or o (refuse d NoSlot None))) ≡ Some r → o ≡ Some r
+from_limit : (a b : Bool) (q : Path) (o : Option Refusal) (d : Bool) (r : Refusal) → by_limit r ≡ true
+    → refuse a Exists (refuse b (NoGroup q) (option_or o (refuse d NoSlot None))) ≡ Some r → o ≡ Some r
 from_limit true b q o d r l e = let same : Exists ≡ r = cc in let f : false ≡ true = ap by_limit same ∙ l in cc
 from_limit false true q o d r l e = let same : NoGroup q ≡ r = cc in let f : false ≡ true = ap by_limit same ∙ l in cc
 from_limit false false q None true r l e = let same : NoSlot ≡ r = cc in let f : false ≡ true = ap by_limit same ∙ l in cc

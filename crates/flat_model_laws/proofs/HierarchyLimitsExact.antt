@@ -31,7 +31,8 @@ free_of false true a h k = cc
 room_at : (s : State) (q a : Path) → HasRoomFor s q a → limit_met s q a ≡ None
 room_at s q a h =
     free_of (counts s a) (deepens s q a) a
-    (asks_not (λ attr. reaches (descendant_count s a) attr.limits.descendants) (get s.groups a) (λ attr there. reaches_not (descendant_count s a) attr.limits.descendants (λ m limit. h.count attr m there limit)))
+    (asks_not (λ attr. reaches (descendant_count s a) attr.limits.descendants) (get s.groups a)
+    (λ attr there. reaches_not (descendant_count s a) attr.limits.descendants (λ m limit. h.count attr m there limit)))
     (asks_not (λ attr. reaches (length q - length a) attr.limits.depth) (get s.groups a) (λ attr there. reaches_not (length q - length a) attr.limits.depth (λ m limit. h.deep attr m there limit)))
 
 pub room_is : (s : State) (q a : Path) → HasRoomFor s q a ↔ (limit_met s q a ≡ None)
@@ -70,7 +71,8 @@ first_refuses test ps a r first is =
     ] refl
 
 -- a group that refuses, with none below it on the walk that does
-refuses_at : (s : State) (p a : Path) (r : Refusal) → at_or_below (parent p) a ≡ true → limit_met s (parent p) a ≡ Some r → ((b : Path) → at_or_below (parent p) b ≡ true → strictly_below b a ≡ true → HasRoomFor s (parent p) b) → blocked_make s p ≡ Some r
+refuses_at : (s : State) (p a : Path) (r : Refusal) → at_or_below (parent p) a ≡ true → limit_met s (parent p) a ≡ Some r
+    → ((b : Path) → at_or_below (parent p) b ≡ true → strictly_below b a ≡ true → HasRoomFor s (parent p) b) → blocked_make s p ≡ Some r
 refuses_at s p a r above is near =
     let q = parent p in
     first_refuses (limit_met s q) (upward q) a r
@@ -82,7 +84,9 @@ asks_is test o attr there holds = ap (asks test) there ∙ holds
 meets_descendants : (s : State) (p a : Path) → MeetsDescendants s (parent p) a → blocked_make s p ≡ Some (Descendants a)
 meets_descendants s p a m =
     let q = parent p in
-    let full : counts s a ≡ true = asks_is (λ attr. reaches (descendant_count s a) attr.limits.descendants) (get s.groups a) m.attr m.there (ap (reaches (descendant_count s a)) m.limit ∙ reaches_is (descendant_count s a) m.most m.met) in
+    let full : counts s a ≡ true =
+    asks_is (λ attr. reaches (descendant_count s a) attr.limits.descendants) (get s.groups a) m.attr m.there
+    (ap (reaches (descendant_count s a)) m.limit ∙ reaches_is (descendant_count s a) m.most m.met) in
     refuses_at s p a (Descendants a) m.above (ap (λ b. refuse b (Descendants a) (refuse (deepens s q a) (Depth a) None)) full) m.nearest
 
 meets_depth : (s : State) (p a : Path) → MeetsDepth s (parent p) a → blocked_make s p ≡ Some (Depth a)
@@ -90,7 +94,9 @@ meets_depth s p a m =
     let q = parent p in
     let own : (attr : Attr) → get s.groups a ≡ Some attr → m.attr ≡ attr = λ attr there. let e : Some m.attr ≡ Some attr = sym m.there ∙ there in cc in
     let free : counts s a ≡ false = ap (asks (λ attr. reaches (descendant_count s a) attr.limits.descendants)) m.there ∙ reaches_not (descendant_count s a) m.attr.limits.descendants m.room in
-    let deep : deepens s q a ≡ true = asks_is (λ attr. reaches (length q - length a) attr.limits.depth) (get s.groups a) m.attr m.there (ap (reaches (length q - length a)) m.limit ∙ reaches_is (length q - length a) m.most m.met) in
+    let deep : deepens s q a ≡ true =
+    asks_is (λ attr. reaches (length q - length a) attr.limits.depth) (get s.groups a) m.attr m.there
+    (ap (reaches (length q - length a)) m.limit ∙ reaches_is (length q - length a) m.most m.met) in
     refuses_at s p a (Depth a) m.above (ap (λ b. refuse b (Descendants a) (refuse (deepens s q a) (Depth a) None)) free ∙ ap (λ b. refuse b (Depth a) None) deep) m.nearest
 
 pub descendants_is : (s : State) (p a : Path) → MeetsDescendants s (parent p) a ↔ (blocked_make s p ≡ Some (Descendants a))

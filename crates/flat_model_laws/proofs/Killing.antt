@@ -1,5 +1,5 @@
 -- A kill leaves nobody in the group and below it, and everybody else where they are.
-use Rattle.std.proofs.Common.{◌≡◌, ℕ, Bool, true, false, cond, not, Option, Some, None, refl, sym, ap, ◌∙◌}
+use Rattle.std.proofs.Common.{◌≡◌, ℕ, true, false, cond, not, Option, Some, None, refl, sym, ap, ◌∙◌}
 use Rattle.std.specs.FinMap.{get, get-retain_keys, nat_cmp-IsAntisymmetric}
 use Rattle.flat_model.specs.Path.{Path, at_or_below}
 use Rattle.flat_model.specs.State.{State}
@@ -7,6 +7,7 @@ use Rattle.flat_model.specs.Counts.{populated}
 use Rattle.flat_model.specs.Command.{Kill}
 use Rattle.flat_model.specs.Step.{after, lives_in, is_within}
 use Rattle.flat_model.proofs.Counting.{populated_is}
+use Rattle.flat_model.proofs.Booleans.{to_false}
 
 -- the home of a process after a kill
 home_killed : (s : State) (g : Path) (pid : ℕ) → get (after s (Kill g)).home pid ≡ cond (not (lives_in s g pid)) (get s.home pid) None
@@ -19,10 +20,6 @@ left_is g (Some p) at e =
       | true ↦ λ t is. cc
       | false ↦ λ t is. let same : p ≡ at = cc in ap (λ (q : Path). at_or_below q g) (sym same) ∙ t
     ] refl e
-
-to_false : (b : Bool) → (b ≡ true → ⊥) → b ≡ false
-to_false true h = absurd (h refl)
-to_false false h = refl
 
 pub nobody_left : (s : State) (g : Path) → populated (after s (Kill g)) g ≡ false
 nobody_left s g = to_false (populated (after s (Kill g)) g) (λ e.

@@ -14,6 +14,7 @@ use Rattle.flat_model.proofs.PathLaws.{path_cmp-IsTotalOrder, path_cmp-IsAntisym
 use Rattle.flat_model.proofs.Maps.{get-each}
 use Rattle.flat_model.proofs.Limits.{limiting, fork_within, current_forked, asked_no}
 use Rattle.flat_model_laws.proofs.NearestLaws.{asks_not, nearest_found}
+use Rattle.flat_model.proofs.Limits.{within_by}
 
 past_is : (n m : ℕ) (l : Limit) → l ≡ At m → m < n → exceeds n l ≡ true
 past_is n m l e h = ap (exceeds n) e ∙ (let h : m < n = h in grind (arith, nat_tests))
@@ -41,15 +42,13 @@ exceeds_not : (n : ℕ) (l : Limit) → ((m : ℕ) → l ≡ At m → n ≤ m) �
 exceeds_not n Unlimited h = refl
 exceeds_not n (At m) h = let l : n ≤ m = h m refl in grind (arith, nat_tests)
 
-within_by : (n : ℕ) (l : Limit) (m : ℕ) → exceeds n l ≡ false → l ≡ At m → n ≤ m
-within_by n Unlimited m e is = cc
-within_by n (At k) m e is = let same : k ≡ m = cc in let h : n ≤ k = grind (arith, nat_tests) in omega arith
-
 -- the same by the test of each group above
 pub within_is : (s : State) (g : Path) → IsWithinPids s g ↔ ((a : Path) → at_or_below g a ≡ true → is_root a ≡ false → asks (λ attr. exceeds (current s a) attr.limits.pids) (get s.groups a) ≡ false)
 within_is s g = (
-  λ h a above not_root. asks_not (λ attr. exceeds (current s a) attr.limits.pids) (get s.groups a) (λ attr there. exceeds_not (current s a) attr.limits.pids (λ m limit. h a attr m above not_root there limit)),
-  λ h a attr m above not_root there limit. within_by (current s a) attr.limits.pids m (asked_no (λ attr. exceeds (current s a) attr.limits.pids) (get s.groups a) attr (h a above not_root) there) limit,
+  λ h a above not_root. asks_not (λ attr. exceeds (current s a) attr.limits.pids) (get s.groups a)
+      (λ attr there. exceeds_not (current s a) attr.limits.pids (λ m limit. h a attr m above not_root there limit)),
+  λ h a attr m above not_root there limit. within_by (current s a) attr.limits.pids m
+      (asked_no (λ attr. exceeds (current s a) attr.limits.pids) (get s.groups a) attr (h a above not_root) there) limit,
 )
 
 -- a fork that would leave each group above within its limit is blocked by none
@@ -60,7 +59,9 @@ fits s from child free h =
       | Some a ↦ λ e.
           let l = limiting s (home_of s from) a e in
           let now : get (after s (Fork from child)).groups a ≡ Some (raise_peak (record s { home = insert s.home child (home_of s from) }) (home_of s from) a l.attr) =
-          get-each path_cmp-IsTotalOrder path_cmp-IsAntisymmetric (raise_peak (record s { home = insert s.home child (home_of s from) }) (home_of s from)) s.groups a ∙ ap (option_map (raise_peak (record s { home = insert s.home child (home_of s from) }) (home_of s from) a)) l.there in
+          get-each path_cmp-IsTotalOrder path_cmp-IsAntisymmetric (raise_peak (record s { home = insert s.home child (home_of s from) })
+          (home_of s from)) s.groups a
+          ∙ ap (option_map (raise_peak (record s { home = insert s.home child (home_of s from) }) (home_of s from) a)) l.there in
           let most = h a (raise_peak (record s { home = insert s.home child (home_of s from) }) (home_of s from) a l.attr) l.most l.above l.not_root now l.limit in
           let past = l.past in
           let one : ◌≡◌ {A = ℕ} (cond (at_or_below (home_of s from) a) 1 0) 1 = ap (λ b. cond b 1 0) l.above in
@@ -74,7 +75,8 @@ fork_free true false x y (Some p) h k e = cc
 fork_free true true x y o h k e = cc
 fork_free false b x y o h k e = cc
 
-pub accepted_is : (slots : ℕ) (s : State) (from child : ℕ) → has_process s from ≡ true → has_process s child ≡ false → (refusal slots s (Fork from child) ≡ None) ↔ IsWithinPids (after s (Fork from child)) (home_of s from)
+pub accepted_is : (slots : ℕ) (s : State) (from child : ℕ) → has_process s from ≡ true → has_process s child ≡ false
+    → (refusal slots s (Fork from child) ≡ None) ↔ IsWithinPids (after s (Fork from child)) (home_of s from)
 accepted_is slots s from child has free = (
   fork_within slots s from child,
   λ h. fork_free (has_process s from) (has_process s child) from child (blocked_fork s (home_of s from)) has free (fits s from child free h),

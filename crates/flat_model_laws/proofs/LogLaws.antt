@@ -25,7 +25,9 @@ log_end-push slots log e =
     ∙ end_of-push slots new_machine (commands log) e.command
 
 -- what the machine says to the longer log, and what stands in it
-machine_says : (slots : ℕ) (log : List Entry) (e : Entry) → replies slots new_machine (commands (log ++ e ∷ [])) ≡ replies slots new_machine (commands log) ++ (tick slots (log_end slots log) e.command).1 ∷ []
+machine_says : (slots : ℕ) (log : List Entry) (e : Entry)
+    → replies slots new_machine (commands (log ++ e ∷ [])) ≡ replies slots new_machine (commands log)
+    ++ (tick slots (log_end slots log) e.command).1 ∷ []
 machine_says slots log e =
     ap (replies slots new_machine) (map-append (λ (x : Entry). x.command) log (e ∷ []))
     ∙ replies-push slots new_machine (commands log) e.command

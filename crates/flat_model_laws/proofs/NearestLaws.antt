@@ -6,16 +6,15 @@ use Rattle.flat_model.specs.Counts.{first_path, asks}
 use Rattle.flat_model.proofs.PathLaws.{at_or_below_either, strictly_below_is, same_path_is}
 use Rattle.flat_model.proofs.PathMembers.{upward_are}
 use Rattle.flat_model.proofs.Nearest.{first_path_found, first_path_none, first_is_nearest}
-
-apart : (b : Bool) → b ≡ true → b ≡ false → ⊥
-apart b t f = cc
+use Rattle.flat_model.proofs.Booleans.{apart}
 
 -- of two groups, one is strictly below the other or they are one
 strictly : (b a : Path) → at_or_below b a ≡ true → same_path b a ≡ false → strictly_below b a ≡ true
 strictly b a h n = (strictly_below_is b a).1 (h, n)
 
 -- a group that passes, with none below it on the walk that does, is what the walk finds
-pub nearest_found : (test : Path → Bool) (g a : Path) → at_or_below g a ≡ true → test a ≡ true → ((b : Path) → at_or_below g b ≡ true → strictly_below b a ≡ true → test b ≡ false) → first_path test (upward g) ≡ Some a
+pub nearest_found : (test : Path → Bool) (g a : Path) → at_or_below g a ≡ true → test a ≡ true
+    → ((b : Path) → at_or_below g b ≡ true → strictly_below b a ≡ true → test b ≡ false) → first_path test (upward g) ≡ Some a
 nearest_found test g a above passes near =
     elim (first_path test (upward g)) as (λ o. first_path test (upward g) ≡ o → o ≡ Some a) [
       | None ↦ λ e. absurd (apart (test a) passes (first_path_none test (upward g) a e ((upward_are g a).1 above)))

@@ -10,7 +10,7 @@ use Rattle.flat_model.specs.Command.{MakeGroup}
 use Rattle.flat_model.specs.Step.{after}
 use Rattle.flat_model.proofs.PathLaws.{path_cmp-IsTotalOrder, path_cmp-IsAntisymmetric}
 use Rattle.flat_model.proofs.Maps.{get-own, key_of}
-use Rattle.flat_model.proofs.Counting.{to_false}
+use Rattle.flat_model.proofs.Booleans.{to_false}
 use Rattle.flat_model.proofs.Reachable.{only_root, some_attr}
 
 pub root_bare : get start.groups [] ≡ Some fresh

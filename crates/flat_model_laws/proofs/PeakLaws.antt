@@ -7,7 +7,8 @@ use Rattle.flat_model.specs.Path.{Path, path_cmp, HasPrefix, is_root}
 use Rattle.flat_model.specs.State.{State, Attr, Limit, fresh}
 use Rattle.flat_model.specs.Counts.{current}
 use Rattle.flat_model.specs.File.{LimitFile, PidsMax, MaxDescendants, MaxDepth}
-use Rattle.flat_model.specs.Command.{Command, SetLimit, RemoveGroup, Refusal, Exists, NoGroup, Descendants, Depth, NoSlot, RootFixed, HasChildren, HasProcesses, NoProcess, PidInUse, OverPidsMax, NoFile, NotReadable}
+use Rattle.flat_model.specs.Command.{Command, SetLimit, RemoveGroup, Refusal, Exists, NoGroup, Descendants, Depth, NoSlot, RootFixed}
+use Rattle.flat_model.specs.Command.{HasChildren, HasProcesses, NoProcess, PidInUse, OverPidsMax, NoFile, NotReadable}
 use Rattle.flat_model.specs.Step.{after, after_refusal, at_each, counts_for, count_up, raise_peak, raise_peaks, peaks_upward, set_peak, set_peaks, with_limit}
 use Rattle.flat_model.specs.Machine.{after_all}
 use Rattle.flat_model.specs.RaisedPeaks.{IsRaised}
@@ -51,7 +52,9 @@ pub limited : (s : State) (g : Path) (file : LimitFile) (value : Limit) (p : Pat
 limited s g file value p x y there now =
     elim (eq_by_cmp path_cmp p g) as (λ b. eq_by_cmp path_cmp p g ≡ b → cond b (Some (with_limit file value (unwrap_or (get s.groups g) fresh))) (get s.groups p) ≡ Some y → y.peak ≡ x.peak) [
       | true ↦ λ t e.
-          let own : unwrap_or (get s.groups g) fresh ≡ x = ap (λ (q : Path). unwrap_or (get s.groups q) fresh) (sym (key_of path_cmp-IsAntisymmetric p g t)) ∙ ap (λ (o : Option Attr). unwrap_or o fresh) there in
+          let own : unwrap_or (get s.groups g) fresh ≡ x =
+          ap (λ (q : Path). unwrap_or (get s.groups q) fresh) (sym (key_of path_cmp-IsAntisymmetric p g t))
+          ∙ ap (λ (o : Option Attr). unwrap_or o fresh) there in
           let same : with_limit file value (unwrap_or (get s.groups g) fresh) ≡ y = cc in
           ap (λ (z : Attr). z.peak) (sym same) ∙ limit_keeps file value (unwrap_or (get s.groups g) fresh) ∙ ap (λ (z : Attr). z.peak) own
       | false ↦ λ t e. let same : x ≡ y = cc in ap (λ (z : Attr). z.peak) (sym same)

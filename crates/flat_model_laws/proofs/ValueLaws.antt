@@ -1,5 +1,6 @@
 -- The decimal of a number in its range is read as that number, and the text of a limit as that limit.
-use Rattle.std.proofs.Common.{◌≡◌, ◌≢◌, ℕ, suc, zero, ◌<◌, ◌≤◌, ◌^◌, true, false, cond, not, ◌&&◌, ◌==◌, List, [], ◌∷◌, length, get_or, refl, ap, sym, subst, ◌∙◌, arith, Option, None, Result, Ok, Err, inl, inr}
+use Rattle.std.proofs.Common.{◌≡◌, ◌≢◌, ℕ, suc, zero, ◌<◌, ◌≤◌, ◌^◌, true, false, cond, not, ◌&&◌, ◌==◌, List, [], ◌∷◌, length, get_or}
+use Rattle.std.proofs.Common.{refl, ap, sym, subst, ◌∙◌, arith, Option, None, Result, Ok, Err, inl, inr}
 use Rattle.std.specs.Prelude.{codes, decimal, nat_lt, nat_le}
 use Rattle.std.specs.Char.{is_ascii_digit}
 use Rattle.std.specs.Fmt.{digits}
@@ -14,7 +15,9 @@ use Rattle.flat_model.specs.Path.{same_name}
 use Rattle.flat_model.specs.State.{Limit, Unlimited, At}
 use Rattle.flat_model.specs.File.{LimitFile, PidsMax, MaxDescendants, MaxDepth}
 use Rattle.flat_model.specs.FileText.{limit_text}
-use Rattle.flat_model.specs.Values.{pid_max, limit_max, hierarchy_limit_max, is_space, trimmed, begins_with_zero, number_fault, read_number, read_pid, read_kill, limit_from, read_limit_in, read_limit, ValueFault, Empty, NotANumber, LeadingZero, OutOfRange}
+use Rattle.flat_model.specs.Values.{pid_max, limit_max, hierarchy_limit_max, is_space, trimmed, begins_with_zero, number_fault, read_number}
+use Rattle.flat_model.specs.Values.{read_pid, read_kill, limit_from, read_limit_in, read_limit, ValueFault, Empty, NotANumber, LeadingZero}
+use Rattle.flat_model.specs.Values.{OutOfRange}
 use Rattle.flat_model.specs.CommandText.{IsPid, IsLimit, IsLimitText}
 use Rattle.flat_model.proofs.PathLaws.{same_name_is}
 use Rattle.flat_model.proofs.PathTextLaws.{refuse_none, refuse_passed, unless_ok}
@@ -191,8 +194,18 @@ read_limit_only file text l e =
 
 limit_from_text : (file : LimitFile) (n : ℕ) (text : List ℕ) → text ≡ decimal n → IsLimitText file (limit_from file n) text
 limit_from_text PidsMax n text h = h
-limit_from_text MaxDescendants n text h = cond_both (n == hierarchy_limit_max) Unlimited (At n) (λ l. IsLimitText MaxDescendants l text) (λ e. inr (refl, h ∙ ap decimal (eqb-true n hierarchy_limit_max e))) (λ e. h)
-limit_from_text MaxDepth n text h = cond_both (n == hierarchy_limit_max) Unlimited (At n) (λ l. IsLimitText MaxDepth l text) (λ e. inr (refl, h ∙ ap decimal (eqb-true n hierarchy_limit_max e))) (λ e. h)
+limit_from_text MaxDescendants n text h =
+    cond_both (n == hierarchy_limit_max) Unlimited (At n) (λ l. IsLimitText MaxDescendants l text) (λ e. inr (
+      refl,
+      h
+          ∙ ap decimal (eqb-true n hierarchy_limit_max e),
+    )) (λ e. h)
+limit_from_text MaxDepth n text h =
+    cond_both (n == hierarchy_limit_max) Unlimited (At n) (λ l. IsLimitText MaxDepth l text) (λ e. inr (
+      refl,
+      h
+          ∙ ap decimal (eqb-true n hierarchy_limit_max e),
+    )) (λ e. h)
 
 number_limit_text : (file : LimitFile) (text : List ℕ) (r : Result ℕ ValueFault) (l : Limit) → ((n : ℕ) → r ≡ Ok n → text ≡ decimal n) → map_ok (limit_from file) r ≡ Ok l → IsLimitText file l text
 number_limit_text file text (Ok n) l h e = subst (λ (k : Limit). IsLimitText file k text) (same_limit (limit_from file n) l e) (limit_from_text file n text (h n refl))

@@ -37,22 +37,27 @@ read_faulty text fault p e h t = let none : path_fault text ≡ None = ap path_f
 -- ---- a child
 
 -- the last test, of the length, behind those of the name and the depth
-child_fault_is : (p : Path) (name : Name) (u : Unit {0}) → checked (name_fault 0 name) ≡ Ok u → length p < depth_max → child_fault p name ≡ refuse (nat_lt text_max (length (spelled p) + 1 + length name)) grammar.TooLong None
+child_fault_is : (p : Path) (name : Name) (u : Unit {0}) → checked (name_fault 0 name) ≡ Ok u → length p < depth_max
+    → child_fault p name ≡ refuse (nat_lt text_max (length (spelled p) + 1 + length name)) grammar.TooLong None
 unfolding child_fault
 child_fault_is p name u e d =
     let l : length (path_text (p ++ name ∷ [])) ≡ length (spelled p) + 1 + length name = let k = ap length (path_text-child p name) ∙ length-append (spelled p) (47 ∷ name) in omega arith in
-    option_or_passed (name_fault 0 name) (refuse (nat_le depth_max (length p)) grammar.TooDeep (refuse (nat_lt text_max (length (path_text (p ++ name ∷ [])))) grammar.TooLong None)) (no_fault (name_fault 0 name) u e)
+    option_or_passed (name_fault 0 name)
+    (refuse (nat_le depth_max (length p)) grammar.TooDeep
+    (refuse (nat_lt text_max (length (path_text (p ++ name ∷ [])))) grammar.TooLong None)) (no_fault (name_fault 0 name) u e)
     ∙ refuse_passed (nat_le depth_max (length p)) grammar.TooDeep (refuse (nat_lt text_max (length (path_text (p ++ name ∷ [])))) grammar.TooLong None) (not_deep (length p) d)
     ∙ ap (λ n. refuse (nat_lt text_max n) grammar.TooLong None) l
 
 -- the text would be too long
-pub child_long : (p : Path) (name : Name) (u : Unit {0}) → checked (name_fault 0 name) ≡ Ok u → length p < depth_max → text_max < length (spelled p) + 1 + length name → Err TooLong ≡ checked (child_fault p name)
+pub child_long : (p : Path) (name : Name) (u : Unit {0}) → checked (name_fault 0 name) ≡ Ok u → length p < depth_max
+    → text_max < length (spelled p) + 1 + length name → Err TooLong ≡ checked (child_fault p name)
 child_long p name u e d l =
     let t : nat_lt text_max (length (spelled p) + 1 + length name) ≡ true = grind (arith, nat_tests) in
     sym (ap checked (child_fault_is p name u e d ∙ ap (λ b. refuse b grammar.TooLong None) t))
 
 -- no test refuses the name
-pub child_passes : (p : Path) (name : Name) (u : Unit {0}) → checked (name_fault 0 name) ≡ Ok u → length p < depth_max → length (spelled p) + 1 + length name ≤ text_max → Ok tt ≡ checked (child_fault p name)
+pub child_passes : (p : Path) (name : Name) (u : Unit {0}) → checked (name_fault 0 name) ≡ Ok u → length p < depth_max
+    → length (spelled p) + 1 + length name ≤ text_max → Ok tt ≡ checked (child_fault p name)
 child_passes p name u e d l =
     let t : nat_lt text_max (length (spelled p) + 1 + length name) ≡ false = grind (arith, nat_tests) in
     sym (ap checked (child_fault_is p name u e d ∙ ap (λ b. refuse b grammar.TooLong None) t))

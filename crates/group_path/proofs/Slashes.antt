@@ -24,7 +24,9 @@ none_is p bytes n e l =
 -- what a search found is the first place
 pub first_is : (p : ℕ → Bool) (bytes : List ℕ) (r : Option ℕ) → IsFirstByte p bytes r → r ≡ position p bytes
 first_is p bytes None none =
-    none_is p bytes (length bytes) (position_or_len_is p bytes (length bytes) 0 (omega arith) (λ k l. fails (p (slice_index bytes k)) (none k (omega arith) l)) (λ l. absurd (omega arith))) (omega arith)
+    none_is p bytes (length bytes)
+    (position_or_len_is p bytes (length bytes) 0 (omega arith) (λ k l. fails (p (slice_index bytes k)) (none k (omega arith) l))
+    (λ l. absurd (omega arith))) (omega arith)
 first_is p bytes (Some at) found =
     let l = found.0.high in
     place_is p bytes at (position_or_len_is p bytes at 0 (omega arith) (λ k l. fails (p (slice_index bytes k)) (found.0.before k (omega arith) l)) (λ l. found.1)) l

@@ -29,16 +29,20 @@ by_met m p n (Some met) h = h
 
 -- ---- where the new group would be a child
 
-pub admits_itself : (attr : Attr) (kids : List Branch) (b : Branch) (nm : Name) (names : Path) (n : ℕ) → ◌≡◌ {A = Branch} (record { name = nm; groups = groups_of attr kids }) b → HasAscendingNames kids → names ≡ [] → NodeAdmits b.groups names n Exists
+pub admits_itself : (attr : Attr) (kids : List Branch) (b : Branch) (nm : Name) (names : Path) (n : ℕ)
+    → ◌≡◌ {A = Branch} (record { name = nm; groups = groups_of attr kids }) b → HasAscendingNames kids → names ≡ []
+    → NodeAdmits b.groups names n Exists
 admits_itself attr kids b nm names n is h e = ap is_some (sym (find_here attr kids b nm names is h e))
 
-pub admits_none : (attr : Attr) (kids slice : List Branch) (b : Branch) (nm : Name) (names : Path) (x y : Name) (p q : Path) (i n : ℕ) → ◌≡◌ {A = Branch} (record { name = nm; groups = groups_of attr kids }) b → HasAscendingNames kids →
+pub admits_none : (attr : Attr) (kids slice : List Branch) (b : Branch) (nm : Name) (names : Path) (x y : Name) (p q : Path) (i n : ℕ)
+    → ◌≡◌ {A = Branch} (record { name = nm; groups = groups_of attr kids }) b → HasAscendingNames kids →
     names ≡ x ∷ p → p ≡ y ∷ q → Err i ≡ place_of x slice → slice ≡ kids → NodeAdmits b.groups names n NoParent
 admits_none attr kids slice b nm names x y p q i n is h e f at s =
     let two : names ≡ x ∷ y ∷ q = e ∙ ap (λ (z : Path). x ∷ z) f in
     (sym (find_none attr kids slice b nm names x p i is h e at s), sym (find_none attr kids slice b nm (parent names) x (parent (y ∷ q)) i is h (ap parent two ∙ parent-cons x y q) at s))
 
-pub admits_child : (attr : Attr) (kids slice : List Branch) (b : Branch) (nm : Name) (names : Path) (x : Name) (p : Path) (i n : ℕ) (r : Admission) → ◌≡◌ {A = Branch} (record { name = nm; groups = groups_of attr kids }) b → HasAscendingNames kids →
+pub admits_child : (attr : Attr) (kids slice : List Branch) (b : Branch) (nm : Name) (names : Path) (x : Name) (p : Path) (i n : ℕ)
+    (r : Admission) → ◌≡◌ {A = Branch} (record { name = nm; groups = groups_of attr kids }) b → HasAscendingNames kids →
     names ≡ x ∷ p → p ≡ [] → Err i ≡ place_of x slice → slice ≡ kids → r ≡ admission_by (met_here (fin.get b.groups []) (kept b.groups []) 0 n) → NodeAdmits b.groups names n r
 admits_child attr kids slice b nm names x p i n r is h e none at s met =
     let above : parent names ≡ [] = ap parent (e ∙ ap (λ (z : Path). x ∷ z) none) ∙ parent-one x in
@@ -58,7 +62,8 @@ passed (Met met) here = Met met
 passed Free here = here
 
 module _ (m kid : Groups) (x : Name) (has : (q : Path) → fin.get kid q ≡ fin.get m (x ∷ q)) (count : (q : Path) → kept kid q ≡ kept m (x ∷ q)) (n : ℕ) where
-  first_down : (y : Name) (p : Path) (met : Option MetLimit) → met ≡ first_met (fin.get kid) (kept kid) (parent (y ∷ p)) (n + 1) → option_or met (met_here (fin.get m []) (kept m []) (length (y ∷ p)) n) ≡ first_met (fin.get m) (kept m) (parent (x ∷ y ∷ p)) n
+  first_down : (y : Name) (p : Path) (met : Option MetLimit) → met ≡ first_met (fin.get kid) (kept kid) (parent (y ∷ p)) (n + 1)
+      → option_or met (met_here (fin.get m []) (kept m []) (length (y ∷ p)) n) ≡ first_met (fin.get m) (kept m) (parent (x ∷ y ∷ p)) n
   first_down y p met e =
       let size = length-take-le (length (y ∷ p) - 1) (y ∷ p) (omega arith) in
       let levels : length (y ∷ p) ≡ length (x ∷ parent (y ∷ p)) = omega (arith, size) in
@@ -66,14 +71,17 @@ module _ (m kid : Groups) (x : Name) (has : (q : Path) → fin.get kid q ≡ fin
       ∙ (λ j. option_or (first_met (λ q. has q j) (λ q. count q j) (parent (y ∷ p)) (n + 1)) (met_here (fin.get m []) (kept m []) (length (x ∷ parent (y ∷ p))) n))
       ∙ sym (first_met-below (fin.get m) (kept m) x (parent (y ∷ p)) n) ∙ ap (λ q. first_met (fin.get m) (kept m) q n) (sym (parent-cons x y p))
 
-  stands_down : (y : Name) (p : Path) (met : Option MetLimit) → NodeMayStand kid (y ∷ p) (n + 1) met → NodeMayStand m (x ∷ y ∷ p) n (option_or met (met_here (fin.get m []) (kept m []) (length (y ∷ p)) n))
+  stands_down : (y : Name) (p : Path) (met : Option MetLimit) → NodeMayStand kid (y ∷ p) (n + 1) met
+      → NodeMayStand m (x ∷ y ∷ p) n (option_or met (met_here (fin.get m []) (kept m []) (length (y ∷ p)) n))
   stands_down y p met h = record {
     absent = sym (has (y ∷ p)) ∙ h.absent;
     below = subst IsSome (has (parent (y ∷ p)) ∙ ap (fin.get m) (sym (parent-cons x y p))) h.below;
     first = first_down y p met h.first;
   }
 
-  admits_step : (p : Path) (r here : Admission) → IsSome (fin.get kid []) → here ≡ admission_by (met_here (fin.get m []) (kept m []) (length p) n) → NodeAdmits kid p (n + 1) r → NodeAdmits m (x ∷ p) n (passed r here)
+  admits_step : (p : Path) (r here : Admission) → IsSome (fin.get kid [])
+      → here ≡ admission_by (met_here (fin.get m []) (kept m []) (length p) n) → NodeAdmits kid p (n + 1) r
+      → NodeAdmits m (x ∷ p) n (passed r here)
   admits_step p Exists here root e h = subst IsSome (has p) h
   admits_step [] NoParent here root e h = absurd (not_both _ h.0 root)
   admits_step (y ∷ p) NoParent here root e h = (sym (has (y ∷ p)) ∙ h.0, ap (fin.get m) (parent-cons x y p) ∙ sym (has (parent (y ∷ p))) ∙ h.1)
@@ -82,7 +90,8 @@ module _ (m kid : Groups) (x : Name) (has : (q : Path) → fin.get kid q ≡ fin
   admits_step [] Free here root e h = absurd (not_both _ h.absent root)
   admits_step (y ∷ p) Free here root e h = subst (NodeAdmits m (x ∷ y ∷ p) n) (sym e) (by_met m (x ∷ y ∷ p) n _ (stands_down y p None h))
 
-pub admits_down : (attr : Attr) (kids slice : List Branch) (b kid : Branch) (nm : Name) (names : Path) (x : Name) (p : Path) (i depth n : ℕ) (r here : Admission) → ◌≡◌ {A = Branch} (record { name = nm; groups = groups_of attr kids }) b → HasAscendingNames kids →
+pub admits_down : (attr : Attr) (kids slice : List Branch) (b kid : Branch) (nm : Name) (names : Path) (x : Name) (p : Path) (i depth n : ℕ)
+    (r here : Admission) → ◌≡◌ {A = Branch} (record { name = nm; groups = groups_of attr kids }) b → HasAscendingNames kids →
     names ≡ x ∷ p → Ok i ≡ place_of x slice → slice ≡ kids → kid ≡ get_or kids i kid → depth ≡ n + length names → IsSome (fin.get kid.groups []) → NodeAdmits kid.groups p (n + 1) r →
     here ≡ admission_by (met_here (fin.get b.groups []) (kept b.groups []) (depth - n - 1) n) → NodeAdmits b.groups names n (passed r here)
 admits_down attr kids slice b kid nm names x p i depth n r here is h e at s item far root said own =
@@ -101,8 +110,10 @@ decided NoParent here other = refl
 decided (Met met) here other = refl
 decided Free here other = absurd (other refl)
 
-pub admits_decided : (attr : Attr) (kids slice : List Branch) (b kid : Branch) (nm : Name) (names : Path) (x : Name) (p : Path) (i depth n : ℕ) (r : Admission) → ◌≡◌ {A = Branch} (record { name = nm; groups = groups_of attr kids }) b → HasAscendingNames kids →
-    names ≡ x ∷ p → Ok i ≡ place_of x slice → slice ≡ kids → kid ≡ get_or kids i kid → depth ≡ n + length names → IsSome (fin.get kid.groups []) → NodeAdmits kid.groups p (n + 1) r → (r ≡ Free → ⊥) → NodeAdmits b.groups names n r
+pub admits_decided : (attr : Attr) (kids slice : List Branch) (b kid : Branch) (nm : Name) (names : Path) (x : Name) (p : Path)
+    (i depth n : ℕ) (r : Admission) → ◌≡◌ {A = Branch} (record { name = nm; groups = groups_of attr kids }) b → HasAscendingNames kids →
+    names ≡ x ∷ p → Ok i ≡ place_of x slice → slice ≡ kids → kid ≡ get_or kids i kid → depth ≡ n + length names
+    → IsSome (fin.get kid.groups []) → NodeAdmits kid.groups p (n + 1) r → (r ≡ Free → ⊥) → NodeAdmits b.groups names n r
 admits_decided attr kids slice b kid nm names x p i depth n r is h e at s item far root said other =
     let here : Admission = admission_by (met_here (fin.get b.groups []) (kept b.groups []) (depth - n - 1) n) in
     subst (NodeAdmits b.groups names n) (decided r here other) (admits_down attr kids slice b kid nm names x p i depth n r here is h e at s item far root said refl)

@@ -10,14 +10,10 @@ use Rattle.group_tree.specs.Groups.{Groups, slot_of, groups_upward, chain_of}
 use Rattle.group_tree.specs.Node.{Branch, groups_of, HasAscendingNames, place_of}
 use Rattle.group_tree.proofs.Walk.{find_down}
 use Rattle.group_tree.proofs.Steps.{root_is_some}
+use Rattle.flat_model.proofs.Lists.{reverse_map}
 
 reverse_first : (p : Path) (ps : List Path) → reverse (p ∷ ps) ≡ reverse ps ++ p ∷ []
 reverse_first p ps = reverse-append (p ∷ []) ps
-
-reverse_map : {X Y : Type 0} (f : X → Y) (xs : List X) → reverse (map f xs) ≡ map f (reverse xs)
-reverse_map f [] = refl
-reverse_map f (x ∷ xs) =
-    reverse-append (f x ∷ []) (map f xs) ∙ ap (λ ys. ys ++ f x ∷ []) (reverse_map f xs) ∙ sym (map-append f (reverse xs) (x ∷ [])) ∙ ap (map f) (sym (reverse-append (x ∷ []) xs))
 
 -- the way up from below n: the way up there behind n, and then the root
 pub upward-cons : (n : Name) (p : Path) → upward (n ∷ p) ≡ map (λ (q : Path). n ∷ q) (upward p) ++ [] ∷ []
@@ -39,7 +35,8 @@ upward_root [] = refl
 upward_root (n ∷ p) = upward-cons n p ∙ ap (λ (ps : List Path). ps ++ [] ∷ []) (sym (groups_upward-cons n p))
 
 -- the slots of a child's paths are the node's behind its name
-slots_under : (old kid : Groups) (n : Name) (ps : List Path) → ((q : Path) → fin.get kid q ≡ fin.get old (n ∷ q)) → map (λ q. slot_of (fin.get old q)) (map (λ (q : Path). n ∷ q) ps) ≡ map (λ q. slot_of (fin.get kid q)) ps
+slots_under : (old kid : Groups) (n : Name) (ps : List Path) → ((q : Path) → fin.get kid q ≡ fin.get old (n ∷ q))
+    → map (λ q. slot_of (fin.get old q)) (map (λ (q : Path). n ∷ q) ps) ≡ map (λ q. slot_of (fin.get kid q)) ps
 slots_under old kid n [] gets = refl
 slots_under old kid n (p ∷ ps) gets = λ i. slot_of (sym (gets p) i) ∷ slots_under old kid n ps gets i
 
@@ -51,18 +48,27 @@ chain_of-cons old kid n p gets =
     ∙ map-append (λ q. slot_of (fin.get kid q)) (groups_upward p) ([] ∷ [])
 
 -- the chain of a group below a child
-chain_down : (attr : Attr) (kids slice : List Branch) (b kid : Branch) (nm : Name) (names : Path) (n : Name) (p : Path) (i : ℕ) (a : Attr) → ◌≡◌ {A = Branch} (record { name = nm; groups = groups_of attr kids }) b → HasAscendingNames kids → names ≡ n ∷ p → Ok i ≡ place_of n slice → slice ≡ kids → kid ≡ get_or kids i kid → Some a ≡ fin.get kid.groups [] → chain_of kid.groups p ++ a.slot ∷ [] ≡ chain_of b.groups names
+chain_down : (attr : Attr) (kids slice : List Branch) (b kid : Branch) (nm : Name) (names : Path) (n : Name) (p : Path) (i : ℕ) (a : Attr)
+    → ◌≡◌ {A = Branch} (record { name = nm; groups = groups_of attr kids }) b → HasAscendingNames kids → names ≡ n ∷ p
+    → Ok i ≡ place_of n slice → slice ≡ kids → kid ≡ get_or kids i kid → Some a ≡ fin.get kid.groups []
+    → chain_of kid.groups p ++ a.slot ∷ [] ≡ chain_of b.groups names
 chain_down attr kids slice b kid nm names n p i a is h e at s item own =
     let gets : (q : Path) → fin.get kid.groups q ≡ fin.get b.groups (n ∷ q) = λ q. find_down attr kids slice b kid nm (n ∷ q) n q i is h refl at s item in
     ap (λ (x : Option Attr). chain_of kid.groups p ++ slot_of x ∷ []) own ∙ sym (chain_of-cons b.groups kid.groups n p gets) ∙ ap (chain_of b.groups) (sym e)
 
-pub chain_here : (attr : Attr) (kids : List Branch) (b : Branch) (nm : Name) (names : Path) (items : List ℕ) → ◌≡◌ {A = Branch} (record { name = nm; groups = groups_of attr kids }) b → HasAscendingNames kids → names ≡ [] → IsSome (fin.get b.groups names) × (items ≡ items ++ chain_of b.groups names)
+pub chain_here : (attr : Attr) (kids : List Branch) (b : Branch) (nm : Name) (names : Path) (items : List ℕ)
+    → ◌≡◌ {A = Branch} (record { name = nm; groups = groups_of attr kids }) b → HasAscendingNames kids → names ≡ []
+    → IsSome (fin.get b.groups names) × (items ≡ items ++ chain_of b.groups names)
 chain_here attr kids b nm names items is h e = (
   subst (λ (x : Path). IsSome (fin.get b.groups x)) (sym e) (root_is_some attr kids b nm is h),
   sym (append-nil items) ∙ ap (λ (x : Path). items ++ chain_of b.groups x) (sym e),
 )
 
-pub chain_step : (attr : Attr) (kids slice : List Branch) (b kid : Branch) (nm : Name) (names : Path) (n : Name) (p : Path) (i : ℕ) (a : Attr) (old mid new : List ℕ) → ◌≡◌ {A = Branch} (record { name = nm; groups = groups_of attr kids }) b → HasAscendingNames kids → names ≡ n ∷ p → Ok i ≡ place_of n slice → slice ≡ kids → kid ≡ get_or kids i kid → Some a ≡ fin.get kid.groups [] → IsSome (fin.get kid.groups p) × (mid ≡ old ++ chain_of kid.groups p) → new ≡ mid ++ a.slot ∷ [] → IsSome (fin.get b.groups names) × (new ≡ old ++ chain_of b.groups names)
+pub chain_step : (attr : Attr) (kids slice : List Branch) (b kid : Branch) (nm : Name) (names : Path) (n : Name) (p : Path) (i : ℕ)
+    (a : Attr) (old mid new : List ℕ) → ◌≡◌ {A = Branch} (record { name = nm; groups = groups_of attr kids }) b → HasAscendingNames kids
+    → names ≡ n ∷ p → Ok i ≡ place_of n slice → slice ≡ kids → kid ≡ get_or kids i kid → Some a ≡ fin.get kid.groups []
+    → IsSome (fin.get kid.groups p) × (mid ≡ old ++ chain_of kid.groups p) → new ≡ mid ++ a.slot ∷ [] → IsSome (fin.get b.groups names)
+    × (new ≡ old ++ chain_of b.groups names)
 chain_step attr kids slice b kid nm names n p i a old mid new is h e at s item own c push = (
   subst IsSome (find_down attr kids slice b kid nm names n p i is h e at s item) c.0,
   push ∙ ap (λ (x : List ℕ). x ++ a.slot ∷ []) c.1 ∙ append_assoc old (chain_of kid.groups p) (a.slot ∷ [])

@@ -80,7 +80,8 @@ module _ (f inner : Path → Attr → Attr) (own : Attr → Attr) (n : Name) (al
   own_last (Some z) x e = ap (λ (o : Option Attr). Some (own (unwrap_or o x))) e ∙ ap Some (along.first z)
 
   -- a child, changed on from there, and then once more itself
-  pub child_changes : (kid mid after : Groups) (x y : Attr) → Changes inner kid mid → Some x ≡ fin.get mid [] → y ≡ own x → NodeSets mid after [] y true → (q : Path) → fin.get after q ≡ option_map (f (n ∷ q)) (fin.get kid q)
+  pub child_changes : (kid mid after : Groups) (x y : Attr) → Changes inner kid mid → Some x ≡ fin.get mid [] → y ≡ own x
+      → NodeSets mid after [] y true → (q : Path) → fin.get after q ≡ option_map (f (n ∷ q)) (fin.get kid q)
   child_changes kid mid after x y changes here is put [] = put.1 [] ∙ ap Some is ∙ own_last (fin.get kid []) x (here ∙ changes [])
   child_changes kid mid after x y changes here is put (m ∷ q) = put.1 (m ∷ q) ∙ changes (m ∷ q) ∙ same (inner (m ∷ q)) (f (n ∷ m ∷ q)) (along.behind m q) (fin.get kid (m ∷ q))
 
@@ -90,7 +91,9 @@ module _ (f inner : Path → Attr → Attr) (own : Attr → Attr) (n : Name) (al
   root_stays attr old new h k = get_root attr new k ∙ ap Some (along.root attr) ∙ ap (option_map (f [])) (sym (get_root attr old h))
 
   module _ (attr : Attr) (kids slice : List Branch) (i : ℕ) (h : HasAscendingNames kids) (s : slice ≡ kids) where
-    pub changes_at : (kid after : Branch) → Ok i ≡ place_of n slice → kid ≡ get_or kids i kid → after.name ≡ kid.name → ((q : Path) → fin.get after.groups q ≡ option_map (f (n ∷ q)) (fin.get kid.groups q)) → Changes f (groups_of attr kids) (groups_of attr (set kids i after))
+    pub changes_at : (kid after : Branch) → Ok i ≡ place_of n slice → kid ≡ get_or kids i kid → after.name ≡ kid.name
+        → ((q : Path) → fin.get after.groups q ≡ option_map (f (n ∷ q)) (fin.get kid.groups q))
+        → Changes f (groups_of attr kids) (groups_of attr (set kids i after))
     changes_at kid after at item named now [] = root_stays attr kids (set kids i after) h (edited_at kids slice n i kid after h at s item named).ascending
     changes_at kid after at item named now (m ∷ q) =
         let e = edited_at kids slice n i kid after h at s item named in
@@ -119,8 +122,12 @@ module _ (f inner : Path → Attr → Attr) (own : Attr → Attr) (n : Name) (al
         ∙ ap (option_map (f (m ∷ q))) (sym (get_child attr kids m q h))
 
 -- the same of a change that is read from the names, which are n and p
-module _ (F : Path → Path → Attr → Attr) (inner : Path → Attr → Attr) (own : Attr → Attr) (n : Name) (p names : Path) (e : names ≡ n ∷ p) (along : IsAlong (F (n ∷ p)) inner own n) (attr : Attr) (kids slice : List Branch) (i : ℕ) (h : HasAscendingNames kids) (s : slice ≡ kids) (b : Branch) (nm : Name) (is : ◌≡◌ {A = Branch} (record { name = nm; groups = groups_of attr kids }) b) where
-  pub changes_down : (kid after : Branch) → Ok i ≡ place_of n slice → kid ≡ get_or kids i kid → after.name ≡ kid.name → ((q : Path) → fin.get after.groups q ≡ option_map (F (n ∷ p) (n ∷ q)) (fin.get kid.groups q)) → Changes (F names) b.groups (groups_of attr (set kids i after))
+module _ (F : Path → Path → Attr → Attr) (inner : Path → Attr → Attr) (own : Attr → Attr) (n : Name) (p names : Path) (e : names ≡ n ∷ p)
+    (along : IsAlong (F (n ∷ p)) inner own n) (attr : Attr) (kids slice : List Branch) (i : ℕ) (h : HasAscendingNames kids)
+    (s : slice ≡ kids) (b : Branch) (nm : Name) (is : ◌≡◌ {A = Branch} (record { name = nm; groups = groups_of attr kids }) b) where
+  pub changes_down : (kid after : Branch) → Ok i ≡ place_of n slice → kid ≡ get_or kids i kid → after.name ≡ kid.name
+      → ((q : Path) → fin.get after.groups q ≡ option_map (F (n ∷ p) (n ∷ q)) (fin.get kid.groups q))
+      → Changes (F names) b.groups (groups_of attr (set kids i after))
   changes_down kid after at item named now =
       subst (λ (x : Path). Changes (F x) b.groups (groups_of attr (set kids i after))) (sym e)
       (subst (λ (c : Branch). Changes (F (n ∷ p)) c.groups (groups_of attr (set kids i after))) is (changes_at (F (n ∷ p)) inner own n along attr kids slice i h s kid after at item named now))

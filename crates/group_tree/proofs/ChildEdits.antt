@@ -18,7 +18,9 @@ shadowed true x y z = refl
 shadowed false x y z = refl
 
 -- a name does not tie with two that do not tie
-apart : {A : Type 0} (n k m : Name) (x y z : A) → name_cmp n k ≡ Greater → cond (eq_by_cmp name_cmp m k) x (cond (eq_by_cmp name_cmp m n) y z) ≡ cond (eq_by_cmp name_cmp m n) y (cond (eq_by_cmp name_cmp m k) x z)
+apart : {A : Type 0} (n k m : Name) (x y z : A) → name_cmp n k ≡ Greater
+    → cond (eq_by_cmp name_cmp m k) x (cond (eq_by_cmp name_cmp m n) y z)
+    ≡ cond (eq_by_cmp name_cmp m n) y (cond (eq_by_cmp name_cmp m k) x z)
 apart n k m x y z o =
     elim (name_cmp m n) as (λ r. name_cmp m n ≡ r → cond (eq_by_cmp name_cmp m k) x (cond (is_eq r) y z) ≡ cond (is_eq r) y (cond (eq_by_cmp name_cmp m k) x z)) [
       | Less ↦ λ e. refl
@@ -36,7 +38,8 @@ above_set x [] i kid h e = h
 above_set x (k ∷ kids) zero kid h e = (ap (name_cmp x) (e k) ∙ h.0, h.1)
 above_set x (k ∷ kids) (suc i) kid h e = (h.0, above_set x kids i kid h.1 e)
 
-pub replaced : (n : Name) (kids : List Branch) (i : ℕ) (kid : Branch) → place_of n kids ≡ Ok i → HasAscendingNames kids → ((d : Branch) → kid.name ≡ (get_or kids i d).name) → Edited kids (set kids i kid) n (λ q. fin.get kid.groups q)
+pub replaced : (n : Name) (kids : List Branch) (i : ℕ) (kid : Branch) → place_of n kids ≡ Ok i → HasAscendingNames kids
+    → ((d : Branch) → kid.name ≡ (get_or kids i d).name) → Edited kids (set kids i kid) n (λ q. fin.get kid.groups q)
 replaced n [] i kid e h same = cc
 replaced n (k ∷ kids) i kid e h same =
     elim (name_cmp n k.name) as (λ r. name_cmp n k.name ≡ r → place_by r (place_of n kids) ≡ Ok i → Edited (k ∷ kids) (set (k ∷ kids) i kid) n (λ q. fin.get kid.groups q)) [
@@ -134,7 +137,9 @@ below_get_tied n m q [] e = refl
 below_get_tied n m q (k ∷ kids) e = λ i. cond (is_eq (nat_list_cmp_total.congr m n k.name e i)) (fin.get k.groups q) (below_get_tied n m q kids e i)
 
 -- an edit at one path below one child is that edit of the node
-pub lifted : (attr : Attr) (old new : List Branch) (n : Name) (p : Path) (w : Option Attr) (before after : Path → Option Attr) → HasAscendingNames old → Edited old new n after → ((q : Path) → below_get old n q ≡ before q) → ((q : Path) → after q ≡ cond (eq_by_cmp path_cmp q p) w (before q)) → IsUpdated (groups_of attr old) (groups_of attr new) (n ∷ p) w
+pub lifted : (attr : Attr) (old new : List Branch) (n : Name) (p : Path) (w : Option Attr) (before after : Path → Option Attr)
+    → HasAscendingNames old → Edited old new n after → ((q : Path) → below_get old n q ≡ before q)
+    → ((q : Path) → after q ≡ cond (eq_by_cmp path_cmp q p) w (before q)) → IsUpdated (groups_of attr old) (groups_of attr new) (n ∷ p) w
 lifted attr old new n p w before after h e was now [] = get_root attr new e.ascending ∙ sym (get_root attr old h)
 lifted attr old new n p w before after h e was now (m ∷ q) =
     get_child attr new m q e.ascending ∙ e.gives m q

@@ -17,7 +17,9 @@ below_get (kid ∷ kids) n p = cond (eq_by_cmp name_cmp n kid.name) (fin.get kid
 find_under_other : (n m : Name) (p : Path) (es fs : List GroupEntry) → eq_by_cmp name_cmp n m ≡ false → fin.find path_cmp (n ∷ p) (under m es ++ fs) ≡ fin.find path_cmp (n ∷ p) fs
 find_under_other n m p [] fs h = refl
 find_under_other n m p (e ∷ es) fs h =
-    elim (name_cmp n m) as (λ r. is_eq r ≡ false → cond (is_eq (ordering_then r (path_cmp p e.0))) (Some e.1) (fin.find path_cmp (n ∷ p) (under m es ++ fs)) ≡ fin.find path_cmp (n ∷ p) (under m es ++ fs)) [
+    elim (name_cmp n m) as (λ r. is_eq r ≡ false
+    → cond (is_eq (ordering_then r (path_cmp p e.0))) (Some e.1) (fin.find path_cmp (n ∷ p) (under m es ++ fs))
+    ≡ fin.find path_cmp (n ∷ p) (under m es ++ fs)) [
       | Less ↦ λ k. refl
       | Equal ↦ λ k. cc
       | Greater ↦ λ k. refl
@@ -48,7 +50,8 @@ above_less n m (k ∷ kids) e h = (nat_list_cmp_total.trans n m k.name e h.0, ab
 pub find_in_below : (n : Name) (p : Path) (kids : List Branch) → HasAscendingNames kids → fin.find path_cmp (n ∷ p) (below kids) ≡ below_get kids n p
 find_in_below n p [] h = refl
 find_in_below n p (k ∷ kids) h =
-    elim (name_cmp n k.name) as (λ r. name_cmp n k.name ≡ r → fin.find path_cmp (n ∷ p) (under k.name (fin.entries k.groups) ++ below kids) ≡ cond (is_eq r) (fin.get k.groups p) (below_get kids n p)) [
+    elim (name_cmp n k.name) as (λ r. name_cmp n k.name ≡ r → fin.find path_cmp (n ∷ p) (under k.name (fin.entries k.groups) ++ below kids)
+    ≡ cond (is_eq r) (fin.get k.groups p) (below_get kids n p)) [
       | Less ↦ λ e. find_under_other n k.name p (fin.entries k.groups) (below kids) (ap is_eq e) ∙ find_in_below n p kids h.1
       | Equal ↦ λ e. find_under_same n k.name p (fin.entries k.groups) (below kids) e (find_above n p kids (above_tied n k.name kids e h.0)) ∙ sym (fin.get-entries k.groups p)
       | Greater ↦ λ e. find_under_other n k.name p (fin.entries k.groups) (below kids) (ap is_eq e) ∙ find_in_below n p kids h.1

@@ -24,7 +24,9 @@ child_le (k ∷ kids) (suc i) d h =
     let rest = child_le kids i d (omega arith) in
     omega (arith, whole, rest)
 
-pub child_smaller : (attr : Attr) (kids slice : List Branch) (b kid : Branch) (nm : Name) (i : ℕ) → ◌≡◌ {A = Branch} (record { name = nm; groups = groups_of attr kids }) b → HasAscendingNames kids → slice ≡ kids → kid ≡ get_or slice i kid → i < length slice → fin.len kid.groups < fin.len b.groups
+pub child_smaller : (attr : Attr) (kids slice : List Branch) (b kid : Branch) (nm : Name) (i : ℕ)
+    → ◌≡◌ {A = Branch} (record { name = nm; groups = groups_of attr kids }) b → HasAscendingNames kids → slice ≡ kids
+    → kid ≡ get_or slice i kid → i < length slice → fin.len kid.groups < fin.len b.groups
 child_smaller attr kids slice b kid nm i is h s item bound =
     let long = ap length s in
     let one : fin.len kid.groups ≡ fin.len (get_or kids i kid).groups = ap (λ (x : Branch). fin.len x.groups) (item ∙ ap (λ (x : List Branch). get_or x i kid) s) in
@@ -32,10 +34,14 @@ child_smaller attr kids slice b kid nm i is h s item bound =
     let size : length (below kids) + 1 ≡ fin.len b.groups = sym (len-node attr kids h) ∙ ap (λ (c : Branch). fin.len c.groups) is in
     omega (arith, one, few, size)
 
-pub child_at_smaller : (attr : Attr) (kids slice : List Branch) (b kid : Branch) (nm : Name) (i : ℕ) → ◌≡◌ {A = Branch} (record { name = nm; groups = groups_of attr kids }) b → HasAscendingNames kids → slice ≡ kids → kid ≡ get_or kids i kid → i < length slice → fin.len kid.groups < fin.len b.groups
+pub child_at_smaller : (attr : Attr) (kids slice : List Branch) (b kid : Branch) (nm : Name) (i : ℕ)
+    → ◌≡◌ {A = Branch} (record { name = nm; groups = groups_of attr kids }) b → HasAscendingNames kids → slice ≡ kids
+    → kid ≡ get_or kids i kid → i < length slice → fin.len kid.groups < fin.len b.groups
 child_at_smaller attr kids slice b kid nm i is h s item bound = child_smaller attr kids slice b kid nm i is h s (item ∙ ap (λ (x : List Branch). get_or x i kid) (sym s)) bound
 
-pub copied : (attr : Attr) (kids slice new : List Branch) (b : Branch) (nm name bytes : Name) (n : ℕ) → ◌≡◌ {A = Branch} (record { name = nm; groups = groups_of attr kids }) b → slice ≡ kids → length slice ≤ n → new ≡ take n slice → name ≡ bytes → bytes ≡ nm → ◌≡◌ {A = Branch} (record { name = name; groups = groups_of attr new }) b
+pub copied : (attr : Attr) (kids slice new : List Branch) (b : Branch) (nm name bytes : Name) (n : ℕ)
+    → ◌≡◌ {A = Branch} (record { name = nm; groups = groups_of attr kids }) b → slice ≡ kids → length slice ≤ n → new ≡ take n slice
+    → name ≡ bytes → bytes ≡ nm → ◌≡◌ {A = Branch} (record { name = name; groups = groups_of attr new }) b
 copied attr kids slice new b nm name bytes n is s all e named same =
     let kept : new ≡ kids = e ∙ take_all n slice all ∙ s in
     let called : name ≡ nm = named ∙ same in

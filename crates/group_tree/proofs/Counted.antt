@@ -27,13 +27,16 @@ pub len-node : (attr : Attr) (kids : List Branch) → HasAscendingNames kids →
 len-node attr kids h = let e = fin.len-entries (groups_of attr kids) in let f = ap length (entries_of_node attr kids h) in omega (arith, e, f)
 
 -- a node's groups, by the map that the node is seen as
-node_len : (attr : Attr) (kids : List Branch) (b : Branch) (nm : Name) → ◌≡◌ {A = Branch} (record { name = nm; groups = groups_of attr kids }) b → HasAscendingNames kids → fin.len b.groups ≡ length (below kids) + 1
+node_len : (attr : Attr) (kids : List Branch) (b : Branch) (nm : Name)
+    → ◌≡◌ {A = Branch} (record { name = nm; groups = groups_of attr kids }) b → HasAscendingNames kids
+    → fin.len b.groups ≡ length (below kids) + 1
 node_len attr kids b nm is h = ap (λ (x : Branch). fin.len x.groups) (sym is) ∙ len-node attr kids h
 
 pub has_some : (attr : Attr) (kids : List Branch) (b : Branch) (nm : Name) → ◌≡◌ {A = Branch} (record { name = nm; groups = groups_of attr kids }) b → HasAscendingNames kids → fin.len b.groups ≢ 0
 has_some attr kids b nm is h none = let e = node_len attr kids b nm is h in absurd (omega (arith, e, none))
 
-pub kept_count : (attr : Attr) (kids : List Branch) (b : Branch) (nm : Name) (d : ℕ) → ◌≡◌ {A = Branch} (record { name = nm; groups = groups_of attr kids }) b → IsNode kids d → d ≡ (fin.len b.groups - 1) % 2 ^ 64
+pub kept_count : (attr : Attr) (kids : List Branch) (b : Branch) (nm : Name) (d : ℕ)
+    → ◌≡◌ {A = Branch} (record { name = nm; groups = groups_of attr kids }) b → IsNode kids d → d ≡ (fin.len b.groups - 1) % 2 ^ 64
 kept_count attr kids b nm d is h =
     let e = node_len attr kids b nm is h.ascending in
     let one : length (below kids) ≡ fin.len b.groups - 1 = omega (arith, e) in

@@ -1,5 +1,6 @@
 -- How many groups are strictly below a path.
-use Rattle.std.proofs.Common.{◌≡◌, ℕ, ◌+◌, ◌^◌, ◌%◌, ◌<◌, ◌≤◌, Bool, true, false, cond, ◌&&◌, not, List, [], ◌∷◌, ◌++◌, map, length, get_or, refl, ap, sym, ◌∙◌, subst, arith, suc, Ok, Option, Some, None, IsSome}
+use Rattle.std.proofs.Common.{◌≡◌, ℕ, ◌+◌, ◌^◌, ◌%◌, ◌<◌, ◌≤◌, Bool, true, false, cond, ◌&&◌, not, List, [], ◌∷◌, ◌++◌, map, length, get_or}
+use Rattle.std.proofs.Common.{refl, ap, sym, ◌∙◌, subst, arith, suc, Ok, Option, Some, None, IsSome}
 use Rattle.std.specs.Prelude.{count_by, MatchOption, IfSome, option_map}
 use Rattle.std.proofs.lemmas.List.{length-map}
 use Rattle.std.specs.declared.cmp.Ordering.{Ordering}
@@ -76,10 +77,12 @@ count_above : (n : Name) (p : Path) (kids : List Branch) → AllAbove n kids →
 count_above n p [] h = refl
 count_above n p (k ∷ kids) h = count_other n k.name p (fin.entries k.groups) (below kids) Greater (turned n k.name Less h.0) refl ∙ count_above n p kids h.1
 
-count_found : (n : Name) (p : Path) (kids : List Branch) (i : ℕ) (d : Branch) → HasAscendingNames kids → place_of n kids ≡ Ok i → count_in (n ∷ p) (below kids) ≡ count_in p (fin.entries (get_or kids i d).groups)
+count_found : (n : Name) (p : Path) (kids : List Branch) (i : ℕ) (d : Branch) → HasAscendingNames kids → place_of n kids ≡ Ok i
+    → count_in (n ∷ p) (below kids) ≡ count_in p (fin.entries (get_or kids i d).groups)
 count_found n p [] i d h e = cc
 count_found n p (k ∷ kids) i d h e =
-    elim (name_cmp n k.name) as (λ r. name_cmp n k.name ≡ r → place_by r (place_of n kids) ≡ Ok i → count_in (n ∷ p) (under k.name (fin.entries k.groups) ++ below kids) ≡ count_in p (fin.entries (get_or (k ∷ kids) i d).groups)) [
+    elim (name_cmp n k.name) as (λ r. name_cmp n k.name ≡ r → place_by r (place_of n kids) ≡ Ok i
+    → count_in (n ∷ p) (under k.name (fin.entries k.groups) ++ below kids) ≡ count_in p (fin.entries (get_or (k ∷ kids) i d).groups)) [
       | Less ↦ λ o e. cc
       | Equal ↦ λ o e.
           let z : 0 ≡ i = cc in
@@ -93,13 +96,15 @@ count_found n p (k ∷ kids) i d h e =
           ∙ ap (λ (j : ℕ). count_in p (fin.entries (get_or (k ∷ kids) j d).groups)) (sym l.2)
     ] refl e
 
-pub count_down : (attr : Attr) (kids : List Branch) (n : Name) (p : Path) (i : ℕ) (d : Branch) → HasAscendingNames kids → place_of n kids ≡ Ok i → descendant_count (groups_of attr kids) (n ∷ p) ≡ descendant_count (get_or kids i d).groups p
+pub count_down : (attr : Attr) (kids : List Branch) (n : Name) (p : Path) (i : ℕ) (d : Branch) → HasAscendingNames kids
+    → place_of n kids ≡ Ok i → descendant_count (groups_of attr kids) (n ∷ p) ≡ descendant_count (get_or kids i d).groups p
 count_down attr kids n p i d h e =
     ap (count_in (n ∷ p)) (entries_of_node attr kids h) ∙ one_less _ _ _ (count_in-cons (n ∷ p) ([], attr) (below kids)) (count_found n p kids i d h e)
 
 -- ---- as `descendants` answers it
 
-pub counts_here : (attr : Attr) (kids : List Branch) (b : Branch) (nm : Name) (names : Path) (k : ℕ) → ◌≡◌ {A = Branch} (record { name = nm; groups = groups_of attr kids }) b → IsNode kids k → names ≡ [] → Counts b.groups names (Some k)
+pub counts_here : (attr : Attr) (kids : List Branch) (b : Branch) (nm : Name) (names : Path) (k : ℕ)
+    → ◌≡◌ {A = Branch} (record { name = nm; groups = groups_of attr kids }) b → IsNode kids k → names ≡ [] → Counts b.groups names (Some k)
 counts_here attr kids b nm names k is h e =
     let root : IsSome (fin.get b.groups []) = root_is_some attr kids b nm is h.ascending in
     let number : k ≡ descendant_count b.groups [] % 2 ^ 64 =
@@ -110,7 +115,9 @@ counts_by : (old kid : Groups) (names p : Path) (r : Option ℕ) → fin.get kid
 counts_by old kid names p None g e h = sym g ∙ h
 counts_by old kid names p (Some k) g e h = (subst IsSome g h.0, h.1 ∙ ap (λ (x : ℕ). x % 2 ^ 64) (sym e))
 
-pub counts_down : (attr : Attr) (kids slice : List Branch) (b kid : Branch) (nm : Name) (names : Path) (n : Name) (p : Path) (i : ℕ) (r : Option ℕ) → ◌≡◌ {A = Branch} (record { name = nm; groups = groups_of attr kids }) b → HasAscendingNames kids → names ≡ n ∷ p → Ok i ≡ place_of n slice → slice ≡ kids → kid ≡ get_or kids i kid → Counts kid.groups p r → Counts b.groups names r
+pub counts_down : (attr : Attr) (kids slice : List Branch) (b kid : Branch) (nm : Name) (names : Path) (n : Name) (p : Path) (i : ℕ)
+    (r : Option ℕ) → ◌≡◌ {A = Branch} (record { name = nm; groups = groups_of attr kids }) b → HasAscendingNames kids → names ≡ n ∷ p
+    → Ok i ≡ place_of n slice → slice ≡ kids → kid ≡ get_or kids i kid → Counts kid.groups p r → Counts b.groups names r
 counts_down attr kids slice b kid nm names n p i r is h e at s item c =
     let place : place_of n kids ≡ Ok i = ap (place_of n) (sym s) ∙ sym at in
     let number : descendant_count b.groups names ≡ descendant_count kid.groups p =
@@ -133,7 +140,8 @@ module _ {X : Type 0} (test : X → Bool) where
       by false c r = omega arith
 
 -- the answer, at the tree's map and the path that was named
-pub counted_at : (m tree : Groups) (names p : Path) (r : Option ℕ) → m ≡ tree → names ≡ p → Counts m names r → MatchOption r (fin.get tree p ≡ None) (λ n. IsSome (fin.get tree p) × (n ≡ descendant_count tree p % 2 ^ 64))
+pub counted_at : (m tree : Groups) (names p : Path) (r : Option ℕ) → m ≡ tree → names ≡ p → Counts m names r
+    → MatchOption r (fin.get tree p ≡ None) (λ n. IsSome (fin.get tree p) × (n ≡ descendant_count tree p % 2 ^ 64))
 counted_at m tree names p None is e h = sym (λ i. fin.get (is i) (e i)) ∙ h
 counted_at m tree names p (Some k) is e h = (subst (λ (x : Groups). IsSome (fin.get x p)) is (subst (λ (x : Path). IsSome (fin.get m x)) e h.0), h.1 ∙ (λ i. descendant_count (is i) (e i) % 2 ^ 64))
 
@@ -150,10 +158,12 @@ exact_at m tree names p (Some k) is e h few =
     (counted_at m tree names p (Some k) is e h).1 ∙ small_mod (descendant_count tree p) (omega (arith, all, long, size, few))
 
 -- the same, where the number is a part of the answer
-pub counted_beside : {X : Type 0} (m tree : Groups) (names p : Path) (number : X → ℕ) (r : Option X) → m ≡ tree → names ≡ p → Counts m names (option_map number r) → IfSome r (λ x. number x ≡ descendant_count tree p % 2 ^ 64)
+pub counted_beside : {X : Type 0} (m tree : Groups) (names p : Path) (number : X → ℕ) (r : Option X) → m ≡ tree → names ≡ p
+    → Counts m names (option_map number r) → IfSome r (λ x. number x ≡ descendant_count tree p % 2 ^ 64)
 counted_beside m tree names p number None is e h = tt
 counted_beside m tree names p number (Some x) is e h = (counted_at m tree names p (Some (number x)) is e h).1
 
-pub exact_beside : {X : Type 0} (m tree : Groups) (names p : Path) (number : X → ℕ) (r : Option X) → m ≡ tree → names ≡ p → Counts m names (option_map number r) → fin.len tree < 2 ^ 64 → IfSome r (λ x. number x ≡ descendant_count tree p)
+pub exact_beside : {X : Type 0} (m tree : Groups) (names p : Path) (number : X → ℕ) (r : Option X) → m ≡ tree → names ≡ p
+    → Counts m names (option_map number r) → fin.len tree < 2 ^ 64 → IfSome r (λ x. number x ≡ descendant_count tree p)
 exact_beside m tree names p number None is e h few = tt
 exact_beside m tree names p number (Some x) is e h few = exact_at m tree names p (Some (number x)) is e h few

@@ -40,7 +40,9 @@ pub along_of-missing : (m : Groups) (n : Name) (p : Path) → ((q : Path) → fi
 along_of-missing m n p none = ap (filter_map (fin.get m)) (no_roots n (prefixes p)) ∙ filter_map-none (fin.get m) n (prefixes p) none
 
 -- ---- one step of the iterator
-module _ (attr : Attr) (kids slice : List Branch) (b : Branch) (nm : Name) (names : Path) (n : Name) (p : Path) (i : ℕ) (is : ◌≡◌ {A = Branch} (record { name = nm; groups = groups_of attr kids }) b) (h : HasAscendingNames kids) (e : names ≡ n ∷ p) (s : slice ≡ kids) where
+module _ (attr : Attr) (kids slice : List Branch) (b : Branch) (nm : Name) (names : Path) (n : Name) (p : Path) (i : ℕ)
+    (is : ◌≡◌ {A = Branch} (record { name = nm; groups = groups_of attr kids }) b) (h : HasAscendingNames kids) (e : names ≡ n ∷ p)
+    (s : slice ≡ kids) where
   pub goes_down : (kid : Branch) (a : Attr) → Ok i ≡ place_of n slice → kid ≡ get_or kids i kid → Some a ≡ fin.get kid.groups [] → along_of b.groups names ≡ a ∷ along_of kid.groups p
   goes_down kid a at item own =
       ap (along_of b.groups) e

@@ -11,6 +11,7 @@ use Rattle.flat_model.proofs.PathLaws.{same_path_is, same_path_itself}
 use Rattle.flat_model.proofs.MapValues.{keys-map_values}
 use Rattle.group_tree.specs.Groups.{Groups, descendant_count, HasBelow}
 use Rattle.group_tree.specs.Flat.{group_of, CountsAsFlat}
+use Rattle.flat_model.proofs.Booleans.{or_right}
 
 pub same_count : (m : Groups) (home : FinMap nat_cmp Path) (p : Path) → flat.descendant_count (record { groups = map_values group_of m; home = home }) p ≡ descendant_count m p
 same_count m home p = ap (λ (ps : List Path). count_by (λ q. strictly_below q p) ps) (keys-map_values group_of m)
@@ -21,10 +22,6 @@ pub record Passing (test : Path → Bool) (ps : List Path) : Type 0 where
   pub path : Path
   pub passes : test path ≡ true
   pub among : list_any (same_path path) ps ≡ true
-
-or_right : (b c : Bool) → c ≡ true → (b || c) ≡ true
-or_right true c e = refl
-or_right false c e = e
 
 passing : (test : Path → Bool) (ps : List Path) → list_any test ps ≡ true → Passing test ps
 passing test [] e = cc

@@ -1,5 +1,5 @@
 mod Calls
-mod Parents
+pub mod Parents
 mod Places
 mod Children
 mod Walk

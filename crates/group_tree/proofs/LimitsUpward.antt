@@ -36,14 +36,17 @@ by_tests ref true t d e = refl
 by_tests ref false true d e = refl
 by_tests ref false false d e = refl
 
-same_test : (m : Groups) (q a : Path) (ref : MetLimit → Refusal) (c levels n : ℕ) (o : Option Attr) → ref (Descendants n) ≡ model.Descendants a → ref (Depth n) ≡ model.Depth a → c ≡ flat.descendant_count (without_processes m) a →
+same_test : (m : Groups) (q a : Path) (ref : MetLimit → Refusal) (c levels n : ℕ) (o : Option Attr)
+    → ref (Descendants n) ≡ model.Descendants a → ref (Depth n) ≡ model.Depth a → c ≡ flat.descendant_count (without_processes m) a →
     levels ≡ length q - length a → fin.get (without_processes m).groups a ≡ option_map group_of o → option_map ref (met_here o c levels n) ≡ limit_met (without_processes m) q a
 same_test m q a ref c levels n None e1 e2 counted far has =
-    λ i. refuse (asks (λ x. reaches (flat.descendant_count (without_processes m) a) x.limits.descendants) (sym has i)) (model.Descendants a) (refuse (asks (λ x. reaches (length q - length a) x.limits.depth) (sym has i)) (model.Depth a) None)
+    λ i. refuse (asks (λ x. reaches (flat.descendant_count (without_processes m) a) x.limits.descendants) (sym has i)) (model.Descendants a)
+    (refuse (asks (λ x. reaches (length q - length a) x.limits.depth) (sym has i)) (model.Depth a) None)
 same_test m q a ref c levels n (Some attr) e1 e2 counted far has =
     by_tests ref (reaches c (limit_of attr.limits.descendants)) (reaches levels (limit_of attr.limits.depth)) (Descendants n) (Depth n)
     ∙ (λ i. refuse (reaches (counted i) (limit_of attr.limits.descendants)) (e1 i) (refuse (reaches (far i) (limit_of attr.limits.depth)) (e2 i) None))
-    ∙ (λ i. refuse (asks (λ x. reaches (flat.descendant_count (without_processes m) a) x.limits.descendants) (sym has i)) (model.Descendants a) (refuse (asks (λ x. reaches (length q - length a) x.limits.depth) (sym has i)) (model.Depth a) None))
+    ∙ (λ i. refuse (asks (λ x. reaches (flat.descendant_count (without_processes m) a) x.limits.descendants) (sym has i))
+    (model.Descendants a) (refuse (asks (λ x. reaches (length q - length a) x.limits.depth) (sym has i)) (model.Depth a) None))
 
 -- a front of a front
 take_front : (j n : ℕ) (p : Path) → j ≤ n → take j (take n p) ≡ take j p
@@ -57,7 +60,9 @@ first_is : (test : Path → Option Refusal) (ps : List Path) → first_along tes
 first_is test [] = refl
 first_is test (p ∷ ps) = ap (option_or (test p)) (first_is test ps)
 
-exact_walk : (m : Groups) (p : Path) (n : ℕ) → n ≤ length p → option_map (refusal_along p) (first_met (fin.get m) (descendant_count m) (take n p) 0) ≡ first_refusal (limit_met (without_processes m) (take n p)) (upward (take n p))
+exact_walk : (m : Groups) (p : Path) (n : ℕ) → n ≤ length p
+    → option_map (refusal_along p) (first_met (fin.get m) (descendant_count m) (take n p) 0)
+    ≡ first_refusal (limit_met (without_processes m) (take n p)) (upward (take n p))
 exact_walk m p n h =
     map-first_along (refusal_along p) (λ a. met_here (fin.get m a) (descendant_count m a) (length (take n p) - length a) (0 + length a)) (upward (take n p))
     ∙ first_alike (λ a. test_on (refusal_along p) (fin.get m) (descendant_count m) (take n p) a) (limit_met (without_processes m) (take n p)) (take n p) (λ j low.

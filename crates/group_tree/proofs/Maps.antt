@@ -15,6 +15,7 @@ use Rattle.group_tree.specs.declared.set.Setting.TheVariants.{Whole, OneLimit}
 use Rattle.group_tree.specs.Flat.{group_of, limit_of, limit_file_of}
 use Rattle.group_tree.specs.Settings.{SetsAt, NodeSetsBy, ReplacesAt}
 use Rattle.group_tree.proofs.ChildEdits.{get_leaf}
+use Rattle.flat_model.proofs.Booleans.{to_false}
 
 pub inserted_map : (old new : Groups) (p : Path) (a : Attr) → IsUpdated old new p (Some a) → new ≡ fin.insert old p a
 inserted_map old new p a h = fin.same_map path_cmp-IsTotalOrder path_cmp-IsAntisymmetric new (fin.insert old p a) (λ q. h q ∙ sym (fin.get-insert path_cmp-IsTotalOrder old p a q))
@@ -40,7 +41,9 @@ pub sets : (old new : Groups) (p : Path) (a : Attr) (r : Option Attr) (b : Bool)
 sets old new p a None b h e = subst (Sets old new p a) e h
 sets old new p a (Some was) b h e = subst (Sets old new p a) e (subst IsSome (sym h.there) refl, inserted_map old new p h.now h.updated ∙ ap (fin.insert old p) h.made)
 
-pub replaces : (old new : Groups) (p : Path) (file : LimitFile) (limit earlier : Limit) (was : Attr) → SetsAt (OneLimit file limit) old new p was → limit_of earlier ≡ limit_at (limit_file_of file) (group_of was) → ReplacesAt old new p file limit earlier
+pub replaces : (old new : Groups) (p : Path) (file : LimitFile) (limit earlier : Limit) (was : Attr)
+    → SetsAt (OneLimit file limit) old new p was → limit_of earlier ≡ limit_at (limit_file_of file) (group_of was)
+    → ReplacesAt old new p file limit earlier
 replaces old new p file limit earlier was h e = record {
   was = was;
   now = h.now;
@@ -74,10 +77,6 @@ longer p n e =
     let same = ap length ((same_path_is (p ++ n ∷ []) p).0 e) in
     let two = length-append p (n ∷ []) in
     omega (arith, same, two)
-
-to_false : (b : Bool) → (b ≡ true → ⊥) → b ≡ false
-to_false true h = absurd (h refl)
-to_false false h = refl
 
 pub child_below : (p : Path) (n : Name) → strictly_below (p ++ n ∷ []) p ≡ true
 child_below p n = (strictly_below_is (p ++ n ∷ []) p).1 (at_or_below-append p (n ∷ []), to_false (same_path (p ++ n ∷ []) p) (longer p n))

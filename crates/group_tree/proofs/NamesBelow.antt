@@ -50,7 +50,9 @@ names_append es fs g =
     ∙ ap (map last_name) (filter-append (is_child g) (map (λ e. e.0) es) (map (λ e. e.0) fs))
     ∙ map-append last_name (filter (is_child g) (map (λ e. e.0) es)) (filter (is_child g) (map (λ e. e.0) fs))
 
-one_more : (g q : Path) (es : List GroupEntry) (b : Bool) → is_child g q ≡ b → map last_name (cond (is_child g q) (q ∷ filter (is_child g) (map (λ e. e.0) es)) (filter (is_child g) (map (λ e. e.0) es))) ≡ cond b (last_name q ∷ names_in es g) (names_in es g)
+one_more : (g q : Path) (es : List GroupEntry) (b : Bool) → is_child g q ≡ b
+    → map last_name (cond (is_child g q) (q ∷ filter (is_child g) (map (λ e. e.0) es)) (filter (is_child g) (map (λ e. e.0) es)))
+    ≡ cond b (last_name q ∷ names_in es g) (names_in es g)
 one_more g q es true e = ap (λ b. map last_name (cond b (q ∷ filter (is_child g) (map (λ e. e.0) es)) (filter (is_child g) (map (λ e. e.0) es)))) e
 one_more g q es false e = ap (λ b. map last_name (cond b (q ∷ filter (is_child g) (map (λ e. e.0) es)) (filter (is_child g) (map (λ e. e.0) es)))) e
 
@@ -98,7 +100,8 @@ names_below : (kids : List Branch) → names_in (below kids) [] ≡ names_of_gro
 names_below [] = refl
 names_below (k ∷ kids) =
     names_append (under k.name (fin.entries k.groups)) (below kids) []
-    ∙ ap (λ (xs : List Name). xs ++ names_in (below kids) []) (names_root k.name (fin.entries k.groups) (fin.entries_sorted k.groups) ∙ ap (λ (o : Option Attr). cond (is_some o) (k.name ∷ []) []) (sym (fin.get-entries k.groups [])))
+    ∙ ap (λ (xs : List Name). xs ++ names_in (below kids) []) (names_root k.name (fin.entries k.groups) (fin.entries_sorted k.groups)
+    ∙ ap (λ (o : Option Attr). cond (is_some o) (k.name ∷ []) []) (sym (fin.get-entries k.groups [])))
     ∙ cond_cons (fin.contains_key k.groups []) k.name (names_in (below kids) [])
     ∙ ap (λ (xs : List Name). cond (fin.contains_key k.groups []) (k.name ∷ xs) xs) (names_below kids)
 
@@ -114,7 +117,8 @@ names_above m g (k ∷ kids) h =
     ∙ ap (λ (xs : List Name). xs ++ names_in (below kids) (m ∷ g)) (names_other k.name m g (fin.entries k.groups) (turned k.name m Less h.0))
     ∙ names_above m g kids h.1
 
-names_at : (m : Name) (g : Path) (kids : List Branch) (i : ℕ) (d : Branch) → HasAscendingNames kids → place_of m kids ≡ Ok i → names_in (below kids) (m ∷ g) ≡ child_names (fin.keys (get_or kids i d).groups) g
+names_at : (m : Name) (g : Path) (kids : List Branch) (i : ℕ) (d : Branch) → HasAscendingNames kids → place_of m kids ≡ Ok i
+    → names_in (below kids) (m ∷ g) ≡ child_names (fin.keys (get_or kids i d).groups) g
 names_at m g [] i d h e = cc
 names_at m g (k ∷ kids) i d h e =
     elim (name_cmp m k.name) as (λ r. name_cmp m k.name ≡ r → place_by r (place_of m kids) ≡ Ok i → names_in (below (k ∷ kids)) (m ∷ g) ≡ child_names (fin.keys (get_or (k ∷ kids) i d).groups) g) [
@@ -140,18 +144,25 @@ names_at m g (k ∷ kids) i d h e =
 
 -- ---- as an answer at a return needs it
 
-names_of_node : (attr : Attr) (kids : List Branch) (b : Branch) (nm : Name) (g : Path) → ◌≡◌ {A = Branch} (record { name = nm; groups = groups_of attr kids }) b → HasAscendingNames kids → child_names (fin.keys b.groups) g ≡ names_in (below kids) g
+names_of_node : (attr : Attr) (kids : List Branch) (b : Branch) (nm : Name) (g : Path)
+    → ◌≡◌ {A = Branch} (record { name = nm; groups = groups_of attr kids }) b → HasAscendingNames kids
+    → child_names (fin.keys b.groups) g ≡ names_in (below kids) g
 names_of_node attr kids b nm g is ascending =
     ap (λ (c : Branch). child_names (fin.keys c.groups) g) (sym is)
     ∙ ap (λ (es : List GroupEntry). names_in es g) (entries_of_node attr kids ascending)
 
-pub names_here : (attr : Attr) (kids slice : List Branch) (b : Branch) (nm : Name) (names : Path) (r : List Name) → ◌≡◌ {A = Branch} (record { name = nm; groups = groups_of attr kids }) b → HasAscendingNames kids → names ≡ [] → slice ≡ kids → r ≡ names_of_groups slice → NamesChildren b.groups names (Some r)
+pub names_here : (attr : Attr) (kids slice : List Branch) (b : Branch) (nm : Name) (names : Path) (r : List Name)
+    → ◌≡◌ {A = Branch} (record { name = nm; groups = groups_of attr kids }) b → HasAscendingNames kids → names ≡ [] → slice ≡ kids
+    → r ≡ names_of_groups slice → NamesChildren b.groups names (Some r)
 names_here attr kids slice b nm names r is ascending e s from = (
   subst IsSome (find_here attr kids b nm names is ascending e) refl,
   from ∙ ap names_of_groups s ∙ sym (names_below kids) ∙ sym (names_of_node attr kids b nm [] is ascending) ∙ ap (child_names (fin.keys b.groups)) (sym e),
 )
 
-pub names_down : (attr : Attr) (kids slice : List Branch) (b kid : Branch) (nm : Name) (names : Path) (n : Name) (p : Path) (i : ℕ) (r : Option (List Name)) → ◌≡◌ {A = Branch} (record { name = nm; groups = groups_of attr kids }) b → HasAscendingNames kids → names ≡ n ∷ p → Ok i ≡ place_of n slice → slice ≡ kids → kid ≡ get_or kids i kid → NamesChildren kid.groups p r → NamesChildren b.groups names r
+pub names_down : (attr : Attr) (kids slice : List Branch) (b kid : Branch) (nm : Name) (names : Path) (n : Name) (p : Path) (i : ℕ)
+    (r : Option (List Name)) → ◌≡◌ {A = Branch} (record { name = nm; groups = groups_of attr kids }) b → HasAscendingNames kids
+    → names ≡ n ∷ p → Ok i ≡ place_of n slice → slice ≡ kids → kid ≡ get_or kids i kid → NamesChildren kid.groups p r
+    → NamesChildren b.groups names r
 names_down attr kids slice b kid nm names n p i None is ascending e at s item h =
     sym (find_down attr kids slice b kid nm names n p i is ascending e at s item) ∙ h
 names_down attr kids slice b kid nm names n p i (Some r) is ascending e at s item h = (

@@ -29,11 +29,14 @@ peaked_along n p peaks behind peak last front = record {
       ∙ ap (λ (k : ℕ). record x { peak = get_or peaks k x.peak }) at ∙ ap (λ (k : ℕ). record x { peak = k }) (last x.peak));
   behind = λ m q x.
       let at : length (n ∷ p) - length (n ∷ m ∷ q) ≡ length p - length (m ∷ q) = omega arith in
-      elim (counts_for p (m ∷ q)) as (λ b. counts_for p (m ∷ q) ≡ b → ◌≡◌ {A = Attr} (record x { peak = cond b (get_or behind (length p - length (m ∷ q)) x.peak) x.peak }) (record x { peak = cond b (get_or peaks (length (n ∷ p) - length (n ∷ m ∷ q)) x.peak) x.peak })) [
+      elim (counts_for p (m ∷ q)) as (λ b. counts_for p (m ∷ q) ≡ b
+      → ◌≡◌ {A = Attr} (record x { peak = cond b (get_or behind (length p - length (m ∷ q)) x.peak) x.peak })
+      (record x { peak = cond b (get_or peaks (length (n ∷ p) - length (n ∷ m ∷ q)) x.peak) x.peak })) [
         | true ↦ λ e.
             let short = at_or_below_length p (m ∷ q) e in
             let inside : length p - length (m ∷ q) < length p = omega (arith, short) in
-            ap (λ (k : ℕ). record x { peak = k }) (ap (λ (ns : List ℕ). get_or ns (length p - length (m ∷ q)) x.peak) front ∙ get_or-take (length p) peaks (length p - length (m ∷ q)) x.peak inside ∙ ap (λ (k : ℕ). get_or peaks k x.peak) (sym at))
+            ap (λ (k : ℕ). record x { peak = k }) (ap (λ (ns : List ℕ). get_or ns (length p - length (m ∷ q)) x.peak) front
+            ∙ get_or-take (length p) peaks (length p - length (m ∷ q)) x.peak inside ∙ ap (λ (k : ℕ). get_or peaks k x.peak) (sym at))
         | false ↦ λ e. refl
       ] refl
       ∙ ap (λ b. record x { peak = cond b (get_or peaks (length (n ∷ p) - length (n ∷ m ∷ q)) x.peak) x.peak }) (sym (below-cons n p (m ∷ q)));

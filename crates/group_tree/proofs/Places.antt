@@ -45,7 +45,9 @@ place_found name (k ∷ kids) (suc i) h l e =
     let less : name_cmp k.name name ≡ Less = ap (name_cmp k.name) (sym named) ∙ above_at k.name kids i k h.0 (omega arith) in
     ap (λ r. place_by r (place_of name kids)) (turned k.name name Less less) ∙ ap one_on (place_found name kids i h.1 (omega arith) e)
 
-place_missing : (name : Name) (kids : List Branch) (i : ℕ) → i ≤ length kids → ((j : ℕ) (d : Branch) → 0 ≤ j → j < i → name_cmp (get_or kids j d).name name ≡ Less) → ((j : ℕ) (d : Branch) → i ≤ j → j < length kids → name_cmp (get_or kids j d).name name ≡ Greater) → place_of name kids ≡ Err i
+place_missing : (name : Name) (kids : List Branch) (i : ℕ) → i ≤ length kids
+    → ((j : ℕ) (d : Branch) → 0 ≤ j → j < i → name_cmp (get_or kids j d).name name ≡ Less)
+    → ((j : ℕ) (d : Branch) → i ≤ j → j < length kids → name_cmp (get_or kids j d).name name ≡ Greater) → place_of name kids ≡ Err i
 place_missing name [] i l before after = let z : 0 ≡ i = omega arith in ap Err z
 place_missing name (k ∷ kids) zero l before after = ap (λ r. place_by r (place_of name kids)) (turned k.name name Greater (after 0 k (omega arith) (omega arith)))
 place_missing name (k ∷ kids) (suc i) l before after =
@@ -53,6 +55,7 @@ place_missing name (k ∷ kids) (suc i) l before after =
     ∙ ap one_on (place_missing name kids i (omega arith) (λ j d _ b. before (suc j) d (omega arith) (omega arith)) (λ j d a b. after (suc j) d (omega arith) (omega arith)))
 
 -- the search ends at the child, or where it would stand
-pub searched : (name : Name) (kids : List Branch) (r : Result ℕ ℕ) → HasAscendingNames kids → IsSearchInRange r (length kids) → IsBinarySearchResult (λ (k : Branch). name_cmp k.name name) kids r → place_of name kids ≡ r
+pub searched : (name : Name) (kids : List Branch) (r : Result ℕ ℕ) → HasAscendingNames kids → IsSearchInRange r (length kids)
+    → IsBinarySearchResult (λ (k : Branch). name_cmp k.name name) kids r → place_of name kids ≡ r
 searched name kids (Ok i) h bound equal = place_found name kids i h bound equal
 searched name kids (Err i) h bound parted = let p = parted (searchable name kids h) in place_missing name kids i bound p.0 p.1

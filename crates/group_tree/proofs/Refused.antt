@@ -30,7 +30,9 @@ module _ (g : ℕ → ℕ) where
   at_end attr kids l h e [] = get_root (record attr { local = l }) kids h ∙ ap (λ (k : ℕ). Some (record attr { local = k })) e ∙ ap (option_map (counted_by g [] [])) (sym (get_root attr kids h))
   at_end attr kids l h e (m ∷ q) = get_child (record attr { local = l }) kids m q h ∙ sym (get_child attr kids m q h) ∙ stays m q (fin.get (groups_of attr kids) (m ∷ q))
 
-  pub counts_here : (attr : Attr) (kids : List Branch) (b : Branch) (nm : Name) (names : Path) (l : ℕ) → ◌≡◌ {A = Branch} (record { name = nm; groups = groups_of attr kids }) b → HasAscendingNames kids → names ≡ [] → l ≡ g attr.local → Counts g b.groups (groups_of (record attr { local = l }) kids) names
+  pub counts_here : (attr : Attr) (kids : List Branch) (b : Branch) (nm : Name) (names : Path) (l : ℕ)
+      → ◌≡◌ {A = Branch} (record { name = nm; groups = groups_of attr kids }) b → HasAscendingNames kids → names ≡ [] → l ≡ g attr.local
+      → Counts g b.groups (groups_of (record attr { local = l }) kids) names
   counts_here attr kids b nm names l is h e was =
       subst (λ (c : Branch). Counts g c.groups (groups_of (record attr { local = l }) kids) names) is
       (subst (λ (x : Path). Counts g (groups_of attr kids) (groups_of (record attr { local = l }) kids) x) (sym e) (at_end attr kids l h was))

@@ -18,22 +18,31 @@ own_change attr a kids h [] = get_root a kids h
 own_change attr a kids h (m ∷ q) = get_child a kids m q h ∙ sym (get_child attr kids m q h)
 
 -- setting what the node itself has
-pub sets_here : (attr a : Attr) (kids : List Branch) (b : Branch) (nm : Name) (names : Path) → ◌≡◌ {A = Branch} (record { name = nm; groups = groups_of attr kids }) b → HasAscendingNames kids → names ≡ [] → NodeSets b.groups (groups_of a kids) names a true
+pub sets_here : (attr a : Attr) (kids : List Branch) (b : Branch) (nm : Name) (names : Path)
+    → ◌≡◌ {A = Branch} (record { name = nm; groups = groups_of attr kids }) b → HasAscendingNames kids → names ≡ []
+    → NodeSets b.groups (groups_of a kids) names a true
 sets_here attr a kids b nm names is h e =
     let here : (q : Path) → fin.get (groups_of a kids) q ≡ cond (eq_by_cmp path_cmp q []) (Some a) (fin.get (groups_of attr kids) q) = own_change attr a kids h in
-    let there : NodeSets (groups_of attr kids) (groups_of a kids) names a true = subst (λ (x : Path). NodeSets (groups_of attr kids) (groups_of a kids) x a true) (sym e) (some_root attr kids h, here) in
+    let there : NodeSets (groups_of attr kids) (groups_of a kids) names a true =
+    subst (λ (x : Path). NodeSets (groups_of attr kids) (groups_of a kids) x a true) (sym e) (some_root attr kids h, here) in
     subst (λ (c : Branch). NodeSets c.groups (groups_of a kids) names a true) is there
 
 sets_step : (old new : Groups) (n : Name) (kid after : Groups) (p : Path) (attr : Attr) (r : Bool) → Step old new n kid after → NodeSets kid after p attr r → NodeSets old new (n ∷ p) attr r
 sets_step old new n kid after p attr true s h = (subst IsSome (sym (s.gets p)) h.0, s.updated p (Some attr) h.1)
 sets_step old new n kid after p attr false s h = (s.gets p ∙ h.0, s.same h.1)
 
-pub sets_at : (attr : Attr) (kids slice : List Branch) (kid after : Branch) (names : Path) (n : Name) (p : Path) (i : ℕ) (a : Attr) (r : Bool) → HasAscendingNames kids → names ≡ n ∷ p → Ok i ≡ place_of n slice → slice ≡ kids → kid ≡ get_or kids i kid → after.name ≡ kid.name → NodeSets kid.groups after.groups p a r → NodeSets (groups_of attr kids) (groups_of attr (set kids i after)) names a r
+pub sets_at : (attr : Attr) (kids slice : List Branch) (kid after : Branch) (names : Path) (n : Name) (p : Path) (i : ℕ) (a : Attr)
+    (r : Bool) → HasAscendingNames kids → names ≡ n ∷ p → Ok i ≡ place_of n slice → slice ≡ kids → kid ≡ get_or kids i kid
+    → after.name ≡ kid.name → NodeSets kid.groups after.groups p a r
+    → NodeSets (groups_of attr kids) (groups_of attr (set kids i after)) names a r
 sets_at attr kids slice kid after names n p i a r h e at s item named ins =
     subst (λ (x : Path). NodeSets (groups_of attr kids) (groups_of attr (set kids i after)) x a r) (sym e)
     (sets_step _ _ n _ _ p a r (step_at attr kids slice n i kid after h at s item named) ins)
 
-pub sets_down : (attr : Attr) (kids slice : List Branch) (b kid after : Branch) (nm : Name) (names : Path) (n : Name) (p : Path) (i : ℕ) (a : Attr) (r : Bool) → ◌≡◌ {A = Branch} (record { name = nm; groups = groups_of attr kids }) b → HasAscendingNames kids → names ≡ n ∷ p → Ok i ≡ place_of n slice → slice ≡ kids → kid ≡ get_or kids i kid → after.name ≡ kid.name → NodeSets kid.groups after.groups p a r → NodeSets b.groups (groups_of attr (set kids i after)) names a r
+pub sets_down : (attr : Attr) (kids slice : List Branch) (b kid after : Branch) (nm : Name) (names : Path) (n : Name) (p : Path) (i : ℕ)
+    (a : Attr) (r : Bool) → ◌≡◌ {A = Branch} (record { name = nm; groups = groups_of attr kids }) b → HasAscendingNames kids → names ≡ n ∷ p
+    → Ok i ≡ place_of n slice → slice ≡ kids → kid ≡ get_or kids i kid → after.name ≡ kid.name → NodeSets kid.groups after.groups p a r
+    → NodeSets b.groups (groups_of attr (set kids i after)) names a r
 sets_down attr kids slice b kid after nm names n p i a r is h e at s item named ins =
     subst (λ (c : Branch). NodeSets c.groups (groups_of attr (set kids i after)) names a r) is
     (sets_at attr kids slice kid after names n p i a r h e at s item named ins)
@@ -44,7 +53,9 @@ module _ (setting : Setting) where
   pub is_set : (old new : Groups) (p : Path) (was : Attr) (w : SetsAt setting old new p was) → NodeSets old new p w.now true
   is_set old new p was w = (subst IsSome (sym w.there) refl, w.updated)
 
-  pub sets_here_by : (attr a : Attr) (kids : List Branch) (b : Branch) (nm : Name) (names : Path) → ◌≡◌ {A = Branch} (record { name = nm; groups = groups_of attr kids }) b → HasAscendingNames kids → names ≡ [] → IsSetBy setting attr a → NodeSetsBy setting b.groups (groups_of a kids) names (Some attr)
+  pub sets_here_by : (attr a : Attr) (kids : List Branch) (b : Branch) (nm : Name) (names : Path)
+      → ◌≡◌ {A = Branch} (record { name = nm; groups = groups_of attr kids }) b → HasAscendingNames kids → names ≡ []
+      → IsSetBy setting attr a → NodeSetsBy setting b.groups (groups_of a kids) names (Some attr)
   sets_here_by attr a kids b nm names is h e made = record {
     now = a;
     there = sym (find_here attr kids b nm names is h e);
@@ -52,7 +63,10 @@ module _ (setting : Setting) where
     updated = (sets_here attr a kids b nm names is h e).1;
   }
 
-  pub sets_down_by : (attr : Attr) (kids slice : List Branch) (b kid after : Branch) (nm : Name) (names : Path) (n : Name) (p : Path) (i : ℕ) (r : Option Attr) → ◌≡◌ {A = Branch} (record { name = nm; groups = groups_of attr kids }) b → HasAscendingNames kids → names ≡ n ∷ p → Ok i ≡ place_of n slice → slice ≡ kids → kid ≡ get_or kids i kid → after.name ≡ kid.name → NodeSetsBy setting kid.groups after.groups p r → NodeSetsBy setting b.groups (groups_of attr (set kids i after)) names r
+  pub sets_down_by : (attr : Attr) (kids slice : List Branch) (b kid after : Branch) (nm : Name) (names : Path) (n : Name) (p : Path)
+      (i : ℕ) (r : Option Attr) → ◌≡◌ {A = Branch} (record { name = nm; groups = groups_of attr kids }) b → HasAscendingNames kids
+      → names ≡ n ∷ p → Ok i ≡ place_of n slice → slice ≡ kids → kid ≡ get_or kids i kid → after.name ≡ kid.name
+      → NodeSetsBy setting kid.groups after.groups p r → NodeSetsBy setting b.groups (groups_of attr (set kids i after)) names r
   sets_down_by attr kids slice b kid after nm names n p i None is h e at s item named w = sets_down attr kids slice b kid after nm names n p i attr false is h e at s item named w
   sets_down_by attr kids slice b kid after nm names n p i (Some was) is h e at s item named w = record {
     now = w.now;

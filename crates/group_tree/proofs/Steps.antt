@@ -24,17 +24,21 @@ kid_there kids i kid h is d = is ∙ get_or_default kids i kid d h
 pub some_root : (attr : Attr) (kids : List Branch) → HasAscendingNames kids → IsSome (fin.get (groups_of attr kids) [])
 some_root attr kids h = ap is_some (get_root attr kids h)
 
-pub root_is_some : (attr : Attr) (kids : List Branch) (b : Branch) (nm : Name) → ◌≡◌ {A = Branch} (record { name = nm; groups = groups_of attr kids }) b → HasAscendingNames kids → IsSome (fin.get b.groups [])
+pub root_is_some : (attr : Attr) (kids : List Branch) (b : Branch) (nm : Name)
+    → ◌≡◌ {A = Branch} (record { name = nm; groups = groups_of attr kids }) b → HasAscendingNames kids → IsSome (fin.get b.groups [])
 root_is_some attr kids b nm is h = subst (λ (c : Branch). IsSome (fin.get c.groups [])) is (some_root attr kids h)
 
 -- a child that is changed in place
-pub edited_at : (kids slice : List Branch) (n : Name) (i : ℕ) (kid after : Branch) → HasAscendingNames kids → Ok i ≡ place_of n slice → slice ≡ kids → kid ≡ get_or kids i kid → after.name ≡ kid.name → Edited kids (set kids i after) n (λ q. fin.get after.groups q)
+pub edited_at : (kids slice : List Branch) (n : Name) (i : ℕ) (kid after : Branch) → HasAscendingNames kids → Ok i ≡ place_of n slice
+    → slice ≡ kids → kid ≡ get_or kids i kid → after.name ≡ kid.name → Edited kids (set kids i after) n (λ q. fin.get after.groups q)
 edited_at kids slice n i kid after h at s item named =
     let place : place_of n kids ≡ Ok i = ap (place_of n) (sym s) ∙ sym at in
     let f = found n kids i place in
     replaced n kids i after place h (λ d. named ∙ ap (λ (b : Branch). b.name) (kid_there kids i kid f.bound item d))
 
-pub step_at : (attr : Attr) (kids slice : List Branch) (n : Name) (i : ℕ) (kid after : Branch) → HasAscendingNames kids → Ok i ≡ place_of n slice → slice ≡ kids → kid ≡ get_or kids i kid → after.name ≡ kid.name → Step (groups_of attr kids) (groups_of attr (set kids i after)) n kid.groups after.groups
+pub step_at : (attr : Attr) (kids slice : List Branch) (n : Name) (i : ℕ) (kid after : Branch) → HasAscendingNames kids
+    → Ok i ≡ place_of n slice → slice ≡ kids → kid ≡ get_or kids i kid → after.name ≡ kid.name
+    → Step (groups_of attr kids) (groups_of attr (set kids i after)) n kid.groups after.groups
 step_at attr kids slice n i kid after h at s item named =
     let place : place_of n kids ≡ Ok i = ap (place_of n) (sym s) ∙ sym at in
     let f = found n kids i place in
@@ -49,5 +53,6 @@ step_at attr kids slice n i kid after h at s item named =
     }
 
 -- what the node itself has
-pub own_attr : (attr : Attr) (kids : List Branch) (b : Branch) (nm : Name) → ◌≡◌ {A = Branch} (record { name = nm; groups = groups_of attr kids }) b → HasAscendingNames kids → Some attr ≡ fin.get b.groups []
+pub own_attr : (attr : Attr) (kids : List Branch) (b : Branch) (nm : Name)
+    → ◌≡◌ {A = Branch} (record { name = nm; groups = groups_of attr kids }) b → HasAscendingNames kids → Some attr ≡ fin.get b.groups []
 own_attr attr kids b nm is h = sym (get_root attr kids h) ∙ ap (λ (c : Branch). fin.get c.groups []) is

@@ -106,7 +106,8 @@ counted_down a q x =
 pub up_to_the_greatest : (n : ℕ) → raised n < 2 ^ 64
 up_to_the_greatest n = omega arith
 
-each_up : (o : Option Attr) (a q : Path) → ((x : Attr) → o ≡ Some x → (x.local < 2 ^ 64 - 1) × (x.total < 2 ^ 64 - 1)) → option_map group_of (option_map (counted_by (raised) a q) o) ≡ option_map (count_up a q) (option_map group_of o)
+each_up : (o : Option Attr) (a q : Path) → ((x : Attr) → o ≡ Some x → (x.local < 2 ^ 64 - 1) × (x.total < 2 ^ 64 - 1))
+    → option_map group_of (option_map (counted_by (raised) a q) o) ≡ option_map (count_up a q) (option_map group_of o)
 each_up None a q h = refl
 each_up (Some x) a q h = let two = h x refl in ap Some (counted_up a q x two.0 two.1)
 
@@ -134,7 +135,8 @@ all_set old new a q peaks c =
 
 -- ---- three groups
 
-pub slots_up : (m : Groups) (a b c : Name) (x y z : Attr) → get m (a ∷ []) ≡ Some x → get m (a ∷ b ∷ []) ≡ Some y → get m (a ∷ b ∷ c ∷ []) ≡ Some z → chain_of m (a ∷ b ∷ c ∷ []) ≡ z.slot ∷ y.slot ∷ x.slot ∷ []
+pub slots_up : (m : Groups) (a b c : Name) (x y z : Attr) → get m (a ∷ []) ≡ Some x → get m (a ∷ b ∷ []) ≡ Some y
+    → get m (a ∷ b ∷ c ∷ []) ≡ Some z → chain_of m (a ∷ b ∷ c ∷ []) ≡ z.slot ∷ y.slot ∷ x.slot ∷ []
 slots_up m a b c x y z h k l = λ i. slot_of (l i) ∷ slot_of (k i) ∷ slot_of (h i) ∷ []
 
 pub all_along : (m : Groups) (a b c : Name) (x y z : Attr) → get m (a ∷ []) ≡ Some x → get m (a ∷ b ∷ []) ≡ Some y → get m (a ∷ b ∷ c ∷ []) ≡ Some z → along_of m (a ∷ b ∷ c ∷ []) ≡ x ∷ y ∷ z ∷ []

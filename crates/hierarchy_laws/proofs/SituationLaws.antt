@@ -8,6 +8,7 @@ use Rattle.group_tree.specs.declared.fault.TreeFault.{TreeFault}
 use Rattle.group_tree.specs.declared.fault.TreeFault.TheVariants.{Exists, NoParent, NoGroup, HasChildren, RootFixed, OutOfMemory}
 use Rattle.group_tree.specs.Groups.{Groups, HasBelow, HasNoneBelow, Inserts, Sets, Removes}
 use Rattle.group_tree.proofs.Flat.{any_below_is}
+use Rattle.flat_model.proofs.Booleans.{to_false, apart}
 
 not_both : {X : Type 0} (o : Option X) → IsSome o → o ≡ None → ⊥
 not_both None h e = cc
@@ -139,13 +140,6 @@ module _ (old new : Groups) (p : Path) where
 
 pub some_below_is : (m : Groups) (p : Path) → HasBelow m p ↔ (list_any (λ q. strictly_below q p) (keys m) ≡ true)
 some_below_is m p = let is = any_below_is m p in (is.1, is.0)
-
-to_false : (b : Bool) → (b ≡ true → ⊥) → b ≡ false
-to_false true h = absurd (h refl)
-to_false false h = refl
-
-apart : (b : Bool) → b ≡ true → b ≡ false → ⊥
-apart b t f = cc
 
 nothing : {X : Type 0} (o : Option X) → (IsSome o → ⊥) → o ≡ None
 nothing None h = refl

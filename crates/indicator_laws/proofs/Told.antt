@@ -56,7 +56,8 @@ stops_memory k a b (f ∷ es) (suc i) u r (q, e, at, x) = stops_memory (after k 
 pub stops_first : (k a b : State) (es : List Event) (i j : ℕ) (u v : Unlawful) → Stops k es i u a → Stops k es j v b → i < j → u ≡ OutOfMemory
 stops_first k a b [] i j u v (q, e, at, x) s l = cc
 stops_first k a b (f ∷ es) i zero u v s t l = absurd (omega (arith, l))
-stops_first k a b (f ∷ es) zero (suc j) u v (q, e, at, x) (p, g, bt, y) l = memory k f u p.0 (subst (λ (c : State). Refuses u c f) q (subst (λ (g : Event). Refuses u a g) (same e f (Some f) at refl) x))
+stops_first k a b (f ∷ es) zero (suc j) u v (q, e, at, x) (p, g, bt, y) l =
+    memory k f u p.0 (subst (λ (c : State). Refuses u c f) q (subst (λ (g : Event). Refuses u a g) (same e f (Some f) at refl) x))
 stops_first k a b (f ∷ es) (suc i) (suc j) u v (q, e, at, x) (p, g, bt, y) l = stops_first (after k f) a b es i j u v (q.1, e, at, x) (p.1, g, bt, y) (omega (arith, l))
 
 pub stops_inside : (k a : State) (es : List Event) (i : ℕ) (u : Unlawful) → Stops k es i u a → i < length es

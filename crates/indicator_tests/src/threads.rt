@@ -16,7 +16,7 @@ const ROUNDS: u32 = 10_000;
 
 // A leaf and stripe of its own for each hand, or the first for all.
 #[derive(Clone, Copy)]
-struct Place {
+struct Layout {
     apart: bool,
     keep: bool,
 }
@@ -75,7 +75,7 @@ fn leaf_of(apart: bool, number: u8) -> u8
 fn two<R: Threads + Sync>(
     rt: &R,
     board: &Board<1, 7, 4>,
-    place: Place,
+    place: Layout,
     first: u8,
     a: Hand,
     b: Hand,
@@ -110,7 +110,7 @@ fn ends(board: Board<1, 7, 4>, main: Hand) -> bool
 }
 
 // Four helpers at work, each in a thread of its own, and then joined; the board ends with the run of all five hands.
-fn four<R: Threads + Sync>(rt: &R, alloc: Global, place: Place) -> Result<Found, AllocError> {
+fn four<R: Threads + Sync>(rt: &R, alloc: Global, place: Layout) -> Result<Found, AllocError> {
     let (board, mut main) = Board::<1, 7, 4>::new(alloc)?;
     let a = split_one(&board, &mut main);
     let b = split_one(&board, &mut main);
@@ -154,7 +154,7 @@ fn four_threads_leave_nothing(rt: HostRuntime) -> Result<(), Fail> {
         ended: true,
     };
     for apart in [true, false] {
-        let found = four(&rt, rt.alloc(), Place { apart, keep: false })?;
+        let found = four(&rt, rt.alloc(), Layout { apart, keep: false })?;
         assert!(rt; found == nothing);
     }
     Ok(())
@@ -170,7 +170,7 @@ fn four_threads_keep_their_last_tokens(rt: HostRuntime) -> Result<(), Fail> {
         ended: true,
     };
     for apart in [true, false] {
-        let found = four(&rt, rt.alloc(), Place { apart, keep: true })?;
+        let found = four(&rt, rt.alloc(), Layout { apart, keep: true })?;
         assert!(rt; found == kept);
     }
     Ok(())

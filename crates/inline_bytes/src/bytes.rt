@@ -11,7 +11,7 @@ pub const INLINE_MAX: usize = 23;
 
 /// Where the bytes are stored.
 #[derive(Drop)]
-pub(crate) enum Place<A: Allocator> {
+pub(crate) enum Storage<A: Allocator> {
     /// Inline: the first `len` of these bytes.
     Inline {
         bytes: [u8; INLINE_MAX],
@@ -28,7 +28,7 @@ pub(crate) enum Place<A: Allocator> {
 
 /// A list of bytes. Up to `INLINE_MAX` of them are stored in the value itself.
 pub struct InlineBytes<A: Allocator> {
-    pub(crate) place: Place<A>,
+    pub(crate) storage: Storage<A>,
 }
 
 impl<A: Allocator> Model for InlineBytes<A> {
@@ -37,16 +37,16 @@ impl<A: Allocator> Model for InlineBytes<A> {
 
     ghost Value = { List ℕ };
 
-    ghost view = { λ b. bytes_in b.place };
+    ghost view = { λ b. bytes_in b.storage };
 
-    ghost invariant = { λ b. IsSound b.place };
+    ghost invariant = { λ b. IsSound b.storage };
 }
 
 // The explicit drop hides the storage, so the proof of a function that drops such a value has one case instead of two.
 impl<A: Allocator> Drop for InlineBytes<A> {
     fn drop(self) {
-        let Self { place } = self;
-        drop(place);
+        let Self { storage } = self;
+        drop(storage);
     }
 }
 
@@ -62,8 +62,8 @@ impl<A: Allocator> InlineBytes<A> {
     {
         if bytes.len() > INLINE_MAX {
             let heap = Vec::from_slice(alloc, bytes)?;
-            let place = Place::Heap(heap);
-            return Ok(InlineBytes { place });
+            let storage = Storage::Heap(heap);
+            return Ok(InlineBytes { storage });
         }
         Ok(InlineBytes::inline(bytes))
     }
@@ -89,8 +89,8 @@ impl<A: Allocator> InlineBytes<A> {
             heap.extend_from_slice(front)?;
             heap.push(between)?;
             heap.extend_from_slice(back)?;
-            let place = Place::Heap(heap);
-            return Ok(InlineBytes { place });
+            let storage = Storage::Heap(heap);
+            return Ok(InlineBytes { storage });
         }
         Ok(InlineBytes::inline_joined(front, between, back))
     }
@@ -100,8 +100,8 @@ impl<A: Allocator> InlineBytes<A> {
         ensures { result ≡ bytes.items }
     {
         if bytes.len() > INLINE_MAX {
-            let place = Place::Heap(bytes);
-            return InlineBytes { place };
+            let storage = Storage::Heap(bytes);
+            return InlineBytes { storage };
         }
         InlineBytes::inline(bytes.as_slice())
     }
@@ -118,8 +118,8 @@ impl<A: Allocator> InlineBytes<A> {
         bytes[at] = between;
         bytes[at + 1..end].copy_from_slice(back);
         let len = end as u8;
-        let place = Place::Inline { bytes, len };
-        InlineBytes { place }
+        let storage = Storage::Inline { bytes, len };
+        InlineBytes { storage }
     }
 
     /// Stores a few bytes inline.
@@ -130,18 +130,18 @@ impl<A: Allocator> InlineBytes<A> {
         let mut bytes = [0u8; INLINE_MAX];
         bytes[..few.len()].copy_from_slice(few);
         let len = few.len() as u8;
-        let place = Place::Inline { bytes, len };
-        InlineBytes { place }
+        let storage = Storage::Inline { bytes, len };
+        InlineBytes { storage }
     }
 
     /// The bytes in order.
     pub fn as_slice(&self) -> &[u8]
         ensures { result.now ≡ self.now }
     {
-        match &self.place {
-            Place::Inline { bytes, len } => &bytes[..usize::from(*len)],
-            Place::Heap(heap) => heap.as_slice(),
-            Place::Shared { text, len } => &text.as_slice()[..*len],
+        match &self.storage {
+            Storage::Inline { bytes, len } => &bytes[..usize::from(*len)],
+            Storage::Heap(heap) => heap.as_slice(),
+            Storage::Shared { text, len } => &text.as_slice()[..*len],
         }
     }
 
@@ -150,14 +150,14 @@ impl<A: Allocator> InlineBytes<A> {
     pub fn truncate(&mut self, n: usize)
         ensures { self.new ≡ take n self.old }
     {
-        match &mut self.place {
-            Place::Inline { bytes: _, len } => {
+        match &mut self.storage {
+            Storage::Inline { bytes: _, len } => {
                 if n < usize::from(*len) {
                     *len = n as u8;
                 }
             }
-            Place::Heap(heap) => heap.truncate(n),
-            Place::Shared { text: _, len } => {
+            Storage::Heap(heap) => heap.truncate(n),
+            Storage::Shared { text: _, len } => {
                 if n < *len {
                     *len = n;
                 }

@@ -4,8 +4,8 @@ ghost use Rattle.std.specs.Prelude.{◌≡◌, ℕ, ◌↔◌, List, ◌++◌, l
 ghost use Rattle.std.specs.Arc.{arc_value};
 ghost use Rattle.std.specs.declared.sync.Arc.{Arc};
 ghost use Rattle.inline_bytes.specs.declared.bytes.TheConstants.{INLINE_MAX};
-ghost use Rattle.inline_bytes.specs.declared.bytes.Place.{Place};
-ghost use Rattle.inline_bytes.specs.declared.bytes.Place.TheVariants.{Inline, Heap, Shared};
+ghost use Rattle.inline_bytes.specs.declared.bytes.Storage.{Storage};
+ghost use Rattle.inline_bytes.specs.declared.bytes.Storage.TheVariants.{Inline, Heap, Shared};
 ghost use Rattle.inline_bytes.specs.Bytes.{bytes_in, IsSound};
 
 /// An inline value has the first `len` bytes of its array and no others, and so has a value of its shared vector; a value on

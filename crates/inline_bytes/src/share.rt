@@ -2,7 +2,7 @@
 
 ghost use Rattle.std.specs.Prelude.{◌≡◌, ◌≤◌, IfOk, IsOk, length};
 
-use crate::bytes::{INLINE_MAX, InlineBytes, Place};
+use crate::bytes::{INLINE_MAX, InlineBytes, Storage};
 use std::alloc::{AllocError, Allocator};
 use std::sync::Arc;
 
@@ -17,13 +17,13 @@ impl<A: Allocator> InlineBytes<A> {
         ensures same { IfOk result (λ b. b ≡ self.now) }
         ensures few { length self.now ≤ INLINE_MAX → IsOk result }
     {
-        match &self.place {
-            Place::Inline { bytes, len } => {
-                let place = Place::Inline {
+        match &self.storage {
+            Storage::Inline { bytes, len } => {
+                let storage = Storage::Inline {
                     bytes: *bytes,
                     len: *len,
                 };
-                Ok(InlineBytes { place })
+                Ok(InlineBytes { storage })
             }
             _ => InlineBytes::shared_of(alloc, self.as_slice()),
         }
@@ -42,8 +42,8 @@ impl<A: Allocator + Clone> InlineBytes<A> {
         }
         let heap = Vec::from_slice(alloc.clone()?, bytes)?;
         let text = Arc::new(alloc, heap)?;
-        let place = Place::Shared { text, len };
-        Ok(InlineBytes { place })
+        let storage = Storage::Shared { text, len };
+        Ok(InlineBytes { storage })
     }
 
     /// Another value with the same bytes, in the same allocator. If `copy` or `share` made this value, both own its vector:
@@ -57,28 +57,28 @@ impl<A: Allocator + Clone> InlineBytes<A> {
         ensures same { IfOk result (λ b. b ≡ self.now) }
         ensures few { length self.now ≤ INLINE_MAX → IsOk result }
     {
-        match &self.place {
-            Place::Inline { bytes, len } => {
-                let place = Place::Inline {
+        match &self.storage {
+            Storage::Inline { bytes, len } => {
+                let storage = Storage::Inline {
                     bytes: *bytes,
                     len: *len,
                 };
-                Ok(InlineBytes { place })
+                Ok(InlineBytes { storage })
             }
-            Place::Heap(heap) => {
+            Storage::Heap(heap) => {
                 if heap.len() <= INLINE_MAX {
                     return Ok(InlineBytes::inline(heap.as_slice()));
                 }
                 InlineBytes::shared_of(heap.allocator().clone()?, heap.as_slice())
             }
-            Place::Shared { text, len } => {
+            Storage::Shared { text, len } => {
                 let len = *len;
                 if len <= INLINE_MAX {
                     return Ok(InlineBytes::inline(&text.as_slice()[..len]));
                 }
                 let text = Arc::try_clone(text)?;
-                let place = Place::Shared { text, len };
-                Ok(InlineBytes { place })
+                let storage = Storage::Shared { text, len };
+                Ok(InlineBytes { storage })
             }
         }
     }

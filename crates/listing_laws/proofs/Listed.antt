@@ -1,5 +1,5 @@
 -- The list of all groups has each group that stands, and nothing else.
-use Rattle.std.proofs.Common.{◌≡◌, ℕ, zero, suc, ◌-◌, ◌<◌, ◌≤◌, true, false, not, ◌&&◌, ◌↔◌, inl, inr, [], ◌∷◌, ◌++◌, length, take, refl, ap, sym, ◌∙◌, subst, append_assoc, append-nil, arith}
+use Rattle.std.proofs.Common.{◌≡◌, ℕ, zero, suc, ◌-◌, ◌<◌, ◌≤◌, true, false, not, ◌&&◌, ◌↔◌, inl, inr, [], ◌∷◌, ◌++◌, length, refl, ap, sym, ◌∙◌, subst, append_assoc, append-nil, arith}
 use Rattle.std.specs.List.{Contains}
 use Rattle.std.specs.FinMap.{keys, contains_key-keys}
 use Rattle.flat_model.specs.Path.{Name, Path, parent, is_root, same_path}
@@ -11,14 +11,9 @@ use Rattle.flat_model.proofs.PathLaws.{same_path_is, at_or_below-append, parent-
 use Rattle.group_tree.specs.ChildNames.{last_name, is_child}
 use Rattle.line_engine.specs.Listings.{all_groups, groups_from, names_below}
 use Rattle.listing_laws.proofs.Members.{Among, contains_among, among_contains, among_flat, flat_among, among_map, map_among, among_filter, filter_among, any_among, among_any}
+use Rattle.group_tree.proofs.Parents.{parent-one, parent-cons}
 
 -- ---- a path and its last name
-
-parent-one : (n : Name) → parent (n ∷ []) ≡ []
-parent-one n = let e : length (n ∷ []) - 1 ≡ 0 = omega arith in ap (λ (k : ℕ). take k (n ∷ [])) e
-
-parent-cons : (n m : Name) (p : Path) → parent (n ∷ m ∷ p) ≡ n ∷ parent (m ∷ p)
-parent-cons n m p = let e : length (n ∷ m ∷ p) - 1 ≡ suc (length (m ∷ p) - 1) = omega arith in ap (λ (k : ℕ). take k (n ∷ m ∷ p)) e
 
 last_name-child : (p : Path) (name : Name) → last_name (p ++ name ∷ []) ≡ name
 last_name-child [] name = refl

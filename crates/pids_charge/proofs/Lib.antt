@@ -1,7 +1,7 @@
 mod Below
-mod Tokens
+pub mod Tokens
 pub mod InParts
-mod Entries
+pub mod Entries
 mod TableSlots
 mod Listing
 mod Listed

@@ -11,7 +11,8 @@ use Rattle.flat_model.specs.Counts.{current}
 use Rattle.flat_model.specs.Step.{counts_for, raise_peak, raise_peaks, peaks_upward}
 use Rattle.flat_model.proofs.MapValues.{get-map_values}
 use Rattle.flat_model.proofs.PathLaws.{at_or_below_take, at_or_below_length}
-use Rattle.flat_model.proofs.Peaks.{both_by, named, peak_upward, length-peaks_upward}
+use Rattle.flat_model.proofs.Peaks.{named, peak_upward, length-peaks_upward}
+use Rattle.flat_model.proofs.Booleans.{both_by}
 use Rattle.group_tree.specs.Flat.{group_of}
 use Rattle.group_tree.specs.Groups.{Groups, slot_of}
 use Rattle.group_tree.specs.PeaksAlong.{peaked_by}

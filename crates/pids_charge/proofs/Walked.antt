@@ -1,7 +1,7 @@
 -- The walk from a path upward to the nearest full group.
-use Rattle.std.proofs.Common.{◌≡◌, ℕ, suc, zero, ◌+◌, ◌<◌, ◌≤◌, ◌&&◌, Bool, true, false, not, cond, ltb, Option, Some, None, IsSome, List, [], ◌∷◌, ◌++◌, map, reverse, length, take, option_map, refl, sym, ap, ◌∙◌, add-one, arith}
+use Rattle.std.proofs.Common.{◌≡◌, ℕ, suc, zero, ◌+◌, ◌<◌, ◌≤◌, ◌&&◌, Bool, true, false, not, cond, ltb, Option, Some, None, IsSome, List, [], ◌∷◌, ◌++◌, map, length, take, option_map, refl, sym, ap, ◌∙◌, add-one, arith}
 use Rattle.std.specs.Option.{option_or}
-use Rattle.std.proofs.lemmas.List.{map-append, reverse-append, length-take-le}
+use Rattle.std.proofs.lemmas.List.{reverse-append, length-take-le}
 use Rattle.std.proofs.lemmas.Bool.Decides.{nat_tests}
 use Rattle.std.specs.FinMap as fin
 use Rattle.flat_model.specs.Path.{Name, Path, is_root, prefixes, upward, at_or_below}
@@ -17,6 +17,7 @@ use Rattle.pids_charge.specs.Events.{full_by, longest}
 use Rattle.pids_charge.specs.Lists.{Row}
 use Rattle.pids_charge.specs.Recount.{Recounted, HasSlots, state_of}
 use Rattle.pids_charge.proofs.Counted.{current-is}
+use Rattle.flat_model.proofs.Lists.{reverse_map}
 
 -- ---- one step of the loop
 pub longest-yes : (full : Path → Bool) (p : Path) (n : ℕ) → full (take (n + 1) p) ≡ true → longest full p (n + 1) ≡ Some (n + 1)
@@ -24,12 +25,6 @@ longest-yes full p n e = rw (add-one n) (ap (λ b. cond b (Some (suc n)) (longes
 
 pub longest-no : (full : Path → Bool) (p : Path) (n : ℕ) → full (take (n + 1) p) ≡ false → longest full p (n + 1) ≡ longest full p n
 longest-no full p n e = rw (add-one n) (ap (λ b. cond b (Some (suc n)) (longest full p n)) (rw (add-one n) at e))
-
--- ---- the same as the flat state's walk
-reverse_map : {X Y : Type 0} (f : X → Y) (xs : List X) → reverse (map f xs) ≡ map f (reverse xs)
-reverse_map f [] = refl
-reverse_map f (x ∷ xs) =
-    reverse-append (f x ∷ []) (map f xs) ∙ ap (λ ys. ys ++ f x ∷ []) (reverse_map f xs) ∙ sym (map-append f (reverse xs) (x ∷ [])) ∙ ap (map f) (sym (reverse-append (x ∷ []) xs))
 
 upward-cons : (n : Name) (p : Path) → upward (n ∷ p) ≡ map (λ (q : Path). n ∷ q) (upward p) ++ [] ∷ []
 upward-cons n p = reverse-append ([] ∷ []) (map (λ (q : Path). n ∷ q) (prefixes p)) ∙ ap (λ (ps : List Path). ps ++ [] ∷ []) (reverse_map (λ (q : Path). n ∷ q) (prefixes p))

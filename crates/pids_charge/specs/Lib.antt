@@ -4,6 +4,6 @@ pub mod Table
 pub mod Lists
 pub mod Recount
 pub mod Events
-pub mod PeakPlaces
+pub mod PeakStorage
 pub mod Peaks
 pub mod Answers

@@ -13,7 +13,7 @@
 //!   Only `set_peaks` lowers one.
 //! - Refusals come in a fixed order, out of memory last, and change nothing but those totals.
 //! - Each command has an undo that tests no limit: `restore` for a removal, `place` for an exit, `place_all` for a kill,
-//!   `uncount` for a refused fork, `rehome` for a move, and `set_peaks` for the peaks that a fork or a move raised. A limit
+//!   `uncount` for a refused fork, `move_back` for a move, and `set_peaks` for the peaks that a fork or a move raised. A limit
 //!   is undone by setting the old one. None of them raises a peak.
 //! - `refuses_mkdir`, `refuses_rmdir` and `refuses_fork` only decide. `make_group`, `take_group`, `make_process` and
 //!   `count_fork` only do what was decided. `try_process` is a fork that counts no refusal. They are for a caller that

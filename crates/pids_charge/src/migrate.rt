@@ -83,7 +83,7 @@ impl<A: Allocator + Clone, M: Meter> Charges<A, M> {
     /// # Errors
     ///
     /// `OutOfMemory`; nothing has changed then.
-    pub fn rehome<B: Allocator + Clone>(
+    pub fn move_back<B: Allocator + Clone>(
         &mut self,
         who: u8,
         pid: Pid,

@@ -26,7 +26,7 @@ pub const INLINE_PEAKS: usize = 6;
 
 // Where the peaks are stored.
 #[derive(Drop)]
-enum Place<A: Allocator + Clone> {
+enum Storage<A: Allocator + Clone> {
     // Inline: the first `len` of these. The length is first, beside the tag.
     Inline { len: u8, peaks: [u64; INLINE_PEAKS] },
     Heap(Vec<u64, A>),
@@ -35,7 +35,7 @@ enum Place<A: Allocator + Clone> {
 /// The peaks of groups along a path, from the path's own group upward, without the root. Contracts see a list of numbers. Up
 /// to `INLINE_PEAKS` of them are stored in the value itself.
 pub struct Peaks<A: Allocator + Clone> {
-    place: Place<A>,
+    storage: Storage<A>,
 }
 
 // So the record of a move takes no more space than that of a removal.
@@ -44,22 +44,22 @@ const _: () = prove!(size_of::<Peaks<Global>>() == size_of::<Attr>());
 impl<A: Allocator + Clone> Model for Peaks<A> {
     ghost use Rattle.std.specs.Prelude.{ℕ, List};
     ghost use Rattle.std.specs.Coded.{coded_ℕ, coded_list};
-    ghost use Rattle.pids_charge.specs.PeakPlaces.{peaks_in, IsSound};
+    ghost use Rattle.pids_charge.specs.PeakStorage.{peaks_in, IsSound};
 
     ghost Value = { List ℕ };
 
     ghost coded = { coded_list coded_ℕ };
 
-    ghost view = { λ p. peaks_in p.place };
+    ghost view = { λ p. peaks_in p.storage };
 
-    ghost invariant = { λ p. IsSound p.place };
+    ghost invariant = { λ p. IsSound p.storage };
 }
 
 // The explicit drop hides the storage, so the proof of a function that drops such a value has one case instead of two.
 impl<A: Allocator + Clone> Drop for Peaks<A> {
     fn drop(self) {
-        let Self { place } = self;
-        drop(place);
+        let Self { storage } = self;
+        drop(storage);
     }
 }
 
@@ -68,8 +68,8 @@ impl<A: Allocator + Clone> Peaks<A> {
     pub fn of(items: Vec<u64, A>) -> Peaks<A>
         ensures { result ≡ items.items }
     {
-        let place = Place::Heap(items);
-        Peaks { place }
+        let storage = Storage::Heap(items);
+        Peaks { storage }
     }
 
     // Copies the peaks into a new list. Out of memory only if there are more than `INLINE_PEAKS`.
@@ -79,8 +79,8 @@ impl<A: Allocator + Clone> Peaks<A> {
     {
         if peaks.len() > INLINE_PEAKS {
             let heap = Vec::from_slice(alloc, peaks)?;
-            let place = Place::Heap(heap);
-            return Ok(Peaks { place });
+            let storage = Storage::Heap(heap);
+            return Ok(Peaks { storage });
         }
         Ok(Peaks::inline(peaks))
     }
@@ -93,17 +93,17 @@ impl<A: Allocator + Clone> Peaks<A> {
         let mut peaks = [0u64; INLINE_PEAKS];
         peaks[..few.len()].copy_from_slice(few);
         let len = few.len() as u8;
-        let place = Place::Inline { len, peaks };
-        Peaks { place }
+        let storage = Storage::Inline { len, peaks };
+        Peaks { storage }
     }
 
     /// The peaks, in the order of the list.
     pub fn as_slice(&self) -> &[u64]
         ensures { result.now ≡ self.now }
     {
-        match &self.place {
-            Place::Inline { len, peaks } => &peaks[..usize::from(*len)],
-            Place::Heap(heap) => heap.as_slice(),
+        match &self.storage {
+            Storage::Inline { len, peaks } => &peaks[..usize::from(*len)],
+            Storage::Heap(heap) => heap.as_slice(),
         }
     }
 
@@ -112,7 +112,7 @@ impl<A: Allocator + Clone> Peaks<A> {
         requires { length peaks.now ≡ length self.old }
         ensures { self.new ≡ peaks.now }
     {
-        if let Place::Heap(heap) = &mut self.place {
+        if let Storage::Heap(heap) = &mut self.storage {
             heap.as_mut_slice().copy_from_slice(peaks);
             return;
         }

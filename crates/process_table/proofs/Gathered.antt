@@ -69,7 +69,9 @@ module _ {A : Type 0} where
     in_its_slot slot place p c at is = its_slot slot c (subst (λ n. 0 < n) (t.counted slot p ∙ ap (in_slot slot) is) (count-at (list_at lists slot) place p at))
 
     -- the first process of a slot answers for all
-    pub answers : (slot p : ℕ) (c : Cell A) (g : Path) → HaveOneHome (λ q. process_of (cells q)) → IsAt (list_at lists slot) 0 p → cells p ≡ Some c → (q : ℕ) (x : Process A) → process_of (cells q) ≡ Some x → x.slot ≡ slot → at_or_below c.process.home g ≡ at_or_below x.home g
+    pub answers : (slot p : ℕ) (c : Cell A) (g : Path) → HaveOneHome (λ q. process_of (cells q)) → IsAt (list_at lists slot) 0 p
+        → cells p ≡ Some c → (q : ℕ) (x : Process A) → process_of (cells q) ≡ Some x → x.slot ≡ slot
+        → at_or_below c.process.home g ≡ at_or_below x.home g
     answers slot p c g homes at is q x there same = ap (λ h. at_or_below h g) (homes p q c.process x (ap process_of is) there (in_its_slot slot 0 p c at is ∙ sym same))
 
     module _ (slot : ℕ) (g : Path) (b : Bool) (says : (q : ℕ) (x : Process A) → process_of (cells q) ≡ Some x → x.slot ≡ slot → b ≡ at_or_below x.home g) where

@@ -1,5 +1,6 @@
 -- Pages of cells under a change.
-use Rattle.std.proofs.Common.{◌≡◌, ◌≢◌, ℕ, zero, suc, ◌/◌, ◌%◌, ◌<◌, ◌≤◌, true, false, cond, eqb, Option, None, List, [], ◌∷◌, ◌++◌, length, get_or, set, refl, sym, ap, ◌∙◌, subst, arith, get_or-set_same, get_or-set_other}
+use Rattle.std.proofs.Common.{◌≡◌, ◌≢◌, ℕ, zero, suc, ◌/◌, ◌%◌, ◌<◌, ◌≤◌, true, false, cond, eqb, Option, None, List, [], ◌∷◌, ◌++◌, length}
+use Rattle.std.proofs.Common.{get_or, set, refl, sym, ap, ◌∙◌, subst, arith, get_or-set_same, get_or-set_other}
 use Rattle.std.proofs.lemmas.Bool.{eqb-true, eqb-false}
 use Rattle.std.proofs.lemmas.List.{get_or_past, get_or_read}
 use Rattle.process_table.specs.Cells.{cell_at}
@@ -37,7 +38,8 @@ module _ {X : Type 0} (pages : List (List (Option X))) where
         | true ↦ λ e. rw (← eqb-true pid q e) (rw get_or-set_same kept)
         | false ↦ λ e.
             let apart : pid ≢ q = eqb-false pid q e in
-            elim (eqb (q / 64) (pid / 64)) as (λ b. eqb (q / 64) (pid / 64) ≡ b → get_or (get_or (set pages (pid / 64) page) (q / 64) []) (q % 64) None ≡ get_or (get_or pages (q / 64) []) (q % 64) None) [
+            elim (eqb (q / 64) (pid / 64)) as (λ b. eqb (q / 64) (pid / 64) ≡ b
+            → get_or (get_or (set pages (pid / 64) page) (q / 64) []) (q % 64) None ≡ get_or (get_or pages (q / 64) []) (q % 64) None) [
               | true ↦ λ f.
                   let same : q / 64 ≡ pid / 64 = eqb-true _ _ f in
                   let ne : q % 64 ≢ pid % 64 = omega arith in
@@ -61,7 +63,8 @@ module _ {X : Type 0} (pages : List (List (Option X))) where
 
 module _ {X : Type 0} where
   -- pages that read alike, in the place of one page
-  reads_alike : (pages : List (List (Option X))) (p : ℕ) (a b : List (Option X)) → p < length pages → ((k : ℕ) → get_or a k None ≡ get_or b k None) → (q : ℕ) → cell_at (set pages p a) q ≡ cell_at (set pages p b) q
+  reads_alike : (pages : List (List (Option X))) (p : ℕ) (a b : List (Option X)) → p < length pages
+      → ((k : ℕ) → get_or a k None ≡ get_or b k None) → (q : ℕ) → cell_at (set pages p a) q ≡ cell_at (set pages p b) q
   unfolding cell_at
   reads_alike pages p a b within h q =
       elim (eqb (q / 64) p) as (λ e. eqb (q / 64) p ≡ e → get_or (get_or (set pages p a) (q / 64) []) (q % 64) None ≡ get_or (get_or (set pages p b) (q / 64) []) (q % 64) None) [
@@ -103,5 +106,7 @@ module _ {X : Type 0} where
     wrote_alike after h = same_page pages (pid / 64) after listed (λ k. h k ∙ ap (λ l. get_or l k None) (sym is_page))
 
     -- the same with a page that reads as after the write
-    pub wrote_as : (v : Option X) (after : List (Option X)) → get_or (set page (pid % 64) v) (pid % 64) None ≡ v → ((k : ℕ) → get_or after k None ≡ get_or (set page (pid % 64) v) k None) → (q : ℕ) → cell_at (set pages (pid / 64) after) q ≡ cond (eqb pid q) v (cell_at pages q)
+    pub wrote_as : (v : Option X) (after : List (Option X)) → get_or (set page (pid % 64) v) (pid % 64) None ≡ v
+        → ((k : ℕ) → get_or after k None ≡ get_or (set page (pid % 64) v) k None) → (q : ℕ)
+        → cell_at (set pages (pid / 64) after) q ≡ cond (eqb pid q) v (cell_at pages q)
     wrote_as v after kept h q = reads_alike pages (pid / 64) after (set page (pid % 64) v) listed h q ∙ wrote v kept q

@@ -7,8 +7,8 @@ use Rattle.std.specs.List.Sorted.{IsStrictlySortedBy}
 use Rattle.std.specs.Map.{keys_of, lookup, remove_entry}
 use Rattle.std.specs.BTreeMap.{is_at, insert_entry}
 use Rattle.std.proofs.lemmas.Bool.{eqb-true, eqb-false, eq-eqb, ne_eqb, lt-ltb, le-ltb}
-use Rattle.std.proofs.lemmas.List.Sums.{sum_by-cons}
 use Rattle.process_table.specs.Rows.{cons_row, rows_from}
+use Rattle.flat_model.proofs.Sums.{count_by-cons}
 
 -- ---- the order of two numbers
 pub cmp_less : (a b : ℕ) → a < b → nat_cmp a b ≡ Less
@@ -19,10 +19,6 @@ cmp_same a = rw (le-ltb a a (omega arith), eq-eqb a a refl) refl
 
 pub cmp_greater : (a b : ℕ) → b < a → nat_cmp a b ≡ Greater
 cmp_greater a b h = rw (le-ltb a b (omega arith), ne_eqb a b (omega arith)) refl
-
--- the count of a list that begins with x
-pub count_by-cons : {X : Type 0} (p : X → Bool) (x : X) (xs : List X) → count_by p (x ∷ xs) ≡ cond (p x) 1 0 + count_by p xs
-count_by-cons p x xs = sum_by-cons (λ y. cond (p y) 1 0) x xs
 
 pub count-same : (q x : ℕ) (xs : List ℕ) → eqb q x ≡ true → count_by (eqb q) (x ∷ xs) ≡ 1 + count_by (eqb q) xs
 count-same q x xs e = let weight : Bool → ℕ = λ b. cond b 1 0 in let one : weight (eqb q x) ≡ 1 = ap weight e in omega (arith, count_by-cons (eqb q) x xs, one)
@@ -113,7 +109,8 @@ module _ {X : Type 0} where
     rows_found q k (suc n) le past =
         elim (eqb q k) as (λ b. eqb q k ≡ b → lookup (is_at (nat_cmp q)) (cons_row k (f k) (rows_from f (suc k) n)) ≡ f q) [
           | true ↦ λ e.
-              rw (eqb-true q k e) (elim (f k) as (λ o. lookup (is_at (nat_cmp k)) (cons_row k o (rows_from f (suc k) n)) ≡ o) [ None ↦ found_below k (suc k) n (omega arith) | Some x ↦ rw (cmp_same k) refl ])
+              rw (eqb-true q k e) (elim (f k) as (λ o. lookup (is_at (nat_cmp k)) (cons_row k o (rows_from f (suc k) n)) ≡ o)
+              [ None ↦ found_below k (suc k) n (omega arith) | Some x ↦ rw (cmp_same k) refl ])
           | false ↦ λ e.
               let ne : q ≢ k = eqb-false q k e in
               let rest = rows_found q (suc k) n (omega arith) (λ h. past (omega arith)) in
@@ -159,12 +156,17 @@ module _ {X : Type 0} where
             let same : q ≡ k = eqb-true q k e in
             let rest = alike_from f g (suc k) n (λ r h. others r (omega arith)) in
             subst (λ j. cons_row j (g j) (rows_from g (suc k) n) ≡ insert_entry nat_cmp (cons_row j (f j) (rows_from f (suc k) n)) q x) same
-            (rw (here, rest) (elim (f q) as (λ o. (q, x) ∷ rows_from f (suc k) n ≡ insert_entry nat_cmp (cons_row q o (rows_from f (suc k) n)) q x) [ None ↦ sym (put_below f q x (suc k) n (omega arith)) | Some y ↦ rw (cmp_same q) refl ]))
+            (rw (here, rest) (elim (f q) as (λ o. (q, x) ∷ rows_from f (suc k) n
+            ≡ insert_entry nat_cmp (cons_row q o (rows_from f (suc k) n)) q x) [
+              | None ↦ sym (put_below f q x (suc k) n (omega arith))
+              | Some y ↦ rw (cmp_same q) refl
+            ]))
         | false ↦ λ e.
             let ne : k ≢ q = λ h. eqb-false q k e (sym h) in
             let greater = cmp_greater q k (omega arith) in
             rw (others k ne, rows_put f g q x here others (suc k) n (omega arith) (omega arith))
-            (elim (f k) as (λ o. cons_row k o (insert_entry nat_cmp (rows_from f (suc k) n) q x) ≡ insert_entry nat_cmp (cons_row k o (rows_from f (suc k) n)) q x) [ None ↦ refl | Some y ↦ rw greater refl ])
+            (elim (f k) as (λ o. cons_row k o (insert_entry nat_cmp (rows_from f (suc k) n) q x)
+            ≡ insert_entry nat_cmp (cons_row k o (rows_from f (suc k) n)) q x) [ None ↦ refl | Some y ↦ rw greater refl ])
       ] refl
 
   -- ---- one row less
@@ -177,10 +179,13 @@ module _ {X : Type 0} where
             let same : q ≡ k = eqb-true q k e in
             let rest = alike_from f g (suc k) n (λ r h. others r (omega arith)) in
             subst (λ j. cons_row j (g j) (rows_from g (suc k) n) ≡ remove_entry (is_at (nat_cmp q)) (cons_row j (f j) (rows_from f (suc k) n))) same
-            (rw (here, rest) (elim (f q) as (λ o. rows_from f (suc k) n ≡ remove_entry (is_at (nat_cmp q)) (cons_row q o (rows_from f (suc k) n))) [ None ↦ sym (taken_below f q (suc k) n (omega arith)) | Some y ↦ rw (cmp_same q) refl ]))
+            (rw (here, rest) (elim (f q) as (λ o. rows_from f (suc k) n
+            ≡ remove_entry (is_at (nat_cmp q)) (cons_row q o (rows_from f (suc k) n)))
+            [ None ↦ sym (taken_below f q (suc k) n (omega arith)) | Some y ↦ rw (cmp_same q) refl ]))
         | false ↦ λ e.
             let ne : k ≢ q = λ h. eqb-false q k e (sym h) in
             let greater = cmp_greater q k (omega arith) in
             rw (others k ne, rows_taken f g q here others (suc k) n (omega arith))
-            (elim (f k) as (λ o. cons_row k o (remove_entry (is_at (nat_cmp q)) (rows_from f (suc k) n)) ≡ remove_entry (is_at (nat_cmp q)) (cons_row k o (rows_from f (suc k) n))) [ None ↦ refl | Some y ↦ rw greater refl ])
+            (elim (f k) as (λ o. cons_row k o (remove_entry (is_at (nat_cmp q)) (rows_from f (suc k) n))
+            ≡ remove_entry (is_at (nat_cmp q)) (cons_row k o (rows_from f (suc k) n))) [ None ↦ refl | Some y ↦ rw greater refl ])
       ] refl

@@ -8,7 +8,8 @@ use Rattle.std.proofs.lemmas.Bool.{eqb-true, eq-eqb}
 use Rattle.std.proofs.lemmas.List.Elements.{All-head, All-tail}
 use Rattle.std.proofs.lemmas.List.Sorted.{sorted_far, ranks_by, sum_by-IsPermutation}
 use Rattle.std.proofs.lemmas.Map.Keys.{ge_from_not_lt}
-use Rattle.process_table.proofs.RowLaws.{count_by-cons, count-same, count-other}
+use Rattle.process_table.proofs.RowLaws.{count-same, count-other}
+use Rattle.flat_model.proofs.Sums.{count_by-cons}
 
 -- a number that is counted is not below all
 counted_from : (y q : ℕ) (ys : List ℕ) → All (λ z. y ≤ z) ys → 0 < count_by (eqb q) ys → y ≤ q

@@ -1,5 +1,6 @@
 -- The table that pages stand for, under a change.
-use Rattle.std.proofs.Common.{◌≡◌, ℕ, zero, suc, ◌+◌, ◌^◌, ◌<◌, ◌≤◌, Bool, true, false, cond, eqb, Option, Some, None, IsSome, List, [], ◌∷◌, get_or, map, filter, count_by, refl, sym, ap, ◌∙◌, subst, arith}
+use Rattle.std.proofs.Common.{◌≡◌, ℕ, zero, suc, ◌+◌, ◌^◌, ◌<◌, ◌≤◌, Bool, true, false, cond, eqb, Option, Some, None, IsSome, List, []}
+use Rattle.std.proofs.Common.{◌∷◌, get_or, map, filter, count_by, refl, sym, ap, ◌∙◌, subst, arith}
 use Rattle.std.specs.declared.cmp.Ordering.TheVariants.{Less}
 use Rattle.std.specs.Ordering.{nat_cmp}
 use Rattle.std.specs.List.{All, AllByRecursion}
@@ -28,12 +29,15 @@ small q h = h
 module _ {X : Type 0} where
   kept_after : (k : ℕ) (p : ℕ × X → Bool) (es : List (ℕ × X)) → AllByRecursion (λ y. nat_cmp k y ≡ Less) (keys_of es) → AllByRecursion (λ y. nat_cmp k y ≡ Less) (keys_of (filter p es))
   kept_after k p [] h = tt
-  kept_after k p (e ∷ es) h = elim (p e) as (λ b. AllByRecursion (λ y. nat_cmp k y ≡ Less) (keys_of (cond b (e ∷ filter p es) (filter p es)))) [ true ↦ (h.0, kept_after k p es h.1) | false ↦ kept_after k p es h.1 ]
+  kept_after k p (e ∷ es) h =
+      elim (p e) as (λ b. AllByRecursion (λ y. nat_cmp k y ≡ Less) (keys_of (cond b (e ∷ filter p es) (filter p es))))
+      [ true ↦ (h.0, kept_after k p es h.1) | false ↦ kept_after k p es h.1 ]
 
   kept_order : (p : ℕ × X → Bool) (es : List (ℕ × X)) → IsStrictlySortedBy nat_cmp (keys_of es) → IsStrictlySortedBy nat_cmp (keys_of (filter p es))
   unfolding IsStrictlySortedBy
   kept_order p [] h = tt
-  kept_order p (e ∷ es) h = elim (p e) as (λ b. IsStrictlySortedBy nat_cmp (keys_of (cond b (e ∷ filter p es) (filter p es)))) [ true ↦ (kept_after e.0 p es h.0, kept_order p es h.1) | false ↦ kept_order p es h.1 ]
+  kept_order p (e ∷ es) h = elim (p e) as (λ b. IsStrictlySortedBy nat_cmp (keys_of (cond b (e ∷ filter p es) (filter p es))))
+      [ true ↦ (kept_after e.0 p es h.0, kept_order p es h.1) | false ↦ kept_order p es h.1 ]
 
   pub no_rows : (f : ℕ → Option X) → ((q : ℕ) → f q ≡ None) → (k n : ℕ) → rows_from f k n ≡ []
   unfolding rows_from
@@ -41,7 +45,8 @@ module _ {X : Type 0} where
   no_rows f h k (suc n) = rw (h k) (no_rows f h (suc k) n)
 
 module _ {A : Type 0} where
-  pub tied_alike : (cells same : ℕ → Option (Cell A)) (lists after : List (List ℕ)) → IsTied cells lists → ((q : ℕ) → same q ≡ cells q) → ((s : ℕ) → list_at after s ≡ list_at lists s) → IsTied same after
+  pub tied_alike : (cells same : ℕ → Option (Cell A)) (lists after : List (List ℕ)) → IsTied cells lists → ((q : ℕ) → same q ≡ cells q)
+      → ((s : ℕ) → list_at after s ≡ list_at lists s) → IsTied same after
   tied_alike cells same lists after t h l = record {
     counted = λ s q. ap (count_by (eqb q)) (l s) ∙ t.counted s q ∙ sym (ap (in_slot s) (h q));
     placed = λ q c is. subst (λ xs. IsAt xs c.place q) (sym (l c.process.slot)) (t.placed q c (sym (h q) ∙ is));
@@ -68,14 +73,20 @@ module _ {A : Type 0} where
   pub table_ascends : (pages : List (List (Option (Cell A)))) → IsStrictlySortedBy nat_cmp (keys_of (table_of pages))
   table_ascends pages = rows_ascend (process_at pages) 0 pid_count
 
-  pub table_put : (before after : List (List (Option (Cell A)))) (pid : ℕ) (x : Process A) → pid < 2 ^ 32 → ((q : ℕ) → process_at after q ≡ cond (eqb pid q) (Some x) (process_at before q)) → table_of after ≡ insert_entry nat_cmp (table_of before) pid x
+  pub table_put : (before after : List (List (Option (Cell A)))) (pid : ℕ) (x : Process A) → pid < 2 ^ 32
+      → ((q : ℕ) → process_at after q ≡ cond (eqb pid q) (Some x) (process_at before q))
+      → table_of after ≡ insert_entry nat_cmp (table_of before) pid x
   table_put before after pid x h each =
       let lt = small pid h in
-      rows_put (process_at before) (process_at after) pid x (written (process_at before) (process_at after) pid (Some x) each) (unwritten (process_at before) (process_at after) pid (Some x) each) 0 pid_count (omega arith) (omega (arith, lt))
+      rows_put (process_at before) (process_at after) pid x (written (process_at before) (process_at after) pid (Some x) each)
+      (unwritten (process_at before) (process_at after) pid (Some x) each) 0 pid_count (omega arith) (omega (arith, lt))
 
-  pub table_taken : (before after : List (List (Option (Cell A)))) (pid : ℕ) → ((q : ℕ) → process_at after q ≡ cond (eqb pid q) None (process_at before q)) → table_of after ≡ remove_entry (is_at (nat_cmp pid)) (table_of before)
+  pub table_taken : (before after : List (List (Option (Cell A)))) (pid : ℕ)
+      → ((q : ℕ) → process_at after q ≡ cond (eqb pid q) None (process_at before q))
+      → table_of after ≡ remove_entry (is_at (nat_cmp pid)) (table_of before)
   table_taken before after pid each =
-      rows_taken (process_at before) (process_at after) pid (written (process_at before) (process_at after) pid None each) (unwritten (process_at before) (process_at after) pid None each) 0 pid_count (omega arith)
+      rows_taken (process_at before) (process_at after) pid (written (process_at before) (process_at after) pid None each)
+      (unwritten (process_at before) (process_at after) pid None each) 0 pid_count (omega arith)
 
   module _ (pages : List (List (Option (Cell A)))) (lists : List (List ℕ)) (t : IsTied (cell_at pages) lists) where
     past : (q : ℕ) → 0 + pid_count ≤ q → process_at pages q ≡ None
@@ -106,11 +117,14 @@ module _ {A : Type 0} where
       one_home_now h p q x y a b = h p q x y (get_is p ∙ a) (get_is q ∙ b)
 
     -- a sorted list of the pids that pass a test
-    pub listed_is : (p : ℕ × Process A → Bool) (pids sorted : List ℕ) → IsPermutation pids sorted → IsSorted nat_cmp sorted → ((q : ℕ) → count_by (eqb q) pids ≡ counted p q (process_at pages q)) → sorted ≡ map (λ e. e.0) (filter p (table_of pages))
+    pub listed_is : (p : ℕ × Process A → Bool) (pids sorted : List ℕ) → IsPermutation pids sorted → IsSorted nat_cmp sorted
+        → ((q : ℕ) → count_by (eqb q) pids ≡ counted p q (process_at pages q)) → sorted ≡ map (λ e. e.0) (filter p (table_of pages))
     listed_is p pids sorted moved up counts =
         same_numbers sorted (map (λ e. e.0) (filter p (table_of pages))) (up_from_sort sorted up)
         (non_decreasing_from_sorted (map (λ e. e.0) (filter p (table_of pages))) (kept_order p (table_of pages) (table_ascends pages)))
         (λ q. count-IsPermutation q pids sorted moved ∙ counts q ∙ sym (rows_counted (process_at pages) p q 0 pid_count (omega arith) (past q)))
 
-    pub listed_now : (now : List (ℕ × Process A)) → table_of pages ≡ now → (p : ℕ × Process A → Bool) (pids sorted : List ℕ) → IsPermutation pids sorted → IsSorted nat_cmp sorted → ((q : ℕ) → count_by (eqb q) pids ≡ counted p q (process_at pages q)) → sorted ≡ map (λ e. e.0) (filter p now)
+    pub listed_now : (now : List (ℕ × Process A)) → table_of pages ≡ now → (p : ℕ × Process A → Bool) (pids sorted : List ℕ)
+        → IsPermutation pids sorted → IsSorted nat_cmp sorted → ((q : ℕ) → count_by (eqb q) pids ≡ counted p q (process_at pages q))
+        → sorted ≡ map (λ e. e.0) (filter p now)
     listed_now now view p pids sorted moved up counts = listed_is p pids sorted moved up counts ∙ ap (λ es. map (λ e. e.0) (filter p es)) view

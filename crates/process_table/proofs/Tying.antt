@@ -1,5 +1,6 @@
 -- The cells and the lists stay tied when a process comes, changes its slot or leaves.
-use Rattle.std.proofs.Common.{◌≡◌, ◌≢◌, ℕ, zero, suc, ◌+◌, ◌<◌, ◌≤◌, Bool, true, false, cond, eqb, Option, Some, None, List, [], ◌∷◌, ◌++◌, length, count_by, get_or, refl, sym, ap, ◌∙◌, subst, arith, length-append}
+use Rattle.std.proofs.Common.{◌≡◌, ◌≢◌, ℕ, zero, suc, ◌+◌, ◌<◌, ◌≤◌, Bool, true, false, cond, eqb, Option, Some, None, List, [], ◌∷◌, ◌++◌}
+use Rattle.std.proofs.Common.{length, count_by, get_or, refl, sym, ap, ◌∙◌, subst, arith, length-append}
 use Rattle.std.specs.Option.{option_map}
 use Rattle.std.proofs.lemmas.Bool.{eqb-true, eqb-false, eq-eqb, ne_eqb}
 use Rattle.std.proofs.lemmas.List.{get_or_append_left, get_or_push}
@@ -8,7 +9,8 @@ use Rattle.process_table.specs.Cells.{at_place}
 use Rattle.process_table.specs.Rows.{pid_count}
 use Rattle.process_table.specs.SlotPids.{list_at, IsAt, IsRead, HasLeft}
 use Rattle.process_table.specs.Tied.{in_slot, owed, IsTied, Owes}
-use Rattle.process_table.proofs.RowLaws.{count_by-cons, count-same}
+use Rattle.process_table.proofs.RowLaws.{count-same}
+use Rattle.flat_model.proofs.Sums.{count_by-cons}
 use Rattle.process_table.proofs.SameNumbers.{count-IsPermutation}
 
 -- ---- lists of numbers
@@ -139,7 +141,10 @@ module _ {A : Type 0} where
           counts : (s q : ℕ) → in_slot s (changed q) ≡ in_slot s (cells q)
           counts s q =
               elim (eqb m q) as (λ b. eqb m q ≡ b → in_slot s (changed q) ≡ in_slot s (cells q)) [
-                | true ↦ λ e. let it : m ≡ q = eqb-true m q e in subst (λ r. in_slot s (changed r) ≡ in_slot s (cells r)) it (ap (in_slot s) (written cells changed m (option_map (at_place place) (cells m)) h) ∙ same_slot s place (cells m))
+                | true ↦ λ e. let it : m ≡ q = eqb-true m q e in
+                    subst (λ r. in_slot s (changed r)
+                    ≡ in_slot s (cells r)) it (ap (in_slot s) (written cells changed m (option_map (at_place place) (cells m)) h)
+                    ∙ same_slot s place (cells m))
                 | false ↦ λ e. ap (in_slot s) (unwritten cells changed m (option_map (at_place place) (cells m)) h q (λ it. eqb-false m q e (sym it)))
               ] refl
 
@@ -165,12 +170,15 @@ module _ {A : Type 0} where
           fews : (q : ℕ) → pid_count ≤ q → changed q ≡ None
           fews q h2 =
               elim (eqb m q) as (λ b. eqb m q ≡ b → changed q ≡ None) [
-                | true ↦ λ e. let it : m ≡ q = eqb-true m q e in subst (λ r. changed r ≡ None) it (written cells changed m (option_map (at_place place) (cells m)) h ∙ ap (option_map (at_place place)) (o.few m (subst (λ n. pid_count ≤ n) (sym it) h2)))
+                | true ↦ λ e. let it : m ≡ q = eqb-true m q e in
+                    subst (λ r. changed r ≡ None) it (written cells changed m (option_map (at_place place) (cells m)) h
+                    ∙ ap (option_map (at_place place)) (o.few m (subst (λ n. pid_count ≤ n) (sym it) h2)))
                 | false ↦ λ e. unwritten cells changed m (option_map (at_place place) (cells m)) h q (λ it. eqb-false m q e (sym it)) ∙ o.few q h2
               ] refl
 
   -- ---- a pid goes out of the cells
-  pub taken_owes : (cells changed : ℕ → Option (Cell A)) (lists : List (List ℕ)) (p : ℕ) (c : Cell A) → IsTied cells lists → cells p ≡ Some c → ((q : ℕ) → changed q ≡ cond (eqb p q) None (cells q)) → Owes changed lists c.process.slot c.place p
+  pub taken_owes : (cells changed : ℕ → Option (Cell A)) (lists : List (List ℕ)) (p : ℕ) (c : Cell A) → IsTied cells lists
+      → cells p ≡ Some c → ((q : ℕ) → changed q ≡ cond (eqb p q) None (cells q)) → Owes changed lists c.process.slot c.place p
   taken_owes cells changed lists p c t is h = record { counted = counts; placed = places; few = fews; here = t.placed p c is; gone = ap (in_slot c.process.slot) gone }
     where
       gone : changed p ≡ None
@@ -193,7 +201,9 @@ module _ {A : Type 0} where
       fews = by {P = λ q. pid_count ≤ q → changed q ≡ None} (λ _. gone) (λ q ne le. unwritten cells changed p None h q ne ∙ t.few q le)
 
   -- ---- a pid gets another process of the same slot
-  pub kept_tied : (cells changed : ℕ → Option (Cell A)) (lists : List (List ℕ)) (p : ℕ) (c d : Cell A) → IsTied cells lists → cells p ≡ Some c → d.process.slot ≡ c.process.slot → d.place ≡ c.place → ((q : ℕ) → changed q ≡ cond (eqb p q) (Some d) (cells q)) → IsTied changed lists
+  pub kept_tied : (cells changed : ℕ → Option (Cell A)) (lists : List (List ℕ)) (p : ℕ) (c d : Cell A) → IsTied cells lists
+      → cells p ≡ Some c → d.process.slot ≡ c.process.slot → d.place ≡ c.place → ((q : ℕ) → changed q ≡ cond (eqb p q) (Some d) (cells q))
+      → IsTied changed lists
   kept_tied cells changed lists p c d t is slot place h = record { counted = counts; placed = places; few = fews }
     where
       new : changed p ≡ Some d
@@ -235,7 +245,9 @@ module _ {A : Type 0} where
     count_after : (s q : ℕ) → count_by (eqb q) (list_at after s) ≡ count_by (eqb q) (list_at lists s) + cond (eqb d.process.slot s) (cond (eqb q p) 1 0) 0
     count_after s q =
         ap (count_by (eqb q)) (pushed s)
-        ∙ elim (eqb d.process.slot s) as (λ b. count_by (eqb q) (cond b (list_at lists s ++ p ∷ []) (list_at lists s)) ≡ count_by (eqb q) (list_at lists s) + cond b (cond (eqb q p) 1 0) 0) [ true ↦ count-push q p (list_at lists s) | false ↦ omega arith ]
+        ∙ elim (eqb d.process.slot s) as (λ b. count_by (eqb q) (cond b (list_at lists s ++ p ∷ []) (list_at lists s))
+        ≡ count_by (eqb q) (list_at lists s) + cond b (cond (eqb q p) 1 0) 0)
+        [ true ↦ count-push q p (list_at lists s) | false ↦ omega arith ]
 
     -- what p was counted as, and what it is counted as
     counts_here : (s : ℕ) → count_by (eqb p) (list_at after s) ≡ in_slot s (cells p) + in_slot s (changed p)
@@ -257,7 +269,9 @@ module _ {A : Type 0} where
     ])
 
     at_end : IsAt (list_at after d.process.slot) d.place p
-    at_end = subst (λ l. IsAt l d.place p) (sym (pushed d.process.slot ∙ ap (λ b. cond b (list_at lists d.process.slot ++ p ∷ []) (list_at lists d.process.slot)) (eq-eqb d.process.slot d.process.slot refl)))
+    at_end = subst (λ l. IsAt l d.place p) (sym (pushed d.process.slot
+        ∙ ap (λ b. cond b (list_at lists d.process.slot ++ p ∷ []) (list_at lists d.process.slot))
+        (eq-eqb d.process.slot d.process.slot refl)))
         (record { within = omega (arith, place, length-append (list_at lists d.process.slot) (p ∷ [])); here = get_or_push (list_at lists d.process.slot) p 0 d.place (sym place) })
 
     places : (q : ℕ) (e : Cell A) → changed q ≡ Some e → IsAt (list_at after e.process.slot) e.place q

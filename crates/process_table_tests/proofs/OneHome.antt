@@ -17,7 +17,8 @@ module _ {A : Type 0} (homes : List Path) (rows : List (ℕ × Process A)) (all 
   pub one_home : HaveOneHome (λ q. lookup (is_at (nat_cmp q)) rows)
   one_home p q x y a b same = its_home p x a ∙ ap (λ s. get_or homes s []) same ∙ sym (its_home q y b)
 
-module _ {A E X : Type 0} (homes : List Path) (old new : List (ℕ × Process A)) (pid : ℕ) (x : Process A) (all : All (λ p. p.home ≡ get_or homes p.slot []) (values_of old)) (here : x.home ≡ get_or homes x.slot []) where
+module _ {A E X : Type 0} (homes : List Path) (old new : List (ℕ × Process A)) (pid : ℕ) (x : Process A)
+    (all : All (λ p. p.home ≡ get_or homes p.slot []) (values_of old)) (here : x.home ≡ get_or homes x.slot []) where
   -- a process that was put in, or was not
   pub put_homed : (r : Result X E) → OnOk r (new ≡ insert_entry nat_cmp old pid x) → OnErr r (new ≡ old) → All (λ p. p.home ≡ get_or homes p.slot []) (values_of new)
   put_homed (Ok o) e f = subst (λ es. All (λ p. p.home ≡ get_or homes p.slot []) (values_of es)) (sym e) (All-values-insert_entry nat_cmp pid x (λ p. p.home ≡ get_or homes p.slot []) old all here)

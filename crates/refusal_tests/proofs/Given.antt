@@ -17,11 +17,6 @@ use Rattle.flat_model.proofs.Reachable.{only_root}
 use Rattle.pids_charge.specs.Answers.{Does}
 use Rattle.pids_charge.specs.Events.{HasRoomForEvents}
 
--- a list of one
-pub one_distinct : (x : ℕ) → IsDistinct eqb (x ∷ [])
-unfolding IsDistinct
-one_distinct x = (tt, tt)
-
 nat_apart : (x y : ℕ) → (x ≡ y → ⊥) → eqb x y ≡ false
 nat_apart x y apart = grind (arith, nat_tests, apart)
 

@@ -132,7 +132,7 @@ fn fork<A: Allocator + Clone>(
     }
 }
 
-fn rehome<A: Allocator + Clone>(
+fn move_back<A: Allocator + Clone>(
     charges: &mut Apart<A>,
     pid: Pid,
     path: &GroupPath<Global>,
@@ -141,7 +141,7 @@ fn rehome<A: Allocator + Clone>(
     if charges.attr(path).is_none() || charges.home(pid).is_none() {
         return nothing(wanted);
     }
-    path_answered(charges.rehome(0, pid, path), wanted)
+    path_answered(charges.move_back(0, pid, path), wanted)
 }
 
 fn place<A: Allocator + Clone>(
@@ -256,7 +256,7 @@ pub(crate) fn answer<R: Threads + Wait + Sync, A: Allocator + Clone>(
         Call::Fork => fork(charges, first, second, wanted),
         Call::Exit => path_answered(charges.exit(0, first), wanted),
         Call::Migrate => move_answered(charges.migrate(0, first, path), wanted),
-        Call::Rehome => rehome(charges, first, path, wanted),
+        Call::Rehome => move_back(charges, first, path, wanted),
         Call::Kill => lost_answered(charges.kill(rt, &OpenGate, 0, path), wanted),
         Call::KillAlone => lost_answered(charges.kill_alone(0, path), wanted),
         Call::Place => place(charges, first, path, wanted),

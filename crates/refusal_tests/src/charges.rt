@@ -253,7 +253,7 @@ fn migrate(rt: HostRuntime) -> Result<(), Fail> {
 
 /// The undo of a move: it allocates a path and an entry in the list of the group's slot, and no peaks.
 #[test]
-fn rehome(rt: HostRuntime) -> Result<(), Fail> {
+fn move_back(rt: HostRuntime) -> Result<(), Fail> {
     let rows = [
         (Call::Mkdir, A, (1, 2), Answer::Done, true),
         (Call::Mkdir, "/d", (1, 2), Answer::Done, false),

@@ -11,7 +11,7 @@ use Rattle.flat_model.specs.Replies.{out, commands_in, command_in, command_count
 use Rattle.flat_model.specs.Trace as trace
 use Rattle.flat_model.specs.Trace.{read_line}
 use Rattle.undo_journal.specs.CommandMeaning.{command_of}
-use Rattle.replay_main.specs.declared.reading.Place.{Place}
+use Rattle.replay_main.specs.declared.reading.NumberedLine.{NumberedLine}
 use Rattle.replay_main.specs.declared.reading.Script.{Script}
 use Rattle.replay_main.specs.RangeResults.{IsRun}
 use Rattle.replay_main.specs.Script.{IsScript, place_in, places_in, place_of, is_command, answers_from, run_of, run_answers, replies_behind}
@@ -98,7 +98,7 @@ answers_step size ps rs i =
     ∙ from_number (i * size + 1 + length mine) ((i + 1) * size + 1) left (replies_behind ((i + 1) * size) ps rs) number)
 
 -- the answers of all runs, joined
-pub joined_answers : {X : Type 0} {post : ℕ → Result X AllocError → Type 0} (v : X → List ℕ) (places : List Place) (rs : List Reply) (size k : ℕ) (xs : List X)
+pub joined_answers : {X : Type 0} {post : ℕ → Result X AllocError → Type 0} (v : X → List ℕ) (places : List NumberedLine) (rs : List Reply) (size k : ℕ) (xs : List X)
     → length places ≤ k * size → IsRun post 0 k xs → ((i : ℕ) (x : X) → i < k → post i (Ok x) → v x ≡ run_answers size i (map place_of places) rs)
     → flat_map v xs ≡ answers_from 1 (map place_of places) rs
 joined_answers v places rs size k xs enough run each =
@@ -121,7 +121,7 @@ map-drop f (suc n) [] = refl
 map-drop f (suc n) (x ∷ xs) = map-drop f n xs
 
 -- the entries behind those of the first places
-pub replied_behind : {E : Type 0} (v : E → Reply) (n before : ℕ) (places : List Place) (first : List Place) (log rest : List E)
+pub replied_behind : {E : Type 0} (v : E → Reply) (n before : ℕ) (places : List NumberedLine) (first : List NumberedLine) (log rest : List E)
     → first ≡ take n places → before ≡ count_by is_command (map place_of first) → rest ≡ drop before log
     → map v rest ≡ replies_behind n (map place_of places) (map v log)
 replied_behind v n before places first log rest f b r =
@@ -129,7 +129,7 @@ replied_behind v n before places first log rest f b r =
     ∙ ap (λ k. drop k (map v log)) (b ∙ ap (λ t. count_by is_command t) (ap (λ t. map place_of t) f ∙ map-take place_of n places))
 
 -- the answers of one run
-pub run_answered : (size w : ℕ) (places mine : List Place) (rs all : List Reply) (text : List ℕ)
+pub run_answered : (size w : ℕ) (places mine : List NumberedLine) (rs all : List Reply) (text : List ℕ)
     → text ≡ answers_from (w * size + 1) (map place_of mine) rs → mine ≡ run_of size w places → rs ≡ replies_behind (w * size) (map place_of places) all
     → text ≡ run_answers size w (map place_of places) all
 run_answered size w places mine rs all text t m r =

@@ -1,14 +1,8 @@
 -- The turns of a log, entry by entry.
-use Rattle.std.proofs.Common.{◌≡◌, ℕ, ◌+◌, ◌<◌, ◌≤◌, ◌%◌, ◌∙◌, Bool, true, false, ltb, List, length, map, get_or, refl, sym, subst, arith}
+use Rattle.std.proofs.Common.{◌≡◌, ℕ, ◌+◌, ◌<◌, ◌%◌, ◌∙◌, Bool, true, false, ltb, List, length, map, get_or, refl, sym, subst, arith}
 use Rattle.std.specs.Prelude.{slice_index}
-use Rattle.std.proofs.lemmas.Bool.Decides.{nat_tests}
 use Rattle.std.proofs.lemmas.List.{get_or-map}
-
-less : (k n : ℕ) → ltb k n ≡ true → k < n
-less k n e = grind (arith, nat_tests)
-
-not_less : (k n : ℕ) → ltb k n ≡ false → n ≤ k
-not_less k n e = grind (arith, nat_tests)
+use Rattle.flat_model.proofs.Booleans.{less, not_less}
 
 -- what holds of the entries in front of one and of that one holds of one more
 pub one_more : {X : Type 0} (f : X → ℕ) (xs : List X) (w n : ℕ) (d : X) → n < length xs → f (get_or xs n d) ≡ n % w → ((k : ℕ) → k < n → slice_index (map f xs) k ≡ k % w) → (k : ℕ) → k < n + 1 → slice_index (map f xs) k ≡ k % w

@@ -6,8 +6,8 @@ use Rattle.flat_model.specs.Replies.{commands_in, fault_bytes, reply_bytes}
 use Rattle.flat_model.specs.Trace as trace
 use Rattle.undo_journal.specs.CommandMeaning.{command_of}
 use Rattle.trace_lines.specs.LineMeaning.{text_fault_of}
-use Rattle.replay_main.specs.declared.reading.Place.{Place}
-use Rattle.replay_main.specs.declared.reading.Place.TheVariants.{Command, Fault}
+use Rattle.replay_main.specs.declared.reading.NumberedLine.{NumberedLine}
+use Rattle.replay_main.specs.declared.reading.NumberedLine.TheVariants.{Command, Fault}
 use Rattle.replay_main.specs.declared.reading.Script.{Script}
 
 -- the fault on a line with a number, or none if the line is a command
@@ -19,7 +19,7 @@ place_in (trace.Fault f) = Some f ∷ []
 abbrev pub places_in : List trace.Line → List (Option trace.TextFault)
 places_in lines = flat_map place_in lines
 
-abbrev pub place_of : Place → Option trace.TextFault
+abbrev pub place_of : NumberedLine → Option trace.TextFault
 place_of Command = None
 place_of (Fault f) = Some (text_fault_of f)
 

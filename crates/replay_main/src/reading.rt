@@ -17,7 +17,7 @@ use undo_journal::Command;
 
 /// What a line with a number says.
 #[derive(Clone, Copy)]
-pub(crate) enum Place {
+pub(crate) enum NumberedLine {
     /// A command.
     Command,
     /// Something that is not a command.
@@ -28,7 +28,7 @@ pub(crate) enum Place {
 #[derive(Drop)]
 pub(crate) struct Script {
     pub(crate) commands: Vec<Command<Global>>,
-    pub(crate) places: Vec<Place>,
+    pub(crate) places: Vec<NumberedLine>,
 }
 
 /// Reads the lines of a trace; each worker reads one run of them.
@@ -100,10 +100,10 @@ fn add(script: &mut Script, line: Line) -> Result<(), AllocError>
 {
     match line {
         Line::Skip => {}
-        Line::Fault(fault) => script.places.push(Place::Fault(fault))?,
+        Line::Fault(fault) => script.places.push(NumberedLine::Fault(fault))?,
         Line::Run(command) => {
             script.commands.push(command)?;
-            script.places.push(Place::Command)?;
+            script.places.push(NumberedLine::Command)?;
         }
     }
     Ok(())
@@ -128,21 +128,21 @@ fn join(alloc: Global, scripts: Vec<Script>) -> Result<Script, AllocError>
 }
 
 /// How many lines with a number are commands.
-pub(crate) fn count_commands(places: &[Place]) -> usize
+pub(crate) fn count_commands(places: &[NumberedLine]) -> usize
     ensures { result ≡ count_by is_command (map place_of places.now) }
 {
     places
         .iter()
-        .filter(|place| matches!(place, Place::Command))
+        .filter(|place| matches!(place, NumberedLine::Command))
         .count()
 }
 
 /// How many lines with a number are not commands.
-pub(crate) fn count_faults(places: &[Place]) -> usize
+pub(crate) fn count_faults(places: &[NumberedLine]) -> usize
     ensures { result ≡ count_by is_some (map place_of places.now) }
 {
     places
         .iter()
-        .filter(|place| matches!(place, Place::Fault(_)))
+        .filter(|place| matches!(place, NumberedLine::Fault(_)))
         .count()
 }

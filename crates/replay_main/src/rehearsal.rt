@@ -11,7 +11,7 @@ ghost use Rattle.replay_main.specs.Script.{place_of};
 
 use crate::input::read_whole;
 use crate::output::write_whole;
-use crate::reading::{Place, count_faults, read_script};
+use crate::reading::{NumberedLine, count_faults, read_script};
 use crate::trace::Answered;
 use crate::{ReplayFault, Sink, Source, Summary};
 use bumpalo::Bump;
@@ -82,7 +82,7 @@ fn rehearsed<R: Threads + Wait + Sync>(
 /// The answers to the lines with a number, by the replies to the commands among them.
 fn put_answers(
     alloc: Global,
-    places: &[Place],
+    places: &[NumberedLine],
     replies: &[Reply<Global>],
 ) -> Result<Vec<u8>, AllocError>
     ensures { IfOk result (λ v. v.items
@@ -94,8 +94,8 @@ fn put_answers(
     for place in places {
         number += 1;
         match place {
-            Place::Fault(fault) => put_fault(&mut bytes, number, *fault)?,
-            Place::Command => {
+            NumberedLine::Fault(fault) => put_fault(&mut bytes, number, *fault)?,
+            NumberedLine::Command => {
                 if at == replies.len() {
                     return Ok(bytes);
                 }

@@ -5,7 +5,7 @@ ghost use Rattle.std.specs.List.{flat_map, count_by};
 ghost use Rattle.flat_model.specs.Replies.{reply_bytes, is_refused};
 ghost use Rattle.replay_main.specs.Script.{answers_from, place_of, replies_behind, run_answers};
 
-use crate::reading::{Place, count_commands};
+use crate::reading::{NumberedLine, count_commands};
 use crate::runs::{behind, first, in_runs, put_behind, run_of, run_size};
 use pids_charge::Gate;
 use sessions::Entry;
@@ -19,7 +19,7 @@ pub(crate) fn answers_of<R: Threads + Sync, G: Gate>(
     alloc: Global,
     gate: &G,
     workers: u8,
-    places: &[Place],
+    places: &[NumberedLine],
     log: &[Entry],
 ) -> Result<Vec<u8>, AllocError>
     requires workers { (1 ≤ workers) × (workers ≤ 8) }
@@ -41,7 +41,7 @@ pub(crate) fn answers_of<R: Threads + Sync, G: Gate>(
 /// The answers of one worker.
 fn answer_run(
     alloc: Global,
-    places: &[Place],
+    places: &[NumberedLine],
     log: &[Entry],
     size: usize,
     worker: usize,
@@ -58,7 +58,7 @@ fn answer_run(
 }
 
 /// The entries after those of the first `n` lines.
-fn replied<'a>(places: &[Place], n: usize, log: &'a [Entry]) -> &'a [Entry]
+fn replied<'a>(places: &[NumberedLine], n: usize, log: &'a [Entry]) -> &'a [Entry]
     ensures { map (λ e. e.reply) result.now
         ≡ replies_behind n (map place_of places.now) (map (λ e. e.reply) log.now) }
 {
@@ -71,7 +71,7 @@ fn replied<'a>(places: &[Place], n: usize, log: &'a [Entry]) -> &'a [Entry]
 fn answer(
     alloc: Global,
     before: usize,
-    places: &[Place],
+    places: &[NumberedLine],
     log: &[Entry],
 ) -> Result<Vec<u8>, AllocError>
     requires { before < 2 ^ 63 }
@@ -84,8 +84,8 @@ fn answer(
     for place in places {
         number += 1;
         match place {
-            Place::Fault(fault) => put_fault(&mut bytes, number, *fault)?,
-            Place::Command => {
+            NumberedLine::Fault(fault) => put_fault(&mut bytes, number, *fault)?,
+            NumberedLine::Command => {
                 if at < log.len() {
                     put_text(alloc, &mut bytes, number, &log[at])?;
                     at += 1;

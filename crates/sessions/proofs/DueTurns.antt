@@ -1,15 +1,9 @@
 -- The turns that were looked at, place by place.
 use Rattle.std.proofs.Common.{◌≡◌, ℕ, ◌+◌, ◌<◌, ◌≤◌, Bool, true, false, ltb, List, length, get_or, refl, sym, subst, arith}
 use Rattle.std.specs.Prelude.{slice_set}
-use Rattle.std.proofs.lemmas.Bool.Decides.{nat_tests}
 use Rattle.std.proofs.lemmas.List.{get_or-set_other}
 use Rattle.std.proofs.lemmas.Grind.{get_or-set_at}
-
-less : (k n : ℕ) → ltb k n ≡ true → k < n
-less k n e = grind (arith, nat_tests)
-
-not_less : (k n : ℕ) → ltb k n ≡ false → n ≤ k
-not_less k n e = grind (arith, nat_tests)
+use Rattle.flat_model.proofs.Booleans.{less, not_less}
 
 -- what is found in front of the place that is set stays, and there is what was set
 pub set_next : {X : Type 0} (P : ℕ → X → Type 0) (xs : List X) (n : ℕ) (x d : X) → n < length xs → P n x → ((k : ℕ) → k < n → P k (get_or xs k d)) → (k : ℕ) → k < n + 1 → P k (get_or (slice_set xs n x) k d)

@@ -51,7 +51,7 @@ fn apply_twice<R: Threads + Wait + Sync, B: Allocator + Clone>(
         Ok(again) => Ok((reply, again)),
         Err(refused) => {
             if engine.depth() > depth {
-                take_back(rt, engine, who);
+                undo_newest(rt, engine, who);
             }
             Err(refused)
         }
@@ -59,7 +59,7 @@ fn apply_twice<R: Threads + Wait + Sync, B: Allocator + Clone>(
 }
 
 /// Undoes the newest recorded command, of a kind whose undo allocates nothing.
-fn take_back<R: Threads + Wait + Sync>(rt: &R, engine: &mut DeskEngine, who: u8)
+fn undo_newest<R: Threads + Wait + Sync>(rt: &R, engine: &mut DeskEngine, who: u8)
     requires { undoes_without_memory slots engine.old.past ≡ true }
     ensures { engine.new ≡ (tick slots engine.old model.Undo).0 }
 {

@@ -1,24 +1,16 @@
 -- The first line feed.
-use Rattle.std.proofs.Common.{◌≡◌, ◌∙◌, ℕ, ◌+◌, ◌<◌, ◌≤◌, Bool, true, false, cond, nat_lt, List, ◌∷◌, ◌++◌, take, drop, length, get_or, refl, sym, ap, subst, arith, Some, None}
+use Rattle.std.proofs.Common.{◌≡◌, ◌∙◌, ℕ, ◌+◌, ◌<◌, nat_lt, List, ◌∷◌, ◌++◌, take, drop, length, get_or, refl, sym, ap, subst, arith, Some, None}
 use Rattle.std.specs.List.{position, position_or_len}
 use Rattle.std.proofs.lemmas.Bool.{eqb-true}
-use Rattle.std.proofs.lemmas.Bool.Decides.{nat_tests}
 use Rattle.std.proofs.lemmas.List.{get_or-take, length-take}
 use Rattle.std.proofs.lemmas.List.Quantifiers.{position-Some}
 use Rattle.std.proofs.lemmas.List.Sums.{fails_before_first, split_at_first}
 use Rattle.flat_model.specs.Trace.{is_line_feed}
 use Rattle.shell_main.specs.WholeLines.{HasNoFeed}
-
-place_by : (n m end : ℕ) (t : Bool) → nat_lt n m ≡ t → Some end ≡ cond t (Some n) None → (n < m) × (n ≡ end)
-place_by n m end true e h = (grind (arith, nat_tests), cc)
-place_by n m end false e h = cc
+use Rattle.flat_model.proofs.Booleans.{place_by, no_place}
 
 place : (bytes : List ℕ) (end : ℕ) → Some end ≡ position is_line_feed bytes → (position_or_len is_line_feed bytes < length bytes) × (position_or_len is_line_feed bytes ≡ end)
 place bytes end h = place_by (position_or_len is_line_feed bytes) (length bytes) end (nat_lt (position_or_len is_line_feed bytes) (length bytes)) refl h
-
-no_place : (n m : ℕ) (t : Bool) → nat_lt n m ≡ t → None ≡ cond t (Some n) None → m ≤ n
-no_place n m true e h = cc
-no_place n m false e h = grind (arith, nat_tests)
 
 pub no_feed : (bytes : List ℕ) → None ≡ position is_line_feed bytes → HasNoFeed bytes
 no_feed bytes h =

@@ -69,7 +69,13 @@ moves_up h j p apart have = (
 )
 
 pub raises : (h : Holding) (j n : ℕ) → Raises j n h (raise h j n)
-raises h j n = (let a = at_put_same h.amounts j ((slice_index h.amounts j + n) % 18446744073709551616) in omega arith, (λ i apart. at_put_else h.amounts j i ((slice_index h.amounts j + n) % 18446744073709551616) apart), refl, refl)
+raises h j n = (
+  let a = at_put_same h.amounts j ((slice_index h.amounts j + n) % 18446744073709551616) in
+      omega arith,
+  (λ i apart. at_put_else h.amounts j i ((slice_index h.amounts j + n) % 18446744073709551616) apart),
+  refl,
+  refl,
+)
 
 -- a hand's tokens in all bound those at one node
 pub at_held : (h : Holding) (i : ℕ) → tokens_at i h ≤ held h
@@ -89,7 +95,8 @@ pub raised : (r : Role) (ts ns : List ℕ) (i n x : ℕ) → i < length ns → x
 raised r ts ns i n x h e = ap (λ (l : List ℕ). holding r ts l) (ap (λ (y : ℕ). set ns i ((y + n) % 2 ^ 64)) (e ∙ read_inside ns i x 0 h) ∙ sym (put_inside ns i ((slice_index ns i + n) % 2 ^ 64) h))
 
 -- main and a new helper after a split with this share
-pub parts : (h : Holding) (share amounts : List ℕ) → main_weight h.role ≡ 1 → ((i : ℕ) → slice_index share i ≤ tokens_at i h) → ((i : ℕ) → slice_index amounts i ≡ 0) → Parts h (keeper h share) (helper_with share amounts)
+pub parts : (h : Holding) (share amounts : List ℕ) → main_weight h.role ≡ 1 → ((i : ℕ) → slice_index share i ≤ tokens_at i h)
+    → ((i : ℕ) → slice_index amounts i ≡ 0) → Parts h (keeper h share) (helper_with share amounts)
 parts h share amounts main fits none = ((λ i. let a = at_without h.tokens share i in let b = fits i in omega arith), refl, none, main, refl, refl)
 
 -- main after a join with this helper

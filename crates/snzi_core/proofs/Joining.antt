@@ -1,5 +1,6 @@
 -- A core after a join.
-use Rattle.std.proofs.Common.{◌≡◌, ◌≢◌, ℕ, zero, suc, ◌+◌, ◌^◌, ◌<◌, ◌≤◌, Bool, true, false, List, [], ◌∷◌, ◌++◌, take, drop, length, set, get_or, refl, sym, ap, ◌∙◌, subst, arith, true≢false, length-set}
+use Rattle.std.proofs.Common.{◌≡◌, ◌≢◌, ℕ, zero, suc, ◌+◌, ◌^◌, ◌<◌, ◌≤◌, Bool, true, false, List, [], ◌∷◌, ◌++◌, take, drop, length, set}
+use Rattle.std.proofs.Common.{get_or, refl, sym, ap, ◌∙◌, subst, arith, true≢false, length-set}
 use Rattle.std.proofs.lemmas.List.{take-append-le, take_all}
 use Rattle.std.specs.Prelude.{nat_lt}
 use Rattle.std.specs.List.{list_any, range_with_len}
@@ -104,9 +105,13 @@ module _ (k : State) (c : IsCore k) (helper : ℕ) (is : helps (hand_of k helper
   join_core none = record {
     odd = c.odd;
     words = c.words;
-    main = ap (λ (h : Holding). main_weight h.role) (at_first k.hands helper (rejoined (hand_of k 0) (hand_of k helper)) (empty Spent) no_main (main_live k c)) ∙ one_back_main (hand_of k 0).role ∙ c.main;
-    made = let a = length-set (set k.hands 0 (rejoined (hand_of k 0) (hand_of k helper))) helper (empty Spent) in let b = length-set k.hands 0 (rejoined (hand_of k 0) (hand_of k helper)) in let m = c.made in omega arith;
-    tables = each_set (HasTables (length k.words)) (set k.hands 0 (rejoined (hand_of k 0) (hand_of k helper))) helper (empty Spent) (each_set (HasTables (length k.words)) k.hands 0 (rejoined (hand_of k 0) (hand_of k helper)) c.tables rejoined_tables) (λ alive. absurd (true≢false (sym alive)));
+    main = ap (λ (h : Holding). main_weight h.role) (at_first k.hands helper (rejoined (hand_of k 0) (hand_of k helper)) (empty Spent)
+        no_main (main_live k c)) ∙ one_back_main (hand_of k 0).role ∙ c.main;
+    made = let a = length-set (set k.hands 0 (rejoined (hand_of k 0) (hand_of k helper))) helper (empty Spent) in
+        let b = length-set k.hands 0 (rejoined (hand_of k 0) (hand_of k helper)) in let m = c.made in omega arith;
+    tables = each_set (HasTables (length k.words)) (set k.hands 0 (rejoined (hand_of k 0) (hand_of k helper))) helper (empty Spent)
+        (each_set (HasTables (length k.words)) k.hands 0 (rejoined (hand_of k 0) (hand_of k helper)) c.tables rejoined_tables)
+        (λ alive. absurd (true≢false (sym alive)));
     rule = join_law (kind_of k) (above k) (is_family k.nodes (span k) (shape_of k c)) k.words k.hands 0 (hand_of k 0) at_main helper (hand_of k helper) (rejoined (hand_of k 0) (hand_of k helper))
         (at_other k.hands 0 helper (rejoined (hand_of k 0) (hand_of k helper)) (hand_of k helper) no_main at_helper) united
         (λ i. let a = at_merged (hand_of k 0).tokens (hand_of k helper).tokens i in let b = together none i in omega arith) c.rule;

@@ -24,7 +24,8 @@ neither true b e = absurd (true≢false e)
 neither false b e = (refl, e)
 
 module _ (k : State) where
-  pub fast_add : (hand : ℕ) (at : At) → refusal k (FastAdd hand at) ≡ None → (has_node k at ≡ true) × (is_live k hand ≡ true) × (is_zero k (node_of k at) ≡ false) × (is_at_cap k hand (node_of k at) ≡ false)
+  pub fast_add : (hand : ℕ) (at : At) → refusal k (FastAdd hand at) ≡ None → (has_node k at ≡ true) × (is_live k hand ≡ true)
+      × (is_zero k (node_of k at) ≡ false) × (is_at_cap k hand (node_of k at) ≡ false)
   fast_add hand at e =
       let a = refuse_none _ _ _ e in let b = refuse_none _ _ _ a.1 in let c = refuse_none _ _ _ b.1 in let d = refuse_none _ _ _ c.1 in
       (not_false (has_node k at) a.0, not_false (is_live k hand) b.0, c.0, d.0)
@@ -34,13 +35,15 @@ module _ (k : State) where
       let a = refuse_none _ _ _ e in let b = refuse_none _ _ _ a.1 in let c = refuse_none _ _ _ b.1 in
       (not_false (nat_lt slot k.slots) a.0, not_false (is_live k hand) b.0, c.0)
 
-  pub child_add : (hand : ℕ) (at : At) → refusal k (ChildAdd hand at) ≡ None → (has_node k at ≡ true) × (nat_eq at.node 0 ≡ false) × (is_live k hand ≡ true) × (lacks k hand (parent_of k at) ≡ false) × (is_at_cap k hand (node_of k at) ≡ false)
+  pub child_add : (hand : ℕ) (at : At) → refusal k (ChildAdd hand at) ≡ None → (has_node k at ≡ true) × (nat_eq at.node 0 ≡ false)
+      × (is_live k hand ≡ true) × (lacks k hand (parent_of k at) ≡ false) × (is_at_cap k hand (node_of k at) ≡ false)
   child_add hand at e =
       let a = refuse_none _ _ _ e in let b = refuse_none _ _ _ a.1 in let c = refuse_none _ _ _ b.1 in let d = refuse_none _ _ _ c.1 in
       let f = neither (not (has_node k at)) (nat_eq at.node 0) a.0 in
       (not_false (has_node k at) f.0, f.1, not_false (is_live k hand) b.0, c.0, d.0)
 
-  pub leave : (hand : ℕ) (at : At) → refusal k (Leave hand at) ≡ None → (has_node k at ≡ true) × (is_live k hand ≡ true) × (lacks k hand (node_of k at) ≡ false) × ((passes_up k at && is_at_cap k hand (parent_of k at)) ≡ false)
+  pub leave : (hand : ℕ) (at : At) → refusal k (Leave hand at) ≡ None → (has_node k at ≡ true) × (is_live k hand ≡ true)
+      × (lacks k hand (node_of k at) ≡ false) × ((passes_up k at && is_at_cap k hand (parent_of k at)) ≡ false)
   leave hand at e =
       let a = refuse_none _ _ _ e in let b = refuse_none _ _ _ a.1 in let c = refuse_none _ _ _ b.1 in let d = refuse_none _ _ _ c.1 in
       (not_false (has_node k at) a.0, not_false (is_live k hand) b.0, c.0, d.0)

@@ -30,7 +30,8 @@ second_child stripe = 0
 
 -- a sum modulo 2^64 after one of its parts was raised by n
 after_raise : (t a b n t' : ℕ) → a ≤ t → t' + a ≡ t + b → b % 2 ^ 64 ≡ (a + n) % 2 ^ 64 → (t % 2 ^ 64 + n) % 2 ^ 64 ≡ t' % 2 ^ 64
-after_raise t a b n t' le e own = mod-add-mod t (2 ^ 64) n ∙ ap (λ (x : ℕ). x % 2 ^ 64) parts ∙ sym (add-mod-mod (t - a) (a + n) (2 ^ 64)) ∙ ap (λ (x : ℕ). (t - a + x) % 2 ^ 64) (sym own) ∙ add-mod-mod (t - a) b (2 ^ 64) ∙ ap (λ (x : ℕ). x % 2 ^ 64) whole
+after_raise t a b n t' le e own = mod-add-mod t (2 ^ 64) n ∙ ap (λ (x : ℕ). x % 2 ^ 64) parts ∙ sym (add-mod-mod (t - a) (a + n) (2 ^ 64))
+    ∙ ap (λ (x : ℕ). (t - a + x) % 2 ^ 64) (sym own) ∙ add-mod-mod (t - a) b (2 ^ 64) ∙ ap (λ (x : ℕ). x % 2 ^ 64) whole
   where
     parts : t + n ≡ t - a + (a + n)
     parts = omega arith
@@ -88,21 +89,25 @@ module _ (kind : ℕ → Line) (parent : ℕ → ℕ) (tree : Family kind parent
         let y : up (slice_index (set words j n) b) ≡ up (slice_index words b) = ap up (other b (λ f. lt_ne a b c.3 (a_is ∙ sym f))) in
         let u : up (slice_index words a) ≡ up (slice_index words j) = ap (λ i. up (slice_index words i)) a_is in
         let s : up (slice_index (set words j n) a) ≡ up (slice_index (set words j n) j) = ap (λ i. up (slice_index (set words j n) i)) a_is in
-        let goal : slice_index (set words j n) (parent j) ≡ total (tokens_at (parent j)) (set hands id w) + (up (slice_index (set words j n) a) + up (slice_index (set words j n) b)) = omega arith in goal)
+        let goal : slice_index (set words j n) (parent j) ≡ total (tokens_at (parent j)) (set hands id w)
+        + (up (slice_index (set words j n) a) + up (slice_index (set words j n) b)) = omega arith in goal)
         (λ (e : kind (parent j) ≡ inner d.0 j).
         let b_is : b ≡ j = ap second_child (sym is ∙ e) in
         let y : up (slice_index (set words j n) a) ≡ up (slice_index words a) = ap up (other a (λ f. lt_ne a b c.3 (f ∙ sym b_is))) in
         let u : up (slice_index words b) ≡ up (slice_index words j) = ap (λ i. up (slice_index words i)) b_is in
         let s : up (slice_index (set words j n) b) ≡ up (slice_index (set words j n) j) = ap (λ i. up (slice_index (set words j n) i)) b_is in
-        let goal : slice_index (set words j n) (parent j) ≡ total (tokens_at (parent j)) (set hands id w) + (up (slice_index (set words j n) a) + up (slice_index (set words j n) b)) = omega arith in goal)
+        let goal : slice_index (set words j n) (parent j) ≡ total (tokens_at (parent j)) (set hands id w)
+        + (up (slice_index (set words j n) a) + up (slice_index (set words j n) b)) = omega arith in goal)
         d.1
     at_parent leaf apart is was =
-        ⊎_elim (λ (e : kind (parent j) ≡ inner (j) (tree.child j apart).0). absurd (no_leaf _ _ (sym e ∙ is))) (λ (e : kind (parent j) ≡ inner (tree.child j apart).0 j). absurd (no_leaf _ _ (sym e ∙ is))) (tree.child j apart).1
+        ⊎_elim (λ (e : kind (parent j) ≡ inner (j) (tree.child j apart).0). absurd (no_leaf _ _ (sym e ∙ is))) (λ (e : kind (parent j)
+        ≡ inner (tree.child j apart).0 j). absurd (no_leaf _ _ (sym e ∙ is))) (tree.child j apart).1
       where
         no_leaf : (a b : ℕ) → inner a b ≡ leaf → ⊥
         no_leaf a b e = cc
     at_parent stripe apart is was =
-        ⊎_elim (λ (e : kind (parent j) ≡ inner (j) (tree.child j apart).0). absurd (no_stripe _ _ (sym e ∙ is))) (λ (e : kind (parent j) ≡ inner (tree.child j apart).0 j). absurd (no_stripe _ _ (sym e ∙ is))) (tree.child j apart).1
+        ⊎_elim (λ (e : kind (parent j) ≡ inner (j) (tree.child j apart).0). absurd (no_stripe _ _ (sym e ∙ is))) (λ (e : kind (parent j)
+        ≡ inner (tree.child j apart).0 j). absurd (no_stripe _ _ (sym e ∙ is))) (tree.child j apart).1
       where
         no_stripe : (a b : ℕ) → inner a b ≡ stripe → ⊥
         no_stripe a b e = cc

@@ -112,7 +112,10 @@ module _ (kind : ℕ → Line) (parent : ℕ → ℕ) (tree : Family kind parent
     left_within was = ((λ i. let a = parts.0 i in let b = was.0 i in omega arith), λ s. absurd (not_spent left.role (let a = left_main in omega arith) s))
 
     right_within : Within v → Within right
-    right_within was = ((λ i. let a = parts.0 i in let b = was.0 i in omega arith), λ s. absurd (not_spent right.role (let d : helper_weight right.role ≡ 1 = ap helper_weight parts.5 in omega arith) s))
+    right_within was = (
+      (λ i. let a = parts.0 i in let b = was.0 i in omega arith),
+      λ s. absurd (not_spent right.role (let d : helper_weight right.role ≡ 1 = ap helper_weight parts.5 in omega arith) s),
+    )
 
     pub split_muster : Mustered hands → out v.role < 65535 → Mustered (set hands id left ++ right ∷ [])
     split_muster m room =
@@ -134,7 +137,8 @@ module _ (kind : ℕ → Line) (parent : ℕ → ℕ) (tree : Family kind parent
         let c = unites.0 i in omega arith
 
     amounts' : (i : ℕ) → total (amount_at i) (set (set hands id both) other (empty Spent)) % 2 ^ 64 ≡ total (amount_at i) hands % 2 ^ 64
-    amounts' i = after_union (total (amount_at i) (set (set hands id both) other (empty Spent))) (total (amount_at i) (set hands id both)) (total (amount_at i) hands) (amount_at i v) (amount_at i w) (amount_at i both)
+    amounts' i = after_union (total (amount_at i) (set (set hands id both) other (empty Spent))) (total (amount_at i) (set hands id both))
+        (total (amount_at i) hands) (amount_at i v) (amount_at i w) (amount_at i both)
         (total_set (amount_at i) (set hands id both) other w (empty Spent) there) (total_set (amount_at i) hands id v both at) (unites.1 i)
 
     pub join_balance : Balanced kind words hands → Balanced kind words (set (set hands id both) other (empty Spent))

@@ -106,11 +106,14 @@ module _ (kind : ℕ → Line) (parent : ℕ → ℕ) (tree : Family kind parent
   positive_present i node p = sink (length words) i (omega arith) node p
 
 -- main, with no helper out, knows each stripe
-pub main_sum : (kind : ℕ → Line) (words : List ℕ) (hands : List Holding) (id j : ℕ) (h : Holding) → Ruled kind words hands → get_elem? hands id ≡ some h → h.role ≡ Main 0 → kind j ≡ stripe → slice_index words j ≡ amount_at j h % 2 ^ 64
+pub main_sum : (kind : ℕ → Line) (words : List ℕ) (hands : List Holding) (id j : ℕ) (h : Holding) → Ruled kind words hands
+    → get_elem? hands id ≡ some h → h.role ≡ Main 0 → kind j ≡ stripe → slice_index words j ≡ amount_at j h % 2 ^ 64
 main_sum kind words hands id j h r at alone striped = subst (λ k. Stands words hands j k) striped (r.0 j) ∙ ap (λ (y : ℕ). y % 2 ^ 64) (alone_amounts hands id h r.1 at alone j)
 
 -- and where a token is present
-pub main_covers : (kind : ℕ → Line) (parent : ℕ → ℕ) (tree : Family kind parent) (words : List ℕ) (hands : List Holding) (id j : ℕ) (h : Holding) → Ruled kind words hands → get_elem? hands id ≡ some h → h.role ≡ Main 0 → kind j ≢ stripe → 0 < slice_index words j ↔ Covers parent h j
+pub main_covers : (kind : ℕ → Line) (parent : ℕ → ℕ) (tree : Family kind parent) (words : List ℕ) (hands : List Holding) (id j : ℕ)
+    (h : Holding) → Ruled kind words hands → get_elem? hands id ≡ some h → h.role ≡ Main 0 → kind j ≢ stripe → 0 < slice_index words j
+    ↔ Covers parent h j
 main_covers kind parent tree words hands id j h r at alone node = (
   (λ p.
       let t = positive_present kind parent tree words hands r.0 j node p in

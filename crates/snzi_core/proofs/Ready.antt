@@ -21,13 +21,17 @@ abbrev pub Arrives : State → ℕ → ℕ → Type 0
 Arrives k hand i = (i < length k.words) × (is_live k hand ≡ true) × ((slice_index k.words i < 18446744073709551615) × (tokens_at i (hand_of k hand) < 1099511627776)) × IsCore (arrived k hand i)
 
 abbrev pub Descends : State → ℕ → ℕ → ℕ → Type 0
-Descends k hand p i = ((p < length k.words) × (i < length k.words) × (p ≢ i)) × (is_live k hand ≡ true) × ((slice_index k.words i < 18446744073709551615) × (tokens_at i (hand_of k hand) < 1099511627776)) × (0 < tokens_at p (hand_of k hand)) × IsCore (descended k hand p i)
+Descends k hand p i = ((p < length k.words) × (i < length k.words) × (p ≢ i)) × (is_live k hand ≡ true)
+    × ((slice_index k.words i < 18446744073709551615) × (tokens_at i (hand_of k hand) < 1099511627776)) × (0 < tokens_at p (hand_of k hand))
+    × IsCore (descended k hand p i)
 
 abbrev pub Departs : State → ℕ → ℕ → Type 0
 Departs k hand i = (i < length k.words) × (is_live k hand ≡ true) × ((0 < slice_index k.words i) × (0 < tokens_at i (hand_of k hand))) × IsCore (departed k hand i)
 
 abbrev pub Ascends : State → ℕ → ℕ → ℕ → Type 0
-Ascends k hand p i = ((p < length k.words) × (i < length k.words) × (p ≢ i)) × (is_live k hand ≡ true) × ((0 < slice_index k.words i) × (0 < tokens_at i (hand_of k hand))) × (tokens_at p (hand_of k hand) < 1099511627776) × IsCore (ascended k hand p i)
+Ascends k hand p i = ((p < length k.words) × (i < length k.words) × (p ≢ i)) × (is_live k hand ≡ true)
+    × ((0 < slice_index k.words i) × (0 < tokens_at i (hand_of k hand))) × (tokens_at p (hand_of k hand) < 1099511627776)
+    × IsCore (ascended k hand p i)
 
 abbrev pub Sums : State → ℕ → ℕ → ℕ → Type 0
 Sums k hand i n = (i < length k.words) × (is_live k hand ≡ true) × IsCore (summed k hand i n)
@@ -67,13 +71,17 @@ module _ (k : State) (c : IsCore k) where
     room : slice_index k.words (node_word k.nodes (leaves k.nodes) slot node) < 18446744073709551615
     room = word_small (kind_of k) k.words k.hands (node_word k.nodes (leaves k.nodes) slot node) (node_kind k slot node c in_slot) c.rule
 
-    arrives : (hand : ℕ) → is_live k hand ≡ true → is_at_cap k hand (node_word k.nodes (leaves k.nodes) slot node) ≡ false → (above k (node_word k.nodes (leaves k.nodes) slot node) ≢ node_word k.nodes (leaves k.nodes) slot node → 0 < slice_index k.words (node_word k.nodes (leaves k.nodes) slot node))
+    arrives : (hand : ℕ) → is_live k hand ≡ true → is_at_cap k hand (node_word k.nodes (leaves k.nodes) slot node) ≡ false
+        → (above k (node_word k.nodes (leaves k.nodes) slot node) ≢ node_word k.nodes (leaves k.nodes) slot node
+        → 0 < slice_index k.words (node_word k.nodes (leaves k.nodes) slot node))
         → Arrives k hand (node_word k.nodes (leaves k.nodes) slot node)
     arrives hand live cap filled =
         let less = below_cap (tokens_at (node_word k.nodes (leaves k.nodes) slot node) (hand_of k hand)) 1099511627776 cap in
         (at_node, live, (room, less), arrived_core k c hand (node_word k.nodes (leaves k.nodes) slot node) live at_node (node_kind k slot node c in_slot) filled less)
 
-    descends : (hand : ℕ) → 0 < node → is_live k hand ≡ true → is_at_cap k hand (node_word k.nodes (leaves k.nodes) slot node) ≡ false → lacks k hand (node_word k.nodes (leaves k.nodes) slot ((node - 1) / 2)) ≡ false → slice_index k.words (node_word k.nodes (leaves k.nodes) slot node) ≡ 0
+    descends : (hand : ℕ) → 0 < node → is_live k hand ≡ true → is_at_cap k hand (node_word k.nodes (leaves k.nodes) slot node) ≡ false
+        → lacks k hand (node_word k.nodes (leaves k.nodes) slot ((node - 1) / 2)) ≡ false
+        → slice_index k.words (node_word k.nodes (leaves k.nodes) slot node) ≡ 0
         → Descends k hand (node_word k.nodes (leaves k.nodes) slot ((node - 1) / 2)) (node_word k.nodes (leaves k.nodes) slot node)
     descends hand pos live cap has none =
         let less = below_cap (tokens_at (node_word k.nodes (leaves k.nodes) slot node) (hand_of k hand)) 1099511627776 cap in
@@ -82,19 +90,28 @@ module _ (k : State) (c : IsCore k) where
           live,
           (room, less),
           have,
-          descended_core k c hand (node_word k.nodes (leaves k.nodes) slot node) live at_node (node_word k.nodes (leaves k.nodes) slot ((node - 1) / 2)) (parents pos) (apart pos) at_parent (node_kind k slot node c in_slot) none less have,
+          descended_core k c hand (node_word k.nodes (leaves k.nodes) slot node) live at_node
+              (node_word k.nodes (leaves k.nodes) slot ((node - 1) / 2)) (parents pos) (apart pos) at_parent
+              (node_kind k slot node c in_slot) none less have,
         )
 
-    filled_word : (hand : ℕ) → is_live k hand ≡ true → 0 < tokens_at (node_word k.nodes (leaves k.nodes) slot node) (hand_of k hand) → 0 < slice_index k.words (node_word k.nodes (leaves k.nodes) slot node)
-    filled_word hand live have = let a = at_least (kind_of k) k.words k.hands hand (hand_of k hand) (live_at k.hands hand live) (node_word k.nodes (leaves k.nodes) slot node) (node_kind k slot node c in_slot) c.rule.0 in omega arith
+    filled_word : (hand : ℕ) → is_live k hand ≡ true → 0 < tokens_at (node_word k.nodes (leaves k.nodes) slot node) (hand_of k hand)
+        → 0 < slice_index k.words (node_word k.nodes (leaves k.nodes) slot node)
+    filled_word hand live have = let a =
+        at_least (kind_of k) k.words k.hands hand (hand_of k hand) (live_at k.hands hand live)
+        (node_word k.nodes (leaves k.nodes) slot node) (node_kind k slot node c in_slot) c.rule.0 in omega arith
 
-    departs : (hand : ℕ) → is_live k hand ≡ true → lacks k hand (node_word k.nodes (leaves k.nodes) slot node) ≡ false → (above k (node_word k.nodes (leaves k.nodes) slot node) ≢ node_word k.nodes (leaves k.nodes) slot node → slice_index k.words (node_word k.nodes (leaves k.nodes) slot node) ≢ 1)
+    departs : (hand : ℕ) → is_live k hand ≡ true → lacks k hand (node_word k.nodes (leaves k.nodes) slot node) ≡ false
+        → (above k (node_word k.nodes (leaves k.nodes) slot node) ≢ node_word k.nodes (leaves k.nodes) slot node
+        → slice_index k.words (node_word k.nodes (leaves k.nodes) slot node) ≢ 1)
         → Departs k hand (node_word k.nodes (leaves k.nodes) slot node)
     departs hand live has more =
         let have = some_of (tokens_at (node_word k.nodes (leaves k.nodes) slot node) (hand_of k hand)) has in
         (at_node, live, (filled_word hand live have, have), departed_core k c hand (node_word k.nodes (leaves k.nodes) slot node) live at_node (node_kind k slot node c in_slot) more have)
 
-    ascends : (hand : ℕ) → 0 < node → is_live k hand ≡ true → lacks k hand (node_word k.nodes (leaves k.nodes) slot node) ≡ false → is_at_cap k hand (node_word k.nodes (leaves k.nodes) slot ((node - 1) / 2)) ≡ false → slice_index k.words (node_word k.nodes (leaves k.nodes) slot node) ≡ 1
+    ascends : (hand : ℕ) → 0 < node → is_live k hand ≡ true → lacks k hand (node_word k.nodes (leaves k.nodes) slot node) ≡ false
+        → is_at_cap k hand (node_word k.nodes (leaves k.nodes) slot ((node - 1) / 2)) ≡ false
+        → slice_index k.words (node_word k.nodes (leaves k.nodes) slot node) ≡ 1
         → Ascends k hand (node_word k.nodes (leaves k.nodes) slot ((node - 1) / 2)) (node_word k.nodes (leaves k.nodes) slot node)
     ascends hand pos live has cap one =
         let have = some_of (tokens_at (node_word k.nodes (leaves k.nodes) slot node) (hand_of k hand)) has in
@@ -103,7 +120,9 @@ module _ (k : State) (c : IsCore k) where
           live,
           (filled_word hand live have, have),
           less,
-          ascended_core k c hand (node_word k.nodes (leaves k.nodes) slot node) live at_node (node_word k.nodes (leaves k.nodes) slot ((node - 1) / 2)) (parents pos) (apart pos) at_parent (node_kind k slot node c in_slot) one less have,
+          ascended_core k c hand (node_word k.nodes (leaves k.nodes) slot node) live at_node
+              (node_word k.nodes (leaves k.nodes) slot ((node - 1) / 2)) (parents pos) (apart pos) at_parent
+              (node_kind k slot node c in_slot) one less have,
         )
 
   pub ready_fast : (hand : ℕ) (at : At) → refusal k (FastAdd hand at) ≡ None → Arrives k hand (node_of k at)
@@ -133,7 +152,8 @@ module _ (k : State) (c : IsCore k) where
   ready_last hand at e p =
       let t = leave k hand at e in let n = named at.slot k.slots at.node k.nodes t.0 in
       let b = both_true (nat_eq (slice_index k.words (node_of k at)) 1) (not (nat_eq at.node 0)) p in
-      ascends at.slot at.node n.0 n.1 hand (some_of at.node (not_true (nat_eq at.node 0) b.1)) t.1 t.2 (both_false (passes_up k at) (is_at_cap k hand (parent_of k at)) t.3 p) (eqb-true (slice_index k.words (node_of k at)) 1 b.0)
+      ascends at.slot at.node n.0 n.1 hand (some_of at.node (not_true (nat_eq at.node 0) b.1)) t.1 t.2
+      (both_false (passes_up k at) (is_at_cap k hand (parent_of k at)) t.3 p) (eqb-true (slice_index k.words (node_of k at)) 1 b.0)
     where
       not_true : (b : Bool) → not b ≡ true → b ≡ false
       not_true true e = absurd (true≢false (sym e))
@@ -143,14 +163,17 @@ module _ (k : State) (c : IsCore k) where
   ready_leave hand at e p =
       let t = leave k hand at e in let n = named at.slot k.slots at.node k.nodes t.0 in
       departs at.slot at.node n.0 n.1 hand t.1 t.2
-      (λ apart one. apart (at_root at.node (not_false' (nat_eq at.node 0) (both_false (nat_eq (slice_index k.words (node_of k at)) 1) (not (nat_eq at.node 0)) p (eq-eqb (slice_index k.words (node_of k at)) 1 one)))))
+      (λ apart one. apart (at_root at.node
+      (not_false' (nat_eq at.node 0) (both_false (nat_eq (slice_index k.words (node_of k at)) 1) (not (nat_eq at.node 0)) p
+      (eq-eqb (slice_index k.words (node_of k at)) 1 one)))))
     where
       not_false' : (b : Bool) → not b ≡ false → b ≡ true
       not_false' true e = refl
       not_false' false e = absurd (true≢false e)
 
       at_root : (node : ℕ) → nat_eq node 0 ≡ true → above k (node_word k.nodes (leaves k.nodes) at.slot node) ≡ node_word k.nodes (leaves k.nodes) at.slot node
-      at_root node z = subst (λ (m : ℕ). above k (node_word k.nodes (leaves k.nodes) at.slot m) ≡ node_word k.nodes (leaves k.nodes) at.slot m) (sym (eqb-true node 0 z)) (is_root k.nodes (span k) (shape_of k c) at.slot)
+      at_root node z = subst (λ (m : ℕ). above k (node_word k.nodes (leaves k.nodes) at.slot m)
+          ≡ node_word k.nodes (leaves k.nodes) at.slot m) (sym (eqb-true node 0 z)) (is_root k.nodes (span k) (shape_of k c) at.slot)
 
   pub ready_stripe : (hand slot s n : ℕ) → refusal k (StripeAdd hand slot s n) ≡ None → Sums k hand (stripe_of k slot s) n
   ready_stripe hand slot s n e =

@@ -9,7 +9,9 @@ use Rattle.snzi_core.proofs.Lists.{at_merged, at_without}
 
 -- below i each number is made of the old one and that of the part, and from i on it is the old one
 abbrev pub IsRewritten : (ℕ → ℕ → ℕ) → List ℕ → List ℕ → ℕ → List ℕ → Type 0
-IsRewritten f old part i table = (length table ≡ length old) × ((j : ℕ) → j < i → slice_index table j ≡ f (slice_index old j) (slice_index part j)) × ((j : ℕ) → i ≤ j → slice_index table j ≡ slice_index old j)
+IsRewritten f old part i table = (length table ≡ length old)
+    × ((j : ℕ) → j < i → slice_index table j ≡ f (slice_index old j) (slice_index part j))
+    × ((j : ℕ) → i ≤ j → slice_index table j ≡ slice_index old j)
 
 module _ (f : ℕ → ℕ → ℕ) (old part : List ℕ) where
   pub rewrite_none : IsRewritten f old part 0 old
@@ -19,12 +21,14 @@ module _ (f : ℕ → ℕ → ℕ) (old part : List ℕ) where
   rewrite_more i y table was inside is = (
     length-set table i y ∙ was.0,
     (λ j h. dite (ℕ_discrete j i)
-        (λ e. subst (λ (m : ℕ). slice_index (set table i y) m ≡ f (slice_index old m) (slice_index part m)) (sym e) (get_or-set_same table i y 0 inside ∙ is ∙ ap (λ (x : ℕ). f x (slice_index part i)) (was.2 i (omega arith))))
+        (λ e. subst (λ (m : ℕ). slice_index (set table i y) m ≡ f (slice_index old m) (slice_index part m)) (sym e)
+        (get_or-set_same table i y 0 inside ∙ is ∙ ap (λ (x : ℕ). f x (slice_index part i)) (was.2 i (omega arith))))
         (λ ne. get_or-set_other table i j y 0 ne ∙ was.1 j (omega arith))),
     (λ j h. get_or-set_other table i j y 0 (λ e. absurd (omega arith)) ∙ was.2 j (omega arith)),
   )
 
-  pub rewrite_all : (i : ℕ) (table target : List ℕ) → IsRewritten f old part i table → length old ≤ i → length target ≡ length old → ((j : ℕ) → slice_index target j ≡ f (slice_index old j) (slice_index part j)) → table ≡ target
+  pub rewrite_all : (i : ℕ) (table target : List ℕ) → IsRewritten f old part i table → length old ≤ i → length target ≡ length old
+      → ((j : ℕ) → slice_index target j ≡ f (slice_index old j) (slice_index part j)) → table ≡ target
   rewrite_all i table target was far len at = same_number_lists table target (was.0 ∙ sym len) (λ j h. let e = was.0 in was.1 j (omega arith) ∙ sym (at j))
 
 pub length_without : (xs ys : List ℕ) → length (without xs ys) ≡ length xs
@@ -55,4 +59,6 @@ pub is_merged : (old part table : List ℕ) (i : ℕ) → length old ≤ i → l
 is_merged old part table i far len was = rewrite_all (λ x y. x + y) old part i table (merged old part) was far (length_merged old part len) (λ j. at_merged old part j)
 
 pub is_wrapped : (old part table : List ℕ) (i : ℕ) → length old ≤ i → length part ≡ length old → IsRewritten (λ x y. (x + y) % 2 ^ 64) old part i table → table ≡ wrapped (merged old part)
-is_wrapped old part table i far len was = rewrite_all (λ x y. (x + y) % 2 ^ 64) old part i table (wrapped (merged old part)) was far (length_wrapped (merged old part) ∙ length_merged old part len) (λ j. at_wrapped (merged old part) j ∙ ap (λ (x : ℕ). x % 2 ^ 64) (at_merged old part j))
+is_wrapped old part table i far len was =
+    rewrite_all (λ x y. (x + y) % 2 ^ 64) old part i table (wrapped (merged old part)) was far (length_wrapped (merged old part)
+    ∙ length_merged old part len) (λ j. at_wrapped (merged old part) j ∙ ap (λ (x : ℕ). x % 2 ^ 64) (at_merged old part j))

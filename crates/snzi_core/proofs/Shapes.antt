@@ -1,5 +1,6 @@
 -- Each shape is a family.
-use Rattle.std.proofs.Common.{◌≡◌, ◌≢◌, ◌⊎◌, ℕ, zero, suc, ◌+◌, ◌-◌, ◌*◌, ◌/◌, ◌%◌, ◌<◌, ◌≤◌, Bool, true, false, cond, sym, refl, ap, ◌∙◌, subst, inl, inr, ⊎_elim, arith, lt-ltb, le-ltb, ltb-true, true≢false}
+use Rattle.std.proofs.Common.{◌≡◌, ◌≢◌, ◌⊎◌, ℕ, zero, suc, ◌+◌, ◌-◌, ◌*◌, ◌/◌, ◌%◌, ◌<◌, ◌≤◌, Bool, true, false, cond, sym, refl, ap, ◌∙◌}
+use Rattle.std.proofs.Common.{subst, inl, inr, ⊎_elim, arith, lt-ltb, le-ltb, ltb-true, true≢false}
 use Rattle.std.specs.Prelude.{nat_lt}
 use Rattle.std.proofs.lemmas.Nat.{mod-mul-add, div-mul-add}
 use Rattle.snzi_core.specs.Balance.{AtOrBelow, here, below}
@@ -104,8 +105,14 @@ module _ (w s : ℕ) (shape : IsShape w s) where
           let x = a_child i k (k + 1) refl (inl refl) (omega (arith, f.0)) in
           let y = a_child i k (k + 2) refl (inr refl) (omega (arith, f.0)) in
           let a_is : i + (k + 1) ≡ a = omega (arith, f.1) in
-          let b_is : i + (k + 2) ≡ b = omega (arith, f.2) in
-          (subst (λ n. parent w s n ≡ i) a_is x.0, subst (λ n. parent w s n ≡ i) b_is y.0, omega (arith, f.1), omega (arith, f.1, f.2), subst (λ n. line w s n ≢ stripe) a_is x.1, subst (λ n. line w s n ≢ stripe) b_is y.1)
+          let b_is : i + (k + 2) ≡ b = omega (arith, f.2) in (
+            subst (λ n. parent w s n ≡ i) a_is x.0,
+            subst (λ n. parent w s n ≡ i) b_is y.0,
+            omega (arith, f.1),
+            omega (arith, f.1, f.2),
+            subst (λ n. line w s n ≢ stripe) a_is x.1,
+            subst (λ n. line w s n ≢ stripe) b_is y.1,
+          )
 
       child : (j : ℕ) → parent w s j ≢ j → (x : ℕ) × ((line w s (parent w s j) ≡ inner j x) ⊎ (line w s (parent w s j) ≡ inner x j))
       child j apart =

@@ -1,5 +1,7 @@
 -- A core after a split.
-use Rattle.std.proofs.Common.{◌≡◌, ℕ, zero, suc, ◌+◌, ◌<◌, ◌≤◌, Bool, true, false, cond, List, [], ◌∷◌, ◌++◌, length, set, get_or, replicate, refl, sym, ap, ◌∙◌, subst, arith, true≢false, length-set, length-append, length-take-le, take, None, leb-true, ltb-true, eq-eqb, ne_eqb}
+use Rattle.std.proofs.Common.{◌≡◌, ℕ, zero, suc, ◌+◌, ◌<◌, ◌≤◌, Bool, true, false, cond, List, [], ◌∷◌, ◌++◌, length, set, get_or}
+use Rattle.std.proofs.Common.{replicate, refl, sym, ap, ◌∙◌, subst, arith, true≢false, length-set, length-append, length-take-le, take}
+use Rattle.std.proofs.Common.{None, leb-true, ltb-true, eq-eqb, ne_eqb}
 use Rattle.std.proofs.lemmas.List.{length-replicate}
 use Rattle.std.proofs.lemmas.List.FromFn.{get_or-map-range_with_len, length-map-range_with_len}
 use Rattle.std.proofs.lemmas.List.Sums.{sum_by-cons, sum_by_more, count_by-le-length}
@@ -63,7 +65,9 @@ module _ (k : State) (share : List Token) where
       let b = both_true (main_covers k share t) (list_all (main_covers k share) ts) all in
       dite (ℕ_discrete (token_of k t) i)
       (λ e. subst (λ (m : ℕ). count_at k share m ≤ tokens_at m (hand_of k 0)) e (leb-true (count_at k share (token_of k t)) (tokens_at (token_of k t) (hand_of k 0)) b.0))
-      (λ ne. covers i ts b.1 (let c = count_cons k t ts i in let z : cond {A = ℕ} (nat_eq (token_of k t) i) 1 0 ≡ 0 = ap (λ (x : Bool). cond {A = ℕ} x 1 0) (ne_eqb (token_of k t) i ne) in omega arith))
+      (λ ne. covers i ts b.1 (let c = count_cons k t ts i in
+      let z : cond {A = ℕ} (nat_eq (token_of k t) i) 1 0 ≡ 0 = ap (λ (x : Bool). cond {A = ℕ} x 1 0) (ne_eqb (token_of k t) i ne) in
+      omega arith))
 
   pub at_counts : (i : ℕ) → i < length k.words → slice_index (counts k share) i ≡ count_at k share i
   at_counts i h = get_or-map-range_with_len (count_at k share) 0 (length k.words) i i 0 h (omega arith)
@@ -86,7 +90,9 @@ module _ (k : State) (share : List Token) where
     shared = parts (hand_of k 0) (counts k share) (replicate (length k.words) 0) c.main (fits has) (zeros (length k.words))
 
     keeper_tables : HasTables (length k.words) (keeper (hand_of k 0) (counts k share))
-    keeper_tables _ = let t = each_at (HasTables (length k.words)) k.hands 0 (hand_of k 0) c.tables (live_at k.hands 0 (main_live k c)) (main_live k c) in (length_without (hand_of k 0).tokens (counts k share) ∙ t.0, t.1)
+    keeper_tables _ = let t =
+        each_at (HasTables (length k.words)) k.hands 0 (hand_of k 0) c.tables (live_at k.hands 0 (main_live k c)) (main_live k c) in
+        (length_without (hand_of k 0).tokens (counts k share) ∙ t.0, t.1)
 
     first_is : (hands : List Holding) (x y : Holding) → lives (get_or hands 0 (empty Spent)).role ≡ true → get_or (set hands 0 x ++ y ∷ []) 0 (empty Spent) ≡ x
     first_is [] x y e = absurd (true≢false (sym e))
@@ -96,10 +102,19 @@ module _ (k : State) (share : List Token) where
     split_core crowded = record {
       odd = c.odd;
       words = c.words;
-      main = ap (λ (h : Holding). main_weight h.role) (first_is k.hands (keeper (hand_of k 0) (counts k share)) (helper_with (counts k share) (replicate (length k.words) 0)) (main_live k c)) ∙ one_out_main (hand_of k 0).role ∙ c.main;
-      made = let a = length-append (set k.hands 0 (keeper (hand_of k 0) (counts k share))) (helper_with (counts k share) (replicate (length k.words) 0) ∷ []) in let b = length-set k.hands 0 (keeper (hand_of k 0) (counts k share)) in let r = (split_room k crowded).1 in omega arith;
-      tables = each_snoc (HasTables (length k.words)) (set k.hands 0 (keeper (hand_of k 0) (counts k share))) (helper_with (counts k share) (replicate (length k.words) 0)) (each_set (HasTables (length k.words)) k.hands 0 (keeper (hand_of k 0) (counts k share)) c.tables keeper_tables) (λ _. (length_counts, length-replicate (length k.words) 0));
-      rule = split_law (kind_of k) (above k) (is_family k.nodes (span k) (shape_of k c)) k.words k.hands 0 (hand_of k 0) (live_at k.hands 0 (main_live k c)) (keeper (hand_of k 0) (counts k share)) (helper_with (counts k share) (replicate (length k.words) 0)) shared (split_room k crowded).0 c.rule;
+      main = ap (λ (h : Holding). main_weight h.role)
+          (first_is k.hands (keeper (hand_of k 0) (counts k share)) (helper_with (counts k share) (replicate (length k.words) 0))
+          (main_live k c)) ∙ one_out_main (hand_of k 0).role ∙ c.main;
+      made = let a = length-append (set k.hands 0 (keeper (hand_of k 0) (counts k share)))
+          (helper_with (counts k share) (replicate (length k.words) 0) ∷ []) in
+          let b = length-set k.hands 0 (keeper (hand_of k 0) (counts k share)) in let r = (split_room k crowded).1 in omega arith;
+      tables = each_snoc (HasTables (length k.words)) (set k.hands 0 (keeper (hand_of k 0) (counts k share)))
+          (helper_with (counts k share) (replicate (length k.words) 0))
+          (each_set (HasTables (length k.words)) k.hands 0 (keeper (hand_of k 0) (counts k share)) c.tables keeper_tables)
+          (λ _. (length_counts, length-replicate (length k.words) 0));
+      rule = split_law (kind_of k) (above k) (is_family k.nodes (span k) (shape_of k c)) k.words k.hands 0 (hand_of k 0)
+          (live_at k.hands 0 (main_live k c)) (keeper (hand_of k 0) (counts k share))
+          (helper_with (counts k share) (replicate (length k.words) 0)) shared (split_room k crowded).0 c.rule;
     }
 
 -- the tokens of the share so far, and one more
@@ -128,7 +143,9 @@ module _ (k : State) (share : List Token) where
       test : (i : ℕ) → cond {A = ℕ} (nat_eq (token_of k (get_or share m d)) i) 1 0 ≡ cond {A = ℕ} (nat_eq j i) 1 0
       test i = ap (λ (x : ℕ). cond {A = ℕ} (nat_eq x i) 1 0) (sym word)
 
-      each : (i : ℕ) → i < length (put (counts k (take m share)) j (slice_index (counts k (take m share)) j + 1)) → slice_index (put (counts k (take m share)) j (slice_index (counts k (take m share)) j + 1)) i ≡ slice_index (counts k (take (m + 1) share)) i
+      each : (i : ℕ) → i < length (put (counts k (take m share)) j (slice_index (counts k (take m share)) j + 1))
+          → slice_index (put (counts k (take m share)) j (slice_index (counts k (take m share)) j + 1)) i
+          ≡ slice_index (counts k (take (m + 1) share)) i
       each i g =
           let l = length_counts k (take (m + 1) share) in
           let e = lengths in
@@ -140,7 +157,11 @@ module _ (k : State) (share : List Token) where
           dite (ℕ_discrete i j)
           (λ i_is.
           let z : cond {A = ℕ} (nat_eq j i) 1 0 ≡ 1 = ap (λ (x : Bool). cond {A = ℕ} x 1 0) (eq-eqb j i (sym i_is)) in
-          let a : slice_index (put (counts k (take m share)) j (slice_index (counts k (take m share)) j + 1)) i ≡ slice_index (counts k (take m share)) i + 1 = subst (λ (x : ℕ). slice_index (put (counts k (take m share)) j (slice_index (counts k (take m share)) j + 1)) x ≡ slice_index (counts k (take m share)) x + 1) (sym i_is) (at_put_same (counts k (take m share)) j (slice_index (counts k (take m share)) j + 1)) in
+          let a : slice_index (put (counts k (take m share)) j (slice_index (counts k (take m share)) j + 1)) i
+          ≡ slice_index (counts k (take m share)) i + 1 =
+          subst (λ (x : ℕ). slice_index (put (counts k (take m share)) j (slice_index (counts k (take m share)) j + 1)) x
+          ≡ slice_index (counts k (take m share)) x
+          + 1) (sym i_is) (at_put_same (counts k (take m share)) j (slice_index (counts k (take m share)) j + 1)) in
           omega arith)
           (λ off.
           let z : cond {A = ℕ} (nat_eq j i) 1 0 ≡ 0 = ap (λ (x : Bool). cond {A = ℕ} x 1 0) (ne_eqb j i (λ e. off (sym e))) in
@@ -148,12 +169,14 @@ module _ (k : State) (share : List Token) where
           omega arith)
 
   -- a helper with the share so far takes one token more
-  pub share_more : (m j : ℕ) (d : Token) (h : Holding) → h ≡ helper_with (counts k (take m share)) (replicate (length k.words) 0) → m < length share → j ≡ token_of k (get_or share m d) → j < length k.words
+  pub share_more : (m j : ℕ) (d : Token) (h : Holding) → h ≡ helper_with (counts k (take m share)) (replicate (length k.words) 0)
+      → m < length share → j ≡ token_of k (get_or share m d) → j < length k.words
       → gain h j ≡ helper_with (counts k (take (m + 1) share)) (replicate (length k.words) 0)
   share_more m j d h was inside word low = ap (λ (x : Holding). gain x j) was ∙ ap (λ (l : List ℕ). helper_with l (replicate (length k.words) 0)) (counts_more m j d inside word low)
 
   -- there is room for one more token of a share
-  pub share_room : (m j : ℕ) (h : Holding) → h ≡ helper_with (counts k (take m share)) (replicate (length k.words) 0) → j < length k.words → m < length share → (j < length h.tokens) × (tokens_at j h ≤ m)
+  pub share_room : (m j : ℕ) (h : Holding) → h ≡ helper_with (counts k (take m share)) (replicate (length k.words) 0) → j < length k.words
+      → m < length share → (j < length h.tokens) × (tokens_at j h ≤ m)
   share_room m j h was low inside =
       let e : length h.tokens ≡ length (counts k (take m share)) = ap (λ (x : Holding). length x.tokens) was in
       let l = length_counts k (take m share) in
@@ -178,5 +201,9 @@ module _ (k : State) (share : List Token) where
 pub split_is : (k now : State) (share : List Token) (v h g : Holding) → k ≡ now → v ≡ hand_of now 0 → h ≡ helper_with (counts now share) (replicate (length now.words) 0) → g ≡ keeper v h.tokens
     → regrouped k (set k.hands 0 g ++ h ∷ []) ≡ split_off now share
 split_is k now share v h g same main is gave =
-    ap (λ (y : Holding × Holding). regrouped k (set k.hands 0 y.0 ++ y.1 ∷ [])) (λ i. ((gave ∙ ap (λ (x : Holding). keeper x h.tokens) main ∙ ap (λ (x : Holding). keeper (hand_of now 0) x.tokens) is) i, is i))
+    ap (λ (y : Holding × Holding). regrouped k (set k.hands 0 y.0 ++ y.1 ∷ [])) (λ i. (
+      (gave ∙ ap (λ (x : Holding). keeper x h.tokens) main
+          ∙ ap (λ (x : Holding). keeper (hand_of now 0) x.tokens) is) i,
+      is i,
+    ))
     ∙ ap (λ (s : State). regrouped s (set s.hands 0 (keeper (hand_of now 0) (counts now share)) ++ helper_with (counts now share) (replicate (length now.words) 0) ∷ [])) same

@@ -39,7 +39,9 @@ start_core slots nodes odd = record {
 pub odd_nodes : (nodes : ℕ) → (nodes ≡ 1) ⊎ (nodes ≡ 3) ⊎ (nodes ≡ 7) ⊎ (nodes ≡ 15) → nodes % 2 ≡ 1
 odd_nodes nodes shape = omega (arith, shape)
 
-pub start_kept : (slots nodes : ℕ) (words : List ℕ) (hands : List Holding) → words ≡ replicate (size slots nodes) 0 → hands ≡ fresh (size slots nodes) (Main 0) ∷ [] → (nodes ≡ 1) ⊎ (nodes ≡ 3) ⊎ (nodes ≡ 7) ⊎ (nodes ≡ 15) → IsCore (record { slots = slots; nodes = nodes; words = words; hands = hands })
+pub start_kept : (slots nodes : ℕ) (words : List ℕ) (hands : List Holding) → words ≡ replicate (size slots nodes) 0
+    → hands ≡ fresh (size slots nodes) (Main 0) ∷ [] → (nodes ≡ 1) ⊎ (nodes ≡ 3) ⊎ (nodes ≡ 7) ⊎ (nodes ≡ 15)
+    → IsCore (record { slots = slots; nodes = nodes; words = words; hands = hands })
 start_kept slots nodes words hands ws hs shape =
     subst (λ (x : List ℕ × List Holding). IsCore (record { slots = slots; nodes = nodes; words = x.0; hands = x.1 })) (λ i. (sym ws i, sym hs i))
     (start_core slots nodes (odd_nodes nodes shape))

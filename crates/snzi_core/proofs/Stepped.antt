@@ -46,7 +46,8 @@ role_at (x ∷ xs) (suc id) (suc j) h d e = role_at xs id j h d e
 pub shape_of : (k : State) → IsCore k → IsShape k.nodes (span k)
 shape_of k c = let o = c.odd in (o, omega arith)
 
-pub stepped_core : (k : State) (i x id : ℕ) (h : Holding) → IsCore k → h.role ≡ (hand_of k id).role → HasTables (length k.words) h → Ruled (kind_of k) (set k.words i x) (set k.hands id h) → IsCore (stepped k i x id h)
+pub stepped_core : (k : State) (i x id : ℕ) (h : Holding) → IsCore k → h.role ≡ (hand_of k id).role → HasTables (length k.words) h
+    → Ruled (kind_of k) (set k.words i x) (set k.hands id h) → IsCore (stepped k i x id h)
 stepped_core k i x id h c role tables rule = record {
   odd = c.odd;
   words = length-set k.words i x ∙ c.words;
@@ -71,7 +72,9 @@ module _ (k : State) (c : IsCore k) (id i : ℕ) (live : is_live k id ≡ true) 
   tables = each_at (HasTables (length k.words)) k.hands id (hand_of k id) c.tables at
 
   -- tables whose tokens were written within their length
-  written : (h : Holding) → h.role ≡ (hand_of k id).role → (length (hand_of k id).tokens ≡ length k.words → length h.tokens ≡ length k.words) → (length (hand_of k id).amounts ≡ length k.words → length h.amounts ≡ length k.words) → HasTables (length k.words) h
+  written : (h : Holding) → h.role ≡ (hand_of k id).role
+      → (length (hand_of k id).tokens ≡ length k.words → length h.tokens ≡ length k.words)
+      → (length (hand_of k id).amounts ≡ length k.words → length h.amounts ≡ length k.words) → HasTables (length k.words) h
   written h role ts ns alive = let t = tables live in (ts t.0, ns t.1)
 
   put_kept : (l : List ℕ) (j x : ℕ) → j < length k.words → length l ≡ length k.words → length (put l j x) ≡ length k.words
@@ -107,8 +110,12 @@ module _ (k : State) (c : IsCore k) (id i : ℕ) (live : is_live k id ≡ true) 
     descended_core none room have =
         let m = moves_down (hand_of k id) i p apart have in
         stepped_core k i (slice_index k.words i + 1) id (lose (gain (hand_of k id) i) p) c refl
-        (written (lose (gain (hand_of k id) i) p) refl (λ e. put_kept (gain (hand_of k id) i).tokens p (tokens_at p (gain (hand_of k id) i) - 1) below (put_kept (hand_of k id).tokens i (tokens_at i (hand_of k id) + 1) inside e)) (λ e. e)) (
-          first_balance (kind_of k) (above k) tree k.words k.hands id i (hand_of k id) (lose (gain (hand_of k id) i) p) at inside node (λ e. apart (sym is ∙ e)) none (subst (λ (q : ℕ). Moves q i (hand_of k id) (lose (gain (hand_of k id) i) p)) (sym is) m) c.rule.0,
+        (written (lose (gain (hand_of k id) i) p) refl
+        (λ e. put_kept (gain (hand_of k id) i).tokens p (tokens_at p (gain (hand_of k id) i) - 1) below
+        (put_kept (hand_of k id).tokens i (tokens_at i (hand_of k id) + 1) inside e)) (λ e. e)) (
+          first_balance (kind_of k) (above k) tree k.words k.hands id i (hand_of k id) (lose (gain (hand_of k id) i) p) at inside node
+              (λ e. apart (sym is ∙ e)) none (subst (λ (q : ℕ). Moves q i (hand_of k id) (lose (gain (hand_of k id) i) p)) (sym is) m)
+              c.rule.0,
           move_muster k.hands id (hand_of k id) (lose (gain (hand_of k id) i) p) c.rule.1 at (live_role (hand_of k id).role live) p i room m,
         )
 
@@ -116,13 +123,17 @@ module _ (k : State) (c : IsCore k) (id i : ℕ) (live : is_live k id ≡ true) 
     ascended_core one room have =
         let m = moves_up (hand_of k id) i p apart have in
         stepped_core k i (slice_index k.words i - 1) id (gain (lose (hand_of k id) i) p) c refl
-        (written (gain (lose (hand_of k id) i) p) refl (λ e. put_kept (lose (hand_of k id) i).tokens p (tokens_at p (lose (hand_of k id) i) + 1) below (put_kept (hand_of k id).tokens i (tokens_at i (hand_of k id) - 1) inside e)) (λ e. e)) (
-          last_balance (kind_of k) (above k) tree k.words k.hands id i (hand_of k id) (gain (lose (hand_of k id) i) p) at inside node (λ e. apart (sym is ∙ e)) one (subst (λ (q : ℕ). Moves i q (hand_of k id) (gain (lose (hand_of k id) i) p)) (sym is) m) c.rule.0,
+        (written (gain (lose (hand_of k id) i) p) refl (λ e. put_kept (lose (hand_of k id) i).tokens p (tokens_at p (lose (hand_of k id) i)
+        + 1) below (put_kept (hand_of k id).tokens i (tokens_at i (hand_of k id) - 1) inside e)) (λ e. e)) (
+          last_balance (kind_of k) (above k) tree k.words k.hands id i (hand_of k id) (gain (lose (hand_of k id) i) p) at inside node
+              (λ e. apart (sym is ∙ e)) one (subst (λ (q : ℕ). Moves i q (hand_of k id) (gain (lose (hand_of k id) i) p)) (sym is) m)
+              c.rule.0,
           move_muster k.hands id (hand_of k id) (gain (lose (hand_of k id) i) p) c.rule.1 at (live_role (hand_of k id).role live) i p room m,
         )
 
 -- a core whose word and hand were written is the state after the step
-pub closing : (k now : State) (i id x : ℕ) (f : ℕ → ℕ) (v w : Holding) (F : Holding → Holding) → k ≡ now → i < length now.words → is_live now id ≡ true → x ≡ get_or k.words i x → v ≡ get_or k.hands id v → w ≡ F v
+pub closing : (k now : State) (i id x : ℕ) (f : ℕ → ℕ) (v w : Holding) (F : Holding → Holding) → k ≡ now → i < length now.words
+    → is_live now id ≡ true → x ≡ get_or k.words i x → v ≡ get_or k.hands id v → w ≡ F v
     → stepped k i (f x) id w ≡ stepped now i (f (slice_index now.words i)) id (F (hand_of now id))
 closing k now i id x f v w F same inside live here there is =
     ap (λ (y : ℕ × Holding). stepped k i (f y.0) id y.1) (λ j. (word j, (is ∙ ap F hand) j)) ∙ ap (λ (s : State). stepped s i (f (slice_index s.words i)) id (F (hand_of s id))) same

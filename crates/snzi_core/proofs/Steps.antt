@@ -21,7 +21,8 @@ up_same (suc m) zero p q = absurd (omega arith)
 up_same (suc m) (suc k) p q = refl
 
 -- a word is at least what one hand has there
-pub at_least : (kind : ℕ → Line) (words : List ℕ) (hands : List Holding) (id : ℕ) (v : Holding) → get_elem? hands id ≡ some v → (j : ℕ) → kind j ≢ stripe → Balanced kind words hands → tokens_at j v ≤ slice_index words j
+pub at_least : (kind : ℕ → Line) (words : List ℕ) (hands : List Holding) (id : ℕ) (v : Holding) → get_elem? hands id ≡ some v → (j : ℕ)
+    → kind j ≢ stripe → Balanced kind words hands → tokens_at j v ≤ slice_index words j
 at_least kind words hands id v at j node was = by_line (kind j) node (was j)
   where
     by_line : (k : Line) → k ≢ stripe → Stands words hands j k → tokens_at j v ≤ slice_index words j
@@ -35,14 +36,17 @@ module _ (kind : ℕ → Line) (parent : ℕ → ℕ) (tree : Family kind parent
   pub add_balance : (parent j ≢ j → 0 < slice_index words j) → Gains j v w → Balanced kind words hands → Balanced kind (set words j (slice_index words j + 1)) (set hands id w)
   add_balance filled g was = node_law kind parent tree words hands id j (slice_index words j + 1) v w at inside node
       (let a = g.0 in omega arith)
-      (λ apart. let e = g.1 (parent j) apart in let u : up (slice_index words j + 1) ≡ up (slice_index words j) = up_same (slice_index words j + 1) (slice_index words j) (omega arith) (filled apart) in omega arith)
+      (λ apart. let e = g.1 (parent j) apart in
+      let u : up (slice_index words j + 1) ≡ up (slice_index words j) =
+      up_same (slice_index words j + 1) (slice_index words j) (omega arith) (filled apart) in omega arith)
       (λ i off _. g.1 i off) g.3 was
 
   -- the first at a node below a root uses up the token at the parent
   pub first_balance : parent j ≢ j → slice_index words j ≡ 0 → Moves (parent j) j v w → Balanced kind words hands → Balanced kind (set words j (slice_index words j + 1)) (set hands id w)
   first_balance apart none m was = node_law kind parent tree words hands id j (slice_index words j + 1) v w at inside node
       (let a = m.0 in omega arith)
-      (λ _. let e = m.1 in let u : up (slice_index words j + 1) ≡ 1 = up_same (slice_index words j + 1) 1 (omega arith) (omega arith) in let z : up (slice_index words j) ≡ 0 = ap up none in omega arith)
+      (λ _. let e = m.1 in let u : up (slice_index words j + 1) ≡ 1 = up_same (slice_index words j + 1) 1 (omega arith) (omega arith) in
+      let z : up (slice_index words j) ≡ 0 = ap up none in omega arith)
       (λ i off_j off_p. m.2 i off_j off_p) m.4 was
 
   -- one less at a node whose parent does not hear of it
@@ -52,7 +56,9 @@ module _ (kind : ℕ → Line) (parent : ℕ → ℕ) (tree : Family kind parent
       let a = l.0 in
       node_law kind parent tree words hands id j (slice_index words j - 1) v w at inside node
       (omega arith)
-      (λ apart. let e = l.1 (parent j) apart in let ne = more apart in let u : up (slice_index words j - 1) ≡ up (slice_index words j) = up_same (slice_index words j - 1) (slice_index words j) (omega arith) (omega arith) in omega arith)
+      (λ apart. let e = l.1 (parent j) apart in let ne = more apart in
+      let u : up (slice_index words j - 1) ≡ up (slice_index words j) =
+      up_same (slice_index words j - 1) (slice_index words j) (omega arith) (omega arith) in omega arith)
       (λ i off _. l.1 i off) l.3 was
 
   -- the last to leave a node below a root has a token at the parent instead

@@ -28,12 +28,15 @@ stripe_kind k slot s c h = is_stripe k.nodes (span k) (shape_of k c) slot (k.nod
 pub query_is : (k : State) (slot node x : ℕ) → IsCore k → node < k.nodes → x ≡ slice_index k.words (node_word k.nodes (leaves k.nodes) slot node)
     → IsTrue (nat_lt 0 x) ↔ Present (above k) k.hands (node_word k.nodes (leaves k.nodes) slot node)
 query_is k slot node x c h is = (
-  (λ t. positive_present (kind_of k) (above k) (is_family k.nodes (span k) (shape_of k c)) k.words k.hands c.rule.0 (node_word k.nodes (leaves k.nodes) slot node) (node_kind k slot node c h) (let p = ltb-true 0 x t in omega arith)),
-  (λ p. lt-ltb 0 x (let q = present_positive (kind_of k) (above k) (is_family k.nodes (span k) (shape_of k c)) k.words k.hands c.rule.0 (node_word k.nodes (leaves k.nodes) slot node) (node_kind k slot node c h) p in omega arith)),
+  (λ t. positive_present (kind_of k) (above k) (is_family k.nodes (span k) (shape_of k c)) k.words k.hands c.rule.0
+      (node_word k.nodes (leaves k.nodes) slot node) (node_kind k slot node c h) (let p = ltb-true 0 x t in omega arith)),
+  (λ p. lt-ltb 0 x (let q = present_positive (kind_of k) (above k) (is_family k.nodes (span k) (shape_of k c)) k.words k.hands c.rule.0
+      (node_word k.nodes (leaves k.nodes) slot node) (node_kind k slot node c h) p in omega arith)),
 )
 
 -- one more stripe in a sum modulo 2^64
-pub sum_more : (k : State) (slot s a x : ℕ) → IsCore k → s < leaves k.nodes → a ≡ slot_amounts k slot s % 2 ^ 64 → x ≡ slice_index k.words (stripe_of k slot s) → (a + x) % 2 ^ 64 ≡ slot_amounts k slot (s + 1) % 2 ^ 64
+pub sum_more : (k : State) (slot s a x : ℕ) → IsCore k → s < leaves k.nodes → a ≡ slot_amounts k slot s % 2 ^ 64
+    → x ≡ slice_index k.words (stripe_of k slot s) → (a + x) % 2 ^ 64 ≡ slot_amounts k slot (s + 1) % 2 ^ 64
 sum_more k slot s a x c h was is = more (slot_amounts k slot s) (total (amount_at (stripe_of k slot s)) k.hands) a x (slot_amounts k slot (s + 1)) was (is ∙ stands) (next s)
   where
     stands : slice_index k.words (stripe_of k slot s) ≡ total (amount_at (stripe_of k slot s)) k.hands % 2 ^ 64

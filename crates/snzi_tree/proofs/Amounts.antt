@@ -13,10 +13,12 @@ use Rattle.snzi_tree.proofs.Places.{same_place}
 
 -- modulo 2^64
 raised_left : (a b x n : ℕ) → a % 2 ^ 64 ≡ (b + n) % 2 ^ 64 → (a + x) % 2 ^ 64 ≡ (b + x + n) % 2 ^ 64
-raised_left a b x n e = sym (mod-add-mod a (2 ^ 64) x) ∙ ap (λ (y : ℕ). (y + x) % 2 ^ 64) e ∙ mod-add-mod (b + n) (2 ^ 64) x ∙ (let q : b + n + x ≡ b + x + n = omega arith in ap (λ (y : ℕ). y % 2 ^ 64) q)
+raised_left a b x n e = sym (mod-add-mod a (2 ^ 64) x) ∙ ap (λ (y : ℕ). (y + x) % 2 ^ 64) e ∙ mod-add-mod (b + n) (2 ^ 64) x
+    ∙ (let q : b + n + x ≡ b + x + n = omega arith in ap (λ (y : ℕ). y % 2 ^ 64) q)
 
 raised_right : (x a b n : ℕ) → a % 2 ^ 64 ≡ (b + n) % 2 ^ 64 → (x + a) % 2 ^ 64 ≡ (x + b + n) % 2 ^ 64
-raised_right x a b n e = sym (add-mod-mod x a (2 ^ 64)) ∙ ap (λ (y : ℕ). (x + y) % 2 ^ 64) e ∙ add-mod-mod x (b + n) (2 ^ 64) ∙ (let q : x + (b + n) ≡ x + b + n = omega arith in ap (λ (y : ℕ). y % 2 ^ 64) q)
+raised_right x a b n e = sym (add-mod-mod x a (2 ^ 64)) ∙ ap (λ (y : ℕ). (x + y) % 2 ^ 64) e ∙ add-mod-mod x (b + n) (2 ^ 64)
+    ∙ (let q : x + (b + n) ≡ x + b + n = omega arith in ap (λ (y : ℕ). y % 2 ^ 64) q)
 
 both_more : (a b c x y z : ℕ) → a % 2 ^ 64 ≡ (b + c) % 2 ^ 64 → x % 2 ^ 64 ≡ (y + z) % 2 ^ 64 → (a + x) % 2 ^ 64 ≡ (b + y + (c + z)) % 2 ^ 64
 both_more a b c x y z e f = omega arith
@@ -24,11 +26,16 @@ both_more a b c x y z e f = omega arith
 module _ (w l : ℕ) where
   pub same_amounts : (h k : Holding) → k.amounts ≡ h.amounts → (s n : ℕ) → amounts_to w l s k n ≡ amounts_to w l s h n
   same_amounts h k e s zero = refl
-  same_amounts h k e s (suc n) = let a = same_amounts h k e s n in let b : amount_at (stripe_word w l s n) k ≡ amount_at (stripe_word w l s n) h = ap (λ (xs : List ℕ). slice_index xs (stripe_word w l s n)) e in omega arith
+  same_amounts h k e s (suc n) = let a = same_amounts h k e s n in
+      let b : amount_at (stripe_word w l s n) k ≡ amount_at (stripe_word w l s n) h =
+      ap (λ (xs : List ℕ). slice_index xs (stripe_word w l s n)) e in omega arith
 
-  pub joined_amounts : (h k m : Holding) → ((i : ℕ) → amount_at i m % 2 ^ 64 ≡ (amount_at i h + amount_at i k) % 2 ^ 64) → (s n : ℕ) → amounts_to w l s m n % 2 ^ 64 ≡ (amounts_to w l s h n + amounts_to w l s k n) % 2 ^ 64
+  pub joined_amounts : (h k m : Holding) → ((i : ℕ) → amount_at i m % 2 ^ 64 ≡ (amount_at i h + amount_at i k) % 2 ^ 64) → (s n : ℕ)
+      → amounts_to w l s m n % 2 ^ 64 ≡ (amounts_to w l s h n + amounts_to w l s k n) % 2 ^ 64
   joined_amounts h k m e s zero = refl
-  joined_amounts h k m e s (suc n) = both_more (amounts_to w l s m n) (amounts_to w l s h n) (amounts_to w l s k n) (amount_at (stripe_word w l s n) m) (amount_at (stripe_word w l s n) h) (amount_at (stripe_word w l s n) k) (joined_amounts h k m e s n) (e (stripe_word w l s n))
+  joined_amounts h k m e s (suc n) =
+      both_more (amounts_to w l s m n) (amounts_to w l s h n) (amounts_to w l s k n) (amount_at (stripe_word w l s n) m)
+      (amount_at (stripe_word w l s n) h) (amount_at (stripe_word w l s n) k) (joined_amounts h k m e s n) (e (stripe_word w l s n))
 
   module _ (h k : Holding) (slot r n : ℕ) (in_slot : r < l) (is : Raises (stripe_word w l slot r) n h k) where
     stripes_apart : (s s' a b : ℕ) → a < l → b < l → stripe_word w l s a ≡ stripe_word w l s' b → (s ≡ s') × (a ≡ b)

@@ -47,7 +47,9 @@ others_spent (x ∷ xs) v m at main id =
     let next : suc id ≡ id + 1 = omega arith in
     subst (λ (n : ℕ). (get_or (x ∷ xs) n (empty Spent)).role ≡ Spent) next (all_spent xs (omega arith) (omega arith) id)
 
-module _ (g w l : ℕ) (board : IsBoard g w l) (t : Table (Unit {0}) Tally) (r : BoardRule (g * (w + l)) w l (plain t)) (ran : HasRun g w t) (bare : SpentCountNothing t.views) (knows : MainKnows) (id : ℕ) (u : Tally) (seat : get_elem? t.views id ≡ some u) (main : u.view.holding.role ≡ Main 0) where
+module _ (g w l : ℕ) (board : IsBoard g w l) (t : Table (Unit {0}) Tally) (r : BoardRule (g * (w + l)) w l (plain t)) (ran : HasRun g w t)
+    (bare : SpentCountNothing t.views) (knows : MainKnows) (id : ℕ) (u : Tally) (seat : get_elem? t.views id ≡ some u)
+    (main : u.view.holding.role ≡ Main 0) where
   abbrev s : Table (Unit {0}) View
   s = plain t
 
@@ -81,12 +83,14 @@ module _ (g w l : ℕ) (board : IsBoard g w l) (t : Table (Unit {0}) Tally) (r :
         comes,
         long ∙ counted,
         (
-          subst (λ (h : Holding). ((hand_of k 0).role ≡ h.role) × ((i : ℕ) → (slice_index (hand_of k 0).tokens i ≡ slice_index h.tokens i) × (slice_index (hand_of k 0).amounts i ≡ slice_index h.amounts i))) own one,
+          subst (λ (h : Holding). ((hand_of k 0).role ≡ h.role) × ((i : ℕ) → (slice_index (hand_of k 0).tokens i ≡ slice_index h.tokens i)
+              × (slice_index (hand_of k 0).amounts i ≡ slice_index h.amounts i))) own one,
           λ n. (like.4 (n + 1)).0 ∙ others n,
         ),
         λ j.
             let told = knows w (w + l) s.words (map holding s.views) id j v.holding board.0 r.1 there main in
-            subst (λ (ws : List ℕ). (line w (w + l) j ≡ stripe → slice_index ws j ≡ slice_index v.holding.amounts j % 2 ^ 64) × (line w (w + l) j ≢ stripe → 0 < slice_index ws j ↔ Covers (parent w (w + l)) v.holding j)) (sym like.2) told,
+            subst (λ (ws : List ℕ). (line w (w + l) j ≡ stripe → slice_index ws j ≡ slice_index v.holding.amounts j % 2 ^ 64)
+            × (line w (w + l) j ≢ stripe → 0 < slice_index ws j ↔ Covers (parent w (w + l)) v.holding j)) (sym like.2) told,
       )
 
 pub ends : (g w l slots id j : ℕ) (me : Seated) → IsBoard g w l → MainKnows → Allows (RunRule g w l) slots id me j (λ x. x) (ended g w l (step slots j 0 0 none) me)

@@ -60,7 +60,9 @@ module _ (w l : ℕ) (shape : l + l ≡ w + 1) where
       (λ (off : (s j : ℕ) → j < l → leaf_word w l s j ≢ i). let a = count_none g ts all i off in omega arith)
       (leaf_or_none w l shape i)
 
-  module _ (g : ℕ) (ts : List Token) (all : AllInRange g l ts) (h m k : Holding) (shared : (i : ℕ) → (slice_index k.tokens i ≡ count_at w l i ts) × (slice_index m.tokens i + count_at w l i ts ≡ slice_index h.tokens i)) where
+  module _ (g : ℕ) (ts : List Token) (all : AllInRange g l ts) (h m k : Holding)
+      (shared : (i : ℕ) → (slice_index k.tokens i ≡ count_at w l i ts)
+      × (slice_index m.tokens i + count_at w l i ts ≡ slice_index h.tokens i)) where
     -- the helper has the share
     pub share_content : (s j : ℕ) → content_of w l k s j ≡ listed_at ts s j
     share_content s j = dite (dec_le (suc j) l)

@@ -122,7 +122,12 @@ module _ (w l : ℕ) (shape : l + l ≡ w + 1) where
   turned h k i g = (sym g.0, (λ j off. sym (g.1 j off)), sym g.2, refl, refl)
 
   pub loses_content : (h k : Holding) (t : Token) → t.leaf < l → Loses (token_word w l t) h k → (s j : ℕ) → content_of w l k s j + one_at t.slot t.leaf s j ≡ content_of w l h s j
-  loses_content h k t below g s j = sym (gains_content (record { role = h.role; tokens = k.tokens; amounts = h.amounts }) (record { role = h.role; tokens = h.tokens; amounts = h.amounts }) t below (turned h k (token_word w l t) g) s j)
+  loses_content h k t below g s j =
+      sym (gains_content (record { role = h.role; tokens = k.tokens; amounts = h.amounts }) (record {
+        role = h.role;
+        tokens = h.tokens;
+        amounts = h.amounts;
+      }) t below (turned h k (token_word w l t) g) s j)
 
   pub gains_in : (h k : Holding) (t : Token) → t.leaf < l → Gains (token_word w l t) h k → (s : ℕ) → tokens_in w l k s ≡ tokens_in w l h s + one_in t.slot s
   gains_in h k t below g s =
@@ -131,7 +136,12 @@ module _ (w l : ℕ) (shape : l + l ≡ w + 1) where
       ∙ ap (λ (n : ℕ). tokens_in w l h s + n) (over_one l s t.slot t.leaf below)
 
   pub loses_in : (h k : Holding) (t : Token) → t.leaf < l → Loses (token_word w l t) h k → (s : ℕ) → tokens_in w l k s + one_in t.slot s ≡ tokens_in w l h s
-  loses_in h k t below g s = sym (gains_in (record { role = h.role; tokens = k.tokens; amounts = h.amounts }) (record { role = h.role; tokens = h.tokens; amounts = h.amounts }) t below (turned h k (token_word w l t) g) s)
+  loses_in h k t below g s =
+      sym (gains_in (record { role = h.role; tokens = k.tokens; amounts = h.amounts }) (record {
+        role = h.role;
+        tokens = h.tokens;
+        amounts = h.amounts;
+      }) t below (turned h k (token_word w l t) g) s)
 
   pub gains_leaves : (h k : Holding) (t : Token) → t.leaf < l → Gains (token_word w l t) h k → AtLeaves w l h → AtLeaves w l k
   gains_leaves h k t below g tidy s n p = g.1 (node_word w l s n) (leaf_not_above w l shape s t.slot n t.leaf p below) ∙ tidy s n p

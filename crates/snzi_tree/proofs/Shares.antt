@@ -56,7 +56,8 @@ module _ (v u : View) (main : main_weight v.holding.role ≡ 1) (is : u ≡ kept
   split_helpers k e = let a = one_out_out v.holding.role main in let b : out u.holding.role ≡ out (one_out v.holding.role) = ap (λ (x : View). out x.holding.role) is in omega arith
 
   pub split_tokens : (i : ℕ) → tokens_at i u.holding + slice_index v.plan i ≡ tokens_at i v.holding
-  split_tokens i = let a : tokens_at i u.holding ≡ slice_index (without v.holding.tokens v.plan) i = ap (λ (x : View). tokens_at i x.holding) is in let b = at_without v.holding.tokens v.plan i in let c = fits i in omega arith
+  split_tokens i = let a : tokens_at i u.holding ≡ slice_index (without v.holding.tokens v.plan) i =
+      ap (λ (x : View). tokens_at i x.holding) is in let b = at_without v.holding.tokens v.plan i in let c = fits i in omega arith
 
 pub helper_acts : (r : Role) → r ≡ Helper → r ≢ Spent
 helper_acts r is s = not_spent r (let a : helper_weight r ≡ 1 = ap helper_weight is in omega arith) s
@@ -65,8 +66,14 @@ pub shared : (m k h n : ℕ) → m + k ≡ h → k ≡ n → m + n ≡ h
 shared m k h n all is = omega arith
 
 -- what contracts say of both hands
-pub parts_seen : (v u k : View) (h : Holding) → main_weight v.holding.role ≡ 1 → u ≡ kept v → k ≡ given v → v.holding ≡ h → ((i : ℕ) → slice_index v.plan i ≤ tokens_at i v.holding) → Parts h u.holding k.holding
-parts_seen v u k h main is helper same fits = subst (λ (x : Holding × View × View). Parts x.0 x.1.holding x.2.holding) (λ i. (same i, sym is i, sym helper i)) (parts v.holding v.plan [] main fits at_nothing)
+pub parts_seen : (v u k : View) (h : Holding) → main_weight v.holding.role ≡ 1 → u ≡ kept v → k ≡ given v → v.holding ≡ h
+    → ((i : ℕ) → slice_index v.plan i ≤ tokens_at i v.holding) → Parts h u.holding k.holding
+parts_seen v u k h main is helper same fits =
+    subst (λ (x : Holding × View × View). Parts x.0 x.1.holding x.2.holding) (λ i. (
+      same i,
+      sym is i,
+      sym helper i,
+    )) (parts v.holding v.plan [] main fits at_nothing)
 
 -- main v takes what w has, and is u then
 module _ (v w u : View) (main : main_weight v.holding.role ≡ 1) (is : u ≡ joined v w) where
@@ -74,7 +81,8 @@ module _ (v w u : View) (main : main_weight v.holding.role ≡ 1) (is : u ≡ jo
   join_active s = main_acts (one_back v.holding.role) (one_back_main v.holding.role ∙ main) (sym (ap (λ (x : View). x.holding.role) is) ∙ s)
 
   pub join_held : (h k : ℕ) → h ≡ held v.holding → k ≡ held w.holding → h + k ≡ held u.holding
-  join_held h k a b = let c = added_merged v.holding.tokens w.holding.tokens in let d : held u.holding ≡ added (merged v.holding.tokens w.holding.tokens) = ap (λ (x : View). held x.holding) is in omega arith
+  join_held h k a b = let c = added_merged v.holding.tokens w.holding.tokens in
+      let d : held u.holding ≡ added (merged v.holding.tokens w.holding.tokens) = ap (λ (x : View). held x.holding) is in omega arith
 
   pub join_helpers : (k : ℕ) → k ≡ out v.holding.role → k - 1 ≡ out u.holding.role
   join_helpers k e = let a = one_back_out v.holding.role in let b : out u.holding.role ≡ out (one_back v.holding.role) = ap (λ (x : View). out x.holding.role) is in omega arith
@@ -83,4 +91,5 @@ module _ (v w u : View) (main : main_weight v.holding.role ≡ 1) (is : u ≡ jo
   join_tokens i = ap (λ (x : View). tokens_at i x.holding) is ∙ at_merged v.holding.tokens w.holding.tokens i
 
   pub join_amounts : (i : ℕ) → amount_at i u.holding ≡ (amount_at i v.holding + amount_at i w.holding) % 2 ^ 64
-  join_amounts i = ap (λ (x : View). amount_at i x.holding) is ∙ at_wrapped (merged v.holding.amounts w.holding.amounts) i ∙ ap (λ (n : ℕ). n % 2 ^ 64) (at_merged v.holding.amounts w.holding.amounts i)
+  join_amounts i = ap (λ (x : View). amount_at i x.holding) is ∙ at_wrapped (merged v.holding.amounts w.holding.amounts) i
+      ∙ ap (λ (n : ℕ). n % 2 ^ 64) (at_merged v.holding.amounts w.holding.amounts i)

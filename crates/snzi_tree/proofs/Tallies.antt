@@ -35,7 +35,8 @@ none_counted [] all spent = omega arith
 none_counted (x ∷ xs) all spent = let a = all.0 (spent 0) in let r = none_counted xs all.1 (λ id. spent (suc id)) in omega arith
 
 -- where all but the first are spent, the first counts all
-pub first_counts : (l : List Tally) (v : Tally) → get_elem? l 0 ≡ some v → SpentCountNothing l → ((id : ℕ) → (get_or (map holding (map view_of l)) (id + 1) (empty Spent)).role ≡ Spent) → all_events l ≡ events_in v
+pub first_counts : (l : List Tally) (v : Tally) → get_elem? l 0 ≡ some v → SpentCountNothing l
+    → ((id : ℕ) → (get_or (map holding (map view_of l)) (id + 1) (empty Spent)).role ≡ Spent) → all_events l ≡ events_in v
 first_counts [] v at all spent = absurd (some-ne-none v (sym at))
 first_counts (x ∷ xs) v at all spent =
     let is : events_in x ≡ events_in v = ap events_in (some-injective x v at) in

@@ -7,16 +7,9 @@ use Rattle.std.proofs.lemmas.List.Sums.{fails_before_first}
 use Rattle.std.proofs.lemmas.List.Splits.{slice_split_first, slice_split_none}
 use Rattle.flat_model.specs.Trace.{Word, is_line_feed, is_blank, without_empty_end, lines_in, words_in}
 use Rattle.trace_lines.specs.Cut.{begins_with_blank}
+use Rattle.flat_model.proofs.Booleans.{place_by, no_place}
 
 -- ---- where an element stands first
-
-place_by : (n m end : ℕ) (t : Bool) → nat_lt n m ≡ t → Some end ≡ cond t (Some n) None → (n < m) × (n ≡ end)
-place_by n m end true e h = (grind (arith, nat_tests), cc)
-place_by n m end false e h = cc
-
-no_place : (n m : ℕ) (t : Bool) → nat_lt n m ≡ t → None ≡ cond t (Some n) None → m ≤ n
-no_place n m true e h = cc
-no_place n m false e h = grind (arith, nat_tests)
 
 place : (p : ℕ → Bool) (bytes : List ℕ) (end : ℕ) → Some end ≡ position p bytes → (position_or_len p bytes < length bytes) × (position_or_len p bytes ≡ end)
 place p bytes end h = place_by (position_or_len p bytes) (length bytes) end (nat_lt (position_or_len p bytes) (length bytes)) refl h

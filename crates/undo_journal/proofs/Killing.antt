@@ -1,5 +1,5 @@
 -- The processes that a kill took can be put back.
-use Rattle.std.proofs.Common.{◌≡◌, ℕ, Bool, true, false, T, cond, not, ◌&&◌, eqb, List, [], ◌∷◌, map, Some, None, refl, sym, ap, subst, ◌∙◌, rules}
+use Rattle.std.proofs.Common.{◌≡◌, ℕ, Bool, true, false, T, cond, not, eqb, List, [], ◌∷◌, map, Some, None, refl, sym, ap, subst, ◌∙◌, rules}
 use Rattle.std.specs.Prelude.{IsSome}
 use Rattle.std.specs.Ordering.{nat_cmp, is_lt}
 use Rattle.std.specs.Cmp.{nat_cmp_total, tied_itself}
@@ -14,27 +14,13 @@ use Rattle.flat_model.specs.Command.{Kill}
 use Rattle.flat_model.specs.Step.{after, lives_in}
 use Rattle.flat_model.specs.Inverse.{Killed, lost}
 use Rattle.flat_model.specs.WellFormed.{WellFormed}
-use Rattle.flat_model.proofs.Counting.{find_first, find_later}
 use Rattle.pids_charge.specs.Lists.{row_of, rows_of}
 use Rattle.pids_charge.specs.declared.lost.Lost.{Lost}
 use Rattle.undo_journal.specs.History.{IsReady}
-
-first : (a b : Bool) → T (a && b) → T a
-first true b p = tt
-first false b p = p
-
-second : (a b : Bool) → T (a && b) → T b
-second true b p = p
-second false b p = absurd p
+use Rattle.flat_model.proofs.Booleans.{first, second}
+use Rattle.pids_charge.proofs.Entries.{found_each}
 
 -- ---- rows whose numbers ascend
-
--- each is found
-found_each : (rs : List (ℕ × Path)) → T (is_sorted nat_cmp rs) → All (λ e. find nat_cmp e.0 rs ≡ Some e.1) rs
-found_each [] h = search rules
-found_each (e ∷ rs) h =
-    All-cons (λ x. find nat_cmp x.0 (e ∷ rs) ≡ Some x.1) e rs (find_first e rs)
-    (All-weaker (λ x. find nat_cmp x.0 rs ≡ Some x.1) (λ x. find nat_cmp x.0 (e ∷ rs) ≡ Some x.1) (λ x f. find_later e rs x.0 x.1 h f) rs (found_each rs (second _ _ h)))
 
 less_apart : (k q : ℕ) → T (is_lt (nat_cmp k q)) → eqb k q ≡ false
 less_apart k q h = by (eqb k q) refl

@@ -39,7 +39,7 @@ impl<A: Allocator + Clone, M: Meter> Engine<A, M> {
     }
 
     /// Moves a process that may move there. Records its old group, and the old peaks along the path of the new one.
-    fn write_home<B: Allocator + Clone>(
+    fn record_move<B: Allocator + Clone>(
         &mut self,
         who: u8,
         path: &GroupPath<B>,
@@ -79,7 +79,7 @@ impl<A: Allocator + Clone, M: Meter> Engine<A, M> {
         if let Some(refusal) = self.refuses_move(path, pid)? {
             return Ok(Reply::Refused(refusal));
         }
-        self.write_home(who, path, pid)?;
+        self.record_move(who, path, pid)?;
         Ok(Reply::Done)
     }
 }
@@ -96,7 +96,7 @@ pub(crate) fn undo_move<A: Allocator + Clone, M: Meter>(
     ensures ok { OnOk result (charges.new ≡ back (model_inverse.Moved pid path.now peaks.now) charges.old) }
     ensures err { OnErr result (charges.new ≡ charges.old) }
 {
-    match charges.rehome(who, pid, path) {
+    match charges.move_back(who, pid, path) {
         Ok(left) => {
             charges.set_peaks(&left, peaks.as_slice());
             Ok(())

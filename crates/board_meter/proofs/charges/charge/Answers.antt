@@ -9,4 +9,6 @@ returns-clause-content g c s j =
     ∙ c.arrive.ensures.content s j
 
 pub returns-clause-in_step : goal.returns-clause-in_step
-returns-clause-in_step g c = charged g.row.W g.row.L c.args.board.now.shape.4 (holds c.args.hand.now) (holds c.arrive.new.hand) (holds c.add.new.hand) c.args.token c.args.token.leaf c.requires.place.1 c.arrive.ensures.at_leaves c.arrive.ensures.token c.add.ensures.amount c.add.ensures.total
+returns-clause-in_step g c =
+    charged g.row.W g.row.L c.args.board.now.shape.4 (holds c.args.hand.now) (holds c.arrive.new.hand) (holds c.add.new.hand) c.args.token
+    c.args.token.leaf c.requires.place.1 c.arrive.ensures.at_leaves c.arrive.ensures.token c.add.ensures.amount c.add.ensures.total

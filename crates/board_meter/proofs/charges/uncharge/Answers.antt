@@ -11,4 +11,7 @@ returns-clause-content g c s j =
     ∙ c.depart.ensures.content s j
 
 pub returns-clause-in_step : goal.returns-clause-in_step
-returns-clause-in_step g c = uncharged g.row.W g.row.L c.args.board.now.shape.4 (holds c.args.hand.now) (holds c.depart.new.hand) (holds c.take.new.hand) c.args.token c.args.stripe c.requires.place.1 c.depart.ensures.at_leaves c.depart.ensures.token c.take.ensures.amount c.take.ensures.total
+returns-clause-in_step g c =
+    uncharged g.row.W g.row.L c.args.board.now.shape.4 (holds c.args.hand.now) (holds c.depart.new.hand) (holds c.take.new.hand)
+    c.args.token c.args.stripe c.requires.place.1 c.depart.ensures.at_leaves c.depart.ensures.token c.take.ensures.amount
+    c.take.ensures.total

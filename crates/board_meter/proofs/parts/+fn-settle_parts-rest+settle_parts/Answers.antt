@@ -85,4 +85,5 @@ returns-clause-settled g t c =
     let go = c.last_run.ensures in
     let come = c.last_run-2.ensures in
     let e = c.hand_out-helper.ensures in
-    settled_both w l c.args.leaving.now _ _ c.args.arriving.now _ _ (holds c.args.main.now) _ _ _ _ (holds c.take_back.new.main) go.tokens go.len come.tokens come.len e.cut c.take_back.ensures.together (Prim.search rules) (Prim.search rules)
+    settled_both w l c.args.leaving.now _ _ c.args.arriving.now _ _ (holds c.args.main.now) _ _ _ _ (holds c.join_back.new.main) go.tokens
+    go.len come.tokens come.len e.cut c.join_back.ensures.together (Prim.search rules) (Prim.search rules)

@@ -1,5 +1,7 @@
-use Rattle.board_meter.proofs.Tokens.{still_charged}
+use Rattle.pids_charge.proofs.Tokens.{still_charged}
 use Rattle.board_tests.proofs.swap.uncharge_each.Goals as goal
 
 pub uncharge-requires-clause-charged : goal.uncharge-requires-clause-charged
-uncharge-requires-clause-charged g c = still_charged (g.M.Meter.content c.args.meter.now) (g.M.Meter.content c.loop-token.meter) c.args.leaving.now c.loop-token.token-index _ c.loop-token-test.true c.loop-token.invariant.content c.requires.charged
+uncharge-requires-clause-charged g c =
+    still_charged (g.M.Meter.content c.args.meter.now) (g.M.Meter.content c.loop-token.meter) c.args.leaving.now c.loop-token.token-index _
+    c.loop-token-test.true c.loop-token.invariant.content c.requires.charged

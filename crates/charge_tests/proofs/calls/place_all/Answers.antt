@@ -1,4 +1,4 @@
-use Rattle.charge_tests.proofs.UpTo.{one_distinct}
+use Rattle.flat_model.proofs.Lists.{one_distinct}
 use Rattle.charge_tests.proofs.calls.place_all.Goals as goal
 
 pub place_all-requires-clause-apart : goal.place_all-requires-clause-apart

@@ -8,4 +8,7 @@ use Rattle.process_table.proofs.gather.append_inside.Goals as goal
 pub returns-then-are_inside : goal.returns-then-are_inside
 returns-then-are_inside g c = on_ok c.append_to.result (λ items q.
     ap (count_by (eqb q)) items ∙ count-append q c.args.pids.now.items (list_at c.args.slots.now c.args.slot)
-    ∙ ap (λ n. count_by (eqb q) c.args.pids.now.items + n) (ap (λ b. cond b (count_by (eqb q) (list_at c.args.slots.now c.args.slot)) 0) (sym c.if-are_inside.true) ∙ appended (cell_at c.args.pages.now) c.args.slots.now c.requires.tied c.args.slot c.args.path.now c.are_inside.result c.are_inside.ensures q)) c.append_to.ensures
+    ∙ ap (λ n. count_by (eqb q) c.args.pids.now.items
+    + n) (ap (λ b. cond b (count_by (eqb q) (list_at c.args.slots.now c.args.slot)) 0) (sym c.if-are_inside.true)
+    ∙ appended (cell_at c.args.pages.now) c.args.slots.now c.requires.tied c.args.slot c.args.path.now c.are_inside.result
+    c.are_inside.ensures q)) c.append_to.ensures

@@ -6,8 +6,12 @@ use Rattle.process_table.proofs.tied.leave.Goals as goal
 
 pub returns-in_default-clause-tied : goal.returns-in_default-clause-tied
 returns-in_default-clause-tied g c =
-    left_alone (cell_at c.args.pages.now) c.args.slots.now c.leave.new.self c.args.slot c.args.place (get_or (list_at c.args.slots.now c.args.slot) c.args.place 0) c.leave.result c.requires c.leave.ensures.left c.leave.ensures.others c.in_default.is
+    left_alone (cell_at c.args.pages.now) c.args.slots.now c.leave.new.self c.args.slot c.args.place
+    (get_or (list_at c.args.slots.now c.args.slot) c.args.place 0) c.leave.result c.requires c.leave.ensures.left c.leave.ensures.others
+    c.in_default.is
 
 pub returns-clause-tied : goal.returns-clause-tied
 returns-clause-tied g c =
-    left_moved (cell_at c.args.pages.now) c.args.slots.now c.leave.new.self c.args.slot c.args.place (get_or (list_at c.args.slots.now c.args.slot) c.args.place 0) c.leave.result c.requires c.leave.ensures.left c.leave.ensures.others c.in-Some.moved c.in-Some.is (cell_at c.set_place.new.self) c.set_place.ensures
+    left_moved (cell_at c.args.pages.now) c.args.slots.now c.leave.new.self c.args.slot c.args.place
+    (get_or (list_at c.args.slots.now c.args.slot) c.args.place 0) c.leave.result c.requires c.leave.ensures.left c.leave.ensures.others
+    c.in-Some.moved c.in-Some.is (cell_at c.set_place.new.self) c.set_place.ensures

@@ -15,7 +15,9 @@ returns-in-Some-clause-tied g c =
 pub returns-in_default-put-clause-tied : goal.returns-in_default-put-clause-tied
 returns-in_default-put-clause-tied g c =
     let d : Cell g.row.A.Denot = record { process = c.args.process; place = c.in_ok-place.place } in
-    new_tied (cell_at c.args.pages.now) (cell_at c.put.new.self) c.args.slots.now c.push.new.self c.args.pid d c.requires.tied (small c.args.pid c.ranges.pid.fits) c.in_ok-place.ensures.place c.in_ok-place.ensures.pushed c.put.ensures.after (sym c.put.ensures.before ∙ c.in_default-put.is)
+    new_tied (cell_at c.args.pages.now) (cell_at c.put.new.self) c.args.slots.now c.push.new.self c.args.pid d c.requires.tied
+    (small c.args.pid c.ranges.pid.fits) c.in_ok-place.ensures.place c.in_ok-place.ensures.pushed c.put.ensures.after
+    (sym c.put.ensures.before ∙ c.in_default-put.is)
 
 pub leave-requires : goal.leave-requires
 leave-requires g c =
@@ -23,5 +25,7 @@ leave-requires g c =
     let before = c.in-Some-put.before in
     let is : cell_at c.args.pages.now c.args.pid ≡ Some before = sym c.put.ensures.before ∙ c.in-Some-put.is in
     let owes : Owes (cell_at c.put.new.self) c.push.new.self before.process.slot before.place c.args.pid =
-    new_owes (cell_at c.args.pages.now) (cell_at c.put.new.self) c.args.slots.now c.push.new.self c.args.pid d c.requires.tied (small c.args.pid c.ranges.pid.fits) c.in_ok-place.ensures.place c.in_ok-place.ensures.pushed c.put.ensures.after before is (c.in_default.ensures before is) in
+    new_owes (cell_at c.args.pages.now) (cell_at c.put.new.self) c.args.slots.now c.push.new.self c.args.pid d c.requires.tied
+    (small c.args.pid c.ranges.pid.fits) c.in_ok-place.ensures.place c.in_ok-place.ensures.pushed c.put.ensures.after before is
+    (c.in_default.ensures before is) in
     subst (λ p. Owes (cell_at c.put.new.self) c.push.new.self before.process.slot before.place p) (sym owes.here.here) owes

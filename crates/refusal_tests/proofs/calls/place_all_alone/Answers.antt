@@ -1,4 +1,4 @@
-use Rattle.refusal_tests.proofs.Given.{one_distinct}
+use Rattle.flat_model.proofs.Lists.{one_distinct}
 use Rattle.refusal_tests.proofs.calls.place_all_alone.Goals as goal
 
 pub place_all_alone-requires-clause-apart : goal.place_all_alone-requires-clause-apart

@@ -6,8 +6,8 @@ use Rattle.sessions.proofs.TakenBack.{left, answered, certain_at}
 use Rattle.sessions.proofs.step.apply_twice.Goals.{then-depth, else-depth}
 use Rattle.sessions.proofs.step.apply_twice.Goals as goal
 
-pub take_back-requires-after_bounds : goal.take_back-requires-after_bounds
-take_back-requires-after_bounds g c κs live =
+pub undo_newest-requires-after_bounds : goal.undo_newest-requires-after_bounds
+undo_newest-requires-after_bounds g c κs live =
     let old : Machine = c.args.engine.now in
     let new : Machine = c.apply-reply.new.self in
     let e = c.apply-reply.ensures in
@@ -24,7 +24,7 @@ returns-after-depth-clause-err g c =
       | then-depth w ↦
           let more : length old.past < length new.past = omega (arith, c.depth-depth.ensures, c.depth.ensures, w.if-depth.true) in
           let some : reply_of c.apply-reply.result ≢ None = answered old new (reply_of c.apply-reply.result) e.refused more in
-          w.engine-is ∙ w.take_back.ensures ∙ ap (λ o. o.0) ((e.headline some).command_undone more)
+          w.engine-is ∙ w.undo_newest.ensures ∙ ap (λ o. o.0) ((e.headline some).command_undone more)
       | else-depth w ↦
           let no_more : length new.past ≤ length old.past = omega (arith, c.depth-depth.ensures, c.depth.ensures, w.if-depth.false) in
           w.engine-is ∙ left slots old new (command_of c.args.cmd.now) (reply_of c.apply-reply.result) c.requires e.refused (λ some. (e.answered some).state) no_more

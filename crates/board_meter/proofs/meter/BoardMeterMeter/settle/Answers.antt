@@ -11,4 +11,5 @@ pub returns-clause-parts : goal.returns-clause-parts
 returns-clause-parts g c helpers =
     let new = holds c.settle_parts.new.main in
     parts_settle helpers c.args.leaving.now c.args.arriving.now (content_of NODES ROW c.args.self.now) (content_of NODES ROW new) c.requires.charged
-    (subst (λ (h : Holding). (s j : ℕ) → content_of NODES ROW new s j + listed_at c.args.leaving.now s j ≡ content_of NODES ROW h s j + listed_at c.args.arriving.now s j) c.self.view_is c.settle_parts.ensures.settled.content)
+    (subst (λ (h : Holding). (s j : ℕ) → content_of NODES ROW new s j + listed_at c.args.leaving.now s j ≡ content_of NODES ROW h s j
+    + listed_at c.args.arriving.now s j) c.self.view_is c.settle_parts.ensures.settled.content)

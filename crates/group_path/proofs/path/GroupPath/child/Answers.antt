@@ -7,18 +7,21 @@ use Rattle.group_path.proofs.path.GroupPath.child.Goals as goal
 
 pub joined-requires : goal.joined-requires
 joined-requires g c =
-    let s = child_short c.args.self.now c.args.name.now c.in_ok-check_child.field-0 (path_is c.self.inside.text c.args.self.now c.self.view_is c.self.invariant) (sym c.check_child.ensures ∙ c.in_ok-check_child.was) in
+    let s = child_short c.args.self.now c.args.name.now c.in_ok-check_child.field-0
+    (path_is c.self.inside.text c.args.self.now c.self.view_is c.self.invariant) (sym c.check_child.ensures ∙ c.in_ok-check_child.was) in
     let l = ap (λ (x : List ℕ). length x) c.spelled.ensures in
     omega arith
 
 pub invariant_of-result : goal.invariant_of-result
 invariant_of-result g c =
-    child_faultless c.args.self.now c.args.name.now c.in_ok-text.text c.in_ok-check_child.field-0 (path_is c.self.inside.text c.args.self.now c.self.view_is c.self.invariant) (sym c.check_child.ensures ∙ c.in_ok-check_child.was)
+    child_faultless c.args.self.now c.args.name.now c.in_ok-text.text c.in_ok-check_child.field-0
+    (path_is c.self.inside.text c.args.self.now c.self.view_is c.self.invariant) (sym c.check_child.ensures ∙ c.in_ok-check_child.was)
     (c.in_ok-text.ensures.same ∙ ap (λ (x : List ℕ). x ++ 47 ∷ c.args.name.now) c.spelled.ensures)
 
 pub returns-clause-found : goal.returns-clause-found
 returns-clause-found g c =
-    child_names c.args.self.now c.args.name.now c.in_ok-text.text c.in_ok-check_child.field-0 (path_is c.self.inside.text c.args.self.now c.self.view_is c.self.invariant) (sym c.check_child.ensures ∙ c.in_ok-check_child.was)
+    child_names c.args.self.now c.args.name.now c.in_ok-text.text c.in_ok-check_child.field-0
+    (path_is c.self.inside.text c.args.self.now c.self.view_is c.self.invariant) (sym c.check_child.ensures ∙ c.in_ok-check_child.was)
     (c.in_ok-text.ensures.same ∙ ap (λ (x : List ℕ). x ++ 47 ∷ c.args.name.now) c.spelled.ensures)
 
 pub returns-clause-first : goal.returns-clause-first

@@ -12,4 +12,5 @@ long P (Err x) n most e few = let no : n ≤ most → ⊥ = λ l. let e = few l 
 pub returns-in_err-text : goal.returns-in_err-text
 returns-in_err-text g c =
     let is = text_is c.self.inside.text c.args.self.now c.self.view_is c.self.invariant in
-    long (λ p. p ≡ c.args.self.now) c.from_residual.result (length (path_text c.args.self.now)) INLINE_MAX c.from_residual.ensures.0 (subst (λ (x : List ℕ). length x ≤ INLINE_MAX → false ≡ true) is c.in_err-text.ensures.few)
+    long (λ p. p ≡ c.args.self.now) c.from_residual.result (length (path_text c.args.self.now)) INLINE_MAX c.from_residual.ensures.0
+    (subst (λ (x : List ℕ). length x ≤ INLINE_MAX → false ≡ true) is c.in_err-text.ensures.few)

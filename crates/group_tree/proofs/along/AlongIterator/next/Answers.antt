@@ -27,7 +27,8 @@ pub returns-in-Err-clause-steps : goal.returns-in-Err-clause-steps
 returns-in-Err-clause-steps g c = (
   sym c.self.view_is
       ∙ ap (λ (o : Option (Bor Branch)). along_from (option_map (λ (node : Bor Branch). node.now.groups) o) c.self.inside.names) c.in_ok-node.was
-      ∙ ends_there c.node.inside.attr c.node.inside.children.items c.deref.result.now c.in_ok-node.node.now c.node.inside.name c.self.inside.names c.in_ok-name.name.now c.next.new.self c.in-Err.field-0
+      ∙ ends_there c.node.inside.attr c.node.inside.children.items c.deref.result.now c.in_ok-node.node.now c.node.inside.name
+      c.self.inside.names c.in_ok-name.name.now c.next.new.self c.in-Err.field-0
       c.node.view_is c.node.invariant.ascending c.in_ok-name.ensures.steps c.deref.ensures.value c.in-Err.ensures.value,
   refl,
 )

@@ -32,14 +32,19 @@ returns-in-None-next-clause-root g t c = root_is_some _ _ _ _ c.self.view_is c.s
 
 pub returns-in-Free-clause-said : goal.returns-in-Free-clause-said
 returns-in-Free-clause-said g t c =
-    admits_down _ _ _ _ _ _ _ _ _ _ c.args.depth c.args.n Free _ c.self.view_is c.self.invariant.ascending c.in-Some.ensures.steps c.in-Ok.ensures.value c.deref.ensures.value c.index.ensures c.requires c.in-Free.ensures.root c.in-Free.ensures.said c.admits_here.ensures
+    admits_down _ _ _ _ _ _ _ _ _ _ c.args.depth c.args.n Free _ c.self.view_is c.self.invariant.ascending c.in-Some.ensures.steps
+    c.in-Ok.ensures.value c.deref.ensures.value c.index.ensures c.requires c.in-Free.ensures.root c.in-Free.ensures.said
+    c.admits_here.ensures
 
 pub returns-in_default : goal.returns-in_default
 returns-in_default g t c = record {
   root = root_is_some _ _ _ _ c.self.view_is c.self.invariant.ascending;
-  said = admits_decided _ _ _ _ _ _ _ _ _ _ c.args.depth c.args.n c.admits.result c.self.view_is c.self.invariant.ascending c.in-Some.ensures.steps c.in-Ok.ensures.value c.deref.ensures.value c.index.ensures c.requires c.admits.ensures.root c.admits.ensures.said c.in_default.not-Free;
+  said = admits_decided _ _ _ _ _ _ _ _ _ _ c.args.depth c.args.n c.admits.result c.self.view_is c.self.invariant.ascending
+      c.in-Some.ensures.steps c.in-Ok.ensures.value c.deref.ensures.value c.index.ensures c.requires c.admits.ensures.root
+      c.admits.ensures.said c.in_default.not-Free;
 }
 
 pub returns-in-None-next-clause-said : goal.returns-in-None-next-clause-said
 returns-in-None-next-clause-said g t c =
-    admits_child _ _ _ _ _ _ _ _ _ c.args.n _ c.self.view_is c.self.invariant.ascending c.in-Some.ensures.steps c.in-None-next.ensures.steps.0 c.in-Err.ensures.value c.deref.ensures.value c.admits_here-in-None-next.ensures
+    admits_child _ _ _ _ _ _ _ _ _ c.args.n _ c.self.view_is c.self.invariant.ascending c.in-Some.ensures.steps
+    c.in-None-next.ensures.steps.0 c.in-Err.ensures.value c.deref.ensures.value c.admits_here-in-None-next.ensures

@@ -9,7 +9,9 @@ pub returns-in-None : goal.returns-in-None
 returns-in-None g t c = names_here _ _ _ _ _ _ _ c.self.view_is c.self.invariant.ascending c.in-None.ensures.steps.0 c.as_slice.ensures.value c.of.ensures
 
 pub returns-in-Ok : goal.returns-in-Ok
-returns-in-Ok g t c = names_down _ _ _ _ _ _ _ _ _ _ _ c.self.view_is c.self.invariant.ascending c.in-Some.ensures.steps c.in-Ok.ensures.value c.deref.ensures.value c.index.ensures c.child_names.ensures
+returns-in-Ok g t c =
+    names_down _ _ _ _ _ _ _ _ _ _ _ c.self.view_is c.self.invariant.ascending c.in-Some.ensures.steps c.in-Ok.ensures.value
+    c.deref.ensures.value c.index.ensures c.child_names.ensures
 
 pub returns-in-Err : goal.returns-in-Err
 returns-in-Err g t c = sym (find_none _ _ _ _ _ _ _ _ _ c.self.view_is c.self.invariant.ascending c.in-Some.ensures.steps c.in-Err.ensures.value c.deref.ensures.value)
@@ -21,4 +23,8 @@ pub index-requires : goal.index-requires
 index-requires g t c = omega (arith, c.in-Ok.ensures.bound, c.deref.ensures.len)
 
 pub child_names-requires : goal.child_names-requires
-child_names-requires g t c κs within = (falls_child _ _ _ c.decreases (child_at_smaller _ _ _ _ _ _ _ c.self.view_is c.self.invariant.ascending c.deref.ensures.value c.index.ensures c.in-Ok.ensures.bound), search (rules, within))
+child_names-requires g t c κs within = (
+  falls_child _ _ _ c.decreases (child_at_smaller _ _ _ _ _ _ _ c.self.view_is c.self.invariant.ascending c.deref.ensures.value
+      c.index.ensures c.in-Ok.ensures.bound),
+  search (rules, within),
+)

@@ -13,7 +13,11 @@ pub bounds-child-items-child-index : goal.bounds-child-items-child-index
 bounds-child-items-child-index g t c = c.loop-child-test.true
 
 pub copy-requires : goal.copy-requires
-copy-requires g t c κs within = (falls_child _ _ _ c.decreases (child_smaller _ _ _ _ _ _ _ c.self.view_is c.self.invariant.ascending c.deref-child-items.ensures.value c.child-item.is c.loop-child-test.true), search (rules, within))
+copy-requires g t c κs within = (
+  falls_child _ _ _ c.decreases (child_smaller _ _ _ _ _ _ _ c.self.view_is c.self.invariant.ascending c.deref-child-items.ensures.value
+      c.child-item.is c.loop-child-test.true),
+  search (rules, within),
+)
 
 pub loop-child-smaller : goal.loop-child-smaller
 loop-child-smaller g t c = let h = c.loop-child-test.true in omega arith

@@ -24,9 +24,11 @@ returns-in-Ok-clause-counts g t c =
     let along = counted_along step c.in-Some.name.now _ in
     let named = c.put.ensures.name ∙ c.count.ensures.name in
     let now = child_changes _ _ _ _ along _ _ _ _ _ c.count.ensures.counts c.attr-attr.ensures (ap (λ k. record c.attr-attr.result { total = k }) c.of-total.ensures) c.put.ensures.groups in
-    changes_down (counted_by step) _ _ _ _ _ c.in-Some.ensures.steps along c.self.inside.attr _ _ _ c.self.invariant.ascending c.deref.ensures.value _ _ c.self.view_is _ _ c.in-Ok.ensures.value c.index_mut-child.ensures.value named now
+    changes_down (counted_by step) _ _ _ _ _ c.in-Some.ensures.steps along c.self.inside.attr _ _ _ c.self.invariant.ascending
+    c.deref.ensures.value _ _ c.self.view_is _ _ c.in-Ok.ensures.value c.index_mut-child.ensures.value named now
 
 pub returns-in-Err-clause-counts : goal.returns-in-Err-clause-counts
 returns-in-Err-clause-counts g t c =
     let step = stepped c.args.change in
-    changes_none (counted_by step) _ _ _ _ _ c.in-Some.ensures.steps (counted_along step c.in-Some.name.now _) c.self.inside.attr _ _ _ c.self.invariant.ascending c.deref.ensures.value _ _ c.self.view_is c.in-Err.ensures.value
+    changes_none (counted_by step) _ _ _ _ _ c.in-Some.ensures.steps (counted_along step c.in-Some.name.now _) c.self.inside.attr _ _ _
+    c.self.invariant.ascending c.deref.ensures.value _ _ c.self.view_is c.in-Err.ensures.value

@@ -16,7 +16,8 @@ returns-in-Ok-clause-found g t c =
 
 pub returns-in-Ok-clause-counted : goal.returns-in-Ok-clause-counted
 returns-in-Ok-clause-counted g t c =
-    counts_down _ _ _ _ _ _ _ _ _ _ _ c.self.view_is c.self.invariant.ascending c.in-Some.ensures.steps c.in-Ok.ensures.value c.deref.ensures.value c.index.ensures c.find_with_descendants.ensures.counted
+    counts_down _ _ _ _ _ _ _ _ _ _ _ c.self.view_is c.self.invariant.ascending c.in-Some.ensures.steps c.in-Ok.ensures.value
+    c.deref.ensures.value c.index.ensures c.find_with_descendants.ensures.counted
 
 pub returns-in-Err-clause-found : goal.returns-in-Err-clause-found
 returns-in-Err-clause-found g t c = find_none _ _ _ _ _ _ _ _ _ c.self.view_is c.self.invariant.ascending c.in-Some.ensures.steps c.in-Err.ensures.value c.deref.ensures.value

@@ -9,17 +9,22 @@ pub invariant_of-self : goal.invariant_of-self
 invariant_of-self g t c =
     let e = edited_at _ _ _ _ _ _ c.self.invariant.ascending c.in-Ok.ensures.value c.deref.ensures.value c.index_mut-child.ensures.value c.insert.ensures.name in
     grown_node c.self.inside.attr _ _ _ c.self.invariant e.ascending _ c.args.names c.args.attr c.in-Ok-insert.field-0
-    (inserts_at _ _ _ _ c.insert.new.self _ _ _ _ c.args.attr (Ok c.in-Ok-insert.field-0) c.self.invariant.ascending c.in-Some.ensures.steps c.in-Ok.ensures.value c.deref.ensures.value c.index_mut-child.ensures.value c.insert.ensures.name c.insert.ensures.root c.in-Ok-insert.ensures.groups) refl
+    (inserts_at _ _ _ _ c.insert.new.self _ _ _ _ c.args.attr (Ok c.in-Ok-insert.field-0) c.self.invariant.ascending c.in-Some.ensures.steps
+    c.in-Ok.ensures.value c.deref.ensures.value c.index_mut-child.ensures.value c.insert.ensures.name c.insert.ensures.root
+    c.in-Ok-insert.ensures.groups) refl
 
 pub invariant_of-self-in-Err-insert : goal.invariant_of-self-in-Err-insert
 invariant_of-self-in-Err-insert g t c =
     let e = edited_at _ _ _ _ _ _ c.self.invariant.ascending c.in-Ok.ensures.value c.deref.ensures.value c.index_mut-child.ensures.value c.insert.ensures.name in
     refused_node c.self.inside.attr _ _ _ c.self.invariant e.ascending c.args.names c.args.attr c.in-Err-insert.fault
-    (inserts_at _ _ _ _ c.insert.new.self _ _ _ _ c.args.attr (Err c.in-Err-insert.fault) c.self.invariant.ascending c.in-Some.ensures.steps c.in-Ok.ensures.value c.deref.ensures.value c.index_mut-child.ensures.value c.insert.ensures.name c.insert.ensures.root c.in-Err-insert.ensures.groups)
+    (inserts_at _ _ _ _ c.insert.new.self _ _ _ _ c.args.attr (Err c.in-Err-insert.fault) c.self.invariant.ascending c.in-Some.ensures.steps
+    c.in-Ok.ensures.value c.deref.ensures.value c.index_mut-child.ensures.value c.insert.ensures.name c.insert.ensures.root
+    c.in-Err-insert.ensures.groups)
 
 pub invariant_of-self-in-Ok-add_leaf : goal.invariant_of-self-in-Ok-add_leaf
 invariant_of-self-in-Ok-add_leaf g t c =
-    let l = adds_leaf c.self.inside.attr _ _ _ _ _ _ _ c.args.attr c.self.invariant.ascending c.in-Some.ensures.steps c.in-None-next.ensures.steps.0 c.in-Err.ensures.value c.deref.ensures.value c.in-Ok-add_leaf.ensures.ok in
+    let l = adds_leaf c.self.inside.attr _ _ _ _ _ _ _ c.args.attr c.self.invariant.ascending c.in-Some.ensures.steps
+    c.in-None-next.ensures.steps.0 c.in-Err.ensures.value c.deref.ensures.value c.in-Ok-add_leaf.ensures.ok in
     grown_node c.self.inside.attr _ _ _ c.self.invariant l.ascending _ c.args.names c.args.attr tt (l.free, l.above, l.updated) refl
 
 pub returns-in-None-clause-root : goal.returns-in-None-clause-root
@@ -33,14 +38,18 @@ returns-in-Ok-insert-clause-root g t c = root_is_some _ _ _ _ c.self.view_is c.s
 
 pub returns-in-Ok-insert-clause-groups : goal.returns-in-Ok-insert-clause-groups
 returns-in-Ok-insert-clause-groups g t c =
-    inserts_down _ _ _ _ _ c.insert.new.self _ _ _ _ _ c.args.attr (Ok c.in-Ok-insert.field-0) c.self.view_is c.self.invariant.ascending c.in-Some.ensures.steps c.in-Ok.ensures.value c.deref.ensures.value c.index_mut-child.ensures.value c.insert.ensures.name c.insert.ensures.root c.in-Ok-insert.ensures.groups
+    inserts_down _ _ _ _ _ c.insert.new.self _ _ _ _ _ c.args.attr (Ok c.in-Ok-insert.field-0) c.self.view_is c.self.invariant.ascending
+    c.in-Some.ensures.steps c.in-Ok.ensures.value c.deref.ensures.value c.index_mut-child.ensures.value c.insert.ensures.name
+    c.insert.ensures.root c.in-Ok-insert.ensures.groups
 
 pub returns-in-Err-insert-clause-root : goal.returns-in-Err-insert-clause-root
 returns-in-Err-insert-clause-root g t c = root_is_some _ _ _ _ c.self.view_is c.self.invariant.ascending
 
 pub returns-in-Err-insert-clause-groups : goal.returns-in-Err-insert-clause-groups
 returns-in-Err-insert-clause-groups g t c =
-    inserts_down _ _ _ _ _ c.insert.new.self _ _ _ _ _ c.args.attr (Err c.in-Err-insert.fault) c.self.view_is c.self.invariant.ascending c.in-Some.ensures.steps c.in-Ok.ensures.value c.deref.ensures.value c.index_mut-child.ensures.value c.insert.ensures.name c.insert.ensures.root c.in-Err-insert.ensures.groups
+    inserts_down _ _ _ _ _ c.insert.new.self _ _ _ _ _ c.args.attr (Err c.in-Err-insert.fault) c.self.view_is c.self.invariant.ascending
+    c.in-Some.ensures.steps c.in-Ok.ensures.value c.deref.ensures.value c.index_mut-child.ensures.value c.insert.ensures.name
+    c.insert.ensures.root c.in-Err-insert.ensures.groups
 
 pub returns-in-Some-next-clause-root : goal.returns-in-Some-next-clause-root
 returns-in-Some-next-clause-root g t c = root_is_some _ _ _ _ c.self.view_is c.self.invariant.ascending
@@ -54,11 +63,13 @@ returns-in-Ok-add_leaf-clause-root g t c = root_is_some _ _ _ _ c.self.view_is c
 
 pub returns-in-Ok-add_leaf-clause-groups : goal.returns-in-Ok-add_leaf-clause-groups
 returns-in-Ok-add_leaf-clause-groups g t c =
-    leaf_ok _ _ _ _ _ _ _ _ _ _ _ c.self.view_is c.self.invariant.ascending c.in-Some.ensures.steps c.in-None-next.ensures.steps.0 c.in-Err.ensures.value c.deref.ensures.value c.in-Ok-add_leaf.ensures.ok
+    leaf_ok _ _ _ _ _ _ _ _ _ _ _ c.self.view_is c.self.invariant.ascending c.in-Some.ensures.steps c.in-None-next.ensures.steps.0
+    c.in-Err.ensures.value c.deref.ensures.value c.in-Ok-add_leaf.ensures.ok
 
 pub returns-in-Err-add_leaf-clause-root : goal.returns-in-Err-add_leaf-clause-root
 returns-in-Err-add_leaf-clause-root g t c = root_is_some _ _ _ _ c.self.view_is c.self.invariant.ascending
 
 pub returns-in-Err-add_leaf-clause-groups : goal.returns-in-Err-add_leaf-clause-groups
 returns-in-Err-add_leaf-clause-groups g t c =
-    leaf_err _ _ _ _ _ _ _ _ _ _ c.args.attr c.self.view_is c.self.invariant.ascending c.in-Some.ensures.steps c.in-None-next.ensures.steps.0 c.in-Err.ensures.value c.deref.ensures.value c.in-Err-add_leaf.ensures.err
+    leaf_err _ _ _ _ _ _ _ _ _ _ c.args.attr c.self.view_is c.self.invariant.ascending c.in-Some.ensures.steps
+    c.in-None-next.ensures.steps.0 c.in-Err.ensures.value c.deref.ensures.value c.in-Err-add_leaf.ensures.err

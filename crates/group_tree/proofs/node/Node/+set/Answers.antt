@@ -9,14 +9,17 @@ pub invariant_of-self-in-Ok : goal.invariant_of-self-in-Ok
 invariant_of-self-in-Ok g t c =
     let e = edited_at _ _ _ _ _ _ c.self.invariant.ascending c.in-Ok.ensures.value c.deref.ensures.value c.index_mut-child.ensures.value c.set.ensures.name in
     set_node c.self.inside.attr _ _ _ c.self.invariant e.ascending c.args.setting _ _
-    (sets_down_by c.args.setting c.self.inside.attr _ _ _ _ _ c.self.inside.name _ _ _ _ _ refl c.self.invariant.ascending c.in-Some.ensures.steps c.in-Ok.ensures.value c.deref.ensures.value c.index_mut-child.ensures.value c.set.ensures.name c.set.ensures.groups)
+    (sets_down_by c.args.setting c.self.inside.attr _ _ _ _ _ c.self.inside.name _ _ _ _ _ refl c.self.invariant.ascending
+    c.in-Some.ensures.steps c.in-Ok.ensures.value c.deref.ensures.value c.index_mut-child.ensures.value c.set.ensures.name
+    c.set.ensures.groups)
 
 pub returns-in-None-clause-groups : goal.returns-in-None-clause-groups
 returns-in-None-clause-groups g t c = sets_here_by c.args.setting _ _ _ _ _ _ c.self.view_is c.self.invariant.ascending c.in-None.ensures.steps.0 c.of-self-inside.ensures
 
 pub returns-in-Ok-clause-groups : goal.returns-in-Ok-clause-groups
 returns-in-Ok-clause-groups g t c =
-    sets_down_by c.args.setting _ _ _ _ _ _ _ _ _ _ _ _ c.self.view_is c.self.invariant.ascending c.in-Some.ensures.steps c.in-Ok.ensures.value c.deref.ensures.value c.index_mut-child.ensures.value c.set.ensures.name c.set.ensures.groups
+    sets_down_by c.args.setting _ _ _ _ _ _ _ _ _ _ _ _ c.self.view_is c.self.invariant.ascending c.in-Some.ensures.steps
+    c.in-Ok.ensures.value c.deref.ensures.value c.index_mut-child.ensures.value c.set.ensures.name c.set.ensures.groups
 
 pub returns-in-Err-clause-groups : goal.returns-in-Err-clause-groups
 returns-in-Err-clause-groups g t c = (sym (find_none _ _ _ _ _ _ _ _ _ c.self.view_is c.self.invariant.ascending c.in-Some.ensures.steps c.in-Err.ensures.value c.deref.ensures.value), refl)

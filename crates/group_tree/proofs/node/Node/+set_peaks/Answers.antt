@@ -27,9 +27,13 @@ returns-in-Ok-clause-peaks g t c =
     let along = peaked_along c.in-Some.name.now _ c.args.peaks.now _ _ cut.1 cut.2 in
     let named = c.put.ensures.name ∙ c.set_peaks.ensures.name in
     let now = child_changes _ _ _ _ along _ _ _ _ _ c.set_peaks.ensures.peaks c.attr-attr.ensures refl c.put.ensures.groups in
-    changes_down (λ p. peaked_by p c.args.peaks.now) _ _ _ _ _ c.in-Some.ensures.steps along c.self.inside.attr _ _ _ c.self.invariant.ascending c.deref.ensures.value _ _ c.self.view_is _ _ c.in-Ok.ensures.value c.index_mut-child.ensures.value named now
+    changes_down (λ p. peaked_by p c.args.peaks.now) _ _ _ _ _ c.in-Some.ensures.steps along c.self.inside.attr _ _ _
+    c.self.invariant.ascending c.deref.ensures.value _ _ c.self.view_is _ _ c.in-Ok.ensures.value c.index_mut-child.ensures.value named
+    now
 
 pub returns-in-Err-clause-peaks : goal.returns-in-Err-clause-peaks
 returns-in-Err-clause-peaks g t c =
     let cut = split_peaks _ _ _ _ _ _ c.in-Some.ensures.steps c.requires.many c.in-Some-split_last.ensures.cases in
-    changes_none (λ p. peaked_by p c.args.peaks.now) _ _ _ _ _ c.in-Some.ensures.steps (peaked_along c.in-Some.name.now _ c.args.peaks.now _ _ cut.1 cut.2) c.self.inside.attr _ _ _ c.self.invariant.ascending c.deref.ensures.value _ _ c.self.view_is c.in-Err.ensures.value
+    changes_none (λ p. peaked_by p c.args.peaks.now) _ _ _ _ _ c.in-Some.ensures.steps
+    (peaked_along c.in-Some.name.now _ c.args.peaks.now _ _ cut.1 cut.2) c.self.inside.attr _ _ _ c.self.invariant.ascending
+    c.deref.ensures.value _ _ c.self.view_is c.in-Err.ensures.value

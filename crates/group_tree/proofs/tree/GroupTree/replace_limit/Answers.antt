@@ -16,4 +16,5 @@ invariant_of-self-2 g c = closed_sets (OneLimit c.args.file c.args.limit) _ _ _ 
 pub returns : goal.returns
 returns g c =
     subst (λ (m : Groups). ReplacesAt m c.set.new.self.groups c.args.path.now c.args.file c.args.limit c.limit.result) c.self.view_is
-    (subst (λ (p : Path). ReplacesAt c.self.inside.root.groups c.set.new.self.groups p c.args.file c.args.limit c.limit.result) c.names.ensures (replaces _ _ _ _ _ _ c.in_ok-attr.attr c.in_ok-attr.ensures.groups c.limit.ensures))
+    (subst (λ (p : Path). ReplacesAt c.self.inside.root.groups c.set.new.self.groups p c.args.file c.args.limit c.limit.result)
+    c.names.ensures (replaces _ _ _ _ _ _ c.in_ok-attr.attr c.in_ok-attr.ensures.groups c.limit.ensures))

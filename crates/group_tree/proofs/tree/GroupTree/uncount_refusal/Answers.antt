@@ -7,7 +7,10 @@ use Rattle.group_tree.proofs.Changed.{closed_changes}
 use Rattle.group_tree.proofs.tree.GroupTree.uncount_refusal.Goals as goal
 
 pub invariant_of-self : goal.invariant_of-self
-invariant_of-self g c = closed_changes (counted_by (stepped Lower) (take c.args.n c.args.path.now)) _ _ (subst (λ (p : Path). Counts (stepped Lower) c.self.inside.root.groups c.count.new.self.groups p) c.first_names.ensures c.count.ensures.counts) c.self.invariant
+invariant_of-self g c =
+    closed_changes (counted_by (stepped Lower) (take c.args.n c.args.path.now)) _ _
+    (subst (λ (p : Path). Counts (stepped Lower) c.self.inside.root.groups c.count.new.self.groups p) c.first_names.ensures
+    c.count.ensures.counts) c.self.invariant
 
 pub returns : goal.returns
 returns g c =

@@ -13,5 +13,11 @@ pub returns-clause-after : goal.returns-clause-after
 returns-clause-after g c =
     let has : HasPage c.self.inside.pages.items c.args.pid = rw (c.self.view_is) c.requires in
     let page = c.index_mut.result.now in
-    let within : c.args.pid % 64 < length page = subst (λ l. c.args.pid % 64 < length l) (sym (get_or_read c.self.inside.pages.items (c.args.pid / 64) page has.listed c.index_mut.ensures.value [])) has.made in
-    rw (← c.self.view_is, c.put.ensures.after) (wrote c.self.inside.pages.items c.args.pid page has.listed c.index_mut.ensures.value (Some c.args.cell) (kept_within page (c.args.pid % 64) (Some c.args.cell) within))
+    let within : c.args.pid % 64 < length page =
+    subst (λ l. c.args.pid % 64 < length l)
+    (sym (get_or_read c.self.inside.pages.items (c.args.pid / 64) page has.listed c.index_mut.ensures.value [])) has.made in
+    rw (
+      ← c.self.view_is,
+      c.put.ensures.after,
+    ) (wrote c.self.inside.pages.items c.args.pid page has.listed c.index_mut.ensures.value (Some c.args.cell)
+    (kept_within page (c.args.pid % 64) (Some c.args.cell) within))

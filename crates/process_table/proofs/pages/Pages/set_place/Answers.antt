@@ -8,9 +8,12 @@ returns-then-page-len g c =
     let listed : c.args.pid / 64 < length c.self.inside.pages.items = omega (arith, c.len.ensures, c.self.inside.pages.ok) in
     let page = c.index_mut.result.now in
     rw (← c.self.view_is, c.set_place.ensures, ← cell_here c.self.inside.pages.items c.args.pid page listed c.index_mut.ensures.value)
-    (wrote c.self.inside.pages.items c.args.pid page listed c.index_mut.ensures.value (option_map (at_place c.args.place) (get_or page (c.args.pid % 64) None)) (kept_read (option_map (at_place c.args.place)) refl page (c.args.pid % 64)))
+    (wrote c.self.inside.pages.items c.args.pid page listed c.index_mut.ensures.value
+    (option_map (at_place c.args.place) (get_or page (c.args.pid % 64) None))
+    (kept_read (option_map (at_place c.args.place)) refl page (c.args.pid % 64)))
 
 pub returns-else-page-len : goal.returns-else-page-len
 returns-else-page-len g c =
     let past : length c.self.inside.pages.items ≤ c.args.pid / 64 = omega (arith, c.len.ensures, c.self.inside.pages.ok) in
-    rw (← c.self.view_is) (none_there c.self.inside.pages.items c.args.pid past (option_map (at_place c.args.place) _) (ap (option_map (at_place c.args.place)) (no_page c.self.inside.pages.items c.args.pid past)))
+    rw (← c.self.view_is) (none_there c.self.inside.pages.items c.args.pid past (option_map (at_place c.args.place) _)
+    (ap (option_map (at_place c.args.place)) (no_page c.self.inside.pages.items c.args.pid past)))

@@ -10,7 +10,8 @@ returns-then-page-len-clause-before g c =
 pub returns-then-page-len-clause-after : goal.returns-then-page-len-clause-after
 returns-then-page-len-clause-after g c =
     let listed : c.args.pid / 64 < length c.self.inside.pages.items = omega (arith, c.len.ensures, c.self.inside.pages.ok) in
-    rw (← c.self.view_is) (wrote_as c.self.inside.pages.items c.args.pid c.index_mut.result.now listed c.index_mut.ensures.value None c.take.new.self (kept_read (λ _. None) refl c.index_mut.result.now (c.args.pid % 64)) c.take.ensures.after)
+    rw (← c.self.view_is) (wrote_as c.self.inside.pages.items c.args.pid c.index_mut.result.now listed c.index_mut.ensures.value None
+    c.take.new.self (kept_read (λ _. None) refl c.index_mut.result.now (c.args.pid % 64)) c.take.ensures.after)
 
 pub returns-else-page-len-clause-before : goal.returns-else-page-len-clause-before
 returns-else-page-len-clause-before g c =

@@ -11,7 +11,9 @@ left_by : (xs ys : List ℕ) (place x : ℕ) (moved : Option ℕ) → place < le
     → IsRead ys place moved → HasLeft xs place moved ys
 left_by xs ys place x moved within value items len last stay comes = record {
   fewer = len;
-  others = subst (λ l. IsPermutation xs (get_or xs place 0 ∷ l)) (sym items) (subst (λ y. IsPermutation xs (y ∷ swap_remove xs place x)) (get_or_read xs place x within value 0) (IsPermutation-swap_remove xs place x within value));
+  others = subst (λ l. IsPermutation xs (get_or xs place 0 ∷ l)) (sym items)
+      (subst (λ y. IsPermutation xs (y ∷ swap_remove xs place x)) (get_or_read xs place x within value 0)
+      (IsPermutation-swap_remove xs place x within value));
   stay = λ k ne lt. stay k 0 ne (omega (arith, len));
   last = λ lt. last 0 (omega (arith, len)) ∙ ap (λ n. get_or xs n 0) (omega (arith, len));
   comes = comes;
@@ -25,6 +27,7 @@ returns g c =
     let short : new.len ≡ length new.items = omega (arith, new.ok) in
     let by = c.swap_remove.ensures.by_index in
     subst (λ l. HasLeft l c.args.place c.read.result new.items) c.self.view_is
-    (left_by old.items new.items c.args.place c.swap_remove.result c.read.result (rw c.self.view_is c.requires) c.swap_remove.ensures.value c.swap_remove.ensures.items (omega (arith, c.swap_remove.ensures.len, long, short))
+    (left_by old.items new.items c.args.place c.swap_remove.result c.read.result (rw c.self.view_is c.requires) c.swap_remove.ensures.value
+    c.swap_remove.ensures.items (omega (arith, c.swap_remove.ensures.len, long, short))
     (λ d lt. by.0 d (omega (arith, lt, long)) ∙ ap (λ n. get_or old.items (n - 1) d) long) (λ k d ne lt. by.1 k d ne (omega (arith, lt, long)))
     (subst (λ l. IsRead l c.args.place c.read.result) c.as_slice.ensures.value c.read.ensures))

@@ -12,4 +12,5 @@ returns-clause-present g c =
 pub returns-clause-sorted : goal.returns-clause-sorted
 returns-clause-sorted g c = λ pids moved up.
     listed_now c.self.inside.pages c.self.inside.slots c.self.invariant c.args.self.now c.self.view_is (λ e. eqb e.1.slot c.args.slot) c.pids.result.now pids moved up
-    (λ q. ap (count_by (eqb q)) (c.pids.ensures ∙ ap (list_at c.self.inside.slots) c.from.ensures) ∙ c.self.invariant.counted c.args.slot q ∙ member_counted c.args.slot q (cell_at c.self.inside.pages q))
+    (λ q. ap (count_by (eqb q)) (c.pids.ensures ∙ ap (list_at c.self.inside.slots) c.from.ensures) ∙ c.self.invariant.counted c.args.slot q
+    ∙ member_counted c.args.slot q (cell_at c.self.inside.pages q))

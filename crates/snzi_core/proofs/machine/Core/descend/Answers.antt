@@ -18,10 +18,23 @@ descend-requires g c =
     }
 
 pub invariant_of-self : goal.invariant_of-self
-invariant_of-self g c = subst IsCore (sym (closing (record { slots = c.self.inside.slots; nodes = c.self.inside.nodes; words = c.self.inside.words.items; hands = c.self.inside.hands.items }) c.args.self.now c.args.word c.args.hand c.index_mut.result.now (λ (x : ℕ). x + 1) c.index_mut-2.result.now c.descend.new.self (λ (h : Holding). lose (gain h c.args.word) c.args.parent)
+invariant_of-self g c =
+    subst IsCore (sym (closing (record {
+      slots = c.self.inside.slots;
+      nodes = c.self.inside.nodes;
+      words = c.self.inside.words.items;
+      hands = c.self.inside.hands.items;
+    }) c.args.self.now c.args.word c.args.hand c.index_mut.result.now (λ (x : ℕ). x
+    + 1) c.index_mut-2.result.now c.descend.new.self (λ (h : Holding). lose (gain h c.args.word) c.args.parent)
     c.self.view_is c.requires.place.1 c.requires.live c.index_mut.ensures.value c.index_mut-2.ensures.value c.descend.ensures))
     c.requires.kept
 
 pub returns : goal.returns
-returns g c = closing (record { slots = c.self.inside.slots; nodes = c.self.inside.nodes; words = c.self.inside.words.items; hands = c.self.inside.hands.items }) c.args.self.now c.args.word c.args.hand c.index_mut.result.now (λ (x : ℕ). x + 1) c.index_mut-2.result.now c.descend.new.self (λ (h : Holding). lose (gain h c.args.word) c.args.parent)
+returns g c = closing (record {
+  slots = c.self.inside.slots;
+  nodes = c.self.inside.nodes;
+  words = c.self.inside.words.items;
+  hands = c.self.inside.hands.items;
+}) c.args.self.now c.args.word c.args.hand c.index_mut.result.now (λ (x : ℕ). x
+    + 1) c.index_mut-2.result.now c.descend.new.self (λ (h : Holding). lose (gain h c.args.word) c.args.parent)
     c.self.view_is c.requires.place.1 c.requires.live c.index_mut.ensures.value c.index_mut-2.ensures.value c.descend.ensures

@@ -5,5 +5,6 @@ use Rattle.snzi_core.proofs.machine.Core.fast_add.Goals as goal
 
 pub arrive-requires : goal.arrive-requires
 arrive-requires g c =
-    let r = subst (λ (i : ℕ). Arrives c.args.self.now c.args.hand i) (sym c.node_word-word.ensures.value) (ready_fast c.args.self.now (subst IsCore c.self.view_is c.self.invariant) c.args.hand c.args.at c.requires) in
+    let r = subst (λ (i : ℕ). Arrives c.args.self.now c.args.hand i) (sym c.node_word-word.ensures.value)
+    (ready_fast c.args.self.now (subst IsCore c.self.view_is c.self.invariant) c.args.hand c.args.at c.requires) in
     record { place = r.0; live = r.1; room = r.2; kept = r.3 }

@@ -16,4 +16,5 @@ pub loop-token-preserved : goal.loop-token-preserved
 loop-token-preserved g c =
     let in_shape = token_inside c.args.self.now c.args.share.now c.loop-token.token-index _ c.requires c.loop-token-test.true in
     let low = c.token_word.ensures.inside in_shape.0 in_shape.1 in
-    c.gain.ensures ∙ share_more c.args.self.now c.args.share.now c.loop-token.token-index c.token_word.result _ c.loop-token.helper c.loop-token.invariant c.loop-token-test.true c.token_word.ensures.value low
+    c.gain.ensures ∙ share_more c.args.self.now c.args.share.now c.loop-token.token-index c.token_word.result _ c.loop-token.helper
+    c.loop-token.invariant c.loop-token-test.true c.token_word.ensures.value low

@@ -29,4 +29,9 @@ invariant_of-self g c =
     let room : some_word k (overflows k c.args.helper) ≡ false = subst (λ (s : State). some_word s (overflows s c.args.helper) ≡ false) (sym c.self.view_is) c.requires.room in
     let united = λ (hs : List Holding). set (set hs 0 (rejoined (get_or hs 0 (empty Spent)) (get_or hs c.args.helper (empty Spent)))) c.args.helper (empty Spent) in
     let is = whole c.unite.new.hands c.self.inside.hands.items c.self.inside.hands.len (omega arith) ∙ c.unite.ensures ∙ ap united c.as_mut_slice.ensures.value in
-    subst (λ (hs : List Holding). IsCore (record { slots = c.self.inside.slots; nodes = c.self.inside.nodes; words = c.self.inside.words.items; hands = hs })) (sym is) (join_core k c.self.invariant c.args.helper live room)
+    subst (λ (hs : List Holding). IsCore (record {
+      slots = c.self.inside.slots;
+      nodes = c.self.inside.nodes;
+      words = c.self.inside.words.items;
+      hands = hs;
+    })) (sym is) (join_core k c.self.invariant c.args.helper live room)

@@ -31,4 +31,12 @@ up-preserved g c =
     let e = c.try_fast.ensures in
     let d = depth_up c.up.at some in
     let t = i.steps in
-    record { steps = omega (arith, d, t, e.steps); counts = let u = i.counts in omega (arith, u, e.counts); place = omega (arith, n); hand = (e.hand.0 ∙ i.hand.0, e.hand.1 ∙ i.hand.1); joined = e.joined ∙ i.joined; path = path_up c.up.at c.args.node i.path some; same = e.lost c.if-try_fast.false ∙ i.same }
+    record {
+      steps = omega (arith, d, t, e.steps);
+      counts = let u = i.counts in omega (arith, u, e.counts);
+      place = omega (arith, n);
+      hand = (e.hand.0 ∙ i.hand.0, e.hand.1 ∙ i.hand.1);
+      joined = e.joined ∙ i.joined;
+      path = path_up c.up.at c.args.node i.path some;
+      same = e.lost c.if-try_fast.false ∙ i.same;
+    }

@@ -16,8 +16,16 @@ depart_at-requires g c =
     let child = e.child c.requires.place.1 in
     let p : ℕ = node_word w l c.args.slot (halved c.args.node) in
     let apart : p ≢ c.node-word.result = λ q. child.1 (child.0 ∙ q) in
-    let n = c.requires.place.2 in
-    (search rules, (c.child_add.ensures.hand.0 ∙ c.requires.here, ((c.requires.place.0, omega (arith, n)), back_has (holds c.args.hand.now) _ c.node-word.result p apart c.requires.token (c.child_add.ensures.spare c.if-child_add.true))))
+    let n = c.requires.place.2 in (
+      search rules,
+      (
+        c.child_add.ensures.hand.0 ∙ c.requires.here,
+        (
+          (c.requires.place.0, omega (arith, n)),
+          back_has (holds c.args.hand.now) _ c.node-word.result p apart c.requires.token (c.child_add.ensures.spare c.if-child_add.true),
+        ),
+      ),
+    )
 
 pub returns-then-child_add-clause-token : goal.returns-then-child_add-clause-token
 returns-then-child_add-clause-token g c =
@@ -41,7 +49,9 @@ returns-else-child_add-clause-token g c =
     let apart : p ≢ c.node-word.result = λ q. child.1 (child.0 ∙ q) in
     let h = holds c.args.hand.now in
     let k = holds c.child_add.new.hand in
-    subst (λ (j : ℕ). Moves p j h k) e.place.0 (moves_used h k c.node-word.result p apart c.requires.token (subst (λ (q : ℕ). k ≡ lose (gain h c.node-word.result) q) child.0 (c.child_add.ensures.used c.if-child_add.false)))
+    subst (λ (j : ℕ). Moves p j h k) e.place.0
+    (moves_used h k c.node-word.result p apart c.requires.token
+    (subst (λ (q : ℕ). k ≡ lose (gain h c.node-word.result) q) child.0 (c.child_add.ensures.used c.if-child_add.false)))
 
 pub returns-then-child_add-clause-steps : goal.returns-then-child_add-clause-steps
 returns-then-child_add-clause-steps g c =

@@ -9,7 +9,8 @@ unfolding total
 loop-word-init g c = refl
 
 pub loop-word-preserved : goal.loop-word-preserved
-loop-word-preserved g c = let e : c.loop-word.all ≡ total (take c.loop-word.word-index c.self.inside.words) = c.loop-word.invariant in rw e (total-more c.self.inside.words c.loop-word.word-index (omega arith))
+loop-word-preserved g c = let e : c.loop-word.all ≡ total (take c.loop-word.word-index c.self.inside.words) = c.loop-word.invariant in
+    rw e (total-more c.self.inside.words c.loop-word.word-index (omega arith))
 
 pub returns : goal.returns
 returns g c =

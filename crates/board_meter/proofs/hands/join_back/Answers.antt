@@ -1,6 +1,6 @@
 use Rattle.snzi_tree.specs.Hands.{holds}
 use Rattle.board_meter.proofs.Excess.{joined_excess}
-use Rattle.board_meter.proofs.hands.take_back.Goals as goal
+use Rattle.board_meter.proofs.hands.join_back.Goals as goal
 
 pub returns-clause-together : goal.returns-clause-together
 returns-clause-together g c =

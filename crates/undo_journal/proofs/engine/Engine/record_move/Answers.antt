@@ -8,7 +8,7 @@ use Rattle.undo_journal.specs.declared.journal.Entry.{Entry}
 use Rattle.undo_journal.specs.declared.command.Command.TheVariants.{Move}
 use Rattle.undo_journal.specs.declared.inverse.Inverse.TheVariants.{Moved}
 use Rattle.undo_journal.proofs.Histories.{recorded_is, recorded_history}
-use Rattle.undo_journal.proofs.engine.Engine.write_home.Goals as goal
+use Rattle.undo_journal.proofs.engine.Engine.record_move.Goals as goal
 
 abbrev command : (g : _) (c : goal.In_ok-push-in-Ok g) → model.Command
 command g c = model.Move c.args.path.now c.args.pid

@@ -7,7 +7,7 @@ use Rattle.pids_charge.specs.Recount.{IsWhole}
 use Rattle.process_table.specs.declared.process.Process.{Process}
 use Rattle.pids_charge.proofs.Charged.{held_small, one_there, found_placed, moved}
 use Rattle.pids_charge.proofs.Asked.{home-is, process-is, moved-is, there-is}
-use Rattle.pids_charge.proofs.charges.Charges.rehome.Goals as goal
+use Rattle.pids_charge.proofs.charges.Charges.move_back.Goals as goal
 
 pub unreachable-requires : goal.unreachable-requires
 unreachable-requires g c =
