@@ -13,7 +13,7 @@ bool adopted_add(mk_handle *engine, pid_t pid);
 int adopted_kill(mk_handle *engine, const char *group, bool alone);
 
 bool touch_begin(const char *mountpoint);
-/* The file shows itself as modified to inotify, so many times. */
+/* inotify reports the file as modified, this number of times. */
 void touch_later(const char *group, const char *name, int times);
 
 #endif

@@ -32,7 +32,7 @@ static const struct kind {
 	{ "pids.events.local", false, 0444 },
 };
 
-/* A file that is open, with the text of the last read; those of cgroup.events are told of changes. */
+/* An open file, with the text of the last read; open files of cgroup.events are notified of changes. */
 static struct opened {
 	struct opened *next;
 	char group[PATH_MAX];
@@ -53,7 +53,7 @@ static int failed(uint32_t status)
 	return status == MK_DONE ? 0 : -mk_status_errno(status, info.code);
 }
 
-/* Cuts a path into group and file; NULL where its last name is no file's. */
+/* Splits a path into group and file; NULL if its last name is not that of a file. */
 static const struct kind *cut(const char *path, char group[PATH_MAX])
 {
 	const char *name = strrchr(path, '/') + 1;

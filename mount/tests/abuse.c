@@ -1,4 +1,4 @@
-/* abuse WHAT MARK: programs that make processes in unusual ways, as fast as they can, for abuse.py. Each goes on until it is
+/* abuse WHAT MARK: programs that make processes in unusual ways, as fast as they can, for abuse.py. Each runs until it is
    killed. MARK is in the arguments of every process, so that one that is left behind is found. */
 #include "abuse.h"
 #include <linux/filter.h>
@@ -164,7 +164,7 @@ static void exec_once(void)
 	}
 }
 
-/* Many at once, so that the supervisor has many stops to answer. */
+/* Many in parallel, so that the supervisor has many stops to answer. */
 static void execs(void)
 {
 	for (int i = 0; i < 20; i++)
@@ -195,7 +195,7 @@ static void memories(void)
 	waitpid(pid, NULL, 0);
 }
 
-/* ---------------------------------------------------------------- filters and tracers of its own */
+/* ---------------------------------------------------------------- the program's own filters and tracers */
 
 static void filter(unsigned answer)
 {

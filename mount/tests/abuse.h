@@ -1,4 +1,4 @@
-/* What abuse.c and meddle.c share: each names its ways in a table, and goes on with one of them until it is killed. */
+/* Shared by abuse.c and meddle.c: each names its ways in a table, and follows one of them until it is killed. */
 #ifndef ABUSE_H
 #define ABUSE_H
 

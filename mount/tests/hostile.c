@@ -211,7 +211,7 @@ static int shared_arguments(void)
 	return 0;
 }
 
-/* ---------------------------------------------------------------- a clone3 into what is no group */
+/* ---------------------------------------------------------------- a clone3 into what is not a group */
 
 static const char *try_into(int fd)
 {

@@ -1,6 +1,6 @@
-/* load DIRECTORY CLIENTS SECONDS: so many threads use a mount at once, each a group of its own and one that all share: reads,
-   limits, moves, forks, exits, groups made and removed. Prints the operations in a second. What a client finds in its own
-   group has to be what it put there. */
+/* load DIRECTORY CLIENTS SECONDS: CLIENTS threads use a mount in parallel, each its own group and one that all share:
+   reads, limits, moves, forks, exits, groups made and removed. Prints the operations in a second. Each client has to find
+   in its own group what it put there. */
 #include <errno.h>
 #include <fcntl.h>
 #include <limits.h>

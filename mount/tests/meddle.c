@@ -1,4 +1,4 @@
-/* meddle WHAT MARK: programs that stop, freeze, move and kill processes while these fork, for abuse.py. Each goes on until it
+/* meddle WHAT MARK: programs that stop, freeze, move and kill processes while these fork, for abuse.py. Each runs until it
    is killed. They work in and below the group /abuse. */
 #include "abuse.h"
 
@@ -100,7 +100,7 @@ static void kills(void)
 	rmdir("/sys/fs/cgroup/abuse/k");
 }
 
-/* The same processes are frozen, moved and killed, by three at once. */
+/* Three programs freeze, move and kill the same processes in parallel. */
 static void freeze_any(void)
 {
 	put(dice(2) ? "/abuse/k/cgroup.freeze" : "/abuse/l/cgroup.freeze", dice(2) ? "1" : "0");

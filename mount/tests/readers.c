@@ -52,7 +52,7 @@ static void *read_on(void *unused)
 	return NULL;
 }
 
-/* So many threads read at once. */
+/* This number of threads read in parallel. */
 static int crowd(int count)
 {
 	pthread_t *threads = calloc((size_t)count, sizeof *threads);

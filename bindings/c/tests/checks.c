@@ -28,7 +28,7 @@ static bool names(size_t count, const char *bytes, size_t len) {
 
 #define CHECK(holds) do { checks++; if (!(holds)) { fprintf(stderr, "line %d: %s\n", __LINE__, #holds); return checks; } } while (0)
 
-/* a refusal for want of room leaves the engine as deep as it was */
+/* a refusal because of a small buffer leaves the depth of the engine unchanged */
 static bool kept(size_t depth) {
     size_t now = depth + 1;
     return mk_depth(&h, &now) == MK_DONE && now == depth;
@@ -82,7 +82,7 @@ static int small_buffers(void) {
     CHECK(ask("mkdir b", 5) == MK_TOO_SMALL);
     CHECK(mk_undo(&h, 7, out, 10, &info) == MK_TOO_SMALL && kept(5));
     CHECK(ask("mkdir /b", 5) == MK_DONE && says("7 ok\n") && kept(6));
-    /* a refused fork is counted and recorded, but not where its answer has no room */
+    /* a refused fork is counted and recorded, but not if its answer does not fit */
     CHECK(ask("write /a pids.max 1", sizeof out) == MK_DONE && kept(7));
     CHECK(ask("fork 2 3", 10) == MK_TOO_SMALL && kept(7));
     CHECK(ask("cat /a pids.events", sizeof out) == MK_DONE && says("7 ok\n| max 0\n"));

@@ -142,7 +142,7 @@ static int closed_while_waiting(void) {
     return 0;
 }
 
-/* A child of a fork has no threads that wait: its own calls and waits go on. */
+/* A child of a fork has no waiting threads: its own calls and waits work. */
 static int forked_while_waiting(void) {
     struct waiter waiter = {.seen = 0};
     pthread_t thread;
@@ -198,7 +198,7 @@ static int failing(void) {
     CHECK(done(mk_fail(&h, "/a", 1, EIO, &info)) && failed(mk_line(&h, 1, (const uint8_t *)" mkdir\t/a", 9, out, sizeof out, &info), EIO));
     CHECK(done(mk_fail(&h, "/a", 1, EIO, &info)) && failed(mk_put(&h, "/a", "pids.max", "5", 1, 1, &info), EIO));
     CHECK(mk_depth(&h, &after) == MK_DONE && after == before && reads("/a", "pids.max", "max\n"));
-    /* what is no call that names the path, and a call that is made again with more room */
+    /* a call that does not name the path, and a call that is made again with a larger buffer */
     CHECK(done(mk_fail(&h, "/a", 2, EIO, &info)) && mk_line(&h, 1, (const uint8_t *)"# /a", 4, out, sizeof out, &info) == MK_SKIPPED);
     CHECK(done(mk_mkdir(&h, "/a/x", &info)) && mk_children(&h, (const uint8_t *)"/a", 2, out, 1, &info) == MK_TOO_SMALL);
     CHECK(mk_children(&h, (const uint8_t *)"/a", 2, out, sizeof out, &info) == MK_DONE && failed(mk_children(&h, (const uint8_t *)"/a", 2, out, sizeof out, &info), EIO));
@@ -206,7 +206,7 @@ static int failing(void) {
     CHECK(mk_read(&h, "/a", "pids.max", text, 5, &info) == MK_DONE && failed(mk_read(&h, "/a", "pids.max", text, 5, &info), EIO));
     CHECK(done(mk_fail(&h, "/", 2, EIO, &info)) && mk_processes(&h, "/", pids, 0, &info) == MK_TOO_SMALL && info.needed == 1);
     CHECK(done(mk_processes(&h, "/", pids, 1, &info)) && info.count == 1 && pids[0] == 1 && failed(mk_processes(&h, "/", pids, 1, &info), EIO));
-    /* the root, a group that is not there, two faults at once */
+    /* the root, a group that does not exist, two faults due at one call */
     CHECK(done(mk_fail(&h, "/", 1, EACCES, &info)) && failed(mk_read(&h, "/", "cgroup.procs", text, sizeof text, &info), EACCES));
     CHECK(done(mk_fail(&h, "/none", 1, EIO, &info)) && failed(mk_rmdir(&h, "/none", &info), EIO));
     CHECK(done(mk_fail(&h, "/a", 1, EIO, &info)) && done(mk_fail(&h, "/a", 1, ENOSPC, &info)) && done(mk_fail(&h, "/b", 7, EIO, &info)));

@@ -75,8 +75,8 @@ static bool forget_some(mk_handle *h) {
     return mk_depth(h, &depth) == MK_DONE && depth == 1000 && mk_forget(h) == MK_DONE && mk_depth(h, &depth) == MK_DONE && depth == 0;
 }
 
-/* How much memory a million commands take that are forgotten thousand by thousand, beside the first thousand; -1 if a call
-   fails. A million records take more than 100,000,000 bytes. */
+/* How much more memory a million commands take that are forgotten thousand by thousand, than the first thousand; -1 if a
+   call fails. A million records take more than 100,000,000 bytes. */
 static long grown(void) {
     mk_handle h = {0};
     if (mk_open(&h) != MK_DONE || !forget_some(&h)) return -1;

@@ -33,7 +33,7 @@ static uint32_t ask(const char *line) { return mk_line(&h, 1, (const uint8_t *)l
 static const char *const files[] = {"cgroup.procs", "cgroup.events", "cgroup.stat", "cgroup.max.depth", "cgroup.max.descendants",
                                     "pids.max", "pids.current", "pids.peak", "pids.events", "pids.events.local"};
 
-/* everything that is told of some groups, and the depth */
+/* everything that the library returns of some groups, and the depth */
 static void tell(void) {
     static const char *const groups[] = {"/", "/a", "/a/b", "/a-group-with-a-long-name-that-takes-memory"};
     char line[256];
@@ -51,7 +51,7 @@ static void tell(void) {
     told_len += sizeof depth;
 }
 
-/* the same as it was told last */
+/* the same as it returned last */
 static bool is_kept(void) {
     static uint8_t before[sizeof told];
     size_t len = told_len;

@@ -71,7 +71,7 @@ static void run_threads(void *(*body)(void *), double seconds) {
     for (int i = 0; i < THREADS; i++) CHECK(pthread_join(threads[i], NULL) == 0);
 }
 
-/* ---- each thread in a group of its own: it alone changes the group, so it knows each answer */
+/* ---- each thread has its own group: only this thread changes the group, so it knows each answer */
 
 static void one_round(struct asked *it, int own, int pid) {
     char want[64];
@@ -109,7 +109,7 @@ static void *own_group(void *number) {
 
 static void own(double seconds) { run_threads(own_group, seconds); }
 
-/* ---- anything at once: undoing all of it must give back the start */
+/* ---- anything in parallel: undoing all of it must restore the start */
 
 static void *anything(void *number) {
     struct asked it;
@@ -264,7 +264,7 @@ static void copying(double seconds) {
     }
 }
 
-/* ---- a handler that calls while a call of its own thread is running */
+/* ---- a handler that calls while a call of the same thread is running */
 
 static atomic_long busy, answered;
 static pthread_t interrupted;
