@@ -22,7 +22,7 @@ pub fn undos_are_dropped()
         ≡ forgotten (after_all slots (filter (λ c. not (is_undo c)) (commands_in lines))) }
 {}
 
-/// Without one, behind any lines, an undo is answered as with an empty history; and any other command as behind the same
+/// Without one, after any lines, an undo is answered as with an empty history; and any other command as after the same
 /// lines without their undos.
 pub fn each_answer()
     ensures undo { (lines : List Line) → answers_by false start_point (lines ++ Run Undo ∷ [])

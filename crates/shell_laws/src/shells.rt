@@ -59,7 +59,7 @@ pub fn what_is_out_at_a_failed_read()
         × HasNoFeed line × (after ≡ Some (before ++ output_of history lines)) × (flushed ≡ true) }
 {}
 
-/// What a strict shell leaves, a shell may leave, unless it stopped behind a line that is not a command.
+/// What a strict shell leaves, a shell may leave, unless it stopped after a line that is not a command.
 pub fn a_strict_shell_is_a_shell()
     ensures { (how : Options) (left rest before after : Option (List ℕ)) (read_failed write_failed flushed : Bool) (r : Result Summary ShellFault)
         → ShelledBy how left rest read_failed before after write_failed flushed r → (r ≡ Err fault.NotACommand → ⊥)

@@ -86,7 +86,7 @@ read_ended how start left later before taken read_failed failed flushed now line
       ),
     )
 
--- ---- behind whole lines
+-- ---- after whole lines
 
 -- some more lines were answered, and their output is out
 record StoppedAt (how : Options) (start left before after : Option (List ℕ)) (read_failed failed flushed : Bool) (new : Point) (lines more : List ℕ) : Type 0 where
@@ -133,7 +133,7 @@ cut_off how start left before taken after read_failed failed failed2 flushed now
 strictly : (how : Options) (lines : List ℕ) → how.is_strict ≡ true → IsClean how.is_strict lines → HasCommandsOnly lines
 strictly how lines e c = subst (λ b. IsClean b lines) e c
 
--- a strict shell stopped behind a line with its line feed
+-- a strict shell stopped after a line with its line feed
 struck : (how : Options) (start left before taken after : Option (List ℕ)) (read_failed failed failed2 flushed flushed2 : Bool) (now : Point) (lines line pending out : List ℕ)
     → Stands how start left before taken failed flushed now lines line pending → (h : IsStruck how now (line ++ pending) out) → IsOut taken out after failed2 flushed2 → read_failed ≡ false
     → IsBarred how.keeps_history start before after read_failed failed2 flushed2
@@ -205,7 +205,7 @@ input_of : (how : Options) (start left before taken : Option (List ℕ)) (failed
     → Stands how start left before taken failed flushed now lines line [] → IsAtEnd left → IsInput start (lines ++ line)
 input_of how start left before taken failed flushed now lines line s e = all_read start left (lines ++ line) (subst (λ x. Consumes start left (lines ++ x)) (append-nil line) s.read) e
 
--- nothing was written behind whole lines
+-- nothing was written after whole lines
 last_stopped : (how : Options) (start left before taken after : Option (List ℕ)) (read_failed failed failed2 flushed flushed2 : Bool) (now : Point) (lines line : List ℕ)
     → Stands how start left before taken failed flushed now lines line [] → IsOut taken [] after failed2 flushed2 → read_failed ≡ false → IsStopped how.keeps_history start before after read_failed failed2 flushed2 lines
 last_stopped how start left before taken after read_failed failed failed2 flushed flushed2 now lines line s o r = record {

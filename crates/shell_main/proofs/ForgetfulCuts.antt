@@ -1,4 +1,4 @@
--- Lines in two parts, with a history or without: the answers and the state behind the second go on from where the first leaves them.
+-- Lines in two parts, with a history or without: the answers and the state after the second continue from where the first leaves them.
 use Rattle.std.proofs.Common.{◌≡◌, ◌∙◌, ◌+◌, Bool, true, false, List, [], ◌∷◌, ◌++◌, append_assoc, append-nil, refl, sym, ap, arith}
 use Rattle.flat_model.proofs.Sums.{count_by-cons}
 use Rattle.flat_model.specs.Replies.{command_count, is_numbered}

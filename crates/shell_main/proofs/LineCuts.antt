@@ -1,4 +1,4 @@
--- A trace cut behind a line feed: its lines come in two parts.
+-- A trace cut after a line feed: its lines come in two parts.
 use Rattle.std.proofs.Common.{◌≡◌, ◌∙◌, ℕ, ◌≤◌, Bool, true, false, cond, List, [], ◌∷◌, ◌++◌, map, length, ◌==◌, append_assoc, refl, sym, ap, subst}
 use Rattle.std.specs.List.{All, slice_split, onto_first}
 use Rattle.std.proofs.lemmas.List.{map-append}
@@ -9,7 +9,7 @@ use Rattle.shell_main.specs.WholeLines.{HasNoFeed, HasShortLines, ends_line}
 
 -- ---- two texts, of which the first ends with a line
 
--- a text of whole lines is cut into pieces of which the last is empty, and whatever stands behind it is cut alone
+-- a text of whole lines is cut into pieces of which the last is empty, and whatever comes after it is cut alone
 record Pieces (text rest : List ℕ) : Type 0 where
   first : List ℕ
   more : List (List ℕ)

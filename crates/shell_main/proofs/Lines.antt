@@ -75,7 +75,7 @@ said how old now new bytes line more out out2 u a l w =
       output = w.1 ∙ ap (λ x. x ++ answers_on now (read_line line ∷ [])) a.output ∙ sym (answers_more how.keeps_history old now a.text line text one a.point);
     }
 
--- it is not: no number was left, or out of memory; or a strict shell stops behind it
+-- it is not: no number was left, or out of memory; or a strict shell stops after it
 pub say_halts : (fault : ShellFault) (how : Options) (old now new : Point) (bytes line more out out2 : List ℕ) → Answered how old bytes (line ++ 0x0A ∷ more) out now → IsUnended line → Says how now (read_line line) out out2 (Err fault) new
     → Halts how old bytes out2 fault
 say_halts Read how old now new bytes line more out out2 a l w = absurd w

@@ -32,7 +32,7 @@ stops InputTooLong how old bytes out before after failed flushed u h w = (out, (
 stops OutOfMemory how old bytes out before after failed flushed u h w = (out, (h, record { written = w.2; good = w.0; is_out = w.1 }))
 stops NotACommand how old bytes out before after failed flushed u h w = (out, (h, record { written = w.2; good = w.0; is_out = w.1 }))
 
--- a write failed behind lines that are answered
+-- a write failed after lines that are answered
 unsent : (how : Options) (old new : Point) (bytes more out : List ℕ) (before after : Option (List ℕ)) (failed flushed : Bool) (e : DeviceFault)
     → Answered how old bytes more out new → WholeWrite before out after failed flushed (Err e) → IsCutOff how.keeps_history old bytes before after failed
 unsent how old new bytes more out before after failed flushed e a w = record {

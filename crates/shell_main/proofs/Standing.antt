@@ -87,7 +87,7 @@ came how start left later before taken failed flushed now lines line bytes s c =
   is_out = s.is_out;
 }
 
--- what was read, cut behind lines that are answered
+-- what was read, cut after lines that are answered
 pub read_cut : (start left : Option (List ℕ)) (lines bytes text more : List ℕ) → Consumes start left (lines ++ bytes) → bytes ≡ text ++ more → Consumes start left ((lines ++ text) ++ more)
 read_cut start left lines bytes text more c e = subst (Consumes start left) (ap (λ x. lines ++ x) e ∙ sym (append_assoc lines text more)) c
 

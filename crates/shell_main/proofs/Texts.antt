@@ -1,4 +1,4 @@
--- Two texts of whole lines, one behind the other: their lines, their answers, and the point behind them.
+-- Two texts of whole lines, one after the other: their lines, their answers, and the point after them.
 use Rattle.std.proofs.Common.{◌≡◌, ◌∙◌, ℕ, ◌≤◌, Bool, true, false, List, [], ◌∷◌, ◌++◌, length, sym, ap, subst}
 use Rattle.std.specs.List.{All}
 use Rattle.std.proofs.lemmas.List.Elements.{All-append, All-cons, All-nil}
@@ -38,7 +38,7 @@ clean_more true lines line text one c p =
     let P : Line → Type 0 = λ l. is_fault l ≡ false in
     subst (All P) (sym one.reads) (All-append P (read_trace lines) (read_line line ∷ []) c (All-cons P (read_line line) [] p (All-nil P)))
 
--- the point behind both
+-- the point after both
 pub point_both : (history : Bool) (old now new : Point) (a b : List ℕ) → ends_line a ≡ true → now ≡ after_by history old (read_trace a) → new ≡ after_by history now (read_trace b) → new ≡ after_by history old (read_trace (a ++ b))
 point_both history old now new a b e p n =
     n ∙ ap (λ q. after_by history q (read_trace b)) p ∙ sym (after_by_cut history old (read_trace a) (read_trace b)) ∙ ap (after_by history old) (sym (trace_cut a b e))

@@ -3,7 +3,7 @@ use Rattle.std.specs.Prelude.{ℕ, Bool, true, false, List, [], ◌∷◌, ◌++
 use Rattle.flat_model.specs.Trace.{Line, read_trace}
 use Rattle.replay_main.specs.Points.{Point, answers_on, point_after, start_point, without_past}
 
--- what stays behind a line: everything with a history, all but the past without one
+-- what remains after a line: everything with a history, all but the past without one
 abbrev pub remembered : Bool → Point → Point
 remembered true p = p
 remembered false p = without_past p

@@ -40,7 +40,7 @@ Ran words left rest read_failed before after write_failed flushed (Err (Shell fa
 Ran words left rest read_failed before after write_failed flushed (Err Open) = ⊥
 Ran words left rest read_failed before after write_failed flushed (Err ClosedPipe) = ⊥
 
--- a failed write to a closed pipe is a fault of its own
+-- a failed write to a closed pipe is a separate fault
 abbrev pub told_apart : Bool → Result (Unit {0}) ProgramFault → Result (Unit {0}) ProgramFault
 told_apart true (Err (Shell shell.Write)) = Err ClosedPipe
 told_apart true outcome = outcome

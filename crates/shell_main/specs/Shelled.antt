@@ -66,7 +66,7 @@ pub record IsBroken (history : Bool) (left before after : Option (List ℕ)) (re
   pub good_reads : read_failed ≡ false
   pub bad_write : write_failed ≡ true
 
--- A line with its line feed is at the front of what the source had, behind these lines; or it is the last and has none.
+-- A line with its line feed is at the front of what the source had, after these lines; or it is the last and has none.
 abbrev pub IsNextLine : Option (List ℕ) → List ℕ → List ℕ → List ℕ → Type 0
 IsNextLine left lines line text = ((text ≡ lines ++ (line ++ 0x0A ∷ [])) × BeginsWith left text) ⊎ ((text ≡ lines ++ line) × IsInput left text)
 
@@ -95,7 +95,7 @@ Shelled history left rest read_failed before after write_failed flushed (Err Inp
 Shelled history left rest read_failed before after write_failed flushed (Err OutOfMemory) = (lines : List ℕ) × IsStopped history left before after read_failed write_failed flushed lines
 Shelled history left rest read_failed before after write_failed flushed (Err NotACommand) = ⊥
 
--- The same by its options: a strict shell stops behind the first line that is not a command, so there is none in what it answered before.
+-- The same by its options: a strict shell stops after the first line that is not a command, so there is none in what it answered before.
 abbrev pub ShelledBy : Options → Option (List ℕ) → Option (List ℕ) → Bool → Option (List ℕ) → Option (List ℕ) → Bool → Bool → Result Summary ShellFault → Type 0
 ShelledBy how left rest read_failed before after write_failed flushed (Ok summary) = (served : IsServed how.keeps_history left before after read_failed write_failed flushed summary) × IsClean how.is_strict served.trace
 ShelledBy how left rest read_failed before after write_failed flushed (Err Read) = (read_failed ≡ true) × ((lines line : List ℕ) × NothingOwed how.keeps_history left rest before after write_failed flushed lines line × IsClean how.is_strict lines)

@@ -14,7 +14,7 @@ use Rattle.shell_main.specs.WholeLines.{HasNoFeed, HasShortLines, IsClean, ends_
 
 -- ---- one line
 
--- a strict shell goes on behind this line; any other shell does behind every line
+-- a strict shell continues after this line; any other shell does after every line
 abbrev pub IsPassed : Bool → Line → Type 0
 IsPassed false line = Unit {0}
 IsPassed true line = is_fault line ≡ false
@@ -44,7 +44,7 @@ pub record IsUnended (line : List ℕ) : Type 0 where
 
 -- ---- some lines
 
--- Whole lines at the front of these bytes are answered, from a state to a state; `more` is behind them, and `out` is their output.
+-- Whole lines at the front of these bytes are answered, from a state to a state; `more` is after them, and `out` is their output.
 pub record Answered (how : Options) (old : Point) (bytes more out : List ℕ) (new : Point) : Type 0 where
   pub text : List ℕ
   pub is_front : bytes ≡ text ++ more
@@ -54,7 +54,7 @@ pub record Answered (how : Options) (old : Point) (bytes more out : List ℕ) (n
   pub point : new ≡ after_by how.keeps_history old (read_trace text)
   pub output : out ≡ answers_by how.keeps_history old (read_trace text)
 
--- The line behind those is not a command: a strict shell has answered it, and stops.
+-- The line after those is not a command: a strict shell has answered it, and stops.
 pub record IsStruck (how : Options) (old : Point) (bytes out : List ℕ) : Type 0 where
   pub line : List ℕ
   pub more : List ℕ
@@ -93,7 +93,7 @@ pub record IsCutOff (history : Bool) (old : Point) (bytes : List ℕ) (before af
   pub written : TakesFront before (answers_by history old (read_trace text)) rest after
   pub bad : failed ≡ true
 
--- whole lines at the front of these bytes are answered, and their output is out; a line that has not ended and the rest are behind them
+-- whole lines at the front of these bytes are answered, and their output is out; a line that has not ended and the rest are after them
 pub record GoesOn (how : Options) (old : Point) (bytes : List ℕ) (before after : Option (List ℕ)) (failed flushed : Bool) (new : Point) (line rest : List ℕ) : Type 0 where
   pub out : List ℕ
   pub answered : Answered how old bytes (line ++ rest) out new

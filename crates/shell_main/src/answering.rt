@@ -15,7 +15,7 @@ use std::alloc::{AllocError, Global};
 const OUTPUT_MAX: usize = 65_536;
 
 /// Answers lines that end in these bytes, then writes their output and flushes it, once. Also the lines before one that
-/// can't be answered get their output. Returns the bytes behind these lines: there are some if the output got long.
+/// can't be answered get their output. Returns the bytes after these lines: there are some if the output got long.
 pub(crate) fn answer_some<'a, W: Sink>(
     alloc: Global,
     options: Options,

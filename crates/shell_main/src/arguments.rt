@@ -37,7 +37,7 @@ pub(crate) fn read_arguments<'a>(alloc: Global, args: &'a [String]) -> Result<As
     read_words(alloc, without_name(args))
 }
 
-/// Reads the words behind the name of the program.
+/// Reads the words after the name of the program.
 fn read_words<'a>(alloc: Global, words: &'a [String]) -> Result<Ask<'a>, LineFault>
     ensures { Asks (map string_bytes words.entry.now) result }
 {
@@ -73,7 +73,7 @@ pub fn input_file<'a>(alloc: Global, args: &'a [String]) -> Result<Option<&'a st
     }
 }
 
-/// The first of the arguments, behind the name of the program, with which the words up to it are a bad command line.
+/// The first of the arguments, after the name of the program, with which the words up to it are a bad command line.
 pub fn bad_word<'a>(alloc: Global, args: &'a [String]) -> Option<&'a str>
     ensures { IfSome result (λ word. (n : ℕ)
         × (slice_get (map string_bytes (drop 1 args.entry.now)) n ≡ Some word.now)
@@ -114,7 +114,7 @@ fn program<'a>(alloc: Global) -> Result<Command<'a>, AllocError>
     let strict = Arg::new(alloc, "strict")
         .long("strict")
         .action(ArgAction::SetTrue)
-        .help("Stops behind the first line that is not a command, with status 1");
+        .help("Stops after the first line that is not a command, with status 1");
     let no_undo = Arg::new(alloc, "no-undo")
         .long("no-undo")
         .action(ArgAction::SetTrue)

@@ -8,7 +8,7 @@
 //! - A fault of a shell says what failed. Before each fault but `Write`, exactly the output for whole lines was written;
 //!   before `Write`, a prefix of the output. A line of more than `TRACE_MAX` bytes is too long. Out of memory ends the
 //!   shell.
-//! - `strict_shell` also stops behind the first line that is not a command; its answer is the last output.
+//! - `strict_shell` also stops after the first line that is not a command; its answer is the last output.
 //! - `shell_by` takes both options. Without a history each `undo` has nothing to undo, and any other line is answered as if
 //!   the undos before it were not there.
 //! - `run_program` does what the program's arguments request: a shell, or the help text or the version. `exit_status` is the

@@ -44,11 +44,11 @@ pub fn shell<R: Threads + Wait + Sync, S: Source, W: Sink>(
     shell_by(rt, alloc, options, reader, writer)
 }
 
-/// As `shell`, but stops behind the first line that is neither a command nor skipped.
+/// As `shell`, but stops after the first line that is neither a command nor skipped.
 ///
 /// # Errors
 ///
-/// Those of `shell`. `NotACommand` behind such a line: its answer, and those of the lines before it, are all that was
+/// Those of `shell`. `NotACommand` after such a line: its answer, and those of the lines before it, are all that was
 /// written, and flushed.
 pub fn strict_shell<R: Threads + Wait + Sync, S: Source, W: Sink>(
     rt: &R,

@@ -41,7 +41,7 @@ fn a_failing_read(rt: HostRuntime) {
 }
 
 /// The room, how many flushes succeed, the result, and how many bytes are written. There is one
-/// flush before the first read, one behind the five lines that end, and one behind the last.
+/// flush before the first read, one after the five lines that end, and one after the last.
 const WRITES: [(usize, usize, Result<Summary, ShellFault>, usize); 8] = [
     (0, 9, Err(ShellFault::Write), 0),
     (7, 9, Err(ShellFault::Write), 7),

@@ -20,7 +20,7 @@ fn owned(alloc: Global, words: &[&str]) -> Result<Vec<String>, AllocError> {
 const BAD: Result<(), ProgramFault> = Err(ProgramFault::Line(LineFault::Bad));
 
 const HELP: &[u8] =
-    b"Answers each line of a trace before it waits for the next\n\nUsage: cgshell [OPTIONS] [FILE]\n\nArguments:\n  [FILE]  Reads the lines of this file instead of standard input\n\nOptions:\n      --strict   Stops behind the first line that is not a command, with status 1\n      --no-undo  Keeps no history: nothing can be undone, and no record takes memory\n  -h, --help     Print help\n  -V, --version  Print version\n";
+    b"Answers each line of a trace before it waits for the next\n\nUsage: cgshell [OPTIONS] [FILE]\n\nArguments:\n  [FILE]  Reads the lines of this file instead of standard input\n\nOptions:\n      --strict   Stops after the first line that is not a command, with status 1\n      --no-undo  Keeps no history: nothing can be undone, and no record takes memory\n  -h, --help     Print help\n  -V, --version  Print version\n";
 
 const VERSION: &[u8] = b"cgshell 1.0.0\n";
 
@@ -63,7 +63,7 @@ fn programs(rt: HostRuntime) -> Result<(), Fail> {
     Ok(())
 }
 
-/// The words behind the name, the file that they name, and the first word that can't be understood.
+/// The words after the name, the file that they name, and the first word that can't be understood.
 const WORDS: [(&[&str], Result<Option<&str>, LineFault>, Option<&str>); 12] = [
     (&[], Ok(None), None),
     (&["--no-undo"], Ok(None), None),

@@ -1,4 +1,4 @@
-//! A strict shell: it stops behind the first line that is not a command.
+//! A strict shell: it stops after the first line that is not a command.
 
 use replay_main::MemorySink;
 use shell_main::{ShellFault, strict_shell};
