@@ -1,26 +1,24 @@
 //! Reading a file of a group.
 
-ghost use Rattle.std.specs.Prelude.{◌≡◌, ◌≢◌, IfOk, MatchOption, None, OnErr, true};
-ghost use Rattle.flat_model.specs.Command.{Show};
+ghost use Rattle.std.specs.Prelude.{◌≡◌, ◌&&◌, not};
 ghost use Rattle.flat_model.specs.Counts.{is_group};
-ghost use Rattle.flat_model.specs.File.{Procs, readable};
-ghost use Rattle.flat_model.specs.FileText.{file_text};
-ghost use Rattle.flat_model.specs.Step.{refusal};
+ghost use Rattle.flat_model.specs.File.{on_root, readable};
+ghost use Rattle.flat_model.specs.Path.{is_root};
 ghost use Rattle.interface_files.specs.FileMeaning.{file_of};
 ghost use Rattle.interface_files.specs.Shown.{Shows};
 
-use crate::fault::ShowFault;
+use crate::fault::ShowFault::{self, NoGroup};
 use crate::file::File;
 use crate::texts::{events_line, limit_line, number_line, pids_text, populated_text, stat_text};
 use group_path::GroupPath;
 use pids_charge::{Charges, Meter};
-use std::alloc::{AllocError, Allocator};
+use std::alloc::Allocator;
 
 /// The text of a file of the group at the path. It changes nothing; it borrows the charges mutably because reading a meter
 /// requires it.
 ///
-/// `cgroup.procs` costs O(n log n) for n processes of the group. Every other file costs one descent of the tree, and a
-/// refusal two, however many groups and processes there are.
+/// `cgroup.procs` costs O(n log n) for n processes of the group. Every other file, and every refusal, costs one descent of
+/// the tree, however many groups and processes there are.
 ///
 /// # Errors
 ///
@@ -35,81 +33,41 @@ pub fn render<A: Allocator + Clone, M: Meter, B: Allocator + Clone, P: Allocator
     ensures shown { Shows M.SLOTS charges.old path.now (file_of file) result }
     ensures kept { charges.new ≡ charges.old }
 {
-    if !file.readable() {
-        return Err(ShowFault::NotReadable);
+    if is_missing(charges, path, file) {
+        return Err(ShowFault::NoFile);
     }
-    match text_of(alloc, charges, path, file) {
-        Ok(Some(text)) => Ok(text),
-        Ok(None) if charges.attr(path).is_none() => Err(ShowFault::NoGroup),
-        Ok(None) => Err(ShowFault::NoFile),
-        Err(_) => Err(ShowFault::OutOfMemory),
-    }
-}
-
-// The text of a readable file; None if there is no such group, or if it is the root and lacks the file.
-fn text_of<A: Allocator + Clone, M: Meter, B: Allocator + Clone, P: Allocator + Clone>(
-    alloc: B,
-    charges: &mut Charges<A, M>,
-    path: &GroupPath<P>,
-    file: File,
-) -> Result<Option<Vec<u8, B>>, AllocError>
-    requires { readable (file_of file) ≡ true }
-    ensures text { IfOk result (λ o. MatchOption o (refusal M.SLOTS charges.old (Show path.now (file_of file)) ≢ None)
-        (λ text. (refusal M.SLOTS charges.old (Show path.now (file_of file)) ≡ None)
-        × (text.items ≡ file_text charges.old path.now (file_of file)))) }
-    ensures out_of_memory { OnErr result (refusal M.SLOTS charges.old (Show path.now (file_of file)) ≡ None) }
-    ensures kept { charges.new ≡ charges.old }
-{
     match file {
-        File::Events => match charges.populated(path) {
-            Some(populated) => Ok(Some(populated_text(alloc, populated)?)),
-            None => Ok(None),
-        },
-        File::PidsCurrent => match charges.current(path) {
-            Some(current) => Ok(Some(number_line(alloc, current)?)),
-            None => Ok(None),
-        },
-        File::Stat => match charges.descendants(path) {
-            Some(below) => Ok(Some(stat_text(alloc, below)?)),
-            None => Ok(None),
-        },
-        File::Procs => match charges.attr(path) {
-            Some(_) => Ok(Some(procs_text(alloc, charges, path)?)),
-            None => Ok(None),
-        },
-        _ => {
-            let Some(found) = charges.attr(path) else {
-                return Ok(None);
-            };
-            let attr = *found;
-            if path.depth() == 0 && !file.on_root() {
-                return Ok(None);
-            }
-            let text = match file {
-                File::MaxDescendants => limit_line(alloc, attr.limits.descendants)?,
-                File::MaxDepth => limit_line(alloc, attr.limits.depth)?,
-                File::PidsMax => limit_line(alloc, attr.limits.pids)?,
-                File::PidsPeak => number_line(alloc, attr.peak)?,
-                File::PidsEvents => events_line(alloc, attr.total)?,
-                File::PidsEventsLocal => events_line(alloc, attr.local)?,
-                _ => unreachable!(),
-            };
-            Ok(Some(text))
+        File::KillFile => Err(ShowFault::NotReadable),
+        File::Procs => {
+            charges.attr(path).ok_or(NoGroup)?;
+            let pids = charges.members(alloc.clone()?, path)?.ok_or(NoGroup)?;
+            Ok(pids_text(alloc, pids.as_slice())?)
         }
+        File::Events => Ok(populated_text(alloc, charges.populated(path).ok_or(NoGroup)?)?),
+        File::Stat => Ok(stat_text(alloc, charges.descendants(path).ok_or(NoGroup)?)?),
+        File::MaxDescendants => {
+            let attr = charges.attr(path).ok_or(NoGroup)?;
+            Ok(limit_line(alloc, attr.limits.descendants)?)
+        }
+        File::MaxDepth => Ok(limit_line(alloc, charges.attr(path).ok_or(NoGroup)?.limits.depth)?),
+        File::PidsMax => Ok(limit_line(alloc, charges.attr(path).ok_or(NoGroup)?.limits.pids)?),
+        File::PidsCurrent => Ok(number_line(alloc, charges.current(path).ok_or(NoGroup)?)?),
+        File::PidsPeak => Ok(number_line(alloc, charges.attr(path).ok_or(NoGroup)?.peak)?),
+        File::PidsEvents => Ok(events_line(alloc, charges.attr(path).ok_or(NoGroup)?.total)?),
+        File::PidsEventsLocal => Ok(events_line(alloc, charges.attr(path).ok_or(NoGroup)?.local)?),
     }
 }
 
-// The processes of a group.
-fn procs_text<A: Allocator + Clone, M: Meter, B: Allocator + Clone, P: Allocator + Clone>(
-    alloc: B,
+// Whether the file could be read, and the group exists, but is the root and lacks the file.
+fn is_missing<A: Allocator + Clone, M: Meter, P: Allocator + Clone>(
     charges: &Charges<A, M>,
     path: &GroupPath<P>,
-) -> Result<Vec<u8, B>, AllocError>
-    requires { is_group charges.now path.now ≡ true }
-    ensures { IfOk result (λ text. text.items ≡ file_text charges.now path.now Procs) }
+    file: File,
+) -> bool
+    ensures { result ≡ (readable (file_of file) && not (on_root (file_of file)) && (is_root path.now && is_group charges.now path.now)) }
 {
-    let Some(pids) = charges.members(alloc.clone()?, path)? else {
-        unreachable!()
-    };
-    pids_text(alloc, pids.as_slice())
+    if !file.readable() || file.on_root() {
+        return false;
+    }
+    path.depth() == 0 && charges.attr(path).is_some()
 }

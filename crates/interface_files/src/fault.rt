@@ -1,5 +1,9 @@
 //! Why a value is refused, and why a file is not shown.
 
+ghost use Rattle.std.specs.Prelude.{◌≡◌};
+ghost use Rattle.interface_files.specs.declared.fault.ShowFault.TheVariants.{OutOfMemory};
+
+use std::alloc::AllocError;
 use thiserror::Error;
 
 /// Why a text is not a value of a file.
@@ -37,4 +41,12 @@ pub enum ShowFault {
     /// The process does not exist.
     #[error("there is no such process")]
     NoProcess,
+}
+
+impl From<AllocError> for ShowFault {
+    ghost from_gives = { λ _ fault. fault ≡ OutOfMemory };
+
+    fn from(_error: AllocError) -> ShowFault {
+        ShowFault::OutOfMemory
+    }
 }

@@ -1,9 +1,12 @@
 //! The interface files of a group: their names, which groups have them, and which can be read or written.
 
 ghost use Rattle.std.specs.Prelude.{◌≡◌, find, option_map};
-ghost use Rattle.flat_model.specs.File.{file_name, file_named, on_root, readable, writable};
+ghost use Rattle.flat_model.specs.File.{file_name, file_named, on_root, readable, value_kind, writable};
 ghost use Rattle.flat_model.specs.Path.{same_name};
-ghost use Rattle.interface_files.specs.FileMeaning.{file_of};
+ghost use Rattle.interface_files.specs.FileMeaning.{file_of, kind_of};
+
+use crate::file::Written::{Kill, Limit, Pid};
+use group_tree::LimitFile::{self, MaxDepth, MaxDescendants, PidsMax};
 
 /// An interface file of a group (admin-guide, "Core Interface Files" and "PID Interface Files").
 #[derive(Clone, Copy, Debug, PartialEq, Eq)]
@@ -30,6 +33,17 @@ pub enum File {
     PidsEvents,
     /// `pids.events.local`: how many forks the group's own `pids.max` has refused. The root has none.
     PidsEventsLocal,
+}
+
+/// What can be written to a file.
+#[derive(Clone, Copy, Debug, PartialEq, Eq)]
+pub enum Written {
+    /// A pid.
+    Pid,
+    /// A limit of the group.
+    Limit(LimitFile),
+    /// `1`, the only value of `cgroup.kill`.
+    Kill,
 }
 
 /// All interface files.
@@ -68,42 +82,59 @@ impl File {
         first_named(&FILES, name)
     }
 
+    // The table of the files: the name, whether the root has the file, whether it can be read, and what can be written.
+    fn row(self) -> (&'static [u8], bool, bool, Option<Written>)
+        ensures name { result.0.now ≡ file_name (file_of self) }
+        ensures root { result.1 ≡ on_root (file_of self) }
+        ensures read { result.2 ≡ readable (file_of self) }
+        ensures written { option_map kind_of result.3 ≡ value_kind (file_of self) }
+    {
+        match self {
+            File::Procs => (b"cgroup.procs", true, true, Some(Pid)),
+            File::Events => (b"cgroup.events", false, true, None),
+            File::Stat => (b"cgroup.stat", true, true, None),
+            File::MaxDescendants => (
+                b"cgroup.max.descendants",
+                true,
+                true,
+                Some(Limit(MaxDescendants)),
+            ),
+            File::MaxDepth => (b"cgroup.max.depth", true, true, Some(Limit(MaxDepth))),
+            File::KillFile => (b"cgroup.kill", false, false, Some(Kill)),
+            File::PidsMax => (b"pids.max", false, true, Some(Limit(PidsMax))),
+            File::PidsCurrent => (b"pids.current", false, true, None),
+            File::PidsPeak => (b"pids.peak", false, true, None),
+            File::PidsEvents => (b"pids.events", false, true, None),
+            File::PidsEventsLocal => (b"pids.events.local", false, true, None),
+        }
+    }
+
     /// The name of the file.
     pub fn name(self) -> &'static [u8]
         ensures { result.now ≡ file_name (file_of self) }
     {
-        match self {
-            File::Procs => b"cgroup.procs",
-            File::Events => b"cgroup.events",
-            File::Stat => b"cgroup.stat",
-            File::MaxDescendants => b"cgroup.max.descendants",
-            File::MaxDepth => b"cgroup.max.depth",
-            File::KillFile => b"cgroup.kill",
-            File::PidsMax => b"pids.max",
-            File::PidsCurrent => b"pids.current",
-            File::PidsPeak => b"pids.peak",
-            File::PidsEvents => b"pids.events",
-            File::PidsEventsLocal => b"pids.events.local",
-        }
+        self.row().0
     }
 
     /// Whether the root has the file too.
     pub fn on_root(self) -> bool
         ensures { result ≡ on_root (file_of self) }
     {
-        match self {
-            File::Procs | File::Stat | File::MaxDescendants | File::MaxDepth => true,
-            File::Events | File::KillFile => false,
-            File::PidsMax | File::PidsCurrent | File::PidsPeak => false,
-            File::PidsEvents | File::PidsEventsLocal => false,
-        }
+        self.row().1
     }
 
     /// Whether the file can be read: all but `cgroup.kill` can.
     pub fn readable(self) -> bool
         ensures { result ≡ readable (file_of self) }
     {
-        self != File::KillFile
+        self.row().2
+    }
+
+    /// What can be written to the file, if anything.
+    pub fn written(self) -> Option<Written>
+        ensures { option_map kind_of result ≡ value_kind (file_of self) }
+    {
+        self.row().3
     }
 
     /// Whether the file can be written: `cgroup.procs` takes a pid, `cgroup.kill` takes `1`, and the files of limits take a
@@ -111,12 +142,6 @@ impl File {
     pub fn writable(self) -> bool
         ensures { result ≡ writable (file_of self) }
     {
-        match self {
-            File::Procs | File::KillFile => true,
-            File::MaxDescendants | File::MaxDepth | File::PidsMax => true,
-            File::Events | File::Stat => false,
-            File::PidsCurrent | File::PidsPeak => false,
-            File::PidsEvents | File::PidsEventsLocal => false,
-        }
+        self.written().is_some()
     }
 }

@@ -1,8 +1,8 @@
 //! The interface files of the groups: their names, the values that can be written to them, and their texts.
 //!
-//! - There are eleven files (`File`). Every group has `cgroup.procs`, `cgroup.stat`, `cgroup.max.descendants` and
-//!   `cgroup.max.depth`. Every group but the root has the others too. All but `cgroup.kill` can be read. `cgroup.procs`
-//!   takes a pid, `cgroup.kill` takes `1`, and the three files of limits take a limit.
+//! - There are eleven files (`File`), each with its row in one table. Every group has `cgroup.procs`, `cgroup.stat`,
+//!   `cgroup.max.descendants` and `cgroup.max.depth`. Every group but the root has the others too. All but `cgroup.kill`
+//!   can be read. `cgroup.procs` takes a pid, `cgroup.kill` takes `1`, and the three files of limits take a limit.
 //! - A value is decimal digits without a leading zero. Blanks, tabs, line feeds and carriage returns at both ends are
 //!   dropped. A limit may also be `max`; for the two limits on groups 2,147,483,647 means `max` too. Signs, other bases and
 //!   other words are not numbers. If there are several faults, the first in the order of `ValueFault` is returned. A number
@@ -17,8 +17,9 @@
 //! Not promised: how often a buffer grows.
 //!
 //! The definitions are in `flat_model`: `specs/File.antt` (names, and which group has which file), `specs/Values.antt`
-//! (values and their faults), `specs/FileText.antt` (texts). `specs/FileMeaning.antt` in this crate maps files and faults to
-//! the model's, `specs/Shown.antt` says what `render` and `render_home` return. Their laws are in `journal_laws`.
+//! (values and their faults), `specs/FileText.antt` (texts). `specs/FileMeaning.antt` in this crate maps files, what can be
+//! written to them, and faults to the model's, `specs/Shown.antt` says what `render` and `render_home` return. Their laws
+//! are in `journal_laws`.
 #![tactic(auto)]
 
 mod cat;
@@ -32,7 +33,7 @@ mod value;
 
 pub use cat::render;
 pub use fault::{ShowFault, ValueFault};
-pub use file::File;
+pub use file::{File, Written};
 pub use home::render_home;
 pub use limit::{limit_file_name, limit_text, read_limit};
 pub use value::{read_kill, read_pid};

@@ -11,6 +11,7 @@ ghost use Rattle.group_tree.specs.Flat.{limit_of, limit_file_of};
 ghost use Rattle.interface_files.specs.FileMeaning.{reading_of};
 
 use crate::fault::ValueFault;
+use crate::file::File;
 use crate::number::{read_number, trimmed};
 use group_tree::{Limit, LimitFile};
 use itoa::Buffer;
@@ -77,9 +78,9 @@ pub fn limit_file_name(file: LimitFile) -> &'static [u8]
     ensures { result.now ≡ file_name (model_file.LimitOf (limit_file_of file)) }
 {
     match file {
-        LimitFile::PidsMax => b"pids.max",
-        LimitFile::MaxDescendants => b"cgroup.max.descendants",
-        LimitFile::MaxDepth => b"cgroup.max.depth",
+        LimitFile::PidsMax => File::PidsMax.name(),
+        LimitFile::MaxDescendants => File::MaxDescendants.name(),
+        LimitFile::MaxDepth => File::MaxDepth.name(),
     }
 }
 

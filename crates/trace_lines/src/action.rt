@@ -3,14 +3,12 @@
 ghost use Rattle.std.specs.Prelude.{◌≡◌};
 ghost use Rattle.flat_model.specs.Path.{Path};
 ghost use Rattle.flat_model.specs.Trace.{show_of, write_of};
-ghost use Rattle.group_tree.specs.Flat.{limit_file_of};
-ghost use Rattle.flat_model.specs.File as model_file;
 ghost use Rattle.interface_files.specs.FileMeaning.{file_of};
 ghost use Rattle.trace_lines.specs.Action.{action_at, show_at, write_at};
 
 use crate::TextFault;
 use group_tree::{Limit, LimitFile};
-use interface_files::{File, read_kill, read_limit, read_pid};
+use interface_files::{File, Written, read_kill, read_limit, read_pid};
 use pids_charge::Pid;
 
 /// A command that names a file, without its path.
@@ -26,37 +24,25 @@ pub(crate) enum Action {
     Show(File),
 }
 
-fn write_limit(file: LimitFile, value: &[u8]) -> Result<Action, TextFault>
-    ensures { (path : Path) → action_at path result
-        ≡ write_of path (model_file.LimitOf (limit_file_of file)) value.now }
-{
-    match read_limit(file, value) {
-        Ok(value) => Ok(Action::SetLimit(file, value)),
-        Err(_) => Err(TextFault::Value),
-    }
-}
-
 /// The effect of writing a value to a file. A file that can't be written is reported before a fault
 /// of the value.
 fn write_value(file: File, value: &[u8]) -> Result<Action, TextFault>
     ensures { (path : Path) → action_at path result ≡ write_of path (file_of file) value.now }
 {
-    match file {
-        File::Procs => match read_pid(value) {
+    match file.written() {
+        Some(Written::Pid) => match read_pid(value) {
             Ok(pid) => Ok(Action::Move(pid)),
             Err(_) => Err(TextFault::Value),
         },
-        File::MaxDescendants => write_limit(LimitFile::MaxDescendants, value),
-        File::MaxDepth => write_limit(LimitFile::MaxDepth, value),
-        File::PidsMax => write_limit(LimitFile::PidsMax, value),
-        File::KillFile => match read_kill(value) {
+        Some(Written::Limit(limit)) => match read_limit(limit, value) {
+            Ok(most) => Ok(Action::SetLimit(limit, most)),
+            Err(_) => Err(TextFault::Value),
+        },
+        Some(Written::Kill) => match read_kill(value) {
             Ok(()) => Ok(Action::Kill),
             Err(_) => Err(TextFault::Value),
         },
-        File::Events | File::Stat => Err(TextFault::Direction),
-        File::PidsCurrent | File::PidsPeak | File::PidsEvents | File::PidsEventsLocal => {
-            Err(TextFault::Direction)
-        }
+        None => Err(TextFault::Direction),
     }
 }
 

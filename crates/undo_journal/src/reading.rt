@@ -36,7 +36,7 @@ impl<A: Allocator + Clone, M: Meter> Engine<A, M> {
     }
 
     /// The text of a file of the group at the path. `cgroup.procs` costs O(n log n) for n processes of the group. Any
-    /// other file costs one descent of the tree, and a refusal two.
+    /// other file costs one descent of the tree, and so does a refusal.
     ///
     /// # Errors
     ///
