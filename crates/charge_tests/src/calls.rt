@@ -31,7 +31,7 @@ pub(crate) enum Call {
     Kill(&'static str),
     Uncount(&'static str),
     /// A move without its peaks.
-    Rehome(u32, &'static str),
+    MoveBack(u32, &'static str),
     SetPeaks(&'static str, &'static [u64]),
     Place(u32, &'static str),
     PlaceAll(u32, &'static str),
@@ -282,7 +282,7 @@ fn make_call<R: Threads + Wait + Sync>(
             let path = path(alloc, text)?;
             Ok(uncount(charges, &path))
         }
-        Call::Rehome(who, text) => {
+        Call::MoveBack(who, text) => {
             let path = path(alloc, text)?;
             Ok(move_back(charges, who, &path))
         }

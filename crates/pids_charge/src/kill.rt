@@ -22,6 +22,7 @@ use crate::gate::Gate;
 use crate::lost::{Lost, LostList};
 use crate::meter::Meter;
 use crate::pid::Pid;
+use crate::settler::{Settler, with_threads};
 use crate::walk::push_tokens;
 use group_path::GroupPath;
 use group_tree::GroupTree;
@@ -33,15 +34,15 @@ use std::thread::Threads;
 
 // The processes that a kill removes, and their charges.
 #[derive(Drop)]
-pub(crate) struct Gathered<A: Allocator + Clone> {
-    pub(crate) pids: Vec<u32, A>,
-    pub(crate) tokens: Vec<Token, A>,
+struct Gathered<A: Allocator + Clone> {
+    pids: Vec<u32, A>,
+    tokens: Vec<Token, A>,
     // An empty list with room for all of them.
-    pub(crate) room: Vec<Lost<A>, A>,
+    room: Vec<Lost<A>, A>,
 }
 
 // The pids at or below the path, ascending, and the charges of their processes.
-pub(crate) fn gather<M: Meter, T: Allocator, A: Allocator + Clone, B: Allocator + Clone>(
+fn gather<M: Meter, T: Allocator, A: Allocator + Clone, B: Allocator + Clone>(
     tree: &GroupTree<T>,
     processes: &ProcessTable<A>,
     alloc: &A,
@@ -94,7 +95,7 @@ fn leave_one<A: Allocator + Clone>(
 }
 
 // Moves the processes of these pids from the table to the list, in this order.
-pub(crate) fn leave<A: Allocator + Clone>(
+fn leave<A: Allocator + Clone>(
     processes: &mut ProcessTable<A>,
     pids: &[u32],
     room: Vec<Lost<A>, A>,
@@ -133,6 +134,24 @@ impl<A: Allocator + Clone, M: Meter> Charges<A, M> {
         ensures inside { IfErr result (λ f. names_in f ≤ length path.now) }
         ensures taken { IfOk result (λ list. list ≡ inverse.lost self.old path.now) }
     {
+        self.kill_by(&with_threads(rt, gate), who, path)
+    }
+
+    /// `kill` by this settler.
+    ///
+    /// # Errors
+    ///
+    /// Those of `kill`.
+    pub fn kill_by<S: Settler, B: Allocator + Clone>(
+        &mut self,
+        settler: &S,
+        who: u8,
+        path: &GroupPath<B>,
+    ) -> Result<LostList<A>, ChargeFault>
+        ensures state { Does M.SLOTS self.old (Kill path.now) path.now result self.new }
+        ensures inside { IfErr result (λ f. names_in f ≤ length path.now) }
+        ensures taken { IfOk result (λ list. list ≡ inverse.lost self.old path.now) }
+    {
         if path.depth() == 0 {
             return Err(ChargeFault::NoFile);
         }
@@ -147,8 +166,7 @@ impl<A: Allocator + Clone, M: Meter> Charges<A, M> {
         ) else {
             return Err(ChargeFault::OutOfMemory);
         };
-        self.meter
-            .settle(rt, gate, who % M::LEAVES, tokens.as_slice(), &[]);
+        settler.settle(&mut self.meter, who % M::LEAVES, tokens.as_slice(), &[]);
         let lost = leave(&mut self.processes, pids.as_slice(), room);
         Ok(LostList::of(lost))
     }

@@ -24,8 +24,8 @@
 //!   process is found in constant time. A path has at most 32 names.
 //! - The processes of a group share the text of a long path. A child takes it from its parent; a process that is moved, put
 //!   back or copied takes it from one that is in the group, if there is one, and else gets a copy.
-//! - `settle_alone` is the settlement of any meter on the calling thread. `kill_alone` and `place_all_alone` are `kill` and
-//!   `place_all` over it; they need no runtime.
+//! - `kill_by` and `place_all_by` are `kill` and `place_all` by a `Settler`: `Alone` settles on the calling thread and needs
+//!   no runtime, `with_threads` is what `kill` and `place_all` use.
 //! - `child_names` returns the names of a group's children, in order.
 //! - Any meter that meets the law of `Meter` will do. `PlainMeter` keeps plain numbers, for one thread.
 //! - A kill and its undo pass all their charges to a meter at once, which settles them in 2 to 8 parts (`part_count`,
@@ -39,7 +39,6 @@
 //! peaks rise, and `specs/Parts.antt` what a settlement leaves in so many parts.
 #![tactic(auto)]
 
-mod alone;
 mod charges;
 mod children;
 mod copy;
@@ -62,10 +61,10 @@ mod plain;
 mod readers;
 mod rmdir;
 mod rows;
+mod settler;
 mod slot;
 mod walk;
 
-pub use alone::settle_alone;
 pub use charges::Charges;
 pub use fault::ChargeFault;
 pub use gate::{Gate, OpenGate};
@@ -76,4 +75,5 @@ pub use parts::{last_run, part_count};
 pub use peaks::{INLINE_PEAKS, Peaks};
 pub use pid::{PID_MAX, Pid};
 pub use plain::{LEAVES, PlainMeter, SLOTS};
+pub use settler::{Alone, Settler, WithThreads, with_threads};
 pub use snzi_core::Token;

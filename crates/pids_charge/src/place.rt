@@ -18,6 +18,7 @@ use crate::gate::Gate;
 use crate::lost::Lost;
 use crate::meter::Meter;
 use crate::rows::{put_copy, take_row};
+use crate::settler::{Settler, with_threads};
 use crate::slot::slot_in;
 use crate::walk::push_tokens;
 use group_tree::GroupTree;
@@ -28,7 +29,7 @@ use std::sync::Wait;
 use std::thread::Threads;
 
 // A token for each charge of the listed processes.
-pub(crate) fn tokens_of<M: Meter, T: Allocator, A: Allocator + Clone, B: Allocator + Clone>(
+fn tokens_of<M: Meter, T: Allocator, A: Allocator + Clone, B: Allocator + Clone>(
     tree: &GroupTree<T>,
     alloc: A,
     list: &[Lost<B>],
@@ -106,7 +107,7 @@ fn take_out<A: Allocator + Clone, B: Allocator + Clone>(
 }
 
 // Inserts all of them, or none.
-pub(crate) fn place_each<M: Meter, T: Allocator, A: Allocator + Clone, B: Allocator + Clone>(
+fn place_each<M: Meter, T: Allocator, A: Allocator + Clone, B: Allocator + Clone>(
     tree: &GroupTree<T>,
     processes: &mut ProcessTable<A>,
     alloc: &A,
@@ -151,17 +152,37 @@ impl<A: Allocator + Clone, M: Meter> Charges<A, M> {
         ensures memory { IfErr result (λ f. f ≡ ChargeFault.OutOfMemory) }
         ensures kept { OnErr result (self.new ≡ self.old) }
     {
-        match self.place_listed(rt, gate, who, list) {
+        self.place_all_by(&with_threads(rt, gate), who, list)
+    }
+
+    /// `place_all` by this settler.
+    ///
+    /// # Errors
+    ///
+    /// That of `place_all`.
+    pub fn place_all_by<S: Settler, B: Allocator + Clone>(
+        &mut self,
+        settler: &S,
+        who: u8,
+        list: &[Lost<B>],
+    ) -> Result<(), ChargeFault>
+        requires homes { All (λ l. IsSome (fin.get self.old.groups l.path)) list.now }
+        requires new { All (λ l. fin.get self.old.home l.pid ≡ None) list.now }
+        requires apart { IsDistinct eqb (map (λ l. l.pid) list.now) }
+        ensures placed { OnOk result (self.new ≡ back (Killed (rows_of list.now)) self.old) }
+        ensures memory { IfErr result (λ f. f ≡ ChargeFault.OutOfMemory) }
+        ensures kept { OnErr result (self.new ≡ self.old) }
+    {
+        match self.place_listed(settler, who, list) {
             Ok(()) => Ok(()),
             Err(_) => Err(ChargeFault::OutOfMemory),
         }
     }
 
-    // The same for a slice.
-    fn place_listed<R: Threads, B: Allocator + Clone>(
+    // The same with the error of an allocator.
+    fn place_listed<S: Settler, B: Allocator + Clone>(
         &mut self,
-        rt: &R,
-        gate: &(dyn Gate + Sync),
+        settler: &S,
         who: u8,
         list: &[Lost<B>],
     ) -> Result<(), AllocError>
@@ -175,7 +196,7 @@ impl<A: Allocator + Clone, M: Meter> Charges<A, M> {
         let leaf = who % M::LEAVES;
         let tokens = tokens_of::<M, _, _, _>(&self.tree, self.alloc.clone()?, list, leaf)?;
         place_each::<M, _, _, _>(&self.tree, &mut self.processes, &self.alloc, list, leaf)?;
-        self.meter.settle(rt, gate, leaf, &[], tokens.as_slice());
+        settler.settle(&mut self.meter, leaf, &[], tokens.as_slice());
         Ok(())
     }
 }

@@ -8,7 +8,7 @@ use crate::answers::{
 };
 use group_path::GroupPath;
 use group_tree::{Attr, Limit, LimitFile};
-use pids_charge::{Charges, Lost, OpenGate, Pid, PlainMeter};
+use pids_charge::{Alone, Charges, Lost, OpenGate, Pid, PlainMeter, Settler, with_threads};
 use std::alloc::{AllocError, Allocator, Global};
 use std::sync::Wait;
 use std::test::Fail;
@@ -30,7 +30,7 @@ pub(crate) enum Call {
     Exit,
     Migrate,
     /// A move without its peaks.
-    Rehome,
+    MoveBack,
     Kill,
     KillAlone,
     Place,
@@ -156,8 +156,8 @@ fn place<A: Allocator + Clone>(
     done(charges.place(0, pid, path), wanted)
 }
 
-fn place_all<R: Threads + Wait + Sync, A: Allocator + Clone>(
-    rt: &R,
+fn place_all<S: Settler, A: Allocator + Clone>(
+    settler: &S,
     charges: &mut Apart<A>,
     pid: Pid,
     path: GroupPath<Global>,
@@ -167,21 +167,9 @@ fn place_all<R: Threads + Wait + Sync, A: Allocator + Clone>(
         return nothing(wanted);
     }
     done(
-        charges.place_all(rt, &OpenGate, 0, &[Lost { pid, path }]),
+        charges.place_all_by(settler, 0, &[Lost { pid, path }]),
         wanted,
     )
-}
-
-fn place_all_alone<A: Allocator + Clone>(
-    charges: &mut Apart<A>,
-    pid: Pid,
-    path: GroupPath<Global>,
-    wanted: &Answer<'_>,
-) -> Tried {
-    if charges.attr(&path).is_none() || charges.home(pid).is_some() {
-        return nothing(wanted);
-    }
-    done(charges.place_all_alone(0, &[Lost { pid, path }]), wanted)
 }
 
 /// Whether the process can be placed: its group exists, and its number is free.
@@ -192,8 +180,8 @@ fn can_be_placed<A: Allocator + Clone>(charges: &Apart<A>, lost: &Lost<Global>) 
     charges.attr(&lost.path).is_some() && charges.home(lost.pid).is_none()
 }
 
-fn place_both<R: Threads + Wait + Sync, A: Allocator + Clone>(
-    rt: &R,
+fn place_both<S: Settler, A: Allocator + Clone>(
+    settler: &S,
     charges: &mut Apart<A>,
     one: Lost<Global>,
     other: Lost<Global>,
@@ -205,22 +193,7 @@ fn place_both<R: Threads + Wait + Sync, A: Allocator + Clone>(
     if !can_be_placed(charges, &one) || !can_be_placed(charges, &other) {
         return nothing(wanted);
     }
-    done(charges.place_all(rt, &OpenGate, 0, &[one, other]), wanted)
-}
-
-fn place_both_alone<A: Allocator + Clone>(
-    charges: &mut Apart<A>,
-    one: Lost<Global>,
-    other: Lost<Global>,
-    wanted: &Answer<'_>,
-) -> Tried {
-    if one.pid.get() == other.pid.get() {
-        return nothing(wanted);
-    }
-    if !can_be_placed(charges, &one) || !can_be_placed(charges, &other) {
-        return nothing(wanted);
-    }
-    done(charges.place_all_alone(0, &[one, other]), wanted)
+    done(charges.place_all_by(settler, 0, &[one, other]), wanted)
 }
 
 /// A process and its group.
@@ -247,6 +220,7 @@ pub(crate) fn answer<R: Threads + Wait + Sync, A: Allocator + Clone>(
     asked: &Asked,
     wanted: &Answer<'_>,
 ) -> Result<Tried, AllocError> {
+    let settler = with_threads(rt, &OpenGate);
     let path = &asked.path;
     let (first, second) = (asked.first, asked.second);
     let tried = match asked.call {
@@ -256,19 +230,21 @@ pub(crate) fn answer<R: Threads + Wait + Sync, A: Allocator + Clone>(
         Call::Fork => fork(charges, first, second, wanted),
         Call::Exit => path_answered(charges.exit(0, first), wanted),
         Call::Migrate => move_answered(charges.migrate(0, first, path), wanted),
-        Call::Rehome => move_back(charges, first, path, wanted),
-        Call::Kill => lost_answered(charges.kill(rt, &OpenGate, 0, path), wanted),
-        Call::KillAlone => lost_answered(charges.kill_alone(0, path), wanted),
+        Call::MoveBack => move_back(charges, first, path, wanted),
+        Call::Kill => lost_answered(charges.kill_by(&settler, 0, path), wanted),
+        Call::KillAlone => lost_answered(charges.kill_by(&Alone, 0, path), wanted),
         Call::Place => place(charges, first, path, wanted),
-        Call::PlaceAll => place_all(rt, charges, first, path.copy(alloc)?, wanted),
-        Call::PlaceAllAlone => place_all_alone(charges, first, path.copy(alloc)?, wanted),
+        Call::PlaceAll => place_all(&settler, charges, first, path.copy(alloc)?, wanted),
+        Call::PlaceAllAlone => place_all(&Alone, charges, first, path.copy(alloc)?, wanted),
         Call::PlaceBoth => {
             let one = lost(alloc, first, path)?;
-            place_both(rt, charges, one, lost_above(alloc, second, path)?, wanted)
+            let other = lost_above(alloc, second, path)?;
+            place_both(&settler, charges, one, other, wanted)
         }
         Call::PlaceBothAlone => {
             let one = lost(alloc, first, path)?;
-            place_both_alone(charges, one, lost_above(alloc, second, path)?, wanted)
+            let other = lost_above(alloc, second, path)?;
+            place_both(&Alone, charges, one, other, wanted)
         }
     };
     Ok(tried)

@@ -257,8 +257,8 @@ fn move_back(rt: HostRuntime) -> Result<(), Fail> {
     let rows = [
         (Call::Mkdir, A, (1, 2), Answer::Done, true),
         (Call::Mkdir, "/d", (1, 2), Answer::Done, false),
-        (Call::Rehome, A, (1, 2), Answer::Left(1), true),
-        (Call::Rehome, "/d", (1, 2), Answer::Left(25), true),
+        (Call::MoveBack, A, (1, 2), Answer::Left(1), true),
+        (Call::MoveBack, "/d", (1, 2), Answer::Left(25), true),
     ];
     assert_eq!(rt; each_refused(&rt, rt.alloc(), &rows)?, None);
     Ok(())

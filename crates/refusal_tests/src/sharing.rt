@@ -135,12 +135,13 @@ fn more(alloc: Global, heap: &LocalHeap) -> Result<[usize; 6], Fail> {
     Ok(more)
 }
 
-/// Forks, exits and their undo take no text. A kill takes that of its command, and none for its processes.
+/// Making a group takes the text of its path once, for the command and its record. Forks, exits and their undo take no text.
+/// A kill takes that of its command, and none for its processes.
 #[test]
 fn processes_of_a_group(rt: HostRuntime) -> Result<(), Fail> {
     let heap = LocalHeap::new(rt.alloc(), 65_536)?;
     let [made, forked, exited, back, killed, alive] = more(rt.alloc(), &heap)?;
-    assert!(rt; made > LONG.len());
+    assert!(rt; made > LONG.len() && made < 8 * LONG.len());
     assert_eq!(rt; (forked, exited, back, alive), (made, made, made, made));
     assert!(rt; made < killed && killed.saturating_sub(made) < 2 * LONG.len());
     assert_eq!(rt; heap.used(), 0);

@@ -14,7 +14,7 @@ use crate::inverse::Inverse;
 use crate::journal::Entry;
 use crate::reply::Reply;
 use group_path::GroupPath;
-use pids_charge::{Charges, Gate, Meter, OpenGate, Pid};
+use pids_charge::{Alone, Charges, Gate, Meter, OpenGate, Pid, Settler, with_threads};
 use std::alloc::{AllocError, Allocator};
 use std::marker::Model;
 use std::sync::Wait;
@@ -124,7 +124,19 @@ impl<A: Allocator + Clone, M: Meter> Engine<A, M> {
         ensures refused { reply_of result ≡ None → self.new ≡ self.old }
         ensures certain { command_of cmd.now ≡ model.Undo → undoes_without_memory M.SLOTS self.old.past ≡ true → reply_of result ≢ None }
     {
-        let reply = self.answer(rt, gate, who, cmd);
+        let reply = self.answer(&with_threads(rt, gate), who, cmd);
+        self.known();
+        reply
+    }
+
+    /// `apply` on the calling thread: starts no thread, and waits for none.
+    pub fn apply_alone<B: Allocator + Clone>(&mut self, who: u8, cmd: &Command<B>) -> Reply<A>
+        ensures answered { reply_of result ≢ None → Answers M.SLOTS self.old (command_of cmd.now) result self.new }
+        ensures headline { reply_of result ≢ None → KeepsHistory M.SLOTS self.old (command_of cmd.now) self.new }
+        ensures refused { reply_of result ≡ None → self.new ≡ self.old }
+        ensures certain { command_of cmd.now ≡ model.Undo → undoes_without_memory M.SLOTS self.old.past ≡ true → reply_of result ≢ None }
+    {
+        let reply = self.answer(&Alone, who, cmd);
         self.known();
         reply
     }
@@ -139,7 +151,19 @@ impl<A: Allocator + Clone, M: Meter> Engine<A, M> {
         // Undoing a new group, a new process, a limit or a counted fork allocates nothing.
         ensures certain { undoes_without_memory M.SLOTS self.old.past ≡ true → reply_of result ≢ None }
     {
-        let reply = or_out_of_memory(self.take_newest_back(rt, &OpenGate, who));
+        let reply = or_out_of_memory(self.take_newest_back(&with_threads(rt, &OpenGate), who));
+        self.known();
+        reply
+    }
+
+    /// `undo` on the calling thread.
+    pub fn undo_alone(&mut self, who: u8) -> Reply<A>
+        ensures answered { reply_of result ≢ None → Answers M.SLOTS self.old model.Undo result self.new }
+        ensures headline { reply_of result ≢ None → KeepsHistory M.SLOTS self.old model.Undo self.new }
+        ensures refused { reply_of result ≡ None → self.new ≡ self.old }
+        ensures certain { undoes_without_memory M.SLOTS self.old.past ≡ true → reply_of result ≢ None }
+    {
+        let reply = or_out_of_memory(self.take_newest_back(&Alone, who));
         self.known();
         reply
     }
@@ -178,10 +202,9 @@ impl<A: Allocator + Clone, M: Meter> Engine<A, M> {
         &self.charges
     }
 
-    fn answer<R: Threads + Wait + Sync, B: Allocator + Clone>(
+    fn answer<S: Settler, B: Allocator + Clone>(
         &mut self,
-        rt: &R,
-        gate: &(dyn Gate + Sync),
+        settler: &S,
         who: u8,
         cmd: &Command<B>,
     ) -> Reply<A>
@@ -190,9 +213,18 @@ impl<A: Allocator + Clone, M: Meter> Engine<A, M> {
         ensures certain { command_of cmd.now ≡ model.Undo → undoes_without_memory M.SLOTS self.old.past ≡ true → reply_of result ≢ None }
     {
         match cmd {
-            Command::Kill(path) => or_out_of_memory(self.kill(rt, gate, who, path)),
-            Command::Undo => or_out_of_memory(self.take_newest_back(rt, gate, who)),
-            _ => self.answer_alone(who, cmd),
+            Command::MakeGroup(path) => or_out_of_memory(self.make_group(path)),
+            Command::RemoveGroup(path) => or_out_of_memory(self.remove_group(path)),
+            Command::Fork { parent, child } => or_out_of_memory(self.fork(who, *parent, *child)),
+            Command::Exit(pid) => or_out_of_memory(self.exit(who, *pid)),
+            Command::Move { path, pid } => or_out_of_memory(self.move_process(who, path, *pid)),
+            Command::SetLimit { path, file, value } => {
+                or_out_of_memory(self.set_limit(path, *file, *value))
+            }
+            Command::Kill(path) => or_out_of_memory(self.kill(settler, who, path)),
+            Command::Show { path, file } => or_out_of_memory(self.show(path, *file)),
+            Command::Locate(pid) => or_out_of_memory(self.locate(*pid)),
+            Command::Undo => or_out_of_memory(self.take_newest_back(settler, who)),
         }
     }
 

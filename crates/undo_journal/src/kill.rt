@@ -17,10 +17,8 @@ use crate::inverse::Inverse;
 use crate::journal::Entry;
 use crate::reply::{Refusal, Reply};
 use group_path::GroupPath;
-use pids_charge::{Charges, Gate, LostList, Meter};
+use pids_charge::{Charges, LostList, Meter, Settler};
 use std::alloc::{AllocError, Allocator};
-use std::sync::Wait;
-use std::thread::Threads;
 
 impl<A: Allocator + Clone, M: Meter> Engine<A, M> {
     /// Why the group may not be killed, or None if it may.
@@ -40,10 +38,9 @@ impl<A: Allocator + Clone, M: Meter> Engine<A, M> {
     }
 
     /// Removes all processes of a group that may be killed, and records them with their groups.
-    fn take_members<R: Threads + Wait + Sync, B: Allocator + Clone>(
+    fn take_members<S: Settler, B: Allocator + Clone>(
         &mut self,
-        rt: &R,
-        gate: &(dyn Gate + Sync),
+        settler: &S,
         who: u8,
         path: &GroupPath<B>,
     ) -> Result<(), AllocError>
@@ -53,7 +50,7 @@ impl<A: Allocator + Clone, M: Meter> Engine<A, M> {
     {
         let named = path.copy(self.alloc.clone()?)?;
         self.journal.reserve(1)?;
-        match self.charges.kill(rt, gate, who, path) {
+        match self.charges.kill_by(settler, who, path) {
             Ok(list) => {
                 self.journal.push(Entry {
                     command: Command::Kill(named),
@@ -65,10 +62,9 @@ impl<A: Allocator + Clone, M: Meter> Engine<A, M> {
         }
     }
 
-    pub(crate) fn kill<R: Threads + Wait + Sync, B: Allocator + Clone>(
+    pub(crate) fn kill<S: Settler, B: Allocator + Clone>(
         &mut self,
-        rt: &R,
-        gate: &(dyn Gate + Sync),
+        settler: &S,
         who: u8,
         path: &GroupPath<B>,
     ) -> Result<Reply<A>, AllocError>
@@ -78,16 +74,15 @@ impl<A: Allocator + Clone, M: Meter> Engine<A, M> {
         if let Some(refusal) = self.refuses_kill(path)? {
             return Ok(Reply::Refused(refusal));
         }
-        self.take_members(rt, gate, who, path)?;
+        self.take_members(settler, who, path)?;
         Ok(Reply::Done)
     }
 }
 
 /// Undoes a kill: puts each process back into its own group.
-pub(crate) fn undo_kill<A: Allocator + Clone, M: Meter, R: Threads + Wait + Sync>(
+pub(crate) fn undo_kill<A: Allocator + Clone, M: Meter, S: Settler>(
     charges: &mut Charges<A, M>,
-    rt: &R,
-    gate: &(dyn Gate + Sync),
+    settler: &S,
     who: u8,
     list: &LostList<A>,
 ) -> Result<(), AllocError>
@@ -95,7 +90,7 @@ pub(crate) fn undo_kill<A: Allocator + Clone, M: Meter, R: Threads + Wait + Sync
     ensures ok { OnOk result (charges.new ≡ back (model_inverse.Killed list.now) charges.old) }
     ensures err { OnErr result (charges.new ≡ charges.old) }
 {
-    match charges.place_all(rt, gate, who, list.as_slice()) {
+    match charges.place_all_by(settler, who, list.as_slice()) {
         Ok(()) => Ok(()),
         Err(fault) => Err(out_of_memory(fault)),
     }

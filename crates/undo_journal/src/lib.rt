@@ -38,7 +38,6 @@
 #![tactic(auto)]
 
 mod accepting;
-mod alone;
 mod bytes;
 mod cat;
 mod command;

@@ -54,7 +54,7 @@ impl<A: Allocator + Clone, M: Meter> Engine<A, M> {
         ensures err { OnErr result (self.new ≡ self.old) }
     {
         let named = path.copy(self.alloc.clone()?)?;
-        let limited = path.copy(self.alloc.clone()?)?;
+        let limited = named.share()?;
         self.journal.reserve(1)?;
         let Ok(older) = self.charges.set_limit(path, file, value) else {
             unreachable!()

@@ -27,7 +27,7 @@ impl<A: Allocator + Clone, M: Meter> Engine<A, M> {
         ensures err { OnErr result (self.new ≡ self.old) }
     {
         let named = path.copy(self.alloc.clone()?)?;
-        let made = path.copy(self.alloc.clone()?)?;
+        let made = named.share()?;
         self.journal.reserve(1)?;
         match self.charges.make_group(path) {
             Ok(()) => {

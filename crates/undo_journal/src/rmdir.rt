@@ -29,7 +29,7 @@ impl<A: Allocator + Clone, M: Meter> Engine<A, M> {
         ensures err { OnErr result (self.new ≡ self.old) }
     {
         let named = path.copy(self.alloc.clone()?)?;
-        let removed = path.copy(self.alloc.clone()?)?;
+        let removed = named.share()?;
         self.journal.reserve(1)?;
         let attr = self.charges.take_group(path);
         self.journal.push(Entry {

@@ -9,21 +9,25 @@ ghost use Rattle.undo_journal.specs.Answer.{Answers, needs_no_memory, undoes_wit
 ghost use Rattle.undo_journal.specs.Headline.{UndoesAll};
 ghost use Rattle.undo_journal.specs.History.{IsReady};
 
-use crate::alone::take_back_alone;
 use crate::engine::Engine;
+use crate::exit::undo_exit;
+use crate::fork::{undo_counted, undo_fork};
 use crate::inverse::Inverse;
 use crate::kill::undo_kill;
+use crate::limit::undo_limit;
+use crate::migrate::undo_move;
+use crate::mkdir::undo_mkdir;
 use crate::reply::Reply;
-use pids_charge::{Charges, Gate, Meter, OpenGate};
+use crate::rmdir::undo_rmdir;
+use pids_charge::{Charges, Meter, OpenGate, Settler, with_threads};
 use std::alloc::{AllocError, Allocator};
 use std::sync::Wait;
 use std::thread::Threads;
 
 /// Undoes one command by its record.
-fn take_back<A: Allocator + Clone, M: Meter, R: Threads + Wait + Sync>(
+fn take_back<A: Allocator + Clone, M: Meter, S: Settler>(
     charges: &mut Charges<A, M>,
-    rt: &R,
-    gate: &(dyn Gate + Sync),
+    settler: &S,
     who: u8,
     inverse: &Inverse<A>,
 ) -> Result<(), AllocError>
@@ -33,16 +37,33 @@ fn take_back<A: Allocator + Clone, M: Meter, R: Threads + Wait + Sync>(
     ensures certain { needs_no_memory (Some (inverse_of inverse.now)) ≡ true → IsOk result }
 {
     match inverse {
-        Inverse::Killed { list } => undo_kill(charges, rt, gate, who, list),
-        _ => take_back_alone(charges, who, inverse),
+        Inverse::Made { path } => {
+            undo_mkdir(charges, path);
+            Ok(())
+        }
+        Inverse::Removed { path, attr } => undo_rmdir(charges, path, *attr),
+        Inverse::Forked { pid, peaks } => {
+            undo_fork(charges, who, *pid, peaks);
+            Ok(())
+        }
+        Inverse::Exited { pid, path } => undo_exit(charges, who, *pid, path),
+        Inverse::Moved { pid, path, peaks } => undo_move(charges, who, *pid, path, peaks),
+        Inverse::Limited { path, file, value } => {
+            undo_limit(charges, path, *file, *value);
+            Ok(())
+        }
+        Inverse::Counted { path } => {
+            undo_counted(charges, path);
+            Ok(())
+        }
+        Inverse::Killed { list } => undo_kill(charges, settler, who, list),
     }
 }
 
 impl<A: Allocator + Clone, M: Meter> Engine<A, M> {
-    pub(crate) fn take_newest_back<R: Threads + Wait + Sync>(
+    pub(crate) fn take_newest_back<S: Settler>(
         &mut self,
-        rt: &R,
-        gate: &(dyn Gate + Sync),
+        settler: &S,
         who: u8,
     ) -> Result<Reply<A>, AllocError>
         ensures ok { IfOk result (λ reply. Answers M.SLOTS self.old model.Undo reply self.new) }
@@ -52,7 +73,7 @@ impl<A: Allocator + Clone, M: Meter> Engine<A, M> {
         let Some(entry) = self.journal.last() else {
             return Ok(Reply::NothingToUndo);
         };
-        take_back(&mut self.charges, rt, gate, who, &entry.inverse)?;
+        take_back(&mut self.charges, settler, who, &entry.inverse)?;
         let Some(newest) = self.journal.pop() else {
             unreachable!()
         };
@@ -60,11 +81,11 @@ impl<A: Allocator + Clone, M: Meter> Engine<A, M> {
     }
 
     /// Undoes the newest recorded command, if there is one.
-    fn undo_one<R: Threads + Wait + Sync>(&mut self, rt: &R, who: u8) -> Result<(), AllocError>
+    fn undo_one<S: Settler>(&mut self, settler: &S, who: u8) -> Result<(), AllocError>
         ensures ok { OnOk result (self.new ≡ (tick M.SLOTS self.old model.Undo).0) }
         ensures err { OnErr result (self.new ≡ self.old) }
     {
-        let _undone = self.take_newest_back(rt, &OpenGate, who)?;
+        let _undone = self.take_newest_back(settler, who)?;
         Ok(())
     }
 
@@ -84,9 +105,10 @@ impl<A: Allocator + Clone, M: Meter> Engine<A, M> {
         ensures { UndoesAll M.SLOTS self.old result self.new }
     {
         self.known();
+        let settler = with_threads(rt, &OpenGate);
         let depth = self.depth();
         for undone in 0..depth {
-            if let Err(error) = self.undo_one(rt, who) {
+            if let Err(error) = self.undo_one(&settler, who) {
                 return Err((undone, error));
             }
         }

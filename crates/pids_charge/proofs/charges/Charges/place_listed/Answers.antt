@@ -52,7 +52,7 @@ invariant_of-self-2 g c =
       has_slots = c.self.invariant.has_slots;
       room = c.self.invariant.room;
       recounted = rw (c.in_ok-place_each.ensures).placed (placed g.M.Meter.LEAVES c.self.inside.tree es content held d leaf c.args.list.now
-          (g.M.Meter.content c.settle.new.self) (g.M.Meter.held c.settle.new.self)
+          (g.M.Meter.content c.settle.new.meter) (g.M.Meter.held c.settle.new.meter)
           (omega (arith, c.LEAVES.ensures, g.met.M.Meter.leaves_positive)) (new, c.requires.apart) homes ((c.in_ok-place_each.ensures).pids)
           (λ s j. omega (arith, c.settle.ensures.content s j, counted s j)) (omega (arith, c.settle.ensures.held, many)));
     }

@@ -23,7 +23,7 @@ journal_is : (g : _) (c : goal.In_ok-push-in-Ok g) → c.push.new.self.items ≡
 journal_is g c = c.in_ok-push-in-Ok.ensures.items ∙ ap (λ js. js ++ entry g c ∷ []) c.reserve.ensures.items
 
 entry_is : (g : _) (c : goal.In_ok-push-in-Ok g) → ◌≡◌ {A = model.Command × model_inverse.Inverse} (journal_entry (entry g c)) (command g c, inverse g c)
-entry_is g c = λ i. (model.MakeGroup (c.in_ok-named.ensures i), model_inverse.Made (c.in_ok-made.ensures i))
+entry_is g c = λ i. (model.MakeGroup (c.in_ok-named.ensures i), model_inverse.Made ((c.in_ok-made.ensures ∙ c.in_ok-named.ensures) i))
 
 none : (g : _) (c : goal.In_ok-push-in-Ok g) → refusal g.M.Meter.SLOTS c.self.inside.charges (command g c) ≡ None
 none g c = subst (λ (m : Machine). refusal g.M.Meter.SLOTS m.state (command g c) ≡ None) (sym c.self.view_is) c.requires

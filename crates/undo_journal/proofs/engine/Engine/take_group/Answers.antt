@@ -25,7 +25,7 @@ journal_is : (g : _) (c : goal.In_ok-push g) → c.push.new.self.items ≡ c.sel
 journal_is g c = c.in_ok-push.ensures.items ∙ ap (λ js. js ++ entry g c ∷ []) c.reserve.ensures.items
 
 entry_is : (g : _) (c : goal.In_ok-push g) → ◌≡◌ {A = model.Command × model_inverse.Inverse} (journal_entry (entry g c)) (command g c, inverse g c)
-entry_is g c = λ i. (model.RemoveGroup (c.in_ok-named.ensures i), model_inverse.Removed (c.in_ok-removed.ensures i) (ap (λ (o : Option Attr). unwrap_or o fresh) c.take_group-attr.ensures.attr i))
+entry_is g c = λ i. (model.RemoveGroup (c.in_ok-named.ensures i), model_inverse.Removed ((c.in_ok-removed.ensures ∙ c.in_ok-named.ensures) i) (ap (λ (o : Option Attr). unwrap_or o fresh) c.take_group-attr.ensures.attr i))
 
 none : (g : _) (c : goal.In_ok-push g) → refusal g.M.Meter.SLOTS c.self.inside.charges (command g c) ≡ None
 none g c = subst (λ (m : Machine). refusal g.M.Meter.SLOTS m.state (command g c) ≡ None) (sym c.self.view_is) c.requires

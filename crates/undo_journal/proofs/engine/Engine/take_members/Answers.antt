@@ -29,16 +29,16 @@ entry_is g c = λ i. (model.Kill (c.in_ok-named.ensures i), model_inverse.Killed
 none : (g : _) (c : goal.In_ok-push-in-Ok g) → refusal g.M.Meter.SLOTS c.self.inside.charges (command g c) ≡ None
 none g c = subst (λ (m : Machine). refusal g.M.Meter.SLOTS m.state (command g c) ≡ None) (sym c.self.view_is) c.requires
 
-state_is : (g : _) (c : goal.In_ok-push-in-Ok g) → c.kill.new.self ≡ after c.self.inside.charges (command g c)
+state_is : (g : _) (c : goal.In_ok-push-in-Ok g) → c.kill_by.new.self ≡ after c.self.inside.charges (command g c)
 state_is g c = c.in-Ok.ensures.state.1
 
 pub invariant_of-self-in-Ok : goal.invariant_of-self-in-Ok
 invariant_of-self-in-Ok g c =
     rw (journal_is g c)
-    (recorded_history g.M.Meter.SLOTS c.self.inside.charges c.kill.new.self c.self.inside.journal.items (entry g c) (command g c) (inverse g c) None (entry_is g c) (none g c) refl (state_is g c) c.self.inside.forgotten c.self.invariant)
+    (recorded_history g.M.Meter.SLOTS c.self.inside.charges c.kill_by.new.self c.self.inside.journal.items (entry g c) (command g c) (inverse g c) None (entry_is g c) (none g c) refl (state_is g c) c.self.inside.forgotten c.self.invariant)
 
 pub returns-in_ok-push-in-Ok-clause-ok : goal.returns-in_ok-push-in-Ok-clause-ok
 returns-in_ok-push-in-Ok-clause-ok g c =
-    (λ i. machine_of c.kill.new.self (journal_is g c i))
-    ∙ recorded_is g.M.Meter.SLOTS c.self.inside.charges c.kill.new.self c.self.inside.journal.items (entry g c) (command g c) (inverse g c) None (entry_is g c) (none g c) refl (state_is g c)
+    (λ i. machine_of c.kill_by.new.self (journal_is g c i))
+    ∙ recorded_is g.M.Meter.SLOTS c.self.inside.charges c.kill_by.new.self c.self.inside.journal.items (entry g c) (command g c) (inverse g c) None (entry_is g c) (none g c) refl (state_is g c)
     ∙ ap (λ (m : Machine). recorded m (command g c) (after m.state (command g c))) c.self.view_is

@@ -15,7 +15,7 @@ use Rattle.undo_journal.proofs.engine.Engine.take_newest_back.Goals.{Joined-newe
 pub take_back-requires : goal.take_back-requires
 take_back-requires g c =
     let r = snoc_of c.self.inside.journal.items c.in-Some.entry.now (read_through c.self.inside.journal.items c.deref.result.now c.in-Some.entry.now c.deref.ensures.value c.in-Some.ensures.value) in
-    (c.type_bounds.sync-R, last_ready g.M.Meter.SLOTS c.self.inside.charges c.self.inside.journal.items r.0 c.in-Some.entry.now r.1 c.self.inside.forgotten c.self.invariant)
+    last_ready g.M.Meter.SLOTS c.self.inside.charges c.self.inside.journal.items r.0 c.in-Some.entry.now r.1 c.self.inside.forgotten c.self.invariant
 
 pub returns-in_err-take_back-clause-err : goal.returns-in_err-take_back-clause-err
 returns-in_err-take_back-clause-err g c = on_err c.from_residual.result ((λ i. machine_of (c.in_err-take_back.ensures.err i) c.self.inside.journal.items) ∙ c.self.view_is)

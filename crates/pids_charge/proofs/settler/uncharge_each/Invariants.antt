@@ -1,6 +1,6 @@
 use Rattle.std.proofs.Common.{◌≡◌, ℕ, ◌+◌, take}
 use Rattle.snzi_core.specs.Listed.{listed_at}
-use Rattle.pids_charge.proofs.alone.uncharge_each.Given as goal
+use Rattle.pids_charge.proofs.settler.uncharge_each.Given as goal
 
 abbrev pub invariant-loop-token : goal.invariant-loop-token
 invariant-loop-token g l = record {

@@ -17,7 +17,7 @@ use Rattle.pids_charge.proofs.TableSlots.{one_home}
 use Rattle.pids_charge.proofs.Charged.{held_small, inside_there, killed}
 use Rattle.pids_charge.proofs.Listing.{lost-is, killed-is}
 use Rattle.pids_charge.proofs.Asked.{group-found, kill_no_group, kill_allowed}
-use Rattle.pids_charge.proofs.charges.Charges.kill_alone.Goals as goal
+use Rattle.pids_charge.proofs.charges.Charges.kill_by.Goals as goal
 
 pub returns-then-is_none-clause-state : goal.returns-then-is_none-clause-state
 returns-then-is_none-clause-state g c =
@@ -31,12 +31,12 @@ returns-in_default-clause-state g c =
     let long : 0 < length c.args.path.now = omega arith in
     (kill_allowed g.M.Meter.SLOTS c.args.self.now c.args.path.now long is, refl)
 
-pub settle_alone-requires-clause-charged : goal.settle_alone-requires-clause-charged
-settle_alone-requires-clause-charged g c = λ s j.
+pub settle-requires-clause-charged : goal.settle-requires-clause-charged
+settle-requires-clause-charged g c = λ s j.
     rw (c.as_slice.ensures.value, (c.in-Ok.ensures).counted s j) (inside_there g.M.Meter.LEAVES c.self.inside.tree c.self.inside.processes (g.M.Meter.content c.self.inside.meter) (g.M.Meter.held c.self.inside.meter) c.self.invariant.recounted c.args.path.now s j)
 
-pub settle_alone-requires-clause-room : goal.settle_alone-requires-clause-room
-settle_alone-requires-clause-room g c =
+pub settle-requires-clause-room : goal.settle-requires-clause-room
+settle-requires-clause-room g c =
     omega (arith, held_small g.M.Meter.LEAVES c.self.inside.tree c.self.inside.processes (g.M.Meter.content c.self.inside.meter) (g.M.Meter.held c.self.inside.meter) c.self.invariant.recounted c.self.invariant.has_slots.shallow)
 
 pub invariant_of-self : goal.invariant_of-self
@@ -49,8 +49,8 @@ invariant_of-self g c =
       has_slots = c.self.invariant.has_slots;
       room = c.self.invariant.room;
       recounted = killed g.M.Meter.LEAVES c.self.inside.tree c.self.inside.processes (g.M.Meter.content c.self.inside.meter) (g.M.Meter.held c.self.inside.meter) c.self.invariant.recounted c.args.path.now
-          c.leave-lost.new.processes (g.M.Meter.content c.settle_alone.new.meter) (g.M.Meter.held c.settle_alone.new.meter) (c.leave-lost.ensures.stay ∙ ap (λ (ks : List ℕ). without_each ks c.self.inside.processes) (c.as_slice-2.ensures.value ∙ (c.in-Ok.ensures).pids) ∙ left_rows (is_inside c.args.path.now) c.self.inside.processes c.self.invariant.recounted.ordered) c.leave-lost.ensures.ordered
-          (λ s j. omega (arith, c.settle_alone.ensures.content s j, counted s j)) (omega (arith, c.settle_alone.ensures.held, many));
+          c.leave-lost.new.processes (g.M.Meter.content c.settle.new.meter) (g.M.Meter.held c.settle.new.meter) (c.leave-lost.ensures.stay ∙ ap (λ (ks : List ℕ). without_each ks c.self.inside.processes) (c.as_slice-2.ensures.value ∙ (c.in-Ok.ensures).pids) ∙ left_rows (is_inside c.args.path.now) c.self.inside.processes c.self.invariant.recounted.ordered) c.leave-lost.ensures.ordered
+          (λ s j. omega (arith, c.settle.ensures.content s j, counted s j)) (omega (arith, c.settle.ensures.held, many));
     }
 
 pub returns-clause-state : goal.returns-clause-state
