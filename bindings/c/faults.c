@@ -28,17 +28,11 @@ static uint32_t run(mk0_handle *engine, const struct line *line) {
     return mk0_line(engine, 0, (const uint8_t *)line->text, line->len, (uint8_t *)out, sizeof out, &told);
 }
 
-static bool is_below(const char *group, const char *top) {
-    size_t len = strlen(top);
-    return strncmp(group, top, len) == 0 && (group[len] == 0 || group[len] == '/');
-}
-
 /* each group comes before those below it, so the last is removed first */
-static uint32_t remove_groups(mk0_handle *engine, const char *top, const char *groups, size_t len) {
+static uint32_t remove_groups(mk0_handle *engine, const char *groups, size_t len) {
     uint32_t status = MK_DONE;
     while (len > 0 && status != MK_OUT_OF_MEMORY) {
         for (len--; len > 0 && groups[len - 1] != 0;) len--;
-        if (!is_below(groups + len, top)) continue;
         struct line line;
         begin_line(&line, "rmdir", groups + len);
         status = run(engine, &line);
@@ -56,12 +50,13 @@ static uint32_t vanish(mk0_handle *engine, const char *path) {
     if (status == MK_REFUSED) return MK_DONE; /* there is no such group */
     if (status != MK_DONE) return status;
     uint8_t none;
-    status = mk0_groups(engine, &none, 0, &told);
+    size_t path_len = strlen(path);
+    status = mk0_subtree(engine, (const uint8_t *)path, path_len, &none, 0, &told);
     if (status != MK_TOO_SMALL) return status;
     uint8_t *groups = malloc(told.needed);
     if (groups == NULL) return MK_OUT_OF_MEMORY;
-    status = mk0_groups(engine, groups, told.needed, &told);
-    if (status == MK_DONE) status = remove_groups(engine, path, (const char *)groups, told.len);
+    status = mk0_subtree(engine, (const uint8_t *)path, path_len, groups, told.needed, &told);
+    if (status == MK_DONE) status = remove_groups(engine, (const char *)groups, told.len);
     free(groups);
     return status == MK_OUT_OF_MEMORY ? status : (uint32_t)MK_DONE;
 }

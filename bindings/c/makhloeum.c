@@ -282,29 +282,51 @@ PUBLIC uint32_t mk_forget(mk_handle *h) {
     return status;
 }
 
-PUBLIC uint32_t mk_children(mk_handle *h, const uint8_t *path, size_t path_len, uint8_t *out, size_t out_size,
-                            mk_info *info) {
+typedef uint32_t listing_call(mk0_handle *h, uint8_t *out, size_t out_size, mk0_info *info);
+
+static uint32_t list(mk_handle *h, listing_call *call, uint8_t *out, size_t out_size, mk_info *info) {
     mk0_handle *engine;
     mk0_info told = {0};
     uint32_t status = enter(h, &engine);
     if (status == MK_DONE) {
-        status = faults_before(engine, path, path_len, &told);
-        if (status == MK_DONE) status = mk0_children(engine, path, path_len, out, out_size, &told);
-        if (status == MK_TOO_SMALL) faults_again(engine, path, path_len);
+        status = call(engine, out, out_size, &told);
         leave(engine);
     }
     return tell(info, status, &told);
 }
 
 PUBLIC uint32_t mk_groups(mk_handle *h, uint8_t *out, size_t out_size, mk_info *info) {
+    return list(h, mk0_groups, out, out_size, info);
+}
+
+PUBLIC uint32_t mk_history(mk_handle *h, uint8_t *out, size_t out_size, mk_info *info) {
+    return list(h, mk0_history, out, out_size, info);
+}
+
+typedef uint32_t listing_at_call(mk0_handle *h, const uint8_t *path, size_t path_len, uint8_t *out, size_t out_size,
+                                 mk0_info *info);
+
+static uint32_t list_at(mk_handle *h, listing_at_call *call, const uint8_t *path, size_t path_len, uint8_t *out,
+                        size_t out_size, mk_info *info) {
     mk0_handle *engine;
     mk0_info told = {0};
     uint32_t status = enter(h, &engine);
     if (status == MK_DONE) {
-        status = mk0_groups(engine, out, out_size, &told);
+        status = faults_before(engine, path, path_len, &told);
+        if (status == MK_DONE) status = call(engine, path, path_len, out, out_size, &told);
+        if (status == MK_TOO_SMALL) faults_again(engine, path, path_len);
         leave(engine);
     }
     return tell(info, status, &told);
+}
+
+PUBLIC uint32_t mk_children(mk_handle *h, const uint8_t *path, size_t path_len, uint8_t *out, size_t out_size,
+                            mk_info *info) {
+    return list_at(h, mk0_children, path, path_len, out, out_size, info);
+}
+
+PUBLIC uint32_t mk_subtree(mk_handle *h, const uint8_t *path, size_t path_len, uint8_t *out, size_t out_size, mk_info *info) {
+    return list_at(h, mk0_subtree, path, path_len, out, out_size, info);
 }
 
 PUBLIC uint32_t mk_has_group(mk_handle *h, const uint8_t *path, size_t path_len, mk_info *info) {

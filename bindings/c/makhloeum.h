@@ -47,8 +47,8 @@ typedef struct {
 
 /* What a call returns besides its status. A field is 0 unless its line says otherwise. */
 typedef struct {
-    size_t len;    /* how many bytes of the buffer are the answer, the text or the names */
-    size_t count;  /* how many names, pids or texts these are; for mk_undo_to how many commands were undone */
+    size_t len;    /* how many bytes of the buffer are the answer, the text, the names or the lines */
+    size_t count;  /* how many names, lines, pids or texts these are; for mk_undo_to how many commands were undone */
     size_t needed; /* with MK_TOO_SMALL: so many bytes, or pids, are enough for this call in this state */
     uint32_t code; /* with MK_REFUSED and MK_FAULT: which refusal or fault */
     int32_t error; /* the errno for status and code: see mk_status_errno; for mk_put and MK_FAILED it is said there */
@@ -159,6 +159,15 @@ uint32_t mk_children(mk_handle *h, const uint8_t *path, size_t path_len, uint8_t
    MK_OUT_OF_MEMORY, MK_CLOSED or MK_BUSY. Costs a descent for each group. */
 uint32_t mk_groups(mk_handle *h, uint8_t *out, size_t out_size, mk_info *info);
 
+/* The paths of the group and of the groups below it, in the order of mk_groups: info->count paths in info->len bytes.
+   MK_DONE; MK_REFUSED with MK_NO_GROUP if there is no such group; MK_FAULT with MK_PATH if the text is no path; MK_TOO_SMALL,
+   MK_OUT_OF_MEMORY, MK_CLOSED, MK_BUSY. Costs a descent for each group. */
+uint32_t mk_subtree(mk_handle *h, const uint8_t *path, size_t path_len, uint8_t *out, size_t out_size, mk_info *info);
+
+/* The recorded commands that can be undone, oldest first, each as mk_undo shows it, with a line feed: info->count lines in
+   info->len bytes. MK_DONE, MK_TOO_SMALL, MK_OUT_OF_MEMORY, MK_CLOSED or MK_BUSY. */
+uint32_t mk_history(mk_handle *h, uint8_t *out, size_t out_size, mk_info *info);
+
 /* Whether there is such a group: MK_DONE if there is, MK_REFUSED with MK_NO_GROUP if not, MK_FAULT with MK_PATH if the text
    is not a path; MK_OUT_OF_MEMORY, MK_CLOSED, MK_BUSY. */
 uint32_t mk_has_group(mk_handle *h, const uint8_t *path, size_t path_len, mk_info *info);
@@ -230,9 +239,9 @@ uint32_t mk_wait(mk_handle *h, uint64_t seen, uint32_t milliseconds, uint64_t *c
 
 /* ---- faults, for tests of programs that use a hierarchy.
 
-   Calls that name a path are mk_line with a path, mk_children, mk_has_group, mk_read_many for each of its files, and every
-   call here with a path but mk_fail, mk_vanish and mk_path_fault. A call that returns MK_TOO_SMALL does not count. If
-   several faults are due at one call, the newest occurs, and the others are dropped. */
+   Calls that name a path are mk_line with a path, mk_children, mk_subtree, mk_has_group, mk_read_many for each of its files,
+   and every call here with a path but mk_fail, mk_vanish and mk_path_fault. A call that returns MK_TOO_SMALL does not count.
+   If several faults are due at one call, the newest occurs, and the others are dropped. */
 
 /* The nth call from now on that names the path fails: it returns MK_FAILED with that errno. nth is 1 for the next. MK_DONE;
    MK_FAULT with MK_PATH, or with MK_VALUE if nth or the errno is not positive; MK_OUT_OF_MEMORY, MK_CLOSED, MK_BUSY. */

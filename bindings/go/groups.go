@@ -9,6 +9,14 @@ import (
 	"strings"
 )
 
+// listed cuts a listing, where each text is ended by a zero byte.
+func listed(told []byte, err error) ([]string, error) {
+	if err != nil || len(told) == 0 {
+		return nil, err
+	}
+	return strings.Split(string(told[:len(told)-1]), "\x00"), nil
+}
+
 // Children returns the names of the groups one name below the group, in the order of their bytes.
 func (h *Hierarchy) Children(path string) ([]string, error) {
 	c := newCall()
@@ -18,37 +26,19 @@ func (h *Hierarchy) Children(path string) ([]string, error) {
 		return C.mk_children(&h.handle, at(text), C.size_t(len(text)), at(c.out), C.size_t(len(c.out)), &c.info)
 	})
 	runtime.KeepAlive(h)
-	if err != nil || len(told) == 0 {
-		return nil, err
-	}
-	return strings.Split(string(told[:len(told)-1]), "\x00"), nil
+	return listed(told, err)
 }
 
 // Groups returns the paths of the group and of all below it, each before those below it.
 func (h *Hierarchy) Groups(path string) ([]string, error) {
-	what := command{text: "groups " + path, path: path, hasPath: true}
 	c := newCall()
 	defer c.end()
-	told, err := c.told(what, func() C.uint32_t {
-		return C.mk_groups(&h.handle, at(c.out), C.size_t(len(c.out)), &c.info)
+	text := []byte(path)
+	told, err := c.told(command{text: "groups " + path, path: path, hasPath: true}, func() C.uint32_t {
+		return C.mk_subtree(&h.handle, at(text), C.size_t(len(text)), at(c.out), C.size_t(len(c.out)), &c.info)
 	})
 	runtime.KeepAlive(h)
-	if err != nil {
-		return nil, err
-	}
-	var groups []string
-	for _, group := range strings.Split(strings.TrimSuffix(string(told), "\x00"), "\x00") {
-		if path == "/" || group == path || strings.HasPrefix(group, path+"/") {
-			groups = append(groups, group)
-		}
-	}
-	if len(groups) > 0 && groups[0] == path {
-		return groups, nil
-	}
-	if fault, _ := pathFault(path); fault != 0 {
-		return nil, failure(what, C.MK_FAULT, BadPath, nil)
-	}
-	return nil, failure(what, C.MK_REFUSED, NoGroup, nil)
+	return listed(told, err)
 }
 
 // HasGroup says whether there is such a group.

@@ -13,7 +13,9 @@ static struct kept none = { .fd = -1 };
 static size_t lines(void)
 {
 	size_t size, count = 0;
-	const char *text = engine_standing(&size);
+	const char *text;
+	if (engine_history(&text, &size))
+		abort();
 	for (size_t i = 0; i < size; i++)
 		count += text[i] == '\n';
 	return count;

@@ -93,11 +93,21 @@ static int read_where(long which, int (*keep)(void *, const char *, size_t), voi
 	return keep(to, text, (size_t)size);
 }
 
+/* Where the last line begins. */
+static size_t last_line(const char *text, size_t size)
+{
+	size_t from = size ? size - 1 : 0;
+	while (from && text[from - 1] != '\n')
+		from--;
+	return from;
+}
+
 int control_read(long file, int (*keep)(void *, const char *, size_t), void *to)
 {
 	char depth[32];
 	const char *text;
-	size_t size;
+	size_t size, from;
+	int fault;
 	WANTS_LOCK();
 	if (file >= CONTROL_WHERE)
 		return read_where(file - CONTROL_WHERE, keep, to);
@@ -106,11 +116,10 @@ int control_read(long file, int (*keep)(void *, const char *, size_t), void *to)
 		snprintf(depth, sizeof depth, "%zu\n", engine_depth());
 		return keep(to, depth, strlen(depth));
 	case NEWEST:
-		text = engine_newest(&size);
-		return keep(to, text, size);
 	case TRACE:
-		text = engine_standing(&size);
-		return keep(to, text, size);
+		fault = engine_history(&text, &size);
+		from = file == NEWEST ? last_line(text, size) : 0;
+		return fault ? fault : keep(to, text + from, size - from);
 	default:
 		return -EINVAL;
 	}

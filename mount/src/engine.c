@@ -28,7 +28,7 @@ struct buffer {
 	char *at;
 	size_t size, room;
 };
-static struct buffer answer, text, standing, names, paths;
+static struct buffer answer, text, names, paths, past;
 
 static bool make_room(struct buffer *b, size_t room)
 {
@@ -51,8 +51,8 @@ bool engine_start(struct kept *trace_to, struct kept *answers_to, bool history)
 	answers = answers_to;
 	has_history = history;
 	clock_gettime(CLOCK_MONOTONIC, &started);
-	return make_room(&answer, FIRST_ANSWER) && make_room(&text, FIRST_ANSWER) && make_room(&standing, LINE_MAX) &&
-	       make_room(&names, MK_CHILDREN_MAX) && mk_open(&engine) == MK_DONE;
+	return make_room(&answer, FIRST_ANSWER) && make_room(&text, FIRST_ANSWER) && make_room(&paths, FIRST_ANSWER) &&
+	       make_room(&past, FIRST_ANSWER) && make_room(&names, MK_CHILDREN_MAX) && mk_open(&engine) == MK_DONE;
 }
 
 void engine_end(void)
@@ -60,9 +60,9 @@ void engine_end(void)
 	mk_close(&engine);
 	free(answer.at);
 	free(text.at);
-	free(standing.at);
 	free(names.at);
 	free(paths.at);
+	free(past.at);
 	kept_close(trace);
 	kept_close(answers);
 }
@@ -144,20 +144,6 @@ static enum effect effect_since(size_t depth)
 	return now > depth ? RECORDED : now < depth ? UNDONE : NOTHING;
 }
 
-static void stand(enum effect effect)
-{
-	if (!has_history)
-		return;
-	if (effect == RECORDED) {
-		memcpy(standing.at + standing.size, line, line_size + 1);
-		standing.size += line_size + 1;
-	} else if (effect == UNDONE) {
-		size_t newest;
-		engine_newest(&newest);
-		standing.size -= newest;
-	}
-}
-
 /* Brings back the state before the line that was answered: what it recorded is undone, and what it undid is done again. */
 static bool step_back(enum effect effect)
 {
@@ -211,8 +197,6 @@ static int ask_and_keep(void)
 	size_t size = line_size + 1;
 	line[line_size] = '\n';
 	line[size] = 0;
-	if (has_history && !make_room(&standing, standing.size + size))
-		return -ENOMEM;
 	if (!has_history && engine_depth() >= FORGET_AT)
 		mk_forget(&engine);
 	size_t depth = engine_depth();
@@ -230,7 +214,6 @@ static int ask_and_keep(void)
 		return fault;
 	}
 	number++;
-	stand(effect);
 	tell_long();
 	return error_of(status, code);
 }
@@ -300,38 +283,17 @@ int engine_children(const char *path, const char **found, size_t *count)
 	return status == MK_DONE ? 0 : status == MK_OUT_OF_MEMORY ? -ENOMEM : -ENOENT;
 }
 
-static bool add_path(const char *group, const char *name)
-{
-	bool root = group[0] == '/' && group[1] == 0;
-	size_t size = (root ? 0 : strlen(group)) + 1 + strlen(name) + 1, at = (size_t)(group - paths.at);
-	if (!make_room(&paths, paths.size + size))
-		return false;
-	group = paths.at + at;
-	snprintf(paths.at + paths.size, size, "%s/%s", root ? "" : group, name);
-	paths.size += size;
-	return true;
-}
-
 int engine_groups(const char *top, const char **found, size_t *count)
 {
-	size_t all = strlen(top) + 1;
-	*count = 0;
-	if (!make_room(&paths, all))
-		return -ENOMEM;
-	memcpy(paths.at, top, all);
-	paths.size = all;
-	for (size_t at = 0; at < paths.size; at += strlen(paths.at + at) + 1, ++*count) {
-		const char *children;
-		size_t below;
-		int fault = engine_children(paths.at + at, &children, &below);
-		if (fault)
-			return fault;
-		for (; below--; children += strlen(children) + 1)
-			if (!add_path(paths.at + at, children))
-				return -ENOMEM;
-	}
+	mk_info info;
+	uint32_t status;
+	WANTS_LOCK();
+	do
+		status = mk_subtree(&engine, (const uint8_t *)top, strlen(top), (uint8_t *)paths.at, paths.room, &info);
+	while (status == MK_TOO_SMALL && make_room(&paths, info.needed));
 	*found = paths.at;
-	return 0;
+	*count = info.count;
+	return status == MK_DONE ? 0 : status == MK_REFUSED || status == MK_FAULT ? -ENOENT : -ENOMEM;
 }
 
 size_t engine_depth(void)
@@ -364,27 +326,18 @@ int engine_limit(const char *group, uint64_t *limit)
 int engine_forget(void)
 {
 	WANTS_LOCK();
-	if (mk_forget(&engine) != MK_DONE)
-		return -ENOMEM;
-	standing.size = 0;
-	return 0;
+	return mk_forget(&engine) == MK_DONE ? 0 : -ENOMEM;
 }
 
-const char *engine_standing(size_t *size)
+int engine_history(const char **lines, size_t *size)
 {
+	mk_info info;
+	uint32_t status;
 	WANTS_LOCK();
-	*size = standing.size;
-	return standing.at;
-}
-
-const char *engine_newest(size_t *size)
-{
-	WANTS_LOCK();
-	size_t from = standing.size;
-	if (from)
-		from--;
-	while (from && standing.at[from - 1] != '\n')
-		from--;
-	*size = standing.size - from;
-	return standing.at + from;
+	do
+		status = mk_history(&engine, (uint8_t *)past.at, past.room, &info);
+	while (status == MK_TOO_SMALL && make_room(&past, info.needed));
+	*lines = past.at;
+	*size = info.len;
+	return status == MK_DONE ? 0 : -ENOMEM;
 }

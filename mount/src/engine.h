@@ -48,8 +48,7 @@ size_t engine_depth(void);
 /* Keeps the state and drops the records: nothing earlier can be undone. 0 or -errno */
 int engine_forget(void);
 
-/* The recorded commands that stand, oldest first, as a trace; and the newest of them. */
-const char *engine_standing(size_t *size);
-const char *engine_newest(size_t *size);
+/* The recorded commands, oldest first, as a trace. 0 or -ENOMEM */
+int engine_history(const char **lines, size_t *size);
 
 #endif

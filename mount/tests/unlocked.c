@@ -28,8 +28,7 @@ static void has_group(void) { engine_has_group("/"); }
 static void children(void) { engine_children("/", &text, &size); }
 static void groups(void) { engine_groups("/", &text, &size); }
 static void depth(void) { engine_depth(); }
-static void standing(void) { engine_standing(&size); }
-static void newest(void) { engine_newest(&size); }
+static void history(void) { engine_history(&text, &size); }
 static void find(void) { remembered_find("/"); }
 static void make(void) { remembered_make("/"); }
 static void lose(void) { remembered_lose("/"); }
@@ -65,7 +64,7 @@ static int ends_by(void (*call)(void), bool locked)
 
 int main(void)
 {
-	void (*const calls[])(void) = { line, look_at, take_text, where, has_group, children, groups, depth, standing, newest, find, make,
+	void (*const calls[])(void) = { line, look_at, take_text, where, has_group, children, groups, depth, history, find, make,
 		lose, apply, set, forget_owner, forget_attributes, seen, above, below, forget_watch, new_open, is_gone, wake, lose_open, control };
 	static struct kept none = { .fd = -1 };
 	size_t wrong = 0, count = sizeof calls / sizeof *calls;

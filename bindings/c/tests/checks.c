@@ -18,6 +18,12 @@ static uint32_t children(const char *path, size_t size) {
 
 static uint32_t all_groups(size_t size) { return mk_groups(&h, out, size, &info); }
 
+static uint32_t subtree(const char *path, size_t size) {
+    return mk_subtree(&h, (const uint8_t *)path, strlen(path), out, size, &info);
+}
+
+static uint32_t history(size_t size) { return mk_history(&h, out, size, &info); }
+
 static uint32_t has_group(const char *path) { return mk_has_group(&h, (const uint8_t *)path, strlen(path), &info); }
 
 static bool says(const char *text) { return info.len == strlen(text) && memcmp(out, text, info.len) == 0; }
@@ -40,6 +46,8 @@ static int closed_handles(void) {
     CHECK(mk_depth(&h, &depth) == MK_CLOSED && depth == 0);
     CHECK(children("/", sizeof out) == MK_CLOSED);
     CHECK(all_groups(sizeof out) == MK_CLOSED && info.len == 0 && info.count == 0);
+    CHECK(subtree("/", sizeof out) == MK_CLOSED && info.len == 0 && info.count == 0);
+    CHECK(history(sizeof out) == MK_CLOSED && info.len == 0 && info.count == 0);
     CHECK(has_group("/") == MK_CLOSED);
     CHECK(mk_close(&h) == MK_CLOSED);
     CHECK(mk_open(&h) == MK_DONE);
@@ -108,6 +116,13 @@ static int groups(void) {
     CHECK(all_groups(sizeof out) == MK_DONE && names(7, "/\0/a\0/a/w\0/a/x\0/a/x/y\0/a/x-z\0/b", 32));
     CHECK(all_groups(32) == MK_DONE && all_groups(31) == MK_TOO_SMALL && info.len == 0 && info.count == 0);
     CHECK(info.needed == 32);
+    CHECK(subtree("/", sizeof out) == MK_DONE && names(7, "/\0/a\0/a/w\0/a/x\0/a/x/y\0/a/x-z\0/b", 32));
+    CHECK(subtree("/a", sizeof out) == MK_DONE && names(5, "/a\0/a/w\0/a/x\0/a/x/y\0/a/x-z", 27));
+    CHECK(subtree("/a/x", sizeof out) == MK_DONE && names(2, "/a/x\0/a/x/y", 12) && subtree("/b", 3) == MK_DONE && names(1, "/b", 3));
+    CHECK(subtree("/a", 27) == MK_DONE && subtree("/a", 26) == MK_TOO_SMALL && info.len == 0 && info.count == 0);
+    CHECK(info.needed == 27);
+    CHECK(subtree("/a/y", sizeof out) == MK_REFUSED && info.code == MK_NO_GROUP && info.len == 0 && info.count == 0);
+    CHECK(subtree("/a/", sizeof out) == MK_FAULT && info.code == MK_PATH && info.len == 0 && info.count == 0);
     CHECK(has_group("/a/x/y") == MK_DONE && info.code == 0);
     CHECK(has_group("/a/y") == MK_REFUSED && info.code == MK_NO_GROUP);
     CHECK(has_group("/a/") == MK_FAULT && info.code == MK_PATH);
@@ -123,6 +138,22 @@ static int to_the_end(void) {
     CHECK(all_groups(sizeof out) == MK_DONE && names(1, "/", 2));
     CHECK(mk_close(&h) == MK_DONE && mk_close(&h) == MK_CLOSED);
     CHECK(mk_open(&h) == MK_DONE && mk_close(&h) == MK_DONE);
+    return 0;
+}
+
+/* what is recorded is listed, refused forks included, until it is undone or forgotten */
+static int recorded(void) {
+    CHECK(mk_open(&h) == MK_DONE && history(0) == MK_DONE && info.len == 0 && info.count == 0);
+    CHECK(ask("mkdir /a", sizeof out) == MK_DONE && ask("mkdir /a", sizeof out) == MK_REFUSED && ask("fork 1 2", sizeof out) == MK_DONE);
+    CHECK(ask("write\t/a cgroup.procs 2", sizeof out) == MK_DONE && ask("write /a pids.max 1", sizeof out) == MK_DONE);
+    CHECK(ask("fork 2 3", sizeof out) == MK_REFUSED && ask("where 2", sizeof out) == MK_DONE);
+    CHECK(history(sizeof out) == MK_DONE && info.count == 5);
+    CHECK(says("mkdir /a\nfork 1 2\nwrite /a cgroup.procs 2\nwrite /a pids.max 1\nfork 2 3\n"));
+    CHECK(history(71) == MK_DONE && info.len == 71 && history(70) == MK_TOO_SMALL && info.len == 0 && info.count == 0 && info.needed == 71);
+    CHECK(mk_undo_to(&h, 2, &info) == MK_DONE && history(sizeof out) == MK_DONE && info.count == 2 && says("mkdir /a\nfork 1 2\n"));
+    CHECK(mk_forget(&h) == MK_DONE && history(sizeof out) == MK_DONE && info.len == 0 && info.count == 0);
+    CHECK(ask("rmdir /a", sizeof out) == MK_DONE && history(sizeof out) == MK_DONE && info.count == 1 && says("rmdir /a\n"));
+    CHECK(mk_close(&h) == MK_DONE);
     return 0;
 }
 
@@ -208,7 +239,7 @@ static int copies(void) {
 }
 
 int main(void) {
-    int (*const parts[])(void) = {closed_handles, replies, small_buffers, groups, to_the_end,
+    int (*const parts[])(void) = {closed_handles, replies, small_buffers, groups, to_the_end, recorded,
                                   errnos, names_of_codes, faults_of_paths, copies};
     for (size_t i = 0; i < sizeof parts / sizeof *parts; i++) {
         int failed = parts[i]();

@@ -194,6 +194,7 @@ static int failing(void) {
     CHECK(done(mk_fail(&h, "/a", 1, EIO, &info)) && failed(mk_processes(&h, "/a", pids, 2, &info), EIO) && info.count == 0);
     CHECK(done(mk_fail(&h, "/a", 1, EIO, &info)) && done(mk_read_many(&h, names, 1, &it, text, sizeof text, &info)) && it.status == MK_FAILED && it.error == EIO);
     CHECK(done(mk_fail(&h, "/a", 1, EIO, &info)) && failed(mk_children(&h, (const uint8_t *)"/a", 2, out, sizeof out, &info), EIO));
+    CHECK(done(mk_fail(&h, "/a", 1, EIO, &info)) && failed(mk_subtree(&h, (const uint8_t *)"/a", 2, out, sizeof out, &info), EIO));
     CHECK(done(mk_fail(&h, "/a", 1, EIO, &info)) && failed(mk_has_group(&h, (const uint8_t *)"/a", 2, &info), EIO));
     CHECK(done(mk_fail(&h, "/a", 1, EIO, &info)) && failed(mk_line(&h, 1, (const uint8_t *)" mkdir\t/a", 9, out, sizeof out, &info), EIO));
     CHECK(done(mk_fail(&h, "/a", 1, EIO, &info)) && failed(mk_put(&h, "/a", "pids.max", "5", 1, 1, &info), EIO));

@@ -117,6 +117,26 @@ static int copies(void) {
     return is_kept() ? 0 : 18;
 }
 
+static uint32_t list_children(void) { return mk_children(&h, (const uint8_t *)"/a", 2, out, sizeof out, &info); }
+
+static uint32_t list_groups(void) { return mk_groups(&h, out, sizeof out, &info); }
+
+static uint32_t list_subtree(void) { return mk_subtree(&h, (const uint8_t *)"/a", 2, out, sizeof out, &info); }
+
+static uint32_t list_history(void) { return mk_history(&h, out, sizeof out, &info); }
+
+/* nothing is listed without memory; and with it, these bytes */
+static bool lists(uint32_t (*call)(void), size_t count, const char *bytes, size_t len) {
+    for (long n = 0;; n++) {
+        left = n;
+        uint32_t status = call();
+        left = -1;
+        if (status == MK_DONE) return info.count == count && info.len == len && memcmp(out, bytes, len) == 0;
+        refused++;
+        if (status != MK_OUT_OF_MEMORY || info.len != 0 || info.count != 0 || !is_kept()) return false;
+    }
+}
+
 int main(void) {
     for (;; refused++) {
         left = refused;
@@ -139,24 +159,10 @@ int main(void) {
     }
     if (ask("mkdir /a") != MK_DONE || ask("mkdir /a/b") != MK_DONE) return 4;
     tell();
-    for (long n = 0;; n++) {
-        left = n;
-        uint32_t status = mk_children(&h, (const uint8_t *)"/a", 2, out, sizeof out, &info);
-        left = -1;
-        if (status == MK_DONE) break;
-        refused++;
-        if (status != MK_OUT_OF_MEMORY || info.len != 0 || info.count != 0 || !is_kept()) return 5;
-    }
-    if (info.count != 1 || info.len != 2 || memcmp(out, "b", 2) != 0) return 6;
-    for (long n = 0;; n++) {
-        left = n;
-        uint32_t status = mk_groups(&h, out, sizeof out, &info);
-        left = -1;
-        if (status == MK_DONE) break;
-        refused++;
-        if (status != MK_OUT_OF_MEMORY || info.len != 0 || info.count != 0 || !is_kept()) return 7;
-    }
-    if (info.count != 3 || info.len != 10 || memcmp(out, "/\0/a\0/a/b", 10) != 0) return 8;
+    if (!lists(list_children, 1, "b", 2)) return 5;
+    if (!lists(list_groups, 3, "/\0/a\0/a/b", 10)) return 6;
+    if (!lists(list_subtree, 2, "/a\0/a/b", 8)) return 7;
+    if (!lists(list_history, 2, "mkdir /a\nmkdir /a/b\n", 20)) return 8;
     int wrong = clients_calls();
     if (wrong == 0) wrong = copies();
     if (wrong != 0) return wrong;

@@ -88,7 +88,7 @@ def _load() -> Any:
         "mk_forget": (number, [handle]),
         "mk_copy": (number, [handle, handle]),
         "mk_children": (number, [handle, text, size, buffer, size, info]),
-        "mk_groups": (number, [handle, buffer, size, info]),
+        "mk_subtree": (number, [handle, text, size, buffer, size, info]),
         "mk_has_group": (number, [handle, text, size, info]),
         "mk_current": (number, [handle, text, ctypes.POINTER(ctypes.c_uint64), info]),
         "mk_peak": (number, [handle, text, ctypes.POINTER(ctypes.c_uint64), info]),

@@ -11,7 +11,7 @@ from ._changes import Changes
 from ._faults import Faults
 from ._library import ANSWER_MAX, DONE, NO_LIMIT, SKIPPED, TOO_SMALL, Handle, Info, library
 from ._many import Many
-from ._words import _FIRST_SIZE, _NO_WORD, Path, Value, _bytes, _path_refusal, _pid, _raise, _shown, _text, _value, _word
+from ._words import _FIRST_SIZE, _NO_WORD, Path, Value, _bytes, _pid, _raise, _shown, _text, _value, _word
 from .errors import BY_CODE, BadSyntax, NoGroup, Refused
 
 _Call = Callable[[Any, int, Any], int]
@@ -167,33 +167,22 @@ class Hierarchy(Changes, Faults, Many):
         if status != DONE:
             _raise(status, 0, "", None, "forget")
 
-    def children(self, path: Path) -> list[str]:
-        """The names of the groups one name below the group, in the order of their bytes."""
-        text = _bytes(path)
+    def _listed(self, call: Any, operation: str, path: Path) -> list[str]:
+        command, text = f"{operation} {_text(path)}", _bytes(path)
         try:
-            told = self._told(
-                lambda out, size, info: library.mk_children(self._at, text, len(text), out, size, info),
-                f"children {_text(path)}",
-                path,
-            )
+            told = self._told(lambda out, size, info: int(call(self._at, text, len(text), out, size, info)), command, path)
         except NoGroup as refused:
             refused.reply = f"nogroup {_text(path)}"
             raise
         return told.decode().split("\0")[:-1]
 
+    def children(self, path: Path) -> list[str]:
+        """The names of the groups one name below the group, in the order of their bytes."""
+        return self._listed(library.mk_children, "children", path)
+
     def groups(self, path: Path = "/") -> list[str]:
         """The paths of the group and of all below it, each before those below it."""
-        command, top = f"groups {_text(path)}", _bytes(path)
-        told = self._told(lambda out, size, info: library.mk_groups(self._at, out, size, info), command)
-        groups = told.split(b"\0")[:-1]
-        if top != b"/":
-            groups = [group for group in groups if group == top or group.startswith(top + b"/")]
-        if groups[:1] != [top]:
-            position = ctypes.c_size_t()
-            if library.mk_path_fault(top, len(top), ctypes.byref(position)):
-                raise _path_refusal(top, command)
-            raise NoGroup(f"nogroup {_text(path)}", _text(path), command)
-        return [group.decode() for group in groups]
+        return self._listed(library.mk_subtree, "groups", path)
 
     def _number(self, call: Any, value: Any, operation: str, path: Path) -> Any:
         """What a call reads of a group."""

@@ -1,6 +1,6 @@
 -- What the calls from C return and leave. A handle has an engine, or none.
 use Rattle.std.specs.Prelude.{◌≡◌, ℕ, cond, nat_eq, nat_lt, List, Option, None, Some, length, Result}
-use Rattle.flat_model.specs.Machine.{new_machine}
+use Rattle.flat_model.specs.Machine.{Machine, new_machine}
 use Rattle.flat_model.specs.Path.{Path}
 use Rattle.flat_model.specs.PathText.{PathFault}
 use Rattle.flat_model.specs.State.{State}
@@ -14,7 +14,7 @@ use Rattle.line_engine.specs.declared.listing.Found.{Found}
 use Rattle.line_engine.specs.declared.listing.Found.TheVariants as found
 use Rattle.line_engine.specs.declared.engine.LineEngine.{LineEngine}
 use Rattle.line_engine.specs.LineAnswers.{AnswersLine}
-use Rattle.line_engine.specs.Listings.{TellsChildren, TellsGroups, TellsGroup}
+use Rattle.line_engine.specs.Listings.{TellsChildren, TellsGroups, TellsSubtree, TellsHistory, TellsGroup}
 use Rattle.line_engine.specs.Numbers.{TellsNumber}
 use Rattle.line_engine.specs.declared.numbers.Number.{Number}
 use Rattle.line_engine.specs.declared.numbers.Number.TheVariants as number
@@ -104,29 +104,30 @@ listing_info listing.BadPath = told 0 0 33
 listing_info (listing.TooSmall needed) = too_small needed
 listing_info listing.OutOfMemory = told 0 0 0
 
--- the children of the group at the path are listed so, and the engine stays
-pub record ListedAt (e : LineEngine) (path : Result Path PathFault) (out : List ℕ) (status : ℕ) (info : Info) (new : Option LineEngine) : Type 0 where
+-- a listing that holds what `tells` says is returned, and the engine stays
+pub record ListedAt (tells : Machine → List ℕ → Listing → Type 0) (e : LineEngine) (out : List ℕ) (status : ℕ) (info : Info) (new : Option LineEngine) : Type 0 where
   pub answer : Listing
   pub new_is : new ≡ Some e
-  pub tells : TellsChildren e.engine.state path out answer
+  pub answer_is : tells e.engine out answer
   pub status_is : status ≡ listing_status answer
   pub info_is : info ≡ listing_info answer
 
-abbrev pub ListsAt : Option LineEngine → Result Path PathFault → List ℕ → ℕ → Info → Option LineEngine → Type 0
-ListsAt None path out status info new = (status ≡ 6) × (info ≡ told 0 0 0) × (new ≡ None)
-ListsAt (Some e) path out status info new = ListedAt e path out status info new
+abbrev pub ListsAt : (Machine → List ℕ → Listing → Type 0) → Option LineEngine → List ℕ → ℕ → Info → Option LineEngine → Type 0
+ListsAt tells None out status info new = (status ≡ 6) × (info ≡ told 0 0 0) × (new ≡ None)
+ListsAt tells (Some e) out status info new = ListedAt tells e out status info new
 
--- all groups are listed so, and the engine stays
-pub record GroupsListedAt (e : LineEngine) (out : List ℕ) (status : ℕ) (info : Info) (new : Option LineEngine) : Type 0 where
-  pub answer : Listing
-  pub new_is : new ≡ Some e
-  pub tells : TellsGroups e.engine.state out answer
-  pub status_is : status ≡ listing_status answer
-  pub info_is : info ≡ listing_info answer
+-- what each call lists
+abbrev pub TellsChildrenOf : Result Path PathFault → Machine → List ℕ → Listing → Type 0
+TellsChildrenOf path m out answer = TellsChildren m.state path out answer
 
-abbrev pub ListsGroupsAt : Option LineEngine → List ℕ → ℕ → Info → Option LineEngine → Type 0
-ListsGroupsAt None out status info new = (status ≡ 6) × (info ≡ told 0 0 0) × (new ≡ None)
-ListsGroupsAt (Some e) out status info new = GroupsListedAt e out status info new
+abbrev pub TellsGroupsOf : Machine → List ℕ → Listing → Type 0
+TellsGroupsOf m out answer = TellsGroups m.state out answer
+
+abbrev pub TellsSubtreeOf : Result Path PathFault → Machine → List ℕ → Listing → Type 0
+TellsSubtreeOf path m out answer = TellsSubtree m.state path out answer
+
+abbrev pub TellsHistoryOf : Machine → List ℕ → Listing → Type 0
+TellsHistoryOf m out answer = TellsHistory m.past out answer
 
 abbrev pub found_status : Found → ℕ
 found_status found.There = 0

@@ -3,7 +3,7 @@
 ghost use Rattle.std.specs.Prelude.{◌≡◌, codes};
 ghost use Rattle.flat_model.specs.PathText.{read_path};
 ghost use Rattle.flat_model.specs.Trace.{read_line};
-ghost use Rattle.c_library.specs.Status.{IsOpened, IsClosed, AnswersAt, CopiesAt, DepthAt, ForgetsAt, ListsAt, ListsGroupsAt, FindsAt};
+ghost use Rattle.c_library.specs.Status.{IsOpened, IsClosed, AnswersAt, CopiesAt, DepthAt, ForgetsAt, ListsAt, FindsAt, TellsChildrenOf, TellsGroupsOf, TellsSubtreeOf, TellsHistoryOf};
 ghost use Rattle.c_library.specs.Status.{told, too_small, status_of, status_of_code, info_of, listing_status, listing_info, found_status, found_info};
 
 use crate::handle::Handle;
@@ -256,7 +256,7 @@ pub extern "C" fn mk0_children(
     out: &mut [u8],
     info: &mut Info,
 ) -> u32
-    ensures { ListsAt h.old.seal.held (read_path path.now) out.new result info.new h.new.seal.held }
+    ensures { ListsAt (TellsChildrenOf (read_path path.now)) h.old.seal.held out.new result info.new h.new.seal.held }
 {
     let Some(engine) = h.take(alloc) else {
         *info = told(0, 0, 0);
@@ -271,13 +271,49 @@ pub extern "C" fn mk0_children(
 /// The paths of all groups.
 #[unsafe(no_mangle)]
 pub extern "C" fn mk0_groups(alloc: Global, h: &mut Handle, out: &mut [u8], info: &mut Info) -> u32
-    ensures { ListsGroupsAt h.old.seal.held out.new result info.new h.new.seal.held }
+    ensures { ListsAt TellsGroupsOf h.old.seal.held out.new result info.new h.new.seal.held }
 {
     let Some(engine) = h.take(alloc) else {
         *info = told(0, 0, 0);
         return CLOSED;
     };
     let listing = engine.groups(alloc, out);
+    h.put(alloc, engine);
+    *info = listing_info(listing);
+    listing_status(listing)
+}
+
+/// The paths of a group and of the groups below it.
+#[unsafe(no_mangle)]
+pub extern "C" fn mk0_subtree(
+    alloc: Global,
+    h: &mut Handle,
+    path: &[u8],
+    out: &mut [u8],
+    info: &mut Info,
+) -> u32
+    ensures { ListsAt (TellsSubtreeOf (read_path path.now)) h.old.seal.held out.new result info.new h.new.seal.held }
+{
+    let Some(engine) = h.take(alloc) else {
+        *info = told(0, 0, 0);
+        return CLOSED;
+    };
+    let listing = engine.subtree(alloc, path, out);
+    h.put(alloc, engine);
+    *info = listing_info(listing);
+    listing_status(listing)
+}
+
+/// The recorded commands as lines, oldest first.
+#[unsafe(no_mangle)]
+pub extern "C" fn mk0_history(alloc: Global, h: &mut Handle, out: &mut [u8], info: &mut Info) -> u32
+    ensures { ListsAt TellsHistoryOf h.old.seal.held out.new result info.new h.new.seal.held }
+{
+    let Some(engine) = h.take(alloc) else {
+        *info = told(0, 0, 0);
+        return CLOSED;
+    };
+    let listing = engine.history(alloc, out);
     h.put(alloc, engine);
     *info = listing_info(listing);
     listing_status(listing)

@@ -104,6 +104,25 @@ const GROUPS: [(usize, Listing, &[u8]); 2] = [
     (12, Listing::TooSmall { needed: 13 }, b""),
 ];
 
+/// A text, the size of a buffer, the result of listing the group at the text and those below it, and their paths in the
+/// buffer.
+const SUBTREES: [(&str, usize, Listing, &[u8]); 4] = [
+    ("/a", 8, Listing::Listed { len: 8, count: 2 }, b"/a\0/a/c\0"),
+    ("/a", 7, Listing::TooSmall { needed: 8 }, b""),
+    ("/c", 0, Listing::NoGroup, b""),
+    ("a", 0, Listing::BadPath, b""),
+];
+
+/// The size of a buffer, the result of listing the recorded commands, and their lines in the buffer.
+const HISTORIES: [(usize, Listing, &[u8]); 2] = [
+    (
+        29,
+        Listing::Listed { len: 29, count: 3 },
+        b"mkdir /b\nmkdir /a\nmkdir /a/c\n",
+    ),
+    (28, Listing::TooSmall { needed: 29 }, b""),
+];
+
 /// A text, and whether there is a group at it.
 const FOUND: [(&str, Found); 3] = [
     ("/a/c", Found::There),
@@ -125,6 +144,20 @@ fn are_groups(alloc: Global, lines: &LineEngine, row: (usize, Listing, &[u8])) -
     told == wanted && &buffer[..paths.len().min(16)] == paths
 }
 
+fn is_subtree(alloc: Global, lines: &LineEngine, row: (&str, usize, Listing, &[u8])) -> bool {
+    let (path, size, wanted, paths) = row;
+    let mut buffer = [0u8; 16];
+    let told = lines.subtree(alloc, path.as_bytes(), &mut buffer[..size.min(16)]);
+    told == wanted && &buffer[..paths.len().min(16)] == paths
+}
+
+fn is_history(alloc: Global, lines: &LineEngine, row: (usize, Listing, &[u8])) -> bool {
+    let (size, wanted, text) = row;
+    let mut buffer = [0u8; 32];
+    let told = lines.history(alloc, &mut buffer[..size.min(32)]);
+    told == wanted && &buffer[..text.len().min(32)] == text
+}
+
 fn other_listing(alloc: Global, lines: &LineEngine) -> Other {
     for row in CHILDREN {
         if !are_children(alloc, lines, row) {
@@ -134,6 +167,16 @@ fn other_listing(alloc: Global, lines: &LineEngine) -> Other {
     for row in GROUPS {
         if !are_groups(alloc, lines, row) {
             return Some("all groups");
+        }
+    }
+    for row in SUBTREES {
+        if !is_subtree(alloc, lines, row) {
+            return Some("a subtree");
+        }
+    }
+    for row in HISTORIES {
+        if !is_history(alloc, lines, row) {
+            return Some("the history");
         }
     }
     for (path, wanted) in FOUND {

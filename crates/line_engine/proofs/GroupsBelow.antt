@@ -1,10 +1,14 @@
 -- The groups below a group, name by name.
-use Rattle.std.proofs.Common.{◌≡◌, ◌≢◌, refl, ℕ, zero, suc, ◌+◌, ◌-◌, List, [], ◌∷◌, ◌++◌, length, flat_map, sym, ap, ◌∙◌, append_assoc, append-nil, length-append, arith}
+use Rattle.std.proofs.Common.{◌≡◌, ◌≢◌, refl, ℕ, zero, suc, ◌+◌, ◌-◌, List, [], ◌∷◌, ◌++◌, length, flat_map, true, sym, ap, ◌∙◌, append_assoc, append-nil, length-append, arith}
 use Rattle.std.proofs.lemmas.Grind.{flat_map-append}
 use Rattle.flat_model.specs.Path.{Name, Path}
 use Rattle.flat_model.specs.PathText.{path_text}
 use Rattle.flat_model.specs.State.{State}
-use Rattle.line_engine.specs.Listings.{all_groups, names_below, groups_from, paths_bytes}
+use Rattle.flat_model.specs.Counts.{is_group}
+use Rattle.line_engine.specs.Listings.{TellsAll, TellsSubtreeAt, names_below, groups_from, paths_bytes, subtree}
+use Rattle.line_engine.proofs.Told.{told_all}
+use Rattle.line_engine.specs.declared.listing.Listing.{Listing}
+use Rattle.line_engine.specs.declared.listing.Listing.TheVariants as listing
 
 -- the groups below p at these names, within n levels
 abbrev pub groups_under : State → ℕ → Path → List Name → List Path
@@ -69,11 +73,18 @@ all_count count s n p it some i was =
     let none : length (groups_under s (n - 1) p it) ≡ 0 = ap (λ ns. length (groups_under s (n - 1) p ns)) i in
     omega (arith, none, was, ap (λ ps. length ps) (groups_from-levels s n p some))
 
--- ---- from the root on
+-- ---- what a listing of them says
 
-pub told_groups : (s now : State) (root : Path) (old bytes shown : List ℕ) → old ≡ [] → now ≡ s → root ≡ [] → bytes ≡ old ++ paths_bytes (groups_from now 33 root) → shown ≡ bytes → shown ≡ paths_bytes (all_groups s)
-told_groups s now root old bytes shown o n r b e =
-    e ∙ b ∙ ap (λ t. t ++ paths_bytes (groups_from now 33 root)) o ∙ ap (λ u. paths_bytes (groups_from u 33 root)) n ∙ ap (λ q. paths_bytes (groups_from s 33 q)) r
+pub told_paths : (s now : State) (p : Path) (old bytes shown out : List ℕ) (count : ℕ) (a : Listing) → now ≡ s → old ≡ [] → bytes ≡ old ++ paths_bytes (groups_from now 33 p) → count ≡ length (groups_from now 33 p) → shown ≡ bytes
+    → TellsAll shown count out a → TellsAll (paths_bytes (subtree s p)) (length (subtree s p)) out a
+told_paths s now p old bytes shown out count a n o b c e =
+    told_all (paths_bytes (subtree s p)) shown out (length (subtree s p)) count a
+    (e ∙ b ∙ ap (λ t. t ++ paths_bytes (groups_from now 33 p)) o ∙ ap (λ u. paths_bytes (groups_from u 33 p)) n)
+    (c ∙ ap (λ u. length (groups_from u 33 p)) n)
 
-pub counted_groups : (s now : State) (root : Path) (count : ℕ) → now ≡ s → root ≡ [] → count ≡ length (groups_from now 33 root) → count ≡ length (all_groups s)
-counted_groups s now root count n r c = c ∙ ap (λ u. length (groups_from u 33 root)) n ∙ ap (λ q. length (groups_from s 33 q)) r
+pub told_subtree : (s : State) (p : Path) (out : List ℕ) (a : Listing) → is_group s p ≡ true → TellsAll (paths_bytes (subtree s p)) (length (subtree s p)) out a → TellsSubtreeAt s p out a
+told_subtree s p out (listing.Listed len count) there h = (there, h.0, h.1)
+told_subtree s p out listing.NoGroup there h = absurd h
+told_subtree s p out listing.BadPath there h = absurd h
+told_subtree s p out (listing.TooSmall needed) there h = (there, h)
+told_subtree s p out listing.OutOfMemory there h = tt

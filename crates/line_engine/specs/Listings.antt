@@ -5,7 +5,11 @@ use Rattle.flat_model.specs.Path.{Name, Path}
 use Rattle.flat_model.specs.PathText.{PathFault, path_text}
 use Rattle.flat_model.specs.State.{State}
 use Rattle.flat_model.specs.Counts.{is_group, children}
+use Rattle.flat_model.specs.Command.{Command}
+use Rattle.flat_model.specs.CommandText.{command_text}
+use Rattle.flat_model.specs.FileText.{line}
 use Rattle.group_tree.specs.ChildNames.{last_name}
+use Rattle.undo_journal.specs.Answer.{recorded_commands}
 use Rattle.line_engine.specs.Buffer.{Holds, LacksRoom}
 use Rattle.line_engine.specs.declared.listing.Listing.{Listing}
 use Rattle.line_engine.specs.declared.listing.Listing.TheVariants as listing
@@ -27,13 +31,21 @@ abbrev pub groups_from : State → ℕ → Path → List Path
 groups_from s zero p = []
 groups_from s (suc n) p = p ∷ flat_map (λ name. groups_from s n (p ++ name ∷ [])) (names_below s p)
 
--- all groups; a path has at most 32 names
+-- the group p and those below it; a path has at most 32 names
+abbrev pub subtree : State → Path → List Path
+subtree s p = groups_from s 33 p
+
+-- all groups
 abbrev pub all_groups : State → List Path
-all_groups s = groups_from s 33 []
+all_groups s = subtree s []
 
 -- each path followed by a zero byte
 abbrev pub paths_bytes : List Path → List ℕ
 paths_bytes paths = flat_map (λ p. path_text p ++ 0 ∷ []) paths
+
+-- the text of each command, and a line feed
+abbrev pub lines_bytes : List Command → List ℕ
+lines_bytes cs = flat_map (λ c. line (command_text c)) cs
 
 -- the path of the grammar; otherwise no path, or out of memory
 abbrev pub ReadsPath : Result Path Unread → Result Path PathFault → Type 0
@@ -65,11 +77,31 @@ abbrev pub TellsGroup : State → Result Path PathFault → Found → Type 0
 TellsGroup s (Ok p) a = TellsGroupAt s p a
 TellsGroup s (Err f) a = a ≡ found.BadPath
 
--- the first len bytes of the buffer are the paths of all groups, of which there are `count`; or the paths are longer
--- than the buffer
+-- the first len bytes of the buffer are these, of `many` entries; or they are longer than the buffer
+abbrev pub TellsAll : List ℕ → ℕ → List ℕ → Listing → Type 0
+TellsAll bytes many out (listing.Listed len count) = Holds out len bytes × (count ≡ many)
+TellsAll bytes many out listing.NoGroup = ⊥
+TellsAll bytes many out listing.BadPath = ⊥
+TellsAll bytes many out (listing.TooSmall needed) = LacksRoom out needed bytes
+TellsAll bytes many out listing.OutOfMemory = Unit {0}
+
+-- the paths of all groups
 abbrev pub TellsGroups : State → List ℕ → Listing → Type 0
-TellsGroups s out (listing.Listed len count) = Holds out len (paths_bytes (all_groups s)) × (count ≡ length (all_groups s))
-TellsGroups s out listing.NoGroup = ⊥
-TellsGroups s out listing.BadPath = ⊥
-TellsGroups s out (listing.TooSmall needed) = LacksRoom out needed (paths_bytes (all_groups s))
-TellsGroups s out listing.OutOfMemory = Unit {0}
+TellsGroups s out a = TellsAll (paths_bytes (all_groups s)) (length (all_groups s)) out a
+
+-- the paths of the group and of those below it; or there is no such group
+abbrev pub TellsSubtreeAt : State → Path → List ℕ → Listing → Type 0
+TellsSubtreeAt s p out (listing.Listed len count) = (is_group s p ≡ true) × Holds out len (paths_bytes (subtree s p)) × (count ≡ length (subtree s p))
+TellsSubtreeAt s p out listing.NoGroup = is_group s p ≡ false
+TellsSubtreeAt s p out listing.BadPath = ⊥
+TellsSubtreeAt s p out (listing.TooSmall needed) = (is_group s p ≡ true) × LacksRoom out needed (paths_bytes (subtree s p))
+TellsSubtreeAt s p out listing.OutOfMemory = Unit {0}
+
+-- the same for the group at the text, if it is a path
+abbrev pub TellsSubtree : State → Result Path PathFault → List ℕ → Listing → Type 0
+TellsSubtree s (Ok p) out a = TellsSubtreeAt s p out a
+TellsSubtree s (Err f) out a = a ≡ listing.BadPath
+
+-- the commands that can be undone, oldest first, as lines
+abbrev pub TellsHistory : List (Command × State) → List ℕ → Listing → Type 0
+TellsHistory past out a = TellsAll (lines_bytes (recorded_commands past)) (length past) out a

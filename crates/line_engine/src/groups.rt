@@ -1,11 +1,11 @@
-//! The paths of all groups.
+//! The paths of all groups, and of those below a group.
 
 ghost use Rattle.std.specs.Prelude.{◌≡◌, ◌++◌, IfOk, length};
-ghost use Rattle.line_engine.specs.Listings.{TellsGroups, groups_from, paths_bytes};
+ghost use Rattle.flat_model.specs.PathText.{read_path};
+ghost use Rattle.line_engine.specs.Listings.{TellsAll, TellsGroups, TellsSubtree, TellsSubtreeAt, groups_from, paths_bytes, subtree};
 
 use crate::engine::LineEngine;
-use crate::listing::Listing;
-use crate::writing::put_out;
+use crate::listing::{Listing, Unread, put_listing, read};
 use group_path::GroupPath;
 use pids_charge::{Charges, PlainMeter};
 use std::alloc::{AllocError, Global};
@@ -48,6 +48,25 @@ fn gather_groups(
 }
 
 impl LineEngine {
+    fn subtree_from(&self, alloc: Global, path: &GroupPath<Global>, out: &mut [u8]) -> Listing
+        ensures { TellsAll (paths_bytes (subtree self.now.engine.state path.now)) (length (subtree self.now.engine.state path.now)) out.new result }
+    {
+        let mut bytes = Vec::new(alloc);
+        let Ok(count) = gather_groups(alloc, self.engine.charges(), path, LEVELS, &mut bytes) else {
+            return Listing::OutOfMemory;
+        };
+        put_listing(out, bytes.as_slice(), count)
+    }
+
+    fn subtree_at(&self, alloc: Global, path: &GroupPath<Global>, out: &mut [u8]) -> Listing
+        ensures { TellsSubtreeAt self.now.engine.state path.now out.new result }
+    {
+        if self.engine.charges().attr(path).is_none() {
+            return Listing::NoGroup;
+        }
+        self.subtree_from(alloc, path, out)
+    }
+
     /// Puts the paths of all groups into the start of the buffer, each followed by a zero byte. The root comes first. After
     /// each group come the groups below it, child by child in the order of their names.
     pub fn groups(&self, alloc: Global, out: &mut [u8]) -> Listing
@@ -56,16 +75,18 @@ impl LineEngine {
         let Ok(root) = GroupPath::root(alloc) else {
             return Listing::OutOfMemory;
         };
-        let mut bytes = Vec::new(alloc);
-        let Ok(count) = gather_groups(alloc, self.engine.charges(), &root, LEVELS, &mut bytes)
-        else {
-            return Listing::OutOfMemory;
-        };
-        match put_out(out, bytes.as_slice()) {
-            Some(len) => Listing::Listed { len, count },
-            None => Listing::TooSmall {
-                needed: bytes.len(),
-            },
+        self.subtree_from(alloc, &root, out)
+    }
+
+    /// Puts the paths of the group and of the groups below it into the start of the buffer, in the order of `groups`, each
+    /// followed by a zero byte.
+    pub fn subtree(&self, alloc: Global, path: &[u8], out: &mut [u8]) -> Listing
+        ensures { TellsSubtree self.now.engine.state (read_path path.now) out.new result }
+    {
+        match read(alloc, path) {
+            Ok(path) => self.subtree_at(alloc, &path, out),
+            Err(Unread::BadPath) => Listing::BadPath,
+            Err(Unread::OutOfMemory) => Listing::OutOfMemory,
         }
     }
 }

@@ -2,7 +2,7 @@
 
 ghost use Rattle.std.specs.Prelude.{◌≡◌, IfOk, length};
 ghost use Rattle.flat_model.specs.PathText.{read_path};
-ghost use Rattle.line_engine.specs.Listings.{ReadsPath, TellsChildren, TellsChildrenAt, TellsGroup, names_bytes};
+ghost use Rattle.line_engine.specs.Listings.{ReadsPath, TellsChildren, TellsChildrenAt, TellsGroup, TellsAll, names_bytes};
 
 use crate::engine::LineEngine;
 use crate::writing::put_out;
@@ -10,14 +10,14 @@ use group_path::{GroupPath, PathFault};
 use group_tree::ChildNames;
 use std::alloc::{AllocError, Global};
 
-/// The result of listing a group's children.
+/// The result of listing names, paths or commands.
 #[derive(Clone, Copy, Debug, PartialEq, Eq)]
 pub enum Listing {
-    /// The names are in the buffer.
+    /// The entries are in the buffer.
     Listed {
-        /// How many bytes of the buffer the names take.
+        /// How many bytes of the buffer they take.
         len: usize,
-        /// How many names there are.
+        /// How many there are.
         count: usize,
     },
     /// The group does not exist.
@@ -26,7 +26,7 @@ pub enum Listing {
     BadPath,
     /// The buffer is too small.
     TooSmall {
-        /// The length of the names.
+        /// The length of all entries.
         needed: usize,
     },
     /// An allocation failed.
@@ -90,6 +90,18 @@ fn gather(alloc: Global, names: ChildNames<'_, Global>) -> Result<(Vec<u8>, usiz
         count += 1;
     }
     Ok((bytes, count))
+}
+
+/// Puts bytes with so many entries into the start of the buffer.
+pub(crate) fn put_listing(out: &mut [u8], bytes: &[u8], count: usize) -> Listing
+    ensures { TellsAll bytes.now count out.new result }
+{
+    match put_out(out, bytes) {
+        Some(len) => Listing::Listed { len, count },
+        None => Listing::TooSmall {
+            needed: bytes.len(),
+        },
+    }
 }
 
 impl LineEngine {

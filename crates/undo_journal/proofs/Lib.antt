@@ -11,3 +11,4 @@ mod Alls
 mod Answering
 mod Accepted
 mod Copies
+mod Recorded

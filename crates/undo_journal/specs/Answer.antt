@@ -1,5 +1,5 @@
 -- The engine's replies are the machine's, and its newest record is the one that the machine's past requires.
-use Rattle.std.specs.Prelude.{◌≡◌, ℕ, Bool, true, false, List, [], ◌∷◌, Option, Some, None}
+use Rattle.std.specs.Prelude.{◌≡◌, ℕ, Bool, true, false, List, [], ◌∷◌, map, reverse, Option, Some, None}
 use Rattle.flat_model.specs.State.{State}
 use Rattle.flat_model.specs.Command as model
 use Rattle.flat_model.specs.Step.{refusal, after, after_refusal}
@@ -36,6 +36,10 @@ state_after slots s c = state_by s c (refusal slots s c)
 abbrev pub newest_command : List (model.Command × State) → Option model.Command
 newest_command [] = None
 newest_command (e ∷ past) = Some e.0
+
+-- the recorded commands, oldest first
+abbrev pub recorded_commands : List (model.Command × State) → List model.Command
+recorded_commands past = reverse (map (λ e. e.0) past)
 
 -- i is the record that the newest recorded command left, and restores the state before it
 abbrev pub IsNewest : ℕ → State → List (model.Command × State) → model_inverse.Inverse → Type 0

@@ -14,6 +14,7 @@
 //!   command allocates its record after all checks and before any change.
 //! - The journal keeps each command with a small record, and no states. It has no bound of its own, and is not stored
 //!   on disk.
+//! - `command_at` reads the recorded commands, oldest first.
 //! - `undo_all` undoes everything, newest first, or as much as memory allows, and returns how many commands it undid.
 //! - A kill and its undo pass all their charges to the meter at once, and may wait for the threads that settle parts of
 //!   them. No other command waits. The session's number `who` selects where its charges are stored in the meter.
@@ -46,6 +47,7 @@ mod exit;
 mod faults;
 mod forget;
 mod fork;
+mod history;
 mod inverse;
 mod journal;
 mod kill;

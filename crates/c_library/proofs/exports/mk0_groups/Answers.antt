@@ -1,9 +1,9 @@
 use Rattle.std.proofs.Common.{subst, Option, rules}
 use Rattle.line_engine.specs.declared.engine.LineEngine.{LineEngine}
-use Rattle.c_library.specs.Status.{ListsGroupsAt}
+use Rattle.c_library.specs.Status.{ListsAt, TellsGroupsOf}
 use Rattle.c_library.proofs.exports.mk0_groups.Goals as goal
 
 pub returns : goal.returns
 returns c =
-    subst (λ (o : Option LineEngine). ListsGroupsAt o c.groups-listing.new.out c.listing_status.result c.listing_info.result c.put.new.self.seal.held) c.in-Some.ensures.taken
-    (record { answer = c.groups-listing.result; new_is = search rules; tells = search rules; status_is = c.listing_status.ensures; info_is = c.listing_info.ensures })
+    subst (λ (o : Option LineEngine). ListsAt TellsGroupsOf o c.groups-listing.new.out c.listing_status.result c.listing_info.result c.put.new.self.seal.held) c.in-Some.ensures.taken
+    (record { answer = c.groups-listing.result; new_is = search rules; answer_is = search rules; status_is = c.listing_status.ensures; info_is = c.listing_info.ensures })

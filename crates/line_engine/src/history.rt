@@ -1,0 +1,42 @@
+//! The recorded commands as lines.
+
+ghost use Rattle.std.specs.Prelude.{◌≡◌, IfOk};
+ghost use Rattle.undo_journal.specs.Answer.{recorded_commands};
+ghost use Rattle.line_engine.specs.Listings.{TellsHistory, lines_bytes};
+
+use crate::engine::LineEngine;
+use crate::listing::{Listing, put_listing};
+use pids_charge::PlainMeter;
+use std::alloc::{AllocError, Global};
+use undo_journal::Engine;
+
+fn gather_lines(
+    alloc: Global,
+    engine: &Engine<Global, PlainMeter<Global>>,
+) -> Result<Vec<u8>, AllocError>
+    ensures { IfOk result (λ bytes. bytes.items ≡ lines_bytes (recorded_commands engine.now.past)) }
+{
+    let mut bytes = Vec::new(alloc);
+    for place in 0..engine.depth() {
+        let Some(command) = engine.command_at(place) else {
+            unreachable!()
+        };
+        let text = command.text(alloc)?;
+        bytes.extend_from_slice(text.as_slice())?;
+        bytes.push(b'\n')?;
+    }
+    Ok(bytes)
+}
+
+impl LineEngine {
+    /// Puts the recorded commands, which can be undone, into the start of the buffer, oldest first. Each is a line as
+    /// `undo` shows it, with its line feed.
+    pub fn history(&self, alloc: Global, out: &mut [u8]) -> Listing
+        ensures { TellsHistory self.now.engine.past out.new result }
+    {
+        let Ok(bytes) = gather_lines(alloc, &self.engine) else {
+            return Listing::OutOfMemory;
+        };
+        put_listing(out, bytes.as_slice(), self.engine.depth())
+    }
+}
