@@ -27,7 +27,8 @@ root_or_below (p ∷ ps) =
 -- the root, and the groups below it
 pub len-groups : (s : State) → is_group s [] ≡ true → len s.groups ≡ descendant_count s [] + 1
 len-groups s h =
-    let once = once_among path_cmp-IsTotalOrder path_cmp-IsAntisymmetric (λ p. same_path p []) [] (λ k t. (same_path_is k []).0 t) (same_path_itself []) (entries s.groups) (entries_sorted s.groups) (ap is_some (sym (get-entries s.groups [])) ∙ h) in
+    let once = once_among path_cmp-IsTotalOrder path_cmp-IsAntisymmetric (λ p. same_path p []) [] (λ k t. (same_path_is k []).0 t)
+    (same_path_itself []) (entries s.groups) (entries_sorted s.groups) (ap is_some (sym (get-entries s.groups [])) ∙ h) in
     let all = root_or_below (keys s.groups) in
     let long = length-map (entries s.groups) (λ e. e.0) in
     let size = len-entries s.groups in

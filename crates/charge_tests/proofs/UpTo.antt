@@ -125,10 +125,15 @@ down_one n a q attr (Some x) h e =
 -- the count of a refused fork taken back
 pub up_uncounted : (n : ℕ) (s new : State) (a : Path) → HasEventsUpTo n s → new ≡ back (Counted a) s → HasEventsUpTo (n + 1) new
 up_uncounted n s new a h e =
-    subst (HasEventsUpTo (n + 1)) (sym e) (up_more n (back (Counted a) s) (λ q attr there. down_one n a q attr (get s.groups q) (h q) (sym (get-each path_cmp-IsTotalOrder path_cmp-IsAntisymmetric (count_down a) s.groups q) ∙ there)))
+    subst (HasEventsUpTo (n + 1)) (sym e)
+    (up_more n (back (Counted a) s)
+    (λ q attr there. down_one n a q attr (get s.groups q) (h q)
+    (sym (get-each path_cmp-IsTotalOrder path_cmp-IsAntisymmetric (count_down a) s.groups q) ∙ there)))
 
 -- a group put back whose totals are at most the total of another
-pub up_restored : {X E : Type 0} (n : ℕ) (s new : State) (p q : Path) (a b : Attr) (r : Result X E) → HasEventsUpTo n s → get s.groups q ≡ Some b → a.local ≤ b.total → a.total ≤ b.total → OnOk r (new ≡ back (Removed p a) s) → OnErr r (new ≡ s) → HasEventsUpTo (n + 1) new
+pub up_restored : {X E : Type 0} (n : ℕ) (s new : State) (p q : Path) (a b : Attr) (r : Result X E) → HasEventsUpTo n s
+    → get s.groups q ≡ Some b → a.local ≤ b.total → a.total ≤ b.total → OnOk r (new ≡ back (Removed p a) s) → OnErr r (new ≡ s)
+    → HasEventsUpTo (n + 1) new
 up_restored n s new p q a b (Ok x) h there local total ok err =
     let up = h q b there in
     subst (HasEventsUpTo (n + 1)) (sym ok) (up_more n (back (Removed p a) s) (up_put n s p a h (omega (arith, up.1, local), omega (arith, up.1, total))))

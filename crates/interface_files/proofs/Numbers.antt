@@ -1,5 +1,6 @@
 -- Digits of a number, one more at a time, and the first fault of a text.
-use Rattle.std.proofs.Common.{◌≡◌, ℕ, ◌+◌, ◌*◌, ◌-◌, ◌<◌, ◌≤◌, Bool, true, false, not, ◌&&◌, ◌==◌, nat_lt, nat_le, List, [], ◌∷◌, length, take, get_or, zero, suc, refl, ap, sym, ◌∙◌, arith, Option, None, Result, Ok, Err}
+use Rattle.std.proofs.Common.{◌≡◌, ℕ, ◌+◌, ◌*◌, ◌-◌, ◌<◌, ◌≤◌, Bool, true, false, not, ◌&&◌, ◌==◌, nat_lt, nat_le, List, [], ◌∷◌, length}
+use Rattle.std.proofs.Common.{take, get_or, zero, suc, refl, ap, sym, ◌∙◌, arith, Option, None, Result, Ok, Err}
 use Rattle.std.specs.Char.{is_ascii_digit}
 use Rattle.std.specs.Int.{IsInRange}
 use Rattle.std.specs.List.{list_all}
@@ -59,7 +60,9 @@ abbrev pub fault_by : Bool → Bool → Bool → Bool → Bool → Option ValueF
 fault_by empty digits padded low high = refuse empty Empty (refuse (not digits) NotANumber (refuse padded LeadingZero (refuse (not (low && high)) OutOfRange None)))
 
 abbrev pub read_by : ℕ → ℕ → List ℕ → Result ℕ ValueFault
-read_by low high ds = unless (fault_by (length ds == 0) (all_ascii_digits ds) (nat_lt 1 (length ds) && begins_with_zero ds) (nat_le low (digits_value 10 ds)) (nat_le (digits_value 10 ds) high)) (digits_value 10 ds)
+read_by low high ds =
+    unless (fault_by (length ds == 0) (all_ascii_digits ds) (nat_lt 1 (length ds) && begins_with_zero ds) (nat_le low (digits_value 10 ds))
+    (nat_le (digits_value 10 ds) high)) (digits_value 10 ds)
 
 read_is : (low high : ℕ) (ds : List ℕ) → read_by low high ds ≡ read_number low high ds
 unfolding number_fault
@@ -70,7 +73,9 @@ empty_by true d p l h v a = refl
 empty_by false d p l h v a = cc
 
 pub empty_is : (low high : ℕ) (ds : List ℕ) → (length ds == 0) ≡ true → Err Empty ≡ read_number low high ds
-empty_is low high ds e = empty_by (length ds == 0) (all_ascii_digits ds) (nat_lt 1 (length ds) && begins_with_zero ds) (nat_le low (digits_value 10 ds)) (nat_le (digits_value 10 ds) high) (digits_value 10 ds) e ∙ read_is low high ds
+empty_is low high ds e =
+    empty_by (length ds == 0) (all_ascii_digits ds) (nat_lt 1 (length ds) && begins_with_zero ds) (nat_le low (digits_value 10 ds))
+    (nat_le (digits_value 10 ds) high) (digits_value 10 ds) e ∙ read_is low high ds
 
 letters_by : (e d p l h : Bool) (v : ℕ) → e ≡ false → d ≡ false → Err NotANumber ≡ unless (fault_by e d p l h) v
 letters_by true d p l h v a b = cc
@@ -78,7 +83,9 @@ letters_by false true p l h v a b = cc
 letters_by false false p l h v a b = refl
 
 pub letters_are : (low high : ℕ) (ds : List ℕ) → (length ds == 0) ≡ false → list_all (λ b. is_ascii_digit b) ds ≡ false → Err NotANumber ≡ read_number low high ds
-letters_are low high ds e d = letters_by (length ds == 0) (all_ascii_digits ds) (nat_lt 1 (length ds) && begins_with_zero ds) (nat_le low (digits_value 10 ds)) (nat_le (digits_value 10 ds) high) (digits_value 10 ds) e (are_digits ds false d) ∙ read_is low high ds
+letters_are low high ds e d =
+    letters_by (length ds == 0) (all_ascii_digits ds) (nat_lt 1 (length ds) && begins_with_zero ds) (nat_le low (digits_value 10 ds))
+    (nat_le (digits_value 10 ds) high) (digits_value 10 ds) e (are_digits ds false d) ∙ read_is low high ds
 
 padded_by : (e d p l h : Bool) (v : ℕ) → e ≡ false → d ≡ true → p ≡ true → Err LeadingZero ≡ unless (fault_by e d p l h) v
 padded_by true d p l h v a b c = cc
@@ -86,8 +93,11 @@ padded_by false false p l h v a b c = cc
 padded_by false true false l h v a b c = cc
 padded_by false true true l h v a b c = refl
 
-pub padded_is : (low high : ℕ) (ds : List ℕ) → (length ds == 0) ≡ false → list_all (λ b. is_ascii_digit b) ds ≡ true → (nat_lt 1 (length ds) && begins_with_zero ds) ≡ true → Err LeadingZero ≡ read_number low high ds
-padded_is low high ds e d p = padded_by (length ds == 0) (all_ascii_digits ds) (nat_lt 1 (length ds) && begins_with_zero ds) (nat_le low (digits_value 10 ds)) (nat_le (digits_value 10 ds) high) (digits_value 10 ds) e (are_digits ds true d) p ∙ read_is low high ds
+pub padded_is : (low high : ℕ) (ds : List ℕ) → (length ds == 0) ≡ false → list_all (λ b. is_ascii_digit b) ds ≡ true
+    → (nat_lt 1 (length ds) && begins_with_zero ds) ≡ true → Err LeadingZero ≡ read_number low high ds
+padded_is low high ds e d p =
+    padded_by (length ds == 0) (all_ascii_digits ds) (nat_lt 1 (length ds) && begins_with_zero ds) (nat_le low (digits_value 10 ds))
+    (nat_le (digits_value 10 ds) high) (digits_value 10 ds) e (are_digits ds true d) p ∙ read_is low high ds
 
 beyond_by : (e d p l h : Bool) (v : ℕ) → e ≡ false → d ≡ true → p ≡ false → (l ≡ true → h ≡ true → ⊥) → Err OutOfRange ≡ unless (fault_by e d p l h) v
 beyond_by true d p l h v a b c f = cc
@@ -103,8 +113,13 @@ below_by n m e = grind (arith, nat_tests)
 at_most : (n m : ℕ) → n ≤ m → nat_le n m ≡ true
 at_most n m h = grind (arith, nat_tests)
 
-pub beyond_is : (low high : ℕ) (ds : List ℕ) → (length ds == 0) ≡ false → list_all (λ b. is_ascii_digit b) ds ≡ true → (nat_lt 1 (length ds) && begins_with_zero ds) ≡ false → (low ≤ digits_value 10 ds → digits_value 10 ds ≤ high → ⊥) → Err OutOfRange ≡ read_number low high ds
-beyond_is low high ds e d p f = beyond_by (length ds == 0) (all_ascii_digits ds) (nat_lt 1 (length ds) && begins_with_zero ds) (nat_le low (digits_value 10 ds)) (nat_le (digits_value 10 ds) high) (digits_value 10 ds) e (are_digits ds true d) p (λ l h. f (below_by low (digits_value 10 ds) l) (below_by (digits_value 10 ds) high h)) ∙ read_is low high ds
+pub beyond_is : (low high : ℕ) (ds : List ℕ) → (length ds == 0) ≡ false → list_all (λ b. is_ascii_digit b) ds ≡ true
+    → (nat_lt 1 (length ds) && begins_with_zero ds) ≡ false → (low ≤ digits_value 10 ds → digits_value 10 ds ≤ high → ⊥)
+    → Err OutOfRange ≡ read_number low high ds
+beyond_is low high ds e d p f =
+    beyond_by (length ds == 0) (all_ascii_digits ds) (nat_lt 1 (length ds) && begins_with_zero ds) (nat_le low (digits_value 10 ds))
+    (nat_le (digits_value 10 ds) high) (digits_value 10 ds) e (are_digits ds true d) p
+    (λ l h. f (below_by low (digits_value 10 ds) l) (below_by (digits_value 10 ds) high h)) ∙ read_is low high ds
 
 good_by : (e d p l h : Bool) (v : ℕ) → e ≡ false → d ≡ true → p ≡ false → l ≡ true → h ≡ true → Ok v ≡ unless (fault_by e d p l h) v
 good_by true d p l h v a b c x y = cc
@@ -114,10 +129,14 @@ good_by false true false false h v a b c x y = cc
 good_by false true false true false v a b c x y = cc
 good_by false true false true true v a b c x y = refl
 
-pub number_is : (low high : ℕ) (ds : List ℕ) (n : ℕ) → (length ds == 0) ≡ false → list_all (λ b. is_ascii_digit b) ds ≡ true → (nat_lt 1 (length ds) && begins_with_zero ds) ≡ false → low ≤ digits_value 10 ds → digits_value 10 ds ≤ high → n ≡ digits_value 10 ds → Ok n ≡ read_number low high ds
+pub number_is : (low high : ℕ) (ds : List ℕ) (n : ℕ) → (length ds == 0) ≡ false → list_all (λ b. is_ascii_digit b) ds ≡ true
+    → (nat_lt 1 (length ds) && begins_with_zero ds) ≡ false → low ≤ digits_value 10 ds → digits_value 10 ds ≤ high → n ≡ digits_value 10 ds
+    → Ok n ≡ read_number low high ds
 number_is low high ds n e d p least most is =
     ap Ok is
-    ∙ good_by (length ds == 0) (all_ascii_digits ds) (nat_lt 1 (length ds) && begins_with_zero ds) (nat_le low (digits_value 10 ds)) (nat_le (digits_value 10 ds) high) (digits_value 10 ds) e (are_digits ds true d) p (at_most low (digits_value 10 ds) least) (at_most (digits_value 10 ds) high most)
+    ∙ good_by (length ds == 0) (all_ascii_digits ds) (nat_lt 1 (length ds) && begins_with_zero ds) (nat_le low (digits_value 10 ds))
+    (nat_le (digits_value 10 ds) high) (digits_value 10 ds) e (are_digits ds true d) p (at_most low (digits_value 10 ds) least)
+    (at_most (digits_value 10 ds) high most)
     ∙ read_is low high ds
 
 -- what is read is in the range
@@ -131,7 +150,8 @@ range_by false true false true true v n x = (refl, refl, cc)
 
 pub number_range : (low high : ℕ) (ds : List ℕ) (n : ℕ) → Ok n ≡ read_number low high ds → (low ≤ n) × (n ≤ high)
 number_range low high ds n h =
-    let r = range_by (length ds == 0) (all_ascii_digits ds) (nat_lt 1 (length ds) && begins_with_zero ds) (nat_le low (digits_value 10 ds)) (nat_le (digits_value 10 ds) high) (digits_value 10 ds) n (h ∙ sym (read_is low high ds)) in
+    let r = range_by (length ds == 0) (all_ascii_digits ds) (nat_lt 1 (length ds) && begins_with_zero ds) (nat_le low (digits_value 10 ds))
+    (nat_le (digits_value 10 ds) high) (digits_value 10 ds) n (h ∙ sym (read_is low high ds)) in
     let least = below_by low (digits_value 10 ds) r.0 in
     let most = below_by (digits_value 10 ds) high r.1 in
     (omega (arith, least, r.2), omega (arith, most, r.2))

@@ -26,12 +26,18 @@ record Alike (rest : Past) (a b : Machine × model.Reply) : Type 0 where
 module _ (rest : Past) (s : State) (past : Past) where
   outcome_alike : (c : model.Command) (o : Option model.Refusal) → Alike rest (outcome (alone s past) c o) (outcome (over s past rest) c o)
   outcome_alike c None =
-      elim (model.changes c) as (λ b. Alike rest (cond b (recorded (alone s past) c (after s c)) (alone s past), accepted s c) (cond b (recorded (over s past rest) c (after s c)) (over s past rest), accepted s c)) [
+      elim (model.changes c) as (λ b. Alike rest (
+        cond b (recorded (alone s past) c (after s c)) (alone s past),
+        accepted s c,
+      ) (cond b (recorded (over s past rest) c (after s c)) (over s past rest), accepted s c)) [
         | true ↦ record { state = after s c; past = (c, s) ∷ past; reply = accepted s c; shorter = refl; longer = refl }
         | false ↦ record { state = s; past = past; reply = accepted s c; shorter = refl; longer = refl }
       ]
   outcome_alike c (Some r) =
-      elim (model.is_counted r) as (λ b. Alike rest (cond b (recorded (alone s past) c (after_refusal s r)) (alone s past), model.Refused r) (cond b (recorded (over s past rest) c (after_refusal s r)) (over s past rest), model.Refused r)) [
+      elim (model.is_counted r) as (λ b. Alike rest (
+        cond b (recorded (alone s past) c (after_refusal s r)) (alone s past),
+        model.Refused r,
+      ) (cond b (recorded (over s past rest) c (after_refusal s r)) (over s past rest), model.Refused r)) [
         | true ↦ record { state = after_refusal s r; past = (c, s) ∷ past; reply = model.Refused r; shorter = refl; longer = refl }
         | false ↦ record { state = s; past = past; reply = model.Refused r; shorter = refl; longer = refl }
       ]
@@ -42,7 +48,8 @@ undone_alike (e ∷ rest) s [] l = absurd (omega (arith, l))
 undone_alike rest s (e ∷ past) l = record { state = e.1; past = past; reply = model.Undone e.0; shorter = refl; longer = refl }
 
 module _ (slots : ℕ) (rest : Past) where
-  tick_alike : (s : State) (past : Past) (c : model.Command) → length rest ≤ length (tick slots (over s past rest) c).0.past → Alike rest (tick slots (alone s past) c) (tick slots (over s past rest) c)
+  tick_alike : (s : State) (past : Past) (c : model.Command) → length rest ≤ length (tick slots (over s past rest) c).0.past
+      → Alike rest (tick slots (alone s past) c) (tick slots (over s past rest) c)
   tick_alike s past c l =
       elim (model.is_undo c) as (λ b. length rest ≤ length (cond b (undone s (past ++ rest)) (outcome (over s past rest) c (refusal slots s c))).0.past
       → Alike rest (cond b (undone s past) (outcome (alone s past) c (refusal slots s c))) (cond b (undone s (past ++ rest)) (outcome (over s past rest) c (refusal slots s c)))) [

@@ -41,7 +41,8 @@ first_count s n p names it these i =
 
 -- ---- one name more
 
-pub more_bytes : (now new goal : List ℕ) (s : State) (n : ℕ) (p child : Path) (name : Name) (it rest : List Name) → it ≡ name ∷ rest → child ≡ p ++ name ∷ [] → new ≡ now ++ paths_bytes (groups_from s n child)
+pub more_bytes : (now new goal : List ℕ) (s : State) (n : ℕ) (p child : Path) (name : Name) (it rest : List Name) → it ≡ name ∷ rest
+    → child ≡ p ++ name ∷ [] → new ≡ now ++ paths_bytes (groups_from s n child)
     → now ++ paths_bytes (groups_under s n p it) ≡ goal → new ++ paths_bytes (groups_under s n p rest) ≡ goal
 more_bytes now new goal s n p child name it rest i c e was =
     ap (λ t. t ++ paths_bytes (groups_under s n p rest)) (e ∙ ap (λ q. now ++ paths_bytes (groups_from s n q)) c)
@@ -54,7 +55,8 @@ pub more_count : (now below goal : ℕ) (s : State) (n : ℕ) (p child : Path) (
     → now + length (groups_under s n p it) ≡ goal → (now + below) + length (groups_under s n p rest) ≡ goal
 more_count now below goal s n p child name it rest i c e was =
     let b : below ≡ length (groups_from s n (p ++ name ∷ [])) = e ∙ ap (λ q. length (groups_from s n q)) c in
-    let u : length (groups_under s n p it) ≡ length (groups_from s n (p ++ name ∷ [])) + length (groups_under s n p rest) = ap (λ ns. length (groups_under s n p ns)) i ∙ length-append (groups_from s n (p ++ name ∷ [])) (groups_under s n p rest) in
+    let u : length (groups_under s n p it) ≡ length (groups_from s n (p ++ name ∷ [])) + length (groups_under s n p rest) =
+    ap (λ ns. length (groups_under s n p ns)) i ∙ length-append (groups_from s n (p ++ name ∷ [])) (groups_under s n p rest) in
     omega (arith, b, u, was)
 
 -- ---- no name is left
@@ -75,7 +77,8 @@ all_count count s n p it some i was =
 
 -- ---- what a listing of them says
 
-pub told_paths : (s now : State) (p : Path) (old bytes shown out : List ℕ) (count : ℕ) (a : Listing) → now ≡ s → old ≡ [] → bytes ≡ old ++ paths_bytes (groups_from now 33 p) → count ≡ length (groups_from now 33 p) → shown ≡ bytes
+pub told_paths : (s now : State) (p : Path) (old bytes shown out : List ℕ) (count : ℕ) (a : Listing) → now ≡ s → old ≡ []
+    → bytes ≡ old ++ paths_bytes (groups_from now 33 p) → count ≡ length (groups_from now 33 p) → shown ≡ bytes
     → TellsAll shown count out a → TellsAll (paths_bytes (subtree s p)) (length (subtree s p)) out a
 told_paths s now p old bytes shown out count a n o b c e =
     told_all (paths_bytes (subtree s p)) shown out (length (subtree s p)) count a

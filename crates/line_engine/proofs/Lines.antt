@@ -11,7 +11,8 @@ use Rattle.flat_model.specs.State.{State}
 use Rattle.undo_journal.specs.Answer.{recorded_commands}
 use Rattle.line_engine.specs.Listings.{lines_bytes}
 
-pub line_more : (past : List (Command × State)) (i : ℕ) (c : Command) (old more new text : List ℕ) → Some c ≡ slice_get (recorded_commands past) i → text ≡ command_text c → more ≡ old ++ text → new ≡ more ++ 10 ∷ []
+pub line_more : (past : List (Command × State)) (i : ℕ) (c : Command) (old more new text : List ℕ)
+    → Some c ≡ slice_get (recorded_commands past) i → text ≡ command_text c → more ≡ old ++ text → new ≡ more ++ 10 ∷ []
     → old ≡ lines_bytes (take i (recorded_commands past)) → new ≡ lines_bytes (take (i + 1) (recorded_commands past))
 line_more past i c old more new text at t m n was =
     let cs = recorded_commands past in

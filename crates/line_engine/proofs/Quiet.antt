@@ -4,7 +4,9 @@ use Rattle.std.specs.Prelude.{◌≡◌, refl, Bool, true, false, cond, List, []
 use Rattle.std.proofs.Common.{sym, ap, subst, ◌∙◌}
 use Rattle.std.proofs.lemmas.Bool.{false≢true, true≢false}
 use Rattle.flat_model.specs.State.{State}
-use Rattle.flat_model.specs.Command.{Command, MakeGroup, RemoveGroup, Fork, Exit, Move, SetLimit, Kill, Show, Locate, Undo, Refusal, Exists, NoGroup, Descendants, Depth, NoSlot, RootFixed, HasChildren, HasProcesses, NoProcess, PidInUse, OverPidsMax, NoFile, NotReadable, Done, is_undo, changes, is_counted}
+use Rattle.flat_model.specs.Command.{Command, MakeGroup, RemoveGroup, Fork, Exit, Move, SetLimit, Kill, Show, Locate, Undo, Refusal, Exists}
+use Rattle.flat_model.specs.Command.{NoGroup, Descendants, Depth, NoSlot, RootFixed, HasChildren, HasProcesses, NoProcess, PidInUse}
+use Rattle.flat_model.specs.Command.{OverPidsMax, NoFile, NotReadable, Done, is_undo, changes, is_counted}
 use Rattle.flat_model.specs.Inverse.{inverse_of_refusal}
 use Rattle.flat_model.specs.Step.{refusal, after, after_refusal}
 use Rattle.flat_model.specs.Machine.{Machine, tick, undone, outcome, accepted, recorded}
@@ -118,7 +120,9 @@ outcome_counted m c (Some r) is q =
       certain = ap (λ o. needs_no_memory (record_by m.state c o)) is ∙ needs_none r q;
     })
 
-tick_counted : (b : Bool) (m : Machine) (c : Command) → is_counted_reply (cond b (undone m.state m.past) (outcome m c (refusal slots m.state c))).1 ≡ true → Counted m (cond b (undone m.state m.past) (outcome m c (refusal slots m.state c))).0
+tick_counted : (b : Bool) (m : Machine) (c : Command)
+    → is_counted_reply (cond b (undone m.state m.past) (outcome m c (refusal slots m.state c))).1 ≡ true
+    → Counted m (cond b (undone m.state m.past) (outcome m c (refusal slots m.state c))).0
 tick_counted true m c q = absurd (false≢true (sym (undone_uncounted m.state m.past) ∙ q))
 tick_counted false m c q = outcome_counted m c (refusal slots m.state c) refl q
 

@@ -53,6 +53,8 @@ pub by_reply : (m : Machine) (c : model.Command) (n : ℕ) (ready : List ℕ) (r
 by_reply m c n ready r out a mid next is some has keeps h t =
     let answers : Answers slots m c r mid = has (is_not_none (reply_of r) some) in
     let k : KeepsHistory slots m c (tick slots m c).0 = subst (λ (x : Machine). KeepsHistory slots m c x) answers.state (keeps (is_not_none (reply_of r) some)) in
-    let g : AnswersReply n (tick slots m c).1 out a = subst (λ (o : Option model.Reply). IfSome o (λ x. (is_loud x ≡ true → ready ≡ reply_bytes n x) → AnswersReply n x out a)) answers.reply_is h (λ l. is ∙ ap (reply_bytes n) (loud m c l)) in
+    let g : AnswersReply n (tick slots m c).1 out a =
+    subst (λ (o : Option model.Reply). IfSome o (λ x. (is_loud x ≡ true → ready ≡ reply_bytes n x)
+    → AnswersReply n x out a)) answers.reply_is h (λ l. is ∙ ap (reply_bytes n) (loud m c l)) in
     let e = subst (λ (o : Option model.Reply). IfSome o (λ x. next ≡ cond (is_counted_reply x && not (is_told a)) (tick slots mid model.Undo).0 mid)) answers.reply_is t in
     by_answer m c n out a next k g (subst (λ (x : Machine). next ≡ cond (is_counted_reply (tick slots m c).1 && not (is_told a)) (tick slots x model.Undo).0 x) answers.state e)

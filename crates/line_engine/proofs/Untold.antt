@@ -14,7 +14,8 @@ untold_false : (b : Bool) (m n : Machine) → m ≡ cond (b && false) n m
 untold_false true m n = refl
 untold_false false m n = refl
 
-pub stays_uncounted : (o : Option model.Reply) (counted t : Bool) (m n : Machine) → IfSome o (λ r. counted ≡ is_counted_reply r) → counted ≡ false → IfSome o (λ r. m ≡ cond (is_counted_reply r && not t) n m)
+pub stays_uncounted : (o : Option model.Reply) (counted t : Bool) (m n : Machine) → IfSome o (λ r. counted ≡ is_counted_reply r)
+    → counted ≡ false → IfSome o (λ r. m ≡ cond (is_counted_reply r && not t) n m)
 stays_uncounted None counted t m n h e = tt
 stays_uncounted (Some r) counted t m n h e = ap (λ b. cond (b && not t) n m) (sym e ∙ h)
 

@@ -8,7 +8,9 @@ use Rattle.flat_model.specs.State.{State, Attr, start, fresh}
 use Rattle.flat_model.specs.Counts.{is_group}
 use Rattle.flat_model.specs.File.{is_pids_max}
 use Rattle.flat_model.specs.Refuse.{refuse}
-use Rattle.flat_model.specs.Command.{Command, MakeGroup, RemoveGroup, Fork, Exit, Move, SetLimit, Kill, Show, Locate, Undo, Refusal, Exists, NoGroup, Descendants, Depth, NoSlot, RootFixed, HasChildren, HasProcesses, NoProcess, PidInUse, OverPidsMax, NoFile, NotReadable, is_undo, changes, is_counted}
+use Rattle.flat_model.specs.Command.{Command, MakeGroup, RemoveGroup, Fork, Exit, Move, SetLimit, Kill, Show, Locate, Undo, Refusal, Exists}
+use Rattle.flat_model.specs.Command.{NoGroup, Descendants, Depth, NoSlot, RootFixed, HasChildren, HasProcesses, NoProcess, PidInUse}
+use Rattle.flat_model.specs.Command.{OverPidsMax, NoFile, NotReadable, is_undo, changes, is_counted}
 use Rattle.flat_model.specs.Step.{refusal, after, after_refusal, at_each, with_limit, attr_of, raise_peak, count_up, home_of}
 use Rattle.flat_model.specs.Machine.{Machine, new_machine, recorded, outcome, undone, tick, end_of, after_all}
 use Rattle.flat_model.proofs.PathLaws.{path_cmp-IsTotalOrder, path_cmp-IsAntisymmetric, same_path_is}
@@ -99,7 +101,8 @@ start_shallow p h =
 module _ (slots : ℕ) where
   outcome_shallow : (m : Machine) (c : Command) (o : Option Refusal) → refusal slots m.state c ≡ o → MakesShallow c → MachineShallow m → MachineShallow (outcome m c o).0
   outcome_shallow m c None e k h = elim (changes c) as (λ b. MachineShallow (cond b (recorded m c (after m.state c)) m)) [ true ↦ (after_shallow slots m.state c h.0 k e, (h.0, h.1)) | false ↦ h ]
-  outcome_shallow m c (Some r) e k h = elim (is_counted r) as (λ b. MachineShallow (cond b (recorded m c (after_refusal m.state r)) m)) [ true ↦ (refused_shallow m.state r h.0, (h.0, h.1)) | false ↦ h ]
+  outcome_shallow m c (Some r) e k h = elim (is_counted r) as (λ b. MachineShallow (cond b (recorded m c (after_refusal m.state r)) m))
+      [ true ↦ (refused_shallow m.state r h.0, (h.0, h.1)) | false ↦ h ]
 
   undone_shallow : (s : State) (past : List (Command × State)) → IsShallow s → PastShallow past → MachineShallow (undone s past).0
   undone_shallow s [] h k = (h, k)

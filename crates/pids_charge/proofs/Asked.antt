@@ -1,5 +1,6 @@
 -- What the tree says of the flat state's groups, and what refuses a kill.
-use Rattle.std.proofs.Common.{◌≡◌, ◌&&◌, ℕ, ◌-◌, ◌^◌, ◌<◌, ◌≤◌, ltb, Bool, true, false, not, cond, Option, Some, None, Result, Ok, Err, List, [], ◌∷◌, length, take, IsSome, is_some, option_copied, Bor, refl, sym, ap, ◌∙◌, subst, arith}
+use Rattle.std.proofs.Common.{◌≡◌, ◌&&◌, ℕ, ◌-◌, ◌^◌, ◌<◌, ◌≤◌, ltb, Bool, true, false, not, cond, Option, Some, None, Result, Ok, Err}
+use Rattle.std.proofs.Common.{List, [], ◌∷◌, length, take, IsSome, is_some, option_copied, Bor, refl, sym, ap, ◌∙◌, subst, arith}
 use Rattle.std.specs.Option.{option_map, option_or}
 use Rattle.std.specs.FinMap as fin
 use Rattle.std.proofs.Math.Seq.{take-length}
@@ -94,7 +95,8 @@ module _ {A : Type 0} (s : State) (tree : Groups) (es : List (Row A)) (v : state
   pub process-is : IsStrictlySortedBy nat_cmp (keys_of es) → (k : ℕ) → has_process s k ≡ is_some (lookup (is_at (nat_cmp k)) es)
   process-is sorted k = ap is_some (home-is sorted k) ∙ mapped (λ p. p.home) (lookup (is_at (nat_cmp k)) es)
 
-  pub moved-is : IsStrictlySortedBy nat_cmp (keys_of es) → (k : ℕ) (x : Process A) (fs : List (Row A)) (q : Path) → fs ≡ insert_entry nat_cmp es k x → x.home ≡ q → state_of tree fs ≡ back (Exited k q) s
+  pub moved-is : IsStrictlySortedBy nat_cmp (keys_of es) → (k : ℕ) (x : Process A) (fs : List (Row A)) (q : Path)
+      → fs ≡ insert_entry nat_cmp es k x → x.home ≡ q → state_of tree fs ≡ back (Exited k q) s
   moved-is sorted k x fs q e same =
       ap (state_of tree) e
       ∙ (λ i. record { groups = (state_of tree es).groups; home = put_home k x es (to_sorted es sorted) i })

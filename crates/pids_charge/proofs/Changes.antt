@@ -16,10 +16,11 @@ use Rattle.pids_charge.proofs.TableSlots.{table_slot_same}
 
 -- what an insert leaves at a path
 pub which : (tree : Groups) (p : Path) (x : Attr) (q : Path) → ((q ≡ p) × (fin.get (fin.insert tree p x) q ≡ Some x)) ⊎ ((q ≡ p → ⊥) × (fin.get (fin.insert tree p x) q ≡ fin.get tree q))
-which tree p x q = elim (same_path q p) as (λ b. same_path q p ≡ b → fin.get (fin.insert tree p x) q ≡ cond b (Some x) (fin.get tree q) → ((q ≡ p) × (fin.get (fin.insert tree p x) q ≡ Some x)) ⊎ ((q ≡ p → ⊥) × (fin.get (fin.insert tree p x) q ≡ fin.get tree q))) [
-  | true ↦ λ t e. inl ((same_path_is q p).0 t, e)
-  | false ↦ λ t e. inr ((λ same. false≢true (sym t ∙ (same_path_is q p).1 same)), e)
-] refl (fin.get-insert path_cmp-IsTotalOrder tree p x q)
+which tree p x q = elim (same_path q p) as (λ b. same_path q p ≡ b → fin.get (fin.insert tree p x) q ≡ cond b (Some x) (fin.get tree q)
+    → ((q ≡ p) × (fin.get (fin.insert tree p x) q ≡ Some x)) ⊎ ((q ≡ p → ⊥) × (fin.get (fin.insert tree p x) q ≡ fin.get tree q))) [
+      | true ↦ λ t e. inl ((same_path_is q p).0 t, e)
+      | false ↦ λ t e. inr ((λ same. false≢true (sym t ∙ (same_path_is q p).1 same)), e)
+    ] refl (fin.get-insert path_cmp-IsTotalOrder tree p x q)
 
 module _ (tree : Groups) (p : Path) (x y : Attr) (here : fin.get tree p ≡ Some y) (slot : x.slot ≡ y.slot) where
   at : (q : Path) → q ≡ p → fin.get tree q ≡ Some y
@@ -66,7 +67,14 @@ module _ (old new : Groups) (same : SameSlots old new) where
   charges_stay leaves es content held d = record {
     ordered = d.ordered;
     pids = d.pids;
-    placed = All-weaker (λ p. IsPlaced leaves old p) (λ p. IsPlaced leaves new p) (λ p h. record { home = is p.home h.home; slot = h.slot ∙ table_slot_same old new p.home (sym (same.slots p.home)); leaf_below = h.leaf_below }) (values_of es) d.placed;
-    counted = λ s j. d.counted s j ∙ sum_by-same (λ p. charges_of old p s j) (λ p. charges_of new p s j) (values_of es) (All-weaker (λ p. IsPlaced leaves old p) (λ p. charges_of old p s j ≡ charges_of new p s j) (λ p h. sym (chain_stays p.home p.leaf s j (length p.home))) (values_of es) d.placed);
+    placed = All-weaker (λ p. IsPlaced leaves old p) (λ p. IsPlaced leaves new p) (λ p h. record {
+      home = is p.home h.home;
+      slot = h.slot ∙ table_slot_same old new p.home (sym (same.slots p.home));
+      leaf_below = h.leaf_below;
+    }) (values_of es) d.placed;
+    counted = λ s j. d.counted s j
+        ∙ sum_by-same (λ p. charges_of old p s j) (λ p. charges_of new p s j) (values_of es)
+        (All-weaker (λ p. IsPlaced leaves old p) (λ p. charges_of old p s j
+        ≡ charges_of new p s j) (λ p h. sym (chain_stays p.home p.leaf s j (length p.home))) (values_of es) d.placed);
     held_is = d.held_is;
   }

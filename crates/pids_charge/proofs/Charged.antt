@@ -58,7 +58,8 @@ module _ {A : Type 0} (leaves : ℕ) (tree : Groups) (es : List (Row A)) (conten
   found_placed k x e = found_value (λ p. IsPlaced leaves tree p) (is_at (nat_cmp k)) es x d.placed e
 
   -- another process in the place of one, with its charges
-  pub moved : (k : ℕ) (x y : Process A) (fs : List (Row A)) (content2 : Content) (held2 : ℕ) → lookup (is_at (nat_cmp k)) es ≡ Some x → IsPid k → fs ≡ insert_entry nat_cmp es k y → IsStrictlySortedBy nat_cmp (keys_of fs) → IsPlaced leaves tree y
+  pub moved : (k : ℕ) (x y : Process A) (fs : List (Row A)) (content2 : Content) (held2 : ℕ) → lookup (is_at (nat_cmp k)) es ≡ Some x
+      → IsPid k → fs ≡ insert_entry nat_cmp es k y → IsStrictlySortedBy nat_cmp (keys_of fs) → IsPlaced leaves tree y
       → ((s j : ℕ) → content2 s j + charges_of tree x s j ≡ content s j + charges_of tree y s j) → held2 + length x.home ≡ held + length y.home
       → Recounted leaves tree fs content2 held2
   moved k x y fs content2 held2 there pid e ordered fits more more_held =
@@ -93,12 +94,14 @@ module _ {A : Type 0} (leaves : ℕ) (tree : Groups) (es : List (Row A)) (conten
             let here = ap (fin.get tree2) (sym (take-length p.home)) ∙ h.1 (length p.home) ∙ ap (fin.get tree) (take-length p.home) in
             record { home = subst IsSome (sym here) h.0.home; slot = h.0.slot ∙ table_slot_same tree tree2 p.home (sym (ap slot_of here)); leaf_below = h.0.leaf_below }) (values_of es) both;
         counted = λ s j. d.counted s j ∙ sum_by-same (λ p. charges_of tree p s j) (λ p. charges_of tree2 p s j) (values_of es)
-            (All-weaker (λ p. (n : ℕ) → fin.get tree2 (take n p.home) ≡ fin.get tree (take n p.home)) (λ p. charges_of tree p s j ≡ charges_of tree2 p s j) (λ p h. sym (chain_same tree tree2 p.home p.leaf s j (length p.home) h)) (values_of es) same);
+            (All-weaker (λ p. (n : ℕ) → fin.get tree2 (take n p.home) ≡ fin.get tree (take n p.home)) (λ p. charges_of tree p s j
+            ≡ charges_of tree2 p s j) (λ p h. sym (chain_same tree tree2 p.home p.leaf s j (length p.home) h)) (values_of es) same);
         held_is = d.held_is;
       }
 
   -- one comes with its charges
-  pub added : (k : ℕ) (x : Process A) (fs : List (Row A)) (content2 : Content) (held2 : ℕ) → lookup (is_at (nat_cmp k)) es ≡ None → IsPid k → fs ≡ insert_entry nat_cmp es k x → IsStrictlySortedBy nat_cmp (keys_of fs) → IsPlaced leaves tree x
+  pub added : (k : ℕ) (x : Process A) (fs : List (Row A)) (content2 : Content) (held2 : ℕ) → lookup (is_at (nat_cmp k)) es ≡ None → IsPid k
+      → fs ≡ insert_entry nat_cmp es k x → IsStrictlySortedBy nat_cmp (keys_of fs) → IsPlaced leaves tree x
       → ((s j : ℕ) → content2 s j ≡ content s j + charges_of tree x s j) → held2 ≡ held + length x.home
       → Recounted leaves tree fs content2 held2
   added k x fs content2 held2 new pid e ordered fits more more_held =
@@ -112,7 +115,8 @@ module _ {A : Type 0} (leaves : ℕ) (tree : Groups) (es : List (Row A)) (conten
       }
 
   -- one leaves with its charges
-  pub taken : (k : ℕ) (x : Process A) (fs : List (Row A)) (content2 : Content) (held2 : ℕ) → lookup (is_at (nat_cmp k)) es ≡ Some x → fs ≡ remove_entry (is_at (nat_cmp k)) es → IsStrictlySortedBy nat_cmp (keys_of fs)
+  pub taken : (k : ℕ) (x : Process A) (fs : List (Row A)) (content2 : Content) (held2 : ℕ) → lookup (is_at (nat_cmp k)) es ≡ Some x
+      → fs ≡ remove_entry (is_at (nat_cmp k)) es → IsStrictlySortedBy nat_cmp (keys_of fs)
       → ((s j : ℕ) → content2 s j + charges_of tree x s j ≡ content s j) → held2 + length x.home ≡ held
       → Recounted leaves tree fs content2 held2
   taken k x fs content2 held2 there e ordered less less_held =
@@ -140,7 +144,8 @@ module _ {A : Type 0} (leaves : ℕ) (tree : Groups) (es : List (Row A)) (conten
       }
 
   -- a new group changes the charges of nobody
-  pub grown_tree : (tree2 : Groups) → ((q : Path) → IsSome (fin.get tree q) → fin.get tree2 q ≡ fin.get tree q) → ((p q : Path) → IsSome (fin.get tree p) → at_or_below p q ≡ true → IsSome (fin.get tree q)) → Recounted leaves tree2 es content held
+  pub grown_tree : (tree2 : Groups) → ((q : Path) → IsSome (fin.get tree q) → fin.get tree2 q ≡ fin.get tree q)
+      → ((p q : Path) → IsSome (fin.get tree p) → at_or_below p q ≡ true → IsSome (fin.get tree q)) → Recounted leaves tree2 es content held
   grown_tree tree2 same prefixes = record {
     ordered = d.ordered;
     pids = d.pids;
@@ -149,7 +154,12 @@ module _ {A : Type 0} (leaves : ℕ) (tree : Groups) (es : List (Row A)) (conten
       slot = h.slot ∙ table_slot_same tree tree2 p.home (sym (ap slot_of (same p.home h.home)));
       leaf_below = h.leaf_below;
     }) (values_of es) d.placed;
-    counted = λ s j. d.counted s j ∙ sum_by-same (λ p. charges_of tree p s j) (λ p. charges_of tree2 p s j) (values_of es) (All-weaker (λ p. IsPlaced leaves tree p) (λ p. charges_of tree p s j ≡ charges_of tree2 p s j) (λ p h. sym (chain_same tree tree2 p.home p.leaf s j (length p.home) (λ n. same (take n p.home) (prefixes p.home (take n p.home) h.home (take_above n p.home))))) (values_of es) d.placed);
+    counted = λ s j. d.counted s j
+        ∙ sum_by-same (λ p. charges_of tree p s j) (λ p. charges_of tree2 p s j) (values_of es)
+        (All-weaker (λ p. IsPlaced leaves tree p) (λ p. charges_of tree p s j
+        ≡ charges_of tree2 p s j)
+        (λ p h. sym (chain_same tree tree2 p.home p.leaf s j (length p.home)
+        (λ n. same (take n p.home) (prefixes p.home (take n p.home) h.home (take_above n p.home))))) (values_of es) d.placed);
     held_is = d.held_is;
   }
 
@@ -164,7 +174,9 @@ module _ {A : Type 0} (leaves : ℕ) (tree : Groups) (es : List (Row A)) (conten
       record {
         ordered = to_ascending (with_lost tree leaf ls es) (whole_sorted tree leaf es sorted ls);
         pids = whole_keys tree leaf es sorted IsPid ls d.pids pids;
-        placed = whole_values tree leaf es sorted (λ p. IsPlaced leaves tree p) ls d.placed (All-weaker (λ l. IsSome (fin.get tree l.path)) (λ l. IsPlaced {A = A} leaves tree (placed_at tree leaf l)) (λ l h. record { home = h; slot = refl; leaf_below = lt }) ls homes);
+        placed = whole_values tree leaf es sorted (λ p. IsPlaced leaves tree p) ls d.placed
+            (All-weaker (λ l. IsSome (fin.get tree l.path)) (λ l. IsPlaced {A = A} leaves tree (placed_at tree leaf l))
+            (λ l h. record { home = h; slot = refl; leaf_below = lt }) ls homes);
         counted = λ s j. omega (arith, more s j, d.counted s j, whole_sum tree leaf es sorted (λ p. charges_of tree p s j) ls new);
         held_is = omega (arith, more_held, d.held_is, whole_sum tree leaf es sorted (λ p. length p.home) ls new);
       }

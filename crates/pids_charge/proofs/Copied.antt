@@ -38,7 +38,8 @@ pub all_rows : {X Y : Type 0} (f : X → Y) (now : List Y) (rest : List X) {whol
 all_rows f now rest none h = sym (ap (λ r. now ++ map f r) none ∙ append-nil now) ∙ h
 
 module _ {A : Type 0} where
-  pub all_summed : (f : Process A → ℕ) (all es rest : List (Row A)) (now before : ℕ) → rest ≡ [] → all ≡ es → now + sum_by f (values_of rest) ≡ before + sum_by f (values_of all) → now ≡ before + sum_by f (values_of es)
+  pub all_summed : (f : Process A → ℕ) (all es rest : List (Row A)) (now before : ℕ) → rest ≡ [] → all ≡ es
+      → now + sum_by f (values_of rest) ≡ before + sum_by f (values_of all) → now ≡ before + sum_by f (values_of es)
   all_summed f all es rest now before none same h =
       let left = ap (λ (fs : List (Row A)). sum_by f (values_of fs)) none in
       let whole = ap (λ (fs : List (Row A)). sum_by f (values_of fs)) same in
@@ -56,10 +57,12 @@ module _ {A : Type 0} (B : Type 0) (leaves : ℕ) where
   keys_below (e ∷ es) = ap (λ ks. e.0 ∷ ks) (keys_below es)
 
   pub one_more_row : (e : Row A) (rest all whole : List (Row A)) (now next : List (Row B)) → IsStrictlySortedBy nat_cmp (keys_of whole) → all ≡ e ∷ rest
-      → next ≡ insert_entry nat_cmp now e.0 (at_leaf_below leaves e.1) → now ++ map (row_below leaves) all ≡ map (row_below leaves) whole → next ++ map (row_below leaves) rest ≡ map (row_below leaves) whole
+      → next ≡ insert_entry nat_cmp now e.0 (at_leaf_below leaves e.1) → now ++ map (row_below leaves) all ≡ map (row_below leaves) whole
+      → next ++ map (row_below leaves) rest ≡ map (row_below leaves) whole
   one_more_row e rest all whole now next ordered step more before =
       let same : now ++ row_below leaves e ∷ map (row_below leaves) rest ≡ map (row_below leaves) whole = ap (λ (es : List (Row A)). now ++ map (row_below leaves) es) (sym step) ∙ before in
-      let sorted : IsStrictlySortedBy nat_cmp (keys_of (now ++ row_below leaves e ∷ map (row_below leaves) rest)) = subst (IsStrictlySortedBy nat_cmp) (sym (ap keys_of same ∙ keys_below whole)) ordered in
+      let sorted : IsStrictlySortedBy nat_cmp (keys_of (now ++ row_below leaves e ∷ map (row_below leaves) rest)) =
+      subst (IsStrictlySortedBy nat_cmp) (sym (ap keys_of same ∙ keys_below whole)) ordered in
       ap (λ (es : List (Row B)). es ++ map (row_below leaves) rest) (more ∙ put_last now e.0 (at_leaf_below leaves e.1) (map (row_below leaves) rest) sorted)
       ∙ append_assoc now (row_below leaves e ∷ []) (map (row_below leaves) rest) ∙ same
 
@@ -76,7 +79,8 @@ module _ {A : Type 0} (B : Type 0) (leaves : ℕ) where
   pub same_state : (tree : Groups) (es : List (Row A)) → state_of tree (map (row_below {A = A} {B = B} leaves) es) ≡ state_of tree es
   same_state tree es = ap (λ (rs : List (ℕ × Path)). record { groups = (state_of tree es).groups; home = fin.from_sorted {R = nat_cmp} rs }) (homes_below es)
 
-  placed_below : (leaves2 : ℕ) (tree : Groups) (ps : List (Process A)) → 1 ≤ leaves → All (λ p. IsPlaced leaves2 tree p) ps → All (λ p. IsPlaced leaves tree p) (map (at_leaf_below {A = A} {B = B} leaves) ps)
+  placed_below : (leaves2 : ℕ) (tree : Groups) (ps : List (Process A)) → 1 ≤ leaves → All (λ p. IsPlaced leaves2 tree p) ps
+      → All (λ p. IsPlaced leaves tree p) (map (at_leaf_below {A = A} {B = B} leaves) ps)
   placed_below leaves2 tree [] some h = search rules
   placed_below leaves2 tree (p ∷ ps) some h =
       let one = All-head (λ p. IsPlaced leaves2 tree p) p ps h in

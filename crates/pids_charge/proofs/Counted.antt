@@ -67,7 +67,8 @@ over_leaves-chain leaves tree p (suc n) leaf s h =
 pub chain_count-le : (tree : Groups) (p : Path) (n s : ℕ) → chain_count tree p n s ≤ n
 chain_count-le tree p zero s = omega arith
 chain_count-le tree p (suc n) s =
-    elim (eqb (slot_at tree (take (suc n) p)) s) as (λ b. chain_count tree p n s + cond b 1 0 ≤ suc n) [ true ↦ omega (arith, chain_count-le tree p n s) | false ↦ omega (arith, chain_count-le tree p n s) ]
+    elim (eqb (slot_at tree (take (suc n) p)) s) as (λ b. chain_count tree p n s + cond b 1 0 ≤ suc n)
+    [ true ↦ omega (arith, chain_count-le tree p n s) | false ↦ omega (arith, chain_count-le tree p n s) ]
 
 -- a path that is shorter than a group is not at or below it
 pub above-short : (a p : Path) (n : ℕ) → n < length a → at_or_below (take n p) a ≡ false
@@ -123,25 +124,32 @@ module _ {X : Type 0} where
       ∙ ap (λ r. over_leaves n (f x) + r) (over_leaves-sum_by n f xs)
       ∙ sym (sum_by-cons (λ x. over_leaves n (f x)) x xs)
 
-module _ {A : Type 0} (slots leaves : ℕ) (tree : Groups) (es : List (Row A)) (content : Content) (held : ℕ) (d : Recounted leaves tree es content held) (free : List ℕ) (h : HasSlots slots tree free) (prefixes : (p q : Path) → IsSome (fin.get tree p) → at_or_below p q ≡ true → IsSome (fin.get tree q)) where
+module _ {A : Type 0} (slots leaves : ℕ) (tree : Groups) (es : List (Row A)) (content : Content) (held : ℕ)
+    (d : Recounted leaves tree es content held) (free : List ℕ) (h : HasSlots slots tree free)
+    (prefixes : (p q : Path) → IsSome (fin.get tree p) → at_or_below p q ≡ true → IsSome (fin.get tree q)) where
   -- the meter's number at a slot, process by process
   pub at_slot : (s : ℕ) → over_leaves leaves (content s) ≡ sum_by (λ p. chain_count tree p.home (length p.home) s) (values_of es)
   at_slot s =
       over_leaves-same leaves _ _ (d.counted s)
       ∙ over_leaves-sum_by leaves (λ p. charges_of tree p s) (values_of es)
-      ∙ sum_by-same _ _ (values_of es) (All-weaker (λ p. IsPlaced leaves tree p) (λ p. over_leaves leaves (charges_of tree p s) ≡ chain_count tree p.home (length p.home) s) (λ p h. over_leaves-chain leaves tree p.home (length p.home) p.leaf s h.leaf_below) (values_of es) d.placed)
+      ∙ sum_by-same _ _ (values_of es) (All-weaker (λ p. IsPlaced leaves tree p) (λ p. over_leaves leaves (charges_of tree p s)
+      ≡ chain_count tree p.home (length p.home) s) (λ p h. over_leaves-chain leaves tree p.home (length p.home) p.leaf s h.leaf_below)
+      (values_of es) d.placed)
 
   -- whether one process is at or below a group, by the slots of its chain
   one : (a : Path) → 0 < length a → IsSome (fin.get tree a) → (p : Process A) → IsPlaced leaves tree p → chain_count tree p.home (length p.home) (slot_at tree a) ≡ cond (at_or_below p.home a) 1 0
   one a below_root there p i =
-      chain_count-at tree p.home a below_root (λ k pos le e. h.apart (take k p.home) a (omega (arith, length-take-le k p.home le)) below_root (prefixes p.home (take k p.home) i.home (take_above k p.home)) there e) (length p.home) (omega arith)
+      chain_count-at tree p.home a below_root (λ k pos le e. h.apart (take k p.home) a (omega (arith, length-take-le k p.home le))
+      below_root (prefixes p.home (take k p.home) i.home (take_above k p.home)) there e) (length p.home) (omega arith)
       ∙ ap (λ q. cond (at_or_below q a) 1 0) (take-length p.home)
 
   -- the meter's number at a group's slot is the number of processes at or below it
   pub current-is : (a : Path) → 0 < length a → IsSome (fin.get tree a) → over_leaves leaves (content (slot_at tree a)) ≡ current (state_of tree es) a
   current-is a below_root there =
       at_slot (slot_at tree a)
-      ∙ sum_by-same _ _ (values_of es) (All-weaker (λ p. IsPlaced leaves tree p) (λ p. chain_count tree p.home (length p.home) (slot_at tree a) ≡ cond (at_or_below p.home a) 1 0) (one a below_root there) (values_of es) d.placed)
+      ∙ sum_by-same _ _ (values_of es)
+      (All-weaker (λ p. IsPlaced leaves tree p) (λ p. chain_count tree p.home (length p.home) (slot_at tree a)
+      ≡ cond (at_or_below p.home a) 1 0) (one a below_root there) (values_of es) d.placed)
       ∙ sum_by-mapped (λ p. cond (at_or_below p.home a) 1 0) (λ e. e.1) es
       ∙ sym (sum_by-mapped (λ e. cond (at_or_below e.1 a) 1 0) (λ e. (e.0, e.1.home)) es)
       ∙ sym (sum_by-mapped (λ q. cond (at_or_below q a) 1 0) (λ e. e.1) (home_rows es))

@@ -1,5 +1,6 @@
 -- What the groups on the way along a group's path have, and the charges at their slots.
-use Rattle.std.proofs.Common.{◌≡◌, ℕ, zero, suc, ◌+◌, ◌<◌, ◌≤◌, ◌&&◌, true, false, cond, eqb, List, [], ◌∷◌, ◌++◌, length, take, drop, get_or, Option, Some, None, IsSome, refl, sym, ap, ◌∙◌, subst, arith, add-one}
+use Rattle.std.proofs.Common.{◌≡◌, ℕ, zero, suc, ◌+◌, ◌<◌, ◌≤◌, ◌&&◌, true, false, cond, eqb, List, [], ◌∷◌, ◌++◌, length, take, drop}
+use Rattle.std.proofs.Common.{get_or, Option, Some, None, IsSome, refl, sym, ap, ◌∙◌, subst, arith, add-one}
 use Rattle.std.proofs.lemmas.Bool.{eq-eqb, ne_eqb}
 use Rattle.std.proofs.lemmas.List.{length-take-le}
 use Rattle.std.proofs.lemmas.List.Elements.{All-nil, All-cons, All-head, All-tail}
@@ -33,7 +34,8 @@ one_at-here : (s j : ℕ) → one_at s j s j ≡ 1
 one_at-here s j = rw (eq-eqb s s refl, eq-eqb j j refl) refl
 
 -- while the charges of those that are left are there, the first of them is
-pub still_charged : (attrs rest : List Attr) (a : Attr) (leaf : ℕ) (before now : Content) (all : ℕ) → attrs ≡ a ∷ rest → all ≤ before a.slot leaf → now a.slot leaf + all ≡ before a.slot leaf + charges_in attrs leaf a.slot leaf → 0 < now a.slot leaf
+pub still_charged : (attrs rest : List Attr) (a : Attr) (leaf : ℕ) (before now : Content) (all : ℕ) → attrs ≡ a ∷ rest
+    → all ≤ before a.slot leaf → now a.slot leaf + all ≡ before a.slot leaf + charges_in attrs leaf a.slot leaf → 0 < now a.slot leaf
 still_charged attrs rest a leaf before now all e few gone =
     let more = ap (λ (xs : List Attr). charges_in xs leaf a.slot leaf) e in
     omega (arith, more, one_at-here a.slot leaf, few, gone)
@@ -93,7 +95,8 @@ below-down f [] m all h = All-nil (λ (a : Attr). a.slot < m)
 below-down f (n ∷ p) m all h =
     let d = first f n p all in
     subst (All (λ (a : Attr). a.slot < m)) (sym d.2)
-    (All-cons (λ (a : Attr). a.slot < m) d.0 (down (λ q. f (n ∷ q)) p) (subst (λ (o : Option Attr). slot_of o < m) d.1 (h 0 (omega arith))) (below-down (λ q. f (n ∷ q)) p m (rest f n p all) (λ k l. h (suc k) (omega arith))))
+    (All-cons (λ (a : Attr). a.slot < m) d.0 (down (λ q. f (n ∷ q)) p) (subst (λ (o : Option Attr). slot_of o < m) d.1 (h 0 (omega arith)))
+    (below-down (λ q. f (n ∷ q)) p m (rest f n p all) (λ k l. h (suc k) (omega arith))))
 
 at-down : (f : Read) (p : Path) (k : ℕ) (a : Attr) (r : List Attr) → HasAll f p → a ∷ r ≡ drop k (down f p) → (f (take (suc k) p) ≡ Some a) × (r ≡ drop (suc k) (down f p))
 at-down f [] zero a r all e = cc

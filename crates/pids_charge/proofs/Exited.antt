@@ -29,11 +29,14 @@ homes_of : {A : Type 0} (b : Bool) (o : Option (Process A)) → option_map (λ p
 homes_of true o = refl
 homes_of false o = refl
 
-module _ {A : Type 0} (k : ℕ) (es fs : List (Row A)) (sorted : IsStrictlySortedBy nat_cmp (keys_of es)) (ordered : IsStrictlySortedBy nat_cmp (keys_of fs)) (less : fs ≡ remove_entry (is_at (nat_cmp k)) es) where
+module _ {A : Type 0} (k : ℕ) (es fs : List (Row A)) (sorted : IsStrictlySortedBy nat_cmp (keys_of es))
+    (ordered : IsStrictlySortedBy nat_cmp (keys_of fs)) (less : fs ≡ remove_entry (is_at (nat_cmp k)) es) where
   gone : (q : ℕ) → lookup (is_at (nat_cmp q)) fs ≡ cond (is_at (nat_cmp k) q) None (lookup (is_at (nat_cmp q)) es)
   gone q =
       ap (lookup (is_at (nat_cmp q))) less
-      ∙ lookup-remove_entry (eq_by_cmp_equiv nat_cmp_total) (is_at (nat_cmp k)) (λ x y t. ap (λ z. eq_by_cmp nat_cmp z y) (key_of fin.nat_cmp-IsAntisymmetric k x t)) q es (IsDistinct-from_sorted nat_cmp (keys_of es) sorted)
+      ∙ lookup-remove_entry (eq_by_cmp_equiv nat_cmp_total) (is_at (nat_cmp k))
+      (λ x y t. ap (λ z. eq_by_cmp nat_cmp z y) (key_of fin.nat_cmp-IsAntisymmetric k x t)) q es
+      (IsDistinct-from_sorted nat_cmp (keys_of es) sorted)
 
   took_home : fin.from_sorted {R = nat_cmp} (home_rows fs) ≡ fin.remove (fin.from_sorted (home_rows es)) k
   took_home = fin.same_map nat_cmp_total fin.nat_cmp-IsAntisymmetric _ _ (λ q.

@@ -1,5 +1,6 @@
 -- What a fork is refused with, and what it leaves.
-use Rattle.std.proofs.Common.{◌≡◌, ℕ, ◌+◌, ◌<◌, Bool, true, false, cond, not, Option, Some, None, IsSome, is_some, Result, Ok, Err, OnOk, List, [], length, take, option_map, unwrap_or, refl, sym, ap, ◌∙◌}
+use Rattle.std.proofs.Common.{◌≡◌, ℕ, ◌+◌, ◌<◌, Bool, true, false, cond, not, Option, Some, None, IsSome, is_some, Result, Ok, Err, OnOk}
+use Rattle.std.proofs.Common.{List, [], length, take, option_map, unwrap_or, refl, sym, ap, ◌∙◌}
 use Rattle.std.proofs.lemmas.Bool.{false≢true}
 use Rattle.std.specs.Ordering.{nat_cmp}
 use Rattle.std.specs.List.Sorted.{IsStrictlySortedBy}
@@ -49,14 +50,19 @@ pub fork_free : (slots : ℕ) (s : State) (from child : ℕ) → refusal slots s
 fork_free slots s from child h = first_absent (has_process s from) (has_process s child) _ _ _ h
 
 -- the group of a process that the table has
-pub home_at : {A : Type 0} (leaves : ℕ) (tree : Groups) (es : List (Row A)) (content : Content) (held : ℕ) → Recounted leaves tree es content held → (s : State) → state_of tree es ≡ s → (from : ℕ) (x : Process A) → lookup (is_at (nat_cmp from)) es ≡ Some x → home_of s from ≡ x.home
+pub home_at : {A : Type 0} (leaves : ℕ) (tree : Groups) (es : List (Row A)) (content : Content) (held : ℕ)
+    → Recounted leaves tree es content held → (s : State) → state_of tree es ≡ s → (from : ℕ) (x : Process A)
+    → lookup (is_at (nat_cmp from)) es ≡ Some x → home_of s from ≡ x.home
 home_at leaves tree es content held d s v from x found = ap (λ (o : Option Path). unwrap_or o []) (home-is s tree es v d.ordered from ∙ ap (option_map (λ p. p.home)) found)
 
 twice : (q : Path) (o : Option ℕ) → option_map OverPidsMax (option_map (λ n. take n q) o) ≡ option_map (λ n. OverPidsMax (take n q)) o
 twice q None = refl
 twice q (Some n) = refl
 
-module _ {A : Type 0} (slots leaves : ℕ) (tree : Groups) (es : List (Row A)) (content : Content) (held : ℕ) (d : Recounted leaves tree es content held) (free : List ℕ) (h : HasSlots slots tree free) (prefixes : (p q : Path) → IsSome (fin.get tree p) → at_or_below p q ≡ true → IsSome (fin.get tree q)) (s : State) (v : state_of tree es ≡ s)
+module _ {A : Type 0} (slots leaves : ℕ) (tree : Groups) (es : List (Row A)) (content : Content) (held : ℕ)
+    (d : Recounted leaves tree es content held) (free : List ℕ) (h : HasSlots slots tree free)
+    (prefixes : (p q : Path) → IsSome (fin.get tree p) → at_or_below p q ≡ true → IsSome (fin.get tree q)) (s : State)
+    (v : state_of tree es ≡ s)
     (from : ℕ) (x : Process A) (found : lookup (is_at (nat_cmp from)) es ≡ Some x) where
   pub home : home_of s from ≡ x.home
   home = home_at leaves tree es content held d s v from x found
@@ -68,7 +74,8 @@ module _ {A : Type 0} (slots leaves : ℕ) (tree : Groups) (es : List (Row A)) (
       → refusal slots s (Fork from child) ≡ option_map (λ n. OverPidsMax (take n (home_of s from))) o
   fork_asks child new o e =
       let blocked : blocked_fork s (home_of s from) ≡ option_map (λ n. take n (home_of s from)) o =
-      ap (blocked_fork s) home ∙ blocked-is slots leaves tree es content held d free h prefixes s v x.home ∙ ap (option_map (λ n. take n x.home)) (sym e) ∙ ap (λ q. option_map (λ n. take n q) o) (sym home) in
+      ap (blocked_fork s) home ∙ blocked-is slots leaves tree es content held d free h prefixes s v x.home
+      ∙ ap (option_map (λ n. take n x.home)) (sym e) ∙ ap (λ q. option_map (λ n. take n q) o) (sym home) in
       rw (there, new, blocked) (twice (home_of s from) o)
 
 -- the same state by another name
@@ -83,14 +90,19 @@ nobody None e = refl
 nobody (Some x) e = absurd (false≢true (sym e))
 
 -- a process that the state doesn't have is not in the table
-pub not_there : {A : Type 0} (s : State) (tree : Groups) (es : List (Row A)) → state_of tree es ≡ s → IsStrictlySortedBy nat_cmp (keys_of es) → (k : ℕ) → has_process s k ≡ false → lookup (is_at (nat_cmp k)) es ≡ None
+pub not_there : {A : Type 0} (s : State) (tree : Groups) (es : List (Row A)) → state_of tree es ≡ s
+    → IsStrictlySortedBy nat_cmp (keys_of es) → (k : ℕ) → has_process s k ≡ false → lookup (is_at (nat_cmp k)) es ≡ None
 not_there s tree es v sorted k e = nobody (lookup (is_at (nat_cmp k)) es) (sym (process-is s tree es v sorted k) ∙ e)
 
-module _ {A : Type 0} (slots leaves : ℕ) (tree new : Groups) (es fs : List (Row A)) (content final : Content) (held held2 : ℕ) (d : Recounted leaves tree es content held) (free : List ℕ) (h : HasSlots slots tree free) (same : SameSlots tree new)
-    (child leaf : ℕ) (x : Process A) (placed : IsPlaced leaves tree x) (absent : lookup (is_at (nat_cmp child)) es ≡ None) (pid : IsPid child) (rows : fs ≡ insert_entry nat_cmp es child (process_in x.home x.slot leaf)) (ordered : IsStrictlySortedBy nat_cmp (keys_of fs))
+module _ {A : Type 0} (slots leaves : ℕ) (tree new : Groups) (es fs : List (Row A)) (content final : Content) (held held2 : ℕ)
+    (d : Recounted leaves tree es content held) (free : List ℕ) (h : HasSlots slots tree free) (same : SameSlots tree new)
+    (child leaf : ℕ) (x : Process A) (placed : IsPlaced leaves tree x) (absent : lookup (is_at (nat_cmp child)) es ≡ None)
+    (pid : IsPid child) (rows : fs ≡ insert_entry nat_cmp es child (process_in x.home x.slot leaf))
+    (ordered : IsStrictlySortedBy nat_cmp (keys_of fs))
     (below : leaf < leaves) (charged : (s j : ℕ) → final s j ≡ with_charges tree x.home leaf content s j) (held_is : held2 ≡ held + length x.home) where
   come : Recounted leaves tree fs (with_charges tree x.home leaf content) held2
-  come = added leaves tree es content held d child (process_in x.home x.slot leaf) fs (with_charges tree x.home leaf content) held2 absent pid rows ordered (record { home = placed.home; slot = placed.slot; leaf_below = below }) (λ s j. refl) held_is
+  come = added leaves tree es content held d child (process_in x.home x.slot leaf) fs (with_charges tree x.home leaf content) held2 absent
+      pid rows ordered (record { home = placed.home; slot = placed.slot; leaf_below = below }) (λ s j. refl) held_is
 
   pub made_recounted : Recounted leaves new fs final held2
   made_recounted = raised_recounted slots leaves tree new fs (with_charges tree x.home leaf content) final held2 come same charged

@@ -38,6 +38,7 @@ module _ {A : Type 0} (s : State) (tree : Groups) (es : List (Row A)) (v : state
       ∙ ap (λ (g : _). record (state_of tree es) { groups = g }) (map_values-insert group_of path_cmp-IsTotalOrder path_cmp-IsAntisymmetric tree p x)
       ∙ ap (λ (t : State). record t { groups = fin.insert t.groups p (group_of x) }) v
 
-  pub limited-is : (new : Groups) (p : Path) (x y : Attr) (file : LimitFile) (value : flat.Limit) → new ≡ fin.insert tree p x → fin.get tree p ≡ Some y → group_of x ≡ with_limit file value (group_of y) → state_of new es ≡ after s (SetLimit p file value)
+  pub limited-is : (new : Groups) (p : Path) (x y : Attr) (file : LimitFile) (value : flat.Limit) → new ≡ fin.insert tree p x
+      → fin.get tree p ≡ Some y → group_of x ≡ with_limit file value (group_of y) → state_of new es ≡ after s (SetLimit p file value)
   limited-is new p x y file value e there w =
       written-is new p x e ∙ ap (λ a. record s { groups = fin.insert s.groups p a }) (w ∙ ap (with_limit file value) (sym (attr-is p y there)))

@@ -46,7 +46,10 @@ chain_noted tree p leaf s j zero [] h = refl
 chain_noted tree p leaf s j zero (x ∷ ns) h = let l = h.many in absurd (omega (arith, l))
 chain_noted tree p leaf s j (suc n) [] h = let l = h.many in absurd (omega (arith, l))
 chain_noted tree p leaf s j (suc n) (x ∷ ns) h =
-    let rest = chain_noted tree p leaf s j n ns (record { many = let l = h.many in omega (arith, l); each = λ k below. h.each (suc k) (omega (arith, below)) ∙ ap (λ (m : ℕ). slot_at tree (take m p)) (omega arith) }) in
+    let rest = chain_noted tree p leaf s j n ns (record {
+      many = let l = h.many in omega (arith, l);
+      each = λ k below. h.each (suc k) (omega (arith, below)) ∙ ap (λ (m : ℕ). slot_at tree (take m p)) (omega arith);
+    }) in
     let whole : suc n - 0 ≡ suc n = omega arith in
     let here : x ≡ slot_at tree (take (suc n) p) = h.each 0 (omega arith) ∙ ap (λ (m : ℕ). slot_at tree (take m p)) whole in
     let first = ap (λ slot. one_at slot leaf s j) here in

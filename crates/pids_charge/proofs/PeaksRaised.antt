@@ -51,13 +51,16 @@ module _ (leaves : ℕ) (content : Content) (tree : Groups) (p : Path) (raised :
   set_to : (q : Path) (o : Option Attr) → fin.get tree q ≡ o → option_map (peaked_by p raised q) o ≡ option_map (raised_by leaves content p q) o
   set_to q None e = refl
   set_to q (Some x) e =
-      elim (counts_for p q) as (λ b. counts_for p q ≡ b → ◌≡◌ {A = Option Attr} (Some (record x { peak = cond b (get_or raised (length p - length q) x.peak) x.peak })) (Some (record x { peak = cond b (max x.peak (over_leaves leaves (content x.slot))) x.peak }))) [
+      elim (counts_for p q) as (λ b. counts_for p q ≡ b
+      → ◌≡◌ {A = Option Attr} (Some (record x { peak = cond b (get_or raised (length p - length q) x.peak) x.peak }))
+      (Some (record x { peak = cond b (max x.peak (over_leaves leaves (content x.slot))) x.peak }))) [
         | true ↦ λ c. ap (λ (n : ℕ). Some (record x { peak = n })) (up_or (reached_of leaves content) tree p raised up q x.peak c ∙ ap (reached_of leaves content) e)
         | false ↦ λ c. refl
       ] refl
 
   -- the peaks that were reached are set
-  pub raised_set : (new : Groups) → ((q : Path) → fin.get new q ≡ option_map (peaked_by p raised q) (fin.get tree q)) → (q : Path) → fin.get new q ≡ option_map (raised_by leaves content p q) (fin.get tree q)
+  pub raised_set : (new : Groups) → ((q : Path) → fin.get new q ≡ option_map (peaked_by p raised q) (fin.get tree q)) → (q : Path)
+      → fin.get new q ≡ option_map (raised_by leaves content p q) (fin.get tree q)
   raised_set new set q = set q ∙ set_to q (fin.get tree q) refl
 
 -- the peaks that they are
@@ -93,11 +96,16 @@ module _ {A : Type 0} (tree : Groups) (es : List (Row A)) (s : State) (v : state
       let inside : k < length p = omega (arith, h, l) in
       up.each k inside ∙ sym (peak_is (take (length p - k) p)) ∙ sym (peak_upward s p k 0 inside))
 
-module _ {A : Type 0} (slots leaves : ℕ) (tree : Groups) (es : List (Row A)) (content : Content) (held : ℕ) (d : Recounted leaves tree es content held) (free : List ℕ) (h : HasSlots slots tree free) (prefixes : (p q : Path) → IsSome (fin.get tree p) → at_or_below p q ≡ true → IsSome (fin.get tree q)) where
+module _ {A : Type 0} (slots leaves : ℕ) (tree : Groups) (es : List (Row A)) (content : Content) (held : ℕ)
+    (d : Recounted leaves tree es content held) (free : List ℕ) (h : HasSlots slots tree free)
+    (prefixes : (p q : Path) → IsSome (fin.get tree p) → at_or_below p q ≡ true → IsSome (fin.get tree q)) where
   -- what the meter holds at a group is its count
   pub raised-is : (p q : Path) (attr : Attr) → fin.get tree q ≡ Some attr → group_of (raised_by leaves content p q attr) ≡ raise_peak (state_of tree es) p q (group_of attr)
   raised-is p q attr e =
-      elim (counts_for p q) as (λ b. counts_for p q ≡ b → ◌≡◌ {A = flat.Attr} (record (group_of attr) { peak = cond b (max attr.peak (over_leaves leaves (content attr.slot))) attr.peak }) (record (group_of attr) { peak = cond b (max attr.peak (current (state_of tree es) q)) attr.peak })) [
+      elim (counts_for p q) as (λ b. counts_for p q ≡ b
+      → ◌≡◌ {A = flat.Attr}
+      (record (group_of attr) { peak = cond b (max attr.peak (over_leaves leaves (content attr.slot))) attr.peak })
+      (record (group_of attr) { peak = cond b (max attr.peak (current (state_of tree es) q)) attr.peak })) [
         | true ↦ λ c.
             let two = both_by (is_root q) (at_or_below p q) c in
             let count : over_leaves leaves (content attr.slot) ≡ current (state_of tree es) q =
@@ -121,7 +129,10 @@ module _ {A : Type 0} (slots leaves : ℕ) (tree new : Groups) (es : List (Row A
         held_is = stays.held_is;
       }
 
-  pub raised_state : (free : List ℕ) → HasSlots slots tree free → ((p q : Path) → IsSome (fin.get tree p) → at_or_below p q ≡ true → IsSome (fin.get tree q)) → (p : Path) → ((q : Path) → fin.get new q ≡ option_map (raised_by leaves final p q) (fin.get tree q)) → state_of new es ≡ raise_peaks p (state_of tree es)
+  pub raised_state : (free : List ℕ) → HasSlots slots tree free
+      → ((p q : Path) → IsSome (fin.get tree p) → at_or_below p q ≡ true → IsSome (fin.get tree q)) → (p : Path)
+      → ((q : Path) → fin.get new q ≡ option_map (raised_by leaves final p q) (fin.get tree q))
+      → state_of new es ≡ raise_peaks p (state_of tree es)
   raised_state free h prefixes p raised =
       let s : State = state_of tree es in
       flat_changed (raised_by leaves final p) tree new raised (raise_peak s p) (raised-is slots leaves tree es final held d free h prefixes p) s.home

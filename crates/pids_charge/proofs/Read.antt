@@ -1,5 +1,6 @@
 -- What is read of groups and processes.
-use Rattle.std.proofs.Common.{◌≡◌, ℕ, ◌<◌, ◌↔◌, ◌++◌, ◌∷◌, [], List, Bool, true, false, cond, ltb, IsTrue, Option, Some, None, IsSome, is_some, MatchOption, map, filter, refl, sym, ap, ◌∙◌, append_assoc, arith}
+use Rattle.std.proofs.Common.{◌≡◌, ℕ, ◌<◌, ◌↔◌, ◌++◌, ◌∷◌, [], List, Bool, true, false, cond, ltb, IsTrue, Option, Some, None, IsSome}
+use Rattle.std.proofs.Common.{is_some, MatchOption, map, filter, refl, sym, ap, ◌∙◌, append_assoc, arith}
 use Rattle.std.proofs.lemmas.Bool.Decides.{nat_tests}
 use Rattle.std.specs.Ordering.{nat_cmp}
 use Rattle.std.specs.List.Sorted.{IsStrictlySortedBy}
@@ -36,7 +37,8 @@ module _ {A : Type 0} (g : Path) where
   abbrev pub pids_in : List (Row A) → List ℕ
   pids_in es = map (λ e. e.0) (filter is_member es)
 
-  pub one_more_pid : (e : Row A) (rest all : List (Row A)) (now next whole : List ℕ) → all ≡ e ∷ rest → same_path e.1.home g ≡ true → next ≡ now ++ e.0 ∷ [] → now ++ pids_in all ≡ whole → next ++ pids_in rest ≡ whole
+  pub one_more_pid : (e : Row A) (rest all : List (Row A)) (now next whole : List ℕ) → all ≡ e ∷ rest → same_path e.1.home g ≡ true
+      → next ≡ now ++ e.0 ∷ [] → now ++ pids_in all ≡ whole → next ++ pids_in rest ≡ whole
   one_more_pid e rest all now next whole step is more before =
       ap (λ xs. xs ++ pids_in rest) more ∙ append_assoc now (e.0 ∷ []) (pids_in rest)
       ∙ sym (ap (λ es. now ++ pids_in es) step ∙ ap (λ b. now ++ map (λ e. e.0) (cond b (e ∷ filter is_member rest) (filter is_member rest))) is) ∙ before

@@ -1,5 +1,7 @@
 -- When a group may be removed, and what its removal leaves.
-use Rattle.std.proofs.Common.{◌≡◌, ℕ, ◌+◌, ◌-◌, ◌<◌, ◌≤◌, ◌⊎◌, ◌&&◌, ◌||◌, inl, inr, Bool, true, false, cond, not, eqb, ltb, Option, Some, None, Err, List, [], ◌∷◌, ◌++◌, map, length, take, count_by, IsSome, is_some, refl, sym, ap, ◌∙◌, subst, arith, rules, length-append}
+use Rattle.std.proofs.Common.{◌≡◌, ℕ, ◌+◌, ◌-◌, ◌<◌, ◌≤◌, ◌⊎◌, ◌&&◌, ◌||◌, inl, inr, Bool, true, false, cond, not, eqb, ltb, Option, Some}
+use Rattle.std.proofs.Common.{None, Err, List, [], ◌∷◌, ◌++◌, map, length, take, count_by, IsSome, is_some, refl, sym, ap, ◌∙◌, subst}
+use Rattle.std.proofs.Common.{arith, rules, length-append}
 use Rattle.std.proofs.lemmas.Bool.{false≢true, ne_eqb, eq-eqb, eqb-true, eqb-false}
 use Rattle.std.proofs.lemmas.Bool.Decides.{nat_tests}
 use Rattle.std.proofs.lemmas.List.Sums.{sum_by-cons, sum_by-append}
@@ -48,10 +50,12 @@ module _ (slots : ℕ) (s : State) (p : Path) where
   pub remove_children : 0 < length p → is_group s p ≡ true → list_any (λ q. strictly_below q p) (fin.keys s.groups) ≡ true → refusal slots s (RemoveGroup p) ≡ Some HasChildren
   remove_children h i below = rw (nonroot p h, i, below) refl
 
-  pub remove_processes : 0 < length p → is_group s p ≡ true → list_any (λ q. strictly_below q p) (fin.keys s.groups) ≡ false → list_any (λ q. same_path q p) (fin.values s.home) ≡ true → refusal slots s (RemoveGroup p) ≡ Some HasProcesses
+  pub remove_processes : 0 < length p → is_group s p ≡ true → list_any (λ q. strictly_below q p) (fin.keys s.groups) ≡ false
+      → list_any (λ q. same_path q p) (fin.values s.home) ≡ true → refusal slots s (RemoveGroup p) ≡ Some HasProcesses
   remove_processes h i below here = rw (nonroot p h, i, below, here) refl
 
-  pub remove_allowed : 0 < length p → is_group s p ≡ true → list_any (λ q. strictly_below q p) (fin.keys s.groups) ≡ false → list_any (λ q. same_path q p) (fin.values s.home) ≡ false → refusal slots s (RemoveGroup p) ≡ None
+  pub remove_allowed : 0 < length p → is_group s p ≡ true → list_any (λ q. strictly_below q p) (fin.keys s.groups) ≡ false
+      → list_any (λ q. same_path q p) (fin.values s.home) ≡ false → refusal slots s (RemoveGroup p) ≡ None
   remove_allowed h i below here = rw (nonroot p h, i, below, here) refl
 
 -- what the acceptance of a removal says
@@ -89,14 +93,16 @@ same_here q p h =
       | false ↦ λ t h. elim (at_or_below q p) as (λ c. (c && true) ≡ false → false ≡ c) [ true ↦ λ e. cc | false ↦ λ e. refl ] h
     ] refl h
 
-not_below : (tree : Groups) → CountsAsFlat tree → (p : Path) → list_any (λ q. strictly_below q p) (fin.keys (map_values group_of tree)) ≡ false → (q : Path) → IsSome (fin.get tree q) → strictly_below q p ≡ false
+not_below : (tree : Groups) → CountsAsFlat tree → (p : Path) → list_any (λ q. strictly_below q p) (fin.keys (map_values group_of tree))
+    ≡ false → (q : Path) → IsSome (fin.get tree q) → strictly_below q p ≡ false
 not_below tree flat p none q there =
     elim (strictly_below q p) as (λ b. strictly_below q p ≡ b → b ≡ false) [
       | true ↦ λ t. absurd (false≢true (sym none ∙ (flat.below p).1 (record { path = q; below = t; there = there })))
       | false ↦ λ t. refl
     ] refl
 
-any_same : {A : Type 0} (p : Path) (es : List (Row A)) → All (λ x. same_path x.home p ≡ at_or_below x.home p) (values_of es) → list_any (λ q. same_path q p) (map (λ e. e.1) (home_rows es)) ≡ list_any (λ q. at_or_below q p) (map (λ e. e.1) (home_rows es))
+any_same : {A : Type 0} (p : Path) (es : List (Row A)) → All (λ x. same_path x.home p ≡ at_or_below x.home p) (values_of es)
+    → list_any (λ q. same_path q p) (map (λ e. e.1) (home_rows es)) ≡ list_any (λ q. at_or_below q p) (map (λ e. e.1) (home_rows es))
 any_same p [] h = refl
 any_same p (e ∷ es) h =
     let P = λ (x : Process _). same_path x.home p ≡ at_or_below x.home p in
@@ -117,10 +123,12 @@ module _ {A : Type 0} (leaves : ℕ) (tree : Groups) (es : List (Row A)) (conten
   homes = ap (map (λ e. e.1)) (fin.entries-from_sorted nat_cmp (home_rows es) (to_sorted es d.ordered))
 
   -- where no groups are below it, the processes of a group are those at or below it
-  pub processes-are : CountsAsFlat tree → list_any (λ q. strictly_below q p) (fin.keys (map_values group_of tree)) ≡ false → list_any (λ q. same_path q p) (fin.values (state_of tree es).home) ≡ populated (state_of tree es) p
+  pub processes-are : CountsAsFlat tree → list_any (λ q. strictly_below q p) (fin.keys (map_values group_of tree)) ≡ false
+      → list_any (λ q. same_path q p) (fin.values (state_of tree es).home) ≡ populated (state_of tree es) p
   processes-are flat none =
       ap (list_any (λ q. same_path q p)) homes
-      ∙ any_same p es (All-weaker (λ x. IsPlaced leaves tree x) (λ x. same_path x.home p ≡ at_or_below x.home p) (λ x h. same_here x.home p (not_below tree flat p none x.home h.home)) (values_of es) d.placed)
+      ∙ any_same p es (All-weaker (λ x. IsPlaced leaves tree x) (λ x. same_path x.home p
+      ≡ at_or_below x.home p) (λ x h. same_here x.home p (not_below tree flat p none x.home h.home)) (values_of es) d.placed)
       ∙ ap (list_any (λ q. at_or_below q p)) (sym homes)
       ∙ any-count (λ q. at_or_below q p) (fin.values (state_of tree es).home)
 
@@ -197,13 +205,17 @@ module _ (slots : ℕ) (tree : Groups) (free : List ℕ) (h : HasSlots slots tre
   room closed = omega (arith, h.whole, smaller, some_len left [] closed.root)
 
   -- no process stands in the group or below it, so that nobody's charges change
-  pub nobody : {A : Type 0} (leaves : ℕ) (es : List (Row A)) (content : Content) (held : ℕ) → Recounted leaves tree es content held → CountsAsFlat tree → MayGo (state_of tree es) p → Recounted leaves left es content held
+  pub nobody : {A : Type 0} (leaves : ℕ) (es : List (Row A)) (content : Content) (held : ℕ) → Recounted leaves tree es content held
+      → CountsAsFlat tree → MayGo (state_of tree es) p → Recounted leaves left es content held
   nobody leaves es content held d flat may =
-      regrouped leaves tree es content held d left (All-weaker (λ y. IsPlaced leaves tree y × (same_path y.home p ≡ false)) (λ y. (n : ℕ) → fin.get left (take n y.home) ≡ fin.get tree (take n y.home)) (λ y i n.
+      regrouped leaves tree es content held d left (All-weaker (λ y. IsPlaced leaves tree y × (same_path y.home p ≡ false)) (λ y. (n : ℕ)
+      → fin.get left (take n y.home) ≡ fin.get tree (take n y.home)) (λ y i n.
       elim (goes (take n y.home)) [
         | inl w ↦ absurd (false≢true (sym (sym (same_here y.home p (not_below tree flat p may.no_children y.home i.0.home)) ∙ i.1) ∙ ap (at_or_below y.home) (sym w.0) ∙ take_above n y.home))
         | inr k ↦ k.1
-      ]) (values_of es) (all_both (λ y. IsPlaced leaves tree y) (λ y. same_path y.home p ≡ false) (values_of es) d.placed (none_each p es (sym (ap (list_any (λ q. same_path q p)) (homes leaves tree es content held d p)) ∙ may.no_processes))))
+      ]) (values_of es) (all_both (λ y. IsPlaced leaves tree y) (λ y. same_path y.home p
+      ≡ false) (values_of es) d.placed (none_each p es (sym (ap (list_any (λ q. same_path q p)) (homes leaves tree es content held d p))
+      ∙ may.no_processes))))
 
 -- ---- what the tree answers
 pub not_refused : (old new : Groups) (p : Path) (f : TreeFault) → Removes old new p (Err f) → is_root p ≡ false → IsSome (fin.get old p) → (HasBelow old p → ⊥) → ⊥

@@ -59,7 +59,9 @@ module _ {A : Type 0} (a : Attr) (tree : Groups) (is : tree ≡ only_root a) (x 
   lone p i = alone a p (subst (λ (t : Groups). IsSome (fin.get t p)) is i)
 
   one_group : fin.len tree ≡ 1
-  one_group = ap (λ (t : Groups). fin.len t) is ∙ fin.len-insert path_cmp-IsTotalOrder fin.empty [] a ∙ ap (λ (o : Option Attr). cond (is_some o) (fin.len (fin.empty {X = Attr} {R = path_cmp})) (fin.len (fin.empty {X = Attr} {R = path_cmp}) + 1)) (fin.get-empty path_cmp []) ∙ ap (λ n. n + 1) (fin.len-empty path_cmp Attr)
+  one_group = ap (λ (t : Groups). fin.len t) is ∙ fin.len-insert path_cmp-IsTotalOrder fin.empty [] a
+      ∙ ap (λ (o : Option Attr). cond (is_some o) (fin.len (fin.empty {X = Attr} {R = path_cmp}))
+      (fin.len (fin.empty {X = Attr} {R = path_cmp}) + 1)) (fin.get-empty path_cmp []) ∙ ap (λ n. n + 1) (fin.len-empty path_cmp Attr)
 
   pub started : (slots leaves capacity : ℕ) (free : List ℕ) (content : Content) (held : ℕ)
       → IsClosed tree → AreAllFree slots free → slots < 2 ^ 16 → slots ≤ capacity → IsEmpty content held → x.slot ≡ 0 → x.leaf ≡ 0 → 1 ≤ leaves
@@ -80,8 +82,14 @@ module _ {A : Type 0} (a : Attr) (tree : Groups) (is : tree ≡ only_root a) (x 
     recounted = record {
       ordered = to_ascending ((1, x) ∷ []) tt;
       pids = All-cons IsPid 1 [] (omega arith, omega arith) (search rules);
-      placed = All-cons (λ p. IsPlaced leaves tree p) x [] (record { home = subst (λ (q : Path). IsSome (fin.get tree q)) (sym home) closed.root; slot = slot ∙ sym (ap (table_slot tree) home); leaf_below = omega (arith, leaf) }) (search rules);
-      counted = λ s j. let none : charges_at tree x.home x.leaf s j ≡ 0 = ap (λ (q : Path). charges_at tree q x.leaf s j) home in omega (arith, empty.nothing s j, none, sum_by-cons (λ p. charges_of tree p s j) x []);
+      placed = All-cons (λ p. IsPlaced leaves tree p) x []
+          (record {
+            home = subst (λ (q : Path). IsSome (fin.get tree q)) (sym home) closed.root;
+            slot = slot ∙ sym (ap (table_slot tree) home);
+            leaf_below = omega (arith, leaf);
+          }) (search rules);
+      counted = λ s j. let none : charges_at tree x.home x.leaf s j ≡ 0 = ap (λ (q : Path). charges_at tree q x.leaf s j) home in
+          omega (arith, empty.nothing s j, none, sum_by-cons (λ p. charges_of tree p s j) x []);
       held_is = omega (arith, empty.none, ap length home, sum_by-cons (λ p. length p.home) x []);
     };
   }

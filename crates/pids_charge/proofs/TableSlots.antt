@@ -65,7 +65,8 @@ module _ (slots : ℕ) (tree : Groups) (free : List ℕ) (h : HasSlots slots tre
         other false t = refl
 
     -- the processes of that slot are those of the group
-    pub members_by_slot : (g : Path) → IsSome (fin.get tree g) → (es : List (Row A)) → All (λ p. IsPlaced leaves tree p) (values_of es) → filter (λ e. eqb e.1.slot (table_slot tree g)) es ≡ filter (λ e. same_path e.1.home g) es
+    pub members_by_slot : (g : Path) → IsSome (fin.get tree g) → (es : List (Row A)) → All (λ p. IsPlaced leaves tree p) (values_of es)
+        → filter (λ e. eqb e.1.slot (table_slot tree g)) es ≡ filter (λ e. same_path e.1.home g) es
     members_by_slot g there [] placed = refl
     members_by_slot g there (e ∷ es) placed =
         let first = by_slot g there e.1 (All-head (λ p. IsPlaced leaves tree p) e.1 (values_of es) placed) (eqb e.1.slot (table_slot tree g)) refl in

@@ -33,10 +33,13 @@ down_each a q attr = λ i. record (group_of attr) { local = one_down (same_path 
 
 -- the groups of the tree changed one by one, as f changes them there and F in the flat state
 module _ (f : Path → Attr → Attr) (old new : Groups) (changes : (q : Path) → fin.get new q ≡ option_map (f q) (fin.get old q)) where
-  pub flat_changed : (F : Path → flat.Attr → flat.Attr) → ((q : Path) (attr : Attr) → fin.get old q ≡ Some attr → group_of (f q attr) ≡ F q (group_of attr)) → (home : fin.FinMap nat_cmp Path) → flat_of new home ≡ at_each F (flat_of old home)
+  pub flat_changed : (F : Path → flat.Attr → flat.Attr)
+      → ((q : Path) (attr : Attr) → fin.get old q ≡ Some attr → group_of (f q attr) ≡ F q (group_of attr))
+      → (home : fin.FinMap nat_cmp Path) → flat_of new home ≡ at_each F (flat_of old home)
   flat_changed F each home = λ i. record { groups = groups i; home = home }
     where
-      as_flat : (q : Path) (o : Option Attr) → ((attr : Attr) → o ≡ Some attr → group_of (f q attr) ≡ F q (group_of attr)) → option_map group_of (option_map (f q) o) ≡ option_map (F q) (option_map group_of o)
+      as_flat : (q : Path) (o : Option Attr) → ((attr : Attr) → o ≡ Some attr → group_of (f q attr) ≡ F q (group_of attr))
+          → option_map group_of (option_map (f q) o) ≡ option_map (F q) (option_map group_of o)
       as_flat q None h = refl
       as_flat q (Some attr) h = ap Some (h attr refl)
 
@@ -59,7 +62,9 @@ module _ (f : Path → Attr → Attr) (old new : Groups) (changes : (q : Path) �
       slot_stays q (Some attr) = stays q attr
 
 module _ (g : ℕ → ℕ) (old new : Groups) (a : Path) (counts : Counts g old new a) where
-  pub flat-counts : (F : Path → Path → flat.Attr → flat.Attr) → ((a q : Path) (attr : Attr) → group_of (counted_by g a q attr) ≡ F a q (group_of attr)) → (home : fin.FinMap nat_cmp Path) → flat_of new home ≡ at_each (F a) (flat_of old home)
+  pub flat-counts : (F : Path → Path → flat.Attr → flat.Attr)
+      → ((a q : Path) (attr : Attr) → group_of (counted_by g a q attr) ≡ F a q (group_of attr)) → (home : fin.FinMap nat_cmp Path)
+      → flat_of new home ≡ at_each (F a) (flat_of old home)
   flat-counts F each = flat_changed (counted_by g a) old new counts (F a) (λ q attr e. each a q attr)
 
   pub same_slots : IsClosed new → SameSlots old new

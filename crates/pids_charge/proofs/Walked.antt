@@ -1,5 +1,6 @@
 -- The walk from a path upward to the nearest full group.
-use Rattle.std.proofs.Common.{◌≡◌, ℕ, suc, zero, ◌+◌, ◌<◌, ◌≤◌, ◌&&◌, Bool, true, false, not, cond, ltb, Option, Some, None, IsSome, List, [], ◌∷◌, ◌++◌, map, length, take, option_map, refl, sym, ap, ◌∙◌, add-one, arith}
+use Rattle.std.proofs.Common.{◌≡◌, ℕ, suc, zero, ◌+◌, ◌<◌, ◌≤◌, ◌&&◌, Bool, true, false, not, cond, ltb, Option, Some, None, IsSome, List}
+use Rattle.std.proofs.Common.{[], ◌∷◌, ◌++◌, map, length, take, option_map, refl, sym, ap, ◌∙◌, add-one, arith}
 use Rattle.std.specs.Option.{option_or}
 use Rattle.std.proofs.lemmas.List.{reverse-append, length-take-le}
 use Rattle.std.proofs.lemmas.Bool.Decides.{nat_tests}
@@ -38,14 +39,22 @@ behind : (test : Path → Bool) (x : Name) (p : Path) (n : ℕ) → longest0 tes
 behind test x p zero =
     elim (test (x ∷ [])) as (λ b. cond b (Some 1) (cond (test []) (Some 0) None) ≡ option_or (option_map suc (cond b (Some 0) None)) (cond (test []) (Some 0) None)) [ true ↦ refl | false ↦ refl ]
 behind test x p (suc n) =
-    elim (test (x ∷ take (suc n) p)) as (λ b. cond b (Some (suc (suc n))) (longest0 test (x ∷ p) (suc n)) ≡ option_or (option_map suc (cond b (Some (suc n)) (longest0 (λ q. test (x ∷ q)) p n))) (cond (test []) (Some 0) None)) [ true ↦ refl | false ↦ behind test x p n ]
+    elim (test (x ∷ take (suc n) p)) as (λ b. cond b (Some (suc (suc n))) (longest0 test (x ∷ p) (suc n))
+    ≡ option_or (option_map suc (cond b (Some (suc n)) (longest0 (λ q. test (x ∷ q)) p n))) (cond (test []) (Some 0) None))
+    [ true ↦ refl | false ↦ behind test x p n ]
 
-first-append : (test : Path → Bool) (n : Name) (ps : List Path) → first_path test (map (λ (q : Path). n ∷ q) ps ++ [] ∷ []) ≡ option_or (option_map (λ (q : Path). n ∷ q) (first_path (λ q. test (n ∷ q)) ps)) (cond (test []) (Some []) None)
+first-append : (test : Path → Bool) (n : Name) (ps : List Path)
+    → first_path test (map (λ (q : Path). n ∷ q) ps ++ [] ∷ [])
+    ≡ option_or (option_map (λ (q : Path). n ∷ q) (first_path (λ q. test (n ∷ q)) ps)) (cond (test []) (Some []) None)
 first-append test n [] = refl
 first-append test n (p ∷ ps) =
-    elim (test (n ∷ p)) as (λ b. cond b (Some (n ∷ p)) (first_path test (map (λ (q : Path). n ∷ q) ps ++ [] ∷ [])) ≡ option_or (option_map (λ (q : Path). n ∷ q) (cond b (Some p) (first_path (λ q. test (n ∷ q)) ps))) (cond (test []) (Some []) None)) [ true ↦ refl | false ↦ first-append test n ps ]
+    elim (test (n ∷ p)) as (λ b. cond b (Some (n ∷ p)) (first_path test (map (λ (q : Path). n ∷ q) ps ++ [] ∷ []))
+    ≡ option_or (option_map (λ (q : Path). n ∷ q) (cond b (Some p) (first_path (λ q. test (n ∷ q)) ps)))
+    (cond (test []) (Some []) None)) [ true ↦ refl | false ↦ first-append test n ps ]
 
-taken : (x : Name) (p : Path) (o : Option ℕ) (b : Bool) → option_or (option_map (λ (q : Path). x ∷ q) (option_map (λ n. take n p) o)) (cond b (Some []) None) ≡ option_map (λ n. take n (x ∷ p)) (option_or (option_map suc o) (cond b (Some 0) None))
+taken : (x : Name) (p : Path) (o : Option ℕ) (b : Bool)
+    → option_or (option_map (λ (q : Path). x ∷ q) (option_map (λ n. take n p) o)) (cond b (Some []) None)
+    ≡ option_map (λ n. take n (x ∷ p)) (option_or (option_map suc o) (cond b (Some 0) None))
 taken x p None true = refl
 taken x p None false = refl
 taken x p (Some n) b = refl
@@ -68,11 +77,16 @@ nonroot : (p : Path) → 0 < length p → is_root p ≡ false
 nonroot [] h = absurd (omega arith)
 nonroot (n ∷ p) h = refl
 
-asked_as : (leaves : ℕ) (content : Content) (o : Option Attr) (k : ℕ) → ((attr : Attr) → o ≡ Some attr → k ≡ over_leaves leaves (content attr.slot)) → asks (λ attr. exceeds (k + 1) attr.limits.pids) (option_map group_of o) ≡ full_by leaves content o
+asked_as : (leaves : ℕ) (content : Content) (o : Option Attr) (k : ℕ)
+    → ((attr : Attr) → o ≡ Some attr → k ≡ over_leaves leaves (content attr.slot))
+    → asks (λ attr. exceeds (k + 1) attr.limits.pids) (option_map group_of o) ≡ full_by leaves content o
 asked_as leaves content None k h = refl
 asked_as leaves content (Some attr) k h = ap (λ n. exceeds (n + 1) (limit_of attr.limits.pids)) (h attr refl)
 
-module _ {A : Type 0} (slots leaves : ℕ) (tree : Groups) (es : List (Row A)) (content : Content) (held : ℕ) (d : Recounted leaves tree es content held) (free : List ℕ) (h : HasSlots slots tree free) (prefixes : (p q : Path) → IsSome (fin.get tree p) → at_or_below p q ≡ true → IsSome (fin.get tree q)) (s : State) (v : state_of tree es ≡ s) where
+module _ {A : Type 0} (slots leaves : ℕ) (tree : Groups) (es : List (Row A)) (content : Content) (held : ℕ)
+    (d : Recounted leaves tree es content held) (free : List ℕ) (h : HasSlots slots tree free)
+    (prefixes : (p q : Path) → IsSome (fin.get tree p) → at_or_below p q ≡ true → IsSome (fin.get tree q)) (s : State)
+    (v : state_of tree es ≡ s) where
   full-is : (a : Path) → 0 < length a → is_full s a ≡ full_by leaves content (fin.get tree a)
   full-is a long =
       ap (λ (t : State). is_full t a) (sym v)

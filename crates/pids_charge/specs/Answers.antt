@@ -6,7 +6,8 @@ use Rattle.flat_model.specs.Command as model
 use Rattle.flat_model.specs.Command.{Command, Refusal}
 use Rattle.flat_model.specs.Step.{refusal, after, after_refusal}
 use Rattle.pids_charge.specs.declared.fault.ChargeFault.{ChargeFault}
-use Rattle.pids_charge.specs.declared.fault.ChargeFault.TheVariants.{Exists, NoGroup, Descendants, Depth, NoSlot, RootFixed, HasChildren, HasProcesses, NoProcess, PidInUse, PidsMax, OutOfMemory, NoFile}
+use Rattle.pids_charge.specs.declared.fault.ChargeFault.TheVariants.{Exists, NoGroup, Descendants, Depth, NoSlot, RootFixed, HasChildren}
+use Rattle.pids_charge.specs.declared.fault.ChargeFault.TheVariants.{HasProcesses, NoProcess, PidInUse, PidsMax, OutOfMemory, NoFile}
 
 -- the refusal of a fault, whose numbers count names of p; out of memory is not a refusal
 abbrev pub refusal_of_fault : Path → ChargeFault → Option Refusal

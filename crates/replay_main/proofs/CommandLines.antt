@@ -16,7 +16,8 @@ use Rattle.replay_main.specs.ReplayArguments.{Asks, IsAskedBy, app, rehearsal_in
 abbrev pub nameless : App → App
 nameless a = record { top = record a.top { no_binary_name = true }; subs = a.subs }
 
-pub app_is : (fresh bare one whole : App) (workers rehearse : Rule) → fresh ≡ new_app (codes "cgreplay") → bare ≡ nameless fresh → one ≡ with_rule bare workers → whole ≡ with_rule one rehearse → workers ≡ workers_rule → rehearse ≡ rehearse_rule → whole ≡ app
+pub app_is : (fresh bare one whole : App) (workers rehearse : Rule) → fresh ≡ new_app (codes "cgreplay") → bare ≡ nameless fresh
+    → one ≡ with_rule bare workers → whole ≡ with_rule one rehearse → workers ≡ workers_rule → rehearse ≡ rehearse_rule → whole ≡ app
 app_is fresh bare one whole workers rehearse f b o w r s = w ∙ ap₂ with_rule (o ∙ ap₂ with_rule (b ∙ ap nameless f) r) s
 
 pub app_simple : is_simple app ≡ true
@@ -28,15 +29,18 @@ unfolding clap_on_literals
 app_free = refl
 
 -- a value that was read is the one that the words say
-value_in : (a : App) (words : List Text) (m : ArgMatches) (id : Text) (value : Option Text) → a ≡ app → HasMatchesOf a words m → value ≡ first_value (found_of m) id → value ≡ first_of id (matches_of app words)
+value_in : (a : App) (words : List Text) (m : ArgMatches) (id : Text) (value : Option Text) → a ≡ app → HasMatchesOf a words m
+    → value ≡ first_value (found_of m) id → value ≡ first_of id (matches_of app words)
 value_in a words m id value is h v =
     let rows : rows_of (found_of m) ≡ matches_of app words = (subst (λ x. HasMatchesOf x words m) is h app_simple).0 in
     v ∙ first_value-rows (found_of m) id ∙ ap (first_of id) rows
 
-pub said_in : (a : App) (words : List Text) (m : ArgMatches) (value : Option Text) → a ≡ app → HasMatchesOf a words m → value ≡ first_value (found_of m) (codes "workers") → workers_said value ≡ workers_in words
+pub said_in : (a : App) (words : List Text) (m : ArgMatches) (value : Option Text) → a ≡ app → HasMatchesOf a words m
+    → value ≡ first_value (found_of m) (codes "workers") → workers_said value ≡ workers_in words
 said_in a words m value is h v = ap workers_said (value_in a words m (codes "workers") value is h v)
 
-pub rehearsal_said_in : (a : App) (words : List Text) (m : ArgMatches) (value : Option Text) → a ≡ app → HasMatchesOf a words m → value ≡ first_value (found_of m) (codes "rehearse") → rehearsal_said value ≡ rehearsal_in words
+pub rehearsal_said_in : (a : App) (words : List Text) (m : ArgMatches) (value : Option Text) → a ≡ app → HasMatchesOf a words m
+    → value ≡ first_value (found_of m) (codes "rehearse") → rehearsal_said value ≡ rehearsal_in words
 rehearsal_said_in a words m value is h v = ap rehearsal_said (value_in a words m (codes "rehearse") value is h v)
 
 apart : kind.DisplayHelp ≡ kind.OutOfMemory → ⊥

@@ -20,7 +20,8 @@ few_at_start trace now p short =
 
 -- ---- one line more
 
-pub few_more : (old new : Point) (line : Line) (text : List ℕ) (rest : List (List ℕ)) (most : ℕ) → new ≡ point_after old (line ∷ []) → old.commands + length (text ∷ rest) ≤ most → new.commands + length rest ≤ most
+pub few_more : (old new : Point) (line : Line) (text : List ℕ) (rest : List (List ℕ)) (most : ℕ) → new ≡ point_after old (line ∷ [])
+    → old.commands + length (text ∷ rest) ≤ most → new.commands + length rest ≤ most
 few_more old new line text rest most n few =
     let c = ap (λ q. q.commands) n in
     let one = count_by-le-length is_numbered (line ∷ []) in

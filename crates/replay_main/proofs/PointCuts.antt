@@ -10,7 +10,8 @@ use Rattle.sessions.specs.SessionMeaning.{slots}
 use Rattle.replay_main.specs.Points.{Point, answers_on, point_after, replies_on}
 
 answers_cut : (n : ℕ) (m : Machine) (a b : List Line)
-    → out n (a ++ b) (replies slots m (commands_in (a ++ b))) ≡ out n a (replies slots m (commands_in a)) ++ out (n + command_count a) b (replies slots (end_of slots m (commands_in a)) (commands_in b))
+    → out n (a ++ b) (replies slots m (commands_in (a ++ b))) ≡ out n a (replies slots m (commands_in a))
+    ++ out (n + command_count a) b (replies slots (end_of slots m (commands_in a)) (commands_in b))
 answers_cut n m [] b = let e : n ≡ n + 0 = omega arith in ap (λ k. out k b (replies slots m (commands_in b))) e
 answers_cut n m (Skip ∷ a) b =
     let count = count_by-cons is_numbered Skip a in

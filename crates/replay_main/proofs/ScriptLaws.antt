@@ -59,7 +59,8 @@ answers-append n (Some f ∷ fs) bs rs =
 answers-append n (None ∷ fs) bs [] =
     let e : n + 1 + length fs ≡ n + length (None ∷ fs) = omega arith in
     answers-append (n + 1) fs bs []
-    ∙ ap (λ t. answers_from (n + 1) fs [] ++ answers_from (n + 1 + length fs) bs t) (drop_all (count_by is_command fs) [] (omega arith) ∙ sym (drop_all (count_by is_command (None ∷ fs)) [] (omega arith)))
+    ∙ ap (λ t. answers_from (n + 1) fs [] ++ answers_from (n + 1 + length fs) bs t) (drop_all (count_by is_command fs) [] (omega arith)
+    ∙ sym (drop_all (count_by is_command (None ∷ fs)) [] (omega arith)))
     ∙ ap (λ k. answers_from (n + 1) fs [] ++ answers_from k bs (drop (count_by is_command (None ∷ fs)) [])) e
 answers-append n (None ∷ fs) bs (r ∷ rs) =
     let counted : count_by is_command (None ∷ fs) ≡ suc (count_by is_command fs) = let a = count_by-cons is_command None fs in omega (arith, a) in
@@ -134,7 +135,8 @@ pub run_answered : (size w : ℕ) (places mine : List NumberedLine) (rs all : Li
     → text ≡ run_answers size w (map place_of places) all
 run_answered size w places mine rs all text t m r =
     t ∙ ap (λ x. answers_from (w * size + 1) (map place_of mine) x) r
-    ∙ ap (λ x. answers_from (w * size + 1) x (replies_behind (w * size) (map place_of places) all)) (ap (λ x. map place_of x) m ∙ map-take place_of size (drop (w * size) places) ∙ ap (λ x. take size x) (map-drop place_of (w * size) places))
+    ∙ ap (λ x. answers_from (w * size + 1) x (replies_behind (w * size) (map place_of places) all)) (ap (λ x. map place_of x) m
+    ∙ map-take place_of size (drop (w * size) places) ∙ ap (λ x. take size x) (map-drop place_of (w * size) places))
 
 -- ---- the whole script
 

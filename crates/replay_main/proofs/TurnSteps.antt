@@ -5,7 +5,8 @@ use Rattle.std.proofs.lemmas.List.{get_or-map}
 use Rattle.flat_model.proofs.Booleans.{less, not_less}
 
 -- what holds of the entries in front of one and of that one holds of one more
-pub one_more : {X : Type 0} (f : X → ℕ) (xs : List X) (w n : ℕ) (d : X) → n < length xs → f (get_or xs n d) ≡ n % w → ((k : ℕ) → k < n → slice_index (map f xs) k ≡ k % w) → (k : ℕ) → k < n + 1 → slice_index (map f xs) k ≡ k % w
+pub one_more : {X : Type 0} (f : X → ℕ) (xs : List X) (w n : ℕ) (d : X) → n < length xs → f (get_or xs n d) ≡ n % w
+    → ((k : ℕ) → k < n → slice_index (map f xs) k ≡ k % w) → (k : ℕ) → k < n + 1 → slice_index (map f xs) k ≡ k % w
 one_more f xs w n d inside here before k below =
     by (ltb k n) refl
   where

@@ -6,7 +6,8 @@ use Rattle.std.proofs.lemmas.Grind.{get_or-set_at}
 use Rattle.flat_model.proofs.Booleans.{less, not_less}
 
 -- what is found in front of the place that is set stays, and there is what was set
-pub set_next : {X : Type 0} (P : ℕ → X → Type 0) (xs : List X) (n : ℕ) (x d : X) → n < length xs → P n x → ((k : ℕ) → k < n → P k (get_or xs k d)) → (k : ℕ) → k < n + 1 → P k (get_or (slice_set xs n x) k d)
+pub set_next : {X : Type 0} (P : ℕ → X → Type 0) (xs : List X) (n : ℕ) (x d : X) → n < length xs → P n x
+    → ((k : ℕ) → k < n → P k (get_or xs k d)) → (k : ℕ) → k < n + 1 → P k (get_or (slice_set xs n x) k d)
 set_next {X} P xs n x d inside here before k below =
     by (ltb k n) refl
   where

@@ -29,7 +29,23 @@ name_send : (T : RattleType) → (g : Ghosts T.Denot) → IsSend T → IsSync T 
 name_send T g s y f = inline_bytes.the_send T g s y f
 
 book_send : IsSend Book.the_row
-book_send = search (entry.the_send, command.the_field_send, inverse.the_field_send, meter.the_send, knot.crosses, pid.the_send, process_table.the_send, attr.the_send, name_send, group_path.the_send, global.the_send, global.the_sync, sendable, crosses, maps.crosses) depth 20
+book_send = search (
+  entry.the_send,
+  command.the_field_send,
+  inverse.the_field_send,
+  meter.the_send,
+  knot.crosses,
+  pid.the_send,
+  process_table.the_send,
+  attr.the_send,
+  name_send,
+  group_path.the_send,
+  global.the_send,
+  global.the_sync,
+  sendable,
+  crosses,
+  maps.crosses,
+) depth 20
 
 hall_send : IsSend Hall.the_row
 hall_send = search (book_send, sendable, crosses) depth 20

@@ -105,7 +105,8 @@ line_alike p (Run c) a =
       };
     }
 
-first_alone : (line : Line) (lines : List Line) → All (λ c. is_undo c ≡ false) (commands_in (line ∷ lines)) → All (λ c. is_undo c ≡ false) (commands_in (line ∷ [])) × All (λ c. is_undo c ≡ false) (commands_in lines)
+first_alone : (line : Line) (lines : List Line) → All (λ c. is_undo c ≡ false) (commands_in (line ∷ lines))
+    → All (λ c. is_undo c ≡ false) (commands_in (line ∷ [])) × All (λ c. is_undo c ≡ false) (commands_in lines)
 first_alone Skip lines a = (All-nil (λ c. is_undo c ≡ false), a)
 first_alone (Fault f) lines a = (All-nil (λ c. is_undo c ≡ false), a)
 first_alone (Run c) lines a =

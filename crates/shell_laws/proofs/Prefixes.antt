@@ -12,7 +12,9 @@ use Rattle.shell_main.specs.WholeLines.{ends_line}
 use Rattle.shell_main.proofs.LineCuts.{trace_cut}
 use Rattle.shell_main.proofs.ForgetfulCuts.{answers_by_cut}
 
-pub output_cut : (history : Bool) (lines more : List ℕ) → ends_line lines ≡ true → output_of history (lines ++ more) ≡ output_of history lines ++ answers_by history (after_by history start_point (read_trace lines)) (read_trace more)
+pub output_cut : (history : Bool) (lines more : List ℕ) → ends_line lines ≡ true
+    → output_of history (lines ++ more) ≡ output_of history lines
+    ++ answers_by history (after_by history start_point (read_trace lines)) (read_trace more)
 output_cut history lines more e = ap (answers_by history start_point) (trace_cut lines more e) ∙ answers_by_cut history start_point (read_trace lines) (read_trace more)
 
 -- after is before with a prefix of these bytes
@@ -31,14 +33,21 @@ prefix_of before bytes rest all more (Some xs) t e = record {
   is = ap (λ x. Some x) t.2;
 }
 
-lines_first : (history : Bool) (left before lines rest more : List ℕ) (after : Option (List ℕ)) → ends_line lines ≡ true → left ≡ lines ++ more → TakesFront (Some before) (output_of history lines) rest after → HasPrefix before (output_of history left) after
+lines_first : (history : Bool) (left before lines rest more : List ℕ) (after : Option (List ℕ)) → ends_line lines ≡ true
+    → left ≡ lines ++ more → TakesFront (Some before) (output_of history lines) rest after → HasPrefix before (output_of history left) after
 lines_first history left before lines rest more after e b t =
-    prefix_of before (output_of history lines) rest (output_of history left) (answers_by history (after_by history start_point (read_trace lines)) (read_trace more)) after t (ap (output_of history) b ∙ output_cut history lines more e)
+    prefix_of before (output_of history lines) rest (output_of history left)
+    (answers_by history (after_by history start_point (read_trace lines)) (read_trace more)) after t (ap (output_of history) b
+    ∙ output_cut history lines more e)
 
-all_first : (history : Bool) (left before lines rest : List ℕ) (after : Option (List ℕ)) → left ≡ lines → TakesFront (Some before) (output_of history lines) rest after → HasPrefix before (output_of history left) after
-all_first history left before lines rest after b t = prefix_of before (output_of history lines) rest (output_of history left) [] after t (ap (output_of history) b ∙ sym (append-nil (output_of history lines)))
+all_first : (history : Bool) (left before lines rest : List ℕ) (after : Option (List ℕ)) → left ≡ lines
+    → TakesFront (Some before) (output_of history lines) rest after → HasPrefix before (output_of history left) after
+all_first history left before lines rest after b t =
+    prefix_of before (output_of history lines) rest (output_of history left) [] after t (ap (output_of history) b
+    ∙ sym (append-nil (output_of history lines)))
 
-by_either : (history : Bool) (left before lines rest more : List ℕ) (after : Option (List ℕ)) → (ends_line lines ≡ true) ⊎ (left ≡ lines) → left ≡ lines ++ more → TakesFront (Some before) (output_of history lines) rest after → HasPrefix before (output_of history left) after
+by_either : (history : Bool) (left before lines rest more : List ℕ) (after : Option (List ℕ)) → (ends_line lines ≡ true) ⊎ (left ≡ lines)
+    → left ≡ lines ++ more → TakesFront (Some before) (output_of history lines) rest after → HasPrefix before (output_of history left) after
 by_either history left before lines rest more after (inl e) b t = lines_first history left before lines rest more after e b t
 by_either history left before lines rest more after (inr a) b t = all_first history left before lines rest after a t
 
@@ -50,6 +59,7 @@ written_prefix (Err Read) history left before (Some ys) after read_failed write_
     let n = s.1.2 in
     lines_first history left before s.1.0 [] (s.1.1 ++ ys) after n.whole (n.read ∙ append_assoc s.1.0 s.1.1 ys) n.written
 written_prefix (Err Write) history left before rest after read_failed write_failed flushed s = by_either history left before s.lines s.rest s.is_front.0 after s.whole s.is_front.1 s.written
-written_prefix (Err InputTooLong) history left before rest after read_failed write_failed flushed s = lines_first history left before s.0 [] s.2.0.is_front.0 after s.2.0.whole s.2.0.is_front.1 s.2.0.written
+written_prefix (Err InputTooLong) history left before rest after read_failed write_failed flushed s =
+    lines_first history left before s.0 [] s.2.0.is_front.0 after s.2.0.whole s.2.0.is_front.1 s.2.0.written
 written_prefix (Err OutOfMemory) history left before rest after read_failed write_failed flushed s = lines_first history left before s.0 [] s.1.is_front.0 after s.1.whole s.1.is_front.1 s.1.written
 written_prefix (Err NotACommand) history left before rest after read_failed write_failed flushed s = absurd s

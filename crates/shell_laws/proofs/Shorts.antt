@@ -33,4 +33,6 @@ without_end n (part ∷ []) u = end_by (length part == 0) n part u.0
 without_end n (part ∷ next ∷ parts) u = (u.0, without_end n (next ∷ parts) u.1)
 
 pub lines_up_to : (n : ℕ) (text : List ℕ) → length text ≤ n → All (λ line. length line ≤ n) (lines_in text)
-lines_up_to n text le = All-from_recursion (λ line. length line ≤ n) (lines_in text) (without_end n (slice_split is_line_feed text) (more_room (length text) n (slice_split is_line_feed text) le (pieces_up_to text)))
+lines_up_to n text le =
+    All-from_recursion (λ line. length line ≤ n) (lines_in text)
+    (without_end n (slice_split is_line_feed text) (more_room (length text) n (slice_split is_line_feed text) le (pieces_up_to text)))

@@ -32,7 +32,8 @@ unfolding clap_on_literals
 app_free = refl
 
 -- a value that was read is the one that the words say
-value_in : (a : App) (words : List Text) (m : ArgMatches) (id : Text) (value : Option Text) → a ≡ app → HasMatchesOf a words m → value ≡ first_value (found_of m) id → value ≡ first_of id (matches_of app words)
+value_in : (a : App) (words : List Text) (m : ArgMatches) (id : Text) (value : Option Text) → a ≡ app → HasMatchesOf a words m
+    → value ≡ first_value (found_of m) id → value ≡ first_of id (matches_of app words)
 value_in a words m id value is h v =
     let rows : rows_of (found_of m) ≡ matches_of app words = (subst (λ x. HasMatchesOf x words m) is h app_simple).0 in
     v ∙ first_value-rows (found_of m) id ∙ ap (first_of id) rows
@@ -40,7 +41,8 @@ value_in a words m id value is h v =
 pub file_said_in : (a : App) (words : List Text) (m : ArgMatches) (value : Option Text) → a ≡ app → HasMatchesOf a words m → value ≡ first_value (found_of m) (codes "FILE") → value ≡ file_in words
 file_said_in a words m value is h v = value_in a words m (codes "FILE") value is h v
 
-pub flag_said_in : (a : App) (words : List Text) (m : ArgMatches) (id : Text) (value : Option Text) → a ≡ app → HasMatchesOf a words m → value ≡ first_value (found_of m) id → flag_said value ≡ flag_said (first_of id (matches_of app words))
+pub flag_said_in : (a : App) (words : List Text) (m : ArgMatches) (id : Text) (value : Option Text) → a ≡ app → HasMatchesOf a words m
+    → value ≡ first_value (found_of m) id → flag_said value ≡ flag_said (first_of id (matches_of app words))
 flag_said_in a words m id value is h v = ap flag_said (value_in a words m id value is h v)
 
 help_apart : kind.DisplayHelp ≡ kind.OutOfMemory → ⊥

@@ -1,5 +1,6 @@
 -- What a shell leaves where it ends, by what stood before.
-use Rattle.std.proofs.Common.{◌≡◌, ◌∙◌, ◌⊎◌, inl, inr, ℕ, suc, ◌≤◌, ◌<◌, Bool, true, false, List, [], ◌∷◌, ◌++◌, length, ◌==◌, append_assoc, append-nil, refl, sym, ap, subst, arith, take, zero-add, Option, Some, None, Result, Ok, Err}
+use Rattle.std.proofs.Common.{◌≡◌, ◌∙◌, ◌⊎◌, inl, inr, ℕ, suc, ◌≤◌, ◌<◌, Bool, true, false, List, [], ◌∷◌, ◌++◌, length, ◌==◌, append_assoc}
+use Rattle.std.proofs.Common.{append-nil, refl, sym, ap, subst, arith, take, zero-add, Option, Some, None, Result, Ok, Err}
 use Rattle.std.specs.Io.KnownBytes.{Consumes, IsAtEnd}
 use Rattle.std.specs.Io.KnownBytes as known
 use Rattle.std.specs.Result.{IsErrAnd}
@@ -117,7 +118,9 @@ stopped_at how start left before taken after read_failed failed failed2 flushed 
 
 -- a write or a flush failed
 cut_off : (how : Options) (start left before taken after : Option (List ℕ)) (read_failed failed failed2 flushed : Bool) (now : Point) (lines line pending : List ℕ)
-    → Stands how start left before taken failed flushed now lines line pending → IsCutOff how.keeps_history now (line ++ pending) taken after failed2 → read_failed ≡ false → IsBroken how.keeps_history start before after read_failed failed2
+    → Stands how start left before taken failed flushed now lines line pending
+    → IsCutOff how.keeps_history now (line ++ pending) taken after failed2 → read_failed ≡ false
+    → IsBroken how.keeps_history start before after read_failed failed2
 cut_off how start left before taken after read_failed failed failed2 flushed now lines line pending s c r = record {
   lines = lines ++ c.text;
   whole = inl (ends_both lines c.text s.whole c.whole);
@@ -156,7 +159,9 @@ struck how start left before taken after read_failed failed failed2 flushed flus
       fault = h.fault;
       short = one.short (short_both lines a.text s.whole s.short a.short) h.unended.fits;
       written =
-          let all : output_of how.keeps_history text ≡ output_of how.keeps_history lines ++ out = answers_more how.keeps_history start_point h.now front h.line text one (point_both how.keeps_history start_point now h.now lines a.text s.whole s.point a.point)
+          let all : output_of how.keeps_history text ≡ output_of how.keeps_history lines ++ out =
+          answers_more how.keeps_history start_point h.now front h.line text one
+          (point_both how.keeps_history start_point now h.now lines a.text s.whole s.point a.point)
           ∙ ap (λ x. x ++ answers_on h.now (read_line h.line ∷ [])) (answers_both how.keeps_history start_point now lines a.text s.whole s.point)
           ∙ append_assoc (output_of how.keeps_history lines) (answers_by how.keeps_history now (read_trace a.text)) (answers_on h.now (read_line h.line ∷ []))
           ∙ ap (λ x. output_of how.keeps_history lines ++ x) (ap (λ x. x ++ answers_on h.now (read_line h.line ∷ [])) (sym a.output) ∙ sym h.output) in
@@ -207,7 +212,8 @@ input_of how start left before taken failed flushed now lines line s e = all_rea
 
 -- nothing was written after whole lines
 last_stopped : (how : Options) (start left before taken after : Option (List ℕ)) (read_failed failed failed2 flushed flushed2 : Bool) (now : Point) (lines line : List ℕ)
-    → Stands how start left before taken failed flushed now lines line [] → IsOut taken [] after failed2 flushed2 → read_failed ≡ false → IsStopped how.keeps_history start before after read_failed failed2 flushed2 lines
+    → Stands how start left before taken failed flushed now lines line [] → IsOut taken [] after failed2 flushed2 → read_failed ≡ false
+    → IsStopped how.keeps_history start before after read_failed failed2 flushed2 lines
 last_stopped how start left before taken after read_failed failed failed2 flushed flushed2 now lines line s o r = record {
   whole = s.whole;
   short = s.short;
@@ -294,7 +300,8 @@ none_left [] e = refl
 none_left (x ∷ line) e = let n : suc (length line) ≡ 0 = eqb-true (suc (length line)) 0 e in absurd (omega (arith, n))
 
 pub served : (how : Options) (start left before taken : Option (List ℕ)) (read_failed failed flushed : Bool) (now : Point) (lines line : List ℕ)
-    → Stands how start left before taken failed flushed now lines line [] → IsAtEnd left → (length line == 0) ≡ true → read_failed ≡ false → ShelledBy how start left read_failed before taken failed flushed (Ok (summary_of now))
+    → Stands how start left before taken failed flushed now lines line [] → IsAtEnd left → (length line == 0) ≡ true → read_failed ≡ false
+    → ShelledBy how start left read_failed before taken failed flushed (Ok (summary_of now))
 served how start left before taken read_failed failed flushed now lines line s e none r = (
   record {
     trace = lines;

@@ -24,5 +24,6 @@ at_feed bytes end h =
     let cut : P end = subst P e.1 (split_at_first is_line_feed bytes 0 e.0) in
     let feed = eqb-true (get_or bytes end 0) 0x0A (position-Some is_line_feed bytes end 0 (sym h)).1 in (
       cut ∙ ap (λ b. take end bytes ++ b ∷ drop (end + 1) bytes) feed,
-      λ k d l. let below : k < end = let m = length-take end bytes in omega (arith, l, m) in ap is_line_feed (get_or-take end bytes k d below) ∙ (position-Some is_line_feed bytes end d (sym h)).2 k below,
+      λ k d l. let below : k < end = let m = length-take end bytes in omega (arith, l, m) in
+          ap is_line_feed (get_or-take end bytes k d below) ∙ (position-Some is_line_feed bytes end d (sym h)).2 k below,
     )

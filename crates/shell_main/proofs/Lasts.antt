@@ -10,7 +10,8 @@ use Rattle.shell_main.specs.declared.options.Options.{Options}
 use Rattle.shell_main.specs.Talks.{Finishes, IsOut, Says}
 
 -- exactly this output is out
-is_out : (out said : List ℕ) (before after : Option (List ℕ)) (failed flushed : Bool) (u : Unit {0}) → out ≡ said → WholeWrite before out after failed flushed (Ok u) → IsOut before said after failed flushed
+is_out : (out said : List ℕ) (before after : Option (List ℕ)) (failed flushed : Bool) (u : Unit {0}) → out ≡ said
+    → WholeWrite before out after failed flushed (Ok u) → IsOut before said after failed flushed
 is_out out said before after failed flushed u e w = record { written = subst (λ x. TakesFront before x [] after) e w.2; good = w.0; is_out = w.1 }
 
 pub finished : (r : Result (Unit {0}) ShellFault) (how : Options) (old new : Point) (line : Line) (out : List ℕ) (before after : Option (List ℕ)) (failed flushed : Bool) (u : Unit {0})

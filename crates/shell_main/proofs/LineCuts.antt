@@ -48,7 +48,9 @@ empty_end (t ∷ []) = refl
 empty_end (t ∷ u ∷ ts) = ap (λ (us : List (List ℕ)). t ∷ us) (empty_end (u ∷ ts))
 
 -- (the pieces of a text are never none)
-kept_by : (x : List ℕ) (b : Bool) (y : ℕ) (parts : List (List ℕ)) (first : List ℕ) → without_empty_end (x ∷ cond b (first ∷ parts) (onto_first y parts)) ≡ x ∷ without_empty_end (cond b (first ∷ parts) (onto_first y parts))
+kept_by : (x : List ℕ) (b : Bool) (y : ℕ) (parts : List (List ℕ)) (first : List ℕ)
+    → without_empty_end (x ∷ cond b (first ∷ parts) (onto_first y parts))
+    ≡ x ∷ without_empty_end (cond b (first ∷ parts) (onto_first y parts))
 kept_by x true y parts first = refl
 kept_by x false y [] first = refl
 kept_by x false y (part ∷ parts) first = refl

@@ -36,13 +36,16 @@ kept_unended line piece line2 u h k = record {
   fits = k.1;
 }
 
-pub kept : (how : Options) (old now : Point) (bytes line piece more line2 out : List ℕ) → Answered how old bytes (line ++ (piece ++ more)) out now → line2 ≡ line ++ piece → Answered how old bytes (line2 ++ more) out now
+pub kept : (how : Options) (old now : Point) (bytes line piece more line2 out : List ℕ)
+    → Answered how old bytes (line ++ (piece ++ more)) out now → line2 ≡ line ++ piece → Answered how old bytes (line2 ++ more) out now
 kept how old now bytes line piece more line2 out a k =
     let joined : line ++ (piece ++ more) ≡ line2 ++ more = sym (append_assoc line piece more) ∙ ap (λ x. x ++ more) (sym k) in
     subst (λ x. Answered how old bytes x out now) joined a
 
 -- the line got too long, or out of memory for it
-pub keep_halts : (fault : ShellFault) (how : Options) (old now : Point) (bytes line piece more line2 out : List ℕ) → Answered how old bytes (line ++ (piece ++ more)) out now → IsUnended line → HasNoFeed piece → Keeps line piece (Err fault) line2 → Halts how old bytes out fault
+pub keep_halts : (fault : ShellFault) (how : Options) (old now : Point) (bytes line piece more line2 out : List ℕ)
+    → Answered how old bytes (line ++ (piece ++ more)) out now → IsUnended line → HasNoFeed piece → Keeps line piece (Err fault) line2
+    → Halts how old bytes out fault
 keep_halts Read how old now bytes line piece more line2 out a u h k = absurd k
 keep_halts Write how old now bytes line piece more line2 out a u h k = absurd k
 keep_halts NotACommand how old now bytes line piece more line2 out a u h k = absurd k
@@ -59,7 +62,8 @@ keep_halts InputTooLong how old now bytes line piece more line2 out a u h k = (
 )
 
 -- a line that ended is answered
-pub said : (how : Options) (old now new : Point) (bytes line more out out2 : List ℕ) (u : Unit {0}) → Answered how old bytes (line ++ 0x0A ∷ more) out now → IsUnended line → Says how now (read_line line) out out2 (Ok u) new
+pub said : (how : Options) (old now new : Point) (bytes line more out out2 : List ℕ) (u : Unit {0})
+    → Answered how old bytes (line ++ 0x0A ∷ more) out now → IsUnended line → Says how now (read_line line) out out2 (Ok u) new
     → Answered how old bytes more out2 new
 said how old now new bytes line more out out2 u a l w =
     let text = a.text ++ (line ++ 0x0A ∷ []) in
@@ -76,7 +80,8 @@ said how old now new bytes line more out out2 u a l w =
     }
 
 -- it is not: no number was left, or out of memory; or a strict shell stops after it
-pub say_halts : (fault : ShellFault) (how : Options) (old now new : Point) (bytes line more out out2 : List ℕ) → Answered how old bytes (line ++ 0x0A ∷ more) out now → IsUnended line → Says how now (read_line line) out out2 (Err fault) new
+pub say_halts : (fault : ShellFault) (how : Options) (old now new : Point) (bytes line more out out2 : List ℕ)
+    → Answered how old bytes (line ++ 0x0A ∷ more) out now → IsUnended line → Says how now (read_line line) out out2 (Err fault) new
     → Halts how old bytes out2 fault
 say_halts Read how old now new bytes line more out out2 a l w = absurd w
 say_halts Write how old now new bytes line more out out2 a l w = absurd w

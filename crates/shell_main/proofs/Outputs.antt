@@ -64,13 +64,16 @@ unsent_halt NotACommand how old bytes out before after failed flushed e h w =
       short = one.short a.short h.unended.fits;
       rest = w.1.0;
       written =
-          let all : out ≡ answers_by how.keeps_history old (read_trace text) = h.output ∙ ap (λ x. x ++ answers_on h.now (read_line h.line ∷ [])) a.output ∙ sym (answers_more how.keeps_history old h.now a.text h.line text one a.point) in
+          let all : out ≡ answers_by how.keeps_history old (read_trace text) =
+          h.output ∙ ap (λ x. x ++ answers_on h.now (read_line h.line ∷ [])) a.output
+          ∙ sym (answers_more how.keeps_history old h.now a.text h.line text one a.point) in
           subst (λ x. TakesFront before x w.1.0 after) all w.1.1;
       bad = w.0;
     }
 
 -- whatever was answered
-pub cut_short : {T : Type 0} (r : Result T ShellFault) (rest : T → List ℕ) (how : Options) (old new : Point) (bytes line out : List ℕ) (before after : Option (List ℕ)) (failed flushed : Bool) (e : DeviceFault)
+pub cut_short : {T : Type 0} (r : Result T ShellFault) (rest : T → List ℕ) (how : Options) (old new : Point) (bytes line out : List ℕ)
+    (before after : Option (List ℕ)) (failed flushed : Bool) (e : DeviceFault)
     → MatchResult r (λ x. Answered how old bytes (line ++ rest x) out new) (λ f. ⊤) → MatchResult r (λ x. ⊤) (Halts how old bytes out)
     → WholeWrite before out after failed flushed (Err e) → IsCutOff how.keeps_history old bytes before after failed
 cut_short (Ok x) rest how old new bytes line out before after failed flushed e a h w = unsent how old new bytes (line ++ rest x) out before after failed flushed e a w

@@ -47,17 +47,21 @@ none_consumed (Some xs) = refl
 pub written_both : (history : Bool) (lines text rest : List ℕ) (now : Point) (before taken after : Option (List ℕ)) → ends_line lines ≡ true → now ≡ after_by history start_point (read_trace lines)
     → TakesFront before (output_of history lines) [] taken → TakesFront taken (answers_by history now (read_trace text)) rest after → TakesFront before (output_of history (lines ++ text)) rest after
 written_both history lines text rest now before taken after e p w v =
-    subst (λ x. TakesFront before x rest after) (sym (answers_both history start_point now lines text e p)) (both_written before taken after (output_of history lines) (answers_by history now (read_trace text)) rest w v)
+    subst (λ x. TakesFront before x rest after) (sym (answers_both history start_point now lines text e p))
+    (both_written before taken after (output_of history lines) (answers_by history now (read_trace text)) rest w v)
 
-pub written_more : (history : Bool) (lines line text rest : List ℕ) (now : Point) (before taken after : Option (List ℕ)) → HasOneMore lines line text → now ≡ after_by history start_point (read_trace lines)
+pub written_more : (history : Bool) (lines line text rest : List ℕ) (now : Point) (before taken after : Option (List ℕ))
+    → HasOneMore lines line text → now ≡ after_by history start_point (read_trace lines)
     → TakesFront before (output_of history lines) [] taken → TakesFront taken (answers_on now (read_line line ∷ [])) rest after → TakesFront before (output_of history text) rest after
 written_more history lines line text rest now before taken after one p w v =
-    subst (λ x. TakesFront before x rest after) (sym (answers_more history start_point now lines line text one p)) (both_written before taken after (output_of history lines) (answers_on now (read_line line ∷ [])) rest w v)
+    subst (λ x. TakesFront before x rest after) (sym (answers_more history start_point now lines line text one p))
+    (both_written before taken after (output_of history lines) (answers_on now (read_line line ∷ [])) rest w v)
 
 -- ---- steps
 
 -- before the first line
-pub at_start : (how : Options) (left before : Option (List ℕ)) (failed flushed : Bool) (now : Point) → now ≡ start_point → failed ≡ false → flushed ≡ true → Stands how left left before before failed flushed now [] [] []
+pub at_start : (how : Options) (left before : Option (List ℕ)) (failed flushed : Bool) (now : Point) → now ≡ start_point → failed ≡ false
+    → flushed ≡ true → Stands how left left before before failed flushed now [] [] []
 at_start how left before failed flushed now p f o = record {
   whole = refl;
   short = All-nil (λ (l : List ℕ). length l ≤ trace_max);

@@ -79,7 +79,8 @@ after_flush (Err Write) how left rest before mid after read_failed failed flushe
 }
 after_flush (Err InputTooLong) how left rest before mid after read_failed failed flushed w s =
     (s.0, s.1, (stopped_after how.keeps_history left before mid after read_failed failed flushed s.0 w s.2.0, s.2.1, s.2.2))
-after_flush (Err OutOfMemory) how left rest before mid after read_failed failed flushed w s = (s.0, (stopped_after how.keeps_history left before mid after read_failed failed flushed s.0 w s.1.0, s.1.1))
+after_flush (Err OutOfMemory) how left rest before mid after read_failed failed flushed w s =
+    (s.0, (stopped_after how.keeps_history left before mid after read_failed failed flushed s.0 w s.1.0, s.1.1))
 after_flush (Err NotACommand) how left rest before mid after read_failed failed flushed w t =
     let s = t.1 in (
       t.0,
@@ -101,7 +102,10 @@ after_flush (Err NotACommand) how left rest before mid after read_failed failed 
     )
 
 -- a shell that is not strict
-pub lenient : (r : Result Summary ShellFault) (history : Bool) (left rest before after : Option (List ℕ)) (read_failed failed flushed : Bool) → ShelledBy (record { is_strict = false; keeps_history = history }) left rest read_failed before after failed flushed r → Shelled history left rest read_failed before after failed flushed r
+pub lenient : (r : Result Summary ShellFault) (history : Bool) (left rest before after : Option (List ℕ))
+    (read_failed failed flushed : Bool)
+    → ShelledBy (record { is_strict = false; keeps_history = history }) left rest read_failed before after failed flushed r
+    → Shelled history left rest read_failed before after failed flushed r
 lenient (Ok summary) history left rest before after read_failed failed flushed s = s.0
 lenient (Err Read) history left rest before after read_failed failed flushed s = (s.0, (s.1.0, s.1.1, s.1.2))
 lenient (Err Write) history left rest before after read_failed failed flushed s = s

@@ -39,7 +39,8 @@ clean_more true lines line text one c p =
     subst (All P) (sym one.reads) (All-append P (read_trace lines) (read_line line ∷ []) c (All-cons P (read_line line) [] p (All-nil P)))
 
 -- the point after both
-pub point_both : (history : Bool) (old now new : Point) (a b : List ℕ) → ends_line a ≡ true → now ≡ after_by history old (read_trace a) → new ≡ after_by history now (read_trace b) → new ≡ after_by history old (read_trace (a ++ b))
+pub point_both : (history : Bool) (old now new : Point) (a b : List ℕ) → ends_line a ≡ true → now ≡ after_by history old (read_trace a)
+    → new ≡ after_by history now (read_trace b) → new ≡ after_by history old (read_trace (a ++ b))
 point_both history old now new a b e p n =
     n ∙ ap (λ q. after_by history q (read_trace b)) p ∙ sym (after_by_cut history old (read_trace a) (read_trace b)) ∙ ap (after_by history old) (sym (trace_cut a b e))
 
@@ -54,7 +55,8 @@ answers_both history old now a b e p =
 pub point_more : (history : Bool) (old now new : Point) (lines line text : List ℕ) → HasOneMore lines line text → now ≡ after_by history old (read_trace lines)
     → new ≡ remembered history (point_after now (read_line line ∷ [])) → new ≡ after_by history old (read_trace text)
 point_more history old now new lines line text one p n =
-    n ∙ after_one history now (read_line line) ∙ ap (λ q. after_by history q (read_line line ∷ [])) p ∙ sym (after_by_cut history old (read_trace lines) (read_line line ∷ [])) ∙ ap (after_by history old) (sym one.reads)
+    n ∙ after_one history now (read_line line) ∙ ap (λ q. after_by history q (read_line line ∷ [])) p
+    ∙ sym (after_by_cut history old (read_trace lines) (read_line line ∷ [])) ∙ ap (after_by history old) (sym one.reads)
 
 pub answers_more : (history : Bool) (old now : Point) (lines line text : List ℕ) → HasOneMore lines line text → now ≡ after_by history old (read_trace lines)
     → answers_by history old (read_trace text) ≡ answers_by history old (read_trace lines) ++ answers_on now (read_line line ∷ [])

@@ -1,4 +1,5 @@
--- What a command line requests, by the kind of fault that `clap` finds in its words (none, a request for help or the version, or another), and by what stands for FILE, at `--strict` and at `--no-undo`.
+-- What a command line requests, by the kind of fault that `clap` finds in its words (none, a request for help or the
+-- version, or another), and by what stands for FILE, at `--strict` and at `--no-undo`.
 use Rattle.std.specs.Prelude.{◌≡◌, ◌≢◌, ◌⊎◌, Bool, true, false, not, List, [], codes, Option, Some, None, option_map, Result, Ok, Err}
 use Rattle.std.specs.Str.{bytes_eq}
 use Rattle.clap.specs.Words.{App, IsAmong, Rule, Text, fault_of, first_of, matches_of, new_app, new_rule, with_rule}
@@ -25,7 +26,10 @@ no_undo_rule = record (new_rule (codes "no-undo")) { long = Some (codes "no-undo
 
 -- the program takes no arguments but these and the requests for help and the version, and its own name is not among the words
 abbrev pub app : App
-app = with_rule (with_rule (with_rule (record { top = record (new_app (codes "cgshell")).top { has_version = true; no_binary_name = true }; subs = (new_app (codes "cgshell")).subs }) file_rule) strict_rule) no_undo_rule
+app = with_rule (with_rule (with_rule (record {
+  top = record (new_app (codes "cgshell")).top { has_version = true; no_binary_name = true };
+  subs = (new_app (codes "cgshell")).subs;
+}) file_rule) strict_rule) no_undo_rule
 
 -- the file that words without a fault name, if they name one
 abbrev pub file_in : List Text → Option Text

@@ -89,17 +89,25 @@ pub record IsBarred (history : Bool) (left before after : Option (List ℕ)) (re
 -- What a shell leaves, with a history or without, by its result: the source had `left` and has `rest`, the sink had `before` and has `after`, and these are the marks.
 abbrev pub Shelled : Bool → Option (List ℕ) → Option (List ℕ) → Bool → Option (List ℕ) → Option (List ℕ) → Bool → Bool → Result Summary ShellFault → Type 0
 Shelled history left rest read_failed before after write_failed flushed (Ok summary) = IsServed history left before after read_failed write_failed flushed summary
-Shelled history left rest read_failed before after write_failed flushed (Err Read) = (read_failed ≡ true) × ((lines line : List ℕ) × NothingOwed history left rest before after write_failed flushed lines line)
+Shelled history left rest read_failed before after write_failed flushed (Err Read) = (read_failed ≡ true)
+    × ((lines line : List ℕ) × NothingOwed history left rest before after write_failed flushed lines line)
 Shelled history left rest read_failed before after write_failed flushed (Err Write) = IsBroken history left before after read_failed write_failed
-Shelled history left rest read_failed before after write_failed flushed (Err InputTooLong) = (lines line : List ℕ) × (IsStopped history left before after read_failed write_failed flushed lines × IsTooLong left lines line)
+Shelled history left rest read_failed before after write_failed flushed (Err InputTooLong) = (lines line : List ℕ)
+    × (IsStopped history left before after read_failed write_failed flushed lines × IsTooLong left lines line)
 Shelled history left rest read_failed before after write_failed flushed (Err OutOfMemory) = (lines : List ℕ) × IsStopped history left before after read_failed write_failed flushed lines
 Shelled history left rest read_failed before after write_failed flushed (Err NotACommand) = ⊥
 
 -- The same by its options: a strict shell stops after the first line that is not a command, so there is none in what it answered before.
 abbrev pub ShelledBy : Options → Option (List ℕ) → Option (List ℕ) → Bool → Option (List ℕ) → Option (List ℕ) → Bool → Bool → Result Summary ShellFault → Type 0
-ShelledBy how left rest read_failed before after write_failed flushed (Ok summary) = (served : IsServed how.keeps_history left before after read_failed write_failed flushed summary) × IsClean how.is_strict served.trace
-ShelledBy how left rest read_failed before after write_failed flushed (Err Read) = (read_failed ≡ true) × ((lines line : List ℕ) × NothingOwed how.keeps_history left rest before after write_failed flushed lines line × IsClean how.is_strict lines)
+ShelledBy how left rest read_failed before after write_failed flushed (Ok summary) =
+    (served : IsServed how.keeps_history left before after read_failed write_failed flushed summary) × IsClean how.is_strict served.trace
+ShelledBy how left rest read_failed before after write_failed flushed (Err Read) = (read_failed ≡ true)
+    × ((lines line : List ℕ) × NothingOwed how.keeps_history left rest before after write_failed flushed lines line
+    × IsClean how.is_strict lines)
 ShelledBy how left rest read_failed before after write_failed flushed (Err Write) = IsBroken how.keeps_history left before after read_failed write_failed
-ShelledBy how left rest read_failed before after write_failed flushed (Err InputTooLong) = (lines line : List ℕ) × (IsStopped how.keeps_history left before after read_failed write_failed flushed lines × IsTooLong left lines line × IsClean how.is_strict lines)
-ShelledBy how left rest read_failed before after write_failed flushed (Err OutOfMemory) = (lines : List ℕ) × (IsStopped how.keeps_history left before after read_failed write_failed flushed lines × IsClean how.is_strict lines)
+ShelledBy how left rest read_failed before after write_failed flushed (Err InputTooLong) = (lines line : List ℕ)
+    × (IsStopped how.keeps_history left before after read_failed write_failed flushed lines × IsTooLong left lines line
+    × IsClean how.is_strict lines)
+ShelledBy how left rest read_failed before after write_failed flushed (Err OutOfMemory) = (lines : List ℕ)
+    × (IsStopped how.keeps_history left before after read_failed write_failed flushed lines × IsClean how.is_strict lines)
 ShelledBy how left rest read_failed before after write_failed flushed (Err NotACommand) = (how.is_strict ≡ true) × IsBarred how.keeps_history left before after read_failed write_failed flushed

@@ -68,7 +68,8 @@ pub record IsStruck (how : Options) (old : Point) (bytes out : List ℕ) : Type 
 
 -- why no more of these bytes is answered
 abbrev pub Halts : Options → Point → List ℕ → List ℕ → ShellFault → Type 0
-Halts how old bytes out InputTooLong = (line more : List ℕ) × (now : Point) × (Answered how old bytes (line ++ more) out now × HasNoFeed line × ((trace_max < length line) ⊎ (number_max ≤ now.commands)))
+Halts how old bytes out InputTooLong = (line more : List ℕ) × (now : Point)
+    × (Answered how old bytes (line ++ more) out now × HasNoFeed line × ((trace_max < length line) ⊎ (number_max ≤ now.commands)))
 Halts how old bytes out OutOfMemory = (more : List ℕ) × (now : Point) × Answered how old bytes more out now
 Halts how old bytes out NotACommand = IsStruck how old bytes out
 Halts how old bytes out Read = ⊥
@@ -107,7 +108,8 @@ Stops how old bytes before after failed flushed fault = (out : List ℕ) × (Hal
 
 -- the last line, which has no line feed, is answered, and its output is out
 abbrev pub Finishes : Options → Point → Line → Option (List ℕ) → Option (List ℕ) → Bool → Bool → Result (Unit {0}) ShellFault → Point → Type 0
-Finishes how old line before after failed flushed (Ok u) new = (new ≡ remembered how.keeps_history (point_after old (line ∷ []))) × IsOut before (answers_on old (line ∷ [])) after failed flushed × IsPassed how.is_strict line
+Finishes how old line before after failed flushed (Ok u) new = (new ≡ remembered how.keeps_history (point_after old (line ∷ [])))
+    × IsOut before (answers_on old (line ∷ [])) after failed flushed × IsPassed how.is_strict line
 Finishes how old line before after failed flushed (Err NotACommand) new = (how.is_strict ≡ true) × (is_fault line ≡ true) × IsOut before (answers_on old (line ∷ [])) after failed flushed
 Finishes how old line before after failed flushed (Err InputTooLong) new = (number_max ≤ old.commands) × IsOut before [] after failed flushed
 Finishes how old line before after failed flushed (Err OutOfMemory) new = IsOut before [] after failed flushed

@@ -39,7 +39,8 @@ three_are (a ∷ b ∷ c ∷ d ∷ ws) p f v e = cc
 -- ---- the command
 
 -- the action says the same as these words at every path
-same_words : {A : Type 0} (m : Result Path trace.TextFault) (path : Result Path Unread) (action : Result Action TextFault) (r : Result (Command A) Unread) (next : Path → Result model.Command trace.TextFault)
+same_words : {A : Type 0} (m : Result Path trace.TextFault) (path : Result Path Unread) (action : Result Action TextFault)
+    (r : Result (Command A) Unread) (next : Path → Result model.Command trace.TextFault)
     → ReadsPath path m → ((q : Path) → action_at q action ≡ next q) → ReadsAction path action r → ReadsCommand r (and_then m next)
 same_words m path action r next is says reads = subst (λ f. ReadsCommand r (and_then m f)) (λ i q. says q i) (reads m is)
 

@@ -30,7 +30,9 @@ nothing_left bytes = take_rest bytes (length bytes) ∙ drop_all (length bytes) 
 -- ---- lines
 
 -- the parts are never none, so a part before them is not the last
-kept_by : (x : List ℕ) (b : Bool) (y : ℕ) (parts : List (List ℕ)) (first : List ℕ) → without_empty_end (x ∷ cond b (first ∷ parts) (onto_first y parts)) ≡ x ∷ without_empty_end (cond b (first ∷ parts) (onto_first y parts))
+kept_by : (x : List ℕ) (b : Bool) (y : ℕ) (parts : List (List ℕ)) (first : List ℕ)
+    → without_empty_end (x ∷ cond b (first ∷ parts) (onto_first y parts))
+    ≡ x ∷ without_empty_end (cond b (first ∷ parts) (onto_first y parts))
 kept_by x true y parts first = refl
 kept_by x false y [] first = refl
 kept_by x false y (part ∷ parts) first = refl
@@ -42,13 +44,15 @@ kept x (b ∷ bytes) = kept_by x (is_line_feed b) b (slice_split is_line_feed by
 pub lines_at : (bytes : List ℕ) (end : ℕ) → Some end ≡ position is_line_feed bytes → lines_in bytes ≡ take end bytes ∷ lines_in (drop (end + 1) bytes)
 lines_at bytes end h = ap without_empty_end (cut_at is_line_feed bytes end h) ∙ kept (take end bytes) (drop (end + 1) bytes)
 
-pub lines_at_slice : (lines : List (List ℕ)) (bytes : List ℕ) (end : ℕ) → lines_in bytes ≡ lines → Some end ≡ position is_line_feed bytes → lines ≡ take end bytes ∷ lines_in (take (length bytes - (end + 1)) (drop (end + 1) bytes))
+pub lines_at_slice : (lines : List (List ℕ)) (bytes : List ℕ) (end : ℕ) → lines_in bytes ≡ lines → Some end ≡ position is_line_feed bytes
+    → lines ≡ take end bytes ∷ lines_in (take (length bytes - (end + 1)) (drop (end + 1) bytes))
 lines_at_slice lines bytes end is h = sym is ∙ lines_at bytes end h ∙ ap (λ x. take end bytes ∷ lines_in x) (sym (take_rest bytes (end + 1)))
 
 last_by : (bytes : List ℕ) (b : Bool) → (length bytes == 0) ≡ b → b ≡ false → cond b [] (bytes ∷ []) ≡ bytes ∷ []
 last_by bytes b e h = ap (λ t. cond t [] (bytes ∷ [])) h
 
-pub last_line : (lines : List (List ℕ)) (bytes : List ℕ) → lines_in bytes ≡ lines → (length bytes == 0) ≡ false → None ≡ position is_line_feed bytes → lines ≡ bytes ∷ lines_in (take (length bytes - length bytes) (drop (length bytes) bytes))
+pub last_line : (lines : List (List ℕ)) (bytes : List ℕ) → lines_in bytes ≡ lines → (length bytes == 0) ≡ false
+    → None ≡ position is_line_feed bytes → lines ≡ bytes ∷ lines_in (take (length bytes - length bytes) (drop (length bytes) bytes))
 last_line lines bytes is some h =
     sym is ∙ ap without_empty_end (whole is_line_feed bytes h) ∙ last_by bytes (length bytes == 0) refl some ∙ ap (λ x. bytes ∷ lines_in x) (sym (nothing_left bytes))
 
@@ -65,7 +69,8 @@ skip_one b bytes e = skip_by (is_blank b) b (slice_split is_blank bytes) e
 drop_one : (n b : ℕ) (bytes : List ℕ) → drop (1 + n) (b ∷ bytes) ≡ drop n bytes
 drop_one n b bytes = let e : 1 + n ≡ suc n = omega arith in ap (λ m. drop m (b ∷ bytes)) e
 
-skip_front_by : (b : ℕ) (bytes : List ℕ) (n : ℕ) (t : Bool) → is_blank b ≡ t → words_in (drop n bytes) ≡ words_in bytes → words_in (drop (cond (not (not t)) (1 + n) 0) (b ∷ bytes)) ≡ words_in (b ∷ bytes)
+skip_front_by : (b : ℕ) (bytes : List ℕ) (n : ℕ) (t : Bool) → is_blank b ≡ t → words_in (drop n bytes) ≡ words_in bytes
+    → words_in (drop (cond (not (not t)) (1 + n) 0) (b ∷ bytes)) ≡ words_in (b ∷ bytes)
 skip_front_by b bytes n true e rest = ap words_in (drop_one n b bytes) ∙ rest ∙ sym (skip_one b bytes e)
 skip_front_by b bytes n false e rest = refl
 
@@ -92,7 +97,9 @@ behind_none bytes h =
     let far = no_place (position_or_len (λ b. not (is_blank b)) bytes) (length bytes) (nat_lt (position_or_len (λ b. not (is_blank b)) bytes) (length bytes)) refl h in
     ap words_in (nothing_left bytes) ∙ ap words_in (sym (drop_all (position_or_len (λ b. not (is_blank b)) bytes) bytes far)) ∙ skip_front bytes
 
-pub behind_some_slice : (bytes : List ℕ) (start : ℕ) → Some start ≡ position (λ b. not (is_blank b)) bytes → (words_in (take (length bytes - start) (drop start bytes)) ≡ words_in bytes) × (begins_with_blank (take (length bytes - start) (drop start bytes)) ≡ false)
+pub behind_some_slice : (bytes : List ℕ) (start : ℕ) → Some start ≡ position (λ b. not (is_blank b)) bytes
+    → (words_in (take (length bytes - start) (drop start bytes)) ≡ words_in bytes)
+    × (begins_with_blank (take (length bytes - start) (drop start bytes)) ≡ false)
 behind_some_slice bytes start h =
     let P : List ℕ → Type 0 = λ x. (words_in x ≡ words_in bytes) × (begins_with_blank x ≡ false) in
     subst P (sym (take_rest bytes start)) (behind_some bytes start h)
@@ -117,10 +124,12 @@ word_at bytes end first h =
     let some : (length (take end bytes) == 0) ≡ false = grind (arith, nat_tests, length-take-le end bytes) in
     ap (filter (λ w. not (length w == 0))) (cut_at is_blank bytes end h) ∙ word_by (take end bytes) (slice_split is_blank (drop (end + 1) bytes)) (length (take end bytes) == 0) refl some
 
-pub word_at_slice : (words : List Word) (bytes : List ℕ) (end : ℕ) → words ≡ words_in bytes → begins_with_blank bytes ≡ false → Some end ≡ position is_blank bytes → words ≡ take end bytes ∷ words_in (take (length bytes - (end + 1)) (drop (end + 1) bytes))
+pub word_at_slice : (words : List Word) (bytes : List ℕ) (end : ℕ) → words ≡ words_in bytes → begins_with_blank bytes ≡ false
+    → Some end ≡ position is_blank bytes → words ≡ take end bytes ∷ words_in (take (length bytes - (end + 1)) (drop (end + 1) bytes))
 word_at_slice words bytes end is first h = is ∙ word_at bytes end first h ∙ ap (λ x. take end bytes ∷ words_in x) (sym (take_rest bytes (end + 1)))
 
-pub last_word : (words : List Word) (bytes : List ℕ) → words ≡ words_in bytes → (length bytes == 0) ≡ false → None ≡ position is_blank bytes → words ≡ bytes ∷ words_in (take (length bytes - length bytes) (drop (length bytes) bytes))
+pub last_word : (words : List Word) (bytes : List ℕ) → words ≡ words_in bytes → (length bytes == 0) ≡ false → None ≡ position is_blank bytes
+    → words ≡ bytes ∷ words_in (take (length bytes - length bytes) (drop (length bytes) bytes))
 last_word words bytes is some h =
     is ∙ ap (filter (λ w. not (length w == 0))) (whole is_blank bytes h) ∙ word_by bytes [] (length bytes == 0) refl some ∙ ap (λ x. bytes ∷ words_in x) (sym (nothing_left bytes))
 

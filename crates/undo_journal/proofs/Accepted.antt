@@ -5,7 +5,8 @@ use Rattle.flat_model.specs.Path.{Path}
 use Rattle.flat_model.specs.Command as model
 use Rattle.flat_model.specs.Refuse.{refuse}
 use Rattle.pids_charge.specs.declared.fault.ChargeFault.{ChargeFault}
-use Rattle.pids_charge.specs.declared.fault.ChargeFault.TheVariants.{Exists, NoGroup, Descendants, Depth, NoSlot, RootFixed, HasChildren, HasProcesses, NoProcess, PidInUse, PidsMax, OutOfMemory, NoFile}
+use Rattle.pids_charge.specs.declared.fault.ChargeFault.TheVariants.{Exists, NoGroup, Descendants, Depth, NoSlot, RootFixed, HasChildren}
+use Rattle.pids_charge.specs.declared.fault.ChargeFault.TheVariants.{HasProcesses, NoProcess, PidInUse, PidsMax, OutOfMemory, NoFile}
 use Rattle.pids_charge.specs.Answers.{refusal_of_fault}
 
 -- each fault but out of memory is a refusal

@@ -11,7 +11,8 @@ use Rattle.flat_model.specs.Step.{refusal, home_of}
 use Rattle.flat_model.specs.Machine.{Machine, recorded, outcome, undone, tick}
 use Rattle.flat_model.proofs.Limits.{fork_refused}
 use Rattle.pids_charge.specs.declared.fault.ChargeFault.{ChargeFault}
-use Rattle.pids_charge.specs.declared.fault.ChargeFault.TheVariants.{Exists, NoGroup, Descendants, Depth, NoSlot, RootFixed, HasChildren, HasProcesses, NoProcess, PidInUse, PidsMax, OutOfMemory, NoFile}
+use Rattle.pids_charge.specs.declared.fault.ChargeFault.TheVariants.{Exists, NoGroup, Descendants, Depth, NoSlot, RootFixed, HasChildren}
+use Rattle.pids_charge.specs.declared.fault.ChargeFault.TheVariants.{HasProcesses, NoProcess, PidInUse, PidsMax, OutOfMemory, NoFile}
 use Rattle.pids_charge.specs.Answers as charges
 use Rattle.undo_journal.specs.declared.reply.Refusal.{Refusal}
 use Rattle.undo_journal.specs.declared.reply.Reply.{Reply}
@@ -49,7 +50,8 @@ module _ (slots : ℕ) where
   uncounted s c model.NotReadable e n = refl
 
   -- the machine stays where a command but a fork or an undo is refused
-  pub refused_answers : {A : Type 0} (m : Machine) (c : model.Command) (r : Refusal A) → model.is_undo c ≡ false → is_fork c ≡ false → refusal slots m.state c ≡ Some (refusal_of r) → Answers {A = A} slots m c (Refused r) m
+  pub refused_answers : {A : Type 0} (m : Machine) (c : model.Command) (r : Refusal A) → model.is_undo c ≡ false → is_fork c ≡ false
+      → refusal slots m.state c ≡ Some (refusal_of r) → Answers {A = A} slots m c (Refused r) m
   refused_answers m c r u n e =
       let is : tick slots m c ≡ (m, model.Refused (refusal_of r)) =
       ap (λ b. cond b (undone m.state m.past) (outcome m c (refusal slots m.state c))) u
@@ -94,7 +96,8 @@ module _ (slots : ℕ) where
   may_refuse from child false false None = refl
   may_refuse from child false false (Some a) = refl
 
-  other_fault : (p : Path) (f : ChargeFault) → may_fork (charges.refusal_of_fault p f) ≡ true → (f ≡ OutOfMemory → ⊥) → ((n : ℕ) → f ≡ NoProcess n → ⊥) → ((n : ℕ) → f ≡ PidInUse n → ⊥) → ((n : ℕ) → f ≡ PidsMax n → ⊥) → ⊥
+  other_fault : (p : Path) (f : ChargeFault) → may_fork (charges.refusal_of_fault p f) ≡ true → (f ≡ OutOfMemory → ⊥)
+      → ((n : ℕ) → f ≡ NoProcess n → ⊥) → ((n : ℕ) → f ≡ PidInUse n → ⊥) → ((n : ℕ) → f ≡ PidsMax n → ⊥) → ⊥
   other_fault p OutOfMemory t m h i k = m refl
   other_fault p (NoProcess n) t m h i k = h n refl
   other_fault p (PidInUse n) t m h i k = i n refl
@@ -109,7 +112,9 @@ module _ (slots : ℕ) where
   other_fault p HasProcesses t m h i k = false≢true t
   other_fault p NoFile t m h i k = false≢true t
 
-  pub no_other_fault : (s : State) (from child : ℕ) (p : Path) (f : ChargeFault) → refusal slots s (model.Fork from child) ≡ charges.refusal_of_fault p f → (f ≡ OutOfMemory → ⊥) → ((n : ℕ) → f ≡ NoProcess n → ⊥) → ((n : ℕ) → f ≡ PidInUse n → ⊥) → ((n : ℕ) → f ≡ PidsMax n → ⊥) → ⊥
+  pub no_other_fault : (s : State) (from child : ℕ) (p : Path) (f : ChargeFault)
+      → refusal slots s (model.Fork from child) ≡ charges.refusal_of_fault p f → (f ≡ OutOfMemory → ⊥) → ((n : ℕ) → f ≡ NoProcess n → ⊥)
+      → ((n : ℕ) → f ≡ PidInUse n → ⊥) → ((n : ℕ) → f ≡ PidsMax n → ⊥) → ⊥
   no_other_fault s from child p f e =
       other_fault p f (ap may_fork (sym e) ∙ may_refuse from child (not (has_process s from)) (has_process s child) (blocked_fork s (home_of s from)))
 

@@ -46,7 +46,9 @@ module _ (slots : ℕ) where
 
   -- ---- and undoing everything gives the state where the past begins
 
-  all_undone : (s : State) (es : List (model.Command × Inverse)) → end_of slots (record { state = s; past = past_of s es }) (undos (length (past_of s es))) ≡ record { state = first_state s (past_of s es); past = [] }
+  all_undone : (s : State) (es : List (model.Command × Inverse))
+      → end_of slots (record { state = s; past = past_of s es }) (undos (length (past_of s es)))
+      ≡ record { state = first_state s (past_of s es); past = [] }
   all_undone s [] = refl
   all_undone s (e ∷ es) = all_undone (back e.1 s) es
 

@@ -12,14 +12,17 @@ use Rattle.undo_journal.specs.History.{journal_entry, records, IsHistory}
 use Rattle.undo_journal.proofs.Histories.{records_push}
 use Rattle.undo_journal.proofs.Undos.{snoc_of}
 
-pub newest_is : {A : Type 0} (slots forgotten : ℕ) (s : State) (journal : List (Entry A)) (e : Entry A) → slice_get journal (length journal - 1) ≡ Some e → IsHistory slots forgotten s (records journal) → IsNewest slots s (past_of s (records journal)) (journal_entry e).1
+pub newest_is : {A : Type 0} (slots forgotten : ℕ) (s : State) (journal : List (Entry A)) (e : Entry A)
+    → slice_get journal (length journal - 1) ≡ Some e → IsHistory slots forgotten s (records journal)
+    → IsNewest slots s (past_of s (records journal)) (journal_entry e).1
 newest_is {A} slots forgotten s journal e at h =
     let r = snoc_of journal e at in
     let are = ap (λ (js : List (Entry A)). records js) r.1 ∙ records_push r.0 e in
     let k = subst (IsHistory slots forgotten s) are h in
     subst (λ (es : List (model.Command × Inverse)). IsNewest slots s (past_of s es) (journal_entry e).1) (sym are) (k.0.record_is, refl)
 
-pub newest_command_is : {A : Type 0} (s : State) (journal : List (Entry A)) (e : Entry A) → slice_get journal (length journal - 1) ≡ Some e → Some (journal_entry e).0 ≡ newest_command (past_of s (records journal))
+pub newest_command_is : {A : Type 0} (s : State) (journal : List (Entry A)) (e : Entry A) → slice_get journal (length journal - 1) ≡ Some e
+    → Some (journal_entry e).0 ≡ newest_command (past_of s (records journal))
 newest_command_is {A} s journal e at =
     let r = snoc_of journal e at in
     sym (ap (λ (es : List (model.Command × Inverse)). newest_command (past_of s es)) (ap (λ (js : List (Entry A)). records js) r.1 ∙ records_push r.0 e))

@@ -95,7 +95,9 @@ module _ (slots : ℕ) (t : State) (w : WellFormed slots t) (p : Path) (gone : i
   no_processes = none_counted (λ q. at_or_below q p) (λ q. same_path q p) (λ q e. ap (λ x. at_or_below x p) ((same_path_is q p).0 e) ∙ at_or_below_itself p) (values t.home) nobody
 
   pub made_removable : refusal slots made (model.RemoveGroup p) ≡ None
-  made_removable = λ i. refuse (beside_root i) model.RootFixed (refuse (not (made_there i)) (model.NoGroup p) (refuse (no_children i) model.HasChildren (refuse (no_processes i) model.HasProcesses None)))
+  made_removable = λ i. refuse (beside_root i) model.RootFixed
+      (refuse (not (made_there i)) (model.NoGroup p)
+      (refuse (no_children i) model.HasChildren (refuse (no_processes i) model.HasProcesses None)))
 
 -- ---- a group that was removed
 parent_apart : (p : Path) → is_root p ≡ false → same_path (parent p) p ≡ false
@@ -170,7 +172,8 @@ accepted_ready slots t w (model.Move p pid) none = (
   as_many_peaks t pid p,
 )
 accepted_ready slots t w (model.SetLimit p file value) none =
-    limitable slots (after t (model.SetLimit p file value)) p file (limit_at file (attr_of t p)) (passed _ _ _ none) (ap is_some (get-own path_cmp-IsTotalOrder path_cmp-IsAntisymmetric t.groups p (with_limit file value (attr_of t p))))
+    limitable slots (after t (model.SetLimit p file value)) p file (limit_at file (attr_of t p)) (passed _ _ _ none)
+    (ap is_some (get-own path_cmp-IsTotalOrder path_cmp-IsAntisymmetric t.groups p (with_limit file value (attr_of t p))))
 accepted_ready slots t w (model.Kill g) none = killed_ready slots t w g
 accepted_ready slots t w (model.Show p file) none = tt
 accepted_ready slots t w (model.Locate pid) none = tt

@@ -40,6 +40,7 @@ recorded_are s journal =
     ∙ reverse-reverse (map first (map journal_entry journal))
     ∙ entry_commands journal
 
-pub command_is : {A : Type 0} (s : State) (journal : List (Entry A)) (i : ℕ) (o : Option (Entry A)) → slice_get journal i ≡ o → option_map (λ (e : Entry A). command_of e.command) o ≡ slice_get (recorded_commands (past_of s (records journal))) i
+pub command_is : {A : Type 0} (s : State) (journal : List (Entry A)) (i : ℕ) (o : Option (Entry A)) → slice_get journal i ≡ o
+    → option_map (λ (e : Entry A). command_of e.command) o ≡ slice_get (recorded_commands (past_of s (records journal))) i
 command_is {A} s journal i o at =
     sym (ap (λ cs. slice_get cs i) (recorded_are s journal) ∙ slice_get-map entry_command journal i ∙ ap (option_map entry_command) at)

@@ -20,12 +20,14 @@ module _ (slots : ℕ) where
 
   outcome_undone : (m : Machine) (c : model.Command) (o : Option model.Refusal) → length m.past < length (outcome m c o).0.past → tick slots (outcome m c o).0 model.Undo ≡ (m, model.Undone c)
   outcome_undone m c None l =
-      elim (model.changes c) as (λ b. length m.past < length (cond b (recorded m c (after m.state c)) m).past → tick slots (cond b (recorded m c (after m.state c)) m) model.Undo ≡ (m, model.Undone c)) [
+      elim (model.changes c) as (λ b. length m.past < length (cond b (recorded m c (after m.state c)) m).past
+      → tick slots (cond b (recorded m c (after m.state c)) m) model.Undo ≡ (m, model.Undone c)) [
         | true ↦ λ h. refl
         | false ↦ λ h. absurd (omega arith)
       ] l
   outcome_undone m c (Some r) l =
-      elim (model.is_counted r) as (λ b. length m.past < length (cond b (recorded m c (after_refusal m.state r)) m).past → tick slots (cond b (recorded m c (after_refusal m.state r)) m) model.Undo ≡ (m, model.Undone c)) [
+      elim (model.is_counted r) as (λ b. length m.past < length (cond b (recorded m c (after_refusal m.state r)) m).past
+      → tick slots (cond b (recorded m c (after_refusal m.state r)) m) model.Undo ≡ (m, model.Undone c)) [
         | true ↦ λ h. refl
         | false ↦ λ h. absurd (omega arith)
       ] l
@@ -37,7 +39,8 @@ module _ (slots : ℕ) where
 
   tick_undone : (m : Machine) (c : model.Command) → length m.past < length (tick slots m c).0.past → tick slots (tick slots m c).0 model.Undo ≡ (m, model.Undone c)
   tick_undone m c l =
-      elim (model.is_undo c) as (λ b. length m.past < length (cond b (undone m.state m.past) (outcome m c (refusal slots m.state c))).0.past → tick slots (cond b (undone m.state m.past) (outcome m c (refusal slots m.state c))).0 model.Undo ≡ (m, model.Undone c)) [
+      elim (model.is_undo c) as (λ b. length m.past < length (cond b (undone m.state m.past) (outcome m c (refusal slots m.state c))).0.past
+      → tick slots (cond b (undone m.state m.past) (outcome m c (refusal slots m.state c))).0 model.Undo ≡ (m, model.Undone c)) [
         | true ↦ λ h. absurd (undo_shorter m.state m.past h)
         | false ↦ λ h. outcome_undone m c (refusal slots m.state c) h
       ] l
@@ -59,10 +62,13 @@ module _ (slots : ℕ) where
 
   -- ---- an answer, or out of memory
 
-  pub answered_by : {A E : Type 0} (old new : Machine) (c : model.Command) (r : Result (Reply A) E) (reply : Reply A) → IfOk r (λ x. reply ≡ x) → OnErr r (reply_of reply ≡ None) → IfOk r (λ x. Answers slots old c x new) → reply_of reply ≢ None → Answers slots old c reply new
+  pub answered_by : {A E : Type 0} (old new : Machine) (c : model.Command) (r : Result (Reply A) E) (reply : Reply A)
+      → IfOk r (λ x. reply ≡ x) → OnErr r (reply_of reply ≡ None) → IfOk r (λ x. Answers slots old c x new) → reply_of reply ≢ None
+      → Answers slots old c reply new
   answered_by old new c (Ok x) reply is err h n = subst (λ y. Answers slots old c y new) (sym is) h
   answered_by old new c (Err e) reply is err h n = absurd (n err)
 
-  pub certain_by : {A E : Type 0} (old new : Machine) (c : model.Command) (r : Result (Reply A) E) (reply : Reply A) → IfOk r (λ x. reply ≡ x) → IfOk r (λ x. Answers slots old c x new) → IsOk r → reply_of reply ≢ None
+  pub certain_by : {A E : Type 0} (old new : Machine) (c : model.Command) (r : Result (Reply A) E) (reply : Reply A)
+      → IfOk r (λ x. reply ≡ x) → IfOk r (λ x. Answers slots old c x new) → IsOk r → reply_of reply ≢ None
   certain_by old new c (Ok x) reply is h k n = let f : Some (tick slots old c).1 ≡ None = sym h.reply_is ∙ sym (ap reply_of is) ∙ n in cc
   certain_by old new c (Err e) reply is h k n = cc

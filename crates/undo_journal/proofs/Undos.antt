@@ -60,7 +60,9 @@ empty_of xs (y ∷ ys) same e = absurd (let h : None ≡ Some (get_or (y ∷ ys)
 
 -- where nothing is recorded there is nothing to undo
 pub nothing_undone : {A : Type 0} (slots : ℕ) (s : State) (journal : List (Entry A)) → journal ≡ [] → Answers {A = A} slots (machine_of s journal) model.Undo NothingToUndo (machine_of s journal)
-nothing_undone {A} slots s journal e = subst (λ (js : List (Entry A)). Answers {A = A} slots (machine_of s js) model.Undo NothingToUndo (machine_of s js)) (sym e) (record { state = refl; reply_is = refl })
+nothing_undone {A} slots s journal e =
+    subst (λ (js : List (Entry A)). Answers {A = A} slots (machine_of s js) model.Undo NothingToUndo (machine_of s js)) (sym e)
+    (record { state = refl; reply_is = refl })
 
 module _ {A : Type 0} (slots : ℕ) (s : State) (journal rest : List (Entry A)) (e : Entry A) (is : journal ≡ rest ++ e ∷ []) where
   records_are : records journal ≡ journal_entry e ∷ records rest
@@ -73,7 +75,8 @@ module _ {A : Type 0} (slots : ℕ) (s : State) (journal rest : List (Entry A)) 
       step_ready slots s (journal_entry e).0 (journal_entry e).1 (history_well slots forgotten (back (journal_entry e).1 s) (records rest) k.1) k.0
 
   -- an undo that asks for no memory has a record that asks for none
-  pub needs_none : (forgotten : ℕ) → IsHistory slots forgotten s (records journal) → undoes_without_memory slots (past_of s (records journal)) ≡ true → needs_no_memory (Some (journal_entry e).1) ≡ true
+  pub needs_none : (forgotten : ℕ) → IsHistory slots forgotten s (records journal)
+      → undoes_without_memory slots (past_of s (records journal)) ≡ true → needs_no_memory (Some (journal_entry e).1) ≡ true
   needs_none forgotten h u =
       let k = subst (IsHistory slots forgotten s) records_are h in
       ap needs_no_memory (sym k.0.record_is) ∙ subst (λ (es : List (model.Command × Inverse)). undoes_without_memory slots (past_of s es) ≡ true) records_are u

@@ -6,4 +6,7 @@ use Rattle.charge_tests.proofs.UpTo.{up_does}
 use Rattle.charge_tests.proofs.calls.set.Goals as goal
 
 pub returns-in-Ok : goal.returns-in-Ok
-returns-in-Ok c = record { up = λ n h. up_does SLOTS n c.args.charges.now (SetLimit c.args.path.now (limit_file_of c.args.file) (limit_of c.args.limit)) c.args.path.now (Ok c.in-Ok.old) c.set_limit.new.self h c.in-Ok.ensures.state }
+returns-in-Ok c = record {
+  up = λ n h. up_does SLOTS n c.args.charges.now (SetLimit c.args.path.now (limit_file_of c.args.file) (limit_of c.args.limit))
+      c.args.path.now (Ok c.in-Ok.old) c.set_limit.new.self h c.in-Ok.ensures.state;
+}

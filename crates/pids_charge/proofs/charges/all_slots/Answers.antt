@@ -12,7 +12,9 @@ loop-slot-init g c = record {
 pub loop-slot-preserved : goal.loop-slot-preserved
 loop-slot-preserved g c = record {
   bound = omega arith;
-  free = subst (λ (free : List ℕ). AreFreeFrom (c.loop-slot.slot - 1) c.args.slots free) (sym c.in_ok-push.ensures.items) (one_more_free c.loop-slot.slot c.args.slots c.loop-slot.free.items (omega arith) c.loop-slot.invariant.bound c.loop-slot.invariant.free);
+  free = subst (λ (free : List ℕ). AreFreeFrom (c.loop-slot.slot - 1) c.args.slots free) (sym c.in_ok-push.ensures.items)
+      (one_more_free c.loop-slot.slot c.args.slots c.loop-slot.free.items (omega arith) c.loop-slot.invariant.bound
+      c.loop-slot.invariant.free);
   room = omega (arith, c.loop-slot.invariant.room, c.in_ok-push.ensures.capacity);
 }
 

@@ -67,11 +67,14 @@ returns-clause-content g c = λ s j.
     let es = c.args.processes.now in
     let len = ap length (c.as_slice-pid-items.ensures.value ∙ c.in_ok-pids.ensures ∙ ap (λ (q : Path). keys_of (inside q es)) c.in_ok-root.ensures) in
     let none = none_left (inside [] es) c.loop-pid.pid-index (omega (arith, c.loop-pid-test.false, len)) in
-    all_summed (λ p. charges_at c.args.tree.now p.home (p.leaf % g.M.Meter.LEAVES) s j) (inside [] es) es (drop c.loop-pid.pid-index (inside [] es)) (g.M.Meter.content c.loop-pid.meter s j) (g.M.Meter.content c.args.meter.now s j) none (all_inside es) (c.loop-pid.invariant.content s j)
+    all_summed (λ p. charges_at c.args.tree.now p.home (p.leaf % g.M.Meter.LEAVES) s j) (inside [] es) es
+    (drop c.loop-pid.pid-index (inside [] es)) (g.M.Meter.content c.loop-pid.meter s j) (g.M.Meter.content c.args.meter.now s j) none
+    (all_inside es) (c.loop-pid.invariant.content s j)
 
 pub returns-clause-held : goal.returns-clause-held
 returns-clause-held g c =
     let es = c.args.processes.now in
     let len = ap length (c.as_slice-pid-items.ensures.value ∙ c.in_ok-pids.ensures ∙ ap (λ (q : Path). keys_of (inside q es)) c.in_ok-root.ensures) in
     let none = none_left (inside [] es) c.loop-pid.pid-index (omega (arith, c.loop-pid-test.false, len)) in
-    all_summed (λ p. length p.home) (inside [] es) es (drop c.loop-pid.pid-index (inside [] es)) (g.M.Meter.held c.loop-pid.meter) (g.M.Meter.held c.args.meter.now) none (all_inside es) c.loop-pid.invariant.held
+    all_summed (λ p. length p.home) (inside [] es) es (drop c.loop-pid.pid-index (inside [] es)) (g.M.Meter.held c.loop-pid.meter)
+    (g.M.Meter.held c.args.meter.now) none (all_inside es) c.loop-pid.invariant.held

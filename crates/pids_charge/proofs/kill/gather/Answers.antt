@@ -10,7 +10,9 @@ use Rattle.pids_charge.proofs.kill.gather.Goals as goal
 
 pub unreachable-requires : goal.unreachable-requires
 unreachable-requires g c =
-    is_found (is_inside c.args.path.now) c.args.processes.now c.known.ensures c.as_slice-pid-items.result.now (c.as_slice-pid-items.ensures.value ∙ c.in_ok-pids.ensures) c.loop-pid.pid-index c.loop-pid-test.true (sym c.get.ensures ∙ ap option_copied c.in_default.is)
+    is_found (is_inside c.args.path.now) c.args.processes.now c.known.ensures c.as_slice-pid-items.result.now
+    (c.as_slice-pid-items.ensures.value ∙ c.in_ok-pids.ensures) c.loop-pid.pid-index c.loop-pid-test.true (sym c.get.ensures
+    ∙ ap option_copied c.in_default.is)
 
 pub push_tokens-requires-clause-leaf_below : goal.push_tokens-requires-clause-leaf_below
 push_tokens-requires-clause-leaf_below g c =
@@ -29,7 +31,9 @@ loop-pid-preserved g c =
     let e : Row g.row.A.Denot = (get_or c.as_slice-pid-items.result.now i 0, c.in-Some.process.now) in
     let rest = drop (i + 1) (inside c.args.path.now es) in
     let all = drop i (inside c.args.path.now es) in
-    let step : all ≡ e ∷ rest = next_row (is_inside c.args.path.now) es c.known.ensures c.as_slice-pid-items.result.now (c.as_slice-pid-items.ensures.value ∙ c.in_ok-pids.ensures) i c.loop-pid-test.true c.in-Some.process.now (sym c.in-Some.ensures) in
+    let step : all ≡ e ∷ rest =
+    next_row (is_inside c.args.path.now) es c.known.ensures c.as_slice-pid-items.result.now (c.as_slice-pid-items.ensures.value
+    ∙ c.in_ok-pids.ensures) i c.loop-pid-test.true c.in-Some.process.now (sym c.in-Some.ensures) in
     let told = c.in_ok-push_tokens.ensures in
     record {
       counted = λ s j. one_more_summed (λ p. charges_of c.args.tree.now p s j) e rest all _ _ _ step (told.counted s j) (c.loop-pid.invariant.counted s j);

@@ -7,10 +7,14 @@ use Rattle.pids_charge.proofs.PeaksRaised.{raised_set}
 use Rattle.pids_charge.proofs.peaks.charge_noted.Goals as goal
 
 pub charge_slots-requires-clause-slots_below : goal.charge_slots-requires-clause-slots_below
-charge_slots-requires-clause-slots_below g c = rw c.slots-slots.ensures (below_noted c.args.tree.now c.args.path.now c.args.notes.now c.requires.noted c.requires.home c.known.ensures.prefixes g.M.Meter.SLOTS c.requires.slots)
+charge_slots-requires-clause-slots_below g c =
+    rw c.slots-slots.ensures (below_noted c.args.tree.now c.args.path.now c.args.notes.now c.requires.noted c.requires.home
+    c.known.ensures.prefixes g.M.Meter.SLOTS c.requires.slots)
 
 pub reach-requires-clause-slots_below : goal.reach-requires-clause-slots_below
-reach-requires-clause-slots_below g c = rw c.slots-slots.ensures (below_noted c.args.tree.now c.args.path.now c.args.notes.now c.requires.noted c.requires.home c.known.ensures.prefixes g.M.Meter.SLOTS c.requires.slots)
+reach-requires-clause-slots_below g c =
+    rw c.slots-slots.ensures (below_noted c.args.tree.now c.args.path.now c.args.notes.now c.requires.noted c.requires.home
+    c.known.ensures.prefixes g.M.Meter.SLOTS c.requires.slots)
 
 pub returns-clause-content : goal.returns-clause-content
 returns-clause-content g c = λ s j.
@@ -26,6 +30,7 @@ returns-clause-raised g c =
     let charged : (s j : ℕ) → g.M.Meter.content c.charge_slots.new.meter s j ≡ final s j = λ s j.
     let slots = ap (sum_by (λ slot. one_at slot c.args.leaf s j)) c.slots-slots.ensures in
     omega (arith, slots, c.charge_slots.ensures.content s j, charges_noted tree p c.args.notes.now c.requires.noted c.args.leaf s j) in
-    let up = reached_noted tree p c.args.notes.now c.requires.noted c.requires.home c.known.ensures.prefixes g.M.Meter.LEAVES (g.M.Meter.content c.charge_slots.new.meter) final charged c.reach.new.reached
+    let up = reached_noted tree p c.args.notes.now c.requires.noted c.requires.home c.known.ensures.prefixes g.M.Meter.LEAVES
+    (g.M.Meter.content c.charge_slots.new.meter) final charged c.reach.new.reached
     (c.reach.ensures.many ∙ ap length c.slots-slots.ensures) (rw (c.slots-slots.ensures, c.peaks-peaks.ensures) at c.reach.ensures.each) in
     raised_set g.M.Meter.LEAVES final tree p c.reach.new.reached up c.raise_along.new.tree c.raise_along.ensures.set

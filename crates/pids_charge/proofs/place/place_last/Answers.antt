@@ -17,7 +17,9 @@ loop-at-preserved g c =
     let l : Lost g.row.B.Denot = c.index-list-at.result in
     let held = c.loop-at.invariant in
     let step : drop (n - 1) ls ≡ l ∷ drop n ls = one_before ls n l (omega arith) held.bound c.index-list-at.is in
-    let put = of_ok c.place_one.result (c.place_one.new.processes ≡ insert_entry nat_cmp c.loop-at.processes l.pid (placed_at c.args.tree.now c.args.leaf l)) (sym c.is_err.ensures.value ∙ c.if-is_err.false) c.place_one.ensures.placed in
+    let put = of_ok c.place_one.result (c.place_one.new.processes
+    ≡ insert_entry nat_cmp c.loop-at.processes l.pid (placed_at c.args.tree.now c.args.leaf l)) (sym c.is_err.ensures.value
+    ∙ c.if-is_err.false) c.place_one.ensures.placed in
     record {
       bound = omega (arith, held.bound);
       placed = put ∙ ap (λ (es : List (Row g.row.A.Denot)). insert_entry nat_cmp es l.pid (placed_at c.args.tree.now c.args.leaf l)) held.placed

@@ -13,7 +13,9 @@ loop-attr-init g c =
       finite = tt;
       slots = subst (All (λ (a : Attr). a.slot < g.M.Meter.SLOTS)) (sym e) (below-along c.args.tree.now c.args.path.now c.requires.home c.known.ensures.prefixes g.M.Meter.SLOTS c.requires.slots);
       content = λ s j. ap (λ (attrs : List Attr). g.M.Meter.content c.args.meter.now s j + charges_in attrs c.args.leaf s j) e;
-      held = ap (λ (attrs : List Attr). g.M.Meter.held c.args.meter.now + length attrs) e ∙ ap (λ (n : ℕ). g.M.Meter.held c.args.meter.now + n) (length-along c.args.tree.now c.args.path.now c.requires.home c.known.ensures.prefixes);
+      held = ap (λ (attrs : List Attr). g.M.Meter.held c.args.meter.now + length attrs) e
+          ∙ ap (λ (n : ℕ). g.M.Meter.held c.args.meter.now
+          + n) (length-along c.args.tree.now c.args.path.now c.requires.home c.known.ensures.prefixes);
     }
 
 pub charge-requires-clause-slot_below : goal.charge-requires-clause-slot_below

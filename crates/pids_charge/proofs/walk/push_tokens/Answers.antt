@@ -16,7 +16,9 @@ loop-attr-init g c =
       finite = tt;
       slots = subst (All (λ (a : Attr). a.slot < g.M.Meter.SLOTS)) (sym e) (below-along c.args.tree.now c.args.path.now c.requires.home c.known.ensures.prefixes g.M.Meter.SLOTS c.requires.slots);
       counted = λ s j. ap (λ (attrs : List Attr). listed_at c.args.tokens.now.items s j + charges_in attrs c.args.leaf s j) e;
-      many = ap (λ (attrs : List Attr). length c.args.tokens.now.items + length attrs) e ∙ ap (λ (n : ℕ). length c.args.tokens.now.items + n) (length-along c.args.tree.now c.args.path.now c.requires.home c.known.ensures.prefixes);
+      many = ap (λ (attrs : List Attr). length c.args.tokens.now.items + length attrs) e
+          ∙ ap (λ (n : ℕ). length c.args.tokens.now.items
+          + n) (length-along c.args.tree.now c.args.path.now c.requires.home c.known.ensures.prefixes);
       within = c.requires.within;
     }
 
@@ -34,7 +36,9 @@ loop-attr-preserved g c =
           let one = one_token_more c.loop-attr.tokens.items c.push.new.self.items token c.in_ok-push.ensures.items s j in
           omega (arith, more, one, c.loop-attr.invariant.counted s j);
       many = let l = ap length e in omega (arith, l, c.in_ok-push.ensures.len, c.loop-attr.invariant.many);
-      within = subst (IsWithin g.M.Meter.SLOTS g.M.Meter.LEAVES) (sym c.in_ok-push.ensures.items) (All-push (λ (t : Token). (t.slot < g.M.Meter.SLOTS) × (t.leaf < g.M.Meter.LEAVES)) c.loop-attr.tokens.items token c.loop-attr.invariant.within (split.0, c.requires.leaf_below));
+      within = subst (IsWithin g.M.Meter.SLOTS g.M.Meter.LEAVES) (sym c.in_ok-push.ensures.items)
+          (All-push (λ (t : Token). (t.slot < g.M.Meter.SLOTS)
+          × (t.leaf < g.M.Meter.LEAVES)) c.loop-attr.tokens.items token c.loop-attr.invariant.within (split.0, c.requires.leaf_below));
     }
 
 pub returns-clause-counted : goal.returns-clause-counted

@@ -13,7 +13,9 @@ loop-attr-init g c =
       finite = tt;
       slots = subst (All (λ (a : Attr). a.slot < g.M.Meter.SLOTS)) (sym e) (below-along c.args.tree.now c.args.path.now c.requires.home c.known.ensures.prefixes g.M.Meter.SLOTS c.requires.slots);
       content = λ s j. ap (λ (attrs : List Attr). g.M.Meter.content c.args.meter.now s j + charges_in attrs c.args.leaf s j) (sym e);
-      held = ap (λ (n : ℕ). g.M.Meter.held c.args.meter.now + n) (sym (length-along c.args.tree.now c.args.path.now c.requires.home c.known.ensures.prefixes)) ∙ ap (λ (attrs : List Attr). g.M.Meter.held c.args.meter.now + length attrs) (sym e);
+      held = ap (λ (n : ℕ). g.M.Meter.held c.args.meter.now
+          + n) (sym (length-along c.args.tree.now c.args.path.now c.requires.home c.known.ensures.prefixes))
+          ∙ ap (λ (attrs : List Attr). g.M.Meter.held c.args.meter.now + length attrs) (sym e);
     }
 
 pub uncharge-requires-clause-slot_below : goal.uncharge-requires-clause-slot_below
@@ -23,7 +25,9 @@ pub uncharge-requires-clause-charged : goal.uncharge-requires-clause-charged
 uncharge-requires-clause-charged g c =
     let slot : ℕ = c.in-Some.attr.now.slot in
     let all = charges-along c.args.tree.now c.args.path.now c.requires.home c.known.ensures.prefixes c.args.leaf slot c.args.leaf in
-    still_charged c.loop-attr.attr-iterator c.next.new.self c.in-Some.attr.now c.args.leaf (g.M.Meter.content c.args.meter.now) (g.M.Meter.content c.loop-attr.meter) (charges_in (along_of c.args.tree.now c.args.path.now) c.args.leaf slot c.args.leaf) c.in-Some.ensures.steps
+    still_charged c.loop-attr.attr-iterator c.next.new.self c.in-Some.attr.now c.args.leaf (g.M.Meter.content c.args.meter.now)
+    (g.M.Meter.content c.loop-attr.meter) (charges_in (along_of c.args.tree.now c.args.path.now) c.args.leaf slot c.args.leaf)
+    c.in-Some.ensures.steps
     (omega (arith, all, c.requires.charged slot c.args.leaf)) (c.loop-attr.invariant.content slot c.args.leaf)
 
 pub loop-attr-preserved : goal.loop-attr-preserved

@@ -10,7 +10,8 @@ returns-in-Some g c =
     let m = c.in-Ok-try_get_matches_from in
     let is = c.in-Ok.ensures in
     let said : workers_said (option_map (λ s. s.now) c.get_str.result) ≡ workers_in words = said_in (app_of c.in-Ok.command) words m.matches _ is m.ensures.matches c.get_str.ensures in
-    let rehearsed : rehearsal_said (option_map (λ s. s.now) c.get_str-in-Some.result) ≡ rehearsal_in words = rehearsal_said_in (app_of c.in-Ok.command) words m.matches _ is m.ensures.matches c.get_str-in-Some.ensures in (
+    let rehearsed : rehearsal_said (option_map (λ s. s.now) c.get_str-in-Some.result) ≡ rehearsal_in words =
+    rehearsal_said_in (app_of c.in-Ok.command) words m.matches _ is m.ensures.matches c.get_str-in-Some.ensures in (
       subst (λ a. is_simple_and_free a ≡ true → fault_of a words ≡ []) is m.ensures.kinds app_free,
       sym said ∙ sym c.in-Some.ensures.said,
       c.in-Some.ensures.bounds.0,

@@ -8,4 +8,5 @@ abbrev pub invariant-loop-place : goal.invariant-loop-place
 invariant-loop-place l =
     (l.number ≡ l.place-index)
     × (l.at ≤ length l.replies)
-    × (l.bytes.items ++ answers_at_hand (l.number + 1) (map place_of (drop l.place-index l.places)) (map reply_of (drop l.at l.replies)) ≡ answers_at_hand 1 (map place_of l.places) (map reply_of l.replies))
+    × (l.bytes.items ++ answers_at_hand (l.number + 1) (map place_of (drop l.place-index l.places)) (map reply_of (drop l.at l.replies))
+    ≡ answers_at_hand 1 (map place_of l.places) (map reply_of l.replies))

@@ -14,8 +14,11 @@ returns g c =
     let told = c.in_ok-replies.replies.items in
     rehearsed_is c.args.trace.now c.in_ok-bytes.bytes.items script (map reply_of told) _ c.count_faults.result c.count_refusals.result
     c.in_ok-script.ensures
-    (c.in_ok-replies.ensures ∙ ap (λ cs. map Some (replies slots c.in_ok-engine.engine (map command_of cs))) c.as_slice.ensures.value ∙ ap (λ m. map Some (replies slots m (map command_of script.commands.items))) c.in_ok-engine.ensures)
-    (c.in_ok-bytes.ensures ∙ ap (λ ps. answers_at_hand 1 (map place_of ps) (map reply_of c.as_slice-said.result.now)) c.as_slice-places.ensures.value ∙ ap (λ rs. answers_at_hand 1 (map place_of script.places.items) (map reply_of rs)) c.as_slice-said.ensures.value)
+    (c.in_ok-replies.ensures ∙ ap (λ cs. map Some (replies slots c.in_ok-engine.engine (map command_of cs))) c.as_slice.ensures.value
+    ∙ ap (λ m. map Some (replies slots m (map command_of script.commands.items))) c.in_ok-engine.ensures)
+    (c.in_ok-bytes.ensures
+    ∙ ap (λ ps. answers_at_hand 1 (map place_of ps) (map reply_of c.as_slice-said.result.now)) c.as_slice-places.ensures.value
+    ∙ ap (λ rs. answers_at_hand 1 (map place_of script.places.items) (map reply_of rs)) c.as_slice-said.ensures.value)
     (ap (λ ps. length ps) c.as_slice-places.ensures.value)
     refl
     (c.count_faults.ensures ∙ ap (λ ps. count_by is_some (map place_of ps)) c.as_slice-places.ensures.value)

@@ -15,7 +15,8 @@ loop-line-init c =
       can = tt;
       finite = tt;
       few = subst (λ ls. talk.commands + length ls ≤ trace_max + 1) (sym lines) (few_at_start trace talk start c.requires);
-      bytes = ap (λ bs. bs ++ answers_on talk (map read_line c.into_iter-line-iterator.result)) none ∙ ap (λ ls. answers_on talk (map read_line ls)) lines ∙ ap (λ p. answers_on p (read_trace trace)) start;
+      bytes = ap (λ bs. bs ++ answers_on talk (map read_line c.into_iter-line-iterator.result)) none
+          ∙ ap (λ ls. answers_on talk (map read_line ls)) lines ∙ ap (λ p. answers_on p (read_trace trace)) start;
       point = ap (λ ls. point_after talk (map read_line ls)) lines ∙ ap (λ p. point_after p (read_trace trace)) start;
     }
 
@@ -34,6 +35,7 @@ loop-line-preserved c =
       can = tt;
       finite = tt;
       few = few_more old new line c.in-Some.line.now rest (trace_max + 1) said.point (subst (λ (ls : List (List ℕ)). old.commands + length ls ≤ trace_max + 1) cut inv.few);
-      bytes = bytes_more old new line (map read_line rest) c.loop-line.bytes.items c.put_answer.new.bytes.items whole said.point said.bytes_are (ap (λ ls. c.loop-line.bytes.items ++ answers_on old (map read_line ls)) (sym cut) ∙ inv.bytes);
+      bytes = bytes_more old new line (map read_line rest) c.loop-line.bytes.items c.put_answer.new.bytes.items whole said.point
+          said.bytes_are (ap (λ ls. c.loop-line.bytes.items ++ answers_on old (map read_line ls)) (sym cut) ∙ inv.bytes);
       point = point_on old new end line (map read_line rest) said.point (ap (λ ls. point_after old (map read_line ls)) (sym cut) ∙ inv.point);
     }

@@ -25,7 +25,8 @@ returns-clause-ok g c =
     c.in-Ok.ensures
     (c.in_ok-log.ensures.log ∙ ap (λ x. replies slots new_machine (map command_of x)) c.as_slice.ensures.value)
     (length-map log (λ e. e.reply) ∙ c.in_ok-log.ensures.each ∙ ap length c.as_slice.ensures.value ∙ sym (length-map commands command_of))
-    (c.in-Ok-answers_of.ensures ∙ ap (λ x. answers_from 1 (map place_of x) (map (λ e. e.reply) c.as_slice-2.result.now)) shown ∙ ap (λ x. answers_from 1 (map place_of places) (map (λ e. e.reply) x)) c.as_slice-2.ensures.value)
+    (c.in-Ok-answers_of.ensures ∙ ap (λ x. answers_from 1 (map place_of x) (map (λ e. e.reply) c.as_slice-2.result.now)) shown
+    ∙ ap (λ x. answers_from 1 (map place_of places) (map (λ e. e.reply) x)) c.as_slice-2.ensures.value)
     (ap length shown ∙ sym (length-map places place_of))
     refl
     (c.count_faults.ensures ∙ ap (λ x. count_by (λ p. is_some p) (map place_of x)) shown)

@@ -11,7 +11,8 @@ use Rattle.std.proofs.lemmas.List.{map-id}
 use Rattle.std.proofs.Common.{refl}
 use Rattle.session_laws.proofs.replays.arguments_that_came.Goals as goal
 
-came : (args : IntoIter (String Global) Global) (v : Vec (String Global) Global) → into_iter_len args ≡ length (into_iter_items args) → Drains into_iter_steps args v.items → v.items ≡ into_iter_items args
+came : (args : IntoIter (String Global) Global) (v : Vec (String Global) Global) → into_iter_len args ≡ length (into_iter_items args)
+    → Drains into_iter_steps args v.items → v.items ≡ into_iter_items args
 came args v len h = sym (map-id v.items) ∙ items_from_drains v.items (h.1.0, h.1.1, λ _. (h.0, h.1.2)) (YieldsList-from_vec (into_iter_items args) refl len)
 
 pub returns-clause-exactly : goal.returns-clause-exactly

@@ -12,7 +12,9 @@ use Rattle.sessions.proofs.SessionCrosses.{desk_sync}
 use Rattle.session_tests.proofs.sleeping.both.Goals as goal
 
 -- what a waiting thread holds may go to it, where the runtime may be shared
-waits_send : (ν : Sym) (R : RattleType) → IsSync (param 0 R) → (a b c d : NamedLft) → IsSend (TupleAt ν ((shr_ref_field a Desk.the_row tt).row ∷ (shr_ref_field b (param 0 R) tt).row ∷ (shr_ref_field c u8-field.row tt).row ∷ (shr_ref_field d u64-field.row tt).row ∷ []))
+waits_send : (ν : Sym) (R : RattleType) → IsSync (param 0 R) → (a b c d : NamedLft)
+    → IsSend (TupleAt ν ((shr_ref_field a Desk.the_row tt).row ∷ (shr_ref_field b (param 0 R) tt).row
+    ∷ (shr_ref_field c u8-field.row tt).row ∷ (shr_ref_field d u64-field.row tt).row ∷ []))
 waits_send ν R s a b c d = search (desk_sync, sendable) depth 20
 
 -- `search` does not find at which exit the closure is passed, so it is named

@@ -17,7 +17,9 @@ returns-in_err-mark-clause-fault c =
     let number : c.index-sessions-place.result.number ≡ c.session.inside.number = ap (λ (s : Session). s.number) (sym v) in
     let same : c.deref-receipt-items.result.now ≡ c.index-sessions-place.result.receipts = c.deref-receipt-items.ensures.value ∙ ap (λ (s : Session). s.receipts) v in
     rw (p.1, p.2)
-    (refused_at c.args.n c.args.log.now c.loop-receipt.least c.loop-receipt.marks.items c.args.sessions.now c.args.place c.index-sessions-place.result c.session.inside.number c.deref-receipt-items.result.now c.loop-receipt.receipt-index c.receipt-item.result _
+    (refused_at c.args.n c.args.log.now c.loop-receipt.least c.loop-receipt.marks.items c.args.sessions.now c.args.place
+    c.index-sessions-place.result c.session.inside.number c.deref-receipt-items.result.now c.loop-receipt.receipt-index
+    c.receipt-item.result _
     c.requires.within c.index-sessions-place.is number same (search rules) c.receipt-item.is c.loop-receipt.invariant c.in_err-mark.ensures.fault)
 
 pub loop-receipt-preserved : goal.loop-receipt-preserved
@@ -26,7 +28,8 @@ loop-receipt-preserved c =
     let r : Receipt = c.receipt-item.result in
     let next : r.number + 1 ≡ c.receipt.inside.number + 1 = ap (λ (x : Receipt). x.number + 1) (sym c.receipt.view_is) in
     let P : List Handed → Type 0 = λ hs. Walk c.args.n c.args.log.now c.args.place (r.number + 1) c.mark.new.marks.items hs in
-    let Q : ℕ → Type 0 = λ least. Walk c.args.n c.args.log.now c.args.place least c.mark.new.marks.items (so_far c.args.sessions.now c.args.place c.session.inside.number c.deref-receipt-items.result.now (c.loop-receipt.receipt-index + 1)) in
+    let Q : ℕ → Type 0 = λ least. Walk c.args.n c.args.log.now c.args.place least c.mark.new.marks.items
+    (so_far c.args.sessions.now c.args.place c.session.inside.number c.deref-receipt-items.result.now (c.loop-receipt.receipt-index + 1)) in
     subst Q next (subst P (so_far_more c.args.sessions.now c.args.place c.session.inside.number c.deref-receipt-items.result.now c.loop-receipt.receipt-index r (search rules) c.receipt-item.is)
     (walk_more c.args.n c.args.log.now c.args.place c.loop-receipt.least c.loop-receipt.marks.items c.mark.new.marks.items _ c.session.inside.number r c.loop-receipt.invariant e.new e.entry e.marks))
 
@@ -35,5 +38,6 @@ returns-clause-ok c =
     let v = c.session.view_is in
     let number : c.index-sessions-place.result.number ≡ c.session.inside.number = ap (λ (s : Session). s.number) (sym v) in
     let same : c.deref-receipt-items.result.now ≡ c.index-sessions-place.result.receipts = c.deref-receipt-items.ensures.value ∙ ap (λ (s : Session). s.receipts) v in
-    whole_at c.args.n c.args.log.now c.loop-receipt.least c.loop-receipt.marks.items c.args.sessions.now c.args.place c.index-sessions-place.result c.session.inside.number c.deref-receipt-items.result.now c.loop-receipt.receipt-index
+    whole_at c.args.n c.args.log.now c.loop-receipt.least c.loop-receipt.marks.items c.args.sessions.now c.args.place
+    c.index-sessions-place.result c.session.inside.number c.deref-receipt-items.result.now c.loop-receipt.receipt-index
     c.requires.within c.index-sessions-place.is number same c.loop-receipt-test.false c.loop-receipt.invariant

@@ -17,7 +17,8 @@ returns-in_err-keep-clause-err c =
     let bytes = c.args.line.now.items ++ c.args.bytes.now in
     let P : List ℕ → Type 0 = λ x. Answered c.args.options c.args.talk.now bytes (c.loop-end.line.items ++ x) c.loop-end.out.items c.loop-end.talk in
     handed_halts c.from_residual.result c.in_err-keep.field-0.0 c.args.options c.args.talk.now bytes c.loop-end.out.items c.from_residual.ensures.1
-    (keep_halts c.in_err-keep.field-0.0 c.args.options c.args.talk.now c.loop-end.talk bytes c.loop-end.line.items (take end rest) (0x0A ∷ drop (end + 1) rest) c.keep.new.line.items c.loop-end.out.items
+    (keep_halts c.in_err-keep.field-0.0 c.args.options c.args.talk.now c.loop-end.talk bytes c.loop-end.line.items (take end rest) (0x0A
+    ∷ drop (end + 1) rest) c.keep.new.line.items c.loop-end.out.items
     (subst P feed.0 inv.0) inv.1 feed.1 c.in_err-keep.ensures)
 
 pub returns-in_err-say-clause-err : goal.returns-in_err-say-clause-err
@@ -30,7 +31,8 @@ returns-in_err-say-clause-err c =
     let line = c.keep.new.line.items in
     let fault = c.in_err-say.field-0.0 in
     let P : List ℕ → Type 0 = λ x. Answered c.args.options c.args.talk.now bytes (c.loop-end.line.items ++ x) c.loop-end.out.items c.loop-end.talk in
-    let a = kept c.args.options c.args.talk.now c.loop-end.talk bytes c.loop-end.line.items (take end rest) (0x0A ∷ drop (end + 1) rest) line c.loop-end.out.items (subst P feed.0 inv.0) c.in_ok-keep.ensures.0 in
+    let a = kept c.args.options c.args.talk.now c.loop-end.talk bytes c.loop-end.line.items (take end rest) (0x0A ∷ drop (end + 1) rest)
+    line c.loop-end.out.items (subst P feed.0 inv.0) c.in_ok-keep.ensures.0 in
     let Q : List ℕ → Type 0 = λ x. Says c.args.options c.loop-end.talk (read_line x) c.loop-end.out.items c.say.new.out.items (Err fault) c.say.new.talk in
     handed_halts c.from_residual-in_err-say.result fault c.args.options c.args.talk.now bytes c.say.new.out.items c.from_residual-in_err-say.ensures.1
     (say_halts fault c.args.options c.args.talk.now c.loop-end.talk c.say.new.talk bytes line (drop (end + 1) rest) c.loop-end.out.items c.say.new.out.items
@@ -45,7 +47,8 @@ returns-then-len-ge-OUTPUT_MAX-clause-ok c =
     let bytes = c.args.line.now.items ++ c.args.bytes.now in
     let line = c.keep.new.line.items in
     let P : List ℕ → Type 0 = λ x. Answered c.args.options c.args.talk.now bytes (c.loop-end.line.items ++ x) c.loop-end.out.items c.loop-end.talk in
-    let a = kept c.args.options c.args.talk.now c.loop-end.talk bytes c.loop-end.line.items (take end rest) (0x0A ∷ drop (end + 1) rest) line c.loop-end.out.items (subst P feed.0 inv.0) c.in_ok-keep.ensures.0 in
+    let a = kept c.args.options c.args.talk.now c.loop-end.talk bytes c.loop-end.line.items (take end rest) (0x0A ∷ drop (end + 1) rest)
+    line c.loop-end.out.items (subst P feed.0 inv.0) c.in_ok-keep.ensures.0 in
     let Q : List ℕ → Type 0 = λ x. Says c.args.options c.loop-end.talk (read_line x) c.loop-end.out.items c.say.new.out.items (Ok tt) c.say.new.talk in
     let next = said c.args.options c.args.talk.now c.loop-end.talk c.say.new.talk bytes line (drop (end + 1) rest) c.loop-end.out.items c.say.new.out.items tt
     a (kept_unended c.loop-end.line.items (take end rest) line inv.1 feed.1 c.in_ok-keep.ensures) (subst Q c.as_slice.ensures.value c.in_ok-say.ensures) in
@@ -61,7 +64,8 @@ loop-end-preserved c =
     let bytes = c.args.line.now.items ++ c.args.bytes.now in
     let line = c.keep.new.line.items in
     let P : List ℕ → Type 0 = λ x. Answered c.args.options c.args.talk.now bytes (c.loop-end.line.items ++ x) c.loop-end.out.items c.loop-end.talk in
-    let a = kept c.args.options c.args.talk.now c.loop-end.talk bytes c.loop-end.line.items (take end rest) (0x0A ∷ drop (end + 1) rest) line c.loop-end.out.items (subst P feed.0 inv.0) c.in_ok-keep.ensures.0 in
+    let a = kept c.args.options c.args.talk.now c.loop-end.talk bytes c.loop-end.line.items (take end rest) (0x0A ∷ drop (end + 1) rest)
+    line c.loop-end.out.items (subst P feed.0 inv.0) c.in_ok-keep.ensures.0 in
     let Q : List ℕ → Type 0 = λ x. Says c.args.options c.loop-end.talk (read_line x) c.loop-end.out.items c.say.new.out.items (Ok tt) c.say.new.talk in
     let next = said c.args.options c.args.talk.now c.loop-end.talk c.say.new.talk bytes line (drop (end + 1) rest) c.loop-end.out.items c.say.new.out.items tt
     a (kept_unended c.loop-end.line.items (take end rest) line inv.1 feed.1 c.in_ok-keep.ensures) (subst Q c.as_slice.ensures.value c.in_ok-say.ensures) in

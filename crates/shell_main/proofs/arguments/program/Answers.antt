@@ -10,6 +10,10 @@ returns c =
     let file_is : rule_of c.help-file.result ≡ file_rule = search (rules, c.help-file.ensures, c.new.ensures) in
     let strict_is : rule_of c.help-strict.result ≡ strict_rule = search rules in
     let no_undo_is : rule_of c.help-no_undo.result ≡ no_undo_rule = search rules in
-    app_is (app_of c.new-4.result) (app_of c.version.result) (app_of c.about.result) (app_of c.no_binary_name-bare.result) (app_of c.in_ok-one.one) (app_of c.in_ok-both.both) (app_of c.in_ok-whole.whole) (rule_of c.help-file.result) (rule_of c.help-strict.result) (rule_of c.help-no_undo.result)
-    c.new-4.ensures.app (ap app_of_fields c.version.ensures) (ap app_of_fields c.about.ensures) (ap app_of_fields c.no_binary_name-bare.ensures) (c.in_ok-one.ensures.shape (search (rules, c.help-file.ensures, c.new.ensures))) (c.in_ok-both.ensures.shape (search rules)) (c.in_ok-whole.ensures.shape (search rules))
+    app_is (app_of c.new-4.result) (app_of c.version.result) (app_of c.about.result) (app_of c.no_binary_name-bare.result)
+    (app_of c.in_ok-one.one) (app_of c.in_ok-both.both) (app_of c.in_ok-whole.whole) (rule_of c.help-file.result)
+    (rule_of c.help-strict.result) (rule_of c.help-no_undo.result)
+    c.new-4.ensures.app (ap app_of_fields c.version.ensures) (ap app_of_fields c.about.ensures)
+    (ap app_of_fields c.no_binary_name-bare.ensures) (c.in_ok-one.ensures.shape (search (rules, c.help-file.ensures, c.new.ensures)))
+    (c.in_ok-both.ensures.shape (search rules)) (c.in_ok-whole.ensures.shape (search rules))
     file_is strict_is no_undo_is

@@ -9,7 +9,9 @@ returns-in-Ok-try_get_matches_from c =
     let m = c.in-Ok-try_get_matches_from in
     let is = c.in-Ok.ensures in
     let strict = c.is_true.ensures ∙ flag_said_in (app_of c.in-Ok.command) words m.matches (codes "strict") _ is m.ensures.matches c.get_str-in-Ok-try_get_matches_from.ensures in
-    let no_undo = c.is_true-in-Ok-try_get_matches_from.ensures ∙ flag_said_in (app_of c.in-Ok.command) words m.matches (codes "no-undo") _ is m.ensures.matches c.get_str-in-Ok-try_get_matches_from-2.ensures in (
+    let no_undo = c.is_true-in-Ok-try_get_matches_from.ensures
+    ∙ flag_said_in (app_of c.in-Ok.command) words m.matches (codes "no-undo") _ is m.ensures.matches
+    c.get_str-in-Ok-try_get_matches_from-2.ensures in (
       subst (λ a. is_simple_and_free a ≡ true → fault_of a words ≡ []) is m.ensures.kinds app_free,
       file_said_in (app_of c.in-Ok.command) words m.matches _ is m.ensures.matches c.get_str.ensures,
       λ i. record { is_strict = strict i; keeps_history = not (no_undo i) },

@@ -24,7 +24,8 @@ returns-in_err-answer_last-clause-serves g c =
     let stands : (lines : List ℕ) × Stands how g.start.0 (left c.args.reader.now) g.start.1 (taken writer) (failed writer) (flushed writer) now lines line [] = search rules in
     let room : 0 < length c.next_chunk.new.buf = search rules in
     let none : c.in-Ok.count ≡ 0 = search rules in
-    let end = at_end how g.start.0 (left c.args.reader.now) later g.start.1 (taken writer) (failed writer) (flushed writer) now stands.0 line c.next_chunk.new.buf c.in-Ok.count stands.1 c.in-Ok.ensures.bytes none room in
+    let end = at_end how g.start.0 (left c.args.reader.now) later g.start.1 (taken writer) (failed writer) (flushed writer) now stands.0
+    line c.next_chunk.new.buf c.in-Ok.count stands.1 c.in-Ok.ensures.bytes none room in
     let some : (length line == 0) ≡ false = search rules in
     let fault = c.in_err-answer_last.field-0.0 in
     let after = c.answer_last.new.writer in
@@ -51,7 +52,8 @@ returns-in_ok-answer_last-clause-serves g c =
     let stands : (lines : List ℕ) × Stands how g.start.0 (left c.args.reader.now) g.start.1 (taken writer) (failed writer) (flushed writer) now lines line [] = search rules in
     let room : 0 < length c.next_chunk.new.buf = search rules in
     let none : c.in-Ok.count ≡ 0 = search rules in
-    let end = at_end how g.start.0 (left c.args.reader.now) later g.start.1 (taken writer) (failed writer) (flushed writer) now stands.0 line c.next_chunk.new.buf c.in-Ok.count stands.1 c.in-Ok.ensures.bytes none room in
+    let end = at_end how g.start.0 (left c.args.reader.now) later g.start.1 (taken writer) (failed writer) (flushed writer) now stands.0
+    line c.next_chunk.new.buf c.in-Ok.count stands.1 c.in-Ok.ensures.bytes none room in
     let some : (length line == 0) ≡ false = search rules in
     let after = c.answer_last.new.writer in
     let new = c.answer_last.new.talk in
@@ -76,7 +78,8 @@ returns-else-not-is_empty-clause-serves g c =
     let stands : (lines : List ℕ) × Stands how g.start.0 (left c.args.reader.now) g.start.1 (taken writer) (failed writer) (flushed writer) now lines line [] = search rules in
     let room : 0 < length c.next_chunk.new.buf = search rules in
     let none : c.in-Ok.count ≡ 0 = search rules in
-    let end = at_end how g.start.0 (left c.args.reader.now) later g.start.1 (taken writer) (failed writer) (flushed writer) now stands.0 line c.next_chunk.new.buf c.in-Ok.count stands.1 c.in-Ok.ensures.bytes none room in
+    let end = at_end how g.start.0 (left c.args.reader.now) later g.start.1 (taken writer) (failed writer) (flushed writer) now stands.0
+    line c.next_chunk.new.buf c.in-Ok.count stands.1 c.in-Ok.ensures.bytes none room in
     let empty : (length line == 0) ≡ true = search rules in
     served how g.start.0 later g.start.1 (taken writer) read_failed (failed writer) (flushed writer) now stands.0 line end.0 end.1 empty mark
 
@@ -97,7 +100,8 @@ returns-in_err-rest-clause-serves g c =
     let fault = c.in_err-rest.field-0.0 in
     let after = c.answer_some.new.writer in
     let new = c.answer_some.new.talk in
-    handed_on c.from_residual-in_err-rest.result fault how g.start.0 later g.start.1 (taken after) read_failed (failed after) (flushed after) new c.answer_some.new.line.items c.from_residual-in_err-rest.ensures.1
+    handed_on c.from_residual-in_err-rest.result fault how g.start.0 later g.start.1 (taken after) read_failed (failed after)
+    (flushed after) new c.answer_some.new.line.items c.from_residual-in_err-rest.ensures.1
     (stop_ended fault how g.start.0 later g.start.1 (taken c.more.writer) (taken after) read_failed (failed c.more.writer) (failed after) (flushed c.more.writer) (flushed after)
     c.more.talk inv.0 c.more.line.items c.more.rest.now inv.1 c.in_err-rest.ensures.err mark)
 
@@ -110,6 +114,7 @@ more-preserved g c =
     let after = c.answer_some.new.writer in
     let went = c.in_ok-rest.ensures.ok in (
       inv.0 ++ went.answered.text,
-      went_on c.args.options g.start.0 (g.S.Source.left c.next_chunk.new.reader) g.start.1 (taken c.more.writer) (taken after) (failed c.more.writer) (failed after) (flushed c.more.writer) (flushed after)
+      went_on c.args.options g.start.0 (g.S.Source.left c.next_chunk.new.reader) g.start.1 (taken c.more.writer) (taken after)
+          (failed c.more.writer) (failed after) (flushed c.more.writer) (flushed after)
           c.more.talk c.answer_some.new.talk inv.0 c.more.line.items c.more.rest.now c.answer_some.new.line.items c.in_ok-rest.rest.now inv.1 went,
     )

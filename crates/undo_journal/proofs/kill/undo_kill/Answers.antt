@@ -7,10 +7,15 @@ use Rattle.undo_journal.proofs.Killing.{each_row, pids_of}
 use Rattle.undo_journal.proofs.kill.undo_kill.Goals as goal
 
 pub place_all_by-requires-clause-homes : goal.place_all_by-requires-clause-homes
-place_all_by-requires-clause-homes g c = each_row (λ e. IsSome (get c.args.charges.now.groups e.1)) c.as_slice.result.now (subst (λ (rows : List (ℕ × Path)). All (λ e. IsSome (get c.args.charges.now.groups e.1)) rows) (sym c.as_slice.ensures) c.requires.2)
+place_all_by-requires-clause-homes g c =
+    each_row (λ e. IsSome (get c.args.charges.now.groups e.1)) c.as_slice.result.now
+    (subst (λ (rows : List (ℕ × Path)). All (λ e. IsSome (get c.args.charges.now.groups e.1)) rows) (sym c.as_slice.ensures) c.requires.2)
 
 pub place_all_by-requires-clause-new : goal.place_all_by-requires-clause-new
-place_all_by-requires-clause-new g c = each_row (λ e. get c.args.charges.now.home e.0 ≡ None) c.as_slice.result.now (subst (λ (rows : List (ℕ × Path)). All (λ e. get c.args.charges.now.home e.0 ≡ None) rows) (sym c.as_slice.ensures) c.requires.0)
+place_all_by-requires-clause-new g c =
+    each_row (λ e. get c.args.charges.now.home e.0
+    ≡ None) c.as_slice.result.now (subst (λ (rows : List (ℕ × Path)). All (λ e. get c.args.charges.now.home e.0 ≡ None) rows)
+    (sym c.as_slice.ensures) c.requires.0)
 
 pub place_all_by-requires-clause-apart : goal.place_all_by-requires-clause-apart
 place_all_by-requires-clause-apart g c =

@@ -16,5 +16,6 @@ returns c =
     let kept = c.lacks_room.ensures.kept in
     let ready = c.as_slice.ensures.value ∙ c.in-Ok.ensures ∙ ap (λ (m : Machine). reply_bytes c.args.number (ready_reply m (command_of c.args.command.now))) (sym kept) in
     subst (λ (m : Machine). AnswersRun m c.args.number (command_of c.args.command.now) c.answer_reply-answer.new.out c.answer_reply-answer.result c.take_untold_back.new.self.engine) kept
-    (by_reply c.lacks_room.new.self.engine (command_of c.args.command.now) c.args.number c.as_slice.result.now c.apply_alone-reply.result c.answer_reply-answer.new.out c.answer_reply-answer.result c.apply_alone-reply.new.self c.take_untold_back.new.self.engine
+    (by_reply c.lacks_room.new.self.engine (command_of c.args.command.now) c.args.number c.as_slice.result.now c.apply_alone-reply.result
+    c.answer_reply-answer.new.out c.answer_reply-answer.result c.apply_alone-reply.new.self c.take_untold_back.new.self.engine
     ready (search rules) c.apply_alone-reply.ensures.answered c.apply_alone-reply.ensures.headline c.answer_reply-answer.ensures c.take_untold_back.ensures)

@@ -19,7 +19,8 @@ copy_each-requires-clause-one g c =
 
 pub copy_each-requires-clause-homes : goal.copy_each-requires-clause-homes
 copy_each-requires-clause-homes g c =
-    All-weaker (λ p. IsPlaced g.M.Meter.LEAVES c.self.inside.tree p) (λ p. IsSome (fin.get c.in_ok-tree.tree p.home)) (λ p h. subst (λ (t : Groups). IsSome (fin.get t p.home)) (sym c.in_ok-tree.ensures) h.home)
+    All-weaker (λ p. IsPlaced g.M.Meter.LEAVES c.self.inside.tree p) (λ p. IsSome (fin.get c.in_ok-tree.tree p.home))
+    (λ p h. subst (λ (t : Groups). IsSome (fin.get t p.home)) (sym c.in_ok-tree.ensures) h.home)
     (values_of c.self.inside.processes) c.self.invariant.recounted.placed
 
 pub copy_each-requires-clause-slots : goal.copy_each-requires-clause-slots

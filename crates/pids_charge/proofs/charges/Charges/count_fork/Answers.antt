@@ -12,7 +12,8 @@ use Rattle.pids_charge.proofs.charges.Charges.count_fork.Goals as goal
 
 pub unreachable-requires : goal.unreachable-requires
 unreachable-requires g c =
-    let gone = process-is c.args.self.now c.self.inside.tree c.self.inside.processes c.self.view_is c.self.invariant.recounted.ordered c.args.parent ∙ ap is_some (sym c.find_row.ensures ∙ ap option_copied c.in_default.is) in
+    let gone = process-is c.args.self.now c.self.inside.tree c.self.inside.processes c.self.view_is c.self.invariant.recounted.ordered
+    c.args.parent ∙ ap is_some (sym c.find_row.ensures ∙ ap option_copied c.in_default.is) in
     absurd (false≢true (sym gone ∙ c.requires.parent))
 
 pub count_refusal-requires-clause-at : goal.count_refusal-requires-clause-at
@@ -29,11 +30,13 @@ invariant_of-self g c =
     record {
       has_slots = slots_stay tree c.count_refusal.new.tree c.count_refusal.ensures.slots g.M.Meter.SLOTS c.self.inside.free.items c.self.invariant.has_slots;
       room = c.self.invariant.room;
-      recounted = charges_stay tree c.count_refusal.new.tree c.count_refusal.ensures.slots g.M.Meter.LEAVES c.self.inside.processes (g.M.Meter.content c.self.inside.meter) (g.M.Meter.held c.self.inside.meter) c.self.invariant.recounted;
+      recounted = charges_stay tree c.count_refusal.new.tree c.count_refusal.ensures.slots g.M.Meter.LEAVES c.self.inside.processes
+          (g.M.Meter.content c.self.inside.meter) (g.M.Meter.held c.self.inside.meter) c.self.invariant.recounted;
     }
 
 pub returns : goal.returns
 returns g c =
     let at_home = home_at _ _ _ _ _ c.self.invariant.recounted c.args.self.now c.self.view_is c.args.parent c.in-Some.process.now (sym c.find_row.ensures ∙ ap option_copied c.in-Some.is) in
     let s : State = state_of c.self.inside.tree c.self.inside.processes in
-    c.count_refusal.ensures.counted s.home ∙ ap (λ (q : Path). at_each (count_up (take c.args.n q)) s) (sym at_home) ∙ ap (λ (t : State). at_each (count_up (take c.args.n (home_of c.args.self.now c.args.parent))) t) c.self.view_is
+    c.count_refusal.ensures.counted s.home ∙ ap (λ (q : Path). at_each (count_up (take c.args.n q)) s) (sym at_home)
+    ∙ ap (λ (t : State). at_each (count_up (take c.args.n (home_of c.args.self.now c.args.parent))) t) c.self.view_is

@@ -9,7 +9,8 @@ use Rattle.pids_charge.proofs.charges.Charges.descendants.Goals as goal
 
 pub returns-clause-some : goal.returns-clause-some
 returns-clause-some g c =
-    matched c.descendants.result (fin.get c.self.inside.tree c.args.path.now) _ c.descendants.ensures.counted ∙ sym (group-is c.args.self.now c.self.inside.tree c.self.inside.processes c.self.view_is c.args.path.now)
+    matched c.descendants.result (fin.get c.self.inside.tree c.args.path.now) _ c.descendants.ensures.counted
+    ∙ sym (group-is c.args.self.now c.self.inside.tree c.self.inside.processes c.self.view_is c.args.path.now)
 
 pub returns-clause-count : goal.returns-clause-count
 returns-clause-count g c =

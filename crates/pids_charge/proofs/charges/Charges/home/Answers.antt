@@ -3,7 +3,11 @@ use Rattle.pids_charge.proofs.Asked.{home-is}
 use Rattle.pids_charge.proofs.charges.Charges.home.Goals as goal
 
 pub returns-in-Some : goal.returns-in-Some
-returns-in-Some g c = sym (home-is c.args.self.now c.self.inside.tree c.self.inside.processes c.self.view_is c.self.invariant.recounted.ordered c.args.pid ∙ ap (option_map (λ p. p.home)) (sym c.find_row.ensures ∙ ap option_copied c.in-Some.is))
+returns-in-Some g c =
+    sym (home-is c.args.self.now c.self.inside.tree c.self.inside.processes c.self.view_is c.self.invariant.recounted.ordered c.args.pid
+    ∙ ap (option_map (λ p. p.home)) (sym c.find_row.ensures ∙ ap option_copied c.in-Some.is))
 
 pub returns-in-None : goal.returns-in-None
-returns-in-None g c = sym (home-is c.args.self.now c.self.inside.tree c.self.inside.processes c.self.view_is c.self.invariant.recounted.ordered c.args.pid ∙ ap (option_map (λ p. p.home)) (sym c.find_row.ensures ∙ ap option_copied c.in-None.is))
+returns-in-None g c =
+    sym (home-is c.args.self.now c.self.inside.tree c.self.inside.processes c.self.view_is c.self.invariant.recounted.ordered c.args.pid
+    ∙ ap (option_map (λ p. p.home)) (sym c.find_row.ensures ∙ ap option_copied c.in-None.is))

@@ -21,23 +21,33 @@ use Rattle.pids_charge.proofs.charges.Charges.kill_by.Goals as goal
 
 pub returns-then-is_none-clause-state : goal.returns-then-is_none-clause-state
 returns-then-is_none-clause-state g c =
-    let is = group-found c.args.self.now c.self.inside.tree c.self.inside.processes c.self.view_is c.args.path.now c.find.result c.is_none.result c.find.ensures c.is_none.ensures ∙ ap not c.if-is_none.true in
+    let is = group-found c.args.self.now c.self.inside.tree c.self.inside.processes c.self.view_is c.args.path.now c.find.result
+    c.is_none.result c.find.ensures c.is_none.ensures ∙ ap not c.if-is_none.true in
     let long : 0 < length c.args.path.now = omega arith in
     (kill_no_group g.M.Meter.SLOTS c.args.self.now c.args.path.now c.depth-then-is_none.result long is c.depth-then-is_none.ensures, refl)
 
 pub returns-in_default-clause-state : goal.returns-in_default-clause-state
 returns-in_default-clause-state g c =
-    let is = group-found c.args.self.now c.self.inside.tree c.self.inside.processes c.self.view_is c.args.path.now c.find.result c.is_none.result c.find.ensures c.is_none.ensures ∙ ap not c.if-is_none.false in
+    let is = group-found c.args.self.now c.self.inside.tree c.self.inside.processes c.self.view_is c.args.path.now c.find.result
+    c.is_none.result c.find.ensures c.is_none.ensures ∙ ap not c.if-is_none.false in
     let long : 0 < length c.args.path.now = omega arith in
     (kill_allowed g.M.Meter.SLOTS c.args.self.now c.args.path.now long is, refl)
 
 pub settle-requires-clause-charged : goal.settle-requires-clause-charged
 settle-requires-clause-charged g c = λ s j.
-    rw (c.as_slice.ensures.value, (c.in-Ok.ensures).counted s j) (inside_there g.M.Meter.LEAVES c.self.inside.tree c.self.inside.processes (g.M.Meter.content c.self.inside.meter) (g.M.Meter.held c.self.inside.meter) c.self.invariant.recounted c.args.path.now s j)
+    rw (
+      c.as_slice.ensures.value,
+      (c.in-Ok.ensures).counted s j,
+    ) (inside_there g.M.Meter.LEAVES c.self.inside.tree c.self.inside.processes
+    (g.M.Meter.content c.self.inside.meter) (g.M.Meter.held c.self.inside.meter) c.self.invariant.recounted c.args.path.now s j)
 
 pub settle-requires-clause-room : goal.settle-requires-clause-room
 settle-requires-clause-room g c =
-    omega (arith, held_small g.M.Meter.LEAVES c.self.inside.tree c.self.inside.processes (g.M.Meter.content c.self.inside.meter) (g.M.Meter.held c.self.inside.meter) c.self.invariant.recounted c.self.invariant.has_slots.shallow)
+    omega (
+      arith,
+      held_small g.M.Meter.LEAVES c.self.inside.tree c.self.inside.processes (g.M.Meter.content c.self.inside.meter)
+          (g.M.Meter.held c.self.inside.meter) c.self.invariant.recounted c.self.invariant.has_slots.shallow,
+    )
 
 pub invariant_of-self : goal.invariant_of-self
 invariant_of-self g c =
@@ -48,17 +58,24 @@ invariant_of-self g c =
     record {
       has_slots = c.self.invariant.has_slots;
       room = c.self.invariant.room;
-      recounted = killed g.M.Meter.LEAVES c.self.inside.tree c.self.inside.processes (g.M.Meter.content c.self.inside.meter) (g.M.Meter.held c.self.inside.meter) c.self.invariant.recounted c.args.path.now
-          c.leave-lost.new.processes (g.M.Meter.content c.settle.new.meter) (g.M.Meter.held c.settle.new.meter) (c.leave-lost.ensures.stay ∙ ap (λ (ks : List ℕ). without_each ks c.self.inside.processes) (c.as_slice-2.ensures.value ∙ (c.in-Ok.ensures).pids) ∙ left_rows (is_inside c.args.path.now) c.self.inside.processes c.self.invariant.recounted.ordered) c.leave-lost.ensures.ordered
+      recounted = killed g.M.Meter.LEAVES c.self.inside.tree c.self.inside.processes (g.M.Meter.content c.self.inside.meter)
+          (g.M.Meter.held c.self.inside.meter) c.self.invariant.recounted c.args.path.now
+          c.leave-lost.new.processes (g.M.Meter.content c.settle.new.meter) (g.M.Meter.held c.settle.new.meter) (c.leave-lost.ensures.stay
+          ∙ ap (λ (ks : List ℕ). without_each ks c.self.inside.processes) (c.as_slice-2.ensures.value ∙ (c.in-Ok.ensures).pids)
+          ∙ left_rows (is_inside c.args.path.now) c.self.inside.processes c.self.invariant.recounted.ordered)
+          c.leave-lost.ensures.ordered
           (λ s j. omega (arith, c.settle.ensures.content s j, counted s j)) (omega (arith, c.settle.ensures.held, many));
     }
 
 pub returns-clause-state : goal.returns-clause-state
 returns-clause-state g c =
-    let is = group-found c.args.self.now c.self.inside.tree c.self.inside.processes c.self.view_is c.args.path.now c.find.result c.is_none.result c.find.ensures c.is_none.ensures ∙ ap not c.if-is_none.false in
+    let is = group-found c.args.self.now c.self.inside.tree c.self.inside.processes c.self.view_is c.args.path.now c.find.result
+    c.is_none.result c.find.ensures c.is_none.ensures ∙ ap not c.if-is_none.false in
     let long : 0 < length c.args.path.now = omega arith in (
       kill_allowed g.M.Meter.SLOTS c.args.self.now c.args.path.now long is,
-      ap (state_of c.self.inside.tree) (c.leave-lost.ensures.stay ∙ ap (λ (ks : List ℕ). without_each ks c.self.inside.processes) (c.as_slice-2.ensures.value ∙ (c.in-Ok.ensures).pids) ∙ left_rows (is_inside c.args.path.now) c.self.inside.processes c.self.invariant.recounted.ordered)
+      ap (state_of c.self.inside.tree) (c.leave-lost.ensures.stay
+          ∙ ap (λ (ks : List ℕ). without_each ks c.self.inside.processes) (c.as_slice-2.ensures.value ∙ (c.in-Ok.ensures).pids)
+          ∙ left_rows (is_inside c.args.path.now) c.self.inside.processes c.self.invariant.recounted.ordered)
           ∙ killed-is c.self.inside.tree c.self.inside.processes c.self.invariant.recounted.ordered c.args.path.now
           ∙ ap (λ (t : State). after t (Kill c.args.path.now)) c.self.view_is,
     )
@@ -66,7 +83,8 @@ returns-clause-state g c =
 pub returns-clause-taken : goal.returns-clause-taken
 returns-clause-taken g c =
     c.of.ensures
-    ∙ ap rows_of (c.leave-lost.ensures.lost ∙ ap (λ (ks : List ℕ). lost_each ks c.self.inside.processes) (c.as_slice-2.ensures.value ∙ (c.in-Ok.ensures).pids) ∙ lost_rows (is_inside c.args.path.now) c.self.inside.processes c.self.invariant.recounted.ordered)
+    ∙ ap rows_of (c.leave-lost.ensures.lost ∙ ap (λ (ks : List ℕ). lost_each ks c.self.inside.processes) (c.as_slice-2.ensures.value
+    ∙ (c.in-Ok.ensures).pids) ∙ lost_rows (is_inside c.args.path.now) c.self.inside.processes c.self.invariant.recounted.ordered)
     ∙ lost-is c.self.inside.tree c.self.inside.processes c.self.invariant.recounted.ordered c.args.path.now
     ∙ ap (λ (t : State). lost t c.args.path.now) c.self.view_is
 

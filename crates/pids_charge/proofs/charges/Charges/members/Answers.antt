@@ -22,11 +22,13 @@ returns-clause-listed g c = (
   group-is c.args.self.now c.self.inside.tree c.self.inside.processes c.self.view_is c.args.path.now ∙ c.in-Some.ensures.0,
   c.unordered-numbers.ensures.sorted c.in_ok-pids.pids.items c.in_ok-pids.ensures.moved c.in_ok-pids.ensures.sorted
       ∙ ap (λ (slot : ℕ). keys_of (filter (λ (e : Row g.row.A.Denot). eqb e.1.slot slot) c.self.inside.processes)) c.in-Some.ensures.1
-      ∙ ap keys_of (members_by_slot g.M.Meter.SLOTS c.self.inside.tree c.self.inside.free.items c.self.invariant.has_slots g.M.Meter.LEAVES c.args.path.now c.in-Some.ensures.0 c.self.inside.processes c.self.invariant.recounted.placed)
+      ∙ ap keys_of (members_by_slot g.M.Meter.SLOTS c.self.inside.tree c.self.inside.free.items c.self.invariant.has_slots g.M.Meter.LEAVES
+      c.args.path.now c.in-Some.ensures.0 c.self.inside.processes c.self.invariant.recounted.placed)
       ∙ members-is c.args.path.now c.self.inside.tree c.self.inside.processes c.args.self.now c.self.view_is c.self.invariant.recounted.ordered,
 )
 
 pub ascending-requires : goal.ascending-requires
 ascending-requires g c =
     let es = c.self.inside.processes in
-    All-weaker (λ q. IsSome (lookup (is_at (nat_cmp q)) es)) IsPid (λ q some. found_key IsPid q es c.self.invariant.recounted.pids some) c.unordered-numbers.result.now c.unordered-numbers.ensures.present
+    All-weaker (λ q. IsSome (lookup (is_at (nat_cmp q)) es)) IsPid (λ q some. found_key IsPid q es c.self.invariant.recounted.pids some)
+    c.unordered-numbers.result.now c.unordered-numbers.ensures.present

@@ -20,7 +20,9 @@ slot_in-slot-requires-clause-group g c = there-is c.args.self.now c.self.inside.
 
 pub invariant_of-self : goal.invariant_of-self
 invariant_of-self g c =
-    subst (λ (rows : List (Row g.row.A.Denot)). IsWhole g.M.Meter.SLOTS g.M.Meter.LEAVES c.self.inside.tree rows c.self.inside.free.items (vec_capacity c.self.inside.free) (g.M.Meter.content c.self.inside.meter) (g.M.Meter.held c.self.inside.meter)) (sym c.in_default.ensures.kept) c.self.invariant
+    subst (λ (rows : List (Row g.row.A.Denot)). IsWhole g.M.Meter.SLOTS g.M.Meter.LEAVES c.self.inside.tree rows c.self.inside.free.items
+    (vec_capacity c.self.inside.free) (g.M.Meter.content c.self.inside.meter) (g.M.Meter.held c.self.inside.meter))
+    (sym c.in_default.ensures.kept) c.self.invariant
 
 pub charge_along-requires-clause-home : goal.charge_along-requires-clause-home
 charge_along-requires-clause-home g c = there-is c.args.self.now c.self.inside.tree c.self.inside.processes c.self.view_is c.args.path.now c.requires.group
@@ -62,8 +64,11 @@ invariant_of-self-2 g c =
 pub returns-clause-placed : goal.returns-clause-placed
 returns-clause-placed g c =
     let x : Process g.row.A.Denot = process_in c.args.path.now c.slot_in-slot.result (c.args.who % c.LEAVES.result) in
-    moved-is c.args.self.now c.self.inside.tree c.self.inside.processes c.self.view_is c.self.invariant.recounted.ordered c.args.pid x c.put_copy.new.processes c.args.path.now c.in-Ok.ensures.entries refl
+    moved-is c.args.self.now c.self.inside.tree c.self.inside.processes c.self.view_is c.self.invariant.recounted.ordered c.args.pid x
+    c.put_copy.new.processes c.args.path.now c.in-Ok.ensures.entries refl
 
 pub returns-clause-old_home : goal.returns-clause-old_home
 returns-clause-old_home g c =
-    ap (λ (o : Option Path). unwrap_or o []) (sym (home-is c.args.self.now c.self.inside.tree c.self.inside.processes c.self.view_is c.self.invariant.recounted.ordered c.args.pid ∙ ap (option_map (λ p. p.home)) (sym c.in-Ok.ensures.old ∙ c.in-Some.is)))
+    ap (λ (o : Option Path). unwrap_or o [])
+    (sym (home-is c.args.self.now c.self.inside.tree c.self.inside.processes c.self.view_is c.self.invariant.recounted.ordered
+    c.args.pid ∙ ap (option_map (λ p. p.home)) (sym c.in-Ok.ensures.old ∙ c.in-Some.is)))

@@ -21,7 +21,9 @@ charge_along-requires-clause-room g c =
 
 pub invariant_of-self : goal.invariant_of-self
 invariant_of-self g c =
-    subst (λ (rows : List (Row g.row.A.Denot)). IsWhole g.M.Meter.SLOTS g.M.Meter.LEAVES c.self.inside.tree rows c.self.inside.free.items (vec_capacity c.self.inside.free) (g.M.Meter.content c.self.inside.meter) (g.M.Meter.held c.self.inside.meter)) (sym c.in_default.ensures.kept) c.self.invariant
+    subst (λ (rows : List (Row g.row.A.Denot)). IsWhole g.M.Meter.SLOTS g.M.Meter.LEAVES c.self.inside.tree rows c.self.inside.free.items
+    (vec_capacity c.self.inside.free) (g.M.Meter.content c.self.inside.meter) (g.M.Meter.held c.self.inside.meter))
+    (sym c.in_default.ensures.kept) c.self.invariant
 
 pub invariant_of-self-2 : goal.invariant_of-self-2
 invariant_of-self-2 g c =
@@ -30,8 +32,15 @@ invariant_of-self-2 g c =
       has_slots = c.self.invariant.has_slots;
       room = c.self.invariant.room;
       recounted = added _ _ _ _ _ c.self.invariant.recounted c.args.pid x c.put_copy.new.processes (g.M.Meter.content c.charge_along.new.meter) (g.M.Meter.held c.charge_along.new.meter)
-          (no_home c.args.self.now c.self.inside.tree c.self.inside.processes c.self.view_is c.self.invariant.recounted.ordered c.args.pid c.requires.new) c.put_copy.ensures.pid c.in-Ok.ensures.entries c.put_copy.ensures.ordered
-          (record { home = there-is c.args.self.now c.self.inside.tree c.self.inside.processes c.self.view_is c.args.path.now c.requires.group; slot = c.slot_in-slot.ensures; leaf_below = omega (arith, c.LEAVES.ensures, g.met.M.Meter.leaves_positive) })
+          (no_home c.args.self.now c.self.inside.tree c.self.inside.processes c.self.view_is c.self.invariant.recounted.ordered c.args.pid
+          c.requires.new) c.put_copy.ensures.pid c.in-Ok.ensures.entries c.put_copy.ensures.ordered
+          (record {
+            home = there-is c.args.self.now c.self.inside.tree c.self.inside.processes c.self.view_is c.args.path.now
+                c.requires.group;
+            slot = c.slot_in-slot.ensures;
+            leaf_below =
+                omega (arith, c.LEAVES.ensures, g.met.M.Meter.leaves_positive);
+          })
           (λ s j. c.charge_along.ensures.content s j)
           c.charge_along.ensures.held;
     }
@@ -39,4 +48,5 @@ invariant_of-self-2 g c =
 pub returns-clause-placed : goal.returns-clause-placed
 returns-clause-placed g c =
     let x : Process g.row.A.Denot = process_in c.args.path.now c.slot_in-slot.result (c.args.who % c.LEAVES.result) in
-    moved-is c.args.self.now c.self.inside.tree c.self.inside.processes c.self.view_is c.self.invariant.recounted.ordered c.args.pid x c.put_copy.new.processes c.args.path.now c.in-Ok.ensures.entries refl
+    moved-is c.args.self.now c.self.inside.tree c.self.inside.processes c.self.view_is c.self.invariant.recounted.ordered c.args.pid x
+    c.put_copy.new.processes c.args.path.now c.in-Ok.ensures.entries refl

@@ -20,7 +20,10 @@ use Rattle.pids_charge.proofs.charges.Charges.place_listed.Goals as goal
 pub place_each-requires-clause-new : goal.place_each-requires-clause-new
 place_each-requires-clause-new g c =
     All-weaker (λ l. fin.get c.args.self.now.home l.pid ≡ None) (λ l. lookup (is_at (nat_cmp l.pid)) c.self.inside.processes ≡ None) (λ l e.
-    not_found l.pid c.self.inside.processes (sym (fin.get-from_sorted nat_cmp (home_rows c.self.inside.processes) l.pid (to_sorted c.self.inside.processes c.self.invariant.recounted.ordered)) ∙ ap (λ (t : State). fin.get t.home l.pid) c.self.view_is ∙ e))
+    not_found l.pid c.self.inside.processes
+    (sym (fin.get-from_sorted nat_cmp (home_rows c.self.inside.processes) l.pid
+    (to_sorted c.self.inside.processes c.self.invariant.recounted.ordered)) ∙ ap (λ (t : State). fin.get t.home l.pid) c.self.view_is
+    ∙ e))
     c.args.list.now c.requires.new
 
 pub settle-requires-clause-room : goal.settle-requires-clause-room
@@ -30,8 +33,11 @@ settle-requires-clause-room g c =
     let content : Content = g.M.Meter.content c.self.inside.meter in
     let held : ℕ = g.M.Meter.held c.self.inside.meter in
     let d = c.self.invariant.recounted in
-    let new = All-weaker (λ l. fin.get c.args.self.now.home l.pid ≡ None) (λ l. find_new l.pid es) (λ l e. sym (fin.get-from_sorted nat_cmp (home_rows es) l.pid (to_sorted es d.ordered)) ∙ ap (λ (t : State). fin.get t.home l.pid) c.self.view_is ∙ e) c.args.list.now c.requires.new in
-    let homes = All-weaker (λ l. IsSome (fin.get c.args.self.now.groups l.path)) (λ l. IsSome (fin.get c.self.inside.tree l.path)) (λ l h. there-is c.args.self.now c.self.inside.tree es c.self.view_is l.path h) c.args.list.now c.requires.homes in
+    let new = All-weaker (λ l. fin.get c.args.self.now.home l.pid
+    ≡ None) (λ l. find_new l.pid es) (λ l e. sym (fin.get-from_sorted nat_cmp (home_rows es) l.pid (to_sorted es d.ordered))
+    ∙ ap (λ (t : State). fin.get t.home l.pid) c.self.view_is ∙ e) c.args.list.now c.requires.new in
+    let homes = All-weaker (λ l. IsSome (fin.get c.args.self.now.groups l.path)) (λ l. IsSome (fin.get c.self.inside.tree l.path))
+    (λ l h. there-is c.args.self.now c.self.inside.tree es c.self.view_is l.path h) c.args.list.now c.requires.homes in
     let d2 = placed g.M.Meter.LEAVES c.self.inside.tree es content held d leaf c.args.list.now
     (λ s j. content s j + sum_by (λ l. charges_at c.self.inside.tree l.path leaf s j) c.args.list.now) (held + sum_by (λ l. length l.path) c.args.list.now)
     (omega (arith, c.LEAVES.ensures, g.met.M.Meter.leaves_positive)) (new, c.requires.apart) homes ((c.in_ok-place_each.ensures).pids) (λ s j. refl) refl in
@@ -44,8 +50,11 @@ invariant_of-self-2 g c =
     let content : Content = g.M.Meter.content c.self.inside.meter in
     let held : ℕ = g.M.Meter.held c.self.inside.meter in
     let d = c.self.invariant.recounted in
-    let new = All-weaker (λ l. fin.get c.args.self.now.home l.pid ≡ None) (λ l. find_new l.pid es) (λ l e. sym (fin.get-from_sorted nat_cmp (home_rows es) l.pid (to_sorted es d.ordered)) ∙ ap (λ (t : State). fin.get t.home l.pid) c.self.view_is ∙ e) c.args.list.now c.requires.new in
-    let homes = All-weaker (λ l. IsSome (fin.get c.args.self.now.groups l.path)) (λ l. IsSome (fin.get c.self.inside.tree l.path)) (λ l h. there-is c.args.self.now c.self.inside.tree es c.self.view_is l.path h) c.args.list.now c.requires.homes in
+    let new = All-weaker (λ l. fin.get c.args.self.now.home l.pid
+    ≡ None) (λ l. find_new l.pid es) (λ l e. sym (fin.get-from_sorted nat_cmp (home_rows es) l.pid (to_sorted es d.ordered))
+    ∙ ap (λ (t : State). fin.get t.home l.pid) c.self.view_is ∙ e) c.args.list.now c.requires.new in
+    let homes = All-weaker (λ l. IsSome (fin.get c.args.self.now.groups l.path)) (λ l. IsSome (fin.get c.self.inside.tree l.path))
+    (λ l h. there-is c.args.self.now c.self.inside.tree es c.self.view_is l.path h) c.args.list.now c.requires.homes in
     let counted = λ (s j : ℕ). ap (λ (ts : List Token). listed_at ts s j) c.as_slice.ensures.value ∙ (c.in_ok-tokens.ensures).counted s j in
     let many = ap length c.as_slice.ensures.value ∙ (c.in_ok-tokens.ensures).many in
     record {
@@ -67,8 +76,12 @@ returns-clause-placed g c =
 
 pub tokens_of-requires-clause-homes : goal.tokens_of-requires-clause-homes
 tokens_of-requires-clause-homes g c =
-    All-weaker (λ l. IsSome (fin.get c.args.self.now.groups l.path)) (λ l. IsSome (fin.get c.self.inside.tree l.path)) (λ l h. there-is c.args.self.now c.self.inside.tree c.self.inside.processes c.self.view_is l.path h) c.args.list.now c.requires.homes
+    All-weaker (λ l. IsSome (fin.get c.args.self.now.groups l.path)) (λ l. IsSome (fin.get c.self.inside.tree l.path))
+    (λ l h. there-is c.args.self.now c.self.inside.tree c.self.inside.processes c.self.view_is l.path h) c.args.list.now
+    c.requires.homes
 
 pub place_each-requires-clause-homes : goal.place_each-requires-clause-homes
 place_each-requires-clause-homes g c =
-    All-weaker (λ l. IsSome (fin.get c.args.self.now.groups l.path)) (λ l. IsSome (fin.get c.self.inside.tree l.path)) (λ l h. there-is c.args.self.now c.self.inside.tree c.self.inside.processes c.self.view_is l.path h) c.args.list.now c.requires.homes
+    All-weaker (λ l. IsSome (fin.get c.args.self.now.groups l.path)) (λ l. IsSome (fin.get c.self.inside.tree l.path))
+    (λ l h. there-is c.args.self.now c.self.inside.tree c.self.inside.processes c.self.view_is l.path h) c.args.list.now
+    c.requires.homes

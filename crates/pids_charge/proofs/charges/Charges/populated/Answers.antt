@@ -12,12 +12,14 @@ use Rattle.pids_charge.proofs.charges.Charges.populated.Goals as goal
 pub returns-in_default-clause-some : goal.returns-in_default-clause-some
 returns-in_default-clause-some g c =
     let long : 0 < length c.args.path.now = omega arith in
-    asked c.args.self.now c.args.path.now _ long (group-by c.args.self.now c.self.inside.tree c.self.inside.processes c.self.view_is c.args.path.now c.find.result _ c.find.ensures (ap is_some c.in_default.is))
+    asked c.args.self.now c.args.path.now _ long (group-by c.args.self.now c.self.inside.tree c.self.inside.processes c.self.view_is
+    c.args.path.now c.find.result _ c.find.ensures (ap is_some c.in_default.is))
 
 pub returns-clause-some : goal.returns-clause-some
 returns-clause-some g c =
     let long : 0 < length c.args.path.now = omega arith in
-    asked c.args.self.now c.args.path.now _ long (group-by c.args.self.now c.self.inside.tree c.self.inside.processes c.self.view_is c.args.path.now c.find.result _ c.find.ensures (ap is_some c.in-Some.is))
+    asked c.args.self.now c.args.path.now _ long (group-by c.args.self.now c.self.inside.tree c.self.inside.processes c.self.view_is
+    c.args.path.now c.find.result _ c.find.ensures (ap is_some c.in-Some.is))
 
 pub returns-clause-told : goal.returns-clause-told
 returns-clause-told g c =
@@ -26,5 +28,7 @@ returns-clause-told g c =
     let there : IsSome (fin.get c.self.inside.tree c.args.path.now) = subst IsSome found refl in
     is_positive c.populated.result _ _ c.populated.ensures.answer (
     ap (λ (s : ℕ). over_leaves g.M.Meter.LEAVES (g.M.Meter.content c.self.inside.meter s)) (ap slot_of found)
-    ∙ current-is g.M.Meter.SLOTS g.M.Meter.LEAVES c.self.inside.tree c.self.inside.processes (g.M.Meter.content c.self.inside.meter) (g.M.Meter.held c.self.inside.meter) c.self.invariant.recounted c.self.inside.free.items c.self.invariant.has_slots c.known.ensures.prefixes c.args.path.now long there
+    ∙ current-is g.M.Meter.SLOTS g.M.Meter.LEAVES c.self.inside.tree c.self.inside.processes (g.M.Meter.content c.self.inside.meter)
+    (g.M.Meter.held c.self.inside.meter) c.self.invariant.recounted c.self.inside.free.items c.self.invariant.has_slots
+    c.known.ensures.prefixes c.args.path.now long there
     ∙ ap (λ (t : State). current t c.args.path.now) c.self.view_is)

@@ -10,12 +10,14 @@ look_along-requires-clause-home g c = (found_placed _ _ _ _ _ c.self.invariant.r
 
 pub returns-in_default-clause-first : goal.returns-in_default-clause-first
 returns-in_default-clause-first g c =
-    let gone = process-is c.args.self.now c.self.inside.tree c.self.inside.processes c.self.view_is c.self.invariant.recounted.ordered c.args.parent ∙ ap is_some (sym c.find_row.ensures ∙ ap option_copied c.in_default.is) in
+    let gone = process-is c.args.self.now c.self.inside.tree c.self.inside.processes c.self.view_is c.self.invariant.recounted.ordered
+    c.args.parent ∙ ap is_some (sym c.find_row.ensures ∙ ap option_copied c.in_default.is) in
     fork_no_process g.M.Meter.SLOTS c.args.self.now c.args.parent c.args.child gone
 
 pub returns-then-has_row-clause-first : goal.returns-then-has_row-clause-first
 returns-then-has_row-clause-first g c =
-    let parent = process-is c.args.self.now c.self.inside.tree c.self.inside.processes c.self.view_is c.self.invariant.recounted.ordered c.args.parent ∙ ap is_some (sym c.find_row.ensures ∙ ap option_copied c.in-Some.is) in
+    let parent = process-is c.args.self.now c.self.inside.tree c.self.inside.processes c.self.view_is c.self.invariant.recounted.ordered
+    c.args.parent ∙ ap is_some (sym c.find_row.ensures ∙ ap option_copied c.in-Some.is) in
     let child = process-is c.args.self.now c.self.inside.tree c.self.inside.processes c.self.view_is c.self.invariant.recounted.ordered c.args.child ∙ sym c.has_row.ensures ∙ c.if-has_row.true in
     fork_in_use g.M.Meter.SLOTS c.args.self.now c.args.parent c.args.child parent child
 
@@ -23,7 +25,10 @@ pub returns-in-Some-look_along-clause-first : goal.returns-in-Some-look_along-cl
 returns-in-Some-look_along-clause-first g c =
     let found = sym c.find_row.ensures ∙ ap option_copied c.in-Some.is in
     let new = process-is c.args.self.now c.self.inside.tree c.self.inside.processes c.self.view_is c.self.invariant.recounted.ordered c.args.child ∙ sym c.has_row.ensures ∙ c.if-has_row.false in
-    fork_asks g.M.Meter.SLOTS g.M.Meter.LEAVES c.self.inside.tree c.self.inside.processes (g.M.Meter.content c.self.inside.meter) (g.M.Meter.held c.self.inside.meter) c.self.invariant.recounted c.self.inside.free.items c.self.invariant.has_slots c.known.ensures.prefixes c.args.self.now c.self.view_is c.args.parent c.in-Some.process.now found c.args.child new (Some c.in-Some-look_along.n) (sym c.in-Some-look_along.is ∙ c.look_along.ensures.answer)
+    fork_asks g.M.Meter.SLOTS g.M.Meter.LEAVES c.self.inside.tree c.self.inside.processes (g.M.Meter.content c.self.inside.meter)
+    (g.M.Meter.held c.self.inside.meter) c.self.invariant.recounted c.self.inside.free.items c.self.invariant.has_slots
+    c.known.ensures.prefixes c.args.self.now c.self.view_is c.args.parent c.in-Some.process.now found c.args.child new
+    (Some c.in-Some-look_along.n) (sym c.in-Some-look_along.is ∙ c.look_along.ensures.answer)
 
 pub returns-in-Some-look_along-clause-inside : goal.returns-in-Some-look_along-clause-inside
 returns-in-Some-look_along-clause-inside g c =
@@ -34,10 +39,14 @@ pub returns-clause-first : goal.returns-clause-first
 returns-clause-first g c =
     let found = sym c.find_row.ensures ∙ ap option_copied c.in-Some.is in
     let new = process-is c.args.self.now c.self.inside.tree c.self.inside.processes c.self.view_is c.self.invariant.recounted.ordered c.args.child ∙ sym c.has_row.ensures ∙ c.if-has_row.false in
-    fork_asks g.M.Meter.SLOTS g.M.Meter.LEAVES c.self.inside.tree c.self.inside.processes (g.M.Meter.content c.self.inside.meter) (g.M.Meter.held c.self.inside.meter) c.self.invariant.recounted c.self.inside.free.items c.self.invariant.has_slots c.known.ensures.prefixes c.args.self.now c.self.view_is c.args.parent c.in-Some.process.now found c.args.child new None (sym c.in_default-look_along.is ∙ c.look_along.ensures.answer)
+    fork_asks g.M.Meter.SLOTS g.M.Meter.LEAVES c.self.inside.tree c.self.inside.processes (g.M.Meter.content c.self.inside.meter)
+    (g.M.Meter.held c.self.inside.meter) c.self.invariant.recounted c.self.inside.free.items c.self.invariant.has_slots
+    c.known.ensures.prefixes c.args.self.now c.self.view_is c.args.parent c.in-Some.process.now found c.args.child new None
+    (sym c.in_default-look_along.is ∙ c.look_along.ensures.answer)
 
 pub returns-clause-ready : goal.returns-clause-ready
 returns-clause-ready g c = λ _. (
-  process-is c.args.self.now c.self.inside.tree c.self.inside.processes c.self.view_is c.self.invariant.recounted.ordered c.args.parent ∙ ap is_some (sym c.find_row.ensures ∙ ap option_copied c.in-Some.is),
+  process-is c.args.self.now c.self.inside.tree c.self.inside.processes c.self.view_is c.self.invariant.recounted.ordered c.args.parent
+      ∙ ap is_some (sym c.find_row.ensures ∙ ap option_copied c.in-Some.is),
   process-is c.args.self.now c.self.inside.tree c.self.inside.processes c.self.view_is c.self.invariant.recounted.ordered c.args.child ∙ sym c.has_row.ensures ∙ c.if-has_row.false,
 )

@@ -22,14 +22,18 @@ pub returns-in-Met-Descendants-clause-first : goal.returns-in-Met-Descendants-cl
 returns-in-Met-Descendants-clause-first g c =
     let whole = c.self.invariant.has_slots.whole in
     let h = stands-is c.self.inside.tree c.self.inside.processes c.args.self.now c.self.view_is c.args.path.now _ c.in-Met-Descendants.ensures (omega (arith, whole, c.self.invariant.has_slots.few)) in
-    make_blocked g.M.Meter.SLOTS c.args.self.now c.args.path.now (length c.args.path.now - 1) (model.Descendants (take c.in-Met-Descendants.n c.args.path.now)) refl h.0 h.1 (h.2 ∙ ap (λ met. Some (refusal_along c.args.path.now met)) c.in-Met-Descendants.field-0-is)
+    make_blocked g.M.Meter.SLOTS c.args.self.now c.args.path.now (length c.args.path.now - 1)
+    (model.Descendants (take c.in-Met-Descendants.n c.args.path.now)) refl h.0 h.1 (h.2
+    ∙ ap (λ met. Some (refusal_along c.args.path.now met)) c.in-Met-Descendants.field-0-is)
     ∙ ap (λ n. Some (model.Descendants (take n c.args.path.now))) (sym c.in-Met-Descendants.n-is)
 
 pub returns-in-Met-Depth-clause-first : goal.returns-in-Met-Depth-clause-first
 returns-in-Met-Depth-clause-first g c =
     let whole = c.self.invariant.has_slots.whole in
     let h = stands-is c.self.inside.tree c.self.inside.processes c.args.self.now c.self.view_is c.args.path.now _ c.in-Met-Depth.ensures (omega (arith, whole, c.self.invariant.has_slots.few)) in
-    make_blocked g.M.Meter.SLOTS c.args.self.now c.args.path.now (length c.args.path.now - 1) (model.Depth (take c.in-Met-Depth.n c.args.path.now)) refl h.0 h.1 (h.2 ∙ ap (λ met. Some (refusal_along c.args.path.now met)) c.in-Met-Depth.field-0-is)
+    make_blocked g.M.Meter.SLOTS c.args.self.now c.args.path.now (length c.args.path.now - 1)
+    (model.Depth (take c.in-Met-Depth.n c.args.path.now)) refl h.0 h.1 (h.2
+    ∙ ap (λ met. Some (refusal_along c.args.path.now met)) c.in-Met-Depth.field-0-is)
     ∙ ap (λ n. Some (model.Depth (take n c.args.path.now))) (sym c.in-Met-Depth.n-is)
 
 pub returns-in-Free-clause-first : goal.returns-in-Free-clause-first

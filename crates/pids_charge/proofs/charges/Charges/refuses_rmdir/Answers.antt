@@ -44,10 +44,14 @@ returns-then-populated-clause-first g c =
     let found : IsSome (fin.get c.self.inside.tree c.args.path.now) = subst IsSome c.in-Some.ensures.found refl in
     let told = is_positive c.populated.result _ _ c.populated.ensures.answer (
     ap (λ (k : ℕ). over_leaves g.M.Meter.LEAVES (g.M.Meter.content c.self.inside.meter k)) (ap slot_of c.in-Some.ensures.found)
-    ∙ current-is g.M.Meter.SLOTS g.M.Meter.LEAVES c.self.inside.tree c.self.inside.processes (g.M.Meter.content c.self.inside.meter) (g.M.Meter.held c.self.inside.meter) c.self.invariant.recounted c.self.inside.free.items c.self.invariant.has_slots c.known.ensures.prefixes c.args.path.now long found
+    ∙ current-is g.M.Meter.SLOTS g.M.Meter.LEAVES c.self.inside.tree c.self.inside.processes (g.M.Meter.content c.self.inside.meter)
+    (g.M.Meter.held c.self.inside.meter) c.self.invariant.recounted c.self.inside.free.items c.self.invariant.has_slots
+    c.known.ensures.prefixes c.args.path.now long found
     ∙ ap (λ (t : State). current t c.args.path.now) c.self.view_is) in
     let here = ap (λ (t : State). list_any (λ q. same_path q c.args.path.now) (fin.values t.home)) (sym c.self.view_is)
-    ∙ processes-are g.M.Meter.LEAVES c.self.inside.tree c.self.inside.processes (g.M.Meter.content c.self.inside.meter) (g.M.Meter.held c.self.inside.meter) c.self.invariant.recounted c.args.path.now c.known.ensures.flat none_here ∙ ap (λ (t : State). populated t c.args.path.now) c.self.view_is in
+    ∙ processes-are g.M.Meter.LEAVES c.self.inside.tree c.self.inside.processes (g.M.Meter.content c.self.inside.meter)
+    (g.M.Meter.held c.self.inside.meter) c.self.invariant.recounted c.args.path.now c.known.ensures.flat none_here
+    ∙ ap (λ (t : State). populated t c.args.path.now) c.self.view_is in
     remove_processes g.M.Meter.SLOTS s c.args.path.now long there none (here ∙ sym told ∙ c.if-populated.true)
 
 pub returns-clause-first : goal.returns-clause-first
@@ -64,8 +68,12 @@ returns-clause-first g c =
     let found : IsSome (fin.get c.self.inside.tree c.args.path.now) = subst IsSome c.in-Some.ensures.found refl in
     let told = is_positive c.populated.result _ _ c.populated.ensures.answer (
     ap (λ (k : ℕ). over_leaves g.M.Meter.LEAVES (g.M.Meter.content c.self.inside.meter k)) (ap slot_of c.in-Some.ensures.found)
-    ∙ current-is g.M.Meter.SLOTS g.M.Meter.LEAVES c.self.inside.tree c.self.inside.processes (g.M.Meter.content c.self.inside.meter) (g.M.Meter.held c.self.inside.meter) c.self.invariant.recounted c.self.inside.free.items c.self.invariant.has_slots c.known.ensures.prefixes c.args.path.now long found
+    ∙ current-is g.M.Meter.SLOTS g.M.Meter.LEAVES c.self.inside.tree c.self.inside.processes (g.M.Meter.content c.self.inside.meter)
+    (g.M.Meter.held c.self.inside.meter) c.self.invariant.recounted c.self.inside.free.items c.self.invariant.has_slots
+    c.known.ensures.prefixes c.args.path.now long found
     ∙ ap (λ (t : State). current t c.args.path.now) c.self.view_is) in
     let here = ap (λ (t : State). list_any (λ q. same_path q c.args.path.now) (fin.values t.home)) (sym c.self.view_is)
-    ∙ processes-are g.M.Meter.LEAVES c.self.inside.tree c.self.inside.processes (g.M.Meter.content c.self.inside.meter) (g.M.Meter.held c.self.inside.meter) c.self.invariant.recounted c.args.path.now c.known.ensures.flat none_here ∙ ap (λ (t : State). populated t c.args.path.now) c.self.view_is in
+    ∙ processes-are g.M.Meter.LEAVES c.self.inside.tree c.self.inside.processes (g.M.Meter.content c.self.inside.meter)
+    (g.M.Meter.held c.self.inside.meter) c.self.invariant.recounted c.args.path.now c.known.ensures.flat none_here
+    ∙ ap (λ (t : State). populated t c.args.path.now) c.self.view_is in
     remove_allowed g.M.Meter.SLOTS s c.args.path.now long there none (here ∙ sym told ∙ c.if-populated.false)

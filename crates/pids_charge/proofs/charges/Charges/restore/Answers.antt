@@ -32,9 +32,11 @@ invariant_of-self-2 g c =
     let made : HasSlots g.M.Meter.SLOTS (fin.insert c.self.inside.tree c.args.path.now x) (take (length free - 1) free) =
     has_slots g.M.Meter.SLOTS c.self.inside.tree free h c.args.path.now x (take (length free - 1) free) split done.0 (subst IsClosed done.1 c.known-3.ensures.closed) c.known.ensures.shallow in
     record {
-      has_slots = subst (λ (t : Groups). HasSlots g.M.Meter.SLOTS t c.truncate.new.self.items) (sym done.1) (subst (λ (f : List ℕ). HasSlots g.M.Meter.SLOTS (fin.insert c.self.inside.tree c.args.path.now x) f) (sym gone) made);
+      has_slots = subst (λ (t : Groups). HasSlots g.M.Meter.SLOTS t c.truncate.new.self.items) (sym done.1)
+          (subst (λ (f : List ℕ). HasSlots g.M.Meter.SLOTS (fin.insert c.self.inside.tree c.args.path.now x) f) (sym gone) made);
       room = omega (arith, c.self.invariant.room, c.truncate.ensures.capacity);
-      recounted = grown_tree g.M.Meter.LEAVES c.self.inside.tree c.self.inside.processes (g.M.Meter.content c.self.inside.meter) (g.M.Meter.held c.self.inside.meter) c.self.invariant.recounted c.insert-made.new.self
+      recounted = grown_tree g.M.Meter.LEAVES c.self.inside.tree c.self.inside.processes (g.M.Meter.content c.self.inside.meter)
+          (g.M.Meter.held c.self.inside.meter) c.self.invariant.recounted c.insert-made.new.self
           (λ q i. ap (λ (t : Groups). fin.get t q) done.1 ∙ kept c.self.inside.tree c.args.path.now x done.0 q i) c.known-2.ensures.prefixes;
     }
 

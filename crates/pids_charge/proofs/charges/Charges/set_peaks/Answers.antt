@@ -11,7 +11,8 @@ invariant_of-self g c =
     record {
       has_slots = slots_stay tree c.set_along.new.tree c.set_along.ensures.slots g.M.Meter.SLOTS c.self.inside.free.items c.self.invariant.has_slots;
       room = c.self.invariant.room;
-      recounted = charges_stay tree c.set_along.new.tree c.set_along.ensures.slots g.M.Meter.LEAVES c.self.inside.processes (g.M.Meter.content c.self.inside.meter) (g.M.Meter.held c.self.inside.meter) c.self.invariant.recounted;
+      recounted = charges_stay tree c.set_along.new.tree c.set_along.ensures.slots g.M.Meter.LEAVES c.self.inside.processes
+          (g.M.Meter.content c.self.inside.meter) (g.M.Meter.held c.self.inside.meter) c.self.invariant.recounted;
     }
 
 pub returns : goal.returns

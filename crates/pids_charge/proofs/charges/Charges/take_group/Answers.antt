@@ -39,12 +39,15 @@ invariant_of-self g c =
     let made = c.in-Ok.ensures.3 in
     let closed = subst IsClosed made c.known-2.ensures.closed in
     let free : List ℕ = c.self.inside.free.items in
-    let slots : HasSlots g.M.Meter.SLOTS (fin.remove tree c.args.path.now) (free ++ c.in-Ok.attr.slot ∷ []) = freed g.M.Meter.SLOTS tree free c.self.invariant.has_slots c.args.path.now c.in-Ok.attr pos here closed in
+    let slots : HasSlots g.M.Meter.SLOTS (fin.remove tree c.args.path.now) (free ++ c.in-Ok.attr.slot ∷ []) =
+    freed g.M.Meter.SLOTS tree free c.self.invariant.has_slots c.args.path.now c.in-Ok.attr pos here closed in
     let es = c.self.inside.processes in
-    let same = nobody g.M.Meter.SLOTS tree free c.self.invariant.has_slots c.args.path.now c.in-Ok.attr pos here g.M.Meter.LEAVES es (g.M.Meter.content c.self.inside.meter) (g.M.Meter.held c.self.inside.meter) c.self.invariant.recounted c.known.ensures.flat
+    let same = nobody g.M.Meter.SLOTS tree free c.self.invariant.has_slots c.args.path.now c.in-Ok.attr pos here g.M.Meter.LEAVES es
+    (g.M.Meter.content c.self.inside.meter) (g.M.Meter.held c.self.inside.meter) c.self.invariant.recounted c.known.ensures.flat
     (subst (λ (t : State). MayGo t c.args.path.now) (sym c.self.view_is) may) in
     record {
-      has_slots = subst (λ (t : Groups). HasSlots g.M.Meter.SLOTS t c.push.new.self.items) (sym made) (subst (λ (f : List ℕ). HasSlots g.M.Meter.SLOTS (fin.remove tree c.args.path.now) f) (sym c.in-Ok-push.ensures.items) slots);
+      has_slots = subst (λ (t : Groups). HasSlots g.M.Meter.SLOTS t c.push.new.self.items) (sym made)
+          (subst (λ (f : List ℕ). HasSlots g.M.Meter.SLOTS (fin.remove tree c.args.path.now) f) (sym c.in-Ok-push.ensures.items) slots);
       room = omega (arith, c.self.invariant.room, c.in-Ok-push.ensures.capacity);
       recounted = subst (λ (t : Groups). Recounted g.M.Meter.LEAVES t es (g.M.Meter.content c.self.inside.meter) (g.M.Meter.held c.self.inside.meter)) (sym made) same;
     }

@@ -16,7 +16,8 @@ use Rattle.pids_charge.proofs.charges.Charges.try_process.Goals as goal
 
 pub unreachable-requires : goal.unreachable-requires
 unreachable-requires g c =
-    let gone = process-is c.args.self.now c.self.inside.tree c.self.inside.processes c.self.view_is c.self.invariant.recounted.ordered c.args.parent ∙ ap is_some (sym c.find_row.ensures ∙ ap option_copied c.in_default.is) in
+    let gone = process-is c.args.self.now c.self.inside.tree c.self.inside.processes c.self.view_is c.self.invariant.recounted.ordered
+    c.args.parent ∙ ap is_some (sym c.find_row.ensures ∙ ap option_copied c.in_default.is) in
     absurd (false≢true (sym gone ∙ c.requires.parent))
 
 pub look_along-requires-clause-home : goal.look_along-requires-clause-home
@@ -25,7 +26,10 @@ look_along-requires-clause-home g c = (found_placed _ _ _ _ _ c.self.invariant.r
 pub returns-in-Some-look_along-clause-first : goal.returns-in-Some-look_along-clause-first
 returns-in-Some-look_along-clause-first g c =
     let found = sym c.find_row.ensures ∙ ap option_copied c.in-Some.is in
-    fork_asks g.M.Meter.SLOTS g.M.Meter.LEAVES c.self.inside.tree c.self.inside.processes (g.M.Meter.content c.self.inside.meter) (g.M.Meter.held c.self.inside.meter) c.self.invariant.recounted c.self.inside.free.items c.self.invariant.has_slots c.known.ensures.prefixes c.args.self.now c.self.view_is c.args.parent c.in-Some.from.now found c.args.child c.requires.child (Some c.in-Some-look_along.n) (sym c.in-Some-look_along.is ∙ c.look_along.ensures.answer)
+    fork_asks g.M.Meter.SLOTS g.M.Meter.LEAVES c.self.inside.tree c.self.inside.processes (g.M.Meter.content c.self.inside.meter)
+    (g.M.Meter.held c.self.inside.meter) c.self.invariant.recounted c.self.inside.free.items c.self.invariant.has_slots
+    c.known.ensures.prefixes c.args.self.now c.self.view_is c.args.parent c.in-Some.from.now found c.args.child c.requires.child
+    (Some c.in-Some-look_along.n) (sym c.in-Some-look_along.is ∙ c.look_along.ensures.answer)
 
 pub returns-in-Some-look_along-clause-limit : goal.returns-in-Some-look_along-clause-limit
 returns-in-Some-look_along-clause-limit g c = λ n e.
@@ -38,13 +42,17 @@ returns-in-Some-look_along-clause-limit g c = λ n e.
 pub returns-in_default-admit-clause-first : goal.returns-in_default-admit-clause-first
 returns-in_default-admit-clause-first g c =
     let found = sym c.find_row.ensures ∙ ap option_copied c.in-Some.is in
-    fork_asks g.M.Meter.SLOTS g.M.Meter.LEAVES c.self.inside.tree c.self.inside.processes (g.M.Meter.content c.self.inside.meter) (g.M.Meter.held c.self.inside.meter) c.self.invariant.recounted c.self.inside.free.items c.self.invariant.has_slots c.known.ensures.prefixes c.args.self.now c.self.view_is c.args.parent c.in-Some.from.now found c.args.child c.requires.child None (sym c.in_default-look_along.is ∙ c.look_along.ensures.answer)
+    fork_asks g.M.Meter.SLOTS g.M.Meter.LEAVES c.self.inside.tree c.self.inside.processes (g.M.Meter.content c.self.inside.meter)
+    (g.M.Meter.held c.self.inside.meter) c.self.invariant.recounted c.self.inside.free.items c.self.invariant.has_slots
+    c.known.ensures.prefixes c.args.self.now c.self.view_is c.args.parent c.in-Some.from.now found c.args.child c.requires.child None
+    (sym c.in_default-look_along.is ∙ c.look_along.ensures.answer)
 
 pub invariant_of-self-in_default-admit : goal.invariant_of-self-in_default-admit
 invariant_of-self-in_default-admit g c = record {
   has_slots = c.self.invariant.has_slots;
   room = c.self.invariant.room;
-  recounted = subst (λ (rows : List (Row g.row.A.Denot)). Recounted g.M.Meter.LEAVES c.self.inside.tree rows (g.M.Meter.content c.look_along.new.meter) (g.M.Meter.held c.look_along.new.meter)) (sym c.in_default-admit.ensures.kept)
+  recounted = subst (λ (rows : List (Row g.row.A.Denot)). Recounted g.M.Meter.LEAVES c.self.inside.tree rows
+      (g.M.Meter.content c.look_along.new.meter) (g.M.Meter.held c.look_along.new.meter)) (sym c.in_default-admit.ensures.kept)
       (same_meter _ _ _ _ _ c.self.invariant.recounted (g.M.Meter.content c.look_along.new.meter) (g.M.Meter.held c.look_along.new.meter) c.look_along.ensures.content c.look_along.ensures.held);
 }
 
@@ -59,12 +67,20 @@ charge_noted-requires g c =
     let from = c.in-Some.from.now in
     let found = sym c.find_row.ensures ∙ ap option_copied c.in-Some.is in
     let placed = found_placed _ _ _ _ _ c.self.invariant.recounted c.args.parent from found in
-    let same : c.in-Some-find_row.process.now.home ≡ from.home = ap (λ (o : Option (Process g.row.A.Denot)). unwrap_or (option_map (λ p. p.home) o) []) (sym (ap option_copied c.in-Some-find_row.is) ∙ c.find_row-2.ensures ∙ c.in-Ok.ensures.found from found) in
+    let same : c.in-Some-find_row.process.now.home ≡ from.home =
+    ap (λ (o : Option (Process g.row.A.Denot)). unwrap_or (option_map (λ p. p.home) o) []) (sym (ap option_copied c.in-Some-find_row.is)
+    ∙ c.find_row-2.ensures ∙ c.in-Ok.ensures.found from found) in
     record {
       leaf_below = omega (arith, c.LEAVES.ensures, g.met.M.Meter.leaves_positive);
       home = subst (λ (q : Path). IsSome (fin.get tree q)) (sym same) placed.home;
       slots = c.self.invariant.has_slots.below;
-      room = omega (arith, ap length same, held_small _ _ _ _ _ c.self.invariant.recounted c.self.invariant.has_slots.shallow, c.self.invariant.has_slots.shallow from.home placed.home, c.look_along.ensures.held);
+      room = omega (
+        arith,
+        ap length same,
+        held_small _ _ _ _ _ c.self.invariant.recounted c.self.invariant.has_slots.shallow,
+        c.self.invariant.has_slots.shallow from.home placed.home,
+        c.look_along.ensures.held,
+      );
       noted = subst (λ (q : Path). IsNoted tree q c.look_along.new.notes) (sym same) c.look_along.ensures.noted;
     }
 
@@ -77,13 +93,18 @@ invariant_of-self-2 g c =
     let content = g.M.Meter.content c.look_along.new.meter in
     let held = g.M.Meter.held c.look_along.new.meter in
     let found = sym c.find_row.ensures ∙ ap option_copied c.in-Some.is in
-    let same : c.in-Some-find_row.process.now.home ≡ from.home = ap (λ (o : Option (Process g.row.A.Denot)). unwrap_or (option_map (λ p. p.home) o) []) (sym (ap option_copied c.in-Some-find_row.is) ∙ c.find_row-2.ensures ∙ c.in-Ok.ensures.found from found) in
+    let same : c.in-Some-find_row.process.now.home ≡ from.home =
+    ap (λ (o : Option (Process g.row.A.Denot)). unwrap_or (option_map (λ p. p.home) o) []) (sym (ap option_copied c.in-Some-find_row.is)
+    ∙ c.find_row-2.ensures ∙ c.in-Ok.ensures.found from found) in
     record {
       has_slots = slots_stay tree c.charge_noted.new.tree c.charge_noted.ensures.slots g.M.Meter.SLOTS c.self.inside.free.items c.self.invariant.has_slots;
       room = c.self.invariant.room;
-      recounted = made_recounted g.M.Meter.SLOTS g.M.Meter.LEAVES tree c.charge_noted.new.tree es c.admit.new.processes content (g.M.Meter.content c.charge_noted.new.meter) held (g.M.Meter.held c.charge_noted.new.meter)
-          (same_meter _ _ _ _ _ c.self.invariant.recounted content held c.look_along.ensures.content c.look_along.ensures.held) c.self.inside.free.items c.self.invariant.has_slots c.charge_noted.ensures.slots
-          c.args.child leaf from (found_placed _ _ _ _ _ c.self.invariant.recounted c.args.parent from found) (not_there c.args.self.now tree es c.self.view_is c.self.invariant.recounted.ordered c.args.child c.requires.child)
+      recounted = made_recounted g.M.Meter.SLOTS g.M.Meter.LEAVES tree c.charge_noted.new.tree es c.admit.new.processes content
+          (g.M.Meter.content c.charge_noted.new.meter) held (g.M.Meter.held c.charge_noted.new.meter)
+          (same_meter _ _ _ _ _ c.self.invariant.recounted content held c.look_along.ensures.content c.look_along.ensures.held)
+          c.self.inside.free.items c.self.invariant.has_slots c.charge_noted.ensures.slots
+          c.args.child leaf from (found_placed _ _ _ _ _ c.self.invariant.recounted c.args.parent from found)
+          (not_there c.args.self.now tree es c.self.view_is c.self.invariant.recounted.ordered c.args.child c.requires.child)
           c.admit.ensures.pid (c.in-Ok.ensures.entries from found) c.admit.ensures.ordered (omega (arith, c.LEAVES.ensures, g.met.M.Meter.leaves_positive))
           (λ s j. c.charge_noted.ensures.content s j ∙ ap (λ (q : Path). with_charges tree q leaf content s j) same) (omega (arith, c.charge_noted.ensures.held, ap length same));
     }
@@ -97,20 +118,31 @@ returns-clause-made g c =
     let content = g.M.Meter.content c.look_along.new.meter in
     let held = g.M.Meter.held c.look_along.new.meter in
     let found = sym c.find_row.ensures ∙ ap option_copied c.in-Some.is in
-    let same : c.in-Some-find_row.process.now.home ≡ from.home = ap (λ (o : Option (Process g.row.A.Denot)). unwrap_or (option_map (λ p. p.home) o) []) (sym (ap option_copied c.in-Some-find_row.is) ∙ c.find_row-2.ensures ∙ c.in-Ok.ensures.found from found) in (
-      fork_asks g.M.Meter.SLOTS g.M.Meter.LEAVES tree es (g.M.Meter.content c.self.inside.meter) (g.M.Meter.held c.self.inside.meter) c.self.invariant.recounted c.self.inside.free.items c.self.invariant.has_slots c.known.ensures.prefixes
+    let same : c.in-Some-find_row.process.now.home ≡ from.home =
+    ap (λ (o : Option (Process g.row.A.Denot)). unwrap_or (option_map (λ p. p.home) o) []) (sym (ap option_copied c.in-Some-find_row.is)
+    ∙ c.find_row-2.ensures ∙ c.in-Ok.ensures.found from found) in (
+      fork_asks g.M.Meter.SLOTS g.M.Meter.LEAVES tree es (g.M.Meter.content c.self.inside.meter) (g.M.Meter.held c.self.inside.meter)
+          c.self.invariant.recounted c.self.inside.free.items c.self.invariant.has_slots c.known.ensures.prefixes
           c.args.self.now c.self.view_is c.args.parent from found c.args.child c.requires.child None (sym c.in_default-look_along.is ∙ c.look_along.ensures.answer),
-      made_state g.M.Meter.SLOTS g.M.Meter.LEAVES tree c.charge_noted.new.tree es c.admit.new.processes content (g.M.Meter.content c.charge_noted.new.meter) held (g.M.Meter.held c.charge_noted.new.meter)
-          (same_meter _ _ _ _ _ c.self.invariant.recounted content held c.look_along.ensures.content c.look_along.ensures.held) c.self.inside.free.items c.self.invariant.has_slots c.charge_noted.ensures.slots
-          c.args.child leaf from (found_placed _ _ _ _ _ c.self.invariant.recounted c.args.parent from found) (not_there c.args.self.now tree es c.self.view_is c.self.invariant.recounted.ordered c.args.child c.requires.child)
+      made_state g.M.Meter.SLOTS g.M.Meter.LEAVES tree c.charge_noted.new.tree es c.admit.new.processes content
+          (g.M.Meter.content c.charge_noted.new.meter) held (g.M.Meter.held c.charge_noted.new.meter)
+          (same_meter _ _ _ _ _ c.self.invariant.recounted content held c.look_along.ensures.content c.look_along.ensures.held)
+          c.self.inside.free.items c.self.invariant.has_slots c.charge_noted.ensures.slots
+          c.args.child leaf from (found_placed _ _ _ _ _ c.self.invariant.recounted c.args.parent from found)
+          (not_there c.args.self.now tree es c.self.view_is c.self.invariant.recounted.ordered c.args.child c.requires.child)
           c.admit.ensures.pid (c.in-Ok.ensures.entries from found) c.admit.ensures.ordered (omega (arith, c.LEAVES.ensures, g.met.M.Meter.leaves_positive))
           (λ s j. c.charge_noted.ensures.content s j ∙ ap (λ (q : Path). with_charges tree q leaf content s j) same) (omega (arith, c.charge_noted.ensures.held, ap length same))
           c.known.ensures.prefixes c.args.self.now c.self.view_is c.args.parent (home_at _ _ _ _ _ c.self.invariant.recounted c.args.self.now c.self.view_is c.args.parent from found)
-          (subst (λ (p : Path). (q : Path) → fin.get c.charge_noted.new.tree q ≡ option_map (raised_by g.M.Meter.LEAVES (with_charges tree p leaf content) p q) (fin.get tree q)) same c.charge_noted.ensures.raised),
+          (subst (λ (p : Path). (q : Path)
+          → fin.get c.charge_noted.new.tree q
+          ≡ option_map (raised_by g.M.Meter.LEAVES (with_charges tree p leaf content) p q) (fin.get tree q)) same
+          c.charge_noted.ensures.raised),
     )
 
 pub returns-clause-peaks : goal.returns-clause-peaks
 returns-clause-peaks g c =
     let found = sym c.find_row.ensures ∙ ap option_copied c.in-Some.is in
     let at_home = home_at _ _ _ _ _ c.self.invariant.recounted c.args.self.now c.self.view_is c.args.parent c.in-Some.from.now found in
-    c.in-Ok.ensures.peaks ∙ c.peaks.ensures ∙ noted c.self.inside.tree c.self.inside.processes c.args.self.now c.self.view_is c.in-Some.from.now.home c.look_along.new.notes.peaks c.look_along.ensures.noted.peaks ∙ ap (peaks_upward c.args.self.now) (sym at_home)
+    c.in-Ok.ensures.peaks ∙ c.peaks.ensures
+    ∙ noted c.self.inside.tree c.self.inside.processes c.args.self.now c.self.view_is c.in-Some.from.now.home
+    c.look_along.new.notes.peaks c.look_along.ensures.noted.peaks ∙ ap (peaks_upward c.args.self.now) (sym at_home)

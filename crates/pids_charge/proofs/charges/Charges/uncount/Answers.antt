@@ -11,7 +11,8 @@ pub invariant_of-self : goal.invariant_of-self
 invariant_of-self g c = record {
   has_slots = slots_stay c.self.inside.tree c.uncount_refusal.new.tree c.uncount_refusal.ensures.slots g.M.Meter.SLOTS c.self.inside.free.items c.self.invariant.has_slots;
   room = c.self.invariant.room;
-  recounted = charges_stay c.self.inside.tree c.uncount_refusal.new.tree c.uncount_refusal.ensures.slots g.M.Meter.LEAVES c.self.inside.processes (g.M.Meter.content c.self.inside.meter) (g.M.Meter.held c.self.inside.meter) c.self.invariant.recounted;
+  recounted = charges_stay c.self.inside.tree c.uncount_refusal.new.tree c.uncount_refusal.ensures.slots g.M.Meter.LEAVES
+      c.self.inside.processes (g.M.Meter.content c.self.inside.meter) (g.M.Meter.held c.self.inside.meter) c.self.invariant.recounted;
 }
 
 pub returns : goal.returns

@@ -22,7 +22,9 @@ pub front_of_home-requires : goal.front_of_home-requires
 front_of_home-requires g c = parent_there g.M.Meter.SLOTS c.args.self.now.state c.args.parent c.args.child _ c.requires.refused
 
 pub count_fork-requires-clause-parent : goal.count_fork-requires-clause-parent
-count_fork-requires-clause-parent g c = subst (λ (m : Machine). has_process m.state c.args.parent ≡ true) (sym c.self.view_is) (parent_there g.M.Meter.SLOTS c.args.self.now.state c.args.parent c.args.child _ c.requires.refused)
+count_fork-requires-clause-parent g c =
+    subst (λ (m : Machine). has_process m.state c.args.parent
+    ≡ true) (sym c.self.view_is) (parent_there g.M.Meter.SLOTS c.args.self.now.state c.args.parent c.args.child _ c.requires.refused)
 
 pub count_fork-requires-clause-at : goal.count_fork-requires-clause-at
 count_fork-requires-clause-at g c = subst (λ (m : Machine). c.args.n ≤ length (home_of m.state c.args.parent)) (sym c.self.view_is) c.requires.inside
@@ -39,7 +41,8 @@ abbrev limiting : (g : _) (c : In_ok-push g) → Path
 limiting g c = take c.args.n (home_of c.self.inside.charges c.args.parent)
 
 refused : (g : _) (c : In_ok-push g) → refusal g.M.Meter.SLOTS c.self.inside.charges (model.Fork c.args.parent c.args.child) ≡ Some (model.OverPidsMax (limiting g c))
-refused g c = subst (λ (m : Machine). refusal g.M.Meter.SLOTS m.state (model.Fork c.args.parent c.args.child) ≡ Some (model.OverPidsMax (take c.args.n (home_of m.state c.args.parent)))) (sym c.self.view_is) c.requires.refused
+refused g c = subst (λ (m : Machine). refusal g.M.Meter.SLOTS m.state (model.Fork c.args.parent c.args.child)
+    ≡ Some (model.OverPidsMax (take c.args.n (home_of m.state c.args.parent)))) (sym c.self.view_is) c.requires.refused
 
 limiting_is : (g : _) (c : In_ok-push g) → c.in_ok-limiting.limiting ≡ limiting g c
 limiting_is g c = c.in_ok-limiting.ensures ∙ ap (λ (m : Machine). take c.args.n (home_of m.state c.args.parent)) (sym c.self.view_is)
@@ -56,7 +59,8 @@ entry_is g c = λ i. (model.Fork c.args.parent c.args.child, model_inverse.Count
 pub invariant_of-self-2 : goal.invariant_of-self-2
 invariant_of-self-2 g c =
     rw (journal_is g c)
-    (recorded_history g.M.Meter.SLOTS c.self.inside.charges c.count_fork.new.self c.self.inside.journal.items (entry g c) (model.Fork c.args.parent c.args.child) (model_inverse.Counted (limiting g c)) (Some (model.OverPidsMax (limiting g c)))
+    (recorded_history g.M.Meter.SLOTS c.self.inside.charges c.count_fork.new.self c.self.inside.journal.items (entry g c)
+    (model.Fork c.args.parent c.args.child) (model_inverse.Counted (limiting g c)) (Some (model.OverPidsMax (limiting g c)))
     (entry_is g c) (refused g c) refl c.count_fork.ensures c.self.inside.forgotten c.self.invariant)
 
 pub returns-clause-ok : goal.returns-clause-ok
@@ -65,7 +69,9 @@ returns-clause-ok g c =
     let command = model.Fork c.args.parent c.args.child in
     let over = Some (model.OverPidsMax (limiting g c)) in
     subst (λ (m : Machine). Answers {A = g.row.A.Denot} g.M.Meter.SLOTS m command (Refused (PidsMax c.in_ok-limiting.limiting)) (machine_of c.count_fork.new.self c.push.new.self.items)) c.self.view_is
-    (answers_by g.M.Meter.SLOTS (machine_of s c.self.inside.journal.items) command over (Refused (PidsMax c.in_ok-limiting.limiting)) (machine_of c.count_fork.new.self c.push.new.self.items) refl (refused g c)
+    (answers_by g.M.Meter.SLOTS (machine_of s c.self.inside.journal.items) command over (Refused (PidsMax c.in_ok-limiting.limiting))
+    (machine_of c.count_fork.new.self c.push.new.self.items) refl (refused g c)
     ((λ i. machine_of c.count_fork.new.self (journal_is g c i))
-    ∙ recorded_is g.M.Meter.SLOTS s c.count_fork.new.self c.self.inside.journal.items (entry g c) command (model_inverse.Counted (limiting g c)) over (entry_is g c) (refused g c) refl c.count_fork.ensures)
+    ∙ recorded_is g.M.Meter.SLOTS s c.count_fork.new.self c.self.inside.journal.items (entry g c) command
+    (model_inverse.Counted (limiting g c)) over (entry_is g c) (refused g c) refl c.count_fork.ensures)
     (λ i. Some (model.Refused (model.OverPidsMax (limiting_is g c i)))))

@@ -12,5 +12,7 @@ loop-cmd-preserved g c =
 
 pub returns : goal.returns
 returns g c =
-    all_said SLOTS c.args.cmds.now c.loop-cmd.said.items c.loop-cmd.copy (map Some (replies SLOTS c.args.self.now (map command_of c.args.cmds.now))) c.loop-cmd.cmd-index c.loop-cmd-test.false c.loop-cmd.invariant
+    all_said SLOTS c.args.cmds.now c.loop-cmd.said.items c.loop-cmd.copy
+    (map Some (replies SLOTS c.args.self.now (map command_of c.args.cmds.now))) c.loop-cmd.cmd-index c.loop-cmd-test.false
+    c.loop-cmd.invariant
     ∙ sym (ap (λ (n : ℕ). map Some (replies n c.args.self.now (map command_of c.args.cmds.now))) c.requires)

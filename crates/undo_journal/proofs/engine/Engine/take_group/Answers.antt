@@ -25,7 +25,11 @@ journal_is : (g : _) (c : goal.In_ok-push g) → c.push.new.self.items ≡ c.sel
 journal_is g c = c.in_ok-push.ensures.items ∙ ap (λ js. js ++ entry g c ∷ []) c.reserve.ensures.items
 
 entry_is : (g : _) (c : goal.In_ok-push g) → ◌≡◌ {A = model.Command × model_inverse.Inverse} (journal_entry (entry g c)) (command g c, inverse g c)
-entry_is g c = λ i. (model.RemoveGroup (c.in_ok-named.ensures i), model_inverse.Removed ((c.in_ok-removed.ensures ∙ c.in_ok-named.ensures) i) (ap (λ (o : Option Attr). unwrap_or o fresh) c.take_group-attr.ensures.attr i))
+entry_is g c = λ i. (
+  model.RemoveGroup (c.in_ok-named.ensures i),
+  model_inverse.Removed ((c.in_ok-removed.ensures ∙ c.in_ok-named.ensures) i)
+      (ap (λ (o : Option Attr). unwrap_or o fresh) c.take_group-attr.ensures.attr i),
+)
 
 none : (g : _) (c : goal.In_ok-push g) → refusal g.M.Meter.SLOTS c.self.inside.charges (command g c) ≡ None
 none g c = subst (λ (m : Machine). refusal g.M.Meter.SLOTS m.state (command g c) ≡ None) (sym c.self.view_is) c.requires
@@ -36,10 +40,12 @@ state_is g c = c.take_group-attr.ensures.state
 pub invariant_of-self-2 : goal.invariant_of-self-2
 invariant_of-self-2 g c =
     rw (journal_is g c)
-    (recorded_history g.M.Meter.SLOTS c.self.inside.charges c.take_group-attr.new.self c.self.inside.journal.items (entry g c) (command g c) (inverse g c) None (entry_is g c) (none g c) refl (state_is g c) c.self.inside.forgotten c.self.invariant)
+    (recorded_history g.M.Meter.SLOTS c.self.inside.charges c.take_group-attr.new.self c.self.inside.journal.items (entry g c) (command g c)
+    (inverse g c) None (entry_is g c) (none g c) refl (state_is g c) c.self.inside.forgotten c.self.invariant)
 
 pub returns-clause-ok : goal.returns-clause-ok
 returns-clause-ok g c =
     (λ i. machine_of c.take_group-attr.new.self (journal_is g c i))
-    ∙ recorded_is g.M.Meter.SLOTS c.self.inside.charges c.take_group-attr.new.self c.self.inside.journal.items (entry g c) (command g c) (inverse g c) None (entry_is g c) (none g c) refl (state_is g c)
+    ∙ recorded_is g.M.Meter.SLOTS c.self.inside.charges c.take_group-attr.new.self c.self.inside.journal.items (entry g c) (command g c)
+    (inverse g c) None (entry_is g c) (none g c) refl (state_is g c)
     ∙ ap (λ (m : Machine). recorded m (command g c) (after m.state (command g c))) c.self.view_is

@@ -35,7 +35,8 @@ state_is g c = c.in-Ok.ensures.state.1
 pub invariant_of-self-in-Ok : goal.invariant_of-self-in-Ok
 invariant_of-self-in-Ok g c =
     rw (journal_is g c)
-    (recorded_history g.M.Meter.SLOTS c.self.inside.charges c.kill_by.new.self c.self.inside.journal.items (entry g c) (command g c) (inverse g c) None (entry_is g c) (none g c) refl (state_is g c) c.self.inside.forgotten c.self.invariant)
+    (recorded_history g.M.Meter.SLOTS c.self.inside.charges c.kill_by.new.self c.self.inside.journal.items (entry g c) (command g c)
+    (inverse g c) None (entry_is g c) (none g c) refl (state_is g c) c.self.inside.forgotten c.self.invariant)
 
 pub returns-in_ok-push-in-Ok-clause-ok : goal.returns-in_ok-push-in-Ok-clause-ok
 returns-in_ok-push-in-Ok-clause-ok g c =

@@ -40,16 +40,20 @@ new_is : (g : _) (c : Joined-newest g) → c.take_back.new.charges ≡ back (inv
 new_is g c =
     c.in_ok-take_back.ensures.ok
     ∙ ap (λ (e : Entry g.row.A.Denot). back (inverse_of e.inverse) c.self.inside.charges)
-    (sym (popped c.self.inside.journal.items c.pop.new.self.items c.in-Some-pop.newest c.in-Some.entry.now c.in-Some-pop.ensures.items (read_through c.self.inside.journal.items c.deref.result.now c.in-Some.entry.now c.deref.ensures.value c.in-Some.ensures.value)))
+    (sym (popped c.self.inside.journal.items c.pop.new.self.items c.in-Some-pop.newest c.in-Some.entry.now c.in-Some-pop.ensures.items
+    (read_through c.self.inside.journal.items c.deref.result.now c.in-Some.entry.now c.deref.ensures.value c.in-Some.ensures.value)))
 
 pub invariant_of-self-2 : goal.invariant_of-self-2
 invariant_of-self-2 g c =
-    undone_history g.M.Meter.SLOTS c.self.inside.charges c.self.inside.journal.items c.pop.new.self.items c.in-Some-pop.newest c.in-Some-pop.ensures.items c.take_back.new.charges (new_is g c) c.self.inside.forgotten c.self.invariant
+    undone_history g.M.Meter.SLOTS c.self.inside.charges c.self.inside.journal.items c.pop.new.self.items c.in-Some-pop.newest
+    c.in-Some-pop.ensures.items c.take_back.new.charges (new_is g c) c.self.inside.forgotten c.self.invariant
 
 pub returns-clause-ok : goal.returns-clause-ok
 returns-clause-ok g c = record {
   state = undone_is g.M.Meter.SLOTS c.self.inside.charges c.self.inside.journal.items c.pop.new.self.items c.in-Some-pop.newest c.in-Some-pop.ensures.items c.take_back.new.charges (new_is g c)
       ∙ ap (λ (m : Machine). (tick g.M.Meter.SLOTS m model.Undo).0) c.self.view_is;
-  reply_is = ap (λ r. Some r) (sym (reply_is g.M.Meter.SLOTS c.self.inside.charges c.self.inside.journal.items c.pop.new.self.items c.in-Some-pop.newest c.in-Some-pop.ensures.items c.take_back.new.charges (new_is g c))
+  reply_is = ap (λ r. Some r)
+      (sym (reply_is g.M.Meter.SLOTS c.self.inside.charges c.self.inside.journal.items c.pop.new.self.items c.in-Some-pop.newest
+      c.in-Some-pop.ensures.items c.take_back.new.charges (new_is g c))
       ∙ ap (λ (m : Machine). (tick g.M.Meter.SLOTS m model.Undo).1) c.self.view_is);
 }

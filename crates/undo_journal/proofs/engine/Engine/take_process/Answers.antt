@@ -34,7 +34,8 @@ state_is g c = (rw c.in-Ok.is at c.exit.ensures.state).1
 pub invariant_of-self-2 : goal.invariant_of-self-2
 invariant_of-self-2 g c =
     rw (journal_is g c)
-    (recorded_history g.M.Meter.SLOTS c.self.inside.charges c.exit.new.self c.self.inside.journal.items (entry g c) (command g c) (inverse g c) None (entry_is g c) (none g c) refl (state_is g c) c.self.inside.forgotten c.self.invariant)
+    (recorded_history g.M.Meter.SLOTS c.self.inside.charges c.exit.new.self c.self.inside.journal.items (entry g c) (command g c)
+    (inverse g c) None (entry_is g c) (none g c) refl (state_is g c) c.self.inside.forgotten c.self.invariant)
 
 pub returns-clause-ok : goal.returns-clause-ok
 returns-clause-ok g c =

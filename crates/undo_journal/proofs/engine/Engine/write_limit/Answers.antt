@@ -24,7 +24,11 @@ journal_is : (g : _) (c : goal.In_ok-push g) → c.push.new.self.items ≡ c.sel
 journal_is g c = c.in_ok-push.ensures.items ∙ ap (λ js. js ++ entry g c ∷ []) c.reserve.ensures.items
 
 entry_is : (g : _) (c : goal.In_ok-push g) → ◌≡◌ {A = model.Command × model_inverse.Inverse} (journal_entry (entry g c)) (command g c, inverse g c)
-entry_is g c = λ i. (model.SetLimit (c.in_ok-named.ensures i) (limit_file_of c.args.file) (limit_of c.args.value), model_inverse.Limited ((c.in_ok-limited.ensures ∙ c.in_ok-named.ensures) i) (limit_file_of c.args.file) ((rw c.in-Ok.is at c.set_limit.ensures.old_limit) i))
+entry_is g c = λ i. (
+  model.SetLimit (c.in_ok-named.ensures i) (limit_file_of c.args.file) (limit_of c.args.value),
+  model_inverse.Limited ((c.in_ok-limited.ensures ∙ c.in_ok-named.ensures) i) (limit_file_of c.args.file)
+      ((rw c.in-Ok.is at c.set_limit.ensures.old_limit) i),
+)
 
 none : (g : _) (c : goal.In_ok-push g) → refusal g.M.Meter.SLOTS c.self.inside.charges (command g c) ≡ None
 none g c = subst (λ (m : Machine). refusal g.M.Meter.SLOTS m.state (command g c) ≡ None) (sym c.self.view_is) c.requires
@@ -35,7 +39,8 @@ state_is g c = (rw c.in-Ok.is at c.set_limit.ensures.state).1
 pub invariant_of-self-2 : goal.invariant_of-self-2
 invariant_of-self-2 g c =
     rw (journal_is g c)
-    (recorded_history g.M.Meter.SLOTS c.self.inside.charges c.set_limit.new.self c.self.inside.journal.items (entry g c) (command g c) (inverse g c) None (entry_is g c) (none g c) refl (state_is g c) c.self.inside.forgotten c.self.invariant)
+    (recorded_history g.M.Meter.SLOTS c.self.inside.charges c.set_limit.new.self c.self.inside.journal.items (entry g c) (command g c)
+    (inverse g c) None (entry_is g c) (none g c) refl (state_is g c) c.self.inside.forgotten c.self.invariant)
 
 pub returns-clause-ok : goal.returns-clause-ok
 returns-clause-ok g c =

@@ -35,7 +35,10 @@ command_sync : IsSync command_row
 command_sync = search (command.the_sync, sendable, crosses) depth 20
 
 -- what the work of a worker holds may go to its thread, where runtime and test hook may be shared
-work_send : (ν : Sym) (R G : RattleType) → IsSync R → IsSync G → (a b c d e f : NamedLft) → IsSend (TupleAt ν ((shr_ref_field a (param 0 R) tt).row ∷ (shr_ref_field b (param 1 G) tt).row ∷ (shr_ref_field c Desk.the_row tt).row ∷ (shr_slice_field d (Mutex.the_row Session.the_row) tt).row ∷ (shr_slice_field e command_row tt).row ∷ (shr_ref_field f AtomicBool.the_row tt).row ∷ usize-field.row ∷ []))
+work_send : (ν : Sym) (R G : RattleType) → IsSync R → IsSync G → (a b c d e f : NamedLft)
+    → IsSend (TupleAt ν ((shr_ref_field a (param 0 R) tt).row ∷ (shr_ref_field b (param 1 G) tt).row ∷ (shr_ref_field c Desk.the_row tt).row
+    ∷ (shr_slice_field d (Mutex.the_row Session.the_row) tt).row ∷ (shr_slice_field e command_row tt).row
+    ∷ (shr_ref_field f AtomicBool.the_row tt).row ∷ usize-field.row ∷ []))
 work_send ν R G r s a b c d e f = search (desk_sync, seat_sync, command_sync, flag_sync, sendable) depth 20
 
 -- `search` does not find at which exit the work is passed, so it is named
