@@ -46,6 +46,35 @@ pub enum Written {
     Kill,
 }
 
+// What one file has: its name, whether the root has the file too, whether it can be read, and what can be written to it.
+#[derive(Clone, Copy)]
+struct Row {
+    name: &'static [u8],
+    is_on_root: bool,
+    is_readable: bool,
+    written: Option<Written>,
+}
+
+impl Row {
+    fn new(
+        name: &'static [u8],
+        is_on_root: bool,
+        is_readable: bool,
+        written: Option<Written>,
+    ) -> Row
+        ensures name { result.name.now ≡ name.now }
+        ensures flags { (result.is_on_root ≡ is_on_root) × (result.is_readable ≡ is_readable) }
+        ensures written { result.written ≡ written }
+    {
+        Row {
+            name,
+            is_on_root,
+            is_readable,
+            written,
+        }
+    }
+}
+
 /// All interface files.
 const FILES: [File; 11] = [
     File::Procs,
@@ -82,30 +111,32 @@ impl File {
         first_named(&FILES, name)
     }
 
-    // The table of the files: the name, whether the root has the file, whether it can be read, and what can be written.
-    fn row(self) -> (&'static [u8], bool, bool, Option<Written>)
-        ensures name { result.0.now ≡ file_name (file_of self) }
-        ensures root { result.1 ≡ on_root (file_of self) }
-        ensures read { result.2 ≡ readable (file_of self) }
-        ensures written { option_map kind_of result.3 ≡ value_kind (file_of self) }
+    // The table of the files.
+    fn row(self) -> Row
+        ensures name { result.name.now ≡ file_name (file_of self) }
+        ensures on_root { result.is_on_root ≡ on_root (file_of self) }
+        ensures readable { result.is_readable ≡ readable (file_of self) }
+        ensures written { option_map kind_of result.written ≡ value_kind (file_of self) }
     {
         match self {
-            File::Procs => (b"cgroup.procs", true, true, Some(Pid)),
-            File::Events => (b"cgroup.events", false, true, None),
-            File::Stat => (b"cgroup.stat", true, true, None),
-            File::MaxDescendants => (
-                b"cgroup.max.descendants",
-                true,
-                true,
-                Some(Limit(MaxDescendants)),
-            ),
-            File::MaxDepth => (b"cgroup.max.depth", true, true, Some(Limit(MaxDepth))),
-            File::KillFile => (b"cgroup.kill", false, false, Some(Kill)),
-            File::PidsMax => (b"pids.max", false, true, Some(Limit(PidsMax))),
-            File::PidsCurrent => (b"pids.current", false, true, None),
-            File::PidsPeak => (b"pids.peak", false, true, None),
-            File::PidsEvents => (b"pids.events", false, true, None),
-            File::PidsEventsLocal => (b"pids.events.local", false, true, None),
+            File::Procs => Row::new(b"cgroup.procs", true, true, Some(Pid)),
+            File::Events => Row::new(b"cgroup.events", false, true, None),
+            File::Stat => Row::new(b"cgroup.stat", true, true, None),
+            File::MaxDescendants => {
+                Row::new(
+                    b"cgroup.max.descendants",
+                    true,
+                    true,
+                    Some(Limit(MaxDescendants)),
+                )
+            }
+            File::MaxDepth => Row::new(b"cgroup.max.depth", true, true, Some(Limit(MaxDepth))),
+            File::KillFile => Row::new(b"cgroup.kill", false, false, Some(Kill)),
+            File::PidsMax => Row::new(b"pids.max", false, true, Some(Limit(PidsMax))),
+            File::PidsCurrent => Row::new(b"pids.current", false, true, None),
+            File::PidsPeak => Row::new(b"pids.peak", false, true, None),
+            File::PidsEvents => Row::new(b"pids.events", false, true, None),
+            File::PidsEventsLocal => Row::new(b"pids.events.local", false, true, None),
         }
     }
 
@@ -113,28 +144,28 @@ impl File {
     pub fn name(self) -> &'static [u8]
         ensures { result.now ≡ file_name (file_of self) }
     {
-        self.row().0
+        self.row().name
     }
 
     /// Whether the root has the file too.
     pub fn on_root(self) -> bool
         ensures { result ≡ on_root (file_of self) }
     {
-        self.row().1
+        self.row().is_on_root
     }
 
     /// Whether the file can be read: all but `cgroup.kill` can.
     pub fn readable(self) -> bool
         ensures { result ≡ readable (file_of self) }
     {
-        self.row().2
+        self.row().is_readable
     }
 
     /// What can be written to the file, if anything.
     pub fn written(self) -> Option<Written>
         ensures { option_map kind_of result ≡ value_kind (file_of self) }
     {
-        self.row().3
+        self.row().written
     }
 
     /// Whether the file can be written: `cgroup.procs` takes a pid, `cgroup.kill` takes `1`, and the files of limits take a
