@@ -282,25 +282,26 @@ PUBLIC uint32_t mk_forget(mk_handle *h) {
     return status;
 }
 
-typedef uint32_t listing_call(mk0_handle *h, uint8_t *out, size_t out_size, mk0_info *info);
-
-static uint32_t list(mk_handle *h, listing_call *call, uint8_t *out, size_t out_size, mk_info *info) {
+PUBLIC uint32_t mk_history(mk_handle *h, size_t from, uint8_t *out, size_t out_size, mk_info *info) {
     mk0_handle *engine;
     mk0_info told = {0};
     uint32_t status = enter(h, &engine);
     if (status == MK_DONE) {
-        status = call(engine, out, out_size, &told);
+        status = mk0_history(engine, from, out, out_size, &told);
         leave(engine);
     }
     return tell(info, status, &told);
 }
 
 PUBLIC uint32_t mk_groups(mk_handle *h, uint8_t *out, size_t out_size, mk_info *info) {
-    return list(h, mk0_groups, out, out_size, info);
-}
-
-PUBLIC uint32_t mk_history(mk_handle *h, uint8_t *out, size_t out_size, mk_info *info) {
-    return list(h, mk0_history, out, out_size, info);
+    mk0_handle *engine;
+    mk0_info told = {0};
+    uint32_t status = enter(h, &engine);
+    if (status == MK_DONE) {
+        status = mk0_groups(engine, out, out_size, &told);
+        leave(engine);
+    }
+    return tell(info, status, &told);
 }
 
 typedef uint32_t listing_at_call(mk0_handle *h, const uint8_t *path, size_t path_len, uint8_t *out, size_t out_size,

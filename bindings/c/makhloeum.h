@@ -164,9 +164,10 @@ uint32_t mk_groups(mk_handle *h, uint8_t *out, size_t out_size, mk_info *info);
    MK_OUT_OF_MEMORY, MK_CLOSED, MK_BUSY. Costs a descent for each group. */
 uint32_t mk_subtree(mk_handle *h, const uint8_t *path, size_t path_len, uint8_t *out, size_t out_size, mk_info *info);
 
-/* The recorded commands that can be undone, oldest first, each as mk_undo shows it, with a line feed: info->count lines in
-   info->len bytes. MK_DONE, MK_TOO_SMALL, MK_OUT_OF_MEMORY, MK_CLOSED or MK_BUSY. */
-uint32_t mk_history(mk_handle *h, uint8_t *out, size_t out_size, mk_info *info);
+/* The recorded commands that can be undone, from place `from` on: 0 for all, since the oldest has place 0; mk_depth - 1 for
+   the newest. They come oldest first, each as mk_undo shows it, with a line feed: info->count lines in info->len bytes, none
+   if from is mk_depth or more. MK_DONE, MK_TOO_SMALL, MK_OUT_OF_MEMORY, MK_CLOSED or MK_BUSY. */
+uint32_t mk_history(mk_handle *h, size_t from, uint8_t *out, size_t out_size, mk_info *info);
 
 /* Whether there is such a group: MK_DONE if there is, MK_REFUSED with MK_NO_GROUP if not, MK_FAULT with MK_PATH if the text
    is not a path; MK_OUT_OF_MEMORY, MK_CLOSED, MK_BUSY. */

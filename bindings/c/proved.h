@@ -34,7 +34,7 @@ uint32_t mk0_copy(mk0_handle *h, mk0_handle *to);
 uint32_t mk0_children(mk0_handle *h, const uint8_t *path, size_t path_len, uint8_t *out, size_t out_size, mk0_info *info);
 uint32_t mk0_groups(mk0_handle *h, uint8_t *out, size_t out_size, mk0_info *info);
 uint32_t mk0_subtree(mk0_handle *h, const uint8_t *path, size_t path_len, uint8_t *out, size_t out_size, mk0_info *info);
-uint32_t mk0_history(mk0_handle *h, uint8_t *out, size_t out_size, mk0_info *info);
+uint32_t mk0_history(mk0_handle *h, size_t from, uint8_t *out, size_t out_size, mk0_info *info);
 uint32_t mk0_has_group(mk0_handle *h, const uint8_t *path, size_t path_len, mk0_info *info);
 uint32_t mk0_current(mk0_handle *h, const uint8_t *path, size_t path_len, uint64_t *value, mk0_info *info);
 uint32_t mk0_populated(mk0_handle *h, const uint8_t *path, size_t path_len, uint64_t *value, mk0_info *info);

@@ -14,7 +14,7 @@ static size_t lines(void)
 {
 	size_t size, count = 0;
 	const char *text;
-	if (engine_history(&text, &size))
+	if (engine_history(0, &text, &size))
 		abort();
 	for (size_t i = 0; i < size; i++)
 		count += text[i] == '\n';

@@ -93,33 +93,31 @@ static int read_where(long which, int (*keep)(void *, const char *, size_t), voi
 	return keep(to, text, (size_t)size);
 }
 
-/* Where the last line begins. */
-static size_t last_line(const char *text, size_t size)
+/* Keeps the recorded commands from a place on. */
+static int read_history(size_t from, int (*keep)(void *, const char *, size_t), void *to)
 {
-	size_t from = size ? size - 1 : 0;
-	while (from && text[from - 1] != '\n')
-		from--;
-	return from;
+	const char *text;
+	size_t size;
+	int fault = engine_history(from, &text, &size);
+	return fault ? fault : keep(to, text, size);
 }
 
 int control_read(long file, int (*keep)(void *, const char *, size_t), void *to)
 {
-	char depth[32];
-	const char *text;
-	size_t size, from;
-	int fault;
+	char text[32];
+	size_t depth;
 	WANTS_LOCK();
 	if (file >= CONTROL_WHERE)
 		return read_where(file - CONTROL_WHERE, keep, to);
+	depth = engine_depth();
 	switch (file) {
 	case DEPTH:
-		snprintf(depth, sizeof depth, "%zu\n", engine_depth());
-		return keep(to, depth, strlen(depth));
+		snprintf(text, sizeof text, "%zu\n", depth);
+		return keep(to, text, strlen(text));
 	case NEWEST:
+		return depth ? read_history(depth - 1, keep, to) : keep(to, "", 0);
 	case TRACE:
-		fault = engine_history(&text, &size);
-		from = file == NEWEST ? last_line(text, size) : 0;
-		return fault ? fault : keep(to, text + from, size - from);
+		return read_history(0, keep, to);
 	default:
 		return -EINVAL;
 	}

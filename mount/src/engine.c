@@ -329,13 +329,13 @@ int engine_forget(void)
 	return mk_forget(&engine) == MK_DONE ? 0 : -ENOMEM;
 }
 
-int engine_history(const char **lines, size_t *size)
+int engine_history(size_t from, const char **lines, size_t *size)
 {
 	mk_info info;
 	uint32_t status;
 	WANTS_LOCK();
 	do
-		status = mk_history(&engine, (uint8_t *)past.at, past.room, &info);
+		status = mk_history(&engine, from, (uint8_t *)past.at, past.room, &info);
 	while (status == MK_TOO_SMALL && make_room(&past, info.needed));
 	*lines = past.at;
 	*size = info.len;

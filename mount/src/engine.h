@@ -48,7 +48,7 @@ size_t engine_depth(void);
 /* Keeps the state and drops the records: nothing earlier can be undone. 0 or -errno */
 int engine_forget(void);
 
-/* The recorded commands, oldest first, as a trace. 0 or -ENOMEM */
-int engine_history(const char **lines, size_t *size);
+/* The recorded commands from a place on, oldest first, as a trace; the oldest has place 0. 0 or -ENOMEM */
+int engine_history(size_t from, const char **lines, size_t *size);
 
 #endif

@@ -28,7 +28,7 @@ static void has_group(void) { engine_has_group("/"); }
 static void children(void) { engine_children("/", &text, &size); }
 static void groups(void) { engine_groups("/", &text, &size); }
 static void depth(void) { engine_depth(); }
-static void history(void) { engine_history(&text, &size); }
+static void history(void) { engine_history(0, &text, &size); }
 static void find(void) { remembered_find("/"); }
 static void make(void) { remembered_make("/"); }
 static void lose(void) { remembered_lose("/"); }

@@ -22,7 +22,7 @@ static uint32_t subtree(const char *path, size_t size) {
     return mk_subtree(&h, (const uint8_t *)path, strlen(path), out, size, &info);
 }
 
-static uint32_t history(size_t size) { return mk_history(&h, out, size, &info); }
+static uint32_t history(size_t from, size_t size) { return mk_history(&h, from, out, size, &info); }
 
 static uint32_t has_group(const char *path) { return mk_has_group(&h, (const uint8_t *)path, strlen(path), &info); }
 
@@ -47,7 +47,7 @@ static int closed_handles(void) {
     CHECK(children("/", sizeof out) == MK_CLOSED);
     CHECK(all_groups(sizeof out) == MK_CLOSED && info.len == 0 && info.count == 0);
     CHECK(subtree("/", sizeof out) == MK_CLOSED && info.len == 0 && info.count == 0);
-    CHECK(history(sizeof out) == MK_CLOSED && info.len == 0 && info.count == 0);
+    CHECK(history(0, sizeof out) == MK_CLOSED && info.len == 0 && info.count == 0);
     CHECK(has_group("/") == MK_CLOSED);
     CHECK(mk_close(&h) == MK_CLOSED);
     CHECK(mk_open(&h) == MK_DONE);
@@ -143,16 +143,20 @@ static int to_the_end(void) {
 
 /* what is recorded is listed, refused forks included, until it is undone or forgotten */
 static int recorded(void) {
-    CHECK(mk_open(&h) == MK_DONE && history(0) == MK_DONE && info.len == 0 && info.count == 0);
+    CHECK(mk_open(&h) == MK_DONE && history(0, 0) == MK_DONE && info.len == 0 && info.count == 0);
     CHECK(ask("mkdir /a", sizeof out) == MK_DONE && ask("mkdir /a", sizeof out) == MK_REFUSED && ask("fork 1 2", sizeof out) == MK_DONE);
     CHECK(ask("write\t/a cgroup.procs 2", sizeof out) == MK_DONE && ask("write /a pids.max 1", sizeof out) == MK_DONE);
     CHECK(ask("fork 2 3", sizeof out) == MK_REFUSED && ask("where 2", sizeof out) == MK_DONE);
-    CHECK(history(sizeof out) == MK_DONE && info.count == 5);
+    CHECK(history(0, sizeof out) == MK_DONE && info.count == 5);
     CHECK(says("mkdir /a\nfork 1 2\nwrite /a cgroup.procs 2\nwrite /a pids.max 1\nfork 2 3\n"));
-    CHECK(history(71) == MK_DONE && info.len == 71 && history(70) == MK_TOO_SMALL && info.len == 0 && info.count == 0 && info.needed == 71);
-    CHECK(mk_undo_to(&h, 2, &info) == MK_DONE && history(sizeof out) == MK_DONE && info.count == 2 && says("mkdir /a\nfork 1 2\n"));
-    CHECK(mk_forget(&h) == MK_DONE && history(sizeof out) == MK_DONE && info.len == 0 && info.count == 0);
-    CHECK(ask("rmdir /a", sizeof out) == MK_DONE && history(sizeof out) == MK_DONE && info.count == 1 && says("rmdir /a\n"));
+    CHECK(history(0, 71) == MK_DONE && info.len == 71 && history(0, 70) == MK_TOO_SMALL && info.len == 0 && info.count == 0 && info.needed == 71);
+    CHECK(mk_undo_to(&h, 2, &info) == MK_DONE && history(0, sizeof out) == MK_DONE && info.count == 2 && says("mkdir /a\nfork 1 2\n"));
+    CHECK(history(1, sizeof out) == MK_DONE && info.count == 1 && says("fork 1 2\n"));
+    CHECK(history(1, 8) == MK_TOO_SMALL && info.count == 0 && info.needed == 9);
+    CHECK(history(2, 0) == MK_DONE && info.len == 0 && info.count == 0);
+    CHECK(history(SIZE_MAX, 0) == MK_DONE && info.len == 0 && info.count == 0);
+    CHECK(mk_forget(&h) == MK_DONE && history(0, sizeof out) == MK_DONE && info.len == 0 && info.count == 0);
+    CHECK(ask("rmdir /a", sizeof out) == MK_DONE && history(0, sizeof out) == MK_DONE && info.count == 1 && says("rmdir /a\n"));
     CHECK(mk_close(&h) == MK_DONE);
     return 0;
 }

@@ -123,7 +123,7 @@ static uint32_t list_groups(void) { return mk_groups(&h, out, sizeof out, &info)
 
 static uint32_t list_subtree(void) { return mk_subtree(&h, (const uint8_t *)"/a", 2, out, sizeof out, &info); }
 
-static uint32_t list_history(void) { return mk_history(&h, out, sizeof out, &info); }
+static uint32_t list_history(void) { return mk_history(&h, 0, out, sizeof out, &info); }
 
 /* nothing is listed without memory; and with it, these bytes */
 static bool lists(uint32_t (*call)(void), size_t count, const char *bytes, size_t len) {

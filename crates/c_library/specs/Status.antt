@@ -126,8 +126,8 @@ TellsGroupsOf m out answer = TellsGroups m.state out answer
 abbrev pub TellsSubtreeOf : Result Path PathFault → Machine → List ℕ → Listing → Type 0
 TellsSubtreeOf path m out answer = TellsSubtree m.state path out answer
 
-abbrev pub TellsHistoryOf : Machine → List ℕ → Listing → Type 0
-TellsHistoryOf m out answer = TellsHistory m.past out answer
+abbrev pub TellsHistoryOf : ℕ → Machine → List ℕ → Listing → Type 0
+TellsHistoryOf from m out answer = TellsHistory m.past from out answer
 
 abbrev pub found_status : Found → ℕ
 found_status found.There = 0

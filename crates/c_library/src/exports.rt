@@ -304,16 +304,22 @@ pub extern "C" fn mk0_subtree(
     listing_status(listing)
 }
 
-/// The recorded commands as lines, oldest first.
+/// The recorded commands from a place on as lines, oldest first.
 #[unsafe(no_mangle)]
-pub extern "C" fn mk0_history(alloc: Global, h: &mut Handle, out: &mut [u8], info: &mut Info) -> u32
-    ensures { ListsAt TellsHistoryOf h.old.seal.held out.new result info.new h.new.seal.held }
+pub extern "C" fn mk0_history(
+    alloc: Global,
+    h: &mut Handle,
+    from: usize,
+    out: &mut [u8],
+    info: &mut Info,
+) -> u32
+    ensures { ListsAt (TellsHistoryOf from) h.old.seal.held out.new result info.new h.new.seal.held }
 {
     let Some(engine) = h.take(alloc) else {
         *info = told(0, 0, 0);
         return CLOSED;
     };
-    let listing = engine.history(alloc, out);
+    let listing = engine.history(alloc, from, out);
     h.put(alloc, engine);
     *info = listing_info(listing);
     listing_status(listing)

@@ -113,14 +113,30 @@ const SUBTREES: [(&str, usize, Listing, &[u8]); 4] = [
     ("a", 0, Listing::BadPath, b""),
 ];
 
-/// The size of a buffer, the result of listing the recorded commands, and their lines in the buffer.
-const HISTORIES: [(usize, Listing, &[u8]); 2] = [
+/// The place of the first recorded command to list, the size of a buffer, the result, and the lines in the buffer.
+const HISTORIES: [(usize, usize, Listing, &[u8]); 7] = [
     (
+        0,
         29,
         Listing::Listed { len: 29, count: 3 },
         b"mkdir /b\nmkdir /a\nmkdir /a/c\n",
     ),
-    (28, Listing::TooSmall { needed: 29 }, b""),
+    (0, 28, Listing::TooSmall { needed: 29 }, b""),
+    (
+        1,
+        20,
+        Listing::Listed { len: 20, count: 2 },
+        b"mkdir /a\nmkdir /a/c\n",
+    ),
+    (
+        2,
+        11,
+        Listing::Listed { len: 11, count: 1 },
+        b"mkdir /a/c\n",
+    ),
+    (2, 10, Listing::TooSmall { needed: 11 }, b""),
+    (3, 0, Listing::Listed { len: 0, count: 0 }, b""),
+    (usize::MAX, 0, Listing::Listed { len: 0, count: 0 }, b""),
 ];
 
 /// A text, and whether there is a group at it.
@@ -151,10 +167,10 @@ fn is_subtree(alloc: Global, lines: &LineEngine, row: (&str, usize, Listing, &[u
     told == wanted && &buffer[..paths.len().min(16)] == paths
 }
 
-fn is_history(alloc: Global, lines: &LineEngine, row: (usize, Listing, &[u8])) -> bool {
-    let (size, wanted, text) = row;
+fn is_history(alloc: Global, lines: &LineEngine, row: (usize, usize, Listing, &[u8])) -> bool {
+    let (from, size, wanted, text) = row;
     let mut buffer = [0u8; 32];
-    let told = lines.history(alloc, &mut buffer[..size.min(32)]);
+    let told = lines.history(alloc, from, &mut buffer[..size.min(32)]);
     told == wanted && &buffer[..text.len().min(32)] == text
 }
 

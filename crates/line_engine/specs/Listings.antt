@@ -1,5 +1,5 @@
 -- Listings of groups.
-use Rattle.std.specs.Prelude.{◌≡◌, ℕ, zero, suc, true, false, List, [], ◌∷◌, ◌++◌, map, flat_map, length, Result, Ok, Err}
+use Rattle.std.specs.Prelude.{◌≡◌, ℕ, zero, suc, true, false, List, [], ◌∷◌, ◌++◌, map, flat_map, length, drop, Result, Ok, Err}
 use Rattle.std.specs.Result.{IsOk, IsErr}
 use Rattle.flat_model.specs.Path.{Name, Path}
 use Rattle.flat_model.specs.PathText.{PathFault, path_text}
@@ -102,6 +102,10 @@ abbrev pub TellsSubtree : State → Result Path PathFault → List ℕ → Listi
 TellsSubtree s (Ok p) out a = TellsSubtreeAt s p out a
 TellsSubtree s (Err f) out a = a ≡ listing.BadPath
 
--- the commands that can be undone, oldest first, as lines
-abbrev pub TellsHistory : List (Command × State) → List ℕ → Listing → Type 0
-TellsHistory past out a = TellsAll (lines_bytes (recorded_commands past)) (length past) out a
+-- the commands that can be undone from a place on, oldest first
+abbrev pub history_from : List (Command × State) → ℕ → List Command
+history_from past from = drop from (recorded_commands past)
+
+-- the same as lines
+abbrev pub TellsHistory : List (Command × State) → ℕ → List ℕ → Listing → Type 0
+TellsHistory past from out a = TellsAll (lines_bytes (history_from past from)) (length (history_from past from)) out a

@@ -1,8 +1,7 @@
 //! The recorded commands as lines.
 
 ghost use Rattle.std.specs.Prelude.{◌≡◌, IfOk};
-ghost use Rattle.undo_journal.specs.Answer.{recorded_commands};
-ghost use Rattle.line_engine.specs.Listings.{TellsHistory, lines_bytes};
+ghost use Rattle.line_engine.specs.Listings.{TellsHistory, history_from, lines_bytes};
 
 use crate::engine::LineEngine;
 use crate::listing::{Listing, put_listing};
@@ -13,11 +12,12 @@ use undo_journal::Engine;
 fn gather_lines(
     alloc: Global,
     engine: &Engine<Global, PlainMeter<Global>>,
+    from: usize,
 ) -> Result<Vec<u8>, AllocError>
-    ensures { IfOk result (λ bytes. bytes.items ≡ lines_bytes (recorded_commands engine.now.past)) }
+    ensures { IfOk result (λ bytes. bytes.items ≡ lines_bytes (history_from engine.now.past from)) }
 {
     let mut bytes = Vec::new(alloc);
-    for place in 0..engine.depth() {
+    for place in from..engine.depth() {
         let Some(command) = engine.command_at(place) else {
             unreachable!()
         };
@@ -29,14 +29,15 @@ fn gather_lines(
 }
 
 impl LineEngine {
-    /// Puts the recorded commands, which can be undone, into the start of the buffer, oldest first. Each is a line as
-    /// `undo` shows it, with its line feed.
-    pub fn history(&self, alloc: Global, out: &mut [u8]) -> Listing
-        ensures { TellsHistory self.now.engine.past out.new result }
+    /// Puts the recorded commands from this place on, where the oldest has place 0, into the start of the buffer, oldest
+    /// first. Each is a line as `undo` shows it, with its line feed.
+    pub fn history(&self, alloc: Global, from: usize, out: &mut [u8]) -> Listing
+        ensures { TellsHistory self.now.engine.past from out.new result }
     {
-        let Ok(bytes) = gather_lines(alloc, &self.engine) else {
+        let Ok(bytes) = gather_lines(alloc, &self.engine, from) else {
             return Listing::OutOfMemory;
         };
-        put_listing(out, bytes.as_slice(), self.engine.depth())
+        let count = self.engine.depth().saturating_sub(from);
+        put_listing(out, bytes.as_slice(), count)
     }
 }

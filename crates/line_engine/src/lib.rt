@@ -9,7 +9,7 @@
 //! - With the output comes a code: 0, or the number of the refusal or fault. `docs/FORMATS.md` lists the codes.
 //! - `children` puts the names of a group's children into a buffer, each followed by a zero byte. `has_group` says whether a
 //!   group exists. `groups` puts the paths of all groups, `subtree` those of a group and the groups below it. `history` puts
-//!   the recorded commands as lines. All of these only read.
+//!   the recorded commands from a place on as lines. All of these only read.
 //! - `current`, `populated`, `peak` and `limit` return a number of a group without a text, and change nothing.
 //! - `forget` drops the journal and keeps groups and processes. `copy` makes an engine of its own with the same groups,
 //!   processes and journal.

@@ -1,11 +1,13 @@
-use Rattle.std.proofs.Common.{rules, ◌∙◌, length}
-use Rattle.undo_journal.specs.Answer.{recorded_commands}
-use Rattle.line_engine.specs.Listings.{lines_bytes}
+use Rattle.std.proofs.Common.{◌∙◌, ap, length, ◌-◌}
+use Rattle.line_engine.specs.Listings.{history_from, lines_bytes}
+use Rattle.line_engine.proofs.Lines.{length-history}
 use Rattle.line_engine.proofs.Told.{told_all}
 use Rattle.line_engine.proofs.engine.LineEngine.history.Goals as goal
 
 pub returns : goal.returns
 returns c =
-    let past = c.args.self.now.engine.past in
-    told_all (lines_bytes (recorded_commands past)) c.as_slice.result.now c.put_listing.new.out (length past) c.depth.result c.put_listing.result
-    (c.as_slice.ensures.value ∙ c.in-Ok.ensures) (search rules) c.put_listing.ensures
+    let told = history_from c.args.self.now.engine.past c.args.from in
+    told_all (lines_bytes told) c.as_slice.result.now c.put_listing.new.out (length told) c.saturating_sub-count.result c.put_listing.result
+    (c.as_slice.ensures.value ∙ c.in-Ok.ensures)
+    (c.saturating_sub-count.ensures ∙ ap (λ n. n - c.args.from) c.depth.ensures ∙ length-history c.args.self.now.engine.past c.args.from)
+    c.put_listing.ensures
