@@ -22,6 +22,7 @@
 pub use board_meter::BoardMeter;
 pub use group_path::{GroupPath, PathFault};
 pub use group_tree::{Attr, Limit, LimitFile, Limits};
+pub use interface_files::Written;
 pub use pids_charge::{Meter, PID_MAX, Pid, PlainMeter};
 pub use replay_main::{
     DeviceFault, MemorySink, MemorySource, ReplayFault, Sink, Source, StreamSink, StreamSource,
