@@ -124,28 +124,27 @@ def test_the_nth_call_fails(hierarchy):
     assert h.clear_faults() == 0 and h.depth() == 2
 
 
-def test_a_long_list_of_processes_counts_once(hierarchy):
-    h = hierarchy
+def group_whose_second_call_fails(h, count):
+    """Makes /a with so many processes. The second call that names it from then on fails."""
     h.mkdir("/a")
-    for pid in range(2, 102):
+    for pid in range(2, 2 + count):
         h.fork(1, pid)
         h.write("/a", "cgroup.procs", pid)
     h.fail("/a", errno.EIO, nth=2)
-    assert h.processes("/a") == list(range(2, 102))
+
+
+def test_a_long_list_of_processes_counts_once(hierarchy):
+    group_whose_second_call_fails(hierarchy, 100)
+    assert hierarchy.processes("/a") == list(range(2, 102))
     with pytest.raises(OSError):
-        h.processes("/a")
+        hierarchy.processes("/a")
 
 
 def test_a_long_read_counts_once(hierarchy):
-    h = hierarchy
-    h.mkdir("/a")
-    for pid in range(2, 3000):
-        h.fork(1, pid)
-        h.write("/a", "cgroup.procs", pid)
-    h.fail("/a", errno.EIO, nth=2)
-    assert len(h.read("/a", "cgroup.procs").split()) == 2998
+    group_whose_second_call_fails(hierarchy, 2998)
+    assert len(hierarchy.read("/a", "cgroup.procs").split()) == 2998
     with pytest.raises(OSError):
-        h.read("/a", "cgroup.procs")
+        hierarchy.read("/a", "cgroup.procs")
 
 
 def test_a_group_vanishes_between_a_listing_and_a_read(hierarchy):
