@@ -43,7 +43,9 @@ pub struct WithThreads<'a, R, G> {
 pub fn with_threads<'a, R: Threads>(
     rt: &'a R,
     gate: &'a (dyn Gate + Sync),
-) -> WithThreads<'a, R, &'a (dyn Gate + Sync)> {
+) -> WithThreads<'a, R, &'a (dyn Gate + Sync)>
+    ensures { (result.rt.now ≡ rt.now) × (result.gate.now ≡ gate.now) }
+{
     WithThreads { rt, gate }
 }
 
