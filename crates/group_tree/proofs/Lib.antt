@@ -1,3 +1,4 @@
+mod Boxed
 mod Calls
 pub mod Parents
 mod Places

@@ -42,11 +42,12 @@ impl<A: Allocator> Node<A> {
         ensures root { IsSome (fin.get self.now.groups []) }
         ensures said { NodeAdmits self.now.groups names.entry n result }
     {
+        let inner = &*self.inner;
         let mut names = names;
         match names.next() {
             None => Admission::Exists,
-            Some(name) => match place(&self.children, name) {
-                Ok(at) => match self.children[at].admits(names, depth, n + 1) {
+            Some(name) => match place(&inner.children, name) {
+                Ok(at) => match inner.children[at].admits(names, depth, n + 1) {
                     Admission::Free => self.admits_here(depth - n - 1, n),
                     decided => decided,
                 },

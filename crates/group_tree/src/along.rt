@@ -52,11 +52,12 @@ impl<'a, A: Allocator> Iterator for Along<'a, A> {
     fn next(&mut self) -> Option<&'a Attr> {
         let node = self.last?;
         let name = self.names.next()?;
-        match place(&node.children, name) {
+        let inner = &*node.inner;
+        match place(&inner.children, name) {
             Ok(at) => {
-                let child = &node.children[at];
+                let child = &inner.children[at];
                 self.last = Some(child);
-                Some(&child.attr)
+                Some(&child.inner.attr)
             }
             Err(_) => {
                 self.last = None;

@@ -24,13 +24,14 @@ impl<A: Allocator> Node<A> {
         ensures absent { fin.get self.now.groups names.entry ≡ None → result ≡ Ok false }
         ensures in_place { PushesInPlace slots.old slots.new (length names.entry) result }
     {
+        let inner = &*self.inner;
         let mut names = names;
         match names.next() {
             None => Ok(true),
-            Some(name) => match place(&self.children, name) {
+            Some(name) => match place(&inner.children, name) {
                 Err(_) => Ok(false),
                 Ok(at) => {
-                    let child = &self.children[at];
+                    let child = &inner.children[at];
                     if !child.push_chain(names, slots)? {
                         return Ok(false);
                     }

@@ -56,11 +56,14 @@ impl<A: Allocator> Node<A> {
     {
         let mut names = names;
         match names.next() {
-            None => Some(ChildNames::of(self.children.as_slice())),
-            Some(name) => match place(&self.children, name) {
-                Ok(at) => self.children[at].child_names(names),
-                Err(_) => None,
-            },
+            None => Some(ChildNames::of(self.inner.children.as_slice())),
+            Some(name) => {
+                let children = &self.inner.children;
+                match place(children, name) {
+                    Ok(at) => children[at].child_names(names),
+                    Err(_) => None,
+                }
+            }
         }
     }
 }

@@ -2,7 +2,7 @@
 
 ghost use Rattle.std.specs.Prelude.{◌≡◌, IfOk};
 
-use crate::node::Node;
+use crate::node::{Inner, Node};
 use inline_bytes::InlineBytes;
 use std::alloc::{AllocError, Allocator};
 
@@ -13,14 +13,18 @@ impl<A: Allocator> Node<A> {
     {
         let name = InlineBytes::copy_of(alloc.clone()?, self.name.as_slice())?;
         let mut children = Vec::new(alloc.clone()?);
-        for child in &self.children {
+        let source = &*self.inner;
+        for child in &source.children {
             children.push(child.copy(alloc.clone()?)?)?;
         }
-        Ok(Node {
-            name,
-            attr: self.attr,
-            descendants: self.descendants,
-            children,
-        })
+        let inner = Box::new(
+            alloc,
+            Inner {
+                attr: source.attr,
+                descendants: source.descendants,
+                children,
+            },
+        )?;
+        Ok(Node { name, inner })
     }
 }

@@ -36,7 +36,7 @@ impl<A: Allocator> Node<A> {
         ensures name { self.new.name ≡ self.old.name }
         ensures groups { NodeSets self.old.groups self.new.groups [] attr true }
     {
-        self.attr = attr;
+        self.inner.attr = attr;
     }
 
     /// Changes the totals of the groups along these names for a fork that the last of them refused. The group here is not
@@ -47,10 +47,13 @@ impl<A: Allocator> Node<A> {
     {
         let mut names = names;
         match names.next() {
-            None => self.attr.local = change.of(self.attr.local),
-            Some(name) => match place(&self.children, name) {
+            None => {
+                let attr = &mut self.inner.attr;
+                attr.local = change.of(attr.local);
+            }
+            Some(name) => match place(&self.inner.children, name) {
                 Ok(at) => {
-                    let child = &mut self.children[at];
+                    let child = &mut self.inner.children[at];
                     child.count(names, change);
                     let attr = child.attr();
                     let total = change.of(attr.total);

@@ -6,7 +6,7 @@ ghost use Rattle.group_tree.specs.Node.{leaf_of, NodeInserts};
 
 use crate::attr::Attr;
 use crate::fault::TreeFault;
-use crate::node::{Node, place};
+use crate::node::{Inner, Node, place};
 use group_path::Names;
 use inline_bytes::InlineBytes;
 use std::alloc::{AllocError, Allocator};
@@ -17,13 +17,16 @@ impl<A: Allocator + Clone> Node<A> {
         ensures { IfOk result (λ n. n ≡ leaf_of name.now attr) }
     {
         let children = Vec::new(alloc.clone()?);
-        let name = InlineBytes::copy_of(alloc, name)?;
-        Ok(Node {
-            name,
-            attr,
-            descendants: 0,
-            children,
-        })
+        let name = InlineBytes::copy_of(alloc.clone()?, name)?;
+        let inner = Box::new(
+            alloc,
+            Inner {
+                attr,
+                descendants: 0,
+                children,
+            },
+        )?;
+        Ok(Node { name, inner })
     }
 
     /// Inserts a group at these names from here.
@@ -35,12 +38,13 @@ impl<A: Allocator + Clone> Node<A> {
         let mut names = names;
         match names.next() {
             None => Err(TreeFault::Exists),
-            Some(name) => match place(&self.children, name) {
+            Some(name) => match place(&self.inner.children, name) {
                 Ok(at) => {
-                    let child = &mut self.children[at];
+                    let child = &mut self.inner.children[at];
                     match child.insert(names, attr) {
                         Ok(()) => {
-                            self.descendants = self.descendants.wrapping_add(1);
+                            let descendants = &mut self.inner.descendants;
+                            *descendants = descendants.wrapping_add(1);
                             Ok(())
                         }
                         Err(fault) => Err(fault),
@@ -48,9 +52,10 @@ impl<A: Allocator + Clone> Node<A> {
                 }
                 Err(at) => match names.next() {
                     Some(_) => Err(TreeFault::NoParent),
-                    None => match add_leaf(&mut self.children, at, name, attr) {
+                    None => match add_leaf(&mut self.inner.children, at, name, attr) {
                         Ok(()) => {
-                            self.descendants = self.descendants.wrapping_add(1);
+                            let descendants = &mut self.inner.descendants;
+                            *descendants = descendants.wrapping_add(1);
                             Ok(())
                         }
                         Err(_) => Err(TreeFault::OutOfMemory),

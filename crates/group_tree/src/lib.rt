@@ -5,7 +5,8 @@
 //! - `insert`, `set`, `replace_limit` and `remove` change one path and nothing else. A refusal changes nothing, even if
 //!   memory runs out in the middle of an insert.
 //! - Refusals come in a fixed order, and each names its cause. Only `insert`, `copy`, `new`, and a `chain` of more than
-//!   eight groups allocate: the parent's list of children grows, and a name of more than 23 bytes needs a block.
+//!   eight groups allocate. Each group has a block of its own, a name of more than 23 bytes needs another, and the parent's
+//!   list of children grows. That list has the names and the pointers to the blocks.
 //! - A look-up descends once, in O(depth · log children) comparisons of names. Each group records how many groups are below
 //!   it, so limits on descendants, and on the number of all groups, are tested without a walk. `admits` tests everything
 //!   that can refuse a new group in one descent, including the limits of every group above it.

@@ -38,10 +38,11 @@ impl<A: Allocator> Node<A> {
     pub(crate) fn met_here(&self, levels: usize, n: usize) -> Option<MetLimit>
         ensures { result ≡ met_here (fin.get self.now.groups []) (descendant_count self.now.groups [] % 2 ^ 64) levels n }
     {
-        if is_reached(self.attr.limits.descendants, self.descendants) {
+        let inner = &*self.inner;
+        if is_reached(inner.attr.limits.descendants, inner.descendants) {
             return Some(MetLimit::Descendants(n));
         }
-        if is_reached(self.attr.limits.depth, levels as u64) {
+        if is_reached(inner.attr.limits.depth, levels as u64) {
             return Some(MetLimit::Depth(n));
         }
         None

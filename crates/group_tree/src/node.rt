@@ -13,11 +13,20 @@ use std::alloc::Allocator;
 use std::cmp::Ordering;
 use std::marker::Model;
 
-/// A group with the groups below it.
+/// A group with the groups below it. All but the name is in a block of its own. So a search among siblings reads names only,
+/// and an insert or a removal among them moves only names and pointers.
 #[derive(Drop)]
+#[cycle(node)]
 pub struct Node<A: Allocator> {
     /// The last name of the group's path; empty for the root.
     pub(crate) name: InlineBytes<A>,
+    pub(crate) inner: Box<Inner<A>, A>,
+}
+
+/// What a node has besides its name.
+#[derive(Drop)]
+#[cycle(node)]
+pub struct Inner<A: Allocator> {
     pub(crate) attr: Attr,
     /// How many groups are below it, modulo 2^64.
     pub(crate) descendants: u64,
@@ -37,15 +46,15 @@ impl<A: Allocator> Model for Node<A> {
     ghost use Rattle.std.specs.FinMap as fin;
     ghost use Rattle.group_tree.specs.Sorted.{most_le-groups};
 
-    ghost view = { λ n. record { name = n.name; groups = groups_of n.attr n.children.items } };
+    ghost view = { λ n. record { name = n.name; groups = groups_of n.inner.value.attr n.inner.value.children.items } };
 
-    ghost invariant = { λ n. IsNode n.children.items n.descendants };
+    ghost invariant = { λ n. IsNode n.inner.value.children.items n.inner.value.descendants };
 
     ghost size = { λ b. fin.len b.groups };
 
     ghost use Rattle.std.proofs.Common.{arith};
 
-    ghost size_decreases = { λ n h. omega (arith, most_le-groups n.attr n.children.items h.ascending) };
+    ghost size_decreases = { λ n h. omega (arith, most_le-groups n.inner.value.attr n.inner.value.children.items h.ascending) };
 }
 
 /// The index of the child of this name, or the index to insert it at. O(log children) comparisons of names.
@@ -71,21 +80,21 @@ impl<A: Allocator> Node<A> {
 
     /// The allocator of its memory.
     pub(crate) fn allocator(&self) -> &A {
-        self.children.allocator()
+        Box::allocator(&self.inner)
     }
 
     /// The group's attributes.
     pub(crate) fn attr(&self) -> Attr
         ensures { Some result ≡ fin.get self.now.groups [] }
     {
-        self.attr
+        self.inner.attr
     }
 
     /// Whether no group is below it.
     pub(crate) fn is_leaf(&self) -> bool
         ensures { IsLeafOrNot self.now.groups result }
     {
-        let children = self.children.as_slice();
+        let children = self.inner.children.as_slice();
         if children.is_empty() {
             true
         } else {
@@ -100,7 +109,7 @@ impl<A: Allocator> Node<A> {
         ensures value { result ≡ (fin.len self.now.groups - 1) % 2 ^ 64 }
         ensures whole { fin.len self.now.groups ≢ 0 }
     {
-        self.descendants
+        self.inner.descendants
     }
 
     /// The attributes of the group at these names from here.
@@ -128,11 +137,12 @@ impl<A: Allocator> Node<A> {
         ensures found { option_map (λ f. f.0.now) result ≡ fin.get self.now.groups names.entry }
         ensures counted { Counts self.now.groups names.entry (option_map (λ f. f.1) result) }
     {
+        let inner = &*self.inner;
         let mut names = names;
         match names.next() {
-            None => Some((&self.attr, self.descendants)),
-            Some(name) => match place(&self.children, name) {
-                Ok(at) => self.children[at].find_with_descendants(names),
+            None => Some((&inner.attr, inner.descendants)),
+            Some(name) => match place(&inner.children, name) {
+                Ok(at) => inner.children[at].find_with_descendants(names),
                 Err(_) => None,
             },
         }

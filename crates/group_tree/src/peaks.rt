@@ -24,9 +24,9 @@ impl<A: Allocator> Node<A> {
             unreachable!()
         };
         let peak = *first;
-        match place(&self.children, name) {
+        match place(&self.inner.children, name) {
             Ok(at) => {
-                let child = &mut self.children[at];
+                let child = &mut self.inner.children[at];
                 child.set_peaks(names, behind);
                 let attr = child.attr();
                 child.put(Attr { peak, ..attr });

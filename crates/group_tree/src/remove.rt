@@ -16,21 +16,24 @@ impl<A: Allocator> Node<A> {
         ensures groups { NodeRemoves self.old.groups self.new.groups (name.now ∷ names.entry) result }
     {
         let mut names = names;
-        match place(&self.children, name) {
+        match place(&self.inner.children, name) {
             Err(_) => Err(TreeFault::NoGroup),
             Ok(at) => match names.next() {
-                None => match take_out(&mut self.children, at) {
+                None => match take_out(&mut self.inner.children, at) {
                     Ok(attr) => {
-                        self.descendants = self.descendants.wrapping_sub(1);
+                        let descendants = &mut self.inner.descendants;
+                        *descendants = descendants.wrapping_sub(1);
                         Ok(attr)
                     }
                     Err(fault) => Err(fault),
                 },
                 Some(next) => {
-                    let child = &mut self.children[at];
+                    let inner = &mut *self.inner;
+                    let child = &mut inner.children[at];
                     match child.remove(next, names) {
                         Ok(attr) => {
-                            self.descendants = self.descendants.wrapping_sub(1);
+                            let descendants = &mut self.inner.descendants;
+                            *descendants = descendants.wrapping_sub(1);
                             Ok(attr)
                         }
                         Err(fault) => Err(fault),

@@ -39,13 +39,14 @@ impl<A: Allocator> Node<A> {
         let mut names = names;
         match names.next() {
             None => {
-                let attr = self.attr;
-                self.attr = setting.of(attr);
+                let inner = &mut *self.inner;
+                let attr = inner.attr;
+                inner.attr = setting.of(attr);
                 Some(attr)
             }
-            Some(name) => match place(&self.children, name) {
+            Some(name) => match place(&self.inner.children, name) {
                 Ok(at) => {
-                    let child = &mut self.children[at];
+                    let child = &mut self.inner.children[at];
                     child.set(names, setting)
                 }
                 Err(_) => None,

@@ -152,23 +152,24 @@ fn in_65536_bytes(rt: HostRuntime) -> Result<(), Fail> {
     Ok(())
 }
 
-/// Heaps of each size in steps of eight bytes refuse the allocations of the first inserts one by one: that of the name, then
-/// that of the list of children, which frees the new node. A name needs fewer than 64 bytes, so what a larger heap refuses
-/// before the first group exists is the list.
+/// Heaps of each size in steps of eight bytes refuse the allocations of the first inserts one by one: that of the name, that
+/// of the group's block, and that of the list of children, which frees the new node. A name needs fewer than 64 bytes and a
+/// block fewer than 128. The root has a block too. So what a heap of 320 bytes or more refuses before the first group exists
+/// is the list.
 #[test]
 fn each_allocation_of_an_insert_refused(rt: HostRuntime) -> Result<(), Fail> {
-    let mut is_refused_behind_the_name = false;
+    let mut is_refused_behind_the_block = false;
     let mut is_whole = false;
     for step in 1..160usize {
         let made = made_in(rt.alloc(), step * 8, LONG, 3)?;
-        if made == Some(0) && step * 8 >= 64 {
-            is_refused_behind_the_name = true;
+        if made == Some(0) && step * 8 >= 320 {
+            is_refused_behind_the_block = true;
         }
         if made == Some(3) {
             is_whole = true;
         }
     }
-    assert_eq!(rt; (is_refused_behind_the_name, is_whole), (true, true));
+    assert_eq!(rt; (is_refused_behind_the_block, is_whole), (true, true));
     Ok(())
 }
 
@@ -207,8 +208,9 @@ fn copies_refused(
     Err(Fail::new("there is no copy in 4,096 bytes"))
 }
 
-/// Refuses each allocation of a copy. Each of three names of 25 bytes needs an allocation, and so does the list of groups.
-/// The last refusal came with room for everything allocated before it.
+/// Refuses each allocation of a copy. Each of three names of 25 bytes needs an allocation, and so do the list of groups and
+/// the block of each group. A block has more than 64 bytes. The last refusal came with room for everything allocated before
+/// it: all but the block of the root.
 #[test]
 fn each_allocation_of_a_copy_refused(rt: HostRuntime) -> Result<(), Fail> {
     let heap = LocalHeap::new(rt.alloc(), 4096)?;
@@ -218,17 +220,17 @@ fn each_allocation_of_a_copy_refused(rt: HostRuntime) -> Result<(), Fail> {
         assert_eq!(rt; made, Ok(u64::from(number)));
     }
     let refused = copies_refused(rt.alloc(), &mut tree, &heap)?;
-    assert!(rt; refused > 75 / 16);
+    assert!(rt; refused > (75 + 3 * 64) / 16);
     Ok(())
 }
 
-/// A chain of nine groups allocates. Of the heaps of each size in steps of eight bytes, from 3,200 to 6,400, one has room
+/// A chain of nine groups allocates. Of the heaps of each size in steps of eight bytes, from 1,600 to 4,800, one has room
 /// for the groups but not for their chain; the tree is then unchanged.
 #[test]
 fn chain_refused(rt: HostRuntime) -> Result<(), Fail> {
     let mut is_refused = false;
     let mut is_whole = false;
-    for step in 400..800usize {
+    for step in 200..600usize {
         match chained_in(rt.alloc(), step * 8)? {
             Some(true) => is_whole = true,
             Some(false) => is_refused = true,

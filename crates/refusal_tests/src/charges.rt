@@ -234,8 +234,9 @@ fn migrate(rt: HostRuntime) -> Result<(), Fail> {
         (Call::Migrate, B, (1, 2), Answer::Moved(50, &[1, 1]), false),
         (Call::Migrate, C, (1, 2), Answer::Moved(50, &[0]), true),
         (Call::Migrate, "/", (1, 2), Answer::Moved(25, &[]), false),
-        // Neither a short path nor the peaks of one group allocate, once the group's list has room.
-        (Call::Mkdir, "/e", (1, 2), Answer::Done, false),
+        // A short path needs no allocation, but each group needs its block in the tree.
+        (Call::Mkdir, "/e", (1, 2), Answer::Done, true),
+        // The peaks of one group don't allocate, nor does a short path, once the group's list has room.
         (Call::Migrate, "/e", (1, 2), Answer::Moved(1, &[0]), true),
         (Call::Migrate, "/e", (1, 2), Answer::Moved(2, &[1]), false),
         (
@@ -256,7 +257,7 @@ fn migrate(rt: HostRuntime) -> Result<(), Fail> {
 fn move_back(rt: HostRuntime) -> Result<(), Fail> {
     let rows = [
         (Call::Mkdir, A, (1, 2), Answer::Done, true),
-        (Call::Mkdir, "/d", (1, 2), Answer::Done, false),
+        (Call::Mkdir, "/d", (1, 2), Answer::Done, true),
         (Call::MoveBack, A, (1, 2), Answer::Left(1), true),
         (Call::MoveBack, "/d", (1, 2), Answer::Left(25), true),
     ];

@@ -1,5 +1,8 @@
 use Rattle.group_tree.proofs.Steps.{own_attr}
+use Rattle.group_tree.proofs.Boxed.{opened}
 use Rattle.group_tree.proofs.node.Node.attr.Goals as goal
 
 pub returns : goal.returns
-returns g c = own_attr _ _ _ _ c.self.view_is c.self.invariant.ascending
+returns g c =
+    let node = opened _ _ _ _ c.deref.ensures c.self.view_is c.self.invariant in
+    own_attr _ _ _ _ node.view_is node.invariant.ascending

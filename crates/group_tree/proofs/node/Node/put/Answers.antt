@@ -1,6 +1,9 @@
 use Rattle.group_tree.proofs.SetTo.{sets_here}
 use Rattle.std.proofs.Common.{refl}
+use Rattle.group_tree.proofs.Boxed.{opened}
 use Rattle.group_tree.proofs.node.Node.put.Goals as goal
 
 pub returns-clause-groups : goal.returns-clause-groups
-returns-clause-groups g c = sets_here c.self.inside.attr c.args.attr c.self.inside.children.items c.args.self.now c.self.inside.name _ c.self.view_is c.self.invariant.ascending refl
+returns-clause-groups g c =
+    let node = opened _ _ _ _ c.deref_mut.ensures.value c.self.view_is c.self.invariant in
+    sets_here c.deref_mut.result.now.attr c.args.attr c.deref_mut.result.now.children.items c.args.self.now c.self.inside.name _ node.view_is node.invariant.ascending refl
