@@ -9,7 +9,6 @@ use Rattle.group_tree.specs.declared.attr.Limit.TheVariants as limit
 use Rattle.group_tree.specs.declared.attr.LimitFile.{LimitFile}
 use Rattle.group_tree.specs.declared.attr.LimitFile.TheVariants as limit_file
 use Rattle.group_tree.specs.Flat.{limit_of, limit_file_of}
-use Rattle.interface_files.specs.declared.file.File.TheVariants as file
 use Rattle.undo_journal.specs.declared.command.Command.{Command}
 use Rattle.undo_journal.specs.declared.command.Command.TheVariants as command
 use Rattle.undo_journal.specs.declared.reply.Refusal.{Refusal}
