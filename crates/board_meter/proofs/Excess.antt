@@ -68,18 +68,13 @@ module _ (w l : ℕ) (h m k : Holding) where
   tokens_both all s = over_same l (content_of w l h s) (λ j. content_of w l m s j + content_of w l k s j) (all s) ∙ over_added l (content_of w l m s) (content_of w l k s)
 
   -- h has what m and k have
-  excess_both : ((s j : ℕ) → content_of w l h s j ≡ content_of w l m s j + content_of w l k s j)
+  pub excess_both : ((s j : ℕ) → content_of w l h s j ≡ content_of w l m s j + content_of w l k s j)
       → ((s : ℕ) → amount_in w l h s % 2 ^ 64 ≡ (amount_in w l m s + amount_in w l k s) % 2 ^ 64) → (s : ℕ)
       → excess w l h s ≡ (excess w l m s + excess w l k s) % 2 ^ 64
   excess_both all total s =
       ap (λ (t : ℕ). (amount_in w l h s + (2 ^ 64 - 1) * t) % 2 ^ 64) (tokens_both all s)
       ∙ same_amount (amount_in w l h s) (amount_in w l m s + amount_in w l k s) ((2 ^ 64 - 1) * (tokens_in w l m s + tokens_in w l k s)) (total s)
       ∙ both (amount_in w l m s) (amount_in w l k s) (tokens_in w l m s) (tokens_in w l k s)
-
-  pub joined_excess : ((s j : ℕ) → content_of w l h s j ≡ content_of w l m s j + content_of w l k s j)
-      → ((s : ℕ) → amount_in w l h s % 2 ^ 64 ≡ (amount_in w l m s + amount_in w l k s) % 2 ^ 64) → (s : ℕ)
-      → excess w l h s ≡ (excess w l m s + excess w l k s) % 2 ^ 64
-  joined_excess = excess_both
 
   pub split_excess : ((s j : ℕ) → content_of w l h s j ≡ content_of w l m s j + content_of w l k s j) → m.amounts ≡ h.amounts
       → ((i : ℕ) → amount_at i k ≡ 0) → (s : ℕ) → (excess w l m s + excess w l k s) % 2 ^ 64 ≡ excess w l h s

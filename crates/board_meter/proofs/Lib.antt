@@ -1,4 +1,3 @@
-pub mod Tokens
 pub mod Excess
 pub mod Roles
 pub mod Fanned

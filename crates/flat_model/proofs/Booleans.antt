@@ -1,10 +1,7 @@
 -- Small facts about truth values and tests of numbers, which proofs of many crates cite.
-use Rattle.std.proofs.Common.{◌≡◌, ℕ, ◌<◌, ◌≤◌, ◌&&◌, ◌||◌, Bool, true, false, not, cond, ltb, nat_lt, T, Some, None, refl, arith}
+use Rattle.std.proofs.Common.{◌≡◌, ℕ, ◌<◌, ◌≤◌, ◌&&◌, Bool, true, false, not, cond, nat_lt, T, Some, None, refl, arith, ap, sym, ◌∙◌}
 use Rattle.std.proofs.lemmas.Bool.Decides.{nat_tests}
-
-pub to_false : (b : Bool) → (b ≡ true → ⊥) → b ≡ false
-to_false true h = absurd (h refl)
-to_false false h = refl
+pub use Rattle.std.proofs.lemmas.Bool.{or_right, false_from_ne_true as to_false}
 
 pub apart : (b : Bool) → b ≡ true → b ≡ false → ⊥
 apart b t f = cc
@@ -13,9 +10,8 @@ pub both_by : (a b : Bool) → (not a && b) ≡ true → (a ≡ false) × (b ≡
 both_by true b e = cc
 both_by false b e = (refl, e)
 
-pub or_right : (b c : Bool) → c ≡ true → (b || c) ≡ true
-or_right true c e = refl
-or_right false c e = e
+pub not_and_false : (a b : Bool) → (not a && b) ≡ false → a ≡ false → b ≡ false
+not_and_false a b e n = sym (ap (λ c. not c && b) n) ∙ e
 
 pub first : (a b : Bool) → T (a && b) → T a
 first true b p = tt
@@ -25,11 +21,8 @@ pub second : (a b : Bool) → T (a && b) → T b
 second true b p = p
 second false b p = absurd p
 
-pub less : (k n : ℕ) → ltb k n ≡ true → k < n
-less k n e = grind (arith, nat_tests)
-
-pub not_less : (k n : ℕ) → ltb k n ≡ false → n ≤ k
-not_less k n e = grind (arith, nat_tests)
+pub both : (a b : Bool) → T (a && b) → T a × T b
+both a b p = (first a b p, second a b p)
 
 -- what a search that found something, or nothing, says of the first match
 pub place_by : (n m end : ℕ) (t : Bool) → nat_lt n m ≡ t → Some end ≡ cond t (Some n) None → (n < m) × (n ≡ end)

@@ -9,8 +9,9 @@ use Rattle.std.specs.FinMap.{FinMap, IsAntisymmetric, nat_cmp-IsAntisymmetric, g
 use Rattle.std.specs.FinMap.{entries-insert, entries_sorted, get-entries, get-insert, get-remove}
 use Rattle.std.specs.FinMap.Entries.{put, by_order, below_all}
 use Rattle.flat_model.proofs.Maps.{insert_remove, key_of}
-use Rattle.flat_model.proofs.Counting.{halves, find_behind, find_first}
+use Rattle.flat_model.proofs.Counting.{find_behind, find_first}
 use Rattle.flat_model.proofs.Sums.{count_by-cons}
+use Rattle.flat_model.proofs.Booleans.{both}
 
 module _ {K X : Type 0} {R : K → K → Ordering} (o : IsTotalOrder R) (P : X → Bool) where
   count_put : (k : K) (v : X) (es : List (K × X)) → find R k es ≡ None → count_by P (map (λ e. e.1) (put R k v es)) ≡ cond (P v) 1 0 + count_by P (map (λ e. e.1) es)
@@ -43,7 +44,7 @@ module _ {X : Type 0} (P : X → Bool) where
       → ((q : ℕ) (x : X) → find nat_cmp q es ≡ Some x → get m q ≡ Some x) → count_by P (map (λ e. e.1) es) ≤ count_by P (values m)
   count_among [] s m h = omega arith
   count_among (e ∷ es) s m h =
-      let two = halves (below_all nat_cmp e.0 es) (is_sorted nat_cmp es) s in
+      let two = both (below_all nat_cmp e.0 es) (is_sorted nat_cmp es) s in
       let whole = count_removed nat_cmp_total P nat_cmp-IsAntisymmetric m e.0 e.1 (h e.0 e.1 (find_first e es)) in
       let first = count_by-cons P e.1 (map (λ x. x.1) es) in
       let rest = count_among es two.1 (remove m e.0) (λ q x f. behind q x two.0 f) in

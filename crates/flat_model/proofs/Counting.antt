@@ -1,5 +1,5 @@
 -- The count of a group is the sum of its own members and of its children's counts.
-use Rattle.std.proofs.Common.{◌≡◌, ℕ, zero, suc, ◌+◌, ◌-◌, ◌<◌, ◌≤◌, Bool, true, false, cond, not, ◌&&◌, ◌↔◌, T, List, [], ◌∷◌, map, length}
+use Rattle.std.proofs.Common.{◌≡◌, ℕ, zero, suc, ◌+◌, ◌-◌, ◌<◌, ◌≤◌, Bool, true, false, cond, not, ◌&&◌, ◌↔◌, T, List, [], ◌∷◌, map, length, ltb-true, lt-ltb}
 use Rattle.std.proofs.Common.{take, Some, None, refl, sym, ap, subst, ◌∙◌, is_some, ltb, arith}
 use Rattle.std.proofs.lemmas.Bool.Decides.{nat_tests}
 use Rattle.std.proofs.lemmas.List.{length-take-le}
@@ -8,13 +8,14 @@ use Rattle.std.proofs.Math.Seq.{take-length}
 use Rattle.std.proofs.lemmas.List.{length-map}
 use Rattle.std.specs.Prelude.{count_by, sum_by, filter}
 use Rattle.std.specs.List.{AllByRecursion}
-use Rattle.std.specs.Cmp.{IsTotalOrder, nat_cmp_total}
+use Rattle.std.specs.Cmp.{IsTotalOrder, nat_cmp_total, Equal-is}
 use Rattle.std.specs.declared.cmp.Ordering.{Ordering}
 use Rattle.std.specs.declared.cmp.Ordering.TheVariants.{Less, Equal, Greater}
 use Rattle.std.specs.Ordering.{nat_cmp, eq_by_cmp, is_lt, is_eq}
 use Rattle.std.specs.FinMap.{IsAntisymmetric, nat_cmp-IsAntisymmetric, entries, keys, values, find, is_sorted, get-entries, entries_sorted}
 use Rattle.std.specs.FinMap.Entries.{below_all}
 use Rattle.std.proofs.lemmas.Cmp.{eq_by_cmp_equiv}
+use Rattle.std.proofs.lemmas.Bool.{and_parts, false_from_ne_true}
 use Rattle.flat_model.specs.Path.{Path, path_cmp, parent, is_root, at_or_below, same_path}
 use Rattle.flat_model.specs.State.{State}
 use Rattle.flat_model.specs.Counts.{is_group, current, populated, members, children, IsInhabited}
@@ -23,7 +24,7 @@ use Rattle.flat_model.proofs.PathLaws.{path_cmp-IsTotalOrder, path_cmp-IsAntisym
 use Rattle.flat_model.proofs.PathLaws.{at_or_below_take, at_or_below_through, at_or_below_length, take_above, parent_above}
 use Rattle.flat_model.proofs.Maps.{key_of}
 use Rattle.flat_model.proofs.Sums.{count_by-cons, count_by-map, count_by-filter, count_none, sum_by-plus, sum_by-same, sum_by-zero}
-use Rattle.flat_model.proofs.Booleans.{to_false}
+use Rattle.flat_model.proofs.Booleans.{both}
 
 -- ---- one key among sorted keys
 
@@ -33,19 +34,10 @@ front false b h = absurd h
 
 module _ {K : Type 0} {R : K → K → Ordering} (o : IsTotalOrder R) where
   itself : (k : K) → R k k ≡ Equal
-  itself k = by (R k k) ((eq_by_cmp_equiv o).refl k)
-    where
-      by : (r : Ordering) → is_eq r ≡ true → r ≡ Equal
-      by Less e = cc
-      by Equal e = refl
-      by Greater e = cc
+  itself k = (Equal-is (R k k)).0 ((eq_by_cmp_equiv o).refl k)
 
   not_itself : (k : K) → is_lt (R k k) ≡ true → ⊥
   not_itself k h = let f : false ≡ true = sym (ap is_lt (itself k)) ∙ h in cc
-
-pub halves : (a b : Bool) → T (a && b) → T a × T b
-halves true b h = (tt, h)
-halves false b h = absurd h
 
 module _ {K X : Type 0} {R : K → K → Ordering} (o : IsTotalOrder R) (same : IsAntisymmetric R) where
   -- what passes at q alone passes nowhere behind q
@@ -64,7 +56,7 @@ module _ {K X : Type 0} {R : K → K → Ordering} (o : IsTotalOrder R) (same : 
   pub once_among : (P : K → Bool) (q : K) → ((k : K) → P k ≡ true → k ≡ q) → P q ≡ true → (es : List (K × X)) → T (is_sorted R es) → is_some (find R q es) ≡ true → count_by P (map (λ e. e.0) es) ≡ 1
   once_among P q only there [] s h = cc
   once_among P q only there (e ∷ es) s h =
-      let two = halves (below_all R e.0 es) (is_sorted R es) s in
+      let two = both (below_all R e.0 es) (is_sorted R es) s in
       elim (eq_by_cmp R q e.0) as (λ b. eq_by_cmp R q e.0 ≡ b → is_some (cond b (Some e.1) (find R q es)) ≡ true → count_by P (map (λ x. x.0) (e ∷ es)) ≡ 1) [
         | true ↦ λ t is.
             let at : q ≡ e.0 = key_of same q e.0 t in
@@ -126,10 +118,6 @@ child_length g p c =
     let len = length-take-le (length p - 1) p (omega arith) in
     let e = ap length c.up in omega (arith, len, e)
 
-and_parts : (a b : Bool) → (a && b) ≡ true → (a ≡ true) × (b ≡ true)
-and_parts true b e = (refl, e)
-and_parts false b e = cc
-
 -- it is the front of h with one name more than g has
 leads_is : (g h p : Path) → leads g h p ≡ true → p ≡ take (suc (length g)) h
 leads_is g h p e =
@@ -187,7 +175,7 @@ module _ (slots : ℕ) (s : State) (w : WellFormed slots s) (g : Path) where
       elim (same_path h g) as (λ b. same_path h g ≡ b → cond (at_or_below h g) 1 0 ≡ cond b 1 0 + count_by (leads g h) (keys s.groups)) [
         | true ↦ λ t.
             let is : h ≡ g = (same_path_is h g).0 t in
-            let none = count_none (leads g h) (keys s.groups) (λ p. to_false (leads g h p) (λ l. let k = leads_long g h p l in let e = ap length is in absurd (omega (arith, k, e)))) in
+            let none = count_none (leads g h) (keys s.groups) (λ p. false_from_ne_true (leads g h p) (λ l. let k = leads_long g h p l in let e = ap length is in absurd (omega (arith, k, e)))) in
             let below : at_or_below h g ≡ true = ap (λ (q : Path). at_or_below q g) is ∙ at_or_below_itself g in
             ap (λ b. cond b 1 0) below ∙ (omega (arith, none))
         | false ↦ λ t.
@@ -201,7 +189,7 @@ module _ (slots : ℕ) (s : State) (w : WellFormed slots s) (g : Path) where
                   (front_leads g h below long) (entries s.groups) (entries_sorted s.groups) there_is in
                   omega (arith, one)
               | false ↦ λ off.
-                  let none = count_none (leads g h) (keys s.groups) (λ p. to_false (leads g h p) (λ l. let f : true ≡ false = sym (leads_below g h p l) ∙ off in cc)) in
+                  let none = count_none (leads g h) (keys s.groups) (λ p. false_from_ne_true (leads g h p) (λ l. let f : true ≡ false = sym (leads_below g h p l) ∙ off in cc)) in
                   omega (arith, none)
             ] refl
       ] refl
@@ -254,7 +242,7 @@ module _ {X : Type 0} where
   pub find_later : (e : ℕ × X) (es : List (ℕ × X)) (pid : ℕ) (x : X) → T (is_sorted nat_cmp (e ∷ es)) → find nat_cmp pid es ≡ Some x → find nat_cmp pid (e ∷ es) ≡ Some x
   find_later e es pid x s h =
       elim (eq_by_cmp nat_cmp pid e.0) as (λ b. eq_by_cmp nat_cmp pid e.0 ≡ b → cond b (Some e.1) (find nat_cmp pid es) ≡ Some x) [
-        | true ↦ λ t. let n = find_behind e.0 es (halves (below_all nat_cmp e.0 es) (is_sorted nat_cmp es) s).0 in
+        | true ↦ λ t. let n = find_behind e.0 es (both (below_all nat_cmp e.0 es) (is_sorted nat_cmp es) s).0 in
             let same = ap (λ (k : ℕ). find nat_cmp k es) (key_of nat_cmp-IsAntisymmetric pid e.0 t) in cc
         | false ↦ λ t. h
       ] refl
@@ -266,7 +254,7 @@ homes_of : (s : State) (es : List (ℕ × Path)) → T (is_sorted nat_cmp es)
 homes_of s [] k h = tt
 homes_of s (e ∷ es) k h = (
   h e.0 e.1 (find_first e es),
-  homes_of s es (halves (below_all nat_cmp e.0 es) (is_sorted nat_cmp es) k).1 (λ pid p f. h pid p (find_later e es pid p k f)),
+  homes_of s es (both (below_all nat_cmp e.0 es) (is_sorted nat_cmp es) k).1 (λ pid p f. h pid p (find_later e es pid p k f)),
 )
 
 -- the count of a group is its own members and what its children count
@@ -292,7 +280,7 @@ pub record Found (P : Path → Bool) (es : List (ℕ × Path)) : Type 0 where
 pub found_by : (P : Path → Bool) (es : List (ℕ × Path)) → T (is_sorted nat_cmp es) → 0 < count_by P (map (λ e. e.1) es) → Found P es
 found_by P [] s h = absurd (omega arith)
 found_by P (e ∷ es) s h =
-    let two = halves (below_all nat_cmp e.0 es) (is_sorted nat_cmp es) s in
+    let two = both (below_all nat_cmp e.0 es) (is_sorted nat_cmp es) s in
     let c = count_by-cons P e.1 (map (λ x. x.1) es) in
     elim (P e.1) as (λ b. P e.1 ≡ b → count_by P (map (λ x. x.1) (e ∷ es)) ≡ cond b 1 0 + count_by P (map (λ x. x.1) es) → Found P (e ∷ es)) [
       | true ↦ λ t is. record { pid = e.0; at = e.1; home = find_first e es; passes = t }
@@ -309,23 +297,17 @@ counted_by P (e ∷ es) pid at f t =
       | false ↦ λ is. let r = counted_by P es pid at is t in omega (arith, c, r)
     ] f
 
-positive : (n : ℕ) → ltb 0 n ≡ true → 0 < n
-positive n e = grind (arith, nat_tests)
-
-is_positive : (n : ℕ) → 0 < n → ltb 0 n ≡ true
-is_positive n h = grind (arith, nat_tests)
-
 -- populated says whether some process is there
 pub populated_is : (s : State) (g : Path) → (populated s g ≡ true) ↔ IsInhabited s g
 populated_is s g = (
-  λ e. let f = found_by (λ p. at_or_below p g) (entries s.home) (entries_sorted s.home) (positive (current s g) e) in
+  λ e. let f = found_by (λ p. at_or_below p g) (entries s.home) (entries_sorted s.home) (ltb-true 0 (current s g) e) in
       record { pid = f.pid; at = f.at; home = get-entries s.home f.pid ∙ f.home; below = f.passes },
-  λ i. is_positive (current s g) (counted_by (λ p. at_or_below p g) (entries s.home) i.pid i.at (sym (get-entries s.home i.pid) ∙ i.home) i.below),
+  λ i. lt-ltb 0 (current s g) (counted_by (λ p. at_or_below p g) (entries s.home) i.pid i.at (sym (get-entries s.home i.pid) ∙ i.home) i.below),
 )
 
 -- nobody is where there is no group
 pub nobody_without_group : (slots : ℕ) (s : State) (p : Path) → WellFormed slots s → is_group s p ≡ false → current s p ≡ 0
-nobody_without_group slots s p w gone = by (current s p) (to_false (populated s p) (λ e.
+nobody_without_group slots s p w gone = by (current s p) (false_from_ne_true (populated s p) (λ e.
     let at = (populated_is s p).0 e in
     let f : true ≡ false = sym (groups_above slots s at.at p w (w.homes at.pid at.at at.home) at.below) ∙ gone in cc))
   where

@@ -1,7 +1,6 @@
 -- Each accepted or counted command keeps a state well formed.
 use Rattle.std.proofs.Common.{◌≡◌, ℕ, ◌+◌, ◌-◌, ◌≤◌, Bool, true, false, cond, not, ◌&&◌, ◌||◌, List, [], ◌∷◌, map, length, Option, Some, None, refl, sym, ap, subst, ◌∙◌, is_some, arith, ltb}
-use Rattle.std.proofs.lemmas.Bool.Decides.{nat_tests}
-use Rattle.std.proofs.lemmas.List.{length-take}
+use Rattle.std.proofs.lemmas.List.{length-take, length-map}
 use Rattle.std.specs.Prelude.{unwrap_or, option_map, max}
 use Rattle.std.proofs.Math.Nat.{le-max_right}
 use Rattle.std.specs.List.{list_any}
@@ -12,6 +11,9 @@ use Rattle.std.specs.Cmp.{nat_cmp_total, IsTotalOrder}
 use Rattle.std.specs.FinMap.{FinMap, IsAntisymmetric, nat_cmp-IsAntisymmetric, get, insert, remove, retain_keys, entries, keys, values}
 use Rattle.std.specs.FinMap.{find, len, from_entries, get-insert, get-remove, get-retain_keys, get-entries, len-insert, len-remove}
 use Rattle.std.specs.FinMap.{len-entries, len-empty}
+use Rattle.std.proofs.Math.Bool.{or-true}
+use Rattle.std.proofs.lemmas.Bool.{not-false}
+use Rattle.std.proofs.Common.{ltb-false}
 use Rattle.flat_model.specs.Path.{Path, path_cmp, parent, is_root, at_or_below, strictly_below, same_path}
 use Rattle.flat_model.specs.State.{State, Attr, Limit, fresh}
 use Rattle.flat_model.specs.Counts.{is_group, current}
@@ -24,7 +26,9 @@ use Rattle.flat_model.proofs.PathLaws.{path_cmp-IsTotalOrder, path_cmp-IsAntisym
 use Rattle.flat_model.proofs.Maps.{key_of, get-each}
 use Rattle.flat_model.proofs.CountChanges.{count_fewer, count_put_in}
 use Rattle.flat_model.proofs.Counting.{nobody_without_group}
-use Rattle.flat_model.proofs.Refusing.{passed, beyond, affirmed}
+use Rattle.flat_model.proofs.Refusing.{passed, beyond}
+use Rattle.flat_model.proofs.Booleans.{not_and_false}
+use Rattle.flat_model.proofs.Options.{is_some-option_map}
 
 some_of : {X : Type 0} (b : Bool) (x : X) (o : Option X) → is_some o ≡ true → is_some (cond b (Some x) o) ≡ true
 some_of true x o h = refl
@@ -45,10 +49,6 @@ len-from_entries {K} {X} {R} o (e ∷ es) =
     subst (λ n. n ≤ length (e ∷ es)) (sym (len-insert o (from_entries es) e.0 e.1))
     (let h = one_more (is_some (get (from_entries {R = R} es) e.0)) _ _ (len-from_entries o es) in omega (arith, h))
 
-length_map : {X Y : Type 0} (f : X → Y) (xs : List X) → length (map f xs) ≡ length xs
-length_map f [] = refl
-length_map f (x ∷ xs) = let h = length_map f xs in omega arith
-
 abbrev IsEven : Attr → Type 0
 IsEven attr = attr.local ≤ attr.total
 
@@ -57,7 +57,7 @@ even_limit PidsMax value attr h = h
 even_limit MaxDescendants value attr h = h
 even_limit MaxDepth value attr h = h
 
-limit_peak : (file : LimitFile) (value : Limit) (attr : Attr) → (with_limit file value attr).peak ≡ attr.peak
+pub limit_peak : (file : LimitFile) (value : Limit) (attr : Attr) → (with_limit file value attr).peak ≡ attr.peak
 limit_peak PidsMax value attr = refl
 limit_peak MaxDescendants value attr = refl
 limit_peak MaxDepth value attr = refl
@@ -144,23 +144,16 @@ module _ (slots : ℕ) (s : State) (w : WellFormed slots s) where
       ] (sym (get-remove nat_cmp_total s.home pid k) ∙ h)
 
   -- ---- each group changed, and none made or taken out
-  each_group : (f : Path → Attr → Attr) (q : Path) → is_group s q ≡ is_some (option_map (f q) (get s.groups q))
-  each_group f q = by (get s.groups q)
-    where
-      by : (o : Option Attr) → is_some o ≡ is_some (option_map (f q) o)
-      by None = refl
-      by (Some a) = refl
-
   gets : (f : Path → Attr → Attr) (q : Path) → get (at_each f s).groups q ≡ option_map (f q) (get s.groups q)
   gets f = get-each path_cmp-IsTotalOrder path_cmp-IsAntisymmetric f s.groups
 
   same_group : (f : Path → Attr → Attr) (q : Path) → is_group (at_each f s) q ≡ is_group s q
-  same_group f q = ap is_some (gets f q) ∙ sym (each_group f q)
+  same_group f q = ap is_some (gets f q) ∙ is_some-option_map (f q) (get s.groups q)
 
   few_each : (f : Path → Attr → Attr) → len (at_each f s).groups ≤ slots + 1
   few_each f =
       let made = len-from_entries path_cmp-IsTotalOrder (map (λ e. (e.0, f e.0 e.1)) (entries s.groups)) in
-      let size = length_map {Y = Path × Attr} (λ e. (e.0, f e.0 e.1)) (entries s.groups) ∙ sym (len-entries s.groups) in
+      let size = length-map {B = Path × Attr} (entries s.groups) (λ e. (e.0, f e.0 e.1)) ∙ sym (len-entries s.groups) in
       let few = w.few in omega (arith, made, size, few)
 
   -- what holds of each group as it is changed
@@ -183,16 +176,13 @@ module _ (slots : ℕ) (s : State) (w : WellFormed slots s) where
           | false ↦ λ e. w.homes k q e
         ] (sym (get-insert nat_cmp_total s.home pid p k) ∙ h)
 
-    away : (b c : Bool) → (not b && c) ≡ false → b ≡ false → c ≡ false
-    away b c e r = sym (ap (λ x. not x && c) r) ∙ e
-
     reached : (q : Path) (x : Attr) → get s.groups q ≡ Some x → is_root q ≡ false → current come q ≤ (raise_peak come p q x).peak
     reached q x e r =
         elim (counts_for p q) as (λ b. counts_for p q ≡ b → current come q ≤ cond b (max x.peak (current come q)) x.peak) [
           | true ↦ λ c. le-max_right x.peak (current come q)
           | false ↦ λ c.
               let more = count_put_in (λ h. at_or_below h q) s.home pid p in
-              let none : ◌≡◌ {A = ℕ} (cond (at_or_below p q) 1 0) 0 = ap (λ b. cond b 1 0) (away (is_root q) (at_or_below p q) c r) in
+              let none : ◌≡◌ {A = ℕ} (cond (at_or_below p q) 1 0) 0 = ap (λ b. cond b 1 0) (not_and_false (is_root q) (at_or_below p q) c r) in
               let was = w.peaks q x e r in omega (arith, more, none, was)
         ] refl
 
@@ -236,24 +226,16 @@ key_passes same test q [] h t = cc
 key_passes {R = R} same test q (e ∷ es) h t =
     elim (eq_by_cmp R q e.0) as (λ b. eq_by_cmp R q e.0 ≡ b → is_some (cond b (Some e.1) (find R q es)) ≡ true → list_any test (map (λ x. x.0) (e ∷ es)) ≡ true) [
       | true ↦ λ is _. ap (λ b. b || list_any test (map (λ x. x.0) es)) (ap test (sym (key_of same q e.0 is)) ∙ t)
-      | false ↦ λ is g. ap (λ b. test e.0 || b) (key_passes same test q es g t) ∙ or_true (test e.0)
+      | false ↦ λ is g. ap (λ b. test e.0 || b) (key_passes same test q es g t) ∙ or-true (test e.0)
     ] refl h
-  where
-    or_true : (b : Bool) → (b || true) ≡ true
-    or_true true = refl
-    or_true false = refl
 
 value_passes : {K X : Type 0} (R : K → K → Ordering) (test : X → Bool) (q : K) (v : X) (es : List (K × X)) → find R q es ≡ Some v → test v ≡ true → list_any test (map (λ e. e.1) es) ≡ true
 value_passes R test q v [] h t = cc
 value_passes R test q v (e ∷ es) h t =
     elim (eq_by_cmp R q e.0) as (λ b. cond b (Some e.1) (find R q es) ≡ Some v → list_any test (map (λ x. x.1) (e ∷ es)) ≡ true) [
       | true ↦ λ g. ap (λ b. b || list_any test (map (λ x. x.1) es)) (ap test (let is : e.1 ≡ v = cc in is) ∙ t)
-      | false ↦ λ g. ap (λ b. test e.1 || b) (value_passes R test q v es g t) ∙ or_true (test e.1)
+      | false ↦ λ g. ap (λ b. test e.1 || b) (value_passes R test q v es g t) ∙ or-true (test e.1)
     ] h
-  where
-    or_true : (b : Bool) → (b || true) ≡ true
-    or_true true = refl
-    or_true false = refl
 
 -- a group but the root is strictly below its parent
 pub below_parent : (q : Path) → is_root q ≡ false → strictly_below q (parent q) ≡ true
@@ -332,9 +314,6 @@ makes false false q None true e = cc
 makes false false q None false e = (refl, refl, refl)
 makes false false q (Some r) d e = cc
 
-room : (slots n : ℕ) → ltb slots n ≡ false → n ≤ slots
-room slots n e = grind (arith, nat_tests)
-
 kept_len : (b : Bool) (n : ℕ) → b ≡ true → cond b n (n + 1) ≡ n
 kept_len b n e = ap (λ c. cond c n (n + 1)) e
 
@@ -343,21 +322,21 @@ pub kept : (slots : ℕ) (s : State) (c : Command) → WellFormed slots s → re
 kept slots s (MakeGroup p) w e =
     let tests = makes (is_group s p) (not (is_group s (parent p))) (parent p) (blocked_make s p) (ltb slots (len s.groups)) e in
     let nobody = nobody_without_group slots s p w tests.2 in
-    with_group slots s w p fresh (affirmed _ tests.0) (omega arith) (λ _. omega (arith, nobody)) (λ _. refl)
+    with_group slots s w p fresh (not-false _ tests.0) (omega arith) (λ _. omega (arith, nobody)) (λ _. refl)
     (subst (λ n. n ≤ slots + 1) (sym (len-insert path_cmp-IsTotalOrder s.groups p fresh))
-    (one_more (is_group s p) _ _ (room slots (len s.groups) tests.1)))
+    (one_more (is_group s p) _ _ (ltb-false slots (len s.groups) tests.1)))
 kept slots s (RemoveGroup p) w e =
     let tests = four (is_root p) (not (is_group s p)) (list_any (λ q. strictly_below q p) (keys s.groups)) (list_any (λ q. same_path q p) (values s.home)) p e in
     without_group slots s w p tests.0 tests.2 tests.3
-kept slots s (Fork from child) w e = with_process slots s w child (home_of s from) (at_home (get s.home from) refl (affirmed _ (passed _ _ _ e)))
+kept slots s (Fork from child) w e = with_process slots s w child (home_of s from) (at_home (get s.home from) refl (not-false _ (passed _ _ _ e)))
   where
     at_home : (o : Option Path) → get s.home from ≡ o → is_some o ≡ true → is_group s (unwrap_or o []) ≡ true
     at_home None is h = cc
     at_home (Some q) is h = w.homes from q is
 kept slots s (Exit pid) w e = fewer slots s w (remove s.home pid) (others slots s w pid)
-kept slots s (Move p pid) w e = with_process slots s w pid p (affirmed _ (passed _ _ _ e))
+kept slots s (Move p pid) w e = with_process slots s w pid p (not-false _ (passed _ _ _ e))
 kept slots s (SetLimit p file value) w e =
-    let there = affirmed _ (passed _ _ _ (beyond _ _ _ e)) in
+    let there = not-false _ (passed _ _ _ (beyond _ _ _ e)) in
     with_group slots s w p _ (w.parents p there)
     (even_limit file value _ (even_own (get s.groups p) (w.totals p)))
     (λ r. subst (λ n. current s p ≤ n) (sym (limit_peak file value (attr_of s p))) (own_peak (get s.groups p) refl there r))

@@ -1,4 +1,5 @@
 pub mod Booleans
+pub mod Options
 pub mod Lists
 pub mod PathLaws
 pub mod PathMembers
@@ -12,9 +13,13 @@ pub mod Peaks
 pub mod TakenBack
 pub mod Refusing
 pub mod Kept
+pub mod Prefixes
 pub mod Nearest
 pub mod Limits
 pub mod Undoing
 pub mod Reachable
+pub mod UpTo
+pub mod Runs
+pub mod LineEnds
 pub mod PathTextLawsChild
 pub mod AuditSound

@@ -21,10 +21,10 @@ use Rattle.std.specs.Cmp.{nat_cmp_total}
 use Rattle.flat_model.proofs.CountChanges.{count_inserted}
 use Rattle.flat_model.proofs.PathLaws.{path_cmp-IsTotalOrder, path_cmp-IsAntisymmetric}
 use Rattle.flat_model.proofs.Maps.{get-each}
-use Rattle.flat_model.proofs.Refusing.{absent}
+use Rattle.flat_model.proofs.Options.{not_some_is_none}
 use Rattle.flat_model.proofs.Nearest.{first_path_found, first_path_none, first_is_nearest}
 use Rattle.flat_model.proofs.Kept.{counted}
-use Rattle.flat_model.proofs.Booleans.{both_by}
+use Rattle.flat_model.proofs.Booleans.{both_by, not_and_false}
 
 -- ---- tests of a limit
 pub record IsPast (n : ℕ) (l : Limit) : Type 0 where
@@ -66,9 +66,6 @@ asked_by test (Some attr) e = record { attr = attr; there = refl; yes = e }
 pub asked_no : (test : Attr → Bool) (o : Option Attr) (attr : Attr) → asks test o ≡ false → o ≡ Some attr → test attr ≡ false
 asked_no test o attr e is = sym (ap (asks test) is) ∙ e
 
-neither_by : (a b : Bool) → (not a && b) ≡ false → a ≡ false → b ≡ false
-neither_by a b e n = sym (ap (λ c. not c && b) n) ∙ e
-
 -- ---- pids.max
 
 -- the group that blocks a fork is the nearest that the fork would bring past its limit
@@ -94,7 +91,7 @@ pub fork_fits : (s : State) (g : Path) → blocked_fork s g ≡ None → (a : Pa
     → is_root a ≡ false → get s.groups a ≡ Some attr → attr.limits.pids ≡ At m → current s a + 1 ≤ m
 fork_fits s g e a attr m above not_root there limit =
     let no = first_path_none (is_full s) (upward g) a e ((upward_are g a).1 above) in
-    let left = neither_by (is_root a) (asks (λ attr. exceeds (current s a + 1) attr.limits.pids) (get s.groups a)) no not_root in
+    let left = not_and_false (is_root a) (asks (λ attr. exceeds (current s a + 1) attr.limits.pids) (get s.groups a)) no not_root in
     within_by (current s a + 1) attr.limits.pids m (asked_no (λ attr. exceeds (current s a + 1) attr.limits.pids) (get s.groups a) attr left there) limit
 
 -- ---- only a fork is refused by pids.max
@@ -201,7 +198,7 @@ kept_refused slots s c NotReadable w e = w
 
 -- one process more in each group at or above the child's home
 pub current_forked : (s : State) (from child : ℕ) (g : Path) → has_process s child ≡ false → current (after s (Fork from child)) g ≡ cond (at_or_below (home_of s from) g) 1 0 + current s g
-current_forked s from child g free = count_inserted nat_cmp_total (λ p. at_or_below p g) s.home child (home_of s from) (absent _ free)
+current_forked s from child g free = count_inserted nat_cmp_total (λ p. at_or_below p g) s.home child (home_of s from) (not_some_is_none _ free)
 
 -- after a fork that was accepted no group at or above the child's home is past its limit by it
 pub fork_within : (slots : ℕ) (s : State) (from child : ℕ) → refusal slots s (Fork from child) ≡ None → IsWithinPids (after s (Fork from child)) (home_of s from)

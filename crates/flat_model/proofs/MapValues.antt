@@ -9,6 +9,7 @@ use Rattle.std.specs.FinMap.{get-remove, get-entries, len-entries, entries_sorte
 use Rattle.std.specs.FinMap.Entries.{below_all}
 use Rattle.std.proofs.lemmas.List.{length-map}
 use Rattle.flat_model.specs.Mapped.{map_values}
+use Rattle.flat_model.proofs.Options.{is_some-option_map}
 
 -- ---- lists of entries
 
@@ -29,10 +30,6 @@ module _ {K X Y : Type 0} (R : K → K → Ordering) (f : X → Y) where
 keys-map : {K X Y : Type 0} (f : X → Y) (es : List (K × X)) → map (λ (e : K × Y). e.0) (map (λ e. (e.0, f e.1)) es) ≡ map (λ e. e.0) es
 keys-map f [] = refl
 keys-map f (e ∷ es) = ap (λ ks. e.0 ∷ ks) (keys-map f es)
-
-is_some-option_map : {X Y : Type 0} (f : X → Y) (o : Option X) → is_some (option_map f o) ≡ is_some o
-is_some-option_map f None = refl
-is_some-option_map f (Some x) = refl
 
 option_map-cond : {X Y : Type 0} (f : X → Y) (b : Bool) (x y : Option X) → option_map f (cond b x y) ≡ cond b (option_map f x) (option_map f y)
 option_map-cond f true x y = refl

@@ -1,27 +1,22 @@
 -- Two changes of a finite map that together leave it.
 use Rattle.std.proofs.Common.{◌≡◌, ℕ, Bool, true, false, cond, not, List, [], ◌∷◌, map, Option, Some, None, refl, sym, ap, ◌∙◌}
 use Rattle.std.specs.declared.cmp.Ordering.{Ordering}
-use Rattle.std.specs.declared.cmp.Ordering.TheVariants.{Less, Equal, Greater}
-use Rattle.std.specs.Ordering.{eq_by_cmp, is_eq, nat_cmp}
+use Rattle.std.specs.declared.cmp.Ordering.TheVariants.{Equal}
+use Rattle.std.specs.Ordering.{eq_by_cmp, nat_cmp}
 use Rattle.std.specs.Prelude.{option_map}
 use Rattle.std.specs.Option.{option_or}
-use Rattle.std.specs.Cmp.{IsTotalOrder, nat_cmp_total, eq_by_cmp_equiv}
+use Rattle.std.specs.Cmp.{IsTotalOrder, nat_cmp_total, eq_by_cmp_equiv, Equal-is}
 use Rattle.std.specs.FinMap.{FinMap, IsAntisymmetric, nat_cmp-IsAntisymmetric, same_map, get, insert, remove, retain_keys, entries, find}
 use Rattle.std.specs.FinMap.{from_entries, get-insert, get-remove, get-retain_keys, get-from_entries, get-entries}
 use Rattle.flat_model.specs.Path.{Path}
 use Rattle.flat_model.specs.Inverse.{place_all}
-
-tie : (r : Ordering) → is_eq r ≡ true → r ≡ Equal
-tie Less e = cc
-tie Equal e = refl
-tie Greater e = cc
 
 pub twice : {A : Type 0} (b : Bool) (x y z : A) → cond b x (cond b y z) ≡ cond b x z
 twice true x y z = refl
 twice false x y z = refl
 
 pub key_of : {K : Type 0} {R : K → K → Ordering} → IsAntisymmetric R → (q k : K) → eq_by_cmp R q k ≡ true → q ≡ k
-key_of same q k e = same q k (tie _ e)
+key_of {R = R} same q k e = same q k ((Equal-is (R q k)).0 e)
 
 module _ {K X : Type 0} {R : K → K → Ordering} (o : IsTotalOrder R) (same : IsAntisymmetric R) where
   -- what a test answers at a key, where it answers b there

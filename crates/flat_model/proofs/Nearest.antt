@@ -1,12 +1,13 @@
 -- The walk from a group up to the root: what its first find says of those before it.
-use Rattle.std.proofs.Common.{◌≡◌, ℕ, zero, suc, ◌+◌, ◌-◌, ◌<◌, ◌≤◌, Bool, true, false, cond, List, [], ◌∷◌, length, take, get_or, Some, None, refl, sym, ap, ◌∙◌, inl, inr, arith}
+use Rattle.std.proofs.Common.{◌≡◌, ℕ, zero, suc, ◌-◌, ◌<◌, ◌≤◌, Bool, true, false, cond, List, [], ◌∷◌, length, take, get_or, Some, None, refl, sym, ap, ◌∙◌, inl, inr, arith}
 use Rattle.std.specs.List.{Contains}
-use Rattle.std.proofs.lemmas.List.{get_or-map, get_or-reverse, length-map, length-reverse, length-take-le}
+use Rattle.std.proofs.lemmas.List.{length-take-le}
 use Rattle.std.proofs.Math.Nat.{eq-or-lt_of_le}
 use Rattle.std.proofs.Math.Seq.{take-length}
-use Rattle.flat_model.specs.Path.{Path, at_or_below, strictly_below, prefixes, upward, same_path}
+use Rattle.flat_model.specs.Path.{Path, at_or_below, strictly_below, upward, same_path}
 use Rattle.flat_model.specs.Counts.{first_path}
 use Rattle.flat_model.proofs.PathLaws.{at_or_below_take, at_or_below_length, same_path_itself, strictly_below_is}
+use Rattle.flat_model.proofs.Prefixes.{length-upward, upward_at}
 
 -- the place of the first path that passes; none before it does
 pub record IsFirst (test : Path → Bool) (ps : List Path) (a : Path) : Type 0 where
@@ -44,30 +45,6 @@ all_fail test (p ∷ ps) a (suc k) e l = all_fail test ps a k (none_of test p ps
 pub first_path_none : (test : Path → Bool) (ps : List Path) (a : Path) → first_path test ps ≡ None → Contains ps a → test a ≡ false
 first_path_none test ps a e h = ap test (sym h.2) ∙ all_fail test ps a h.0 e h.1
 
-length_prefixes : (p : Path) → length (prefixes p) ≡ length p + 1
-length_prefixes [] = refl
-length_prefixes (n ∷ p) = let h = length_prefixes p in let m = length-map (prefixes p) (λ (q : Path). n ∷ q) in omega (arith, h, m)
-
--- the k-th group on the way from the root to p
-prefix_at : (p : Path) (k : ℕ) (d : Path) → k ≤ length p → get_or (prefixes p) k d ≡ take k p
-prefix_at [] zero d h = refl
-prefix_at [] (suc k) d h = absurd (omega arith)
-prefix_at (n ∷ p) zero d h = refl
-prefix_at (n ∷ p) (suc k) d h =
-    let size = length_prefixes p in
-    let low : k ≤ length p = omega arith in
-    let inside : k < length (prefixes p) = omega (arith, size) in
-    get_or-map (λ (q : Path). n ∷ q) (prefixes p) k [] d inside ∙ ap (λ (q : Path). n ∷ q) (prefix_at p k [] low)
-
--- the k-th group on the way from p up
-upward_at : (p : Path) (k : ℕ) (d : Path) → k ≤ length p → get_or (upward p) k d ≡ take (length p - k) p
-upward_at p k d h =
-    let size = length_prefixes p in
-    let inside : k < length (prefixes p) = omega (arith, size) in
-    let at : length (prefixes p) - 1 - k ≡ length p - k = omega (arith, size) in
-    let low : length p - k ≤ length p = omega arith in
-    get_or-reverse (prefixes p) k d inside ∙ ap (λ n. get_or (prefixes p) n d) at ∙ prefix_at p (length p - k) d low
-
 -- a group strictly below another has a longer path
 pub length_strictly : (b a : Path) → strictly_below b a ≡ true → length a < length b
 length_strictly b a h =
@@ -88,7 +65,7 @@ first_is_nearest test g a b e h under =
     let f = first_path_found test (upward g) a e in
     let longer = length_strictly b a under in
     let short = at_or_below_length g b h in
-    let size : length (upward g) ≡ length g + 1 = length-reverse (prefixes g) ∙ length_prefixes g in
+    let size = length-upward g in
     let low : f.place ≤ length g = omega (arith, f.inside, size) in
     let a_is : a ≡ take (length g - f.place) g = sym f.there ∙ upward_at g f.place a low in
     let a_len : length a ≡ length g - f.place = ap length a_is ∙ length-take-le (length g - f.place) g (omega arith) in

@@ -1,15 +1,15 @@
 -- The orders of names and paths, and what it is to be at or below a group.
-use Rattle.std.proofs.Common.{◌≡◌, ℕ, ◌-◌, ◌≤◌, Bool, true, false, not, ◌&&◌, ◌⊎◌, ◌↔◌, [], ◌∷◌, ◌++◌, length, take, drop, refl, ap, sym}
+use Rattle.std.proofs.Common.{◌≡◌, ℕ, ◌-◌, ◌≤◌, Bool, true, false, not, ◌&&◌, ◌⊎◌, ◌↔◌, [], ◌∷◌, ◌++◌, length, take, drop, refl, ap, sym, ◌≢◌}
 use Rattle.std.proofs.Common.{◌∙◌, subst, inl, inr, append_assoc, length-append, take-append-drop, arith}
-use Rattle.std.specs.Cmp.{IsTotalOrder, first_so, second_so}
+use Rattle.std.specs.Cmp.{IsTotalOrder, first_so, second_so, Equal-is}
 use Rattle.std.specs.Cmp.Lexicographic.{nat_list_cmp_total, lists_total}
 use Rattle.std.specs.FinMap.{IsAntisymmetric, nat_cmp-IsAntisymmetric, slice_cmp-IsAntisymmetric}
-use Rattle.std.specs.Ordering.{eq_by_cmp, is_eq}
+use Rattle.std.specs.Ordering.{eq_by_cmp}
 use Rattle.std.specs.declared.cmp.Ordering.{Ordering}
-use Rattle.std.specs.declared.cmp.Ordering.TheVariants.{Less, Equal, Greater}
 use Rattle.std.proofs.lemmas.Cmp.{eq_by_cmp_equiv}
 use Rattle.std.proofs.Math.Seq.{take-append_seam}
-use Rattle.flat_model.specs.Path.{Name, Path, name_cmp, path_cmp, same_name, same_path, at_or_below, strictly_below, HasPrefix, parent}
+use Rattle.std.proofs.lemmas.Bool.{false_from_ne_true}
+use Rattle.flat_model.specs.Path.{Name, Path, name_cmp, path_cmp, same_name, same_path, at_or_below, strictly_below, HasPrefix, parent, is_root}
 
 -- lists in the order of their elements stand in a total order where the elements do
 pub name_cmp-IsTotalOrder : IsTotalOrder name_cmp
@@ -25,15 +25,9 @@ name_cmp-IsAntisymmetric = slice_cmp-IsAntisymmetric nat_cmp-IsAntisymmetric
 pub path_cmp-IsAntisymmetric : IsAntisymmetric path_cmp
 path_cmp-IsAntisymmetric = slice_cmp-IsAntisymmetric name_cmp-IsAntisymmetric
 
--- what the test of a tie says
-equal_by : (o : Ordering) → is_eq o ≡ true → o ≡ Equal
-equal_by Less e = cc
-equal_by Equal e = refl
-equal_by Greater e = cc
-
 -- the test of an order that only equal keys tie is equality
 same_is : {K : Type 0} (R : K → K → Ordering) → IsTotalOrder R → IsAntisymmetric R → (x y : K) → (eq_by_cmp R x y ≡ true) ↔ (x ≡ y)
-same_is R o exact x y = (λ h. exact x y (equal_by (R x y) h), λ h. subst (λ z. eq_by_cmp R x z ≡ true) h ((eq_by_cmp_equiv o).refl x))
+same_is R o exact x y = (λ h. exact x y ((Equal-is (R x y)).0 h), λ h. subst (λ z. eq_by_cmp R x z ≡ true) h ((eq_by_cmp_equiv o).refl x))
 
 -- the model's tests of names and of paths are equality
 pub same_name_is : (n m : Name) → (same_name n m ≡ true) ↔ (n ≡ m)
@@ -94,6 +88,14 @@ take_above n p = (at_or_below_is p (take n p)).1 (drop n p, sym (take-append-dro
 -- the parent is a front
 pub parent_above : (p : Path) → at_or_below p (parent p) ≡ true
 parent_above p = take_above (length p - 1) p
+
+-- the root is the path without names
+pub root_is_empty : (p : Path) → is_root p ≡ true → p ≡ []
+root_is_empty [] e = refl
+root_is_empty (n ∷ p) e = cc
+
+pub not_empty_is_not_root : (p : Path) → p ≢ [] → is_root p ≡ false
+not_empty_is_not_root p h = false_from_ne_true (is_root p) (λ e. h (root_is_empty p e))
 
 -- the parent of a group with one more name
 pub parent-child : (p : Path) (name : Name) → parent (p ++ name ∷ []) ≡ p

@@ -4,6 +4,8 @@ use Rattle.std.specs.Cmp.{second_so}
 use Rattle.std.specs.List.{position_from, AllByRecursion, slice_split, onto_first}
 use Rattle.std.specs.Option.{option_or}
 use Rattle.std.proofs.lemmas.Bool.Decides.{nat_tests}
+use Rattle.std.proofs.Common.{ltb-false, le-ltb}
+use Rattle.std.proofs.lemmas.Bool.{not-false, not-true}
 use Rattle.flat_model.specs.Path.{Name, Path}
 use Rattle.flat_model.specs.PathText.{is_slash, spelled, path_text, is_name_byte, is_bad_byte, is_dots, is_reserved, name_max, depth_max}
 use Rattle.flat_model.specs.PathText.{text_max, IsName, IsPath, PathFault, NotRooted, EmptyName, BadByte, DotName, Reserved, NameTooLong}
@@ -40,11 +42,6 @@ unless_ok None x y e = (refl, cc)
 unless_ok (Some r) x y e = cc
 
 -- what the tests of numbers say
-not_lt : (a b : ℕ) → nat_lt a b ≡ false → b ≤ a
-not_lt a b e = grind (arith, nat_tests)
-
-lt_no : (a b : ℕ) → b ≤ a → nat_lt a b ≡ false
-lt_no a b h = grind (arith, nat_tests)
 
 not_eq : (a b : ℕ) → (a == b) ≡ false → a ≤ b → a + 1 ≤ b
 not_eq a b e h = grind (arith, nat_tests)
@@ -54,17 +51,12 @@ eq_no a b h = grind (arith, nat_tests)
 
 -- ---- a name
 
--- a test that does not fail
-not_not : (b : Bool) → not b ≡ false → b ≡ true
-not_not true e = refl
-not_not false e = cc
-
 -- no bad byte is found: each is a name's
 good_bytes : (here : ℕ) (name : Name) → position_from is_bad_byte here name ≡ None → AllByRecursion (λ b. is_name_byte b ≡ true) name
 good_bytes here [] e = tt
 good_bytes here (b ∷ name) e =
     let p = refuse_none (is_bad_byte b) here (position_from is_bad_byte (here + 1) name) e in
-    (not_not (is_name_byte b) p.0, good_bytes (here + 1) name p.1)
+    (not-false (is_name_byte b) p.0, good_bytes (here + 1) name p.1)
 
 -- where each byte is a name's none is found bad
 no_bad : (here : ℕ) (name : Name) → AllByRecursion (λ b. is_name_byte b ≡ true) name → position_from is_bad_byte here name ≡ None
@@ -87,7 +79,7 @@ sound_name here name e =
     let c = refuse_none (nat_lt name_max (length name)) NameTooLong (last_tests name) b.1 in
     let d = refuse_none (is_dots name) DotName (refuse (is_reserved name) Reserved None) c.1 in
     let f = refuse_none (is_reserved name) Reserved None d.1 in
-    record { not_empty = a.0; bytes = good_bytes here name (bad_none (position_from is_bad_byte here name) b.0); short = not_lt name_max (length name) c.0; no_dots = d.0; free = f.0 }
+    record { not_empty = a.0; bytes = good_bytes here name (bad_none (position_from is_bad_byte here name) b.0); short = ltb-false name_max (length name) c.0; no_dots = d.0; free = f.0 }
 
 -- a name of the grammar has no fault
 pub full_name : (here : ℕ) (name : Name) → IsName name → name_fault here name ≡ None
@@ -95,7 +87,7 @@ unfolding name_fault
 full_name here name h =
     refuse_passed (length name == 0) EmptyName (option_or (option_map BadByte (position_from is_bad_byte here name)) (late_tests name)) h.not_empty
     ∙ option_or_passed (option_map BadByte (position_from is_bad_byte here name)) (late_tests name) (ap (option_map BadByte) (no_bad here name h.bytes))
-    ∙ refuse_passed (nat_lt name_max (length name)) NameTooLong (last_tests name) (lt_no name_max (length name) h.short)
+    ∙ refuse_passed (nat_lt name_max (length name)) NameTooLong (last_tests name) (le-ltb name_max (length name) h.short)
     ∙ refuse_passed (is_dots name) DotName (refuse (is_reserved name) Reserved None) h.no_dots
     ∙ refuse_passed (is_reserved name) Reserved None h.free
 
@@ -144,15 +136,10 @@ glued (b ∷ xs) = glued_by b xs (is_slash b) refl (glued xs)
 abbrev pub NoSlash : Name → Type 0
 NoSlash name = AllByRecursion (λ b. is_slash b ≡ false) name
 
--- what `not` of a test says
-no_slash_byte : (b : Bool) → not b ≡ true → b ≡ false
-no_slash_byte true e = cc
-no_slash_byte false e = refl
-
 -- names of the grammar have no slash
 clean : (name : Name) → AllByRecursion (λ b. is_name_byte b ≡ true) name → NoSlash name
 clean [] h = tt
-clean (b ∷ name) h = (no_slash_byte (is_slash b) (second_so _ (not (is_slash b)) h.0), clean name h.1)
+clean (b ∷ name) h = (not-true (is_slash b) (second_so _ (not (is_slash b)) h.0), clean name h.1)
 
 pub cleans : (names : List Name) → AllByRecursion IsName names → AllByRecursion NoSlash names
 cleans [] h = tt
@@ -207,7 +194,7 @@ sound_text (b ∷ c ∷ bs) r s e =
     ap (λ (x : ℕ). x ∷ c ∷ bs) (slash_is b r) ∙ sym (path_text_spelled (slice_split is_slash (c ∷ bs)) 47 (c ∷ bs) whole ∙ whole) in
     record {
       text_is = is;
-      path = record { all_names = names.0; shallow = let k = names.1 in omega arith; short = subst (λ (x : List ℕ). length x ≤ text_max) is (not_lt text_max (length (b ∷ c ∷ bs)) s) };
+      path = record { all_names = names.0; shallow = let k = names.1 in omega arith; short = subst (λ (x : List ℕ). length x ≤ text_max) is (ltb-false text_max (length (b ∷ c ∷ bs)) s) };
     }
 
 -- a text without fault is the text of a path of the grammar
@@ -216,7 +203,7 @@ unfolding path_fault
 sound text e =
     let a = refuse_none (not (is_rooted text)) NotRooted (refuse (nat_lt text_max (length text)) TooLong (names_fault 0 1 (names_in text))) e in
     let b = refuse_none (nat_lt text_max (length text)) TooLong (names_fault 0 1 (names_in text)) a.1 in
-    sound_text text (not_not (is_rooted text) a.0) b.0 b.1
+    sound_text text (not-false (is_rooted text) a.0) b.0 b.1
 
 -- the text of a path begins with a slash
 rooted_text : (p : Path) → is_rooted (path_text p) ≡ true
@@ -228,7 +215,7 @@ pub path_fault-path_text : (p : Path) → IsPath p → path_fault (path_text p) 
 unfolding path_fault
 path_fault-path_text p h =
     refuse_passed (not (is_rooted (path_text p))) NotRooted (refuse (nat_lt text_max (length (path_text p))) TooLong (names_fault 0 1 (names_in (path_text p)))) (ap not (rooted_text p))
-    ∙ refuse_passed (nat_lt text_max (length (path_text p))) TooLong (names_fault 0 1 (names_in (path_text p))) (lt_no text_max (length (path_text p)) h.short)
+    ∙ refuse_passed (nat_lt text_max (length (path_text p))) TooLong (names_fault 0 1 (names_in (path_text p))) (le-ltb text_max (length (path_text p)) h.short)
     ∙ ap (names_fault 0 1) (names_in-path_text p h)
     ∙ full_names 0 1 p h.all_names (let k = h.shallow in omega arith)
 

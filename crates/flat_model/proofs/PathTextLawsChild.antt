@@ -1,5 +1,5 @@
 -- The first names of a path of the grammar are one too, and one more name is by the test of `child_path`.
-use Rattle.std.proofs.Common.{◌≡◌, ℕ, ◌+◌, ◌≤◌, false, nat_lt, nat_le, ◌↔◌, List, [], ◌∷◌, ◌++◌, length, take, zero, suc, refl, ap, sym}
+use Rattle.std.proofs.Common.{◌≡◌, ℕ, ◌+◌, ◌≤◌, false, nat_lt, nat_le, ◌↔◌, List, [], ◌∷◌, ◌++◌, length, take, zero, suc, refl, ap, sym, ltb-false, le-ltb}
 use Rattle.std.proofs.Common.{◌∙◌, arith, None, Ok, append_assoc, append-nil, length-append, length-take}
 use Rattle.std.specs.List.{AllByRecursion}
 use Rattle.std.proofs.lemmas.Bool.Decides.{nat_tests}
@@ -66,12 +66,6 @@ le_no a b e = grind (arith, nat_tests)
 no_le : (a b : ℕ) → b + 1 ≤ a → nat_le a b ≡ false
 no_le a b h = grind (arith, nat_tests)
 
-no_lt : (a b : ℕ) → b ≤ a → nat_lt a b ≡ false
-no_lt a b h = grind (arith, nat_tests)
-
-lt_no : (a b : ℕ) → nat_lt a b ≡ false → b ≤ a
-lt_no a b e = grind (arith, nat_tests)
-
 -- one more name that has no fault
 pub sound_child : (p : Path) (name : Name) → IsPath p → child_fault p name ≡ None → IsPath (p ++ name ∷ [])
 unfolding child_fault
@@ -83,7 +77,7 @@ sound_child p name h e =
     record {
       all_names = names_append p (name ∷ []) h.all_names (sound_name 0 name a.0, tt);
       shallow = let k = le_no depth_max (length p) b.0 in omega (arith, length-append p (name ∷ []));
-      short = lt_no text_max (length (path_text (p ++ name ∷ []))) c.0;
+      short = ltb-false text_max (length (path_text (p ++ name ∷ []))) c.0;
     }
 
 -- a child in the grammar has no fault
@@ -94,7 +88,7 @@ full_child p name h =
     let deep : length p + 1 ≤ depth_max = let s = h.shallow in omega (arith, length-append p (name ∷ [])) in
     option_or_passed (name_fault 0 name) (refuse (nat_le depth_max (length p)) TooDeep long) (full_name 0 name (name_last p name h.all_names))
     ∙ refuse_passed (nat_le depth_max (length p)) TooDeep long (no_le depth_max (length p) deep)
-    ∙ refuse_passed (nat_lt text_max (length (path_text (p ++ name ∷ [])))) TooLong None (no_lt text_max (length (path_text (p ++ name ∷ []))) h.short)
+    ∙ refuse_passed (nat_lt text_max (length (path_text (p ++ name ∷ [])))) TooLong None (le-ltb text_max (length (path_text (p ++ name ∷ []))) h.short)
 
 -- a child is given exactly where it is in the grammar
 pub child_path_is : (p : Path) (name : Name) → IsPath p → (child_path p name ≡ Ok (p ++ name ∷ [])) ↔ IsPath (p ++ name ∷ [])

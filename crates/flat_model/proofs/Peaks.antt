@@ -1,46 +1,22 @@
 -- The peaks along a path: those that a record keeps are those that were there, and set again they are there again.
-use Rattle.std.proofs.Common.{◌≡◌, ℕ, zero, suc, ◌+◌, ◌-◌, ◌<◌, ◌≤◌, true, false, cond, [], ◌∷◌, map, length, get_or, take, Option, Some, refl, sym, ap, ◌∙◌, arith}
+use Rattle.std.proofs.Common.{◌≡◌, ℕ, ◌-◌, ◌<◌, true, false, cond, [], ◌∷◌, map, length, get_or, take, Option, Some, refl, sym, ap, ◌∙◌, arith}
 use Rattle.std.specs.Prelude.{max, unwrap_or}
-use Rattle.std.proofs.lemmas.List.{get_or-map, get_or-reverse, get_or-take, length-map, length-reverse, length-take-le}
+use Rattle.std.proofs.lemmas.List.{get_or-map, get_or-take, length-map, length-take-le}
 use Rattle.std.specs.FinMap.{FinMap, get, from_entries, entries}
-use Rattle.flat_model.specs.Path.{Path, path_cmp, at_or_below, prefixes, upward, is_root}
+use Rattle.flat_model.specs.Path.{Path, path_cmp, at_or_below, upward, is_root}
 use Rattle.flat_model.specs.State.{State, Attr, fresh}
 use Rattle.flat_model.specs.Counts.{current}
 use Rattle.flat_model.specs.Step.{attr_of, counts_for, raise_peak, raise_peaks, peaks_upward, set_peak, set_peaks}
 use Rattle.flat_model.proofs.PathLaws.{path_cmp-IsTotalOrder, path_cmp-IsAntisymmetric, at_or_below_take, at_or_below_length}
 use Rattle.flat_model.proofs.Maps.{each_there_back}
 use Rattle.flat_model.proofs.Booleans.{both_by}
+use Rattle.flat_model.proofs.Prefixes.{length-upward, upward_at}
 
 -- ---- the groups from p upward
 
-length-prefixes : (p : Path) → length (prefixes p) ≡ length p + 1
-length-prefixes [] = refl
-length-prefixes (n ∷ p) = let e = length-map (prefixes p) (λ (q : Path). n ∷ q) in let h = length-prefixes p in omega (arith, e, h)
-
--- the one of k names
-prefix_at : (p : Path) (k : ℕ) (d : Path) → k ≤ length p → get_or (prefixes p) k d ≡ take k p
-prefix_at p zero d h = first p
-  where
-    first : (p : Path) → get_or (prefixes p) 0 d ≡ []
-    first [] = refl
-    first (n ∷ p) = refl
-prefix_at [] (suc k) d h = absurd (omega arith)
-prefix_at (n ∷ p) (suc k) d h =
-    let long : k < length (prefixes p) = omega (arith, length-prefixes p) in
-    get_or-map (λ (q : Path). n ∷ q) (prefixes p) k [] d long ∙ ap (λ (q : Path). n ∷ q) (prefix_at p k [] (omega arith))
-
-length-upward : (p : Path) → length (upward p) ≡ length p + 1
-length-upward p = length-reverse (prefixes p) ∙ length-prefixes p
-
 -- the i-th is the one of i names fewer
 pub group_upward : (p : Path) (i : ℕ) (d : Path) → i < length p → get_or (take (length p) (upward p)) i d ≡ take (length p - i) p
-group_upward p i d h =
-    let many = length-prefixes p in
-    let at : length (prefixes p) - 1 - i ≡ length p - i = omega (arith, many) in
-    get_or-take (length p) (upward p) i d h
-    ∙ get_or-reverse (prefixes p) i d (omega (arith, many))
-    ∙ ap (λ k. get_or (prefixes p) k d) at
-    ∙ prefix_at p (length p - i) d (omega arith)
+group_upward p i d h = get_or-take (length p) (upward p) i d h ∙ upward_at p i d (omega arith)
 
 pub length-groups_upward : (p : Path) → length (take (length p) (upward p)) ≡ length p
 length-groups_upward p = length-take-le (length p) (upward p) (let e = length-upward p in omega (arith, e))

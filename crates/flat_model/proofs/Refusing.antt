@@ -1,5 +1,5 @@
 -- What a list of tests says when it lets a command through, or when it names a fork's limit.
-use Rattle.std.proofs.Common.{◌≡◌, Bool, true, false, cond, not, List, [], ◌∷◌, Option, Some, None, refl, is_some}
+use Rattle.std.proofs.Common.{◌≡◌, Bool, true, false, cond, List, [], ◌∷◌, Option, Some, None, refl}
 use Rattle.std.specs.Option.{option_or}
 use Rattle.flat_model.specs.Refuse.{refuse}
 use Rattle.flat_model.specs.Path.{Path}
@@ -18,18 +18,6 @@ beyond false r rest e = e
 pub neither : {R : Type 0} (o rest : Option R) → option_or o rest ≡ None → rest ≡ None
 neither None rest e = e
 neither (Some r) rest e = cc
-
-pub affirmed : (b : Bool) → not b ≡ false → b ≡ true
-affirmed true e = refl
-affirmed false e = cc
-
-pub denied : (b : Bool) → not b ≡ true → b ≡ false
-denied true e = cc
-denied false e = refl
-
-pub absent : {X : Type 0} (o : Option X) → is_some o ≡ false → o ≡ None
-absent None e = refl
-absent (Some x) e = cc
 
 -- the first path that passes does pass
 pub first_path_passes : (test : Path → Bool) (ps : List Path) (a : Path) → first_path test ps ≡ Some a → test a ≡ true

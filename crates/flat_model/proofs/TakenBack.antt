@@ -1,5 +1,5 @@
 -- Each recorded command, taken back by its record, leaves the state as it was.
-use Rattle.std.proofs.Common.{◌≡◌, ℕ, ◌+◌, ◌-◌, Bool, true, false, cond, not, [], Option, Some, None, refl, sym, ap, ◌∙◌, arith}
+use Rattle.std.proofs.Common.{◌≡◌, ℕ, ◌+◌, ◌-◌, false, cond, not, [], Option, Some, None, refl, sym, ap, ◌∙◌, arith}
 use Rattle.std.specs.Prelude.{unwrap_or, is_some}
 use Rattle.std.specs.Ordering.{nat_cmp}
 use Rattle.std.specs.Cmp.{nat_cmp_total}
@@ -11,24 +11,12 @@ use Rattle.flat_model.specs.Command.{Command, MakeGroup, RemoveGroup, Fork, Exit
 use Rattle.flat_model.specs.Command.{NoGroup, Descendants, Depth, NoSlot, RootFixed, HasChildren, HasProcesses, NoProcess, PidInUse}
 use Rattle.flat_model.specs.Command.{OverPidsMax, NoFile, NotReadable, changes, is_counted}
 use Rattle.flat_model.specs.Step.{refusal, after, after_refusal, count_up, count_down, with_limit, limit_at, attr_of, home_of, lives_in, counts_for, raise_peaks, peaks_upward, set_peaks}
-use Rattle.flat_model.specs.Refuse.{refuse}
 use Rattle.flat_model.specs.Inverse.{Inverse, Made, Removed, Forked, Exited, Moved, Limited, Counted, Killed, back, inverse, inverse_of_refusal, lost}
 use Rattle.flat_model.proofs.PathLaws.{path_cmp-IsTotalOrder, path_cmp-IsAntisymmetric}
 use Rattle.flat_model.proofs.Maps.{remove_insert, insert_remove, insert_insert, each_back, place_lost, get-own}
 use Rattle.flat_model.proofs.Peaks as peaks
-
--- a test that was passed
-passed : (b : Bool) (r : Refusal) (rest : Option Refusal) → refuse b r rest ≡ None → b ≡ false
-passed true r rest e = cc
-passed false r rest e = refl
-
-beyond : (b : Bool) (r : Refusal) (rest : Option Refusal) → refuse b r rest ≡ None → rest ≡ None
-beyond true r rest e = cc
-beyond false r rest e = e
-
-absent : {X : Type 0} (o : Option X) → is_some o ≡ false → o ≡ None
-absent None e = refl
-absent (Some x) e = cc
+use Rattle.flat_model.proofs.Refusing.{passed, beyond}
+use Rattle.flat_model.proofs.Options.{not_some_is_none}
 
 there : {X : Type 0} (o : Option X) (d : X) → not (is_some o) ≡ false → o ≡ Some (unwrap_or o d)
 there None d e = cc
@@ -76,11 +64,11 @@ come_back s pid a h was =
 -- an accepted command, taken back by its record
 pub back_accepted : (slots : ℕ) (s : State) (c : Command) (i : Inverse) → refusal slots s c ≡ None → inverse s c ≡ Some i → back i (after s c) ≡ s
 back_accepted slots s (MakeGroup p) i e is = by_record (Made p) i s _ is
-    (groups_back s _ (remove_insert path_cmp-IsTotalOrder path_cmp-IsAntisymmetric s.groups p fresh (absent _ (passed _ _ _ e))))
+    (groups_back s _ (remove_insert path_cmp-IsTotalOrder path_cmp-IsAntisymmetric s.groups p fresh (not_some_is_none _ (passed _ _ _ e))))
 back_accepted slots s (RemoveGroup p) i e is = by_record (Removed p (attr_of s p)) i s _ is
     (groups_back s _ (insert_remove path_cmp-IsTotalOrder path_cmp-IsAntisymmetric s.groups p (attr_of s p) (there _ _ (passed _ _ _ (beyond _ _ _ e)))))
 back_accepted slots s (Fork from child) i e is = by_record (Forked child (peaks_upward s (home_of s from))) i s _ is
-    (come_back s child (home_of s from) _ (remove_insert nat_cmp_total nat_cmp-IsAntisymmetric s.home child (home_of s from) (absent _ (passed _ _ _ (beyond _ _ _ e)))))
+    (come_back s child (home_of s from) _ (remove_insert nat_cmp_total nat_cmp-IsAntisymmetric s.home child (home_of s from) (not_some_is_none _ (passed _ _ _ (beyond _ _ _ e)))))
 back_accepted slots s (Exit pid) i e is = by_record (Exited pid (home_of s pid)) i s _ is
     (homes_back s _ (insert_remove nat_cmp_total nat_cmp-IsAntisymmetric s.home pid (home_of s pid) (there _ _ (passed _ _ _ e))))
 back_accepted slots s (Move p pid) i e is = by_record (Moved pid (home_of s pid) (peaks_upward s p)) i s _ is

@@ -5,6 +5,7 @@ use Rattle.std.specs.Prelude.{count_by}
 use Rattle.std.specs.Option.{option_or}
 use Rattle.std.specs.List.{list_any}
 use Rattle.std.specs.FinMap.{get, len, keys, values, entries, entries_sorted, get-entries, contains_key-keys}
+use Rattle.std.proofs.lemmas.Bool.{not-false, false_from_ne_true, or_right}
 use Rattle.flat_model.specs.Path.{Path, parent, is_root, same_path, strictly_below}
 use Rattle.flat_model.specs.State.{State, Limit}
 use Rattle.flat_model.specs.Counts.{is_group, has_process}
@@ -14,11 +15,11 @@ use Rattle.flat_model.specs.Command.{NoSlot, RootFixed, HasChildren, HasProcesse
 use Rattle.flat_model.specs.Refuse.{refuse}
 use Rattle.flat_model.specs.Step.{refusal, after, home_of, blocked_make}
 use Rattle.flat_model.specs.Limiting.{IsWithinPids, HasRoomBelow}
-use Rattle.flat_model.proofs.PathLaws.{same_path_is, same_path_itself}
+use Rattle.flat_model.proofs.PathLaws.{same_path_is, same_path_itself, root_is_empty}
 use Rattle.flat_model.proofs.Sums.{count_by-cons}
 use Rattle.flat_model.proofs.Counting.{found_by, counted_by}
-use Rattle.flat_model.proofs.Booleans.{to_false, or_right, apart}
-use Rattle.flat_model.proofs.Refusing.{passed, beyond, neither, affirmed}
+use Rattle.flat_model.proofs.Booleans.{apart}
+use Rattle.flat_model.proofs.Refusing.{passed, beyond, neither}
 use Rattle.flat_model.proofs.Limits.{fork_passed, fork_within}
 use Rattle.flat_model_laws.proofs.LimitsExact.{accepted_is}
 use Rattle.flat_model_laws.proofs.HierarchyLimitsExact.{free_is}
@@ -31,21 +32,17 @@ first_none (Some r) rest e = cc
 
 two_pass : (a b : Bool) (r t : Refusal) → (refuse (not a) r (refuse (not b) t None) ≡ None) ↔ ((a ≡ true) × (b ≡ true))
 two_pass a b r t = (
-  λ e. (affirmed a (passed (not a) r (refuse (not b) t None) e), affirmed b (passed (not b) t None (beyond (not a) r (refuse (not b) t None) e))),
+  λ e. (not-false a (passed (not a) r (refuse (not b) t None) e), not-false b (passed (not b) t None (beyond (not a) r (refuse (not b) t None) e))),
   λ h i. refuse (not (h.0 i)) r (refuse (not (h.1 i)) t None),
 )
 
 one_passes : (a : Bool) (r : Refusal) → (refuse (not a) r None ≡ None) ↔ (a ≡ true)
-one_passes a r = (λ e. affirmed a (passed (not a) r None e), λ h i. refuse (not (h i)) r None)
+one_passes a r = (λ e. not-false a (passed (not a) r None e), λ h i. refuse (not (h i)) r None)
 
 -- ---- the root
 
-root_is : (p : Path) → is_root p ≡ true → p ≡ []
-root_is [] e = refl
-root_is (x ∷ p) e = cc
-
 not_root : (p : Path) → (is_root p ≡ false) ↔ (p ≢ [])
-not_root p = (λ f e. differ p e f, λ n. to_false (is_root p) (λ t. n (root_is p t)))
+not_root p = (λ f e. differ p e f, λ n. false_from_ne_true (is_root p) (λ t. n (root_is_empty p t)))
   where
     differ : (p : Path) → p ≡ [] → is_root p ≡ false → ⊥
     differ [] e f = cc
@@ -76,8 +73,8 @@ passes_among test q (p ∷ ps) t e =
 
 no_group : (s : State) (test : Path → Bool) → (list_any test (keys s.groups) ≡ false) ↔ ((q : Path) → is_group s q ≡ true → test q ≡ false)
 no_group s test = (
-  λ f q g. to_false (test q) (λ t. apart (list_any test (keys s.groups)) (passes_among test q (keys s.groups) t (sym (contains_key-keys s.groups q) ∙ g)) f),
-  λ h. to_false (list_any test (keys s.groups)) (λ t. let r = passing test (keys s.groups) t in apart (test r.path) r.passes (h r.path (contains_key-keys s.groups r.path ∙ r.among))),
+  λ f q g. false_from_ne_true (test q) (λ t. apart (list_any test (keys s.groups)) (passes_among test q (keys s.groups) t (sym (contains_key-keys s.groups q) ∙ g)) f),
+  λ h. false_from_ne_true (list_any test (keys s.groups)) (λ t. let r = passing test (keys s.groups) t in apart (test r.path) r.passes (h r.path (contains_key-keys s.groups r.path ∙ r.among))),
 )
 
 any_counts : (test : Path → Bool) (ps : List Path) → list_any test ps ≡ true → 0 < count_by test ps
@@ -100,7 +97,7 @@ nobody_at : (s : State) (p : Path) → (list_any (λ q. same_path q p) (values s
 nobody_at s p = (
   λ f pid e. apart (list_any (λ q. same_path q p) (values s.home))
       (counts_any (λ q. same_path q p) (values s.home) (counted_by (λ q. same_path q p) (entries s.home) pid p (sym (get-entries s.home pid) ∙ e) (same_path_itself p))) f,
-  λ h. to_false (list_any (λ q. same_path q p) (values s.home)) (λ t.
+  λ h. false_from_ne_true (list_any (λ q. same_path q p) (values s.home)) (λ t.
       let r = found_by (λ q. same_path q p) (entries s.home) (entries_sorted s.home) (any_counts (λ q. same_path q p) (values s.home) t) in
       h r.pid (get-entries s.home r.pid ∙ r.home ∙ ap Some ((same_path_is r.at p).0 r.passes))),
 )
@@ -117,7 +114,7 @@ make_tests a b q o d e =
     let one = beyond a Exists (refuse (not b) (NoGroup q) (option_or o (refuse d NoSlot None))) e in
     let two = beyond (not b) (NoGroup q) (option_or o (refuse d NoSlot None)) one in (
       passed a Exists (refuse (not b) (NoGroup q) (option_or o (refuse d NoSlot None))) e,
-      affirmed b (passed (not b) (NoGroup q) (option_or o (refuse d NoSlot None)) one),
+      not-false b (passed (not b) (NoGroup q) (option_or o (refuse d NoSlot None)) one),
       first_none o (refuse d NoSlot None) two,
       passed d NoSlot None (neither o (refuse d NoSlot None) two),
     )
@@ -140,7 +137,7 @@ remove_tests a b c d p e =
     let one = beyond a RootFixed (refuse (not b) (NoGroup p) (refuse c HasChildren (refuse d HasProcesses None))) e in
     let two = beyond (not b) (NoGroup p) (refuse c HasChildren (refuse d HasProcesses None)) one in (
       passed a RootFixed (refuse (not b) (NoGroup p) (refuse c HasChildren (refuse d HasProcesses None))) e,
-      affirmed b (passed (not b) (NoGroup p) (refuse c HasChildren (refuse d HasProcesses None)) one),
+      not-false b (passed (not b) (NoGroup p) (refuse c HasChildren (refuse d HasProcesses None)) one),
       passed c HasChildren (refuse d HasProcesses None) two,
       passed d HasProcesses None (beyond c HasChildren (refuse d HasProcesses None) two),
     )
@@ -163,7 +160,7 @@ pub kill_is : (slots : ℕ) (s : State) (p : Path) → (refusal slots s (Kill p)
 kill_is slots s p = (
   λ e. (
     (not_root p).0 (passed (is_root p) NoFile (refuse (not (is_group s p)) (NoGroup p) None) e),
-    affirmed (is_group s p)
+    not-false (is_group s p)
         (passed (not (is_group s p)) (NoGroup p) None (beyond (is_root p) NoFile (refuse (not (is_group s p)) (NoGroup p) None) e)),
   ),
   λ h. let root = (not_root p).1 h.0 in λ i. refuse (root i) NoFile (refuse (not (h.1 i)) (NoGroup p) None),
@@ -177,7 +174,7 @@ kept_off (x ∷ p) b = (λ e r. cc, λ h. refl)
 pub set_is : (slots : ℕ) (s : State) (p : Path) (file : LimitFile) (value : Limit) → (refusal slots s (SetLimit p file value) ≡ None) ↔ ((is_group s p ≡ true) × (p ≡ [] → is_pids_max file ≡ false))
 set_is slots s p file value = (
   λ e. (
-    affirmed (is_group s p) (passed (not (is_group s p)) (NoGroup p) None (beyond (is_root p && is_pids_max file) NoFile (refuse (not (is_group s p)) (NoGroup p) None) e)),
+    not-false (is_group s p) (passed (not (is_group s p)) (NoGroup p) None (beyond (is_root p && is_pids_max file) NoFile (refuse (not (is_group s p)) (NoGroup p) None) e)),
     (kept_off p (is_pids_max file)).0 (passed (is_root p && is_pids_max file) NoFile (refuse (not (is_group s p)) (NoGroup p) None) e),
   ),
   λ h. let off = (kept_off p (is_pids_max file)).1 h.1 in λ i. refuse (off i) NoFile (refuse (not (h.0 i)) (NoGroup p) None),
@@ -186,8 +183,8 @@ set_is slots s p file value = (
 show_tests : (a b c : Bool) (p : Path) → refuse (not a) NotReadable (refuse (not b) (NoGroup p) (refuse c NoFile None)) ≡ None → (a ≡ true) × (b ≡ true) × (c ≡ false)
 show_tests a b c p e =
     let one = beyond (not a) NotReadable (refuse (not b) (NoGroup p) (refuse c NoFile None)) e in (
-      affirmed a (passed (not a) NotReadable (refuse (not b) (NoGroup p) (refuse c NoFile None)) e),
-      affirmed b (passed (not b) (NoGroup p) (refuse c NoFile None) one),
+      not-false a (passed (not a) NotReadable (refuse (not b) (NoGroup p) (refuse c NoFile None)) e),
+      not-false b (passed (not b) (NoGroup p) (refuse c NoFile None) one),
       passed c NoFile None (beyond (not b) (NoGroup p) (refuse c NoFile None) one),
     )
 
@@ -195,7 +192,7 @@ pub show_is : (slots : ℕ) (s : State) (p : Path) (file : File) → (refusal sl
 show_is slots s p file = (
   λ e.
       let t = show_tests (readable file) (is_group s p) (is_root p && not (on_root file)) p e in
-      (t.0, t.1, λ root. affirmed (on_root file) ((kept_off p (not (on_root file))).0 t.2 root)),
+      (t.0, t.1, λ root. not-false (on_root file) ((kept_off p (not (on_root file))).0 t.2 root)),
   λ h.
       let off = (kept_off p (not (on_root file))).1 (λ root. ap not (h.2 root)) in
       λ i. refuse (not (h.0 i)) NotReadable (refuse (not (h.1 i)) (NoGroup p) (refuse (off i) NoFile None)),
@@ -206,7 +203,7 @@ show_is slots s p file = (
 pub fork_is : (slots : ℕ) (s : State) (from child : ℕ) → (refusal slots s (Fork from child) ≡ None)
     ↔ ((has_process s from ≡ true) × (has_process s child ≡ false) × IsWithinPids (after s (Fork from child)) (home_of s from))
 fork_is slots s from child = (
-  λ e. let t = fork_passed slots s from child e in (affirmed (has_process s from) t.0, t.1, fork_within slots s from child e),
+  λ e. let t = fork_passed slots s from child e in (not-false (has_process s from) t.0, t.1, fork_within slots s from child e),
   λ h. (accepted_is slots s from child h.0 h.1).1 h.2,
 )
 

@@ -1,10 +1,11 @@
 -- What a well-formed state promises of its groups, processes, slots and totals.
-use Rattle.std.proofs.Common.{◌≡◌, ℕ, ◌+◌, ◌-◌, ◌<◌, ◌≤◌, Bool, true, false, not, ◌&&◌, [], length, Option, Some, None, refl, ap, ◌∙◌, ltb, arith}
+use Rattle.std.proofs.Common.{◌≡◌, ℕ, ◌+◌, ◌<◌, Bool, true, false, not, ◌&&◌, [], Option, Some, None, refl, ltb, arith, le-ltb}
 use Rattle.std.specs.Prelude.{unwrap_or}
 use Rattle.std.proofs.lemmas.Bool.Decides.{nat_tests}
 use Rattle.std.specs.Option.{option_or}
 use Rattle.std.specs.FinMap.{get, len}
-use Rattle.flat_model.specs.Path.{Path, parent, at_or_below, is_root, upward}
+use Rattle.std.proofs.Math.Bool.{and-false}
+use Rattle.flat_model.specs.Path.{Path, parent, is_root, upward}
 use Rattle.flat_model.specs.State.{State}
 use Rattle.flat_model.specs.Counts.{is_group, current, asks}
 use Rattle.flat_model.specs.File.{Procs}
@@ -25,12 +26,8 @@ shown true false p h k = refl
 shown true true p h k = cc
 shown false c p h k = cc
 
-and_no : (b : Bool) → (b && false) ≡ false
-and_no true = refl
-and_no false = refl
-
 pub home_is_shown : (slots : ℕ) (s : State) (pid : ℕ) → WellFormed slots s → refusal slots s (Show (home_of s pid) Procs) ≡ None
-home_is_shown slots s pid w = shown (is_group s (home_of s pid)) (is_root (home_of s pid) && false) (home_of s pid) (home_is slots s w pid (get s.home pid) refl) (and_no (is_root (home_of s pid)))
+home_is_shown slots s pid w = shown (is_group s (home_of s pid)) (is_root (home_of s pid) && false) (home_of s pid) (home_is slots s w pid (get s.home pid) refl) (and-false (is_root (home_of s pid)))
 
 -- a limit refuses by itself alone
 no_slot : (b c : Bool) (a : Path) → refuse b (Descendants a) (refuse c (Depth a) None) ≡ Some NoSlot → ⊥
@@ -55,16 +52,10 @@ slots_are_taken slots s p w e =
     let few = w.few in omega (arith, more, few)
 
 pub own_in_all : (slots : ℕ) (s : State) (g : Path) → WellFormed slots s → asks (λ attr. ltb attr.total attr.local) (get s.groups g) ≡ false
-own_in_all slots s g w = asks_not (λ attr. ltb attr.total attr.local) (get s.groups g) (λ attr there. let l = w.totals g attr there in none attr.total attr.local l)
-  where
-    none : (a b : ℕ) → b ≤ a → ltb a b ≡ false
-    none a b l = grind (arith, nat_tests)
-
-none_over : (a b : ℕ) → b ≤ a → ltb a b ≡ false
-none_over a b l = grind (arith, nat_tests)
+own_in_all slots s g w = asks_not (λ attr. ltb attr.total attr.local) (get s.groups g) (λ attr there. let l = w.totals g attr there in le-ltb attr.total attr.local l)
 
 pub peak_holds : (slots : ℕ) (s : State) (g : Path) → WellFormed slots s → is_root g ≡ false → asks (λ attr. ltb attr.peak (current s g)) (get s.groups g) ≡ false
-peak_holds slots s g w r = asks_not (λ attr. ltb attr.peak (current s g)) (get s.groups g) (λ attr there. none_over attr.peak (current s g) (w.peaks g attr there r))
+peak_holds slots s g w r = asks_not (λ attr. ltb attr.peak (current s g)) (get s.groups g) (λ attr there. le-ltb attr.peak (current s g) (w.peaks g attr there r))
 
 pub root_without_peak : (slots : ℕ) (s : State) → WellFormed slots s → asks (λ attr. ltb 0 attr.peak) (get s.groups []) ≡ false
-root_without_peak slots s w = asks_not (λ attr. ltb 0 attr.peak) (get s.groups []) (λ attr there. let e = w.root_peak attr there in none_over 0 attr.peak (omega (arith, e)))
+root_without_peak slots s w = asks_not (λ attr. ltb 0 attr.peak) (get s.groups []) (λ attr there. let e = w.root_peak attr there in le-ltb 0 attr.peak (omega (arith, e)))

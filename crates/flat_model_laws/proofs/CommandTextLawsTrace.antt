@@ -9,6 +9,7 @@ use Rattle.flat_model.specs.Values.{is_space}
 use Rattle.flat_model.specs.Command.{Command}
 use Rattle.flat_model.specs.CommandText.{command_words, command_text, IsSayable}
 use Rattle.flat_model.specs.Trace.{Word, Run, is_line_feed, without_empty_end, lines_in, read_line, read_trace}
+use Rattle.flat_model.proofs.LineEnds.{without_empty_end-push}
 use Rattle.flat_model_laws.proofs.WordLaws.{is_plain, is_word, are_words}
 use Rattle.flat_model_laws.proofs.CommandTextLawsWords.{words_are}
 use Rattle.flat_model_laws.proofs.CommandTextLaws.{read_line-command_text}
@@ -68,13 +69,8 @@ split_written (c ∷ cs) h =
     ∙ split_line (command_text c) (written cs) (joined_one_line (command_words c) (words_are c h.0))
     ∙ ap (λ (ts : List (List ℕ)). command_text c ∷ ts) (split_written cs h.1)
 
-empty_end : (ts : List (List ℕ)) → without_empty_end (ts ++ [] ∷ []) ≡ ts
-empty_end [] = refl
-empty_end (t ∷ []) = refl
-empty_end (t ∷ u ∷ ts) = ap (λ (us : List (List ℕ)). t ∷ us) (empty_end (u ∷ ts))
-
 lines_in-written : (cs : List Command) → AllByRecursion IsSayable cs → lines_in (written cs) ≡ map command_text cs
-lines_in-written cs h = ap without_empty_end (split_written cs h) ∙ empty_end (map command_text cs)
+lines_in-written cs h = ap without_empty_end (split_written cs h) ∙ without_empty_end-push (map command_text cs)
 
 read_texts : (cs : List Command) → AllByRecursion IsSayable cs → map read_line (map command_text cs) ≡ map Run cs
 read_texts [] h = refl

@@ -4,6 +4,7 @@ use Rattle.std.specs.Prelude.{count_by, sum_by, filter}
 use Rattle.std.specs.List.{AllByRecursion, list_any}
 use Rattle.std.specs.FinMap.{keys, entries, entries_sorted, get-entries, contains_key-keys}
 use Rattle.std.proofs.lemmas.List.Sums.{sum_by-cons}
+use Rattle.std.proofs.Math.Bool.{or-true}
 use Rattle.flat_model.specs.Path.{Path, at_or_below, strictly_below, same_path, is_root, parent}
 use Rattle.flat_model.specs.State.{State}
 use Rattle.flat_model.specs.Counts.{is_group, descendant_count, children}
@@ -12,16 +13,12 @@ use Rattle.flat_model.proofs.PathLaws.{path_cmp-IsTotalOrder, path_cmp-IsAntisym
 use Rattle.flat_model.proofs.Sums.{count_by-cons}
 use Rattle.flat_model.proofs.Counting.{once_among, swap_sums, all_homes}
 
-or_true : (b : Bool) → (b || true) ≡ true
-or_true true = refl
-or_true false = refl
-
 -- what holds of each path that stands among them holds of all
 of_members : (P : Path → Type 0) (ks : List Path) → ((q : Path) → list_any (same_path q) ks ≡ true → P q) → AllByRecursion P ks
 of_members P [] f = tt
 of_members P (k ∷ ks) f = (
   f k (ap (λ b. b || list_any (same_path k) ks) (same_path_itself k)),
-  of_members P ks (λ q h. f q (ap (λ b. same_path q k || b) h ∙ or_true (same_path q k))),
+  of_members P ks (λ q h. f q (ap (λ b. same_path q k || b) h ∙ or-true (same_path q k))),
 )
 
 of_filter : (P : Path → Type 0) (q : Path → Bool) (ks : List Path) → AllByRecursion P ks → AllByRecursion P (filter q ks)

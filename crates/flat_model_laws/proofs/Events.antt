@@ -1,43 +1,33 @@
 -- What a counted fork raises, and that no event total is above the number of recorded commands.
-use Rattle.std.proofs.Common.{◌≡◌, ◌≢◌, ◌↔◌, ℕ, ◌+◌, ◌≤◌, Bool, true, false, cond, not, ◌&&◌, List, [], ◌∷◌, length, Option, Some, None, refl, sym, ap, subst, ◌∙◌, arith}
-use Rattle.std.specs.Prelude.{option_map, unwrap_or}
-use Rattle.std.specs.Ordering.{eq_by_cmp}
-use Rattle.std.specs.FinMap.{get, insert, remove, get-insert, get-remove}
-use Rattle.flat_model.specs.Path.{Path, path_cmp, HasPrefix, at_or_below, same_path, is_root}
-use Rattle.flat_model.specs.State.{State, Attr, Limit, fresh}
-use Rattle.flat_model.specs.File.{LimitFile, PidsMax, MaxDescendants, MaxDepth}
-use Rattle.flat_model.specs.Command.{Command, MakeGroup, RemoveGroup, Fork, Exit, Move, SetLimit, Kill, Show, Locate, Undo, Refusal, Exists}
+use Rattle.std.proofs.Common.{◌≡◌, ◌≢◌, ◌↔◌, ℕ, ◌+◌, Bool, true, false, cond, not, ◌&&◌, List, [], ◌∷◌, length, Option, Some, None, refl, sym, ap, subst, ◌∙◌, arith}
+use Rattle.std.specs.Prelude.{option_map}
+use Rattle.std.specs.FinMap.{get}
+use Rattle.std.proofs.Math.Bool.{and-false}
+use Rattle.std.proofs.lemmas.Bool.{false_from_ne_true}
+use Rattle.flat_model.specs.Path.{Path, HasPrefix, at_or_below, same_path, is_root}
+use Rattle.flat_model.specs.State.{State, Attr}
+use Rattle.flat_model.specs.Command.{Command, Refusal, Exists}
 use Rattle.flat_model.specs.Command.{NoGroup, Descendants, Depth, NoSlot, RootFixed, HasChildren, HasProcesses, NoProcess, PidInUse}
 use Rattle.flat_model.specs.Command.{OverPidsMax, NoFile, NotReadable, is_undo, changes, is_counted}
-use Rattle.flat_model.specs.Step.{refusal, after, after_refusal, home_of, with_limit, at_each, counts_for, count_up, raise_peak, raise_peaks}
+use Rattle.flat_model.specs.Step.{refusal, after, after_refusal, at_each, counts_for, count_up}
 use Rattle.flat_model.specs.Machine.{Machine, new_machine, recorded, outcome, undone, tick, end_of, after_all}
 use Rattle.flat_model.specs.EventTotals.{IsCounted, HasEventsUpTo, PastEventsBounded, EventsBounded}
-use Rattle.flat_model.proofs.PathLaws.{path_cmp-IsTotalOrder, path_cmp-IsAntisymmetric, same_path_is, at_or_below_is}
+use Rattle.flat_model.proofs.PathLaws.{path_cmp-IsTotalOrder, path_cmp-IsAntisymmetric, same_path_is, at_or_below_is, not_empty_is_not_root}
 use Rattle.flat_model.proofs.Maps.{get-each}
-use Rattle.flat_model.proofs.Booleans.{to_false, both_by}
+use Rattle.flat_model.proofs.Booleans.{both_by}
 use Rattle.flat_model.proofs.Reachable.{only_root}
+use Rattle.flat_model.proofs.UpTo.{IsUpTo, up_more, up_after, up_refused}
 
 -- ---- one counted fork
 
-root_is : (p : Path) → is_root p ≡ true → p ≡ []
-root_is [] e = refl
-root_is (x ∷ p) e = cc
-
-not_root : (p : Path) → p ≢ [] → is_root p ≡ false
-not_root p h = to_false (is_root p) (λ e. h (root_is p e))
-
 pub counts_above : (a p : Path) → HasPrefix a p → p ≢ [] → counts_for a p ≡ true
-counts_above a p h n = λ i. not (not_root p n i) && (at_or_below_is a p).1 h i
+counts_above a p h n = λ i. not (not_empty_is_not_root p n i) && (at_or_below_is a p).1 h i
 
 pub counts_else : (a p : Path) → (HasPrefix a p → p ≡ []) → counts_for a p ≡ false
 counts_else a p h = elim (at_or_below a p) as (λ b. at_or_below a p ≡ b → (not (is_root p) && b) ≡ false) [
   | true ↦ λ t. let e = h ((at_or_below_is a p).0 t) in ap (λ (q : Path). not (is_root q) && true) e
-  | false ↦ λ t. and_false (not (is_root p))
+  | false ↦ λ t. and-false (not (is_root p))
 ] refl
-  where
-    and_false : (b : Bool) → (b && false) ≡ false
-    and_false true = refl
-    and_false false = refl
 
 no_more : (n : ℕ) (b : Bool) → b ≡ false → n + cond b 1 0 ≡ n
 no_more n b e = ap (λ c. n + cond c 1 0) e ∙ (let z : n + 0 ≡ n = omega arith in z)
@@ -50,7 +40,7 @@ counted_up a p x = record {
   limits = refl;
   peak = refl;
   local = λ e. one_more x.local (same_path p a) ((same_path_is p a).1 e);
-  local_else = λ n. no_more x.local (same_path p a) (to_false (same_path p a) (λ t. n ((same_path_is p a).0 t)));
+  local_else = λ n. no_more x.local (same_path p a) (false_from_ne_true (same_path p a) (λ t. n ((same_path_is p a).0 t)));
   total = λ h n. one_more x.total (counts_for a p) (counts_above a p h n);
   total_else = λ h. no_more x.total (counts_for a p) (counts_else a p h);
 }
@@ -107,84 +97,6 @@ others_change_nothing s NoFile e = refl
 others_change_nothing s NotReadable e = refl
 
 -- ---- how far the totals get
-
-abbrev IsUpTo : ℕ → Attr → Type 0
-IsUpTo n a = (a.local ≤ n) × (a.total ≤ n)
-
-up_limit : (n : ℕ) (file : LimitFile) (value : Limit) (a : Attr) → IsUpTo n a → IsUpTo n (with_limit file value a)
-up_limit n PidsMax value a h = h
-up_limit n MaxDescendants value a h = h
-up_limit n MaxDepth value a h = h
-
-up_own : (n : ℕ) (o : Option Attr) → ((a : Attr) → o ≡ Some a → IsUpTo n a) → IsUpTo n (unwrap_or o fresh)
-up_own n None h = (omega arith, omega arith)
-up_own n (Some a) h = h a refl
-
-up_put : (n : ℕ) (s : State) (p : Path) (a : Attr) → HasEventsUpTo n s → IsUpTo n a → HasEventsUpTo n (record s { groups = insert s.groups p a })
-up_put n s p a h up q attr there =
-    elim (eq_by_cmp path_cmp q p) as (λ b. cond b (Some a) (get s.groups q) ≡ Some attr → IsUpTo n attr) [
-      | true ↦ λ e. subst (IsUpTo n) (let same : a ≡ attr = cc in same) up
-      | false ↦ λ e. h q attr e
-    ] (sym (get-insert path_cmp-IsTotalOrder s.groups p a q) ∙ there)
-
-up_removed : (n : ℕ) (s : State) (p : Path) → HasEventsUpTo n s → HasEventsUpTo n (record s { groups = remove s.groups p })
-up_removed n s p h q attr there =
-    elim (eq_by_cmp path_cmp q p) as (λ b. cond b None (get s.groups q) ≡ Some attr → IsUpTo n attr) [
-      | true ↦ λ e. cc
-      | false ↦ λ e. h q attr e
-    ] (sym (get-remove path_cmp-IsTotalOrder s.groups p q) ∙ there)
-
--- a process that comes raises a peak, and nothing else of a group
-up_come : (n : ℕ) (s : State) (pid : ℕ) (a : Path) → HasEventsUpTo n s → HasEventsUpTo n (raise_peaks a (record s { home = insert s.home pid a }))
-up_come n s pid a h q attr there =
-    by (get s.groups q) (h q) (sym (get-each path_cmp-IsTotalOrder path_cmp-IsAntisymmetric (raise_peak (record s { home = insert s.home pid a }) a) s.groups q) ∙ there)
-  where
-    by : (o : Option Attr) → ((x : Attr) → o ≡ Some x → IsUpTo n x) → option_map (raise_peak (record s { home = insert s.home pid a }) a q) o ≡ Some attr → IsUpTo n attr
-    by None f e = cc
-    by (Some x) f e = subst (IsUpTo n) (let same : raise_peak (record s { home = insert s.home pid a }) a q x ≡ attr = cc in same) (f x refl)
-
--- an accepted command raises none
-up_after : (n : ℕ) (s : State) (c : Command) → HasEventsUpTo n s → HasEventsUpTo n (after s c)
-up_after n s (MakeGroup p) h = up_put n s p fresh h (omega arith, omega arith)
-up_after n s (RemoveGroup p) h = up_removed n s p h
-up_after n s (Fork from child) h = up_come n s child (home_of s from) h
-up_after n s (Exit pid) h = h
-up_after n s (Move p pid) h = up_come n s pid p h
-up_after n s (SetLimit p file value) h = up_put n s p _ h (up_limit n file value _ (up_own n (get s.groups p) (h p)))
-up_after n s (Kill g) h = h
-up_after n s (Show p file) h = h
-up_after n s (Locate pid) h = h
-up_after n s Undo h = h
-
-up_more : (n m : ℕ) (s : State) → n ≤ m → HasEventsUpTo n s → HasEventsUpTo m s
-up_more n m s l h p attr there = let up = h p attr there in (omega (arith, l, up.0), omega (arith, l, up.1))
-
-at_most_one : (n k : ℕ) (b : Bool) → k ≤ n → k + cond b 1 0 ≤ n + 1
-at_most_one n k true h = omega arith
-at_most_one n k false h = omega arith
-
-up_one : (n : ℕ) (a q : Path) (attr : Attr) (o : Option Attr) → ((x : Attr) → o ≡ Some x → IsUpTo n x) → option_map (count_up a q) o ≡ Some attr → IsUpTo (n + 1) attr
-up_one n a q attr None h e = cc
-up_one n a q attr (Some x) h e =
-    let up = h x refl in
-    subst (IsUpTo (n + 1)) (let same : count_up a q x ≡ attr = cc in same)
-    (at_most_one n x.local (same_path q a) up.0, at_most_one n x.total (counts_for a q) up.1)
-
--- a refusal raises each by one at the most
-up_refused : (n : ℕ) (s : State) (r : Refusal) → HasEventsUpTo n s → HasEventsUpTo (n + 1) (after_refusal s r)
-up_refused n s (OverPidsMax a) h = λ q attr there. up_one n a q attr (get s.groups q) (h q) (sym (each_up s a q) ∙ there)
-up_refused n s Exists h = up_more n (n + 1) s (omega arith) h
-up_refused n s (NoGroup p) h = up_more n (n + 1) s (omega arith) h
-up_refused n s (Descendants p) h = up_more n (n + 1) s (omega arith) h
-up_refused n s (Depth p) h = up_more n (n + 1) s (omega arith) h
-up_refused n s NoSlot h = up_more n (n + 1) s (omega arith) h
-up_refused n s RootFixed h = up_more n (n + 1) s (omega arith) h
-up_refused n s HasChildren h = up_more n (n + 1) s (omega arith) h
-up_refused n s HasProcesses h = up_more n (n + 1) s (omega arith) h
-up_refused n s (NoProcess p) h = up_more n (n + 1) s (omega arith) h
-up_refused n s (PidInUse p) h = up_more n (n + 1) s (omega arith) h
-up_refused n s NoFile h = up_more n (n + 1) s (omega arith) h
-up_refused n s NotReadable h = up_more n (n + 1) s (omega arith) h
 
 bounded_recorded : (m : Machine) (c : Command) (s : State) → EventsBounded m → HasEventsUpTo (length m.past + 1) s → EventsBounded (recorded m c s)
 bounded_recorded m c s b h = (up_more (length m.past + 1) (length ((c, m.state) ∷ m.past)) s (omega arith) h, (b.0, b.1))

@@ -11,9 +11,10 @@ use Rattle.flat_model.specs.Refuse.{refuse}
 use Rattle.flat_model.specs.Step.{refusal, limit_met, first_refusal, blocked_make}
 use Rattle.flat_model.specs.Limiting.{HasRoomFor, HasRoomBelow, MeetsDescendants, MeetsDepth}
 use Rattle.flat_model.proofs.PathMembers.{upward_are}
-use Rattle.flat_model.proofs.Refusing.{passed, beyond, absent}
+use Rattle.flat_model.proofs.Refusing.{passed, beyond}
 use Rattle.flat_model.proofs.Nearest.{first_path_found, first_path_none, first_is_nearest}
 use Rattle.flat_model.proofs.Limits.{met_by, room_by, asked_by, asked_no}
+use Rattle.flat_model.proofs.Options.{not_some_is_none}
 
 -- ---- the walk upward
 
@@ -45,7 +46,7 @@ stops_nowhere test (p ∷ ps) e =
     ] refl e
 
 pub walk_passes : (test : Path → Option Refusal) (ps : List Path) (a : Path) → first_refusal test ps ≡ None → Contains ps a → test a ≡ None
-walk_passes test ps a e h = absent (test a) (first_path_none (stops test) ps a (stops_nowhere test ps e) h)
+walk_passes test ps a e h = not_some_is_none (test a) (first_path_none (stops test) ps a (stops_nowhere test ps e) h)
 
 -- ---- what a group lets through
 
@@ -114,7 +115,7 @@ met_limit s p r e =
     let f = refused_at (limit_met s q) (upward q) r e in
     let found = first_path_found (stops (limit_met s q)) (upward q) f.at f.first in
     let h : at_or_below q f.at ≡ true = (upward_are q f.at).0 (found.place, found.inside, found.there) in
-    let near : RoomTo s q f.at = λ b up under. room_for s q b (absent (limit_met s q b) (first_is_nearest (stops (limit_met s q)) q f.at b f.first up under)) in
+    let near : RoomTo s q f.at = λ b up under. room_for s q b (not_some_is_none (limit_met s q b) (first_is_nearest (stops (limit_met s q)) q f.at b f.first up under)) in
     met_of s q f.at (counts s f.at) (deepens s q f.at) r (met_descendants s q f.at h near) (met_depth s q f.at h near) f.refuses
 
 -- which refusals of a new group come from a limit

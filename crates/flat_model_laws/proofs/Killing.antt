@@ -1,13 +1,13 @@
 -- A kill leaves nobody in the group and below it, and everybody else where they are.
 use Rattle.std.proofs.Common.{◌≡◌, ℕ, true, false, cond, not, Option, Some, None, refl, sym, ap, ◌∙◌}
 use Rattle.std.specs.FinMap.{get, get-retain_keys, nat_cmp-IsAntisymmetric}
+use Rattle.std.proofs.lemmas.Bool.{false_from_ne_true}
 use Rattle.flat_model.specs.Path.{Path, at_or_below}
 use Rattle.flat_model.specs.State.{State}
 use Rattle.flat_model.specs.Counts.{populated}
 use Rattle.flat_model.specs.Command.{Kill}
 use Rattle.flat_model.specs.Step.{after, lives_in, is_within}
 use Rattle.flat_model.proofs.Counting.{populated_is}
-use Rattle.flat_model.proofs.Booleans.{to_false}
 
 -- the home of a process after a kill
 home_killed : (s : State) (g : Path) (pid : ℕ) → get (after s (Kill g)).home pid ≡ cond (not (lives_in s g pid)) (get s.home pid) None
@@ -22,7 +22,7 @@ left_is g (Some p) at e =
     ] refl e
 
 pub nobody_left : (s : State) (g : Path) → populated (after s (Kill g)) g ≡ false
-nobody_left s g = to_false (populated (after s (Kill g)) g) (λ e.
+nobody_left s g = false_from_ne_true (populated (after s (Kill g)) g) (λ e.
     let i = (populated_is (after s (Kill g)) g).0 e in
     let gone = left_is g (get s.home i.pid) i.at (sym (home_killed s g i.pid) ∙ i.home) in
     let below = i.below in cc)

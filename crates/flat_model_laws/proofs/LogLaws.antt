@@ -1,17 +1,10 @@
 -- A log that is one entry longer: its end, and that it is legal.
-use Rattle.std.proofs.Common.{◌≡◌, ◌↔◌, ℕ, List, [], ◌∷◌, ◌++◌, map, refl, sym, ap, ◌∙◌}
+use Rattle.std.proofs.Common.{◌≡◌, ◌↔◌, ℕ, List, [], ◌∷◌, ◌++◌, map, sym, ap, ◌∙◌}
 use Rattle.std.proofs.lemmas.List.{map-append, same_from_push}
 use Rattle.flat_model.specs.Command.{Command, Reply}
-use Rattle.flat_model.specs.Machine.{Machine, tick, replies, end_of, new_machine}
+use Rattle.flat_model.specs.Machine.{tick, replies, end_of, new_machine}
 use Rattle.flat_model.specs.Log.{Entry, IsLegal, log_end}
-
-end_of-push : (slots : ℕ) (m : Machine) (cs : List Command) (c : Command) → end_of slots m (cs ++ c ∷ []) ≡ (tick slots (end_of slots m cs) c).0
-end_of-push slots m [] c = refl
-end_of-push slots m (d ∷ cs) c = end_of-push slots (tick slots m d).0 cs c
-
-replies-push : (slots : ℕ) (m : Machine) (cs : List Command) (c : Command) → replies slots m (cs ++ c ∷ []) ≡ replies slots m cs ++ (tick slots (end_of slots m cs) c).1 ∷ []
-replies-push slots m [] c = refl
-replies-push slots m (d ∷ cs) c = ap (λ (rs : List Reply). (tick slots m d).1 ∷ rs) (replies-push slots (tick slots m d).0 cs c)
+use Rattle.flat_model.proofs.Runs.{end_of-push, replies-push}
 
 abbrev commands : List Entry → List Command
 commands log = map (λ e. e.command) log

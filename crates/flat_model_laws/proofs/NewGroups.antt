@@ -3,6 +3,7 @@ use Rattle.std.proofs.Common.{◌≡◌, ◌≢◌, ℕ, true, false, cond, [], 
 use Rattle.std.specs.Ordering.{nat_cmp, eq_by_cmp}
 use Rattle.std.specs.Cmp.{nat_cmp_total}
 use Rattle.std.specs.FinMap.{get, empty, nat_cmp-IsAntisymmetric, get-insert, get-empty}
+use Rattle.std.proofs.lemmas.Bool.{false_from_ne_true}
 use Rattle.flat_model.specs.Path.{Path, path_cmp}
 use Rattle.flat_model.specs.State.{State, start, fresh}
 use Rattle.flat_model.specs.Counts.{is_group}
@@ -10,7 +11,6 @@ use Rattle.flat_model.specs.Command.{MakeGroup}
 use Rattle.flat_model.specs.Step.{after}
 use Rattle.flat_model.proofs.PathLaws.{path_cmp-IsTotalOrder, path_cmp-IsAntisymmetric}
 use Rattle.flat_model.proofs.Maps.{get-own, key_of}
-use Rattle.flat_model.proofs.Booleans.{to_false}
 use Rattle.flat_model.proofs.Reachable.{only_root, some_attr}
 
 pub root_bare : get start.groups [] ≡ Some fresh
@@ -38,4 +38,4 @@ made_bare s p = get-own path_cmp-IsTotalOrder path_cmp-IsAntisymmetric s.groups 
 pub made_alone : (s : State) (p q : Path) → q ≢ p → get (after s (MakeGroup p)).groups q ≡ get s.groups q
 made_alone s p q n =
     get-insert path_cmp-IsTotalOrder s.groups p fresh q
-    ∙ ap (λ b. cond b (Some fresh) (get s.groups q)) (to_false (eq_by_cmp path_cmp q p) (λ t. n (key_of path_cmp-IsAntisymmetric q p t)))
+    ∙ ap (λ b. cond b (Some fresh) (get s.groups q)) (false_from_ne_true (eq_by_cmp path_cmp q p) (λ t. n (key_of path_cmp-IsAntisymmetric q p t)))

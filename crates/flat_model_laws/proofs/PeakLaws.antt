@@ -1,21 +1,22 @@
 -- What raises a peak, and what leaves it.
-use Rattle.std.proofs.Common.{◌≡◌, ◌≢◌, ℕ, ◌-◌, ◌≤◌, Bool, true, false, cond, not, ◌&&◌, List, [], map, length, get_or, Option, Some, None, refl, sym, ap, subst, ◌∙◌}
+use Rattle.std.proofs.Common.{◌≡◌, ℕ, ◌-◌, ◌≤◌, true, false, cond, List, [], length, get_or, Option, Some, None, refl, sym, ap, ◌∙◌}
 use Rattle.std.specs.Prelude.{option_map, max, unwrap_or}
 use Rattle.std.specs.Ordering.{eq_by_cmp}
-use Rattle.std.specs.FinMap.{FinMap, get, insert, remove, entries, from_entries, same_map, get-insert, get-remove}
-use Rattle.flat_model.specs.Path.{Path, path_cmp, HasPrefix, is_root}
+use Rattle.std.specs.FinMap.{FinMap, get, insert, same_map, get-insert, get-remove}
+use Rattle.flat_model.specs.Path.{Path, path_cmp, is_root}
 use Rattle.flat_model.specs.State.{State, Attr, Limit, fresh}
 use Rattle.flat_model.specs.Counts.{current}
-use Rattle.flat_model.specs.File.{LimitFile, PidsMax, MaxDescendants, MaxDepth}
+use Rattle.flat_model.specs.File.{LimitFile}
 use Rattle.flat_model.specs.Command.{Command, SetLimit, RemoveGroup, Refusal, Exists, NoGroup, Descendants, Depth, NoSlot, RootFixed}
 use Rattle.flat_model.specs.Command.{HasChildren, HasProcesses, NoProcess, PidInUse, OverPidsMax, NoFile, NotReadable}
-use Rattle.flat_model.specs.Step.{after, after_refusal, at_each, counts_for, count_up, raise_peak, raise_peaks, peaks_upward, set_peak, set_peaks, with_limit}
+use Rattle.flat_model.specs.Step.{after, after_refusal, counts_for, count_up, raise_peak, raise_peaks, peaks_upward, set_peak, set_peaks, with_limit}
 use Rattle.flat_model.specs.Machine.{after_all}
 use Rattle.flat_model.specs.RaisedPeaks.{IsRaised}
 use Rattle.flat_model.proofs.PathLaws.{path_cmp-IsTotalOrder, path_cmp-IsAntisymmetric}
 use Rattle.flat_model.proofs.Maps.{get-each, key_of}
 use Rattle.flat_model.proofs.Peaks.{peak_there}
 use Rattle.flat_model.proofs.Reachable.{reached_well}
+use Rattle.flat_model.proofs.Kept.{limit_peak}
 use Rattle.flat_model_laws.proofs.Events.{counts_above, counts_else}
 
 module _ (s : State) (pid : ℕ) (a : Path) where
@@ -43,11 +44,6 @@ module _ (s : State) (pid : ℕ) (a : Path) where
 
 -- ---- what leaves it
 
-limit_keeps : (file : LimitFile) (value : Limit) (x : Attr) → (with_limit file value x).peak ≡ x.peak
-limit_keeps PidsMax value x = refl
-limit_keeps MaxDescendants value x = refl
-limit_keeps MaxDepth value x = refl
-
 pub limited : (s : State) (g : Path) (file : LimitFile) (value : Limit) (p : Path) (x y : Attr) → get s.groups p ≡ Some x → get (after s (SetLimit g file value)).groups p ≡ Some y → y.peak ≡ x.peak
 limited s g file value p x y there now =
     elim (eq_by_cmp path_cmp p g) as (λ b. eq_by_cmp path_cmp p g ≡ b → cond b (Some (with_limit file value (unwrap_or (get s.groups g) fresh))) (get s.groups p) ≡ Some y → y.peak ≡ x.peak) [
@@ -56,7 +52,7 @@ limited s g file value p x y there now =
           ap (λ (q : Path). unwrap_or (get s.groups q) fresh) (sym (key_of path_cmp-IsAntisymmetric p g t))
           ∙ ap (λ (o : Option Attr). unwrap_or o fresh) there in
           let same : with_limit file value (unwrap_or (get s.groups g) fresh) ≡ y = cc in
-          ap (λ (z : Attr). z.peak) (sym same) ∙ limit_keeps file value (unwrap_or (get s.groups g) fresh) ∙ ap (λ (z : Attr). z.peak) own
+          ap (λ (z : Attr). z.peak) (sym same) ∙ limit_peak file value (unwrap_or (get s.groups g) fresh) ∙ ap (λ (z : Attr). z.peak) own
       | false ↦ λ t e. let same : x ≡ y = cc in ap (λ (z : Attr). z.peak) (sym same)
     ] refl (sym (get-insert path_cmp-IsTotalOrder s.groups g (with_limit file value (unwrap_or (get s.groups g) fresh)) p) ∙ now)
 

@@ -6,3 +6,4 @@ mod Fronts
 mod Answered
 mod Below
 mod SameTexts
+mod TooLong

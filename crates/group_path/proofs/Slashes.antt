@@ -1,14 +1,10 @@
 -- The first slash of bytes, by the clause of the search for it.
-use Rattle.std.proofs.Common.{◌≡◌, ℕ, ◌<◌, ◌≤◌, Bool, true, false, cond, nat_lt, List, length, refl, ap, sym, ◌∙◌, arith, Option, Some, None, slice_index}
+use Rattle.std.proofs.Common.{◌≡◌, ℕ, ◌<◌, ◌≤◌, Bool, true, false, cond, nat_lt, List, length, ap, sym, ◌∙◌, arith, Option, Some, None, slice_index}
 use Rattle.std.specs.List.{position, position_or_len}
 use Rattle.std.proofs.lemmas.Bool.Decides.{nat_tests}
 use Rattle.std.proofs.lemmas.List.Sums.{position_or_len_is}
+use Rattle.std.proofs.lemmas.Bool.{false_from_ne_true}
 use Rattle.memchr.specs.Find.{IsFirstByte}
-
--- a test that does not hold says so
-fails : (b : Bool) → (b ≡ true → ⊥) → b ≡ false
-fails true h = absurd (h refl)
-fails false h = refl
 
 -- where the first place is, if there is one
 place_is : (p : ℕ → Bool) (bytes : List ℕ) (n : ℕ) → position_or_len p bytes ≡ n → n < length bytes → Some n ≡ position p bytes
@@ -25,8 +21,8 @@ none_is p bytes n e l =
 pub first_is : (p : ℕ → Bool) (bytes : List ℕ) (r : Option ℕ) → IsFirstByte p bytes r → r ≡ position p bytes
 first_is p bytes None none =
     none_is p bytes (length bytes)
-    (position_or_len_is p bytes (length bytes) 0 (omega arith) (λ k l. fails (p (slice_index bytes k)) (none k (omega arith) l))
+    (position_or_len_is p bytes (length bytes) 0 (omega arith) (λ k l. false_from_ne_true (p (slice_index bytes k)) (none k (omega arith) l))
     (λ l. absurd (omega arith))) (omega arith)
 first_is p bytes (Some at) found =
     let l = found.0.high in
-    place_is p bytes at (position_or_len_is p bytes at 0 (omega arith) (λ k l. fails (p (slice_index bytes k)) (found.0.before k (omega arith) l)) (λ l. found.1)) l
+    place_is p bytes at (position_or_len_is p bytes at 0 (omega arith) (λ k l. false_from_ne_true (p (slice_index bytes k)) (found.0.before k (omega arith) l)) (λ l. found.1)) l

@@ -2,17 +2,15 @@
 use Rattle.std.proofs.Common.{◌≡◌, ◌≢◌, ◌↔◌, ◌⊎◌, Bool, true, false, [], Option, Some, None, IsSome, Result, Ok, Err, refl, sym, ap, subst, ◌∙◌, inl, inr, is_some}
 use Rattle.std.specs.List.{list_any}
 use Rattle.std.specs.FinMap.{get, insert, remove, keys}
+use Rattle.std.proofs.lemmas.Bool.{false_from_ne_true}
 use Rattle.flat_model.specs.Path.{Path, parent, strictly_below}
 use Rattle.group_tree.specs.declared.attr.Attr.{Attr}
 use Rattle.group_tree.specs.declared.fault.TreeFault.{TreeFault}
 use Rattle.group_tree.specs.declared.fault.TreeFault.TheVariants.{Exists, NoParent, NoGroup, HasChildren, RootFixed, OutOfMemory}
 use Rattle.group_tree.specs.Groups.{Groups, HasBelow, HasNoneBelow, Inserts, Sets, Removes}
 use Rattle.group_tree.proofs.Flat.{any_below_is}
-use Rattle.flat_model.proofs.Booleans.{to_false, apart}
-
-not_both : {X : Type 0} (o : Option X) → IsSome o → o ≡ None → ⊥
-not_both None h e = cc
-not_both (Some x) h e = cc
+use Rattle.flat_model.proofs.Booleans.{apart}
+use Rattle.flat_model.proofs.Options.{none_is_not_some}
 
 some_is : {X : Type 0} (o : Option X) (x : X) → o ≡ Some x → IsSome o
 some_is o x e = ap is_some e
@@ -21,10 +19,10 @@ some_is o x e = ap is_some e
 
 module _ (old new : Groups) (p : Path) (attr : Attr) where
   exists_only : (r : Result (Unit {0}) TreeFault) → IsSome (get old p) → Inserts old new p attr r → (r ≡ Err Exists) × (new ≡ old)
-  exists_only (Ok u) s h = absurd (not_both (get old p) s h.0)
+  exists_only (Ok u) s h = absurd (none_is_not_some (get old p) h.0 s)
   exists_only (Err Exists) s h = (refl, h.1)
-  exists_only (Err NoParent) s h = absurd (not_both (get old p) s h.0)
-  exists_only (Err OutOfMemory) s h = absurd (not_both (get old p) s h.0)
+  exists_only (Err NoParent) s h = absurd (none_is_not_some (get old p) h.0 s)
+  exists_only (Err OutOfMemory) s h = absurd (none_is_not_some (get old p) h.0 s)
   exists_only (Err NoGroup) s h = absurd h
   exists_only (Err HasChildren) s h = absurd h
   exists_only (Err RootFixed) s h = absurd h
@@ -33,10 +31,10 @@ module _ (old new : Groups) (p : Path) (attr : Attr) where
   exists_is r s = (exists_only r s, λ e. subst (Inserts old new p attr) (sym e.0) (s, e.1))
 
   parent_only : (r : Result (Unit {0}) TreeFault) → get old p ≡ None → get old (parent p) ≡ None → Inserts old new p attr r → (r ≡ Err NoParent) × (new ≡ old)
-  parent_only (Ok u) n m h = absurd (not_both (get old (parent p)) h.1 m)
-  parent_only (Err Exists) n m h = absurd (not_both (get old p) h.0 n)
+  parent_only (Ok u) n m h = absurd (none_is_not_some (get old (parent p)) m h.1)
+  parent_only (Err Exists) n m h = absurd (none_is_not_some (get old p) n h.0)
   parent_only (Err NoParent) n m h = (refl, h.2)
-  parent_only (Err OutOfMemory) n m h = absurd (not_both (get old (parent p)) h.1 m)
+  parent_only (Err OutOfMemory) n m h = absurd (none_is_not_some (get old (parent p)) m h.1)
   parent_only (Err NoGroup) n m h = absurd h
   parent_only (Err HasChildren) n m h = absurd h
   parent_only (Err RootFixed) n m h = absurd h
@@ -49,8 +47,8 @@ module _ (old new : Groups) (p : Path) (attr : Attr) where
 
   made_only : (r : Result (Unit {0}) TreeFault) → get old p ≡ None → IsSome (get old (parent p)) → Inserts old new p attr r → IsMade r
   made_only (Ok u) n s h = inl (refl, h.2)
-  made_only (Err Exists) n s h = absurd (not_both (get old p) h.0 n)
-  made_only (Err NoParent) n s h = absurd (not_both (get old (parent p)) s h.1)
+  made_only (Err Exists) n s h = absurd (none_is_not_some (get old p) n h.0)
+  made_only (Err NoParent) n s h = absurd (none_is_not_some (get old (parent p)) h.1 s)
   made_only (Err OutOfMemory) n s h = inr (refl, h.2)
   made_only (Err NoGroup) n s h = absurd h
   made_only (Err HasChildren) n s h = absurd h
@@ -67,13 +65,13 @@ module _ (old new : Groups) (p : Path) (attr : Attr) where
 
   set_only : (b : Bool) → IsSome (get old p) → Sets old new p attr b → (b ≡ true) × (new ≡ insert old p attr)
   set_only true s h = (refl, h.1)
-  set_only false s h = absurd (not_both (get old p) s h.0)
+  set_only false s h = absurd (none_is_not_some (get old p) h.0 s)
 
   pub set_is : (b : Bool) → IsSome (get old p) → Sets old new p attr b ↔ ((b ≡ true) × (new ≡ insert old p attr))
   set_is b s = (set_only b s, λ e. subst (Sets old new p attr) (sym e.0) (s, e.1))
 
   unset_only : (b : Bool) → get old p ≡ None → Sets old new p attr b → (b ≡ false) × (new ≡ old)
-  unset_only true n h = absurd (not_both (get old p) h.0 n)
+  unset_only true n h = absurd (none_is_not_some (get old p) n h.0)
   unset_only false n h = (refl, h.1)
 
   pub unset_is : (b : Bool) → get old p ≡ None → Sets old new p attr b ↔ ((b ≡ false) × (new ≡ old))
@@ -82,7 +80,7 @@ module _ (old new : Groups) (p : Path) (attr : Attr) where
 -- ---- a removal
 
 clash : (m : Groups) (p : Path) → HasBelow m p → HasNoneBelow m p → ⊥
-clash m p h n = not_both (get m h.path) h.there (n h.path h.below)
+clash m p h n = none_is_not_some (get m h.path) (n h.path h.below) h.there
 
 root_only : (old new : Groups) (r : Result Attr TreeFault) → Removes old new [] r → (r ≡ Err RootFixed) × (new ≡ old)
 root_only old new (Ok a) h = absurd (h.0 refl)
@@ -98,10 +96,10 @@ root_is old new r = (root_only old new r, λ e. subst (Removes old new []) (sym 
 
 module _ (old new : Groups) (p : Path) where
   absent_only : (r : Result Attr TreeFault) → p ≢ [] → get old p ≡ None → Removes old new p r → (r ≡ Err NoGroup) × (new ≡ old)
-  absent_only (Ok a) d n h = absurd (not_both (get old p) (some_is (get old p) a h.1) n)
+  absent_only (Ok a) d n h = absurd (none_is_not_some (get old p) n (some_is (get old p) a h.1))
   absent_only (Err RootFixed) d n h = absurd (d h.0)
   absent_only (Err NoGroup) d n h = (refl, h.2)
-  absent_only (Err HasChildren) d n h = absurd (not_both (get old p) h.1 n)
+  absent_only (Err HasChildren) d n h = absurd (none_is_not_some (get old p) n h.1)
   absent_only (Err Exists) d n h = absurd h
   absent_only (Err NoParent) d n h = absurd h
   absent_only (Err OutOfMemory) d n h = absurd h
@@ -112,7 +110,7 @@ module _ (old new : Groups) (p : Path) where
   children_only : (attr : Attr) (r : Result Attr TreeFault) → p ≢ [] → get old p ≡ Some attr → HasBelow old p → Removes old new p r → (r ≡ Err HasChildren) × (new ≡ old)
   children_only attr (Ok a) d s b h = absurd (clash old p b h.2)
   children_only attr (Err RootFixed) d s b h = absurd (d h.0)
-  children_only attr (Err NoGroup) d s b h = absurd (not_both (get old p) (some_is (get old p) attr s) h.1)
+  children_only attr (Err NoGroup) d s b h = absurd (none_is_not_some (get old p) h.1 (some_is (get old p) attr s))
   children_only attr (Err HasChildren) d s b h = (refl, h.3)
   children_only attr (Err Exists) d s b h = absurd h
   children_only attr (Err NoParent) d s b h = absurd h
@@ -127,7 +125,7 @@ module _ (old new : Groups) (p : Path) where
   removed_only : (attr : Attr) (r : Result Attr TreeFault) → p ≢ [] → get old p ≡ Some attr → HasNoneBelow old p → Removes old new p r → (r ≡ Ok attr) × (new ≡ remove old p)
   removed_only attr (Ok a) d s b h = (ap Ok (same_attr a attr h.1 s), h.3)
   removed_only attr (Err RootFixed) d s b h = absurd (d h.0)
-  removed_only attr (Err NoGroup) d s b h = absurd (not_both (get old p) (some_is (get old p) attr s) h.1)
+  removed_only attr (Err NoGroup) d s b h = absurd (none_is_not_some (get old p) h.1 (some_is (get old p) attr s))
   removed_only attr (Err HasChildren) d s b h = absurd (clash old p h.2 b)
   removed_only attr (Err Exists) d s b h = absurd h
   removed_only attr (Err NoParent) d s b h = absurd h
@@ -147,6 +145,6 @@ nothing (Some x) h = absurd (h refl)
 
 pub none_below_is : (m : Groups) (p : Path) → HasNoneBelow m p ↔ (list_any (λ q. strictly_below q p) (keys m) ≡ false)
 none_below_is m p = (
-  λ n. to_false (list_any (λ q. strictly_below q p) (keys m)) (λ t. clash m p ((any_below_is m p).0 t) n),
+  λ n. false_from_ne_true (list_any (λ q. strictly_below q p) (keys m)) (λ t. clash m p ((any_below_is m p).0 t) n),
   λ f q b. nothing (get m q) (λ s. apart (list_any (λ q. strictly_below q p) (keys m)) ((any_below_is m p).1 (record { path = q; below = b; there = s })) f),
 )

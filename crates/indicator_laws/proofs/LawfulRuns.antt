@@ -1,8 +1,9 @@
 -- A lawful event is refused for want of a number alone, and a run that left numbers is one that the core does.
-use Rattle.std.proofs.Common.{◌≡◌, ⊎_elim, ℕ, ◌+◌, ◌-◌, ◌^◌, ◌<◌, ◌≤◌, Bool, true, false, not, ◌||◌, cond, List, [], ◌∷◌, ◌++◌, set, length}
+use Rattle.std.proofs.Common.{◌≡◌, ⊎_elim, ℕ, ◌+◌, ◌-◌, ◌^◌, ◌<◌, ◌≤◌, Bool, true, false, not, cond, List, [], ◌∷◌, ◌++◌, set, length}
 use Rattle.std.proofs.Common.{sym, refl, ap, ◌∙◌, subst, arith, length-set, length-append, Option, Some, None}
 use Rattle.std.specs.Prelude.{nat_le}
 use Rattle.std.specs.List.{list_all}
+use Rattle.std.proofs.lemmas.Bool.{or_from}
 use denote.Bor.{Bor}
 use Rattle.snzi_core.specs.declared.event.Event.{Event}
 use Rattle.snzi_core.specs.declared.event.Event.TheVariants.{Load, FastAdd, RootAdd, ChildAdd, Leave, StripeAdd, Split, Join}
@@ -18,15 +19,12 @@ use Rattle.snzi_core.specs.Effect.{after, arrived, descended, departed, ascended
 use Rattle.snzi_tree.specs.BoardEvents.{CanSplit, IsLawful, Comes}
 use Rattle.snzi_tree.proofs.Events.{passed, below_cap}
 
-neither : (a b : Bool) → a ≡ false → b ≡ false → (a || b) ≡ false
-neither a b e f = subst (λ (c : Bool). (c || b) ≡ false) (sym e) f
-
 split_done : (k : Core) (share : List Token) → CanSplit k share → length k.hands < 2 ^ 32 - 1 → refuses_split k share ≡ None
 split_done k share can room =
     let a : out (hand_of k 0).role < 65535 = can.2 in
     let b : length k.hands < 4294967295 = omega (arith, room) in
     passed (not (list_all (has_token k) share)) _ _ (ap not can.0) (passed (not (main_has k share)) _ _ (ap not can.1)
-    (passed (is_crowded k) _ _ (neither (nat_le 65535 (out (hand_of k 0).role)) (nat_le 4294967295 (length k.hands))
+    (passed (is_crowded k) _ _ (or_from (nat_le 65535 (out (hand_of k 0).role)) (nat_le 4294967295 (length k.hands))
     (below_cap (out (hand_of k 0).role) 65535 a) (below_cap (length k.hands) 4294967295 b)) refl))
 
 pub lawful_done : (k : Core) (e : Event) → IsLawful k e → length k.hands < 2 ^ 32 - 1 → refusal k e ≡ None

@@ -1,18 +1,19 @@
 -- What a kept history says of a machine's past, and what as many undos as one likes leave.
-use Rattle.std.proofs.Common.{◌≡◌, ◌∙◌, ℕ, zero, suc, ◌+◌, ◌≤◌, List, [], ◌∷◌, ◌++◌, drop, length, Option, Some, None, refl, sym, ap, subst, arith}
+use Rattle.std.proofs.Common.{◌≡◌, ◌∙◌, ℕ, zero, suc, ◌+◌, ◌≤◌, List, [], ◌∷◌, ◌++◌, drop, length, Some, None, refl, sym, ap, subst, arith}
 use Rattle.flat_model.specs.State.{State}
 use Rattle.flat_model.specs.Command as model
 use Rattle.flat_model.specs.Inverse.{Inverse, back, inverse}
 use Rattle.flat_model.specs.Step.{refusal, after}
 use Rattle.flat_model.specs.Machine.{Machine, new_machine, tick, end_of, after_all, undos}
 use Rattle.flat_model.proofs.Reachable.{reached_well}
-use Rattle.flat_model.proofs.TakenBack.{back_accepted, back_refused}
-use Rattle.undo_journal.specs.Answer.{IsNewest, record_by, record_of, state_by, state_after}
+use Rattle.flat_model.proofs.TakenBack.{back_accepted}
+use Rattle.undo_journal.specs.Answer.{IsNewest, record_by, record_of, state_after}
 use Rattle.undo_journal.specs.Beginning.{first_state, beginning}
 use Rattle.undo_journal.specs.Headline.{IsReached, KeepsHistory}
 use Rattle.undo_journal.specs.History.{IsHistory}
 use Rattle.undo_journal.proofs.Beginnings.{tick_begins}
 use Rattle.undo_journal.proofs.Undone.{keeps_history}
+use Rattle.undo_journal.proofs.Histories.{taken_by}
 use Rattle.journal_laws.specs.Runs.{KeepsEach}
 
 module _ (slots : ℕ) where
@@ -82,12 +83,8 @@ module _ (slots : ℕ) where
 
   -- ---- records
 
-  taken_by : (s : State) (c : model.Command) (i : Inverse) (o : Option model.Refusal) → refusal slots s c ≡ o → record_by s c o ≡ Some i → back i (state_by s c o) ≡ s
-  taken_by s c i None e is = back_accepted slots s c i e is
-  taken_by s c i (Some r) e is = back_refused s r i is
-
   pub given_back : (s : State) (c : model.Command) (i : Inverse) → record_of slots s c ≡ Some i → back i (state_after slots s c) ≡ s
-  given_back s c i is = taken_by s c i (refusal slots s c) refl is
+  given_back s c i is = taken_by slots s c i (refusal slots s c) refl is
 
   pub newest_recorded : (m : Machine) (c : model.Command) (i : Inverse) → refusal slots m.state c ≡ None → inverse m.state c ≡ Some i → IsNewest slots (after m.state c) ((c, m.state) ∷ m.past) i
   newest_recorded m c i e is = (ap (record_by m.state c) e ∙ is, back_accepted slots m.state c i e is)

@@ -9,9 +9,6 @@ use Rattle.group_tree.specs.declared.attr.Limit.TheVariants as limit
 use Rattle.group_tree.specs.declared.attr.LimitFile.{LimitFile}
 use Rattle.group_tree.specs.declared.attr.LimitFile.TheVariants as limit_file
 use Rattle.group_tree.specs.Flat.{limit_of, limit_file_of}
-use Rattle.interface_files.specs.FileMeaning.{file_of}
-use Rattle.interface_files.specs.declared.file.File.{File}
-use Rattle.interface_files.specs.declared.file.File.TheVariants as file
 use Rattle.undo_journal.specs.declared.command.Command.{Command}
 use Rattle.undo_journal.specs.declared.command.Command.TheVariants as command
 use Rattle.undo_journal.specs.declared.reply.Refusal.{Refusal}
@@ -19,6 +16,7 @@ use Rattle.undo_journal.specs.declared.reply.Refusal.TheVariants as refusal
 use Rattle.undo_journal.specs.declared.reply.Reply.{Reply}
 use Rattle.undo_journal.specs.declared.reply.Reply.TheVariants as reply
 use Rattle.undo_journal.specs.CommandMeaning.{command_of, refusal_of, reply_of}
+use Rattle.journal_laws.proofs.FileMeanings.{file_for}
 
 limit_meant : (m : flat.Limit) → (l : Limit) × (limit_of l ≡ m)
 limit_meant flat.Unlimited = (limit.Unlimited, refl)
@@ -28,19 +26,6 @@ limit_file_meant : (m : model_file.LimitFile) → (f : LimitFile) × (limit_file
 limit_file_meant model_file.PidsMax = (limit_file.PidsMax, refl)
 limit_file_meant model_file.MaxDescendants = (limit_file.MaxDescendants, refl)
 limit_file_meant model_file.MaxDepth = (limit_file.MaxDepth, refl)
-
-file_meant : (m : model_file.File) → (f : File) × (file_of f ≡ m)
-file_meant model_file.Procs = (file.Procs, refl)
-file_meant model_file.Events = (file.Events, refl)
-file_meant model_file.Stat = (file.Stat, refl)
-file_meant (model_file.LimitOf model_file.PidsMax) = (file.PidsMax, refl)
-file_meant (model_file.LimitOf model_file.MaxDescendants) = (file.MaxDescendants, refl)
-file_meant (model_file.LimitOf model_file.MaxDepth) = (file.MaxDepth, refl)
-file_meant model_file.KillFile = (file.KillFile, refl)
-file_meant model_file.PidsCurrent = (file.PidsCurrent, refl)
-file_meant model_file.PidsPeak = (file.PidsPeak, refl)
-file_meant model_file.PidsEvents = (file.PidsEvents, refl)
-file_meant model_file.PidsEventsLocal = (file.PidsEventsLocal, refl)
 
 pub command_meant : (m : model.Command) → (c : Command Global) × (command_of c ≡ m)
 command_meant (model.MakeGroup p) = (command.MakeGroup p, refl)
@@ -53,7 +38,7 @@ command_meant (model.SetLimit p f value) =
     let l = limit_meant value in
     (command.SetLimit p g.0 l.0, λ k. model.SetLimit p (g.1 k) (l.1 k))
 command_meant (model.Kill p) = (command.Kill p, refl)
-command_meant (model.Show p f) = let g = file_meant f in (command.Show p g.0, λ k. model.Show p (g.1 k))
+command_meant (model.Show p f) = let g = file_for f in (command.Show p g.0, λ k. model.Show p (g.1 k))
 command_meant (model.Locate pid) = (command.Locate pid, refl)
 command_meant model.Undo = (command.Undo, refl)
 

@@ -1,5 +1,5 @@
 -- Lists in the order of their members, and two such lists with the same members.
-use Rattle.std.proofs.Common.{◌≡◌, Bool, true, false, cond, ◌&&◌, T, inl, inr, List, [], ◌∷◌, ◌++◌, map, flat_map, get_or, refl, ap, sym, ◌∙◌, arith}
+use Rattle.std.proofs.Common.{◌≡◌, Bool, true, false, cond, T, inl, inr, List, [], ◌∷◌, ◌++◌, map, flat_map, get_or, refl, ap, sym, ◌∙◌, arith}
 use Rattle.std.specs.List.{filter, AllPairs}
 use Rattle.std.proofs.lemmas.List.Elements.{Contains-get_or}
 use Rattle.std.proofs.lemmas.List.Kept.{AllPairs-cons}
@@ -10,6 +10,7 @@ use Rattle.std.specs.declared.cmp.Ordering.TheVariants.{Less, Equal, Greater}
 use Rattle.std.specs.FinMap.{is_sorted}
 use Rattle.std.specs.FinMap.Entries.{below_all}
 use Rattle.listing_laws.proofs.Members.{Among, among_contains, among_either, flat_among, filter_among}
+use Rattle.flat_model.proofs.Booleans.{both}
 
 -- each member is below all that come behind it
 abbrev pub Ascends : {X : Type 0} → (X → X → Ordering) → List X → Type 0
@@ -20,10 +21,6 @@ less_by : (r : Ordering) → T (is_lt r) → r ≡ Less
 less_by Less h = refl
 less_by Equal h = absurd h
 less_by Greater h = absurd h
-
-both : (a b : Bool) → T (a && b) → T a × T b
-both true b h = (tt, h)
-both false b h = absurd h
 
 -- ---- keys, those that pass a test, and one list behind another
 

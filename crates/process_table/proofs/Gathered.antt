@@ -1,8 +1,7 @@
 -- The pids of chosen slots are the chosen pids.
-use Rattle.std.proofs.Common.{◌≡◌, ◌≢◌, ℕ, ◌+◌, ◌<◌, ◌≤◌, Bool, true, false, cond, eqb, ltb, Option, Some, None, List, [], ◌++◌, length, count_by, refl, sym, ap, ◌∙◌, subst, arith}
+use Rattle.std.proofs.Common.{◌≡◌, ◌≢◌, ℕ, ◌+◌, ◌<◌, ◌≤◌, Bool, true, false, cond, eqb, ltb, Option, Some, None, List, [], length, count_by, refl, sym, ap, ◌∙◌, subst, arith}
 use Rattle.std.proofs.lemmas.Bool.{eqb-true, eqb-false, lt-ltb, le-ltb, ltb-true, ltb-false}
 use Rattle.std.proofs.lemmas.List.{get_or_past}
-use Rattle.std.proofs.lemmas.List.Sums.{sum_by-append}
 use Rattle.flat_model.specs.Path.{Path, at_or_below}
 use Rattle.process_table.specs.declared.process.Cell.{Cell}
 use Rattle.process_table.specs.declared.process.Process.{Process}
@@ -11,17 +10,7 @@ use Rattle.process_table.specs.SlotPids.{list_at, IsAt}
 use Rattle.process_table.specs.Rows.{process_of}
 use Rattle.process_table.specs.Tied.{in_slot, IsTied}
 use Rattle.process_table.proofs.RowLaws.{counted}
-use Rattle.process_table.proofs.Tying.{count-at, its_slot}
-
-pub count-append : (q : ℕ) (xs ys : List ℕ) → count_by (eqb q) (xs ++ ys) ≡ count_by (eqb q) xs + count_by (eqb q) ys
-count-append q xs ys = sum_by-append (λ y. cond (eqb q y) 1 0) xs ys
-
-abbrev one_if : Bool → ℕ
-one_if b = cond b 1 0
-
-no_choice : (b : Bool) (n : ℕ) → cond b n n ≡ n
-no_choice true n = refl
-no_choice false n = refl
+use Rattle.process_table.proofs.Tying.{count-at, its_slot, one_if, same_either_way}
 
 -- a slot more
 one_more : (a n t : ℕ) → cond (ltb a (n + 1)) t 0 ≡ cond (ltb a n) t 0 + cond (eqb a n) t 0
@@ -76,11 +65,11 @@ module _ {A : Type 0} where
 
     module _ (slot : ℕ) (g : Path) (b : Bool) (says : (q : ℕ) (x : Process A) → process_of (cells q) ≡ Some x → x.slot ≡ slot → b ≡ at_or_below x.home g) where
       by_cell : (q : ℕ) (o : Option (Cell A)) → cells q ≡ o → cond b (in_slot slot o) 0 ≡ chosen_at slot g (process_of o)
-      by_cell q None is = no_choice b 0
+      by_cell q None is = same_either_way b 0
       by_cell q (Some c) is =
           elim (eqb c.process.slot slot) as (λ e. eqb c.process.slot slot ≡ e → cond b (one_if e) 0 ≡ cond e (one_if (at_or_below c.process.home g)) 0) [
             | true ↦ λ e. ap one_if (says q c.process (ap process_of is) (eqb-true c.process.slot slot e))
-            | false ↦ λ e. no_choice b 0
+            | false ↦ λ e. same_either_way b 0
           ] refl
 
       pub appended : (q : ℕ) → cond b (count_by (eqb q) (list_at lists slot)) 0 ≡ chosen_at slot g (process_of (cells q))

@@ -10,13 +10,12 @@ use Rattle.process_table.specs.Rows.{pid_count}
 use Rattle.process_table.specs.SlotPids.{list_at, IsAt, IsRead, HasLeft}
 use Rattle.process_table.specs.Tied.{in_slot, owed, IsTied, Owes}
 use Rattle.process_table.proofs.RowLaws.{count-same}
-use Rattle.flat_model.proofs.Sums.{count_by-cons}
+use Rattle.flat_model.proofs.Sums.{count_by-cons, count_by-append}
 use Rattle.process_table.proofs.SameNumbers.{count-IsPermutation}
 
 -- ---- lists of numbers
 pub count-push : (q x : ℕ) (xs : List ℕ) → count_by (eqb q) (xs ++ x ∷ []) ≡ count_by (eqb q) xs + cond (eqb q x) 1 0
-count-push q x [] = let e = count_by-cons (eqb q) x [] in omega (arith, e)
-count-push q x (y ∷ xs) = let a = count_by-cons (eqb q) y (xs ++ x ∷ []) in let b = count_by-cons (eqb q) y xs in let rest = count-push q x xs in omega (arith, a, b, rest)
+count-push q x xs = let e = count_by-cons (eqb q) x [] in omega (arith, count_by-append (eqb q) xs (x ∷ []), e)
 
 pub count-at : (xs : List ℕ) (k q : ℕ) → IsAt xs k q → 0 < count_by (eqb q) xs
 count-at [] k q h = absurd (omega (arith, h.within))
@@ -26,15 +25,19 @@ count-at (x ∷ xs) (suc k) q h =
     let e = count_by-cons (eqb q) x xs in
     omega (arith, e, rest)
 
-abbrev one_if : Bool → ℕ
+abbrev pub one_if : Bool → ℕ
 one_if b = cond b 1 0
 
 pub not_owed : (slot p s q : ℕ) → q ≢ p → owed slot p s q ≡ 0
 not_owed slot p s q ne = rw (ne_eqb q p ne) refl
 
-none_for : (b : Bool) (n : ℕ) → cond b n n ≡ n
-none_for true n = refl
-none_for false n = refl
+pub same_either_way : (b : Bool) (n : ℕ) → cond b n n ≡ n
+same_either_way true n = refl
+same_either_way false n = refl
+
+-- what holds of one number, and of each other
+at_or_apart : {p : ℕ} {P : ℕ → Type 0} → P p → ((q : ℕ) → q ≢ p → P q) → (q : ℕ) → P q
+at_or_apart {p} {P} here apart q = elim (eqb q p) as (λ b. eqb q p ≡ b → P q) [ true ↦ λ e. subst P (sym (eqb-true q p e)) here | false ↦ λ e. apart q (eqb-false q p e) ] refl
 
 -- a place that stays
 still_at : (xs ys : List ℕ) (place : ℕ) (moved : Option ℕ) (k q : ℕ) → HasLeft xs place moved ys → IsAt xs k q → k ≢ place → k ≢ length ys → IsAt ys k q
@@ -88,7 +91,7 @@ module _ {A : Type 0} where
           | false ↦ λ e.
               let ne : s ≢ slot = eqb-false s slot e in
               let apart : slot ≢ s = λ h. ne (sym h) in
-              let none : owed slot p s q ≡ 0 = ap (λ b. cond (eqb q p) (one_if b) 0) (ne_eqb slot s apart) ∙ none_for (eqb q p) 0 in
+              let none : owed slot p s q ≡ 0 = ap (λ b. cond (eqb q p) (one_if b) 0) (ne_eqb slot s apart) ∙ same_either_way (eqb q p) 0 in
               ap (count_by (eqb q)) (others s ne) ∙ omega (arith, o.counted s q, none)
         ] refl
 
@@ -184,21 +187,18 @@ module _ {A : Type 0} where
       gone : changed p ≡ None
       gone = written cells changed p None h
 
-      by : {P : ℕ → Type 0} → P p → ((q : ℕ) → q ≢ p → P q) → (q : ℕ) → P q
-      by {P} here apart q = elim (eqb q p) as (λ b. eqb q p ≡ b → P q) [ true ↦ λ e. subst P (sym (eqb-true q p e)) here | false ↦ λ e. apart q (eqb-false q p e) ] refl
-
       counts : (s q : ℕ) → count_by (eqb q) (list_at lists s) ≡ in_slot s (changed q) + owed c.process.slot p s q
-      counts s = by {P = λ q. count_by (eqb q) (list_at lists s) ≡ in_slot s (changed q) + owed c.process.slot p s q}
+      counts s = at_or_apart {p = p} {P = λ q. count_by (eqb q) (list_at lists s) ≡ in_slot s (changed q) + owed c.process.slot p s q}
           (omega (arith, t.counted s p, ap (in_slot s) is, ap (in_slot s) gone, is_owed s p c))
           (λ q ne. omega (arith, t.counted s q, ap (in_slot s) (unwritten cells changed p None h q ne), not_owed c.process.slot p s q ne))
 
       places : (q : ℕ) (d : Cell A) → changed q ≡ Some d → IsAt (list_at lists d.process.slot) d.place q
-      places = by {P = λ q. (d : Cell A) → changed q ≡ Some d → IsAt (list_at lists d.process.slot) d.place q}
+      places = at_or_apart {p = p} {P = λ q. (d : Cell A) → changed q ≡ Some d → IsAt (list_at lists d.process.slot) d.place q}
           (λ d e. cc gone)
           (λ q ne d e. t.placed q d (sym (unwritten cells changed p None h q ne) ∙ e))
 
       fews : (q : ℕ) → pid_count ≤ q → changed q ≡ None
-      fews = by {P = λ q. pid_count ≤ q → changed q ≡ None} (λ _. gone) (λ q ne le. unwritten cells changed p None h q ne ∙ t.few q le)
+      fews = at_or_apart {p = p} {P = λ q. pid_count ≤ q → changed q ≡ None} (λ _. gone) (λ q ne le. unwritten cells changed p None h q ne ∙ t.few q le)
 
   -- ---- a pid gets another process of the same slot
   pub kept_tied : (cells changed : ℕ → Option (Cell A)) (lists : List (List ℕ)) (p : ℕ) (c d : Cell A) → IsTied cells lists
@@ -209,11 +209,8 @@ module _ {A : Type 0} where
       new : changed p ≡ Some d
       new = written cells changed p (Some d) h
 
-      by : {P : ℕ → Type 0} → P p → ((q : ℕ) → q ≢ p → P q) → (q : ℕ) → P q
-      by {P} here apart q = elim (eqb q p) as (λ b. eqb q p ≡ b → P q) [ true ↦ λ e. subst P (sym (eqb-true q p e)) here | false ↦ λ e. apart q (eqb-false q p e) ] refl
-
       counts : (s q : ℕ) → count_by (eqb q) (list_at lists s) ≡ in_slot s (changed q)
-      counts s = by {P = λ q. count_by (eqb q) (list_at lists s) ≡ in_slot s (changed q)}
+      counts s = at_or_apart {p = p} {P = λ q. count_by (eqb q) (list_at lists s) ≡ in_slot s (changed q)}
           (t.counted s p ∙ ap (in_slot s) is ∙ ap (λ n. one_if (eqb n s)) (sym slot) ∙ sym (ap (in_slot s) new))
           (λ q ne. t.counted s q ∙ sym (ap (in_slot s) (unwritten cells changed p (Some d) h q ne)))
 
@@ -221,12 +218,12 @@ module _ {A : Type 0} where
       at_d = subst (λ s. IsAt (list_at lists s) d.place p) (sym slot) (subst (λ n. IsAt (list_at lists c.process.slot) n p) (sym place) (t.placed p c is))
 
       places : (q : ℕ) (e : Cell A) → changed q ≡ Some e → IsAt (list_at lists e.process.slot) e.place q
-      places = by {P = λ q. (e : Cell A) → changed q ≡ Some e → IsAt (list_at lists e.process.slot) e.place q}
+      places = at_or_apart {p = p} {P = λ q. (e : Cell A) → changed q ≡ Some e → IsAt (list_at lists e.process.slot) e.place q}
           (λ e f. let it : d ≡ e = cc new in subst (λ (e : Cell A). IsAt (list_at lists e.process.slot) e.place p) it at_d)
           (λ q ne e f. t.placed q e (sym (unwritten cells changed p (Some d) h q ne) ∙ f))
 
       fews : (q : ℕ) → pid_count ≤ q → changed q ≡ None
-      fews = by {P = λ q. pid_count ≤ q → changed q ≡ None} (λ le. absurd (taken (cells p) (t.few p le))) (λ q ne le. unwritten cells changed p (Some d) h q ne ∙ t.few q le)
+      fews = at_or_apart {p = p} {P = λ q. pid_count ≤ q → changed q ≡ None} (λ le. absurd (taken (cells p) (t.few p le))) (λ q ne le. unwritten cells changed p (Some d) h q ne ∙ t.few q le)
         where
           taken : (o : Option (Cell A)) → cells p ≡ None → ⊥
           taken o e = cc is
@@ -238,9 +235,6 @@ module _ {A : Type 0} where
       (h : (q : ℕ) → changed q ≡ cond (eqb p q) (Some d) (cells q)) where
     new : changed p ≡ Some d
     new = written cells changed p (Some d) h
-
-    by : {P : ℕ → Type 0} → P p → ((q : ℕ) → q ≢ p → P q) → (q : ℕ) → P q
-    by {P} here apart q = elim (eqb q p) as (λ b. eqb q p ≡ b → P q) [ true ↦ λ e. subst P (sym (eqb-true q p e)) here | false ↦ λ e. apart q (eqb-false q p e) ] refl
 
     count_after : (s q : ℕ) → count_by (eqb q) (list_at after s) ≡ count_by (eqb q) (list_at lists s) + cond (eqb d.process.slot s) (cond (eqb q p) 1 0) 0
     count_after s q =
@@ -259,7 +253,7 @@ module _ {A : Type 0} where
     counts_apart : (s q : ℕ) → q ≢ p → count_by (eqb q) (list_at after s) ≡ in_slot s (changed q)
     counts_apart s q ne =
         let joins : ℕ → ℕ = λ q. cond (eqb d.process.slot s) (one_if (eqb q p)) 0 in
-        let none : joins q ≡ 0 = ap (λ b. cond (eqb d.process.slot s) (one_if b) 0) (ne_eqb q p ne) ∙ none_for (eqb d.process.slot s) 0 in
+        let none : joins q ≡ 0 = ap (λ b. cond (eqb d.process.slot s) (one_if b) 0) (ne_eqb q p ne) ∙ same_either_way (eqb d.process.slot s) 0 in
         omega (arith, count_after s q, t.counted s q, none, ap (in_slot s) (unwritten cells changed p (Some d) h q ne))
 
     longer : (s k q : ℕ) → IsAt (list_at lists s) k q → IsAt (list_at after s) k q
@@ -275,23 +269,23 @@ module _ {A : Type 0} where
         (record { within = omega (arith, place, length-append (list_at lists d.process.slot) (p ∷ [])); here = get_or_push (list_at lists d.process.slot) p 0 d.place (sym place) })
 
     places : (q : ℕ) (e : Cell A) → changed q ≡ Some e → IsAt (list_at after e.process.slot) e.place q
-    places = by {P = λ q. (e : Cell A) → changed q ≡ Some e → IsAt (list_at after e.process.slot) e.place q}
+    places = at_or_apart {p = p} {P = λ q. (e : Cell A) → changed q ≡ Some e → IsAt (list_at after e.process.slot) e.place q}
         (λ e f. let it : d ≡ e = cc new in subst (λ (e : Cell A). IsAt (list_at after e.process.slot) e.place p) it at_end)
         (λ q ne e f. longer e.process.slot e.place q (t.placed q e (sym (unwritten cells changed p (Some d) h q ne) ∙ f)))
 
     fews : (q : ℕ) → pid_count ≤ q → changed q ≡ None
-    fews = by {P = λ q. pid_count ≤ q → changed q ≡ None} (λ le. absurd (omega (arith, le))) (λ q ne le. unwritten cells changed p (Some d) h q ne ∙ t.few q le)
+    fews = at_or_apart {p = p} {P = λ q. pid_count ≤ q → changed q ≡ None} (λ le. absurd (omega (arith, le))) (λ q ne le. unwritten cells changed p (Some d) h q ne ∙ t.few q le)
 
     pub new_tied : cells p ≡ None → IsTied changed after
     new_tied none = record {
-      counted = λ s. by {P = λ q. count_by (eqb q) (list_at after s) ≡ in_slot s (changed q)} (omega (arith, counts_here s, ap (in_slot s) none)) (counts_apart s);
+      counted = λ s. at_or_apart {p = p} {P = λ q. count_by (eqb q) (list_at after s) ≡ in_slot s (changed q)} (omega (arith, counts_here s, ap (in_slot s) none)) (counts_apart s);
       placed = places;
       few = fews;
     }
 
     pub new_owes : (c : Cell A) → cells p ≡ Some c → c.process.slot ≢ d.process.slot → Owes changed after c.process.slot c.place p
     new_owes c is apart = record {
-      counted = λ s. by {P = λ q. count_by (eqb q) (list_at after s) ≡ in_slot s (changed q) + owed c.process.slot p s q}
+      counted = λ s. at_or_apart {p = p} {P = λ q. count_by (eqb q) (list_at after s) ≡ in_slot s (changed q) + owed c.process.slot p s q}
           (omega (arith, counts_here s, ap (in_slot s) is, is_owed s p c))
           (λ q ne. omega (arith, counts_apart s q ne, not_owed c.process.slot p s q ne));
       placed = places;

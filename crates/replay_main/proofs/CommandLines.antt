@@ -1,5 +1,5 @@
 -- The program's command line, as `clap` sees it.
-use Rattle.std.proofs.Common.{◌≡◌, true, ap, ap₂, refl, sym, subst, ◌∙◌, ◌⊎◌, inl, inr, codes, List, Option, Result, Ok, Err}
+use Rattle.std.proofs.Common.{◌≡◌, true, ap, ap₂, refl, sym, subst, ◌∙◌, ◌⊎◌, inl, inr, codes, List, Option, Result, Ok, Err, ◌≢◌, [], ◌∷◌}
 use Rattle.clap.specs.Words.{App, HasMatchesOf, IsAmong, Rule, Text, fault_of, first_of, first_value, found_of, is_simple, is_simple_and_free, matches_of, new_app, rows_of, with_rule}
 use Rattle.clap.specs.declared.error.kind.ErrorKind.{ErrorKind}
 use Rattle.clap.specs.declared.error.kind.ErrorKind.TheVariants as kind
@@ -28,27 +28,32 @@ pub app_free : is_simple_and_free app ≡ true
 unfolding clap_on_literals
 app_free = refl
 
--- a value that was read is the one that the words say
-value_in : (a : App) (words : List Text) (m : ArgMatches) (id : Text) (value : Option Text) → a ≡ app → HasMatchesOf a words m
-    → value ≡ first_value (found_of m) id → value ≡ first_of id (matches_of app words)
-value_in a words m id value is h v =
-    let rows : rows_of (found_of m) ≡ matches_of app words = (subst (λ x. HasMatchesOf x words m) is h app_simple).0 in
+-- a value that was read is the one that the words say, of this program's command line or another's
+pub value_in : (line : App) → is_simple line ≡ true → (a : App) (words : List Text) (m : ArgMatches) (id : Text) (value : Option Text) → a ≡ line → HasMatchesOf a words m
+    → value ≡ first_value (found_of m) id → value ≡ first_of id (matches_of line words)
+value_in line simple a words m id value is h v =
+    let rows : rows_of (found_of m) ≡ matches_of line words = (subst (λ x. HasMatchesOf x words m) is h simple).0 in
     v ∙ first_value-rows (found_of m) id ∙ ap (first_of id) rows
 
 pub said_in : (a : App) (words : List Text) (m : ArgMatches) (value : Option Text) → a ≡ app → HasMatchesOf a words m
     → value ≡ first_value (found_of m) (codes "workers") → workers_said value ≡ workers_in words
-said_in a words m value is h v = ap workers_said (value_in a words m (codes "workers") value is h v)
+said_in a words m value is h v = ap workers_said (value_in app app_simple a words m (codes "workers") value is h v)
 
 pub rehearsal_said_in : (a : App) (words : List Text) (m : ArgMatches) (value : Option Text) → a ≡ app → HasMatchesOf a words m
     → value ≡ first_value (found_of m) (codes "rehearse") → rehearsal_said value ≡ rehearsal_in words
-rehearsal_said_in a words m value is h v = ap rehearsal_said (value_in a words m (codes "rehearse") value is h v)
+rehearsal_said_in a words m value is h v = ap rehearsal_said (value_in app app_simple a words m (codes "rehearse") value is h v)
 
-apart : kind.DisplayHelp ≡ kind.OutOfMemory → ⊥
-apart e = cc
+pub help_is_not_out_of_memory : kind.DisplayHelp ≡ kind.OutOfMemory → ⊥
+help_is_not_out_of_memory e = cc
+
+-- where the only fault is a call for help, there is no other
+pub only_help : (k : ErrorKind) → IsAmong k (kind.DisplayHelp ∷ []) → k ≢ kind.DisplayHelp → ⊥
+only_help k (inl e) n = n e
+only_help k (inr x) n = absurd x
 
 pub asks_by : (words : List Text) (k : ErrorKind) (r : Result Ask LineFault) → IsAskedBy k r → (k ≡ kind.OutOfMemory) ⊎ IsAmong k (fault_of app words) → Asks words r
 asks_by words k (Ok (Run workers rehearse)) h b = absurd h
-asks_by words k (Ok (Help text)) h (inl e) = absurd (apart (sym h ∙ e))
+asks_by words k (Ok (Help text)) h (inl e) = absurd (help_is_not_out_of_memory (sym h ∙ e))
 asks_by words k (Ok (Help text)) h (inr a) = subst (λ x. IsAmong x (fault_of app words)) h a
 asks_by words k (Err Bad) h (inl e) = absurd (h.1 e)
 asks_by words k (Err Bad) h (inr a) = inl (k, a, h.0)

@@ -1,7 +1,7 @@
 -- Lines in two parts: the machine, the answers and the two numbers behind the second go on from where the first leaves them.
-use Rattle.std.proofs.Common.{◌≡◌, ◌∙◌, ℕ, ◌+◌, Bool, List, [], ◌∷◌, ◌++◌, append_assoc, refl, sym, ap, arith}
+use Rattle.std.proofs.Common.{◌≡◌, ◌∙◌, ℕ, ◌+◌, List, [], ◌∷◌, ◌++◌, append_assoc, refl, sym, ap, arith}
 use Rattle.std.specs.List.{count_by}
-use Rattle.flat_model.proofs.Sums.{count_by-cons}
+use Rattle.flat_model.proofs.Sums.{count_by-cons, count_by-append}
 use Rattle.flat_model.specs.Command.{Reply}
 use Rattle.flat_model.specs.Machine.{Machine, end_of, replies, tick}
 use Rattle.flat_model.specs.Replies.{command_count, commands_in, fault_bytes, is_fault, is_numbered, is_refused, out, reply_bytes}
@@ -40,14 +40,6 @@ end_cut m (Skip ∷ a) b = end_cut m a b
 end_cut m (Fault f ∷ a) b = end_cut m a b
 end_cut m (Run c ∷ a) b = end_cut (tick slots m c).0 a b
 
-count-append : {X : Type 0} (p : X → Bool) (xs ys : List X) → count_by p (xs ++ ys) ≡ count_by p xs + count_by p ys
-count-append p [] ys = omega arith
-count-append p (x ∷ xs) ys =
-    let a = count_by-cons p x (xs ++ ys) in
-    let b = count_by-cons p x xs in
-    let c = count-append p xs ys in
-    omega (arith, a, b, c)
-
 replies_cut : (m : Machine) (a b : List Line) → replies slots m (commands_in (a ++ b)) ≡ replies slots m (commands_in a) ++ replies slots (end_of slots m (commands_in a)) (commands_in b)
 replies_cut m [] b = refl
 replies_cut m (Skip ∷ a) b = replies_cut m a b
@@ -57,10 +49,10 @@ replies_cut m (Run c ∷ a) b = ap (λ (t : List Reply). (tick slots m c).1 ∷ 
 pub point_cut : (p : Point) (a b : List Line) → point_after p (a ++ b) ≡ point_after (point_after p a) b
 point_cut p a b =
     let machine = end_cut p.machine a b in
-    let commands : p.commands + command_count (a ++ b) ≡ p.commands + command_count a + command_count b = let k = count-append is_numbered a b in omega (arith, k) in
+    let commands : p.commands + command_count (a ++ b) ≡ p.commands + command_count a + command_count b = let k = count_by-append is_numbered a b in omega (arith, k) in
     let refused : (point_after p (a ++ b)).refused ≡ (point_after (point_after p a) b).refused =
-    let f = count-append is_fault a b in
-    let k = ap (count_by is_refused) (replies_cut p.machine a b) ∙ count-append is_refused (replies_on p a) (replies_on (point_after p a) b) in
+    let f = count_by-append is_fault a b in
+    let k = ap (count_by is_refused) (replies_cut p.machine a b) ∙ count_by-append is_refused (replies_on p a) (replies_on (point_after p a) b) in
     omega (arith, f, k) in
     λ i. record { machine = machine i; commands = commands i; refused = refused i }
 

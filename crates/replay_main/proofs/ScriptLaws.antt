@@ -1,11 +1,11 @@
 -- Scripts in parts, and the answers on the lines that have a number.
-use Rattle.std.proofs.Common.{◌≡◌, ◌∙◌, ℕ, zero, suc, ◌+◌, ◌*◌, ◌≤◌, ◌<◌, Bool, Option, Some, None, is_some, List, [], ◌∷◌, ◌++◌, map, take, drop, length, refl, sym, ap, arith, Result, Ok}
+use Rattle.std.proofs.Common.{◌≡◌, ◌∙◌, ℕ, zero, suc, ◌+◌, ◌*◌, ◌≤◌, ◌<◌, Option, Some, None, is_some, List, [], ◌∷◌, ◌++◌, map, take, drop, length, refl, sym, ap, arith, Result, Ok}
 use Rattle.std.specs.List.{flat_map, count_by}
 use Rattle.std.proofs.Math.Seq.{take-add}
 use Rattle.std.proofs.lemmas.List.{map-append, drop-drop, drop_all, length-map, length-take, length-drop, append_assoc}
 use Rattle.std.proofs.lemmas.Grind.{flat_map-append}
 use Rattle.std.specs.declared.alloc.AllocError.{AllocError}
-use Rattle.flat_model.proofs.Sums.{count_by-cons}
+use Rattle.flat_model.proofs.Sums.{count_by-cons, count_by-append}
 use Rattle.flat_model.specs.Command.{Reply}
 use Rattle.flat_model.specs.Replies.{out, commands_in, command_in, command_count, is_fault, is_numbered, reply_bytes, fault_bytes}
 use Rattle.flat_model.specs.Trace as trace
@@ -39,14 +39,6 @@ joined_scripts {Y} script scripts text lines size k cs ps enough run each =
     }
 
 -- ---- answers of runs
-
-count-append : {X : Type 0} (p : X → Bool) (xs ys : List X) → count_by p (xs ++ ys) ≡ count_by p xs + count_by p ys
-count-append p [] ys = omega arith
-count-append p (x ∷ xs) ys =
-    let a = count_by-cons p x (xs ++ ys) in
-    let b = count_by-cons p x xs in
-    let c = count-append p xs ys in
-    omega (arith, a, b, c)
 
 answers-append : (n : ℕ) (fs bs : List (Option trace.TextFault)) (rs : List Reply)
     → answers_from n (fs ++ bs) rs ≡ answers_from n fs rs ++ answers_from (n + length fs) bs (drop (count_by is_command fs) rs)
@@ -90,7 +82,7 @@ answers_step size ps rs i =
     let c = length-take size (drop (i * size) ps) in
     omega (arith, a, b, c, next, some) in
     let counted : count_by is_command (take ((i + 1) * size) ps) ≡ count_by is_command (take (i * size) ps) + count_by is_command mine =
-    ap (λ n. count_by is_command (take n ps)) next ∙ ap (λ t. count_by is_command t) (take-add (i * size) size ps) ∙ count-append is_command (take (i * size) ps) mine in
+    ap (λ n. count_by is_command (take n ps)) next ∙ ap (λ t. count_by is_command t) (take-add (i * size) size ps) ∙ count_by-append is_command (take (i * size) ps) mine in
     let replied : drop (count_by is_command mine) behind ≡ replies_behind ((i + 1) * size) ps rs =
     drop-drop (count_by is_command mine) (count_by is_command (take (i * size) ps)) rs ∙ ap (λ n. drop n rs) (sym counted) in
     ap (λ t. answers_from (i * size + 1) t behind) (cut_run size i ps)

@@ -1,9 +1,8 @@
 -- The turns that were looked at, place by place.
-use Rattle.std.proofs.Common.{◌≡◌, ℕ, ◌+◌, ◌<◌, ◌≤◌, Bool, true, false, ltb, List, length, get_or, refl, sym, subst, arith}
+use Rattle.std.proofs.Common.{◌≡◌, ℕ, ◌+◌, ◌<◌, ◌≤◌, Bool, true, false, ltb, List, length, get_or, refl, sym, subst, arith, ltb-true, ltb-false}
 use Rattle.std.specs.Prelude.{slice_set}
 use Rattle.std.proofs.lemmas.List.{get_or-set_other}
 use Rattle.std.proofs.lemmas.Grind.{get_or-set_at}
-use Rattle.flat_model.proofs.Booleans.{less, not_less}
 
 -- what is found in front of the place that is set stays, and there is what was set
 pub set_next : {X : Type 0} (P : ℕ → X → Type 0) (xs : List X) (n : ℕ) (x d : X) → n < length xs → P n x
@@ -13,10 +12,10 @@ set_next {X} P xs n x d inside here before k below =
   where
     by : (b : Bool) → ltb k n ≡ b → P k (get_or (slice_set xs n x) k d)
     by true e =
-        let l = less k n e in
+        let l = ltb-true k n e in
         subst (P k) (sym (get_or-set_other xs n k x d (λ at. absurd (omega (arith, l, at))))) (before k l)
     by false e =
-        let l = not_less k n e in
+        let l = ltb-false k n e in
         let at : k ≡ n = omega (arith, l, below) in
         subst (P k) (sym (get_or-set_at xs n k x d at inside)) (subst (λ (m : ℕ). P m x) (sym at) here)
 

@@ -1,17 +1,10 @@
 -- A log that is one entry longer.
-use Rattle.std.proofs.Common.{◌≡◌, ℕ, List, [], ◌∷◌, ◌++◌, map, refl, sym, ap, subst}
+use Rattle.std.proofs.Common.{◌≡◌, ℕ, List, [], ◌∷◌, ◌++◌, map, refl, sym, subst}
 use Rattle.std.proofs.lemmas.List.{map-append}
 use Rattle.flat_model.specs.Command.{Command}
-use Rattle.flat_model.specs.Machine.{Machine, tick, replies, end_of, new_machine}
+use Rattle.flat_model.specs.Machine.{Machine, tick, new_machine}
 use Rattle.flat_model.specs.Log.{Entry, IsLegal, log_end}
-
-end_of-snoc : (slots : ℕ) (m : Machine) (cs : List Command) (c : Command) → end_of slots m (cs ++ c ∷ []) ≡ (tick slots (end_of slots m cs) c).0
-end_of-snoc slots m [] c = refl
-end_of-snoc slots m (d ∷ cs) c = end_of-snoc slots (tick slots m d).0 cs c
-
-replies-snoc : (slots : ℕ) (m : Machine) (cs : List Command) (c : Command) → replies slots m (cs ++ c ∷ []) ≡ replies slots m cs ++ (tick slots (end_of slots m cs) c).1 ∷ []
-replies-snoc slots m [] c = refl
-replies-snoc slots m (d ∷ cs) c = ap (λ rs. (tick slots m d).1 ∷ rs) (replies-snoc slots (tick slots m d).0 cs c)
+use Rattle.flat_model.proofs.Runs.{end_of-push, replies-push}
 
 -- both facts of a book
 pub record Kept (slots : ℕ) (engine : Machine) (log : List Entry) : Type 0 where
@@ -24,12 +17,12 @@ commands log = map (λ e. e.command) log
 longer_end : (slots : ℕ) (log : List Entry) (engine next : Machine) (e : Entry) → engine ≡ log_end slots log
     → next ≡ (tick slots engine e.command).0 → next ≡ log_end slots (log ++ e ∷ [])
 longer_end slots log engine next e at goes =
-    rw (map-append (λ (x : Entry). x.command) log (e ∷ []), end_of-snoc slots new_machine (commands log) e.command, ← at) goes
+    rw (map-append (λ (x : Entry). x.command) log (e ∷ []), end_of-push slots new_machine (commands log) e.command, ← at) goes
 
 longer_legal : (slots : ℕ) (log : List Entry) (engine : Machine) (e : Entry) → IsLegal slots log → engine ≡ log_end slots log
     → e.reply ≡ (tick slots engine e.command).1 → IsLegal slots (log ++ e ∷ [])
 longer_legal slots log engine e legal at answered =
-    rw (map-append (λ (x : Entry). x.command) log (e ∷ []), map-append (λ (x : Entry). x.reply) log (e ∷ []), replies-snoc slots new_machine (commands log) e.command, legal, ← at, answered) refl
+    rw (map-append (λ (x : Entry). x.command) log (e ∷ []), map-append (λ (x : Entry). x.reply) log (e ∷ []), replies-push slots new_machine (commands log) e.command, legal, ← at, answered) refl
 
 -- an entry is appended to the log when the machine has answered it
 pub longer : (slots : ℕ) (log items : List Entry) (engine next : Machine) (e : Entry) → items ≡ log ++ e ∷ [] → IsLegal slots log → engine ≡ log_end slots log

@@ -25,7 +25,7 @@ use Rattle.sessions.specs.contracts.session.Session as Session
 use Rattle.sessions.specs.contracts.desk.Desk as Desk
 
 -- the name of a node
-name_send : (T : RattleType) → (g : Ghosts T.Denot) → IsSend T → IsSync T → Frees {D = T.Denot} {G = Ghosts T.Denot} g g.dealloc_token → IsSend (as_row (InlineBytes.the_field T g))
+pub name_send : (T : RattleType) → (g : Ghosts T.Denot) → IsSend T → IsSync T → Frees {D = T.Denot} {G = Ghosts T.Denot} g g.dealloc_token → IsSend (as_row (InlineBytes.the_field T g))
 name_send T g s y f = inline_bytes.the_send T g s y f
 
 book_send : IsSend Book.the_row

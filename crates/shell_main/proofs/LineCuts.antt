@@ -5,6 +5,7 @@ use Rattle.std.proofs.lemmas.List.{map-append}
 use Rattle.std.proofs.lemmas.List.Elements.{All-append, All-cons, All-nil}
 use Rattle.std.proofs.lemmas.List.Splits.{slice_split_at, slice_split_none}
 use Rattle.flat_model.specs.Trace.{is_line_feed, lines_in, read_line, read_trace, trace_max, without_empty_end}
+use Rattle.flat_model.proofs.LineEnds.{without_empty_end-cons, without_empty_end-push}
 use Rattle.shell_main.specs.WholeLines.{HasNoFeed, HasShortLines, ends_line}
 
 -- ---- two texts, of which the first ends with a line
@@ -42,25 +43,8 @@ pieces : (b : ℕ) (text rest : List ℕ) → ends_line (b ∷ text) ≡ true �
 pieces b [] rest e = pieces_one b rest e
 pieces b (c ∷ text) rest e = pieces_more b c text rest (is_line_feed b) refl (pieces c text rest e)
 
-empty_end : (ts : List (List ℕ)) → without_empty_end (ts ++ [] ∷ []) ≡ ts
-empty_end [] = refl
-empty_end (t ∷ []) = refl
-empty_end (t ∷ u ∷ ts) = ap (λ (us : List (List ℕ)). t ∷ us) (empty_end (u ∷ ts))
-
--- (the pieces of a text are never none)
-kept_by : (x : List ℕ) (b : Bool) (y : ℕ) (parts : List (List ℕ)) (first : List ℕ)
-    → without_empty_end (x ∷ cond b (first ∷ parts) (onto_first y parts))
-    ≡ x ∷ without_empty_end (cond b (first ∷ parts) (onto_first y parts))
-kept_by x true y parts first = refl
-kept_by x false y [] first = refl
-kept_by x false y (part ∷ parts) first = refl
-
-kept : (x bytes : List ℕ) → without_empty_end (x ∷ slice_split is_line_feed bytes) ≡ x ∷ without_empty_end (slice_split is_line_feed bytes)
-kept x [] = refl
-kept x (b ∷ bytes) = kept_by x (is_line_feed b) b (slice_split is_line_feed bytes) []
-
 all_kept : (first : List ℕ) (more : List (List ℕ)) (rest : List ℕ) → without_empty_end (first ∷ (more ++ slice_split is_line_feed rest)) ≡ first ∷ (more ++ lines_in rest)
-all_kept first [] rest = kept first rest
+all_kept first [] rest = without_empty_end-cons first rest
 all_kept first (x ∷ more) rest = ap (λ (xs : List (List ℕ)). first ∷ xs) (all_kept x more rest)
 
 pub lines_cut : (text rest : List ℕ) → ends_line text ≡ true → lines_in (text ++ rest) ≡ lines_in text ++ lines_in rest
@@ -68,7 +52,7 @@ lines_cut [] rest e = refl
 lines_cut (b ∷ text) rest e =
     let p = pieces b text rest e in
     ap without_empty_end p.joined ∙ all_kept p.first p.more rest
-    ∙ sym (ap (λ ls. ls ++ lines_in rest) (ap without_empty_end p.here ∙ empty_end (p.first ∷ p.more)))
+    ∙ sym (ap (λ ls. ls ++ lines_in rest) (ap without_empty_end p.here ∙ without_empty_end-push (p.first ∷ p.more)))
 
 pub trace_cut : (text rest : List ℕ) → ends_line text ≡ true → read_trace (text ++ rest) ≡ read_trace text ++ read_trace rest
 trace_cut text rest e = ap (map read_line) (lines_cut text rest e) ∙ map-append read_line (lines_in text) (lines_in rest)

@@ -2,8 +2,8 @@
 use Rattle.std.proofs.Common.{◌≡◌, ◌≢◌, ℕ, zero, suc, ◌+◌, ◌^◌, ◌<◌, ◌≤◌, Bool, true, false, List, [], ◌∷◌, ◌++◌, take, drop, length, set}
 use Rattle.std.proofs.Common.{get_or, refl, sym, ap, ◌∙◌, subst, arith, true≢false, length-set}
 use Rattle.std.proofs.lemmas.List.{take-append-le, take_all}
-use Rattle.std.specs.Prelude.{nat_lt}
 use Rattle.std.specs.List.{list_any, range_with_len}
+use Rattle.std.proofs.lemmas.Bool.{ltb-false, or_parts}
 use mathlib.Core.Logic.{dite}
 use native.Mathlib.Decide.{ℕ_discrete, dec_le}
 use mathlib.Core.Option.{some}
@@ -26,7 +26,6 @@ use Rattle.snzi_core.proofs.Passing.{join_law, one_back_main}
 use Rattle.snzi_core.proofs.Hands.{unites}
 use Rattle.snzi_core.proofs.Stepped.{live_at, shape_of}
 use Rattle.snzi_core.proofs.Splitting.{main_live}
-use Rattle.snzi_core.proofs.Lawfulness.{neither}
 
 pub is_helper : (r : Role) → helps r ≡ true → r ≡ Helper
 is_helper (Main n) e = absurd (true≢false (sym e))
@@ -43,7 +42,7 @@ helper_no_main r e = ap main_weight (is_helper r e)
 none_at : (test : ℕ → Bool) (from n i : ℕ) → list_any test (range_with_len from n) ≡ false → from ≤ i → i < from + n → test i ≡ false
 none_at test from zero i e low high = absurd (omega arith)
 none_at test from (suc n) i e low high =
-    let b = neither (test from) (list_any test (range_with_len (from + 1) n)) e in
+    let b = or_parts (test from) (list_any test (range_with_len (from + 1) n)) e in
     dite (ℕ_discrete i from)
     (λ same. ap test same ∙ b.0)
     (λ ne. none_at test (from + 1) n i b.1 (omega arith) (omega arith))
@@ -85,10 +84,7 @@ module _ (k : State) (c : IsCore k) (helper : ℕ) (is : helps (hand_of k helper
   pub together : some_word k (overflows k helper) ≡ false → (i : ℕ) → tokens_at i (hand_of k 0) + tokens_at i (hand_of k helper) ≤ 2 ^ 40
   together none i = dite (dec_le (length k.words) i)
       (λ far. let t = main_tables.0 in let u = helper_tables.0 in let a = past_end (hand_of k 0).tokens i (omega arith) in let b = past_end (hand_of k helper).tokens i (omega arith) in omega arith)
-      (λ near. at_most 1099511627776 (tokens_at i (hand_of k 0) + tokens_at i (hand_of k helper)) (none_at (overflows k helper) 0 (length k.words) i none (omega arith) (omega arith)))
-    where
-      at_most : (a b : ℕ) → nat_lt a b ≡ false → b ≤ a
-      at_most a b e = grind (arith, e)
+      (λ near. ltb-false 1099511627776 (tokens_at i (hand_of k 0) + tokens_at i (hand_of k helper)) (none_at (overflows k helper) 0 (length k.words) i none (omega arith) (omega arith)))
 
   at_first : (hands : List Holding) (j : ℕ) (x y : Holding) → j ≢ 0 → lives (get_or hands 0 (empty Spent)).role ≡ true → get_or (set (set hands 0 x) j y) 0 (empty Spent) ≡ x
   at_first [] j x y ne e = absurd (true≢false (sym e))

@@ -11,6 +11,7 @@ use Rattle.snzi_core.specs.Shape.{Line, inner, leaf, stripe, Family}
 use Rattle.snzi_core.specs.Balance.{total, up, Stands, Balanced}
 use Rattle.std.proofs.Math.Nat.{add-mod-mod, mod-add-mod}
 use Rattle.snzi_core.proofs.Lists.{total_set, total_at}
+use Rattle.snzi_core.proofs.Shapes.{inner_stripe}
 
 pub lt_ne : (a b : ℕ) → a < b → a ≢ b
 lt_ne a b h e = omega arith
@@ -106,11 +107,8 @@ module _ (kind : ℕ → Line) (parent : ℕ → ℕ) (tree : Family kind parent
         no_leaf : (a b : ℕ) → inner a b ≡ leaf → ⊥
         no_leaf a b e = cc
     at_parent stripe apart is was =
-        ⊎_elim (λ (e : kind (parent j) ≡ inner (j) (tree.child j apart).0). absurd (no_stripe _ _ (sym e ∙ is))) (λ (e : kind (parent j)
-        ≡ inner (tree.child j apart).0 j). absurd (no_stripe _ _ (sym e ∙ is))) (tree.child j apart).1
-      where
-        no_stripe : (a b : ℕ) → inner a b ≡ stripe → ⊥
-        no_stripe a b e = cc
+        ⊎_elim (λ (e : kind (parent j) ≡ inner (j) (tree.child j apart).0). absurd (inner_stripe _ _ (sym e ∙ is))) (λ (e : kind (parent j)
+        ≡ inner (tree.child j apart).0 j). absurd (inner_stripe _ _ (sym e ∙ is))) (tree.child j apart).1
 
     away : (k : Line) (i : ℕ) → i ≢ j → i ≢ parent j → kind i ≡ k → Stands words hands i k → Stands (set words j n) (set hands id w) i k
     away (inner a b) i apart off is was =

@@ -1,6 +1,7 @@
 -- A lawful event finds what its step asks, and leaves a core.
 use Rattle.std.proofs.Common.{◌≡◌, ◌≢◌, ℕ, zero, suc, ◌+◌, ◌-◌, ◌/◌, ◌<◌, Bool, true, false, not, ◌&&◌, length, refl, sym, ◌∙◌, subst, arith, true≢false, ltb-true, None, eqb-true, eq-eqb}
-use Rattle.std.specs.Prelude.{slice_index, nat_eq, nat_lt, nat_le}
+use Rattle.std.specs.Prelude.{slice_index, nat_eq, nat_lt}
+use Rattle.std.proofs.lemmas.Bool.{and_parts, not-true, not-false, leb-false}
 use Rattle.snzi_core.specs.declared.event.At.{At}
 use Rattle.snzi_core.specs.declared.event.Event.TheVariants.{FastAdd, RootAdd, ChildAdd, Leave, StripeAdd}
 use Rattle.snzi_core.specs.Holding.{tokens_at}
@@ -14,7 +15,7 @@ use Rattle.snzi_core.proofs.Muster.{word_small}
 use Rattle.snzi_core.proofs.Steps.{at_least}
 use Rattle.snzi_core.proofs.Stepped.{shape_of, live_at, arrived_core, departed_core, descended_core, ascended_core, summed_core}
 use Rattle.snzi_core.proofs.Words.{word_inside, node_kind, stripe_kind}
-use Rattle.snzi_core.proofs.Lawfulness.{both_true, fast_add, root_add, child_add, leave, stripe_add}
+use Rattle.snzi_core.proofs.Lawfulness.{fast_add, root_add, child_add, leave, stripe_add}
 
 -- what the steps of a core ask
 abbrev pub Arrives : State → ℕ → ℕ → Type 0
@@ -36,15 +37,12 @@ Ascends k hand p i = ((p < length k.words) × (i < length k.words) × (p ≢ i))
 abbrev pub Sums : State → ℕ → ℕ → ℕ → Type 0
 Sums k hand i n = (i < length k.words) × (is_live k hand ≡ true) × IsCore (summed k hand i n)
 
-below_cap : (a b : ℕ) → nat_le b a ≡ false → a < b
-below_cap a b e = grind (arith, e)
-
 some_of : (a : ℕ) → nat_eq a 0 ≡ false → 0 < a
 some_of zero e = absurd (true≢false e)
 some_of (suc a) e = omega arith
 
 pub named : (a b c d : ℕ) → (nat_lt a b && nat_lt c d) ≡ true → (a < b) × (c < d)
-named a b c d e = let t = both_true (nat_lt a b) (nat_lt c d) e in (ltb-true a b t.0, ltb-true c d t.1)
+named a b c d e = let t = and_parts (nat_lt a b) (nat_lt c d) e in (ltb-true a b t.0, ltb-true c d t.1)
 
 both_false : (a b : Bool) → (a && b) ≡ false → a ≡ true → b ≡ false
 both_false true b e h = e
@@ -76,7 +74,7 @@ module _ (k : State) (c : IsCore k) where
         → 0 < slice_index k.words (node_word k.nodes (leaves k.nodes) slot node))
         → Arrives k hand (node_word k.nodes (leaves k.nodes) slot node)
     arrives hand live cap filled =
-        let less = below_cap (tokens_at (node_word k.nodes (leaves k.nodes) slot node) (hand_of k hand)) 1099511627776 cap in
+        let less = leb-false 1099511627776 (tokens_at (node_word k.nodes (leaves k.nodes) slot node) (hand_of k hand)) cap in
         (at_node, live, (room, less), arrived_core k c hand (node_word k.nodes (leaves k.nodes) slot node) live at_node (node_kind k slot node c in_slot) filled less)
 
     descends : (hand : ℕ) → 0 < node → is_live k hand ≡ true → is_at_cap k hand (node_word k.nodes (leaves k.nodes) slot node) ≡ false
@@ -84,7 +82,7 @@ module _ (k : State) (c : IsCore k) where
         → slice_index k.words (node_word k.nodes (leaves k.nodes) slot node) ≡ 0
         → Descends k hand (node_word k.nodes (leaves k.nodes) slot ((node - 1) / 2)) (node_word k.nodes (leaves k.nodes) slot node)
     descends hand pos live cap has none =
-        let less = below_cap (tokens_at (node_word k.nodes (leaves k.nodes) slot node) (hand_of k hand)) 1099511627776 cap in
+        let less = leb-false 1099511627776 (tokens_at (node_word k.nodes (leaves k.nodes) slot node) (hand_of k hand)) cap in
         let have = some_of (tokens_at (node_word k.nodes (leaves k.nodes) slot ((node - 1) / 2)) (hand_of k hand)) has in (
           (at_parent, at_node, apart pos),
           live,
@@ -115,7 +113,7 @@ module _ (k : State) (c : IsCore k) where
         → Ascends k hand (node_word k.nodes (leaves k.nodes) slot ((node - 1) / 2)) (node_word k.nodes (leaves k.nodes) slot node)
     ascends hand pos live has cap one =
         let have = some_of (tokens_at (node_word k.nodes (leaves k.nodes) slot node) (hand_of k hand)) has in
-        let less = below_cap (tokens_at (node_word k.nodes (leaves k.nodes) slot ((node - 1) / 2)) (hand_of k hand)) 1099511627776 cap in (
+        let less = leb-false 1099511627776 (tokens_at (node_word k.nodes (leaves k.nodes) slot ((node - 1) / 2)) (hand_of k hand)) cap in (
           (at_parent, at_node, apart pos),
           live,
           (filled_word hand live have, have),
@@ -151,26 +149,18 @@ module _ (k : State) (c : IsCore k) where
   pub ready_last : (hand : ℕ) (at : At) → refusal k (Leave hand at) ≡ None → passes_up k at ≡ true → Ascends k hand (parent_of k at) (node_of k at)
   ready_last hand at e p =
       let t = leave k hand at e in let n = named at.slot k.slots at.node k.nodes t.0 in
-      let b = both_true (nat_eq (slice_index k.words (node_of k at)) 1) (not (nat_eq at.node 0)) p in
-      ascends at.slot at.node n.0 n.1 hand (some_of at.node (not_true (nat_eq at.node 0) b.1)) t.1 t.2
+      let b = and_parts (nat_eq (slice_index k.words (node_of k at)) 1) (not (nat_eq at.node 0)) p in
+      ascends at.slot at.node n.0 n.1 hand (some_of at.node (not-true (nat_eq at.node 0) b.1)) t.1 t.2
       (both_false (passes_up k at) (is_at_cap k hand (parent_of k at)) t.3 p) (eqb-true (slice_index k.words (node_of k at)) 1 b.0)
-    where
-      not_true : (b : Bool) → not b ≡ true → b ≡ false
-      not_true true e = absurd (true≢false (sym e))
-      not_true false e = refl
 
   pub ready_leave : (hand : ℕ) (at : At) → refusal k (Leave hand at) ≡ None → passes_up k at ≡ false → Departs k hand (node_of k at)
   ready_leave hand at e p =
       let t = leave k hand at e in let n = named at.slot k.slots at.node k.nodes t.0 in
       departs at.slot at.node n.0 n.1 hand t.1 t.2
       (λ apart one. apart (at_root at.node
-      (not_false' (nat_eq at.node 0) (both_false (nat_eq (slice_index k.words (node_of k at)) 1) (not (nat_eq at.node 0)) p
+      (not-false (nat_eq at.node 0) (both_false (nat_eq (slice_index k.words (node_of k at)) 1) (not (nat_eq at.node 0)) p
       (eq-eqb (slice_index k.words (node_of k at)) 1 one)))))
     where
-      not_false' : (b : Bool) → not b ≡ false → b ≡ true
-      not_false' true e = refl
-      not_false' false e = absurd (true≢false e)
-
       at_root : (node : ℕ) → nat_eq node 0 ≡ true → above k (node_word k.nodes (leaves k.nodes) at.slot node) ≡ node_word k.nodes (leaves k.nodes) at.slot node
       at_root node z = subst (λ (m : ℕ). above k (node_word k.nodes (leaves k.nodes) at.slot m)
           ≡ node_word k.nodes (leaves k.nodes) at.slot m) (sym (eqb-true node 0 z)) (is_root k.nodes (span k) (shape_of k c) at.slot)

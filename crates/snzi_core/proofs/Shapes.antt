@@ -26,7 +26,7 @@ leaf_inner a b e = cc
 stripe_inner : (a b : ℕ) → stripe ≡ inner a b → ⊥
 stripe_inner a b e = cc
 
-inner_stripe : (a b : ℕ) → inner a b ≡ stripe → ⊥
+pub inner_stripe : (a b : ℕ) → inner a b ≡ stripe → ⊥
 inner_stripe a b e = cc
 
 leaf_stripe : leaf ≡ stripe → ⊥

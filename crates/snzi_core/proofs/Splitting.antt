@@ -8,6 +8,7 @@ use Rattle.std.proofs.lemmas.List.Sums.{sum_by-cons, sum_by_more, count_by-le-le
 use Rattle.std.proofs.lemmas.Grind.{same_number_lists}
 use Rattle.std.specs.Prelude.{slice_index, nat_eq, nat_lt, nat_le}
 use Rattle.std.specs.List.{list_all}
+use Rattle.std.proofs.lemmas.Bool.{not-false, and_parts, or_parts, leb-false}
 use mathlib.Core.Logic.{dite}
 use native.Mathlib.Decide.{ℕ_discrete, dec_le}
 use Rattle.snzi_core.specs.declared.event.Token.{Token}
@@ -30,21 +31,18 @@ use Rattle.snzi_core.proofs.Passing.{split_law, one_out_main}
 use Rattle.snzi_core.proofs.Start.{zeros}
 use Rattle.snzi_core.proofs.Hands.{parts}
 use Rattle.snzi_core.proofs.Stepped.{live_at, shape_of}
-use Rattle.snzi_core.proofs.Lawfulness.{refuse_none, not_false, both_true, neither}
+use Rattle.snzi_core.proofs.Lawfulness.{refuse_none}
 
 -- what a split without a refusal tells
 pub split_lawful : (k : State) (share : List Token) → refuses_split k share ≡ None → (list_all (has_token k) share ≡ true) × (main_has k share ≡ true) × (is_crowded k ≡ false)
 split_lawful k share e =
     let a = refuse_none _ _ _ e in let b = refuse_none _ _ _ a.1 in let c = refuse_none _ _ _ b.1 in
-    (not_false (list_all (has_token k) share) a.0, not_false (main_has k share) b.0, c.0)
+    (not-false (list_all (has_token k) share) a.0, not-false (main_has k share) b.0, c.0)
 
 pub split_room : (k : State) → is_crowded k ≡ false → (out (hand_of k 0).role < 65535) × (length k.hands < 4294967295)
 split_room k e =
-    let n = neither (nat_le 65535 (out (hand_of k 0).role)) (nat_le 4294967295 (length k.hands)) e in
-    (below (out (hand_of k 0).role) 65535 n.0, below (length k.hands) 4294967295 n.1)
-  where
-    below : (a b : ℕ) → nat_le b a ≡ false → a < b
-    below a b e = grind (arith, e)
+    let n = or_parts (nat_le 65535 (out (hand_of k 0).role)) (nat_le 4294967295 (length k.hands)) e in
+    (leb-false 65535 (out (hand_of k 0).role) n.0, leb-false 4294967295 (length k.hands) n.1)
 
 main_lives : (r : Role) → main_weight r ≡ 1 → lives r ≡ true
 main_lives (Main n) e = refl
@@ -62,7 +60,7 @@ module _ (k : State) (share : List Token) where
   covers : (i : ℕ) (ts : List Token) → list_all (main_covers k share) ts ≡ true → 0 < count_at k ts i → count_at k share i ≤ tokens_at i (hand_of k 0)
   covers i [] all p = absurd (omega arith)
   covers i (t ∷ ts) all p =
-      let b = both_true (main_covers k share t) (list_all (main_covers k share) ts) all in
+      let b = and_parts (main_covers k share t) (list_all (main_covers k share) ts) all in
       dite (ℕ_discrete (token_of k t) i)
       (λ e. subst (λ (m : ℕ). count_at k share m ≤ tokens_at m (hand_of k 0)) e (leb-true (count_at k share (token_of k t)) (tokens_at (token_of k t) (hand_of k 0)) b.0))
       (λ ne. covers i ts b.1 (let c = count_cons k t ts i in
@@ -189,13 +187,13 @@ module _ (k : State) (share : List Token) where
   -- each token of the share is in the shape
   pub token_inside : (m : ℕ) (d : Token) → list_all (has_token k) share ≡ true → m < length share → ((get_or share m d).slot < k.slots) × ((get_or share m d).leaf < leaves k.nodes)
   token_inside m d all h =
-      let b = both_true (nat_lt (get_or share m d).slot k.slots) (nat_lt (get_or share m d).leaf (leaves k.nodes)) (all_at share m d all h) in
+      let b = and_parts (nat_lt (get_or share m d).slot k.slots) (nat_lt (get_or share m d).leaf (leaves k.nodes)) (all_at share m d all h) in
       (ltb-true (get_or share m d).slot k.slots b.0, ltb-true (get_or share m d).leaf (leaves k.nodes) b.1)
     where
       all_at : (ts : List Token) (m : ℕ) (d : Token) → list_all (has_token k) ts ≡ true → m < length ts → has_token k (get_or ts m d) ≡ true
       all_at [] m d e h = absurd (omega arith)
-      all_at (x ∷ xs) zero d e h = (both_true (has_token k x) (list_all (has_token k) xs) e).0
-      all_at (x ∷ xs) (suc m) d e h = all_at xs m d (both_true (has_token k x) (list_all (has_token k) xs) e).1 (omega arith)
+      all_at (x ∷ xs) zero d e h = (and_parts (has_token k x) (list_all (has_token k) xs) e).0
+      all_at (x ∷ xs) (suc m) d e h = all_at xs m d (and_parts (has_token k x) (list_all (has_token k) xs) e).1 (omega arith)
 
 -- main gave the share, and the helper stands behind the other hands
 pub split_is : (k now : State) (share : List Token) (v h g : Holding) → k ≡ now → v ≡ hand_of now 0 → h ≡ helper_with (counts now share) (replicate (length now.words) 0) → g ≡ keeper v h.tokens

@@ -8,6 +8,7 @@ use Rattle.std.proofs.lemmas.List.Splits.{slice_split_first, slice_split_none}
 use Rattle.flat_model.specs.Trace.{Word, is_line_feed, is_blank, without_empty_end, lines_in, words_in}
 use Rattle.trace_lines.specs.Cut.{begins_with_blank}
 use Rattle.flat_model.proofs.Booleans.{place_by, no_place}
+use Rattle.flat_model.proofs.LineEnds.{without_empty_end-cons}
 
 -- ---- where an element stands first
 
@@ -29,20 +30,8 @@ nothing_left bytes = take_rest bytes (length bytes) ∙ drop_all (length bytes) 
 
 -- ---- lines
 
--- the parts are never none, so a part before them is not the last
-kept_by : (x : List ℕ) (b : Bool) (y : ℕ) (parts : List (List ℕ)) (first : List ℕ)
-    → without_empty_end (x ∷ cond b (first ∷ parts) (onto_first y parts))
-    ≡ x ∷ without_empty_end (cond b (first ∷ parts) (onto_first y parts))
-kept_by x true y parts first = refl
-kept_by x false y [] first = refl
-kept_by x false y (part ∷ parts) first = refl
-
-kept : (x bytes : List ℕ) → without_empty_end (x ∷ slice_split is_line_feed bytes) ≡ x ∷ without_empty_end (slice_split is_line_feed bytes)
-kept x [] = refl
-kept x (b ∷ bytes) = kept_by x (is_line_feed b) b (slice_split is_line_feed bytes) []
-
 pub lines_at : (bytes : List ℕ) (end : ℕ) → Some end ≡ position is_line_feed bytes → lines_in bytes ≡ take end bytes ∷ lines_in (drop (end + 1) bytes)
-lines_at bytes end h = ap without_empty_end (cut_at is_line_feed bytes end h) ∙ kept (take end bytes) (drop (end + 1) bytes)
+lines_at bytes end h = ap without_empty_end (cut_at is_line_feed bytes end h) ∙ without_empty_end-cons (take end bytes) (drop (end + 1) bytes)
 
 pub lines_at_slice : (lines : List (List ℕ)) (bytes : List ℕ) (end : ℕ) → lines_in bytes ≡ lines → Some end ≡ position is_line_feed bytes
     → lines ≡ take end bytes ∷ lines_in (take (length bytes - (end + 1)) (drop (end + 1) bytes))

@@ -3,9 +3,9 @@ use Rattle.std.proofs.Common.{◌≡◌, ℕ, suc, List, [], ◌∷◌, ◌++◌
 use Rattle.std.proofs.lemmas.List.{map-append, reverse-append, length-reverse, length-map}
 use Rattle.flat_model.specs.State.{State}
 use Rattle.flat_model.specs.Command as model
-use Rattle.flat_model.specs.Inverse.{Inverse, back, past_of}
-use Rattle.flat_model.specs.Step.{refusal}
-use Rattle.flat_model.specs.Machine.{recorded, end_of, undos}
+use Rattle.flat_model.specs.Inverse.{Inverse, back, inverse, past_of}
+use Rattle.flat_model.specs.Step.{refusal, after}
+use Rattle.flat_model.specs.Machine.{Machine, recorded, end_of, undos}
 use Rattle.flat_model.specs.WellFormed.{WellFormed, PastWellFormed}
 use Rattle.flat_model.proofs.TakenBack.{back_accepted, back_refused}
 use Rattle.flat_model.proofs.Kept.{kept}
@@ -18,7 +18,7 @@ use Rattle.undo_journal.specs.History.{journal_entry, records, machine_of, IsSte
 
 module _ (slots : ℕ) where
   -- a record gives back the state before its command, accepted or refused
-  taken_by : (s : State) (c : model.Command) (i : Inverse) (o : Option model.Refusal) → refusal slots s c ≡ o → record_by s c o ≡ Some i → back i (state_by s c o) ≡ s
+  pub taken_by : (s : State) (c : model.Command) (i : Inverse) (o : Option model.Refusal) → refusal slots s c ≡ o → record_by s c o ≡ Some i → back i (state_by s c o) ≡ s
   taken_by s c i None e is = back_accepted slots s c i e is
   taken_by s c i (Some r) e is = back_refused s r i is
 
@@ -83,6 +83,23 @@ module _ {A : Type 0} (slots : ℕ) (s new : State) (journal : List (Entry A)) (
       subst (IsHistory slots forgotten new) (sym records_are)
       (subst (λ (t : State). IsHistory slots forgotten t ((c, i) ∷ records journal)) (sym new_is)
       (step_by slots s c i o first i_is, subst (λ (t : State). IsHistory slots forgotten t (records journal)) (sym taken) h))
+
+-- an entry is pushed behind the journal for a command that is accepted: the history goes on, and the machine has recorded the command
+pub record HasRecorded {A : Type 0} (slots forgotten : ℕ) (m : Machine) (new : State) (items : List (Entry A)) (c : model.Command) : Type 0 where
+  pub history : IsHistory slots forgotten new (records items)
+  pub machine : machine_of new items ≡ recorded m c (after m.state c)
+
+pub has_recorded : {A : Type 0} {room : List (Entry A)} (slots forgotten : ℕ) (m : Machine) (s new : State) (journal items : List (Entry A)) (e : Entry A) (c : model.Command) (i : Inverse)
+    → machine_of s journal ≡ m → IsHistory slots forgotten s (records journal) → room ≡ journal → items ≡ room ++ e ∷ []
+    → ◌≡◌ {A = model.Command × Inverse} (journal_entry e) (c, i) → refusal slots m.state c ≡ None → inverse s c ≡ Some i → new ≡ after s c
+    → HasRecorded slots forgotten m new items c
+has_recorded slots forgotten m s new journal items e c i view history reserved put e_is accepted i_is new_is =
+    let none : refusal slots s c ≡ None = subst (λ (n : Machine). refusal slots n.state c ≡ None) (sym view) accepted in
+    let items_are : items ≡ journal ++ e ∷ [] = put ∙ ap (λ js. js ++ e ∷ []) reserved in
+    record {
+      history = subst (λ js. IsHistory slots forgotten new (records js)) (sym items_are) (recorded_history slots s new journal e c i None e_is none i_is new_is forgotten history);
+      machine = (λ k. machine_of new (items_are k)) ∙ recorded_is slots s new journal e c i None e_is none i_is new_is ∙ ap (λ (n : Machine). recorded n c (after n.state c)) view;
+    }
 
 -- ---- how long the past is
 

@@ -1,4 +1,3 @@
-mod Fronts
 pub mod Histories
 pub mod Totals
 pub mod Beginnings

@@ -6,6 +6,8 @@ use Rattle.std.specs.List.{list_any}
 use Rattle.std.specs.Cmp.{IsTotalOrder, nat_cmp_total, eq_by_cmp_equiv}
 use Rattle.std.specs.Ordering.{eq_by_cmp}
 use Rattle.std.specs.FinMap.{get, len, keys, values, insert, remove, nat_cmp-IsAntisymmetric, get-insert, get-remove, len-remove, contains_key-keys}
+use Rattle.std.proofs.lemmas.Bool.{false_from_ne_true, not-false}
+use Rattle.std.proofs.Math.Bool.{or-true}
 use Rattle.flat_model.specs.Path.{Path, path_cmp, strictly_below, same_path, is_root, parent, at_or_below}
 use Rattle.flat_model.specs.State.{State, Attr, Limit, fresh}
 use Rattle.flat_model.specs.Counts.{is_group, has_process, current}
@@ -15,18 +17,18 @@ use Rattle.flat_model.specs.Inverse.{Inverse, back, inverse, inverse_of_refusal}
 use Rattle.flat_model.specs.Refuse.{refuse}
 use Rattle.flat_model.specs.Step.{refusal, after, after_refusal, with_limit, limit_at, attr_of, home_of, count_up, counts_for, raise_peak, raise_peaks, peaks_upward}
 use Rattle.flat_model.specs.WellFormed.{WellFormed}
-use Rattle.flat_model.proofs.PathLaws.{path_cmp-IsTotalOrder, path_cmp-IsAntisymmetric, strictly_below_is, same_path_is, same_path_itself, at_or_below_itself}
+use Rattle.flat_model.proofs.PathLaws.{path_cmp-IsTotalOrder, path_cmp-IsAntisymmetric, strictly_below_is, same_path_is, same_path_itself, at_or_below_itself, root_is_empty}
 use Rattle.flat_model.proofs.Maps.{get-own, get-each}
 use Rattle.flat_model.proofs.Kept.{below_parent}
-use Rattle.flat_model.proofs.Counting.{nobody_without_group}
+use Rattle.flat_model.proofs.Counting.{nobody_without_group, groups_above}
 use Rattle.flat_model.proofs.Sums.{count_by-cons}
 use Rattle.flat_model.proofs.Limits.{fork_refused}
 use Rattle.flat_model.proofs.Peaks.{length-peaks_upward}
-use Rattle.flat_model.proofs.Refusing.{passed, beyond, affirmed, absent}
+use Rattle.flat_model.proofs.Refusing.{passed, beyond}
+use Rattle.flat_model.proofs.Options.{not_some_is_none, is_some-option_map}
 use Rattle.pids_charge.specs.Events.{HasEvents}
 use Rattle.undo_journal.specs.Answer.{record_of, record_by, state_by}
 use Rattle.undo_journal.specs.History.{IsStep, IsReady}
-use Rattle.undo_journal.proofs.Fronts.{front_is_group}
 use Rattle.undo_journal.proofs.Killing.{killed_ready}
 
 -- what an optional record needs
@@ -34,21 +36,13 @@ abbrev ReadyBy : ℕ → State → Option Inverse → Type 0
 ReadyBy slots s None = Unit {0}
 ReadyBy slots s (Some i) = IsReady slots s i
 
-not_true : (b : Bool) → (b ≡ true → ⊥) → b ≡ false
-not_true true h = absurd (h refl)
-not_true false h = refl
-
 -- ---- tests over lists that no element passes
 
 no_key : {K : Type 0} {R : K → K → Ordering} → IsTotalOrder R → (P : K → Bool) (ks : List K) → ((q : K) → list_any (eq_by_cmp R q) ks ≡ true → P q ≡ false) → list_any P ks ≡ false
 no_key o P [] h = refl
 no_key {R = R} o P (k ∷ ks) h =
     (λ i. h k (ap (λ b. b || list_any (eq_by_cmp R k) ks) ((eq_by_cmp_equiv o).refl k)) i || list_any P ks)
-    ∙ no_key {R = R} o P ks (λ q e. h q (ap (λ b. eq_by_cmp R q k || b) e ∙ or_true (eq_by_cmp R q k)))
-  where
-    or_true : (b : Bool) → (b || true) ≡ true
-    or_true true = refl
-    or_true false = refl
+    ∙ no_key {R = R} o P ks (λ q e. h q (ap (λ b. eq_by_cmp R q k || b) e ∙ or-true (eq_by_cmp R q k)))
 
 none_counted : {X : Type 0} (P Q : X → Bool) → ((x : X) → Q x ≡ true → P x ≡ true) → (xs : List X) → count_by P xs ≡ 0 → list_any Q xs ≡ false
 none_counted P Q h [] e = refl
@@ -60,16 +54,13 @@ none_counted P Q h (x ∷ xs) e =
     ] refl
 
 -- ---- a group that was made
-only_root : (p : Path) → is_root p ≡ true → p ≡ []
-only_root [] e = refl
-only_root (n ∷ p) e = cc
 
 module _ (slots : ℕ) (t : State) (w : WellFormed slots t) (p : Path) (gone : is_group t p ≡ false) where
   beside_root : is_root p ≡ false
-  beside_root = not_true (is_root p) (λ e. let f : true ≡ false = sym w.root ∙ ap (is_group t) (sym (only_root p e)) ∙ gone in cc)
+  beside_root = false_from_ne_true (is_root p) (λ e. let f : true ≡ false = sym w.root ∙ ap (is_group t) (sym (root_is_empty p e)) ∙ gone in cc)
 
   none_under : (q : Path) → at_or_below q p ≡ true → is_group t q ≡ false
-  none_under q h = not_true (is_group t q) (λ g. let f : true ≡ false = sym (front_is_group slots t w q p g h) ∙ gone in cc)
+  none_under q h = false_from_ne_true (is_group t q) (λ g. let f : true ≡ false = sym (groups_above slots t q p w g h) ∙ gone in cc)
 
   abbrev made : State
   made = after t (model.MakeGroup p)
@@ -78,7 +69,7 @@ module _ (slots : ℕ) (t : State) (w : WellFormed slots t) (p : Path) (gone : i
   made_there = ap is_some (get-own path_cmp-IsTotalOrder path_cmp-IsAntisymmetric t.groups p fresh)
 
   made_leaf : (q : Path) → is_group made q ≡ true → strictly_below q p ≡ false
-  made_leaf q g = not_true (strictly_below q p) (λ h.
+  made_leaf q g = false_from_ne_true (strictly_below q p) (λ h.
       let two = (strictly_below_is q p).0 h in
       let f : true ≡ false =
       sym g ∙ ap is_some (get-insert path_cmp-IsTotalOrder t.groups p fresh q)
@@ -141,15 +132,10 @@ limitable slots s p file value n g = λ i. refuse (n i) model.NoFile (refuse (no
 own_process : (t : State) (pid : ℕ) (p : Path) → is_some (get (insert t.home pid p) pid) ≡ true
 own_process t pid p = ap is_some (get-own nat_cmp_total nat_cmp-IsAntisymmetric t.home pid p)
 
--- a process that comes to a group changes no group but its peak
-came_there : (f : Attr → Attr) (o : Option Attr) → is_some (option_map f o) ≡ is_some o
-came_there f None = refl
-came_there f (Some x) = refl
-
 group_after : (t : State) (pid : ℕ) (p q : Path) → is_group (raise_peaks p (record t { home = insert t.home pid p })) q ≡ is_group t q
 group_after t pid p q =
     let f = raise_peak (record t { home = insert t.home pid p }) p in
-    ap is_some (get-each path_cmp-IsTotalOrder path_cmp-IsAntisymmetric f t.groups q) ∙ came_there (f q) (get t.groups q)
+    ap is_some (get-each path_cmp-IsTotalOrder path_cmp-IsAntisymmetric f t.groups q) ∙ is_some-option_map (f q) (get t.groups q)
 
 -- and the peaks that its record keeps are one for each name of its group
 as_many_peaks : (t : State) (pid : ℕ) (p : Path) → length (peaks_upward t p) ≡ length (home_of (raise_peaks p (record t { home = insert t.home pid p })) pid)
@@ -160,15 +146,15 @@ accepted_ready : (slots : ℕ) (t : State) → WellFormed slots t → (c : model
 accepted_ready slots t w (model.MakeGroup p) none = made_removable slots t w p (passed _ _ _ none)
 accepted_ready slots t w (model.RemoveGroup p) none =
     let not_root = passed _ _ _ none in
-    let there = affirmed _ (passed _ _ _ (beyond _ _ _ none)) in
-    (absent _ (removed_gone slots t w p not_root there), removed_under slots t w p not_root there, removed_room slots t w p not_root there)
+    let there = not-false _ (passed _ _ _ (beyond _ _ _ none)) in
+    (not_some_is_none _ (removed_gone slots t w p not_root there), removed_under slots t w p not_root there, removed_room slots t w p not_root there)
 accepted_ready slots t w (model.Fork from child) none = (
   exitable slots (after t (model.Fork from child)) child (own_process t child (home_of t from)),
   as_many_peaks t child (home_of t from),
 )
-accepted_ready slots t w (model.Exit pid) none = (absent _ (exited_gone t pid), home_group slots t w pid (affirmed _ (passed _ _ _ none)))
+accepted_ready slots t w (model.Exit pid) none = (not_some_is_none _ (exited_gone t pid), home_group slots t w pid (not-false _ (passed _ _ _ none)))
 accepted_ready slots t w (model.Move p pid) none = (
-  movable slots (after t (model.Move p pid)) (home_of t pid) pid (group_after t pid p (home_of t pid) ∙ home_group slots t w pid (affirmed _ (passed _ _ _ (beyond _ _ _ none)))) (own_process t pid p),
+  movable slots (after t (model.Move p pid)) (home_of t pid) pid (group_after t pid p (home_of t pid) ∙ home_group slots t w pid (not-false _ (passed _ _ _ (beyond _ _ _ none)))) (own_process t pid p),
   as_many_peaks t pid p,
 )
 accepted_ready slots t w (model.SetLimit p file value) none =

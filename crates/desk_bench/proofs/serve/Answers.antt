@@ -1,12 +1,9 @@
 -- A worker may cross threads. The search is made in steps, since one for the whole comes to its limit.
 use denote.RattleType.{RattleType}
-use denote.Hole.{as_row}
-use denote.Param.Send.{IsSend, IsSync, Frees, sendable}
-use Rattle.std.specs.declared.alloc.Allocator.{Ghosts}
+use denote.Param.Send.{IsSend, sendable}
 use Rattle.std.specs.contracts.alloc.Global as Global
 use Rattle.std.specs.contracts.impls.GlobalAllocator.TheImpl as allocator
 use Rattle.std.below.core.specs.contracts.clone.Clone+copy.TheImpl as clone
-use Rattle.inline_bytes.specs.contracts.bytes.InlineBytes as InlineBytes
 use Rattle.pids_charge.specs.contracts.plain.PlainMeter as PlainMeter
 use Rattle.pids_charge.specs.contracts.plain.PlainMeterMeter.TheImpl as plain_meter
 use Rattle.board_meter.specs.contracts.meter.BoardMeter as BoardMeter
@@ -15,7 +12,6 @@ use Rattle.undo_journal.specs.contracts.engine.Engine as Engine
 use Rattle.std.proofs.Crossing.{crosses}
 use Rattle.std.proofs.MapsCrossing as maps
 use Rattle.std.proofs.alloc.Global.TheSendSync as global
-use Rattle.inline_bytes.proofs.bytes.InlineBytes.TheSendSync as inline_bytes
 use Rattle.group_path.proofs.path.GroupPath.TheSendSync as group_path
 use Rattle.group_tree.proofs.attr.Attr.TheSendSync as attr
 use Rattle.group_tree.proofs.node.Node.TheLaws.TheKnot as knot
@@ -25,7 +21,7 @@ use Rattle.process_table.proofs.table.ProcessTable.TheSendSync as process_table
 use Rattle.undo_journal.proofs.command.Command.TheSendSync as command
 use Rattle.undo_journal.proofs.inverse.Inverse.TheSendSync as inverse
 use Rattle.board_meter.proofs.meter.BoardMeter.TheSendSync as board
-use Rattle.sessions.proofs.SessionCrosses.{session_send}
+use Rattle.sessions.proofs.SessionCrosses.{name_send, session_send}
 use Rattle.desk_bench.proofs.serve.Goals as goal
 
 abbrev board_row : RattleType
@@ -33,10 +29,6 @@ board_row = Engine.the_row Global.the_row BoardMeter.the_row allocator.ghosts (c
 
 abbrev plain_row : RattleType
 plain_row = Engine.the_row Global.the_row (PlainMeter.the_row Global.the_row allocator.ghosts) allocator.ghosts (clone.ghosts Global.the_row) (plain_meter.ghosts Global.the_row allocator.ghosts plain_meter.no_dict plain_meter.no_dict)
-
--- the name of a node
-name_send : (T : RattleType) → (g : Ghosts T.Denot) → IsSend T → IsSync T → Frees {D = T.Denot} {G = Ghosts T.Denot} g g.dealloc_token → IsSend (as_row (InlineBytes.the_field T g))
-name_send T g s y f = inline_bytes.the_send T g s y f
 
 ruleset parts = (
   command.the_field_send,

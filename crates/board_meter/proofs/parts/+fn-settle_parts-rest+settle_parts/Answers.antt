@@ -1,8 +1,8 @@
 use Rattle.std.proofs.Common.{rules, ap, ◌∙◌, arith}
 use Rattle.snzi_core.specs.Holding.{out, main_weight}
+use Rattle.snzi_core.proofs.Passing.{one_out_main, one_out_out}
 use Rattle.snzi_tree.specs.Hands.{holds}
 use Rattle.board_meter.proofs.Fanned.{settled_both}
-use Rattle.board_meter.proofs.Roles.{one_out-main, out-one_out}
 use Rattle.board_meter.proofs.parts.+fn-settle_parts-rest+settle_parts.Goals as goal
 
 pub join_mut-requires-after_bounds : goal.join_mut-requires-after_bounds
@@ -18,7 +18,7 @@ join_mut-requires-after_bounds g t c κs within =
     let room = can.room in
     let given = e.cut.held_given in
     let left = e.cut.held_left in
-    let one_more = ap out e.cut.role ∙ out-one_out (holds c.args.main.now).role main.0 in (
+    let one_more = ap out e.cut.role ∙ one_out_out (holds c.args.main.now).role main.0 in (
       (
         Prim.search rules,
         (
@@ -62,7 +62,7 @@ join_mut-requires-after_bounds g t c κs within =
                           charged = λ s j. let a = e.cut.left s j in let b = go.tokens s j in let d = can.charged s j in omega (arith, a, b, d);
                           room = omega (arith, given, left, come.len, room);
                         },
-                        (ap main_weight e.cut.role ∙ one_out-main (holds c.args.main.now).role ∙ main.0, omega (arith, low, one_more, c.if-parts-le1.false)),
+                        (ap main_weight e.cut.role ∙ one_out_main (holds c.args.main.now).role ∙ main.0, omega (arith, low, one_more, c.if-parts-le1.false)),
                         e.cut.at_leaves_left c.requires.at_leaves,
                         c.if-parts-le1.false,
                         c.requires.few,

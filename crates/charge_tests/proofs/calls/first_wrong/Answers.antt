@@ -1,5 +1,5 @@
 use Rattle.std.proofs.Common.{arith}
-use Rattle.charge_tests.proofs.UpTo.{start_up}
+use Rattle.flat_model.proofs.UpTo.{start_up}
 use Rattle.charge_tests.proofs.calls.first_wrong.Goals as goal
 
 pub loop-i-init : goal.loop-i-init

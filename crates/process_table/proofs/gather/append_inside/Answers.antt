@@ -1,13 +1,14 @@
 use Rattle.std.proofs.Common.{◌+◌, cond, eqb, count_by, sym, ap, ◌∙◌}
 use Rattle.process_table.specs.Cells.{cell_at}
 use Rattle.process_table.specs.SlotPids.{list_at}
-use Rattle.process_table.proofs.Gathered.{count-append, appended}
+use Rattle.process_table.proofs.Gathered.{appended}
 use Rattle.process_table.proofs.Outcomes.{on_ok}
 use Rattle.process_table.proofs.gather.append_inside.Goals as goal
+use Rattle.flat_model.proofs.Sums.{count_by-append}
 
 pub returns-then-are_inside : goal.returns-then-are_inside
 returns-then-are_inside g c = on_ok c.append_to.result (λ items q.
-    ap (count_by (eqb q)) items ∙ count-append q c.args.pids.now.items (list_at c.args.slots.now c.args.slot)
+    ap (count_by (eqb q)) items ∙ count_by-append (eqb q) c.args.pids.now.items (list_at c.args.slots.now c.args.slot)
     ∙ ap (λ n. count_by (eqb q) c.args.pids.now.items
     + n) (ap (λ b. cond b (count_by (eqb q) (list_at c.args.slots.now c.args.slot)) 0) (sym c.if-are_inside.true)
     ∙ appended (cell_at c.args.pages.now) c.args.slots.now c.requires.tied c.args.slot c.args.path.now c.are_inside.result

@@ -1,6 +1,7 @@
 use Rattle.std.proofs.Common.{sym, ◌∙◌}
 use Rattle.flat_model.specs.EventTotals.{HasEventsUpTo}
-use Rattle.refusal_tests.proofs.Given.{after_ok, start_up}
+use Rattle.flat_model.proofs.UpTo.{start_up}
+use Rattle.refusal_tests.proofs.Given.{after_ok}
 use Rattle.refusal_tests.proofs.forks.alone.Goals as goal
 
 pub move_to_new-requires : goal.move_to_new-requires

@@ -1,14 +1,10 @@
-use Rattle.std.proofs.Common.{◌≡◌, ◌≢◌, ◌⊎◌, [], ◌∷◌, None, codes, refl, inl, inr, arith}
-use Rattle.clap.specs.Words.{IsAmong, fault_of}
-use Rattle.clap.specs.declared.error.kind.ErrorKind.{ErrorKind}
+use Rattle.std.proofs.Common.{◌≡◌, ◌⊎◌, [], ◌∷◌, None, codes, refl, inl, inr, arith}
+use Rattle.clap.specs.Words.{fault_of}
 use Rattle.clap.specs.declared.error.kind.ErrorKind.TheVariants as kind
 use Rattle.clap.proofs.OnLiterals.{clap_on_literals}
 use Rattle.replay_main.specs.ReplayArguments.{HasFault, app, workers_in}
+use Rattle.replay_main.proofs.CommandLines.{only_help}
 use Rattle.session_laws.proofs.replays.words_that_ask.Goals as goal
-
-alone : (k : ErrorKind) → IsAmong k (kind.DisplayHelp ∷ []) → k ≢ kind.DisplayHelp → ⊥
-alone k (inl e) n = n e
-alone k (inr x) n = absurd x
 
 pub returns-clause-none : goal.returns-clause-none
 unfolding clap_on_literals
@@ -72,7 +68,7 @@ returns-clause-help c = λ text. inl refl
 
 only : HasFault (fault_of app (codes "--help" ∷ [])) ⊎ ((fault_of app (codes "--help" ∷ []) ≡ []) × (workers_in (codes "--help" ∷ []) ≡ None)) → ⊥
 unfolding clap_on_literals
-only (inl f) = alone f.0 f.1 f.2
+only (inl f) = only_help f.0 f.1 f.2
 only (inr e) = let none : kind.DisplayHelp ∷ [] ≡ [] = e.0 in cc
 
 pub returns-clause-help_alone : goal.returns-clause-help_alone

@@ -1,13 +1,8 @@
-use Rattle.std.proofs.Common.{◌≡◌, ◌≢◌, ◌⊎◌, [], ◌∷◌, codes, refl, inl, inr}
-use Rattle.clap.specs.Words.{IsAmong, fault_of}
-use Rattle.clap.specs.declared.error.kind.ErrorKind.{ErrorKind}
+use Rattle.std.proofs.Common.{refl, inl}
 use Rattle.clap.specs.declared.error.kind.ErrorKind.TheVariants as kind
 use Rattle.clap.proofs.OnLiterals.{clap_on_literals}
+use Rattle.replay_main.proofs.CommandLines.{only_help}
 use Rattle.shell_laws.proofs.words.words_that_ask.Goals as goal
-
-alone : (k : ErrorKind) → IsAmong k (kind.DisplayHelp ∷ []) → k ≢ kind.DisplayHelp → ⊥
-alone k (inl e) n = n e
-alone k (inr x) n = absurd x
 
 pub returns-clause-none : goal.returns-clause-none
 unfolding clap_on_literals
@@ -23,7 +18,7 @@ returns-clause-help c = refl
 
 pub returns-clause-help_alone : goal.returns-clause-help_alone
 unfolding clap_on_literals
-returns-clause-help_alone c = λ h. alone h.0 h.1 h.2
+returns-clause-help_alone c = λ h. only_help h.0 h.1 h.2
 
 pub returns-clause-unknown : goal.returns-clause-unknown
 unfolding clap_on_literals
