@@ -260,7 +260,7 @@ pub(crate) fn tried<R: Threads + Wait + Sync>(
     alloc: Global,
     trial: Trial,
 ) -> Result<Option<usize>, Fail> {
-    let heap = LocalHeap::new(alloc, 10_240)?;
+    let heap = LocalHeap::new(alloc, 12_288)?;
     let mut engine = in_heap(alloc, &heap)?;
     tried_on(rt, alloc, &heap, &mut engine, trial)
 }

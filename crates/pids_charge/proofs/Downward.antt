@@ -30,15 +30,8 @@ all_split m rest attrs a all e =
     let here : All (λ (b : Attr). b.slot < m) (a ∷ rest) = subst (All (λ (b : Attr). b.slot < m)) e all in
     (All-head (λ (b : Attr). b.slot < m) a rest here, All-tail (λ (b : Attr). b.slot < m) a rest here)
 
-one_at-here : (s j : ℕ) → one_at s j s j ≡ 1
+pub one_at-here : (s j : ℕ) → one_at s j s j ≡ 1
 one_at-here s j = rw (eq-eqb s s refl, eq-eqb j j refl) refl
-
--- while the charges of those that are left are there, the first of them is
-pub still_charged : (attrs rest : List Attr) (a : Attr) (leaf : ℕ) (before now : Content) (all : ℕ) → attrs ≡ a ∷ rest
-    → all ≤ before a.slot leaf → now a.slot leaf + all ≡ before a.slot leaf + charges_in attrs leaf a.slot leaf → 0 < now a.slot leaf
-still_charged attrs rest a leaf before now all e few gone =
-    let more = ap (λ (xs : List Attr). charges_in xs leaf a.slot leaf) e in
-    omega (arith, more, one_at-here a.slot leaf, few, gone)
 
 -- one token more
 pub one_token_more : (old new : List Token) (t : Token) → new ≡ old ++ t ∷ [] → (s j : ℕ) → listed_at new s j ≡ listed_at old s j + one_at t.slot t.leaf s j

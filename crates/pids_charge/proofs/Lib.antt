@@ -9,6 +9,7 @@ mod Charged
 mod ChildrenTold
 mod Copied
 mod Downward
+mod Upward
 mod Gathers
 mod Asked
 mod Slots

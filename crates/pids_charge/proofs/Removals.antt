@@ -10,9 +10,10 @@ use Rattle.std.specs.List.{All, list_any}
 use Rattle.std.specs.Ordering.{nat_cmp}
 use Rattle.std.specs.Map.{values_of}
 use Rattle.std.specs.FinMap as fin
+use Rattle.std.specs.Prelude.{slice_index}
 use Rattle.std.specs.FinMap.Entries.{find}
 use Rattle.std.proofs.Math.Seq.{take-length}
-use Rattle.flat_model.specs.Path.{Path, path_cmp, is_root, at_or_below, strictly_below, same_path}
+use Rattle.flat_model.specs.Path.{Path, parent, path_cmp, is_root, at_or_below, strictly_below, same_path}
 use Rattle.flat_model.specs.State.{State}
 use Rattle.flat_model.specs.Counts.{is_group, descendant_count, populated}
 use Rattle.flat_model.specs.Command.{RemoveGroup, RootFixed, NoGroup, HasChildren, HasProcesses}
@@ -29,7 +30,8 @@ use Rattle.group_tree.specs.declared.fault.TreeFault.TheVariants as tree
 use Rattle.pids_charge.specs.Content.{Content}
 use Rattle.pids_charge.specs.Lists.{Row}
 use Rattle.pids_charge.specs.Lists.{slot_at}
-use Rattle.pids_charge.specs.Recount.{HasSlots, Recounted, IsPlaced, state_of}
+use Rattle.pids_charge.specs.Recount.{HasParents, HasSlots, Recounted, IsPlaced, state_of}
+use Rattle.pids_charge.proofs.TableSlots.{table_slot_same}
 use Rattle.process_table.specs.declared.process.Process.{Process}
 use Rattle.pids_charge.proofs.Asked.{nonroot, refuse_none, is_there, group-is}
 use Rattle.pids_charge.proofs.Charged.{all_both, regrouped}
@@ -198,6 +200,13 @@ module _ (slots : ℕ) (tree : Groups) (free : List ℕ) (h : HasSlots slots tre
         let apart : slot_at left q ≡ x.slot → ⊥ = λ e. (other q i).0 (h.apart q p up pos (was q i) there (sym (slot q i) ∙ e ∙ sym its_slot)) in
         omega (arith, other_slot (slot_at left q) apart, h.unused q up (was q i), ap (λ s. count_by (eqb s) free) (slot q i));
     whole = omega (arith, h.whole, smaller, length-append free (x.slot ∷ []));
+  }
+
+  -- the other groups keep their parents
+  pub parents_left : IsClosed left → (parents : List ℕ) → HasParents slots tree parents → HasParents slots left parents
+  parents_left closed parents h = record {
+    many = h.many;
+    each = λ q up i. ap (slice_index parents) (slot q i) ∙ h.each q up (was q i) ∙ table_slot_same tree left (parent q) (sym (slot (parent q) (closed.parents q i)));
   }
 
   -- there is room for it in the table

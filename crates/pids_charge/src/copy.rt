@@ -8,14 +8,15 @@ ghost use Rattle.std.specs.BTreeMap.{insert_entry, is_at};
 ghost use Rattle.std.specs.FinMap as fin;
 ghost use Rattle.std.specs.Vec.{vec_capacity};
 ghost use Rattle.process_table.specs.Chosen.{HaveOneHome};
-ghost use Rattle.pids_charge.specs.Lists.{at_leaf_below, row_below};
-ghost use Rattle.pids_charge.specs.Recount.{charges_at, SlotsBelow};
+ghost use Rattle.pids_charge.specs.Lists.{at_leaf_below, row_below, table_slot};
+ghost use Rattle.pids_charge.specs.Recount.{charges_at, HasParents, SlotsBelow};
 
 use crate::charges::Charges;
 use crate::meter::{HELD_MAX, Meter};
+use crate::parents::Parents;
 use crate::plain::PlainMeter;
 use crate::rows::home_in;
-use crate::walk::charge_along;
+use crate::walk::charge_up;
 use group_path::GroupPath;
 use group_tree::GroupTree;
 use process_table::{Process, ProcessTable};
@@ -38,6 +39,7 @@ fn copy_slots<A: Allocator, B: Allocator>(
 // Inserts one process into a table, charged along its path at its leaf modulo the leaves of the meter.
 fn copy_one<T: Allocator, M: Meter, A: Allocator + Clone, B: Allocator + Clone>(
     tree: &GroupTree<T>,
+    parents: &Parents<T>,
     table: &mut ProcessTable<B>,
     meter: &mut M,
     alloc: B,
@@ -45,7 +47,9 @@ fn copy_one<T: Allocator, M: Meter, A: Allocator + Clone, B: Allocator + Clone>(
     process: &Process<A>,
 ) -> Result<(), AllocError>
     requires home { IsSome (fin.get tree.now process.now.home) }
+    requires slot { process.now.slot ≡ table_slot tree.now process.now.home }
     requires slots { SlotsBelow M.SLOTS tree.now }
+    requires parents { HasParents M.SLOTS tree.now parents.now }
     requires room { M.held meter.old + length process.now.home ≤ HELD_MAX }
     ensures put { OnOk result (table.new ≡ insert_entry nat_cmp table.old pid (at_leaf_below M.LEAVES process.now)) }
     ensures content { OnOk result ((s j : ℕ) → M.content meter.new s j ≡ M.content meter.old s j + charges_at tree.now process.now.home (process.now.leaf % M.LEAVES) s j) }
@@ -54,7 +58,7 @@ fn copy_one<T: Allocator, M: Meter, A: Allocator + Clone, B: Allocator + Clone>(
     let leaf = process.leaf % M::LEAVES;
     let slot = process.slot;
     let home = home_in(table, &alloc, &process.home, slot)?;
-    charge_along(tree, meter, &process.home, leaf);
+    charge_up(tree, parents, meter, &process.home, slot, leaf);
     let _ = table.insert(pid, Process { home, slot, leaf })?;
     Ok(())
 }
@@ -62,13 +66,15 @@ fn copy_one<T: Allocator, M: Meter, A: Allocator + Clone, B: Allocator + Clone>(
 // Inserts all processes into a table, each charged so.
 fn copy_each<T: Allocator, M: Meter, A: Allocator + Clone, B: Allocator + Clone>(
     tree: &GroupTree<T>,
+    parents: &Parents<T>,
     processes: &ProcessTable<A>,
     meter: &mut M,
     alloc: B,
 ) -> Result<ProcessTable<B>, AllocError>
     requires one { HaveOneHome (λ q. lookup (is_at (nat_cmp q)) processes.now) }
-    requires homes { All (λ p. IsSome (fin.get tree.now p.home)) (values_of processes.now) }
+    requires homes { All (λ p. IsSome (fin.get tree.now p.home) × (p.slot ≡ table_slot tree.now p.home)) (values_of processes.now) }
     requires slots { SlotsBelow M.SLOTS tree.now }
+    requires parents { HasParents M.SLOTS tree.now parents.now }
     requires room { M.held meter.old + sum_by (λ p. length p.home) (values_of processes.now) ≤ HELD_MAX }
     ensures rows { IfOk result (λ table. table ≡ map (row_below M.LEAVES) processes.now) }
     ensures content { IfOk result (λ table. (s j : ℕ) → M.content meter.new s j ≡ M.content meter.old s j + sum_by (λ p. charges_at tree.now p.home (p.leaf % M.LEAVES) s j) (values_of processes.now)) }
@@ -82,15 +88,23 @@ fn copy_each<T: Allocator, M: Meter, A: Allocator + Clone, B: Allocator + Clone>
         let Some(process) = processes.get(*pid) else {
             unreachable!()
         };
-        copy_one(tree, &mut table, meter, alloc.clone()?, *pid, process)?;
+        copy_one(
+            tree,
+            parents,
+            &mut table,
+            meter,
+            alloc.clone()?,
+            *pid,
+            process,
+        )?;
     }
     Ok(table)
 }
 
 impl<A: Allocator + Clone, M: Meter> Charges<A, M> {
     /// Copies the groups and processes into another allocator, over plain numbers. Each process is charged along its path at
-    /// its leaf modulo the copy's leaves. The meter must have as many slots as the copy's. Visits all groups and processes;
-    /// each process costs one descent of the tree.
+    /// its leaf modulo the copy's leaves. The meter must have as many slots as the copy's. Visits all groups and processes.
+    /// No process costs a descent of the tree.
     ///
     /// # Errors
     ///
@@ -103,11 +117,13 @@ impl<A: Allocator + Clone, M: Meter> Charges<A, M> {
         ensures { IfOk result (λ c. c ≡ self.now) }
     {
         let tree = self.tree.copy(alloc.clone()?)?;
+        let parents = self.parents.copy(alloc.clone()?)?;
         let free = copy_slots(&self.free, alloc.clone()?, M::SLOTS)?;
         let mut meter = PlainMeter::new(alloc.clone()?)?;
-        let processes = copy_each(&tree, &self.processes, &mut meter, alloc.clone()?)?;
+        let processes = copy_each(&tree, &parents, &self.processes, &mut meter, alloc.clone()?)?;
         Ok(Charges {
             tree,
+            parents,
             processes,
             free,
             meter,

@@ -13,12 +13,12 @@ use crate::meter::Meter;
 use crate::pid::Pid;
 use crate::rows::{put_copy, take_row};
 use crate::slot::slot_in;
-use crate::walk::{charge_along, uncharge_along};
+use crate::walk::{charge_up, uncharge_up};
 use group_path::GroupPath;
 use std::alloc::Allocator;
 
 impl<A: Allocator + Clone, M: Meter> Charges<A, M> {
-    /// Removes a process and returns its group, by the path that the table had. Allocates nothing. Costs one descent of the
+    /// Removes a process and returns its group, by the path that the table had. Allocates nothing, and does not descend the
     /// tree.
     ///
     /// # Errors
@@ -33,17 +33,11 @@ impl<A: Allocator + Clone, M: Meter> Charges<A, M> {
             return Err(ChargeFault::NoProcess(pid));
         };
         let stripe = who % M::LEAVES;
-        uncharge_along(
-            &self.tree,
-            &mut self.meter,
-            &process.home,
-            process.leaf,
-            stripe,
-        );
+        uncharge_up(&self.tree, &self.parents, &mut self.meter, &process, stripe);
         Ok(process.home)
     }
 
-    /// Puts a process into a group, charged at the leaf of `who`. Tests no limit. Costs two descents of the tree.
+    /// Puts a process into a group, charged at the leaf of `who`. Tests no limit. Costs one descent of the tree.
     ///
     /// # Errors
     ///
@@ -67,7 +61,7 @@ impl<A: Allocator + Clone, M: Meter> Charges<A, M> {
         let Ok(_) = put_copy(&mut self.processes, &self.alloc, pid, path, slot, leaf) else {
             return Err(ChargeFault::OutOfMemory);
         };
-        charge_along(&self.tree, &mut self.meter, path, leaf);
+        charge_up(&self.tree, &self.parents, &mut self.meter, path, slot, leaf);
         Ok(())
     }
 }

@@ -14,16 +14,17 @@ ghost use Rattle.process_table.specs.Chosen.{HaveOneHome};
 ghost use Rattle.pids_charge.specs.Answers.{Does, names_in};
 ghost use Rattle.snzi_core.specs.Listed.{IsWithin, listed_at};
 ghost use Rattle.pids_charge.specs.Lists.{inside, lost_each, lost_one, without_each};
-ghost use Rattle.pids_charge.specs.Recount.{charges_of, IsPlaced, SlotsBelow};
+ghost use Rattle.pids_charge.specs.Recount.{charges_of, HasParents, IsPlaced, SlotsBelow};
 
 use crate::charges::Charges;
 use crate::fault::ChargeFault;
 use crate::gate::Gate;
 use crate::lost::{Lost, LostList};
 use crate::meter::Meter;
+use crate::parents::Parents;
 use crate::pid::Pid;
 use crate::settler::{Settler, with_threads};
-use crate::walk::push_tokens;
+use crate::walk::push_charges;
 use group_path::GroupPath;
 use group_tree::GroupTree;
 use process_table::ProcessTable;
@@ -44,12 +45,14 @@ struct Gathered<A: Allocator + Clone> {
 // The pids at or below the path, ascending, and the charges of their processes.
 fn gather<M: Meter, T: Allocator, A: Allocator + Clone, B: Allocator + Clone>(
     tree: &GroupTree<T>,
+    parents: &Parents<T>,
     processes: &ProcessTable<A>,
     alloc: &A,
     path: &GroupPath<B>,
 ) -> Result<Gathered<A>, AllocError>
     requires placed { All (λ p. IsPlaced M.LEAVES tree.now p) (values_of processes.now) }
     requires slots { SlotsBelow M.SLOTS tree.now }
+    requires parents { HasParents M.SLOTS tree.now parents.now }
     requires homes { HaveOneHome (λ q. lookup (is_at (nat_cmp q)) processes.now) }
     ensures pids { IfOk result (λ g. g.pids.items ≡ keys_of (inside path.now processes.now)) }
     ensures counted { IfOk result (λ g. (s j : ℕ) → listed_at g.tokens.items s j ≡ sum_by (λ p. charges_of tree.now p s j) (values_of (inside path.now processes.now))) }
@@ -66,7 +69,7 @@ fn gather<M: Meter, T: Allocator, A: Allocator + Clone, B: Allocator + Clone>(
         let Some(process) = processes.get(*pid) else {
             unreachable!()
         };
-        push_tokens::<M, _, _, _>(tree, &process.home, process.leaf, &mut tokens)?;
+        push_charges::<M, _, _, _>(tree, parents, process, &mut tokens)?;
     }
     Ok(Gathered { pids, tokens, room })
 }
@@ -160,6 +163,7 @@ impl<A: Allocator + Clone, M: Meter> Charges<A, M> {
         }
         let Ok(Gathered { pids, tokens, room }) = gather::<M, _, _, _>(
             &self.tree,
+            &self.parents,
             &self.processes,
             &self.alloc,
             path,

@@ -19,9 +19,10 @@
 //!   `count_fork` only do what was decided. `try_process` is a fork that counts no refusal. They are for a caller that
 //!   allocates something of its own in between.
 //! - `exit`, `set_peaks`, `count_fork`, `uncount`, `rmdir`, `set_limit`, the readers and the calls that only decide allocate
-//!   nothing. `new` allocates the table of free slots.
-//! - A walk along a path descends the tree once, so a fork, an exit and a move cost O(depth · log children) comparisons. A
-//!   process is found in constant time. A path has at most 32 names.
+//!   nothing. `new` allocates the table of free slots and that of parents.
+//! - A walk down a path descends the tree once, so a fork and a move cost O(depth · log children) comparisons. A walk up goes
+//!   from the slot of a group to that of its parent, so an exit costs O(depth) steps and no comparison of names. A process is
+//!   found in constant time. A path has at most 32 names.
 //! - The processes of a group share the text of a long path. A child takes it from its parent; a process that is moved, put
 //!   back or copied takes it from one that is in the group, if there is one, and else gets a copy.
 //! - `kill_by` and `place_all_by` are `kill` and `place_all` by a `Settler`: `Alone` settles on the calling thread and needs
@@ -53,6 +54,7 @@ mod meter;
 mod migrate;
 mod mkdir;
 mod notes;
+mod parents;
 mod parts;
 mod peaks;
 mod pid;

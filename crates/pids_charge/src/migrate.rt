@@ -15,7 +15,7 @@ use crate::peaks::{Peaks, charge_and_raise, zero_peaks};
 use crate::pid::Pid;
 use crate::rows::{has_row, put_copy};
 use crate::slot::{find_slot, slot_in};
-use crate::walk::{charge_along, uncharge_along};
+use crate::walk::{charge_up, uncharge_up};
 use group_path::GroupPath;
 use std::alloc::Allocator;
 
@@ -29,9 +29,8 @@ pub struct Shifted<A: Allocator + Clone> {
 impl<A: Allocator + Clone, M: Meter> Charges<A, M> {
     /// Moves a process to the group, where it is charged at the leaf of `who`, and then raises the peaks of the group and of
     /// those above it other than the root. Returns its old group, by the path that the table had, and the old peaks of the
-    /// groups along the new path. Tests no limit. Costs three descents of the tree: one finds the group, one removes the
-    /// charges along the old path, and one adds those along the new path and reads the peaks. A fourth follows if a peak
-    /// rises.
+    /// groups along the new path. Tests no limit. Costs two descents of the tree: one finds the group, and one adds the
+    /// charges along the new path and reads the peaks. A third follows if a peak rises.
     ///
     /// # Errors
     ///
@@ -65,7 +64,7 @@ impl<A: Allocator + Clone, M: Meter> Charges<A, M> {
         let Some(before) = replaced else {
             unreachable!()
         };
-        uncharge_along(&self.tree, &mut self.meter, &before.home, before.leaf, leaf);
+        uncharge_up(&self.tree, &self.parents, &mut self.meter, &before, leaf);
         let mut table = [0; 32];
         let earlier = &mut table[..path.depth()];
         charge_and_raise(&mut self.tree, &mut self.meter, path, leaf, earlier);
@@ -77,7 +76,7 @@ impl<A: Allocator + Clone, M: Meter> Charges<A, M> {
     }
 
     /// Puts a process into another group, charged at the leaf of `who`, and raises no peak. Together with `set_peaks` it
-    /// undoes a move. Returns its old group, by the path that the table had. Tests no limit. Costs three descents of the
+    /// undoes a move. Returns its old group, by the path that the table had. Tests no limit. Costs one descent of the
     /// tree.
     ///
     /// # Errors
@@ -106,8 +105,8 @@ impl<A: Allocator + Clone, M: Meter> Charges<A, M> {
         let Some(before) = replaced else {
             unreachable!()
         };
-        uncharge_along(&self.tree, &mut self.meter, &before.home, before.leaf, leaf);
-        charge_along(&self.tree, &mut self.meter, path, leaf);
+        uncharge_up(&self.tree, &self.parents, &mut self.meter, &before, leaf);
+        charge_up(&self.tree, &self.parents, &mut self.meter, path, slot, leaf);
         Ok(before.home)
     }
 }

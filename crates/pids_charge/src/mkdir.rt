@@ -30,7 +30,7 @@ impl<A: Allocator + Clone, M: Meter> Charges<A, M> {
         }
     }
 
-    /// Makes a group that `mkdir` would not refuse, with no limits and event totals of 0, on a free slot. Costs one descent
+    /// Makes a group that `mkdir` would not refuse, with no limits and event totals of 0, on a free slot. Costs two descents
     /// of the tree.
     ///
     /// # Errors
@@ -48,8 +48,9 @@ impl<A: Allocator + Clone, M: Meter> Charges<A, M> {
         self.restore(path, Attr::new(0))
     }
 
-    /// Makes a group under an existing one, with no limits and event totals of 0, on a free slot. Costs two descents of the
-    /// tree. One of them tests everything that can refuse the group, including all limits above it.
+    /// Makes a group under an existing one, with no limits and event totals of 0, on a free slot. Costs three descents of the
+    /// tree. One of them tests everything that can refuse the group, including all limits above it; one finds the slot of its
+    /// parent.
     ///
     /// # Errors
     ///

@@ -12,6 +12,7 @@ ghost use Rattle.pids_charge.specs.Answers.{Does, refusal_of_fault, after_fault,
 use crate::charges::Charges;
 use crate::fault::ChargeFault;
 use crate::meter::Meter;
+use crate::slot::slot_above;
 use group_path::GroupPath;
 use group_tree::Attr;
 use std::alloc::Allocator;
@@ -82,7 +83,7 @@ impl<A: Allocator + Clone, M: Meter> Charges<A, M> {
     }
 
     /// Puts a group back with its limits, event totals and peak, on any free slot; the slot in `attr` is ignored. Tests no
-    /// limit of the groups above it. Costs one descent of the tree.
+    /// limit of the groups above it. Costs two descents of the tree: one finds the slot of its parent.
     ///
     /// # Errors
     ///
@@ -103,11 +104,13 @@ impl<A: Allocator + Clone, M: Meter> Charges<A, M> {
         self.tree.known();
         let last = self.free.len() - 1;
         let slot = self.free[last];
+        let above = slot_above::<M, _, _>(&self.tree, path);
         let made = self.tree.insert(path, Attr { slot, ..attr });
         self.tree.known();
         if made.is_err() {
             return Err(ChargeFault::OutOfMemory);
         }
+        self.parents.set(slot, above);
         self.free.truncate(last);
         Ok(())
     }

@@ -1,7 +1,8 @@
 //! In which slot of the table of processes a group's processes are.
 
-ghost use Rattle.std.specs.Prelude.{◌≡◌, None, IsSome, MatchOption};
+ghost use Rattle.std.specs.Prelude.{◌≡◌, ◌<◌, length, None, IsSome, MatchOption};
 ghost use Rattle.std.specs.FinMap as fin;
+ghost use Rattle.flat_model.specs.Path.{parent};
 ghost use Rattle.pids_charge.specs.Lists.{table_slot};
 ghost use Rattle.pids_charge.specs.Recount.{SlotsBelow};
 
@@ -43,4 +44,26 @@ pub(crate) fn slot_in<M: Meter, T: Allocator, A: Allocator + Clone>(
         unreachable!()
     };
     slot
+}
+
+// The same for the parent of a group, which there is. Costs one descent of the tree, none for a child of the root.
+pub(crate) fn slot_above<M: Meter, T: Allocator, A: Allocator + Clone>(
+    tree: &GroupTree<T>,
+    path: &GroupPath<A>,
+) -> u16
+    requires below_root { 0 < length path.now }
+    requires parent { IsSome (fin.get tree.now (parent path.now)) }
+    requires slots { SlotsBelow M.SLOTS tree.now }
+    ensures { result ≡ table_slot tree.now (parent path.now) }
+{
+    let depth = path.depth();
+    if depth <= 1 {
+        return 0;
+    }
+    let Some(attr) = tree.find_at(path, depth - 1) else {
+        unreachable!()
+    };
+    let slots = M::SLOTS;
+    prove!(attr.slot < slots);
+    attr.slot + 1
 }

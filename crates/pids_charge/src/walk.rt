@@ -1,59 +1,82 @@
-//! Walks along a path, over the parts of a `Charges`. Each descends the tree once.
+//! Walks along a path, over the parts of a `Charges`: down the tree, or up by the slots of parents.
 
 ghost use Rattle.std.specs.Prelude.{◌≡◌, ℕ, ◌+◌, ◌<◌, ◌≤◌, length, IsSome, OnOk};
 ghost use Rattle.std.specs.FinMap as fin;
 ghost use Rattle.snzi_core.specs.Listed.{IsWithin, listed_at};
-ghost use Rattle.pids_charge.specs.Recount.{charges_at, SlotsBelow};
+ghost use Rattle.pids_charge.specs.Lists.{table_slot};
+ghost use Rattle.pids_charge.specs.Recount.{charges_at, charges_of, HasParents, IsPlaced, SlotsBelow};
 
 use crate::meter::{HELD_MAX, Meter};
+use crate::notes::DEPTH_MAX;
+use crate::parents::Parents;
 use group_path::GroupPath;
 use group_tree::GroupTree;
+use process_table::Process;
 use snzi_core::Token;
 use std::alloc::{AllocError, Allocator};
 
-// Adds one charge at each group along the path.
-pub(crate) fn charge_along<T: Allocator, M: Meter, A: Allocator + Clone>(
+// Adds one charge at the group of a path and at each group above it other than the root. `slot` is where the processes of the
+// group are in their table. Does not descend the tree.
+pub(crate) fn charge_up<T: Allocator, M: Meter, A: Allocator + Clone>(
     tree: &GroupTree<T>,
+    parents: &Parents<T>,
     meter: &mut M,
     path: &GroupPath<A>,
+    slot: u16,
     leaf: u8,
 )
     requires leaf_below { leaf < M.LEAVES }
     requires home { IsSome (fin.get tree.now path.now) }
+    requires slot { slot ≡ table_slot tree.now path.now }
     requires slots { SlotsBelow M.SLOTS tree.now }
+    requires parents { HasParents M.SLOTS tree.now parents.now }
     requires room { M.held meter.old + length path.now ≤ HELD_MAX }
     ensures content { (s j : ℕ) → M.content meter.new s j ≡ M.content meter.old s j + charges_at tree.now path.now leaf s j }
     ensures held { M.held meter.new ≡ M.held meter.old + length path.now }
 {
     tree.known();
-    for attr in tree.along(path) {
-        meter.charge(attr.slot, leaf);
+    path.known();
+    let mut at = slot;
+    for _up in 0..DEPTH_MAX {
+        if at == 0 {
+            break;
+        }
+        let slot = at - 1;
+        meter.charge(slot, leaf);
+        at = parents.up(slot);
     }
 }
 
-// Removes one charge at each group along the path.
-pub(crate) fn uncharge_along<T: Allocator, M: Meter, A: Allocator + Clone>(
+// Removes the charges of a process, from its own group upward. Does not descend the tree.
+pub(crate) fn uncharge_up<T: Allocator, M: Meter, A: Allocator + Clone>(
     tree: &GroupTree<T>,
+    parents: &Parents<T>,
     meter: &mut M,
-    path: &GroupPath<A>,
-    leaf: u8,
+    process: &Process<A>,
     stripe: u8,
 )
-    requires leaf_below { leaf < M.LEAVES }
     requires stripe_below { stripe < M.LEAVES }
-    requires home { IsSome (fin.get tree.now path.now) }
+    requires placed { IsPlaced M.LEAVES tree.now process.now }
     requires slots { SlotsBelow M.SLOTS tree.now }
-    requires charged { (s j : ℕ) → charges_at tree.now path.now leaf s j ≤ M.content meter.old s j }
-    ensures content { (s j : ℕ) → M.content meter.new s j + charges_at tree.now path.now leaf s j ≡ M.content meter.old s j }
-    ensures held { M.held meter.new + length path.now ≡ M.held meter.old }
+    requires parents { HasParents M.SLOTS tree.now parents.now }
+    requires charged { (s j : ℕ) → charges_of tree.now process.now s j ≤ M.content meter.old s j }
+    ensures content { (s j : ℕ) → M.content meter.new s j + charges_of tree.now process.now s j ≡ M.content meter.old s j }
+    ensures held { M.held meter.new + length process.now.home ≡ M.held meter.old }
 {
     tree.known();
-    for attr in tree.along(path) {
-        meter.uncharge(attr.slot, leaf, stripe);
+    process.home.known();
+    let mut at = process.slot;
+    for _up in 0..DEPTH_MAX {
+        if at == 0 {
+            break;
+        }
+        let slot = at - 1;
+        meter.uncharge(slot, process.leaf, stripe);
+        at = parents.up(slot);
     }
 }
 
-// Appends a token for each group along the path.
+// Appends a token for each group along the path. Descends the tree once.
 pub(crate) fn push_tokens<M: Meter, T: Allocator, A: Allocator + Clone, B: Allocator>(
     tree: &GroupTree<T>,
     path: &GroupPath<A>,
@@ -72,6 +95,36 @@ pub(crate) fn push_tokens<M: Meter, T: Allocator, A: Allocator + Clone, B: Alloc
     for attr in tree.along(path) {
         let slot = attr.slot;
         tokens.push(Token { slot, leaf })?;
+    }
+    Ok(())
+}
+
+// Appends a token for each charge of a process, from its own group upward. Does not descend the tree.
+pub(crate) fn push_charges<M: Meter, T: Allocator, A: Allocator + Clone, B: Allocator>(
+    tree: &GroupTree<T>,
+    parents: &Parents<T>,
+    process: &Process<A>,
+    tokens: &mut Vec<Token, B>,
+) -> Result<(), AllocError>
+    requires placed { IsPlaced M.LEAVES tree.now process.now }
+    requires slots { SlotsBelow M.SLOTS tree.now }
+    requires parents { HasParents M.SLOTS tree.now parents.now }
+    requires within { IsWithin M.SLOTS M.LEAVES tokens.old.items }
+    ensures counted { OnOk result ((s j : ℕ) → listed_at tokens.new.items s j ≡ listed_at tokens.old.items s j + charges_of tree.now process.now s j) }
+    ensures many { OnOk result (length tokens.new.items ≡ length tokens.old.items + length process.now.home) }
+    ensures within { IsWithin M.SLOTS M.LEAVES tokens.new.items }
+{
+    tree.known();
+    process.home.known();
+    let leaf = process.leaf;
+    let mut at = process.slot;
+    for _up in 0..DEPTH_MAX {
+        if at == 0 {
+            break;
+        }
+        let slot = at - 1;
+        tokens.push(Token { slot, leaf })?;
+        at = parents.up(slot);
     }
     Ok(())
 }

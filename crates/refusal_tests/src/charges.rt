@@ -94,7 +94,7 @@ fn each_refused<R: Threads + Wait + Sync>(
 /// How many times making new charges in the heap is refused. Each refusal leaves the heap unchanged.
 fn refused_anew(alloc: Global, heap: &LocalHeap) -> Result<usize, Fail> {
     let mut blocks = all_but(alloc, heap, 0)?;
-    for room in 0..512usize {
+    for room in 0..1_024usize {
         let full = heap.used();
         match Charges::new(heap, PlainMeter::new(alloc)?) {
             Ok(_charges) => return Ok(room),
@@ -103,16 +103,16 @@ fn refused_anew(alloc: Global, heap: &LocalHeap) -> Result<usize, Fail> {
         }
         drop(blocks.pop());
     }
-    Err(Fail::new("there are no charges in 8,192 bytes"))
+    Err(Fail::new("there are no charges in 16,384 bytes"))
 }
 
-/// The table of free slots needs two bytes for each of 1,024 slots: the last refusal came with room for it, or for the table
-/// of processes before it.
+/// The table of free slots needs two bytes for each of 1,024 slots, and so does that of parents: fewer bytes than for both
+/// were refused.
 #[test]
 fn new(rt: HostRuntime) -> Result<(), Fail> {
     let heap = LocalHeap::new(rt.alloc(), 32_768)?;
     let refused = refused_anew(rt.alloc(), &heap)?;
-    assert!(rt; refused > 1024 * 2 / BLOCK_SIZE);
+    assert!(rt; refused > 1024 * 4 / BLOCK_SIZE);
     Ok(())
 }
 

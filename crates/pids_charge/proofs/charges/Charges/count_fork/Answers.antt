@@ -6,7 +6,7 @@ use Rattle.flat_model.specs.Step.{home_of, at_each, count_up}
 use Rattle.group_tree.specs.Flat.{group_of}
 use Rattle.pids_charge.specs.Recount.{state_of}
 use Rattle.pids_charge.proofs.Asked.{group-at, process-is}
-use Rattle.pids_charge.proofs.Changes.{slots_stay, charges_stay}
+use Rattle.pids_charge.proofs.Changes.{parents_stay, slots_stay, charges_stay}
 use Rattle.pids_charge.proofs.Forked.{home_at}
 use Rattle.pids_charge.proofs.charges.Charges.count_fork.Goals as goal
 
@@ -29,6 +29,7 @@ invariant_of-self g c =
     let tree = c.self.inside.tree in
     record {
       has_slots = slots_stay tree c.count_refusal.new.tree c.count_refusal.ensures.slots g.M.Meter.SLOTS c.self.inside.free.items c.self.invariant.has_slots;
+      has_parents = parents_stay tree c.count_refusal.new.tree c.count_refusal.ensures.slots g.M.Meter.SLOTS c.self.inside.parents c.self.invariant.has_parents;
       room = c.self.invariant.room;
       recounted = charges_stay tree c.count_refusal.new.tree c.count_refusal.ensures.slots g.M.Meter.LEAVES c.self.inside.processes
           (g.M.Meter.content c.self.inside.meter) (g.M.Meter.held c.self.inside.meter) c.self.invariant.recounted;

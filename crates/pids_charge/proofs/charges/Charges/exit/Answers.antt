@@ -18,22 +18,20 @@ returns-in_default-clause-certain g c = λ e.
     c.args.pid ∙ ap is_some (sym c.take_row.ensures.value ∙ c.in_default.is) in
     let f : true ≡ false = sym (ap is_some (exit_no_process g.M.Meter.SLOTS c.args.self.now c.args.pid gone)) ∙ ap is_some e in cc
 
-pub uncharge_along-requires-clause-leaf_below : goal.uncharge_along-requires-clause-leaf_below
-uncharge_along-requires-clause-leaf_below g c = (found_placed _ _ _ _ _ c.self.invariant.recounted c.args.pid c.in-Some.process (sym c.take_row.ensures.value ∙ c.in-Some.is)).leaf_below
+pub uncharge_up-requires-clause-placed : goal.uncharge_up-requires-clause-placed
+uncharge_up-requires-clause-placed g c = found_placed _ _ _ _ _ c.self.invariant.recounted c.args.pid c.in-Some.process (sym c.take_row.ensures.value ∙ c.in-Some.is)
 
-pub uncharge_along-requires-clause-home : goal.uncharge_along-requires-clause-home
-uncharge_along-requires-clause-home g c = (found_placed _ _ _ _ _ c.self.invariant.recounted c.args.pid c.in-Some.process (sym c.take_row.ensures.value ∙ c.in-Some.is)).home
-
-pub uncharge_along-requires-clause-charged : goal.uncharge_along-requires-clause-charged
-uncharge_along-requires-clause-charged g c = one_there _ _ _ _ _ c.self.invariant.recounted c.args.pid c.in-Some.process (sym c.take_row.ensures.value ∙ c.in-Some.is)
+pub uncharge_up-requires-clause-charged : goal.uncharge_up-requires-clause-charged
+uncharge_up-requires-clause-charged g c = one_there _ _ _ _ _ c.self.invariant.recounted c.args.pid c.in-Some.process (sym c.take_row.ensures.value ∙ c.in-Some.is)
 
 pub invariant_of-self-2 : goal.invariant_of-self-2
 invariant_of-self-2 g c = record {
   has_slots = c.self.invariant.has_slots;
+  has_parents = c.self.invariant.has_parents;
   room = c.self.invariant.room;
   recounted = taken _ _ _ _ _ c.self.invariant.recounted c.args.pid c.in-Some.process c.take_row.new.processes
-      (g.M.Meter.content c.uncharge_along.new.meter) (g.M.Meter.held c.uncharge_along.new.meter)
-      (sym c.take_row.ensures.value ∙ c.in-Some.is) c.take_row.ensures.entries c.take_row.ensures.ordered c.uncharge_along.ensures.content c.uncharge_along.ensures.held;
+      (g.M.Meter.content c.uncharge_up.new.meter) (g.M.Meter.held c.uncharge_up.new.meter)
+      (sym c.take_row.ensures.value ∙ c.in-Some.is) c.take_row.ensures.entries c.take_row.ensures.ordered c.uncharge_up.ensures.content c.uncharge_up.ensures.held;
 }
 
 pub returns-clause-state : goal.returns-clause-state

@@ -57,6 +57,7 @@ invariant_of-self g c =
     let many = ap length c.as_slice.ensures.value ∙ told.many in
     record {
       has_slots = c.self.invariant.has_slots;
+      has_parents = c.self.invariant.has_parents;
       room = c.self.invariant.room;
       recounted = killed g.M.Meter.LEAVES c.self.inside.tree c.self.inside.processes (g.M.Meter.content c.self.inside.meter)
           (g.M.Meter.held c.self.inside.meter) c.self.invariant.recounted c.args.path.now

@@ -20,30 +20,25 @@ slot_in-slot-requires-clause-group g c = there-is c.args.self.now c.self.inside.
 
 pub invariant_of-self : goal.invariant_of-self
 invariant_of-self g c =
-    subst (λ (rows : List (Row g.row.A.Denot)). IsWhole g.M.Meter.SLOTS g.M.Meter.LEAVES c.self.inside.tree rows c.self.inside.free.items
+    subst (λ (rows : List (Row g.row.A.Denot)). IsWhole g.M.Meter.SLOTS g.M.Meter.LEAVES c.self.inside.tree c.self.inside.parents rows c.self.inside.free.items
     (vec_capacity c.self.inside.free) (g.M.Meter.content c.self.inside.meter) (g.M.Meter.held c.self.inside.meter))
     (sym c.in_default.ensures.kept) c.self.invariant
 
-pub charge_along-requires-clause-home : goal.charge_along-requires-clause-home
-charge_along-requires-clause-home g c = there-is c.args.self.now c.self.inside.tree c.self.inside.processes c.self.view_is c.args.path.now c.requires.group
+pub charge_up-requires-clause-home : goal.charge_up-requires-clause-home
+charge_up-requires-clause-home g c = there-is c.args.self.now c.self.inside.tree c.self.inside.processes c.self.view_is c.args.path.now c.requires.group
 
-pub uncharge_along-requires-clause-leaf_below : goal.uncharge_along-requires-clause-leaf_below
-uncharge_along-requires-clause-leaf_below g c =
-    (found_placed _ _ _ _ _ c.self.invariant.recounted c.args.pid c.in-Some.before (sym c.in-Ok.ensures.old ∙ c.in-Some.is)).leaf_below
+pub uncharge_up-requires-clause-placed : goal.uncharge_up-requires-clause-placed
+uncharge_up-requires-clause-placed g c = found_placed _ _ _ _ _ c.self.invariant.recounted c.args.pid c.in-Some.before (sym c.in-Ok.ensures.old ∙ c.in-Some.is)
 
-pub uncharge_along-requires-clause-home : goal.uncharge_along-requires-clause-home
-uncharge_along-requires-clause-home g c =
-    (found_placed _ _ _ _ _ c.self.invariant.recounted c.args.pid c.in-Some.before (sym c.in-Ok.ensures.old ∙ c.in-Some.is)).home
-
-pub uncharge_along-requires-clause-charged : goal.uncharge_along-requires-clause-charged
-uncharge_along-requires-clause-charged g c =
+pub uncharge_up-requires-clause-charged : goal.uncharge_up-requires-clause-charged
+uncharge_up-requires-clause-charged g c =
     one_there _ _ _ _ _ c.self.invariant.recounted c.args.pid c.in-Some.before (sym c.in-Ok.ensures.old ∙ c.in-Some.is)
 
-pub charge_along-requires-clause-room : goal.charge_along-requires-clause-room
-charge_along-requires-clause-room g c =
+pub charge_up-requires-clause-room : goal.charge_up-requires-clause-room
+charge_up-requires-clause-room g c =
     let small = held_small _ _ _ _ _ c.self.invariant.recounted c.self.invariant.has_slots.shallow in
     let there = there-is c.args.self.now c.self.inside.tree c.self.inside.processes c.self.view_is c.args.path.now c.requires.group in
-    omega (arith, small, c.uncharge_along.ensures.held, c.self.invariant.has_slots.shallow c.args.path.now there)
+    omega (arith, small, c.uncharge_up.ensures.held, c.self.invariant.has_slots.shallow c.args.path.now there)
 
 pub invariant_of-self-2 : goal.invariant_of-self-2
 invariant_of-self-2 g c =
@@ -52,13 +47,14 @@ invariant_of-self-2 g c =
     let there = there-is c.args.self.now c.self.inside.tree c.self.inside.processes c.self.view_is c.args.path.now c.requires.group in
     record {
       has_slots = c.self.invariant.has_slots;
+      has_parents = c.self.invariant.has_parents;
       room = c.self.invariant.room;
       recounted = moved g.M.Meter.LEAVES c.self.inside.tree c.self.inside.processes (g.M.Meter.content c.self.inside.meter) (g.M.Meter.held c.self.inside.meter) c.self.invariant.recounted
-          c.args.pid c.in-Some.before x c.put_copy.new.processes (g.M.Meter.content c.charge_along.new.meter) (g.M.Meter.held c.charge_along.new.meter)
+          c.args.pid c.in-Some.before x c.put_copy.new.processes (g.M.Meter.content c.charge_up.new.meter) (g.M.Meter.held c.charge_up.new.meter)
           (sym c.in-Ok.ensures.old ∙ c.in-Some.is) c.put_copy.ensures.pid c.in-Ok.ensures.entries c.put_copy.ensures.ordered
           (record { home = there; slot = c.slot_in-slot.ensures; leaf_below = omega (arith, c.LEAVES.ensures, g.met.M.Meter.leaves_positive) })
-          (λ s j. omega (arith, c.charge_along.ensures.content s j, c.uncharge_along.ensures.content s j))
-          (omega (arith, c.charge_along.ensures.held, c.uncharge_along.ensures.held));
+          (λ s j. omega (arith, c.charge_up.ensures.content s j, c.uncharge_up.ensures.content s j))
+          (omega (arith, c.charge_up.ensures.held, c.uncharge_up.ensures.held));
     }
 
 pub returns-clause-placed : goal.returns-clause-placed

@@ -10,18 +10,18 @@ use Rattle.pids_charge.proofs.charges.Charges.place.Goals as goal
 pub slot_in-slot-requires-clause-group : goal.slot_in-slot-requires-clause-group
 slot_in-slot-requires-clause-group g c = there-is c.args.self.now c.self.inside.tree c.self.inside.processes c.self.view_is c.args.path.now c.requires.group
 
-pub charge_along-requires-clause-home : goal.charge_along-requires-clause-home
-charge_along-requires-clause-home g c = there-is c.args.self.now c.self.inside.tree c.self.inside.processes c.self.view_is c.args.path.now c.requires.group
+pub charge_up-requires-clause-home : goal.charge_up-requires-clause-home
+charge_up-requires-clause-home g c = there-is c.args.self.now c.self.inside.tree c.self.inside.processes c.self.view_is c.args.path.now c.requires.group
 
-pub charge_along-requires-clause-room : goal.charge_along-requires-clause-room
-charge_along-requires-clause-room g c =
+pub charge_up-requires-clause-room : goal.charge_up-requires-clause-room
+charge_up-requires-clause-room g c =
     let small = held_small _ _ _ _ _ c.self.invariant.recounted c.self.invariant.has_slots.shallow in
     let there = there-is c.args.self.now c.self.inside.tree c.self.inside.processes c.self.view_is c.args.path.now c.requires.group in
     omega (arith, small, c.self.invariant.has_slots.shallow c.args.path.now there)
 
 pub invariant_of-self : goal.invariant_of-self
 invariant_of-self g c =
-    subst (λ (rows : List (Row g.row.A.Denot)). IsWhole g.M.Meter.SLOTS g.M.Meter.LEAVES c.self.inside.tree rows c.self.inside.free.items
+    subst (λ (rows : List (Row g.row.A.Denot)). IsWhole g.M.Meter.SLOTS g.M.Meter.LEAVES c.self.inside.tree c.self.inside.parents rows c.self.inside.free.items
     (vec_capacity c.self.inside.free) (g.M.Meter.content c.self.inside.meter) (g.M.Meter.held c.self.inside.meter))
     (sym c.in_default.ensures.kept) c.self.invariant
 
@@ -30,8 +30,9 @@ invariant_of-self-2 g c =
     let x : Process g.row.A.Denot = process_in c.args.path.now c.slot_in-slot.result (c.args.who % c.LEAVES.result) in
     record {
       has_slots = c.self.invariant.has_slots;
+      has_parents = c.self.invariant.has_parents;
       room = c.self.invariant.room;
-      recounted = added _ _ _ _ _ c.self.invariant.recounted c.args.pid x c.put_copy.new.processes (g.M.Meter.content c.charge_along.new.meter) (g.M.Meter.held c.charge_along.new.meter)
+      recounted = added _ _ _ _ _ c.self.invariant.recounted c.args.pid x c.put_copy.new.processes (g.M.Meter.content c.charge_up.new.meter) (g.M.Meter.held c.charge_up.new.meter)
           (no_home c.args.self.now c.self.inside.tree c.self.inside.processes c.self.view_is c.self.invariant.recounted.ordered c.args.pid
           c.requires.new) c.put_copy.ensures.pid c.in-Ok.ensures.entries c.put_copy.ensures.ordered
           (record {
@@ -41,8 +42,8 @@ invariant_of-self-2 g c =
             leaf_below =
                 omega (arith, c.LEAVES.ensures, g.met.M.Meter.leaves_positive);
           })
-          (λ s j. c.charge_along.ensures.content s j)
-          c.charge_along.ensures.held;
+          (λ s j. c.charge_up.ensures.content s j)
+          c.charge_up.ensures.held;
     }
 
 pub returns-clause-placed : goal.returns-clause-placed

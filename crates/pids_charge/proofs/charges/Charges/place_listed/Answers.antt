@@ -59,6 +59,7 @@ invariant_of-self-2 g c =
     let many = ap length c.as_slice.ensures.value ∙ (c.in_ok-tokens.ensures).many in
     record {
       has_slots = c.self.invariant.has_slots;
+      has_parents = c.self.invariant.has_parents;
       room = c.self.invariant.room;
       recounted = rw (c.in_ok-place_each.ensures).placed (placed g.M.Meter.LEAVES c.self.inside.tree es content held d leaf c.args.list.now
           (g.M.Meter.content c.settle.new.meter) (g.M.Meter.held c.settle.new.meter)

@@ -5,13 +5,13 @@ use Rattle.group_tree.specs.Flat.{limit_file_of, limit_of}
 use Rattle.group_tree.specs.Groups.{Groups, IsClosed}
 use Rattle.pids_charge.specs.Recount.{SameSlots, IsWhole, state_of}
 use Rattle.pids_charge.proofs.Asked.{group-is}
-use Rattle.pids_charge.proofs.Changes.{changed_slots, slots_stay, charges_stay}
+use Rattle.pids_charge.proofs.Changes.{changed_slots, parents_stay, slots_stay, charges_stay}
 use Rattle.pids_charge.proofs.Limited.{limit_no_group, limit_allowed, attr-is, limited-is}
 use Rattle.pids_charge.proofs.charges.Charges.set_limit.Goals as goal
 
 pub invariant_of-self : goal.invariant_of-self
 invariant_of-self g c =
-    subst (λ (t : Groups). IsWhole g.M.Meter.SLOTS g.M.Meter.LEAVES t c.self.inside.processes c.self.inside.free.items
+    subst (λ (t : Groups). IsWhole g.M.Meter.SLOTS g.M.Meter.LEAVES t c.self.inside.parents c.self.inside.processes c.self.inside.free.items
     (vec_capacity c.self.inside.free) (g.M.Meter.content c.self.inside.meter) (g.M.Meter.held c.self.inside.meter))
     (sym c.in_default.ensures.1) c.self.invariant
 
@@ -39,6 +39,7 @@ invariant_of-self-2 g c =
     (subst IsClosed at.replaced c.known.ensures.closed)) in
     record {
       has_slots = slots_stay c.self.inside.tree c.replace_limit.new.self same g.M.Meter.SLOTS c.self.inside.free.items c.self.invariant.has_slots;
+      has_parents = parents_stay c.self.inside.tree c.replace_limit.new.self same g.M.Meter.SLOTS c.self.inside.parents c.self.invariant.has_parents;
       room = c.self.invariant.room;
       recounted = charges_stay c.self.inside.tree c.replace_limit.new.self same g.M.Meter.LEAVES c.self.inside.processes
           (g.M.Meter.content c.self.inside.meter) (g.M.Meter.held c.self.inside.meter) c.self.invariant.recounted;

@@ -8,7 +8,7 @@ use Rattle.pids_charge.specs.Peaks.{IsNoted, raised_by}
 use Rattle.pids_charge.specs.Recount.{Recounted, with_charges}
 use Rattle.process_table.specs.declared.process.Process.{Process}
 use Rattle.pids_charge.proofs.Asked.{process-is}
-use Rattle.pids_charge.proofs.Changes.{slots_stay}
+use Rattle.pids_charge.proofs.Changes.{parents_stay, slots_stay}
 use Rattle.pids_charge.proofs.Charged.{held_small, found_placed, same_meter}
 use Rattle.pids_charge.proofs.Forked.{home_at, fork_asks, not_there, made_recounted, made_state}
 use Rattle.pids_charge.proofs.PeaksRaised.{noted}
@@ -50,6 +50,7 @@ returns-in_default-admit-clause-first g c =
 pub invariant_of-self-in_default-admit : goal.invariant_of-self-in_default-admit
 invariant_of-self-in_default-admit g c = record {
   has_slots = c.self.invariant.has_slots;
+  has_parents = c.self.invariant.has_parents;
   room = c.self.invariant.room;
   recounted = subst (λ (rows : List (Row g.row.A.Denot)). Recounted g.M.Meter.LEAVES c.self.inside.tree rows
       (g.M.Meter.content c.look_along.new.meter) (g.M.Meter.held c.look_along.new.meter)) (sym c.in_default-admit.ensures.kept)
@@ -98,6 +99,7 @@ invariant_of-self-2 g c =
     ∙ c.find_row-2.ensures ∙ c.in-Ok.ensures.found from found) in
     record {
       has_slots = slots_stay tree c.charge_noted.new.tree c.charge_noted.ensures.slots g.M.Meter.SLOTS c.self.inside.free.items c.self.invariant.has_slots;
+      has_parents = parents_stay tree c.charge_noted.new.tree c.charge_noted.ensures.slots g.M.Meter.SLOTS c.self.inside.parents c.self.invariant.has_parents;
       room = c.self.invariant.room;
       recounted = made_recounted g.M.Meter.SLOTS g.M.Meter.LEAVES tree c.charge_noted.new.tree es c.admit.new.processes content
           (g.M.Meter.content c.charge_noted.new.meter) held (g.M.Meter.held c.charge_noted.new.meter)

@@ -4,12 +4,13 @@ use Rattle.flat_model.specs.State.{State}
 use Rattle.flat_model.specs.Inverse.{back, Counted}
 use Rattle.flat_model.specs.Step.{at_each, count_down}
 use Rattle.pids_charge.specs.Recount.{state_of}
-use Rattle.pids_charge.proofs.Changes.{slots_stay, charges_stay}
+use Rattle.pids_charge.proofs.Changes.{parents_stay, slots_stay, charges_stay}
 use Rattle.pids_charge.proofs.charges.Charges.uncount.Goals as goal
 
 pub invariant_of-self : goal.invariant_of-self
 invariant_of-self g c = record {
   has_slots = slots_stay c.self.inside.tree c.uncount_refusal.new.tree c.uncount_refusal.ensures.slots g.M.Meter.SLOTS c.self.inside.free.items c.self.invariant.has_slots;
+  has_parents = parents_stay c.self.inside.tree c.uncount_refusal.new.tree c.uncount_refusal.ensures.slots g.M.Meter.SLOTS c.self.inside.parents c.self.invariant.has_parents;
   room = c.self.invariant.room;
   recounted = charges_stay c.self.inside.tree c.uncount_refusal.new.tree c.uncount_refusal.ensures.slots g.M.Meter.LEAVES
       c.self.inside.processes (g.M.Meter.content c.self.inside.meter) (g.M.Meter.held c.self.inside.meter) c.self.invariant.recounted;

@@ -1,0 +1,72 @@
+-- A step of a walk up, from a group to its parent, by the slots of parents.
+use Rattle.std.proofs.Common.{◌≡◌, ℕ, zero, suc, ◌+◌, ◌-◌, ◌<◌, ◌≤◌, inl, inr, true, List, [], ◌∷◌, length, take, IsSome, refl, sym, ap, ◌∙◌, arith}
+use Rattle.std.proofs.lemmas.Bool.{cases_lt}
+use Rattle.std.proofs.lemmas.List.{length-take-le}
+use Rattle.std.proofs.Math.Seq.{take-length}
+use Rattle.std.specs.Prelude.{slice_index}
+use Rattle.std.specs.FinMap as fin
+use Rattle.flat_model.specs.Path.{Path, parent, at_or_below}
+use Rattle.flat_model.proofs.PathLaws.{take_above}
+use Rattle.group_tree.specs.Groups.{Groups}
+use Rattle.snzi_core.specs.Listed.{one_at}
+use Rattle.pids_charge.specs.Lists.{slot_at, table_slot}
+use Rattle.pids_charge.specs.Recount.{chain_at, HasParents, SlotsBelow}
+
+take_short : (n : ℕ) (p : Path) → take n (take (suc n) p) ≡ take n p
+take_short zero p = refl
+take_short (suc n) [] = refl
+take_short (suc n) (x ∷ p) = ap (λ (q : Path). x ∷ q) (take_short n p)
+
+parent_take : (p : Path) (n : ℕ) → suc n ≤ length p → parent (take (suc n) p) ≡ take n p
+parent_take p n l =
+    let len = length-take-le (suc n) p l in
+    let k : length (take (suc n) p) - 1 ≡ n = omega (arith, len) in
+    ap (λ (m : ℕ). take m (take (suc n) p)) k ∙ take_short n p
+
+own_slot : (tree : Groups) (q : Path) → 0 < length q → table_slot tree q ≡ suc (slot_at tree q)
+own_slot tree [] pos = absurd (omega (arith, pos))
+own_slot tree (n ∷ q) pos = refl
+
+-- a walk begins at the path's own group
+pub at_own : (tree : Groups) (p : Path) (at : ℕ) → at ≡ table_slot tree p → at ≡ table_slot tree (take (length p - 0) p)
+at_own tree p at e =
+    let whole : length p ≡ length p - 0 = omega arith in
+    e ∙ ap (table_slot tree) (sym (take-length p)) ∙ ap (λ (n : ℕ). table_slot tree (take n p)) whole
+
+root_alone : (tree : Groups) (q : Path) → table_slot tree q ≡ 0 → length q ≡ 0
+root_alone tree [] e = refl
+root_alone tree (n ∷ q) e = absurd (omega (arith, e))
+
+-- and ends at the root
+pub at_root : (tree : Groups) (p : Path) (at n : ℕ) → n ≤ length p → at ≡ table_slot tree (take n p) → at ≡ 0 → n ≡ 0
+at_root tree p at n few here e = omega (arith, root_alone tree (take n p) (sym here ∙ e), length-take-le n p few)
+
+-- from the group at the first n names of the path, whose processes are in slot `at` of their table, to that at the first m
+pub record IsStepUp (slots : ℕ) (tree : Groups) (parents : List ℕ) (p : Path) (at n m : ℕ) : Type 0 where
+  pub more : n ≡ suc m
+  pub below : at - 1 < slots
+  pub next : slice_index parents (at - 1) ≡ table_slot tree (take m p)
+  pub one_less : (leaf s j : ℕ) → chain_at tree p n leaf s j ≡ chain_at tree p m leaf s j + one_at (at - 1) leaf s j
+
+module _ (slots : ℕ) (tree : Groups) (parents : List ℕ) (has : HasParents slots tree parents) (below : SlotsBelow slots tree) (p : Path) (home : IsSome (fin.get tree p))
+    (prefixes : (p q : Path) → IsSome (fin.get tree p) → at_or_below p q ≡ true → IsSome (fin.get tree q)) where
+  step_by : (at n m : ℕ) → n ≤ length p → at ≡ table_slot tree (take n p) → n ≡ suc m → IsStepUp slots tree parents p at n m
+  step_by at n m few here e =
+      let own : Path = take (suc m) p in
+      let there = prefixes p own home (take_above (suc m) p) in
+      let long : 0 < length own = omega (arith, length-take-le (suc m) p (omega (arith, e, few))) in
+      let slot : at - 1 ≡ slot_at tree own = omega (arith, here, ap (λ (k : ℕ). table_slot tree (take k p)) e, own_slot tree own long) in
+      record {
+        more = e;
+        below = omega (arith, slot, below own long there);
+        next = ap (slice_index parents) slot ∙ has.each own long there ∙ ap (table_slot tree) (parent_take p m (omega (arith, e, few)));
+        one_less = λ leaf s j. ap (λ (k : ℕ). chain_at tree p k leaf s j) e ∙ ap (λ (k : ℕ). chain_at tree p m leaf s j + one_at k leaf s j) (sym slot);
+      }
+
+  -- below the root a step leads to the parent
+  pub step_up : (at n m : ℕ) → n ≤ length p → at ≡ table_slot tree (take n p) → 0 < at → m ≡ n - 1 → IsStepUp slots tree parents p at n m
+  step_up at n m few here pos e =
+      elim (cases_lt 0 n) [
+        | inl lt ↦ step_by at n m few here (omega (arith, lt, e))
+        | inr le ↦ let top : n ≡ 0 = omega (arith, le) in absurd (omega (arith, pos, here, ap (λ (k : ℕ). table_slot tree (take k p)) top))
+      ]
