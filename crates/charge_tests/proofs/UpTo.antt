@@ -9,6 +9,7 @@ use Rattle.flat_model.specs.EventTotals.{HasEventsUpTo}
 use Rattle.flat_model.specs.Inverse.{back, Counted, Removed}
 use Rattle.flat_model.specs.Step.{after, count_down, counts_for, set_peak, set_peaks}
 use Rattle.flat_model.proofs.PathLaws.{at_or_below_take, at_or_below_length}
+pub use Rattle.flat_model.proofs.UpTo.{up_more}
 use Rattle.flat_model.proofs.UpTo.{up_put, up_each, up_after, up_one_more, up_refused}
 use Rattle.pids_charge.specs.Events.{HasEvents}
 use Rattle.pids_charge.specs.Answers.{Does, refusal_of_fault, after_fault}
