@@ -4,7 +4,7 @@ ghost use Rattle.std.specs.Prelude.{◌≤◌};
 
 use group_path::GroupPath;
 use pids_charge::{Pid, PlainMeter};
-use sessions::{DeskEngine, Session};
+use sessions::{DeskEngine, RunFault, Session};
 use std::alloc::Global;
 use std::sync::{Arc, Mutex, Wait};
 use std::thread::Threads;
@@ -33,7 +33,7 @@ impl Target {
         match self {
             Target::Desk(session) => match session.run(rt, command) {
                 Ok(receipt) => matches!(receipt.reply, Reply::Done),
-                Err(_) => false,
+                Err(RunFault::OutOfMemory | RunFault::TurnPassed(_) | RunFault::Halted) => false,
             },
             Target::Board(engine) => matches!(engine.lock(rt).apply(rt, 0, command), Reply::Done),
             Target::Plain(engine) => matches!(engine.lock(rt).apply_alone(0, command), Reply::Done),

@@ -23,8 +23,9 @@ fn main(rt: HostRuntime) -> anyhow::Result<()> {
     let desk = Desk::new(rt.alloc(), 2)?;
     let (one, two) = (desk.session(0)?, desk.session(1)?);
     let (one, two) = join(&rt, || forks(&rt, one, 100), || forks(&rt, two, 105));
-    let Ok(mut closed) = desk.close(&rt, vec![in rt.alloc(); one, two]?) else {
-        bail!("the desk was not closed");
+    let mut closed = match desk.close(&rt, vec![in rt.alloc(); one, two]?) {
+        Ok(closed) => closed,
+        Err((_, _, fault)) => bail!("the desk was not closed: {fault}"),
     };
     let refused = closed
         .log
@@ -32,7 +33,7 @@ fn main(rt: HostRuntime) -> anyhow::Result<()> {
         .filter(|entry| is_refused(&entry.reply))
         .count();
     println!(rt; "{} commands, {refused} refused", closed.log.len())?;
-    println!(rt; "{} can be taken back", closed.engine.depth())?;
-    println!(rt; "taken back: {:?}", closed.engine.undo_all(&rt, 0))?;
+    println!(rt; "{} can be undone", closed.engine.depth())?;
+    println!(rt; "undone: {:?}", closed.engine.undo_all(&rt, 0))?;
     Ok(())
 }

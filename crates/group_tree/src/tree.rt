@@ -261,7 +261,7 @@ impl<A: Allocator> GroupTree<A> {
 }
 
 impl<A: Allocator + Clone> GroupTree<A> {
-    /// A tree with the root alone.
+    /// A tree with the root alone. It allocates the root's block.
     ///
     /// # Errors
     ///

@@ -27,9 +27,10 @@
 //! bounds (`Depths`). Balance, caps and presence are those of `snzi_core`.
 //!
 //! The first promise is kept as follows. The board's words are private to the module `board`. Only functions of its child
-//! `words` step on them, and each requires that its step is one event (`IsStep`, `IsSplit`, `IsJoin`). From this the rule of
-//! a running board keeps that a run leads to it (`HasRun`). The law `indicator_laws::events` says which event each kind of
-//! step is, and that a step of two adds is not an event.
+//! `words` step on them, and each that changes a word or a count requires that its step is one event (`IsStep`, `IsSplit`,
+//! `IsJoin`). The loads that prepare a split and the end of the board change nothing, and are no events. From this the rule
+//! of a running board keeps that a run leads to it (`HasRun`). The law `indicator_laws::events` says which event each kind
+//! of step is, and that a step of two adds is not an event.
 #![tactic(auto)]
 
 mod board;
