@@ -1,6 +1,7 @@
 #include "lines.h"
 #include <inttypes.h>
 #include <stdio.h>
+#include <stdlib.h>
 #include <string.h>
 
 #define NO_WORD "?"
@@ -65,14 +66,25 @@ static size_t path_of_line(const uint8_t *line, size_t len, const uint8_t **path
     return at > from && line[from] == '/' ? at - from : 0;
 }
 
+/* the faults at a call that names the path of the line */
+static uint32_t faults_before_line(mk0_handle *engine, const uint8_t *line, size_t len, mk0_info *told) {
+    const uint8_t *path;
+    if (slot_of(engine)->faults == NULL) return MK_DONE;
+    size_t path_len = path_of_line(line, len, &path);
+    return faults_before(engine, path, path_len, told);
+}
+
+static void faults_again_at_line(mk0_handle *engine, const uint8_t *line, size_t len) {
+    const uint8_t *path;
+    size_t path_len = path_of_line(line, len, &path);
+    faults_again(engine, path, path_len);
+}
+
 uint32_t answer_line(mk0_handle *engine, uint64_t number, const uint8_t *line, size_t len, uint8_t *out, size_t size,
                      mk0_info *told) {
-    const uint8_t *path;
-    if (slot_of(engine)->faults == NULL) return mk0_line(engine, number, line, len, out, size, told);
-    size_t path_len = path_of_line(line, len, &path);
-    uint32_t status = faults_before(engine, path, path_len, told);
+    uint32_t status = faults_before_line(engine, line, len, told);
     if (status == MK_DONE) status = mk0_line(engine, number, line, len, out, size, told);
-    if (status == MK_TOO_SMALL) faults_again(engine, path, path_len);
+    if (status == MK_TOO_SMALL) faults_again_at_line(engine, line, len);
     return status;
 }
 
@@ -80,10 +92,26 @@ uint32_t ask(mk0_handle *engine, const struct line *line, char *out, size_t size
     return answer_line(engine, 0, (const uint8_t *)line->text, line->len, (uint8_t *)out, size, told);
 }
 
+uint32_t ask_long(mk0_handle *engine, const struct line *line, char *buffer, size_t size, struct answer *answer, mk0_info *told) {
+    const uint8_t *text = (const uint8_t *)line->text;
+    answer->bytes = answer->first;
+    answer->memory = NULL;
+    uint32_t status = faults_before_line(engine, text, line->len, told);
+    if (status != MK_DONE) return status;
+    status = mk0_line(engine, 0, text, line->len, (uint8_t *)answer->first, sizeof answer->first, told);
+    if (status != MK_TOO_SMALL) return status;
+    size_t needed = told->needed;
+    *told = (mk0_info){0};
+    if (needed > size) {
+        buffer = answer->memory = malloc(needed);
+        if (buffer == NULL) return MK_OUT_OF_MEMORY;
+    }
+    answer->bytes = buffer;
+    return mk0_line(engine, 0, text, line->len, (uint8_t *)buffer, needed, told);
+}
+
 void ask_again(mk0_handle *engine, const struct line *line) {
-    const uint8_t *path;
-    size_t len = path_of_line((const uint8_t *)line->text, line->len, &path);
-    faults_again(engine, path, len);
+    faults_again_at_line(engine, (const uint8_t *)line->text, line->len);
 }
 
 size_t take_text(const char *answer, size_t len, char *text) {

@@ -35,6 +35,17 @@ uint32_t answer_line(mk0_handle *engine, uint64_t number, const uint8_t *line, s
                      mk0_info *told);
 uint32_t ask(mk0_handle *engine, const struct line *line, char *out, size_t size, mk0_info *told);
 
+/* An answer of any length. */
+struct answer {
+    char first[ANSWER_BYTES];
+    char *bytes;  /* the answer: in first, in the caller's buffer, or allocated */
+    char *memory; /* NULL, or what is to be freed */
+};
+
+/* The answer to a line that changes nothing. One that is longer than first is made in the caller's buffer if it fits there, else
+   in allocated memory. */
+uint32_t ask_long(mk0_handle *engine, const struct line *line, char *buffer, size_t size, struct answer *answer, mk0_info *told);
+
 /* The answer did not fit into the caller's buffer, so the caller will ask again: faults don't count this call. */
 void ask_again(mk0_handle *engine, const struct line *line);
 

@@ -1,4 +1,4 @@
-/* Makhloeum for C: a hierarchy of process groups in memory that answers as the kernel's cgroup files do.
+/* Makhloeum for C: a cgroup hierarchy in memory that answers as the kernel's cgroup files do.
  *
  *     mk_handle h = {0};
  *     mk_info info;
@@ -18,7 +18,8 @@
  * - A child of fork has a copy of each engine as it was between two calls. The fork waits for calls that are running. A
  *   handler that interrupted a call must not fork.
  * - Memory comes from malloc. If there is none, the call returns MK_OUT_OF_MEMORY, and nothing has changed but perhaps
- *   bytes of the caller's buffer. The memory of a lock, some 100 bytes, is kept for the next mk_open or mk_copy.
+ *   bytes of the caller's buffer. There are two exceptions: mk_undo_to may have undone some commands, and of a group that
+ *   mk_vanish removes some may be missing. The memory of a lock, some 100 bytes, is kept for the next mk_open or mk_copy.
  * - No pointer is null, even if its length is 0. The line, the path, the buffer, the handle and the info of one call do not
  *   overlap.
  * - Link with libmakhloeum.a or libmakhloeum.so (bindings/build makes both), and with -pthread.
@@ -54,13 +55,13 @@ typedef struct {
     int32_t error; /* the errno for status and code: see mk_status_errno; for mk_put and MK_FAILED it is said there */
 } mk_info;
 
-/* The status of a call. */
+/* The status of a call. Where it says that nothing has changed, a fault of mk_vanish can have removed groups just before. */
 enum {
     MK_DONE = 0,          /* answered */
     MK_REFUSED = 1,       /* answered `refused`. Only MK_PIDS_MAX changes anything: event totals; it is recorded */
     MK_FAULT = 2,         /* the text is not a command, or not a path; nothing has changed */
     MK_TOO_SMALL = 3,     /* the buffer is too small; nothing has changed */
-    MK_OUT_OF_MEMORY = 4, /* out of memory; nothing has changed */
+    MK_OUT_OF_MEMORY = 4, /* out of memory; nothing has changed, but mk_undo_to may have undone some commands */
     MK_SKIPPED = 5,       /* a comment, or a line without words: it has no answer; nothing has changed */
     MK_CLOSED = 6,        /* the handle has no engine (mk_open, and `to` of mk_copy: it has one); nothing has changed */
     MK_BUSY = 7,          /* called by a signal handler that interrupted a call of this thread; nothing has changed */
@@ -191,7 +192,8 @@ uint32_t mk_write(mk_handle *h, const char *path, const char *file, const char *
 /* Kills the processes of the group and of the groups below it. */
 uint32_t mk_kill(mk_handle *h, const char *path, mk_info *info);
 
-/* The text of a file, and of /proc/PID/cgroup: info->len bytes and a zero byte. MK_TOO_SMALL if size is too small. */
+/* The text of a file, and of /proc/PID/cgroup: info->len bytes and a zero byte. MK_TOO_SMALL if these do not fit; exactly
+   info->needed bytes are enough then. */
 uint32_t mk_read(mk_handle *h, const char *path, const char *file, char *text, size_t size, mk_info *info);
 uint32_t mk_where(mk_handle *h, int64_t pid, char *text, size_t size, mk_info *info);
 
@@ -225,7 +227,8 @@ typedef struct {
 
 /* Reads count files, all of the same state: no other call comes in between. names has a path and a file for each, each
    ended by a zero byte. MK_DONE if each text has its own status: a file of a missing group is MK_REFUSED and has no bytes.
-   MK_TOO_SMALL with info->needed, MK_OUT_OF_MEMORY, MK_CLOSED, MK_BUSY. */
+   MK_TOO_SMALL if the texts with their zero bytes do not fit; info->needed bytes are enough then, and exactly so if no fault
+   of mk_fail or mk_vanish is due. MK_OUT_OF_MEMORY, MK_CLOSED, MK_BUSY. */
 uint32_t mk_read_many(mk_handle *h, const char *names, size_t count, mk_text *texts, char *out, size_t size, mk_info *info);
 
 /* ---- waiting for a change */

@@ -1,38 +1,27 @@
 /* The texts of many files in one call, all of the same state. */
 #include "lines.h"
+#include <stdlib.h>
 #include <string.h>
 
-static uint32_t next(mk0_handle *engine, const char *path, const char *file, char *out, size_t size, mk0_info *told) {
-    struct line line;
-    begin_line(&line, "cat", path);
-    add_word(&line, file);
-    *told = (mk0_info){0};
-    return ask(engine, &line, out, size, told);
-}
-
-/* Puts one text after `used` bytes of the buffer. Returns how many bytes it takes there, or more than are left. */
+/* Puts one text after `used` bytes of the buffer, if there is room. Returns how many bytes it takes. */
 static size_t read_one(mk0_handle *engine, const char *path, const char *file, char *out, size_t used, size_t size,
                        mk_text *text) {
-    char answer[ANSWER_BYTES];
-    mk0_info told;
-    size_t left = used < size ? size - used : 0, len = 0;
-    char *from = answer;
-    uint32_t status = next(engine, path, file, answer, sizeof answer, &told);
-    if (status == MK_TOO_SMALL) { /* a long answer is made where its text goes */
-        from = out + used;
-        status = left > 0 ? next(engine, path, file, from, left, &told) : status;
-        if (status == MK_TOO_SMALL) {
-            *text = (mk_text){.status = status};
-            return told.needed;
-        }
-    }
-    if (status == MK_DONE) len = take_text(from, told.len, from);
+    struct line line;
+    struct answer answer;
+    mk0_info told = {0};
     mk_info info;
+    size_t at = used < size ? used : size, left = size - at, len = 0;
+    begin_line(&line, "cat", path);
+    add_word(&line, file);
+    uint32_t status = ask_long(engine, &line, out + at, left, &answer, &told);
+    if (status == MK_DONE) len = take_text(answer.bytes, told.len, answer.bytes);
     tell(&info, status, &told);
-    *text = (mk_text){.at = used, .len = len, .status = status, .code = info.code, .error = info.error};
-    if (len + 1 > left) return len + 1;
-    if (from == answer) memcpy(out + used, answer, len);
-    out[used + len] = 0;
+    *text = (mk_text){.at = at, .len = len, .status = status, .code = info.code, .error = info.error};
+    if (len < left) {
+        memmove(out + at, answer.bytes, len);
+        out[at + len] = 0;
+    }
+    free(answer.memory);
     return len + 1;
 }
 

@@ -73,22 +73,15 @@ PUBLIC uint32_t mk_kill(mk_handle *h, const char *path, mk_info *info) {
 
 /* ---- texts */
 
-/* A short answer goes through a buffer here, so the caller's buffer needs room only for the text. */
+/* The buffer needs room only for the text: not for the answer, which has marks too. */
 static uint32_t read_text(mk_handle *h, const struct line *line, char *text, size_t size, mk_info *info) {
     mk0_handle *engine;
     mk0_info told = {0};
-    char out[ANSWER_BYTES];
+    struct answer answer;
     uint32_t status = enter(h, &engine);
     if (status != MK_DONE) return tell(info, status, &told);
-    const char *answer = out;
-    status = ask(engine, line, out, sizeof out, &told);
-    if (status == MK_TOO_SMALL && size > sizeof out) {
-        answer = text;
-        status = ask(engine, line, text, size, &told);
-    }
-    size_t len = 0;
-    if (status == MK_DONE && answer == out) len = take_text(out, told.len, out);
-    if (status == MK_DONE && answer == text) len = take_text(text, told.len, text);
+    status = ask_long(engine, line, text, size, &answer, &told);
+    size_t len = status == MK_DONE ? take_text(answer.bytes, told.len, answer.bytes) : 0;
     told.len = len;
     if (status == MK_DONE && len + 1 > size) {
         ask_again(engine, line);
@@ -96,8 +89,11 @@ static uint32_t read_text(mk_handle *h, const struct line *line, char *text, siz
         status = MK_TOO_SMALL;
     }
     leave(engine);
-    if (status == MK_DONE && answer == out) memcpy(text, out, len);
-    if (status == MK_DONE) text[len] = 0;
+    if (status == MK_DONE) {
+        memmove(text, answer.bytes, len);
+        text[len] = 0;
+    }
+    free(answer.memory);
     return tell(info, status, &told);
 }
 
@@ -152,17 +148,6 @@ PUBLIC uint32_t mk_limit(mk_handle *h, const char *path, uint64_t *value, mk_inf
     return read_number(h, path, mk0_limit, value, info);
 }
 
-/* the answer to a cat, in allocated memory if it is long */
-static uint32_t read_answer(mk0_handle *engine, const struct line *line, char *first, size_t size, char **answer, mk0_info *told) {
-    *answer = first;
-    uint32_t status = ask(engine, line, first, size, told);
-    if (status != MK_TOO_SMALL) return status;
-    size_t needed = told->needed;
-    *told = (mk0_info){0};
-    *answer = malloc(needed);
-    return *answer == NULL ? (uint32_t)MK_OUT_OF_MEMORY : ask(engine, line, *answer, needed, told);
-}
-
 /* the pids after the first line of an answer, as many as there is room for; returns how many there are */
 static size_t read_pids(const char *answer, size_t len, uint32_t *pids, size_t room) {
     const char *end = answer + len, *feed = answer;
@@ -177,15 +162,14 @@ static size_t read_pids(const char *answer, size_t len, uint32_t *pids, size_t r
 PUBLIC uint32_t mk_processes(mk_handle *h, const char *path, uint32_t *pids, size_t room, mk_info *info) {
     mk0_handle *engine;
     mk0_info told = {0};
-    char first[ANSWER_BYTES], *answer;
+    struct answer answer;
     struct line line;
     begin_line(&line, "cat", path);
     add(&line, "cgroup.procs");
     uint32_t status = enter(h, &engine);
     if (status != MK_DONE) return tell(info, status, &told);
-    status = read_answer(engine, &line, first, sizeof first, &answer, &told);
-    size_t count = status == MK_DONE ? read_pids(answer, told.len, pids, room) : 0;
-    if (answer != first) free(answer);
+    status = ask_long(engine, &line, NULL, 0, &answer, &told);
+    size_t count = status == MK_DONE ? read_pids(answer.bytes, told.len, pids, room) : 0;
     told.len = 0;
     if (count > room) {
         ask_again(engine, &line);
@@ -195,6 +179,7 @@ PUBLIC uint32_t mk_processes(mk_handle *h, const char *path, uint32_t *pids, siz
         told.count = count;
     }
     leave(engine);
+    free(answer.memory);
     return tell(info, status, &told);
 }
 

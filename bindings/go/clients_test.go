@@ -192,7 +192,11 @@ func TestFaultsCountOperationsOnFiles(t *testing.T) {
 			if err := h.Fail("/a", nth, syscall.EIO); err != nil {
 				t.Fatal(err)
 			}
-			if err := operation(); errors.Is(err, syscall.EIO) != fails {
+			err := operation()
+			if errors.Is(err, syscall.EIO) != fails {
+				t.Errorf("%s: %v", name, err)
+			}
+			if fails && !strings.HasSuffix(err.Error(), "input/output error (asked for by Fail)") {
 				t.Errorf("%s: %v", name, err)
 			}
 			if left, err := h.ClearFaults(); err != nil || (left == 0) != fails {

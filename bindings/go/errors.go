@@ -108,17 +108,22 @@ func failed(what command, status uint32, info C.mk_info, answer []byte) error {
 	return failure(what, status, Code(info.code), answer)
 }
 
+// failure is the error of a status. Each status has its own.
 func failure(what command, status uint32, code Code, answer []byte) error {
 	switch status {
 	case C.MK_REFUSED, C.MK_FAULT:
 		return refusal(what, code, answer)
+	case C.MK_OUT_OF_MEMORY:
+		return fmt.Errorf("%s: %w", what.text, syscall.ENOMEM)
 	case C.MK_CLOSED:
 		return fmt.Errorf("%s: %w", what.text, ErrClosed)
 	case C.MK_BUSY:
 		return fmt.Errorf("%s: %w", what.text, ErrBusy)
-	default:
-		return fmt.Errorf("%s: %w", what.text, syscall.ENOMEM)
 	}
+	if message := C.mk_status_message(C.uint32_t(status)); message != nil {
+		return fmt.Errorf("%s: unexpected status %d of the library: %s", what.text, status, C.GoString(message))
+	}
+	return fmt.Errorf("%s: unexpected status %d of the library", what.text, status)
 }
 
 func refusal(what command, code Code, answer []byte) error {

@@ -104,3 +104,31 @@ func TestNoWordLeaksIntoAnother(t *testing.T) {
 		t.Error(depth, err)
 	}
 }
+
+// A test of Go can't let a call run out of memory, nor interrupt it by a signal handler of C: so the statuses are given.
+func TestEachStatusHasItsOwnError(t *testing.T) {
+	known := []error{syscall.ENOMEM, ErrClosed, ErrBusy}
+	for _, row := range []struct {
+		status uint32
+		text   string
+		is     error
+	}{
+		{3, "open: unexpected status 3 of the library: the buffer is too small", nil},
+		{4, "open: cannot allocate memory", syscall.ENOMEM},
+		{5, "open: unexpected status 5 of the library: a line without a command", nil},
+		{6, "open: the hierarchy is closed", ErrClosed},
+		{7, "open: a call of this thread is running", ErrBusy},
+		{8, "open: unexpected status 8 of the library: nothing has changed in that time", nil},
+		{77, "open: unexpected status 77 of the library", nil},
+	} {
+		h, err := made("open", func(*Hierarchy) uint32 { return row.status })
+		if h != nil || err == nil || err.Error() != row.text {
+			t.Errorf("%v, %v; not %s", h, err, row.text)
+		}
+		for _, it := range known {
+			if errors.Is(err, it) != (it == row.is) {
+				t.Errorf("%v: %v", err, it)
+			}
+		}
+	}
+}

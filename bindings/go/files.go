@@ -57,7 +57,7 @@ func fileNamed(name, group string) (file, bool) {
 	return file{}, false
 }
 
-// put writes a file as a write to a mount's does. The error is an errno of the mount, and for a refusal a *Refused beside it.
+// put writes a file as a write to a mount's does. The error of a refusal is the errno of the mount.
 func (h *Hierarchy) put(group, name string, data []byte, self int) error {
 	if strings.Contains(name, "\x00") {
 		return syscall.ENOENT
@@ -71,10 +71,10 @@ func (h *Hierarchy) put(group, name string, data []byte, self int) error {
 	switch status {
 	case C.MK_DONE:
 		return nil
-	case C.MK_REFUSED, C.MK_FAULT, C.MK_FAILED:
+	case C.MK_REFUSED, C.MK_FAULT:
 		return syscall.Errno(info.error)
 	default:
-		return failed(command{text: "write"}, uint32(status), info, nil)
+		return failed(command{text: "write " + group + " " + name, path: group, hasPath: true}, uint32(status), info, nil)
 	}
 }
 

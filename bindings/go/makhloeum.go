@@ -1,4 +1,4 @@
-// Package makhloeum keeps a hierarchy of process groups in memory that behaves like the kernel's cgroup files, for tests of
+// Package makhloeum keeps a cgroup hierarchy in memory that behaves like the kernel's cgroup files, for tests of
 // programs that read and write such files.
 //
 //	func show() error {
@@ -18,7 +18,9 @@
 //	}
 //
 // A refusal is a *Refused: errors.Is finds the errno that the kernel gives for it (docs/FORMATS.md, "Codes for C"), and
-// fs.ErrExist and fs.ErrNotExist. Every other error is ErrClosed, ErrBusy or syscall.ENOMEM with the command before it.
+// fs.ErrExist and fs.ErrNotExist. In other errors errors.Is finds ErrClosed, ErrBusy, syscall.ENOMEM or the errno that Fail
+// was given; their text begins with the command. Wait also returns the error of its context, and FS every error in a
+// *fs.PathError.
 //
 // The package links the archive libmakhloeum.a beside it, which bindings/build puts there. With the build tag
 // makhloeum_pkgconfig it links the library that pkg-config names.
@@ -28,12 +30,10 @@ package makhloeum
 import "C"
 
 import (
-	"fmt"
 	"runtime"
 	"strconv"
 	"strings"
 	"sync"
-	"syscall"
 	"unsafe"
 )
 
@@ -44,12 +44,17 @@ type Hierarchy struct {
 	handle C.mk_handle
 }
 
-// New makes a hierarchy. Close frees it, and so does the garbage collector, in another goroutine, once nothing refers
-// to it. The error is syscall.ENOMEM.
+// New makes a hierarchy. Close frees it. If it is not closed, its finalizer frees it once nothing refers to it. The error is
+// syscall.ENOMEM when out of memory.
 func New() (*Hierarchy, error) {
+	return made("open", func(h *Hierarchy) uint32 { return uint32(C.mk_open(&h.handle)) })
+}
+
+// made returns a new hierarchy, whose engine comes from a call that returns a status.
+func made(operation string, fill func(h *Hierarchy) uint32) (*Hierarchy, error) {
 	h := new(Hierarchy)
-	if C.mk_open(&h.handle) != C.MK_DONE {
-		return nil, fmt.Errorf("makhloeum: %w", syscall.ENOMEM)
+	if status := fill(h); status != C.MK_DONE {
+		return nil, failure(command{text: operation}, status, 0, nil)
 	}
 	runtime.SetFinalizer(h, (*Hierarchy).Close)
 	return h, nil
@@ -248,12 +253,6 @@ func (h *Hierarchy) Forget() error {
 // independent. The copy has no faults of Fail and Vanish, and its Changes begins at 0. It is freed like one that New
 // makes.
 func (h *Hierarchy) Copy() (*Hierarchy, error) {
-	made := new(Hierarchy)
-	status := C.mk_copy(&h.handle, &made.handle)
-	runtime.KeepAlive(h)
-	if status != C.MK_DONE {
-		return nil, failure(command{text: "copy"}, uint32(status), 0, nil)
-	}
-	runtime.SetFinalizer(made, (*Hierarchy).Close)
-	return made, nil
+	defer runtime.KeepAlive(h)
+	return made("copy", func(to *Hierarchy) uint32 { return uint32(C.mk_copy(&h.handle, &to.handle)) })
 }

@@ -93,7 +93,8 @@ func (h *Hierarchy) Processes(path string) ([]int, error) {
 }
 
 // UndoTo undoes recorded commands until only mark are left. An earlier Depth gives the mark. No other call
-// comes in between.
+// comes in between. If it runs out of memory, the commands that were undone so far stay undone, and Depth says how many are
+// left.
 func (h *Hierarchy) UndoTo(mark int) error {
 	if mark < 0 {
 		mark = 0
@@ -107,5 +108,5 @@ func (h *Hierarchy) UndoTo(mark int) error {
 	return failed(command{text: fmt.Sprint("undo to ", mark)}, uint32(status), info, nil)
 }
 
-// Reset undoes all recorded commands.
+// Reset undoes all recorded commands. If it runs out of memory, some stay undone, as with UndoTo.
 func (h *Hierarchy) Reset() error { return h.UndoTo(0) }

@@ -63,8 +63,24 @@ static int many_long(void) {
     CHECK(done(mk_read_many(&h, names, COUNT, it, text, sizeof text, &info)));
     CHECK(is_text(&it[0], want) && is_text(&it[1], "3000\n") && is_text(&it[2], want));
     needed = info.len;
-    CHECK(mk_read_many(&h, names, COUNT, it, text, needed - 1, &info) == MK_TOO_SMALL && info.needed >= needed);
-    CHECK(done(mk_read_many(&h, names, COUNT, it, text, info.needed, &info)) && is_text(&it[2], want));
+    CHECK(needed == 2 * (len + 1) + strlen("3000\n") + 1);
+    size_t sizes[] = {0, 1, 5000, len, len + 1, len + 7, needed - 5000, needed - 1};
+    for (size_t i = 0; i < sizeof sizes / sizeof *sizes; i++) {
+        memset(text, '#', sizeof text);
+        CHECK(mk_read_many(&h, names, COUNT, it, text, sizes[i], &info) == MK_TOO_SMALL && info.needed == needed && info.len == 0);
+        CHECK(text[sizes[i]] == '#');
+    }
+    memset(text, '#', sizeof text);
+    CHECK(done(mk_read_many(&h, names, COUNT, it, text, needed, &info)) && info.len == needed && info.count == COUNT);
+    CHECK(is_text(&it[0], want) && is_text(&it[1], "3000\n") && is_text(&it[2], want) && text[needed] == '#');
+    /* a call that is made again with a larger buffer */
+    static uint32_t pids[PIDS];
+    CHECK(done(mk_fail(&h, "/b", 2, EIO, &info)) && mk_read(&h, "/b", "cgroup.procs", text, len, &info) == MK_TOO_SMALL);
+    CHECK(done(mk_read(&h, "/b", "cgroup.procs", text, info.needed, &info)) && info.len == len && strcmp(text, want) == 0);
+    CHECK(mk_read(&h, "/b", "cgroup.procs", text, sizeof text, &info) == MK_FAILED && info.error == EIO && info.len == 0);
+    CHECK(done(mk_fail(&h, "/b", 2, EIO, &info)) && mk_processes(&h, "/b", pids, PIDS - 1, &info) == MK_TOO_SMALL);
+    CHECK(done(mk_processes(&h, "/b", pids, info.needed, &info)) && info.count == PIDS && pids[PIDS - 1] == 9 + PIDS);
+    CHECK(mk_processes(&h, "/b", pids, PIDS, &info) == MK_FAILED && info.error == EIO && info.count == 0);
     CHECK(done(mk_kill(&h, "/b", &info)));
     return 0;
 }

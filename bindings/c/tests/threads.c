@@ -277,7 +277,9 @@ static void handler(int signal_number) {
     if (it.status == MK_BUSY) {
         if (it.info.len != 0 || it.info.error != EDEADLK) _exit(3);
         size_t depth = 5;
+        mk_handle copy = {0};
         if (mk_depth(&h, &depth) != MK_BUSY || depth != 0 || mk_close(&h) != MK_BUSY || mk_open(&h) != MK_BUSY) _exit(4);
+        if (mk_copy(&h, &copy) != MK_BUSY || mk_close(&copy) != MK_BUSY) _exit(6);
         atomic_fetch_add(&busy, 1);
         return;
     }

@@ -71,6 +71,27 @@ static int small_texts(void) {
     return 0;
 }
 
+/* A text that is longer than the library's own buffer: it needs room for itself and a zero byte, not for the answer, which has
+   marks before its lines. */
+static int long_texts(int first, int count) {
+    static char want[65536];
+    size_t len = 0;
+    for (int pid = first; pid < first + count; pid++) len += (size_t)snprintf(want + len, sizeof want - len, "%d\n", pid);
+    size_t sizes[] = {0, 1, 5000, len - 1, len};
+    CHECK(reads("/b", "cgroup.procs", want));
+    for (size_t i = 0; i < sizeof sizes / sizeof *sizes; i++) {
+        memset(text, '#', sizeof text);
+        CHECK(mk_read(&h, "/b", "cgroup.procs", text, sizes[i], &info) == MK_TOO_SMALL && info.needed == len + 1);
+        CHECK(info.len == 0 && info.error == ERANGE && text[sizes[i]] == '#');
+    }
+    for (size_t size = len + 1; size < sizeof text; size += 3001) {
+        memset(text, '#', sizeof text);
+        CHECK(done(mk_read(&h, "/b", "cgroup.procs", text, size, &info)) && info.len == len && strcmp(text, want) == 0);
+        CHECK(text[size] == '#');
+    }
+    return 0;
+}
+
 static int numbers(void) {
     enum { MANY = 3000 };
     static uint32_t pids[MANY];
@@ -84,12 +105,7 @@ static int numbers(void) {
     CHECK(mk_processes(&h, "/b", pids, MANY - 1, &info) == MK_TOO_SMALL && info.needed == MANY && info.count == 0);
     CHECK(done(mk_processes(&h, "/", pids, 1, &info)) && info.count == 1 && pids[0] == 1);
     CHECK(done(mk_processes(&h, "/a", pids, 0, &info)) && info.count == 0);
-    char *want = malloc(65536);
-    size_t len = 0;
-    for (int pid = 10; want != NULL && pid < 10 + MANY; pid++) len += (size_t)snprintf(want + len, 65536 - len, "%d\n", pid);
-    CHECK(want != NULL && reads("/b", "cgroup.procs", want));
-    CHECK(mk_read(&h, "/b", "cgroup.procs", text, 5000, &info) == MK_TOO_SMALL && info.needed > len && info.len == 0);
-    free(want);
+    CHECK(long_texts(10, MANY) == 0);
     CHECK(done(mk_kill(&h, "/b", &info)) && done(mk_current(&h, "/b", &value, &info)) && value == 0);
     CHECK(done(mk_peak(&h, "/b", &value, &info)) && value == MANY);
     CHECK(done(mk_limit(&h, "/b", &value, &info)) && value == MK_NO_LIMIT);

@@ -1,4 +1,4 @@
-"""Makhloeum from Python: a hierarchy of process groups in memory, for tests of what reads and writes cgroup files.
+"""Makhloeum from Python: a cgroup hierarchy in memory, for tests of what reads and writes cgroup files.
 
     from makhloeum import Busy, Hierarchy
 

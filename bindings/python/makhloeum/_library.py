@@ -106,6 +106,7 @@ def _load() -> Any:
         "mk_path_errno": (ctypes.c_int, [number]),
         "mk_name": (text, [number]),
         "mk_message": (text, [number]),
+        "mk_status_message": (text, [number]),
         "mk_path_fault": (number, [text, size, ctypes.POINTER(size)]),
         "mk_path_message": (text, [number]),
         "mk_version": (text, []),

@@ -8,7 +8,7 @@ import os
 import re
 from typing import NoReturn, Union
 
-from ._library import BUSY, CLOSED, FAILED, OUT_OF_MEMORY, library
+from ._library import BUSY, CLOSED, FAILED, FAULT, OUT_OF_MEMORY, REFUSED, library
 from .errors import BY_CODE, BY_FAULT, BadPath, asked_for
 
 Path = Union[str, bytes, "os.PathLike[str]"]
@@ -55,18 +55,30 @@ def _shown(answer: bytes) -> str:
     return "".join(line[2:] + "\n" for line in answer.decode().split("\n")[1:-1])
 
 
-def _path_refusal(path: bytes, command: str) -> BadPath:
+def _path_word(line: bytes) -> bytes:
+    """The word of a line that is its path, if it has one: the second."""
+    words = re.findall(rb"[^ \t\r]+", line)
+    return words[1] if len(words) > 1 else b""
+
+
+def _path_refusal(refused: bytes, path: str, command: str) -> BadPath:
+    """The refusal of a text that is not a path; `path` is the one that the exception names."""
     position = ctypes.c_size_t()
-    fault = library.mk_path_fault(path, len(path), ctypes.byref(position))
+    fault = library.mk_path_fault(refused, len(refused), ctypes.byref(position))
     if fault == 0:
-        return BadPath("path", _text(path), command)
+        return BadPath("path", path, command)
     message = library.mk_path_message(fault).decode()
-    refused = BY_FAULT[fault](f"path: {message}, at {position.value}", _text(path), command)
-    refused.position = position.value
-    return refused
+    error = BY_FAULT[fault](f"path: {message}, at {position.value}", path, command)
+    error.position = position.value
+    return error
 
 
-def _raise(status: int, code: int, words: str, path: Path | None, command: str, error: int = 0) -> NoReturn:
+def _raise(
+    status: int, code: int, words: str, path: Path | None, command: str, error: int = 0, refused: bytes | None = None
+) -> NoReturn:
+    """Raises the exception of a status; each has its own. If it is that of a text that is not a path, `refused` is the text,
+    or else the path."""
+    name = None if path is None else _text(path)
     if status == OUT_OF_MEMORY:
         raise MemoryError(f"{command}: out of memory")
     if status == CLOSED:
@@ -74,8 +86,11 @@ def _raise(status: int, code: int, words: str, path: Path | None, command: str, 
     if status == BUSY:
         raise RuntimeError(f"{command}: a call of this thread is running")
     if status == FAILED:
-        raise asked_for(error, command, None if path is None else _text(path))
+        raise asked_for(error, command, name)
+    if status not in (REFUSED, FAULT):
+        message = library.mk_status_message(status)
+        raise RuntimeError(f"{command}: unexpected status {status} of the library" + (f": {message.decode()}" if message else ""))
     kind = BY_CODE[code]
     if kind is BadPath and path is not None:
-        raise _path_refusal(_bytes(path), command)
-    raise kind(words, None if path is None else _text(path), command)
+        raise _path_refusal(_bytes(path) if refused is None else refused, _text(path), command)
+    raise kind(words, name, command)

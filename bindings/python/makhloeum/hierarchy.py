@@ -1,4 +1,4 @@
-"""A hierarchy of process groups in memory."""
+"""A cgroup hierarchy in memory."""
 
 from __future__ import annotations
 
@@ -9,9 +9,9 @@ from typing import Any, Callable, NoReturn
 
 from ._changes import Changes
 from ._faults import Faults
-from ._library import ANSWER_MAX, DONE, NO_LIMIT, SKIPPED, TOO_SMALL, Handle, Info, library
+from ._library import ANSWER_MAX, CLOSED, DONE, NO_LIMIT, SKIPPED, TOO_SMALL, Handle, Info, library
 from ._many import Many
-from ._words import _FIRST_SIZE, _NO_WORD, Path, Value, _bytes, _pid, _raise, _shown, _text, _value, _word
+from ._words import _FIRST_SIZE, _NO_WORD, Path, Value, _bytes, _path_word, _pid, _raise, _shown, _text, _value, _word
 from .errors import BY_CODE, BadSyntax, NoGroup, Refused
 
 _Call = Callable[[Any, int, Any], int]
@@ -33,9 +33,10 @@ class Hierarchy(Changes, Faults, Many):
             raise RuntimeError("a hierarchy is initialized once")
         self._handle = Handle()
         self._at = ctypes.byref(self._handle)
-        if library.mk_open(self._at) != DONE:
+        status = library.mk_open(self._at)
+        if status != DONE:
             del self._handle
-            raise MemoryError("no memory for an engine")
+            _raise(status, 0, "", None, "open")
         self._closed = False
 
     def __enter__(self) -> Hierarchy:
@@ -79,15 +80,17 @@ class Hierarchy(Changes, Faults, Many):
 
     def close(self) -> None:
         """Frees the engine. A second call does nothing."""
+        status = library.mk_close(self._at)
+        if status not in (DONE, CLOSED):
+            _raise(status, 0, "", None, "close")
         self._closed = True
-        library.mk_close(self._at)
 
     @property
     def closed(self) -> bool:
         """Whether it was closed."""
         return self._closed
 
-    def _told(self, call: _Call, command: str | bytes, path: Path | None = None) -> bytes:
+    def _told(self, call: _Call, command: str | bytes, path: Path | None = None, refused: bytes | None = None) -> bytes:
         """The bytes that the call returns. Another thread may make the answer longer between two calls, so the buffer may
         grow more than once, but not beyond the longest answer."""
         size = _FIRST_SIZE
@@ -101,22 +104,23 @@ class Hierarchy(Changes, Faults, Many):
                 break
             size = 1 << max(info.needed - 1, size).bit_length()
         words = buffer[: info.len].decode().rstrip("\n").split(" ", 2)
-        _raise(status, info.code, words[2] if len(words) > 2 else "", path, _text(command), info.error)
+        _raise(status, info.code, words[2] if len(words) > 2 else "", path, _text(command), info.error, refused)
 
-    def _line(self, line: bytes, command: str | bytes, path: Path | None = None) -> str:
+    def _line(self, line: bytes, command: str | bytes, path: Path | None = None, refused: bytes | None = None) -> str:
         answer = self._told(
-            lambda out, size, info: library.mk_line(self._at, 1, line, len(line), out, size, info), command, path
+            lambda out, size, info: library.mk_line(self._at, 1, line, len(line), out, size, info), command, path, refused
         )
         return _shown(answer) if answer else ""
 
     def line(self, line: str | bytes, path: Path | None = None) -> str:
         """Answers one line of the trace language, as 'cat /a pids.current', and returns the text that it shows: the file's
         for a `cat` and a `where`, the undone command for an `undo`, else ''. A comment and an empty line show nothing.
-        `path` is the path that an error names."""
+        `path` is the `filename` of an error. If it is given, a BadPath is as from `mkdir` and the like: its class, `fault`,
+        `position` and `reply` say what is wrong with the path in the line."""
         text = _bytes(line)
         if b"\n" in text:
             raise BadSyntax("syntax", None if path is None else _text(path), _text(text))
-        return self._line(text, text, path)
+        return self._line(text, text, path, _path_word(text))
 
     def mkdir(self, path: Path) -> None:
         """Makes a group."""
@@ -235,7 +239,8 @@ class Hierarchy(Changes, Faults, Many):
 
     def undo_to(self, mark: int) -> int:
         """Undoes the commands that were recorded since the mark, and returns how many. No other thread's command comes in
-        between. NothingToUndo if fewer commands are left than at the mark."""
+        between. NothingToUndo if fewer commands are left than at the mark. With MemoryError the commands that were undone so
+        far stay undone, and `depth()` says how many are left."""
         info = Info()
         mark = operator.index(mark)
         if mark < 0:
@@ -246,7 +251,7 @@ class Hierarchy(Changes, Faults, Many):
         return int(info.count)
 
     def reset(self) -> int:
-        """Undoes all recorded commands, and returns how many."""
+        """Undoes all recorded commands, and returns how many. With MemoryError some stay undone, as with `undo_to`."""
         return self.undo_to(0)
 
     def has_group(self, path: Path) -> bool:

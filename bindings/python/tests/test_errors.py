@@ -12,7 +12,7 @@ import pytest
 
 import makhloeum
 from makhloeum import BadByte, BadFile, BadPath, BadValue, Hierarchy, NoGroup, Refused
-from makhloeum._library import library
+from makhloeum._library import BUSY, CLOSED, OUT_OF_MEMORY, TIMED_OUT, library
 
 
 def test_type_checkers_find_every_error():
@@ -188,3 +188,77 @@ def test_a_closed_hierarchy_names_the_call():
                        (lambda: h.read_many([("/a", "pids.max")]), "read_many"), (h.changes, "changes"), (lambda: h.wait(0), "wait")):
         with pytest.raises(ValueError, match=f"^{text}: the hierarchy is closed$"):
             call()
+
+
+@pytest.mark.parametrize("given", ["/elsewhere", "else where", "/a/", b"/x\xff", pathlib.PurePosixPath("/a")])
+@pytest.mark.parametrize("line, kind, position", [
+    ("mkdir a", makhloeum.NotRooted, 0), ("write /a/. x y", makhloeum.DotName, 3), (b" cat\t/a\xff  pids.max\r", BadByte, 2),
+    ("rmdir /pids.x", makhloeum.ReservedName, 1),
+])
+def test_the_path_of_a_line_is_at_fault_and_the_given_one_is_named(h, line, kind, position, given):
+    refused = refusal(lambda: h.line(line, path=given))
+    assert type(refused) is kind and refused.fault == kind.fault and refused.position == position
+    assert refused.filename == makhloeum._words._text(given) and f"at {position}" in refused.reply
+    for line, kind in (("mkdir /a", makhloeum.Exists), ("mkdir", makhloeum.BadSyntax), ("mkdir /a\n", makhloeum.BadSyntax), ("exit 9", makhloeum.NoProcess)):
+        refused = refusal(lambda: h.line(line, path=given))
+        assert type(refused) is kind and refused.filename == makhloeum._words._text(given)
+
+
+def test_without_a_path_a_line_has_the_words_of_the_answer(h):
+    refused = refusal(lambda: h.line("mkdir a"))
+    assert (type(refused), refused.reply, refused.fault, refused.position, refused.filename) == (BadPath, "path", 0, None, None)
+
+
+CALLS = {
+    "mk_open": (lambda h: Hierarchy(), "open"),
+    "mk_copy": (lambda h: h.copy(), "copy"),
+    "mk_line": (lambda h: h.mkdir("/c"), "mkdir /c"),
+    "mk_undo": (lambda h: h.undo(), "undo"),
+    "mk_undo_to": (lambda h: h.undo_to(1), "undo to 1"),
+    "mk_depth": (lambda h: h.depth(), "depth"),
+    "mk_forget": (lambda h: h.forget(), "forget"),
+    "mk_children": (lambda h: h.children("/a"), "children /a"),
+    "mk_subtree": (lambda h: h.groups("/a"), "groups /a"),
+    "mk_has_group": (lambda h: h.has_group("/a"), "has_group /a"),
+    "mk_current": (lambda h: h.current("/a"), "current /a"),
+    "mk_peak": (lambda h: h.peak("/a"), "peak /a"),
+    "mk_limit": (lambda h: h.limit("/a"), "limit /a"),
+    "mk_populated": (lambda h: h.populated("/a"), "populated /a"),
+    "mk_processes": (lambda h: h.processes("/a"), "processes /a"),
+    "mk_read_many": (lambda h: h.read_many([("/a", "pids.max")]), "read_many"),
+    "mk_changes": (lambda h: h.changes(), "changes"),
+    "mk_fail": (lambda h: h.fail("/a", errno.EIO), "fail /a"),
+    "mk_vanish": (lambda h: h.vanish("/a"), "vanish /a"),
+    "mk_clear_faults": (lambda h: h.clear_faults(), "clear_faults"),
+    "waiting": (lambda h: h.wait(2), "wait"),
+}
+STATUSES = {
+    OUT_OF_MEMORY: (MemoryError, "out of memory"),
+    CLOSED: (ValueError, "the hierarchy is closed"),
+    BUSY: (RuntimeError, "a call of this thread is running"),
+    TIMED_OUT: (RuntimeError, "unexpected status 8 of the library: nothing has changed in that time"),
+    77: (RuntimeError, "unexpected status 77 of the library"),
+}
+
+
+@pytest.mark.parametrize("name, status", [it for it in itertools.product(CALLS, STATUSES) if it != ("waiting", TIMED_OUT)])
+def test_each_status_has_its_own_error(h, monkeypatch, name, status):
+    """Python can't interrupt a call by a handler of C, and most statuses can't come: so they are given."""
+    call, command = CALLS[name]
+    kind, text = STATUSES[status]
+    monkeypatch.setattr(makhloeum._changes if name == "waiting" else library, name, lambda *words: status)
+    with pytest.raises(kind) as error:
+        call(h)
+    assert type(error.value) is kind and str(error.value) == f"{command}: {text}"
+    monkeypatch.undo()
+    assert h.children("/") == ["a", "b"] and h.depth() == 2
+
+
+@pytest.mark.parametrize("status", [OUT_OF_MEMORY, BUSY, 77])
+def test_a_hierarchy_that_could_not_be_closed_is_open(h, monkeypatch, status):
+    kind, text = STATUSES[status]
+    monkeypatch.setattr(library, "mk_close", lambda *words: status)
+    with pytest.raises(kind, match=f"^close: {text}$"):
+        h.close()
+    monkeypatch.undo()
+    assert not h.closed and h.children("/") == ["a", "b"]

@@ -96,6 +96,35 @@ def test_no_error_is_printed_when_the_interpreter_ends(keep):
     assert (ran.returncode, ran.stdout, ran.stderr) == (0, "", "")
 
 
+# Python itself may be the first that gets no memory: its error has no text
+OUT_OF_MEMORY = """
+import os, resource
+from makhloeum import Hierarchy
+made, room = [Hierarchy()], 1 << 25
+while True:
+    with open("/proc/self/statm") as file:
+        used = int(file.read().split()[0]) * os.sysconf("SC_PAGE_SIZE")
+    resource.setrlimit(resource.RLIMIT_AS, (used + room, resource.RLIM_INFINITY))
+    try:
+        while True:
+            made.append({call})
+    except MemoryError as error:
+        text = str(error)
+    resource.setrlimit(resource.RLIMIT_AS, (resource.RLIM_INFINITY, resource.RLIM_INFINITY))
+    if text:
+        break
+print(text, len(made) > 10, made[0].groups(), made[-1].groups())
+"""
+
+
+@pytest.mark.parametrize("call, command", [("Hierarchy()", "open"), ("made[0].copy()", "copy")])
+def test_a_hierarchy_for_which_there_is_no_memory(call, command):
+    words = [sys.executable, "-W", "ignore", "-c", OUT_OF_MEMORY.replace("{call}", call)]
+    folder = os.path.dirname(os.path.dirname(makhloeum.__file__))
+    ran = subprocess.run(words, capture_output=True, text=True, env=dict(os.environ, PYTHONPATH=folder), timeout=60)
+    assert (ran.returncode, ran.stdout, ran.stderr) == (0, f"{command}: out of memory True ['/'] ['/']\n", "")
+
+
 def test_a_missing_library_is_said_in_one_sentence():
     folder = os.path.dirname(os.path.dirname(makhloeum.__file__))
     words = [sys.executable, "-c", "import makhloeum"]

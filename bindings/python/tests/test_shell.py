@@ -5,6 +5,7 @@ import io
 import os
 import pty
 import select
+import signal
 import subprocess
 import sys
 import termios
@@ -104,14 +105,21 @@ class Terminal:
     def __init__(self):
         self.ours, theirs = pty.openpty()
         command = [sys.executable, "-m", "makhloeum"]
+
+        def at_a_terminal():
+            fcntl.ioctl(theirs, termios.TIOCSCTTY, 0)
+            # a script in the background ignores SIGINT, and so do its children
+            signal.signal(signal.SIGINT, signal.SIG_DFL)
+
         self.shell = subprocess.Popen(command, stdin=theirs, stdout=theirs, stderr=theirs, env=WORDS, start_new_session=True,
-                                      preexec_fn=lambda: fcntl.ioctl(theirs, termios.TIOCSCTTY, 0))
+                                      preexec_fn=at_a_terminal)
         os.close(theirs)
         self.told = b""
 
     def wait_for(self, text):
         """What comes until the text; all that is left if it is None."""
         while text is None or text not in self.told:
+            assert select.select([self.ours], [], [], 60)[0], self.told
             try:
                 more = os.read(self.ours, 4096)
             except OSError:
@@ -128,14 +136,16 @@ class Terminal:
         os.write(self.ours, keys)
 
     def interrupt(self):
-        """Types Ctrl-C until a prompt comes: Python notices a signal just before it waits for a key only at the next one."""
-        while True:
+        """Types Ctrl-C until a prompt comes: Python notices a signal just before it waits for a key only at the next one. Then
+        waits until nothing more comes, since two signals give two prompts, and the second drops what was typed before it."""
+        for _ in range(12):
             self.type(b"\x03")
-            while select.select([self.ours], [], [], 5)[0]:
-                self.told += os.read(self.ours, 4096)
-                if b"makhloeum> " in self.told:
-                    self.told = b""
-                    return
+            told = b""
+            while select.select([self.ours], [], [], 1 if b"makhloeum> " in told else 5)[0]:
+                told += os.read(self.ours, 4096)
+            if b"makhloeum> " in told:
+                return
+        raise AssertionError("no prompt within a minute")
 
     def end(self):
         told = self.wait_for(None)
