@@ -23,7 +23,8 @@ struct birth {
 	unsigned long ticket;
 	struct thread *creator;  /* NULL: gone */
 	pid_t process, child;
-	bool is_thread, has_space, reads, reserved, told, runs; /* has_space: in a new cgroup namespace; runs: the call is being made */
+	bool is_thread, reads, reserved, told, runs; /* runs: the call is being made */
+	bool makes_space;        /* a cgroup namespace that the server does not know yet */
 	int fault;               /* if told: the errno that the call returns instead of a child */
 	unsigned reservation;
 	long long given_up_at;
@@ -69,6 +70,8 @@ static void end(struct birth *b)
 {
 	if (b->reserved)
 		link_cancel(b->reservation);
+	if (b->makes_space)
+		link_space(0, (unsigned)b->ticket);
 	if (b->creator)
 		b->creator->makes = NULL;
 	else if (!b->told)
@@ -126,14 +129,15 @@ static void make(struct thread *t, struct birth *b, long number, struct clone_re
 {
 	bool goes_on;
 	b->is_thread = args->flags & CLONE_THREAD;
-	b->has_space = args->flags & CLONE_NEWCGROUP;
-	if (!b->is_thread) {
-		int fault = link_reserve(b->process, group, &b->reservation);
-		if (fault) {
-			refuse(t, -fault);
-			return;
-		}
-		b->reserved = true;
+	int fault = b->is_thread ? 0 : link_reserve(b->process, group, &b->reservation);
+	b->reserved = !b->is_thread && fault == 0;
+	if (fault == 0 && args->flags & CLONE_NEWCGROUP) {
+		fault = link_prepare((unsigned)b->ticket, b->process);
+		b->makes_space = fault == 0;
+	}
+	if (fault) {
+		refuse(t, -fault);
+		return;
 	}
 	args->flags &= ~(unsigned long)CLONE_UNTRACED;
 	args->ticket = b->ticket;
@@ -238,8 +242,10 @@ static struct thread *settle(struct birth *b, pid_t child)
 		t->made_by = b;
 		t->frozen |= frozen;
 		t->counted = !b->is_thread && fault == 0;
-		if (b->has_space && fault == 0)
-			link_space(spaces_of(child), b->process);
+		if (b->makes_space && fault == 0) {
+			link_space(spaces_of(child), (unsigned)b->ticket);
+			b->makes_space = false;
+		}
 	} else if (!b->is_thread && fault == 0)
 		link_exited(child);
 	if (fault) {

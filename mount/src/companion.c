@@ -1,5 +1,6 @@
 #include "companion.h"
 #include "place.h"
+#include <errno.h>
 #include <fcntl.h>
 #include <signal.h>
 #include <stdio.h>
@@ -12,14 +13,16 @@
 /* A path of one byte that no file has. */
 static const char farewell[] = "-";
 
-/* A truncation is one call and changes nothing, and inotify reports it only as a modification. */
+enum { TRIES = 100 };
+
+/* A truncation is one call and changes nothing, and inotify reports it only as a modification. The group may be gone. */
 static void touch(const char *mountpoint, const char *path)
 {
 	char whole[2 * PATH_MAX_SAID];
 	int n = snprintf(whole, sizeof whole, "%s%s", mountpoint, path);
-	if (n > 0 && (size_t)n < sizeof whole && truncate(whole, 0)) {
-		/* the group may be gone */
-	}
+	bool fits = n > 0 && (size_t)n < sizeof whole;
+	for (int i = 0; fits && i < TRIES && truncate(whole, 0) && errno == ENOMEM; i++)
+		usleep(10000);
 }
 
 static void take_away(const char *mountpoint)

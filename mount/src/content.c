@@ -45,7 +45,11 @@ static int open_file(const char *path, struct fuse_file_info *fi)
 	int fault = place_of(path, &place);
 	if (fault)
 		return fault;
-	if (!place.file || engine_has_group(place.group) || !controllers_have(place.group, place.file))
+	if (!place.file)
+		return -ENOENT;
+	if ((fault = engine_has_group(place.group)))
+		return fault;
+	if (!controllers_have(place.group, place.file))
 		return -ENOENT;
 	if ((fault = may_open(file_mode(place.file), fi->flags)))
 		return fault;
@@ -77,8 +81,9 @@ static int begin_read(struct opened *o)
 		return -EINVAL;
 	if (opened_is_gone(o) || !controllers_have(o->group, o->file))
 		return -ENODEV;
-	real_sweep();
-	int fault = texts_read(o->group, o->file, true, &text, &size);
+	int fault = real_sweep();
+	if (fault == 0)
+		fault = texts_read(o->group, o->file, true, &text, &size);
 	return fault ? fault : opened_keep(o, text, size);
 }
 
@@ -93,19 +98,13 @@ int content_read(const char *path, char *out, size_t size, off_t at, struct fuse
 	return n;
 }
 
-/* A move takes the whole process if the number is that of one of its threads; 0 is the writer. */
-static int move(const struct opened *o, char said[SAID_MAX], pid_t writer)
+static int move_to(const struct opened *o, const char *said)
 {
 	char from[PATH_MAX_SAID];
-	if (strcmp(said, "0") == 0)
-		snprintf(said, SAID_MAX, "%d", real_process_of(writer));
 	long pid = strtol(said, NULL, 10);
-	real_sweep();
-	int fault = real_adopt((pid_t)pid);
-	if (fault)
-		return fault < 0 ? fault : 0;
-	bool was_there = engine_where(pid, from, sizeof from);
-	if (was_there && (fault = controllers_may_enter(o->group)))
+	int fault = engine_where(pid, from, sizeof from);
+	bool was_there = fault == 0;
+	if (fault == -ENOMEM || (was_there && (fault = controllers_may_enter(o->group))))
 		return fault;
 	fault = engine_line("write %s %s %s", o->group, o->file->name, said);
 	if (fault == 0 && was_there) {
@@ -116,11 +115,31 @@ static int move(const struct opened *o, char said[SAID_MAX], pid_t writer)
 	return fault;
 }
 
+/* A move takes the whole process if the number is that of one of its threads; 0 is the writer. */
+static int move(const struct opened *o, char said[SAID_MAX], pid_t writer)
+{
+	bool is_new;
+	if (strcmp(said, "0") == 0)
+		snprintf(said, SAID_MAX, "%d", real_process_of(writer));
+	pid_t pid = (pid_t)strtol(said, NULL, 10);
+	int fault = real_sweep();
+	if (fault == 0)
+		fault = real_adopt(pid, &is_new);
+	if (fault)
+		return fault < 0 ? fault : 0;
+	fault = move_to(o, said);
+	if (fault == -ENOMEM && is_new)
+		real_disown(pid);
+	return fault;
+}
+
 static int kill_group(const struct opened *o, const char *said)
 {
-	real_sweep();
-	real_note(o->group);
-	int fault = engine_line("write %s %s %s", o->group, o->file->name, said);
+	int fault = real_sweep();
+	if (fault == 0)
+		fault = real_note(o->group);
+	if (fault == 0)
+		fault = engine_line("write %s %s %s", o->group, o->file->name, said);
 	if (fault == 0) {
 		real_kill_noted();
 		watch_below(o->group);
@@ -164,11 +183,10 @@ int content_poll(const char *path, struct fuse_file_info *fi, struct fuse_pollha
 	struct opened *o = opened_of(fi);
 	(void)path;
 	engine_lock();
-	if (o->file && o->file->notified && !opened_is_gone(o))
-		watch_seen(o->group, o->file);
+	int fault = o->file && o->file->notified && !opened_is_gone(o) ? watch_seen(o->group, o->file) : 0;
 	*told = opened_poll(o, waiter);
 	engine_unlock();
-	return 0;
+	return fault;
 }
 
 int content_release(const char *path, struct fuse_file_info *fi)

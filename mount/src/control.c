@@ -83,11 +83,12 @@ mode_t control_mode(long file)
 /* A process that no supervisor knows is in the root, like all others of the machine. */
 static int read_where(long which, int (*keep)(void *, const char *, size_t), void *to)
 {
-	char group[PATH_MAX_SAID], seen[PATH_MAX_SAID], text[PATH_MAX_SAID + 8];
+	char group[PATH_MAX_SAID] = "/", seen[PATH_MAX_SAID], text[PATH_MAX_SAID + 8];
 	long pid = which % CONTROL_PIDS;
 	const char *root = spaces_root((unsigned)(which / CONTROL_PIDS));
-	if (!engine_where(pid, group, sizeof group))
-		snprintf(group, sizeof group, "/");
+	int fault = pid ? engine_where(pid, group, sizeof group) : 0;
+	if (fault == -ENOMEM)
+		return fault;
 	seen_from(root, group, seen);
 	int size = snprintf(text, sizeof text, "0::%s\n", pid ? seen : root);
 	return keep(to, text, (size_t)size);
@@ -123,13 +124,6 @@ int control_read(long file, int (*keep)(void *, const char *, size_t), void *to)
 	}
 }
 
-static void watch_process(long pid)
-{
-	char group[PATH_MAX_SAID];
-	if (engine_where(pid, group, sizeof group))
-		watch_above(group);
-}
-
 /* Notifies those whom an undo concerns: `command` is the undone command. */
 static void tell_undone(const char *command, size_t size)
 {
@@ -143,10 +137,10 @@ static void tell_undone(const char *command, size_t size)
 			watch_below(group);
 		else if (strcmp(file, "cgroup.procs") == 0) {
 			watch_above(group);
-			watch_process(pid);
+			watch_process((pid_t)pid);
 		}
 	} else if (sscanf(text, "fork %ld", &pid) == 1 || sscanf(text, "exit %ld", &pid) == 1)
-		watch_process(pid);
+		watch_process((pid_t)pid);
 }
 
 /* Undoes the newest `count` commands. If there are fewer, it undoes none. */
@@ -161,7 +155,7 @@ static int undo(unsigned long count)
 			return fault;
 		const char *command = engine_text(&size);
 		tell_undone(command, size);
-		freezer_check("/");
+		freezer_undone();
 	}
 	return 0;
 }
@@ -170,15 +164,18 @@ static int control_fork(unsigned long parent, unsigned long child)
 {
 	int fault = engine_line("fork %lu %lu", parent, child);
 	if (fault == 0 || fault == -EAGAIN)
-		watch_process((long)parent);
+		watch_process((pid_t)parent);
 	return fault;
 }
 
 static int control_exit(unsigned long pid)
 {
 	char group[PATH_MAX_SAID];
-	bool was_there = engine_where((long)pid, group, sizeof group);
-	int fault = engine_line("exit %lu", pid);
+	int fault = engine_where((long)pid, group, sizeof group);
+	if (fault == -ENOMEM)
+		return fault;
+	bool was_there = fault == 0;
+	fault = engine_line("exit %lu", pid);
 	if (fault == 0 && was_there)
 		watch_above(group);
 	return fault;

@@ -5,7 +5,10 @@
 #include "scan.h"
 #include "values.h"
 #include <errno.h>
+#include <inttypes.h>
+#include <makhloeum.h>
 #include <stdio.h>
+#include <stdlib.h>
 #include <string.h>
 
 /* Threads of one process could be in different groups of these controllers: a group with processes may enable them for its
@@ -69,41 +72,52 @@ bool controllers_have(const char *group, const struct file *file)
 	return !file->controller || file->controller & available(group);
 }
 
-static bool has_processes(const char *group)
+/* The text of a file of the engine, without zombies. 0 or -errno */
+static int text_of(const char *group, const char *name, const char **text, size_t *size)
 {
-	size_t size;
-	if (engine_look("cat %s cgroup.procs", group))
-		return false;
-	const char *text = engine_text(&size);
-	reported_text(group, file_named("cgroup.procs", true), text, &size);
-	return size > 0;
+	int fault = engine_look("cat %s %s", group, name);
+	if (fault)
+		return fault;
+	*text = engine_text(size);
+	return reported_text(group, file_named(name, is_root(group)), text, size);
 }
 
-static bool is_populated(const char *group)
+/* These questions, and those below, are answered by 1, 0 or -errno. */
+static int has_processes(const char *group)
 {
+	const char *text;
 	size_t size;
-	if (engine_look("cat %s cgroup.events", group))
-		return false;
-	const char *text = engine_text(&size);
-	text = reported_text(group, file_named("cgroup.events", false), text, &size);
-	return strncmp(text, "populated 1", 11) == 0;
+	int fault = text_of(group, "cgroup.procs", &text, &size);
+	return fault ? fault : size > 0;
 }
 
-/* Calls `ask` for each child, until one returns something other than 0. */
-static int each_child(const char *group, int (*ask)(const char *child, unsigned which), unsigned which)
+static int is_populated(const char *group)
+{
+	const char *text;
+	size_t size;
+	int fault = text_of(group, "cgroup.events", &text, &size);
+	return fault ? fault : strncmp(text, "populated 1", 11) == 0;
+}
+
+/* Calls `ask` for each of these children, until one returns something other than 0. */
+static int each_of(const char *group, const char *children, size_t count, int (*ask)(const char *child, unsigned which), unsigned which)
 {
 	char child[PATH_MAX_SAID];
-	const char *all;
-	size_t count;
 	int answer = 0;
-	if (engine_children(group, &all, &count))
-		return 0;
-	for (; count-- && answer == 0; all += strlen(all) + 1) {
-		int n = snprintf(child, sizeof child, "%s/%s", is_root(group) ? "" : group, all);
+	for (; answer == 0 && count--; children += strlen(children) + 1) {
+		int n = snprintf(child, sizeof child, "%s/%s", is_root(group) ? "" : group, children);
 		if (n > 0 && (size_t)n < sizeof child)
 			answer = ask(child, which);
 	}
 	return answer;
+}
+
+static int each_child(const char *group, int (*ask)(const char *child, unsigned which), unsigned which)
+{
+	const char *children;
+	size_t count;
+	int fault = engine_children(group, &children, &count);
+	return fault ? fault : each_of(group, children, count, ask, which);
 }
 
 static int ask_populated(const char *child, unsigned unused)
@@ -122,51 +136,58 @@ static int ask_shares(const char *child, unsigned which)
 /* In the kernel's words: a group with processes that enables such controllers for its children is the root of a threaded
    subtree, and the groups below it are not domains. Threads are not in groups of their own here, but that much is visible.
     */
-static bool is_thread_root(const char *group)
+static int is_thread_root(const char *group)
 {
-	return !is_root(group) && subtree_of(group) & FOR_THREADS && has_processes(group);
+	return is_root(group) || !(subtree_of(group) & FOR_THREADS) ? 0 : has_processes(group);
 }
 
-static bool can_be_thread_root(const char *group)
+static int can_be_thread_root(const char *group)
 {
-	return is_root(group) || (!(subtree_of(group) & ~(unsigned)FOR_THREADS) && !each_child(group, ask_populated, 0));
+	if (is_root(group) || subtree_of(group) & ~(unsigned)FOR_THREADS)
+		return is_root(group);
+	int populated = each_child(group, ask_populated, 0);
+	return populated < 0 ? populated : !populated;
 }
 
-static bool is_domain(const char *group)
+static int is_domain(const char *group)
 {
 	char at[PATH_MAX_SAID];
+	int above = 0;
 	snprintf(at, sizeof at, "%s", group);
-	while (!is_root(at)) {
+	while (above == 0 && !is_root(at)) {
 		go_up(at);
-		if (is_thread_root(at))
-			return false;
+		above = is_thread_root(at);
 	}
-	return true;
+	return above < 0 ? above : !above;
 }
 
 int controllers_may_enter(const char *group)
 {
 	if (!kept)
 		return 0;
-	if (!is_domain(group))
-		return -EOPNOTSUPP;
-	return can_be_thread_root(group) || !subtree_of(group) ? 0 : -EBUSY;
+	int domain = is_domain(group);
+	if (domain <= 0)
+		return domain ? domain : -EOPNOTSUPP;
+	int can = subtree_of(group) ? can_be_thread_root(group) : 1;
+	return can < 0 ? can : can ? 0 : -EBUSY;
 }
 
 static int may_enable(const char *group, unsigned which)
 {
 	if (!which)
 		return 0;
-	if (!is_domain(group))
-		return -EOPNOTSUPP;
+	int domain = is_domain(group), inner;
+	if (domain <= 0)
+		return domain ? domain : -EOPNOTSUPP;
 	if (is_root(group))
 		return 0;
 	if (which & ~(unsigned)FOR_THREADS) {
-		if (is_thread_root(group))
-			return -EOPNOTSUPP;
-	} else if (can_be_thread_root(group))
-		return 0;
-	return has_processes(group) ? -EBUSY : 0;
+		if ((inner = is_thread_root(group)))
+			return inner < 0 ? inner : -EOPNOTSUPP;
+	} else if ((inner = can_be_thread_root(group)))
+		return inner < 0 ? inner : 0;
+	inner = has_processes(group);
+	return inner > 0 ? -EBUSY : inner;
 }
 
 /* ---------------------------------------------------------------- cgroup.controllers, cgroup.subtree_control */
@@ -180,16 +201,18 @@ static void show(unsigned which, char out[TEXT_ROOM])
 	snprintf(out + n, TEXT_ROOM - n, "\n");
 }
 
-void controllers_show(const char *group, const struct file *file, char out[TEXT_ROOM])
+int controllers_show(const char *group, const struct file *file, char out[TEXT_ROOM])
 {
 	(void)file;
 	show(available(group), out);
+	return 0;
 }
 
-void subtree_show(const char *group, const struct file *file, char out[TEXT_ROOM])
+int subtree_show(const char *group, const struct file *file, char out[TEXT_ROOM])
 {
 	(void)file;
 	show(subtree_of(group), out);
+	return 0;
 }
 
 /* Reads +NAME and -NAME with blanks between; the last mention of a name counts. */
@@ -209,27 +232,82 @@ static int read_change(char *text, unsigned *enable, unsigned *disable)
 	return 0;
 }
 
-/* A child loses these controllers: their values are dropped. The engine's limit becomes `max`. */
+/* A child loses these controllers: their values are dropped. */
 static int forget_in(const char *child, unsigned which)
 {
-	size_t size;
 	struct remembered *r = remembered_find(child);
 	if (r)
 		values_forget(r, which);
 	remembered_tidy(r);
-	if (!(which & HAS_PIDS) || engine_look("cat %s pids.max", child) || engine_text(&size)[0] == 'm')
-		return 0;
-	return engine_line("write %s pids.max max", child);
+	return 0;
 }
 
-static int set_subtree(const char *group, unsigned which)
+/* The limits that the children have before they lose pids, in the order of their names; `at` is the place of the next. */
+static struct {
+	uint64_t *all;
+	size_t count, room, at;
+} limits;
+
+static int note_limit(const char *child, unsigned unused)
 {
-	struct remembered *r = remembered_make(group);
-	if (!r)
-		return -ENOMEM;
-	r->subtree = which;
-	remembered_tidy(r);
+	(void)unused;
+	if (limits.count == limits.room) {
+		size_t room = limits.room ? 2 * limits.room : 64;
+		uint64_t *more = realloc(limits.all, room * sizeof *more);
+		if (!more)
+			return -ENOMEM;
+		limits.all = more;
+		limits.room = room;
+	}
+	return engine_limit(child, &limits.all[limits.count++]);
+}
+
+static int lift_limit(const char *child, unsigned unused)
+{
+	(void)unused;
+	uint64_t limit = limits.all[limits.at++];
+	return limit == MK_NO_LIMIT ? 0 : engine_line("write %s pids.max max", child);
+}
+
+static int restore_limit(const char *child, unsigned lifted)
+{
+	if (limits.at == lifted)
+		return 1;
+	uint64_t limit = limits.all[limits.at++];
+	if (limit != MK_NO_LIMIT)
+		engine_line("write %s pids.max %" PRIu64, child, limit);
 	return 0;
+}
+
+/* The engine's limits of all children become `max`, or none does. If the old ones cannot be set again for lack of memory,
+   or since the trace is full, they stay `max`. */
+static int lift_limits(const char *group, const char *children, size_t count)
+{
+	limits.count = limits.at = 0;
+	int fault = each_of(group, children, count, note_limit, 0);
+	if (fault || (fault = each_of(group, children, count, lift_limit, 0)) == 0)
+		return fault;
+	unsigned lifted = (unsigned)limits.at - 1; /* the last one failed */
+	limits.at = 0;
+	each_of(group, children, count, restore_limit, lifted);
+	return fault;
+}
+
+/* All that can fail comes first. */
+static int set_subtree(const char *group, unsigned which, unsigned lost)
+{
+	const char *children = "";
+	size_t count = 0;
+	struct remembered *r = remembered_make(group);
+	int fault = !r ? -ENOMEM : lost ? engine_children(group, &children, &count) : 0;
+	if (fault == 0 && lost & HAS_PIDS)
+		fault = lift_limits(group, children, count);
+	if (fault == 0) {
+		each_of(group, children, count, forget_in, lost);
+		r->subtree = which;
+	}
+	remembered_tidy(r);
+	return fault;
 }
 
 static int change(const char *group, unsigned enable, unsigned disable)
@@ -239,12 +317,11 @@ static int change(const char *group, unsigned enable, unsigned disable)
 	disable &= now;
 	if (enable & ~available(group))
 		return -ENOENT;
-	if (disable && each_child(group, ask_shares, disable))
-		return -EBUSY;
+	int shares = disable ? each_child(group, ask_shares, disable) : 0;
+	if (shares)
+		return shares < 0 ? shares : -EBUSY;
 	int fault = may_enable(group, enable);
-	if (fault == 0 && disable)
-		fault = each_child(group, forget_in, disable);
-	return fault ? fault : set_subtree(group, (now | enable) & ~disable);
+	return fault ? fault : set_subtree(group, (now | enable) & ~disable, disable);
 }
 
 /* A file that accepts its current value and nothing else. */
@@ -271,27 +348,33 @@ int subtree_write(const char *group, const struct file *file, const char *data, 
 
 /* ---------------------------------------------------------------- cgroup.type */
 
-static const char *type_of(const char *group)
+static int type_of(const char *group, const char **type)
 {
-	if (!kept)
-		return "domain";
-	return !is_domain(group) ? "domain invalid" : is_thread_root(group) ? "domain threaded" : "domain";
+	int domain = kept ? is_domain(group) : 1;
+	int inner = kept && domain > 0 ? is_thread_root(group) : 0;
+	*type = !domain ? "domain invalid" : inner ? "domain threaded" : "domain";
+	return domain < 0 ? domain : inner < 0 ? inner : 0;
 }
 
-void type_show(const char *group, const struct file *file, char out[TEXT_ROOM])
+int type_show(const char *group, const struct file *file, char out[TEXT_ROOM])
 {
+	const char *type;
 	(void)file;
-	snprintf(out, TEXT_ROOM, "%s\n", type_of(group));
+	int fault = type_of(group, &type);
+	snprintf(out, TEXT_ROOM, "%s\n", type);
+	return fault;
 }
 
 /* There are no threaded groups. */
 int type_write(const char *group, const struct file *file, const char *data, size_t size)
 {
 	char text[TEXT_ROOM + 1];
+	const char *type;
 	(void)file;
 	if (size > TEXT_ROOM)
 		return -E2BIG;
 	memcpy(text, data, size);
 	text[size] = 0;
-	return take_unchanged(scan_strip(text), type_of(group));
+	int fault = type_of(group, &type);
+	return fault ? fault : take_unchanged(scan_strip(text), type);
 }

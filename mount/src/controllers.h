@@ -16,14 +16,14 @@ unsigned controllers_kept(void);
 
 /* All below require the engine's lock. Whether a group has this file now. */
 bool controllers_have(const char *group, const struct file *file);
-/* 0; -EBUSY or -EOPNOTSUPP if the group may have no processes because it enables controllers for its children. */
+/* 0; -EBUSY or -EOPNOTSUPP if the group may have no processes because it enables controllers for its children; -ENOMEM. */
 int controllers_may_enter(const char *group);
 
 /* cgroup.controllers, cgroup.subtree_control, cgroup.type. */
-void controllers_show(const char *group, const struct file *file, char out[TEXT_ROOM]);
-void subtree_show(const char *group, const struct file *file, char out[TEXT_ROOM]);
+int controllers_show(const char *group, const struct file *file, char out[TEXT_ROOM]);
+int subtree_show(const char *group, const struct file *file, char out[TEXT_ROOM]);
 int subtree_write(const char *group, const struct file *file, const char *data, size_t size);
-void type_show(const char *group, const struct file *file, char out[TEXT_ROOM]);
+int type_show(const char *group, const struct file *file, char out[TEXT_ROOM]);
 int type_write(const char *group, const struct file *file, const char *data, size_t size);
 
 #endif

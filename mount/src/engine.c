@@ -89,15 +89,13 @@ void engine_check_lock(const char *function)
 }
 #endif
 
-/* The answer without its first line, and without the mark before each other line. */
-static int take_text(void)
+/* The answer without its first line, and without the mark before each other line. It always has room: see `ask`. */
+static void take_text(void)
 {
 	const char *from = memchr(answer.at, '\n', answer.size), *end = answer.at + answer.size;
 	text.size = 0;
 	if (!from)
-		return 0;
-	if (!make_room(&text, answer.size))
-		return -ENOMEM;
+		return;
 	for (from++; from < end;) {
 		const char *feed = memchr(from, '\n', (size_t)(end - from));
 		size_t n = (size_t)(feed - from) - 1;
@@ -105,15 +103,15 @@ static int take_text(void)
 		text.size += n;
 		from = feed + 1;
 	}
-	return 0;
 }
 
+/* The text gets its room before the answer: once a line is answered, nothing can fail for lack of memory. */
 static uint32_t ask(uint64_t as, uint32_t *code)
 {
 	mk_info info;
 	for (;;) {
 		uint32_t status = mk_line(&engine, as, (const uint8_t *)line, line_size, (uint8_t *)answer.at, answer.room, &info);
-		if (status == MK_TOO_SMALL && make_room(&answer, 2 * answer.room))
+		if (status == MK_TOO_SMALL && make_room(&text, 2 * answer.room) && make_room(&answer, 2 * answer.room))
 			continue;
 		answer.size = info.len;
 		*code = info.code;
@@ -125,7 +123,8 @@ static int error_of(uint32_t status, uint32_t code)
 {
 	switch (status) {
 	case MK_DONE:
-		return take_text();
+		take_text();
+		return 0;
 	case MK_REFUSED:
 	case MK_FAULT:
 		text.size = 0;
@@ -152,7 +151,8 @@ static bool step_back(enum effect effect)
 	if (effect == NOTHING)
 		return true;
 	if (effect == UNDONE) {
-		if (take_text() || text.size == 0 || text.size > sizeof line)
+		take_text();
+		if (text.size == 0 || text.size > sizeof line)
 			return false;
 		line_size = text.size - 1;
 		memcpy(line, text.at, line_size);
@@ -256,21 +256,36 @@ const char *engine_text(size_t *size)
 	return text.at;
 }
 
-bool engine_where(long pid, char *group, size_t size)
+int engine_where(long pid, char *group, size_t size)
 {
 	size_t n;
-	if (engine_look("where %ld", pid))
-		return false;
+	int fault = engine_look("where %ld", pid);
+	if (fault)
+		return fault == -ENOMEM ? fault : -ESRCH; /* a number beyond all pids is no process either */
 	const char *said = engine_text(&n); /* 0::GROUP and a line feed */
 	snprintf(group, size, "%.*s", (int)n - 4, said + 3);
-	return true;
+	return 0;
+}
+
+/* Of a call that names a group and has a buffer of sufficient size. */
+static int fault_of(uint32_t status)
+{
+	switch (status) {
+	case MK_DONE:
+		return 0;
+	case MK_REFUSED:
+	case MK_FAULT:
+		return -ENOENT;
+	default:
+		return -ENOMEM;
+	}
 }
 
 int engine_has_group(const char *path)
 {
 	mk_info info;
 	WANTS_LOCK();
-	return mk_has_group(&engine, (const uint8_t *)path, strlen(path), &info) == MK_DONE ? 0 : -ENOENT;
+	return fault_of(mk_has_group(&engine, (const uint8_t *)path, strlen(path), &info));
 }
 
 int engine_children(const char *path, const char **found, size_t *count)
@@ -280,7 +295,7 @@ int engine_children(const char *path, const char **found, size_t *count)
 	uint32_t status = mk_children(&engine, (const uint8_t *)path, strlen(path), (uint8_t *)names.at, names.room, &info);
 	*found = names.at;
 	*count = info.count;
-	return status == MK_DONE ? 0 : status == MK_OUT_OF_MEMORY ? -ENOMEM : -ENOENT;
+	return fault_of(status);
 }
 
 int engine_groups(const char *top, const char **found, size_t *count)
@@ -293,7 +308,7 @@ int engine_groups(const char *top, const char **found, size_t *count)
 	while (status == MK_TOO_SMALL && make_room(&paths, info.needed));
 	*found = paths.at;
 	*count = info.count;
-	return status == MK_DONE ? 0 : status == MK_REFUSED || status == MK_FAULT ? -ENOENT : -ENOMEM;
+	return fault_of(status);
 }
 
 size_t engine_depth(void)
@@ -307,8 +322,7 @@ size_t engine_depth(void)
 static int number_of(uint32_t (*call)(mk_handle *, const char *, uint64_t *, mk_info *), const char *group, uint64_t *value)
 {
 	mk_info info;
-	uint32_t status = call(&engine, group, value, &info);
-	return status == MK_DONE ? 0 : status == MK_OUT_OF_MEMORY ? -ENOMEM : -ENOENT;
+	return fault_of(call(&engine, group, value, &info));
 }
 
 int engine_current(const char *group, uint64_t *count)

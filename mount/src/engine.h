@@ -32,15 +32,15 @@ int engine_look(const char *format, ...) __attribute__((format(printf, 1, 2)));
 /* The text that the last answer carried, without its marks: of cat and where the file's bytes, of undo the command. */
 const char *engine_text(size_t *size);
 
-/* The group of a process; false where there is no such process. */
-bool engine_where(long pid, char *group, size_t size);
-/* 0, or -ENOENT. */
+/* The group of a process: 0, -ESRCH or -ENOMEM. */
+int engine_where(long pid, char *group, size_t size);
+/* 0, -ENOENT or -ENOMEM; so are the four below. */
 int engine_has_group(const char *path);
-/* The names below a group, each ended by a zero byte. 0, or -ENOENT. */
+/* The names below a group, each ended by a zero byte. */
 int engine_children(const char *path, const char **names, size_t *count);
 /* The paths of a group and of all below it, likewise. */
 int engine_groups(const char *top, const char **paths, size_t *count);
-/* How many processes are at or below a group, and its pids.max, MK_NO_LIMIT for `max`: without a text. 0 or -errno */
+/* How many processes are at or below a group, and its pids.max, MK_NO_LIMIT for `max`: without a text. */
 int engine_current(const char *group, uint64_t *count);
 int engine_limit(const char *group, uint64_t *limit);
 size_t engine_depth(void);

@@ -1,7 +1,7 @@
 #include "freezer.h"
 #include "engine.h"
+#include "listed.h"
 #include "number.h"
-#include "reported.h"
 #include "watch.h"
 #include <errno.h>
 #include <stdint.h>
@@ -21,9 +21,10 @@ static size_t freezing; /* groups in which 1 was written */
 static size_t wanted;   /* processes that have to stop */
 static int supervisor = -1;
 
-/* A process has at most one order, so an array as long as the number of processes is enough. */
-static pid_t *orders;
-static size_t first_order, orders_end, orders_room;
+/* A process has at most one order. So the list of all needs no memory, and an order is never lost for lack of it. */
+static pid_t next_order[PIDS_MAX], first_order, last_order;
+
+static bool overdue; /* an undo could not be followed */
 
 bool freezer_begin(int *wake)
 {
@@ -56,78 +57,53 @@ static bool is_to_freeze(const char *group)
 	return false;
 }
 
-/* Calls `act` for each process at and below a group, with the process's group, until it returns false. */
-static bool each_process(const char *top, bool (*act)(pid_t pid, bool to_freeze))
+static int runs(pid_t pid, const char *group)
 {
-	const char *paths;
-	size_t count, size;
-	const struct file *procs = file_named("cgroup.procs", true);
-	if (engine_groups(top, &paths, &count))
-		return true;
-	for (; count--; paths += strlen(paths) + 1) {
-		if (engine_look("cat %s cgroup.procs", paths))
-			continue;
-		const char *text = engine_text(&size);
-		text = reported_text(paths, procs, text, &size);
-		bool to_freeze = is_to_freeze(paths);
-		for (const char *end = text + size; text < end;) {
-			if (!act((pid_t)strtol(text, NULL, 10), to_freeze))
-				return false;
-			text = (const char *)memchr(text, '\n', (size_t)(end - text)) + 1;
-		}
-	}
-	return true;
+	(void)group;
+	return !in_range(pid) || !(state[pid] & STOPPED);
 }
 
-static bool has_stopped(pid_t pid, bool to_freeze)
+/* 1, 0 or -errno */
+static int is_frozen(const char *group)
 {
-	(void)to_freeze;
-	return in_range(pid) && state[pid] & STOPPED;
+	if (!is_to_freeze(group))
+		return 0;
+	int running = supervisor < 0 ? 0 : listed_each(group, false, runs);
+	return running < 0 ? running : !running;
 }
 
-static bool is_frozen(const char *group)
-{
-	return is_to_freeze(group) && (supervisor < 0 || each_process(group, has_stopped));
-}
-
-void freezer_show(const char *group, const struct file *file, char out[TEXT_ROOM])
+int freezer_show(const char *group, const struct file *file, char out[TEXT_ROOM])
 {
 	(void)file;
 	snprintf(out, TEXT_ROOM, "%d\n", freezes_itself(group));
+	return 0;
 }
 
-const char *freezer_text(const char *group, const struct file *file, const char *text, size_t *size)
+int freezer_text(const char *group, const struct file *file, const char **text, size_t size)
 {
 	static char own[64];
-	if (!freezing || strcmp(file->name, "cgroup.events") != 0 || *size < 2 || *size >= sizeof own)
-		return text;
-	memcpy(own, text, *size);
-	own[*size] = 0;
+	if (!freezing || strcmp(file->name, "cgroup.events") != 0 || size < 2 || size >= sizeof own)
+		return 0;
+	memcpy(own, *text, size);
+	own[size] = 0;
+	*text = own;
 	char *line = strstr(own, "frozen 0\n");
-	if (line)
-		line[strlen("frozen ")] = is_frozen(group) ? '1' : '0';
-	return own;
+	int frozen = line ? is_frozen(group) : 0;
+	if (frozen > 0)
+		line[strlen("frozen ")] = '1';
+	return frozen < 0 ? frozen : 0;
 }
 
 /* ---------------------------------------------------------------- orders */
 
-static bool add_order(pid_t pid)
+static void add_order(pid_t pid)
 {
-	if (orders_end == orders_room && first_order > 0) {
-		memmove(orders, orders + first_order, (orders_end - first_order) * sizeof *orders);
-		orders_end -= first_order;
-		first_order = 0;
-	}
-	if (orders_end == orders_room) {
-		size_t room = orders_room ? 2 * orders_room : 64;
-		pid_t *more = realloc(orders, room * sizeof *more);
-		if (!more)
-			return false;
-		orders = more;
-		orders_room = room;
-	}
-	orders[orders_end++] = pid;
-	return true;
+	if (state[pid] & ORDERED)
+		return;
+	state[pid] |= ORDERED;
+	next_order[pid] = 0;
+	*(first_order ? &next_order[last_order] : &first_order) = pid;
+	last_order = pid;
 }
 
 /* A process that does not have to stop has not stopped. */
@@ -139,23 +115,18 @@ static void set_wanted(pid_t pid, bool stops)
 	state[pid] |= stops ? WANTED : 0;
 }
 
-static bool want(pid_t pid, bool to_freeze)
+static void want(pid_t pid, bool to_freeze)
 {
 	if (!in_range(pid) || to_freeze == !!(state[pid] & WANTED))
-		return true;
-	if (!(state[pid] & ORDERED)) {
-		if (!add_order(pid))
-			return true;
-		state[pid] |= ORDERED;
-	}
+		return;
+	add_order(pid);
 	set_wanted(pid, to_freeze);
-	return true;
 }
 
 static void wake(void)
 {
 	uint64_t one = 1;
-	if (first_order != orders_end && write(supervisor, &one, sizeof one) < 0) {
+	if (first_order && write(supervisor, &one, sizeof one) < 0) {
 		/* it was woken and has not looked yet */
 	}
 }
@@ -163,21 +134,61 @@ static void wake(void)
 bool freezer_order(pid_t *pid, bool *stop)
 {
 	WANTS_LOCK();
-	if (first_order == orders_end)
+	if (!first_order)
 		return false;
-	*pid = orders[first_order++];
+	*pid = first_order;
+	first_order = next_order[*pid];
 	state[*pid] &= (unsigned char)~ORDERED;
 	*stop = state[*pid] & WANTED;
 	return true;
 }
 
-void freezer_check(const char *top)
+/* What to order: all of it is known before anything changes. */
+static struct change {
+	pid_t pid;
+	bool to_freeze;
+} *changes;
+static size_t changes_count, changes_room;
+
+static int note(pid_t pid, const char *group)
+{
+	if (changes_count == changes_room) {
+		size_t room = changes_room ? 2 * changes_room : 64;
+		struct change *more = realloc(changes, room * sizeof *more);
+		if (!more)
+			return -ENOMEM;
+		changes = more;
+		changes_room = room;
+	}
+	changes[changes_count++] = (struct change){ pid, is_to_freeze(group) };
+	return 0;
+}
+
+/* Orders all processes at and below a group, or none: 0 or -errno. */
+static int order_all(const char *top)
+{
+	if (supervisor < 0 || (!freezing && !wanted))
+		return 0;
+	changes_count = 0;
+	int fault = listed_each(top, false, note);
+	if (fault)
+		return fault;
+	for (size_t i = 0; i < changes_count; i++)
+		want(changes[i].pid, changes[i].to_freeze);
+	wake();
+	return 0;
+}
+
+void freezer_undone(void)
 {
 	WANTS_LOCK();
-	if (supervisor < 0 || (!freezing && !wanted))
-		return;
-	each_process(top, want);
-	wake();
+	overdue = order_all("/") != 0;
+}
+
+void freezer_catch_up(void)
+{
+	if (overdue)
+		freezer_undone();
 }
 
 void freezer_moved(pid_t pid, const char *group)
@@ -206,14 +217,14 @@ int freezer_write(const char *group, const struct file *file, const char *data, 
 	struct remembered *r = fault ? NULL : remembered_make(group);
 	if (!r)
 		return fault ? fault : -ENOMEM;
-	bool freezes = said[0] == '1', changes = r->freezes != freezes;
+	bool freezes = said[0] == '1', differs = r->freezes != freezes;
 	set(r, freezes);
+	if (differs && (fault = order_all(group)))
+		set(r, !freezes);
 	remembered_tidy(r);
-	if (changes) {
-		freezer_check(group);
+	if (differs && fault == 0)
 		watch_below(group);
-	}
-	return 0;
+	return fault;
 }
 
 void freezer_forget(struct remembered *r)
@@ -222,13 +233,12 @@ void freezer_forget(struct remembered *r)
 	set(r, false);
 }
 
-bool freezer_born(pid_t pid)
+bool freezer_born(pid_t pid, const char *group)
 {
-	char group[PATH_MAX_SAID];
 	WANTS_LOCK();
 	if (!in_range(pid))
 		return false;
-	bool stops = freezing && engine_where(pid, group, sizeof group) && is_to_freeze(group);
+	bool stops = is_to_freeze(group);
 	set_wanted(pid, false);
 	set_wanted(pid, stops);
 	return stops;
@@ -243,11 +253,9 @@ void freezer_gone(pid_t pid)
 
 void freezer_told(pid_t pid, bool stopped)
 {
-	char group[PATH_MAX_SAID];
 	WANTS_LOCK();
 	if (!in_range(pid) || (stopped && !(state[pid] & WANTED)))
 		return;
 	state[pid] = (unsigned char)(stopped ? state[pid] | STOPPED : state[pid] & ~STOPPED);
-	if (engine_where(pid, group, sizeof group))
-		watch_above(group);
+	watch_process(pid);
 }

@@ -9,20 +9,22 @@
 /* Under `run`: this eventfd wakes the supervisor when there are orders. False if it cannot be made. */
 bool freezer_begin(int *wake);
 
-/* The rest requires the engine's lock. */
-void freezer_show(const char *group, const struct file *file, char out[TEXT_ROOM]);
+/* The rest requires the engine's lock. A write changes everything or, if it fails, nothing. */
+int freezer_show(const char *group, const struct file *file, char out[TEXT_ROOM]);
 int freezer_write(const char *group, const struct file *file, const char *data, size_t size);
-/* The text of a file, with the current line `frozen`. */
-const char *freezer_text(const char *group, const struct file *file, const char *text, size_t *size);
+/* The text of a file, with the current line `frozen`. 0, or -errno if that can't be known. */
+int freezer_text(const char *group, const struct file *file, const char **text, size_t size);
 void freezer_forget(struct remembered *r);
 
 /* A process is now in this group. */
 void freezer_moved(pid_t pid, const char *group);
-/* The same for any process at and below this group. */
-void freezer_check(const char *top);
+/* An undo may have moved any process. If memory does not suffice to look at all of them, none is ordered before
+   freezer_catch_up looks again: a process that has to stop runs on until then, and no group says that it is frozen. */
+void freezer_undone(void);
+void freezer_catch_up(void);
 
-/* The supervisor's questions. Whether a process that is just being made starts frozen. */
-bool freezer_born(pid_t pid);
+/* The supervisor's questions. Whether a process that is just being made in this group starts frozen. */
+bool freezer_born(pid_t pid, const char *group);
 void freezer_gone(pid_t pid);
 /* All threads of a process have stopped, or run again. */
 void freezer_told(pid_t pid, bool stopped);

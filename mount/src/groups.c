@@ -49,33 +49,39 @@ int groups_open(const char *path, int flags)
 	return (int)syscall(SYS_openat2, root, path[1] ? path + 1 : ".", &how, sizeof how);
 }
 
-static bool is_same(const char *path, const struct statx *wanted)
+/* 1, 0, or -ENOMEM if it can't be known. */
+static int is_same(const char *path, const struct statx *wanted)
 {
 	struct statx st;
 	cleanup_fd int fd = groups_open(path, O_PATH | O_DIRECTORY);
-	return fd >= 0 && statx(fd, "", ASKS_NOBODY, STATX_INO, &st) == 0 && st.stx_ino == wanted->stx_ino;
+	if (fd < 0 || statx(fd, "", ASKS_NOBODY, STATX_INO, &st))
+		return errno == ENOMEM ? -ENOMEM : 0;
+	return st.stx_ino == wanted->stx_ino;
 }
 
-/* Looks for a directory at and below a group. If it is found, `group` is its path. */
-static bool search(char group[PATH_MAX_SAID], const struct statx *wanted)
+/* Looks for a directory at and below a group: 1, and `group` is its path; 0; -ENOMEM. */
+static int search(char group[PATH_MAX_SAID], const struct statx *wanted)
 {
-	if (is_same(group, wanted))
-		return true;
+	int same = is_same(group, wanted);
+	if (same)
+		return same;
 	int fd = groups_open(group, O_RDONLY | O_DIRECTORY);
 	cleanup_directory DIR *all = fd < 0 ? NULL : fdopendir(fd);
 	size_t size = is_root(group) ? 0 : strlen(group);
 	struct dirent *entry;
 	if (fd >= 0 && !all)
-		close(fd);
-	while (all && (entry = readdir(all))) {
+		close_at(&fd);
+	errno = all ? 0 : errno;
+	while (all && same == 0 && (entry = readdir(all))) {
 		if (strcmp(entry->d_name, ".") == 0 || strcmp(entry->d_name, "..") == 0)
 			continue;
 		int n = snprintf(group + size, PATH_MAX_SAID - size, "/%s", entry->d_name);
-		if (n > 0 && (size_t)n < PATH_MAX_SAID - size && search(group, wanted))
-			return true;
+		if (n > 0 && (size_t)n < PATH_MAX_SAID - size && (same = search(group, wanted)))
+			return same;
 		group[size] = 0;
+		errno = 0;
 	}
-	return false;
+	return errno == ENOMEM ? -ENOMEM : 0;
 }
 
 /* First the path by which the supervisor sees the directory. The program may have the directory from another mount
@@ -87,19 +93,24 @@ int groups_of_open(pid_t thread, int fd, char group[PATH_MAX_SAID])
 	size_t n = strlen(cgroup_mount);
 	snprintf(link, sizeof link, "%d/fd/%d", thread, fd);
 	cleanup_fd int file = open(link, O_PATH | O_CLOEXEC);
-	if (file < 0 || statx(file, "", ASKS_NOBODY, STATX_INO | STATX_TYPE, &st) || !is_here(&st) || !S_ISDIR(st.stx_mode))
+	if (file < 0 || statx(file, "", ASKS_NOBODY, STATX_INO | STATX_TYPE, &st))
+		return errno == ENOMEM ? -ENOMEM : -EBADF;
+	if (!is_here(&st) || !S_ISDIR(st.stx_mode))
 		return -EBADF;
 	snprintf(link, sizeof link, "self/fd/%d", file);
 	ssize_t size = readlink(link, seen, sizeof seen - 1);
 	seen[size < 0 ? 0 : size] = 0;
 	if (strncmp(seen, cgroup_mount, n) == 0 && (seen[n] == 0 || seen[n] == '/')) {
 		snprintf(group, PATH_MAX_SAID, "%s", seen[n] ? seen + n : "/");
-		if (is_same(group, &st))
-			return control_has(group) ? -EBADF : 0;
+		int same = is_same(group, &st);
+		if (same)
+			return same < 0 ? same : control_has(group) ? -EBADF : 0;
 	}
 	snprintf(group, PATH_MAX_SAID, "/%s", control_directory);
-	if (is_same(group, &st))
-		return -EBADF;
+	int found = is_same(group, &st);
+	if (found)
+		return found < 0 ? found : -EBADF;
 	snprintf(group, PATH_MAX_SAID, "/");
-	return search(group, &st) ? 0 : -ENOENT;
+	found = search(group, &st);
+	return found < 0 ? found : found ? 0 : -ENOENT;
 }

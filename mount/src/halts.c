@@ -1,6 +1,7 @@
 #include "halts.h"
-#include "cleanup.h"
 #include "link.h"
+#include "status.h"
+#include <errno.h>
 #include <signal.h>
 #include <stdint.h>
 #include <stdio.h>
@@ -33,8 +34,10 @@ static bool has_ended(pid_t id)
 {
 	char path[40], line[512];
 	snprintf(path, sizeof path, "%d/stat", id);
-	cleanup_stream FILE *f = fopen(path, "re");
-	const char *end = f && fgets(line, sizeof line, f) ? strrchr(line, ')') : NULL;
+	ssize_t n = status_text(path, line, sizeof line);
+	if (n < 0)
+		return n == -ENOENT || n == -ESRCH;
+	const char *end = strrchr(line, ')');
 	return !end || end[1] == 0 || end[2] == 'Z' || end[2] == 'X';
 }
 

@@ -15,13 +15,13 @@
 #include <sys/time.h>
 #include <unistd.h>
 
-enum what { RESERVE, BORN, CANCEL, EXITED, STOPPED, ORDER, SPACE };
+enum what { RESERVE, BORN, CANCEL, EXITED, STOPPED, ORDER, PREPARE, SPACE };
 
 /* Only the beginning of a question is sent, up to the end of its text. */
 struct question {
 	enum what what;
 	pid_t pid;
-	unsigned reservation;
+	unsigned reservation, call;
 	bool elsewhere, stopped;
 	char group[PATH_MAX_SAID];
 };
@@ -44,8 +44,7 @@ static void answer(const struct question *q, struct reply *r)
 		r->result = reported_reserve(q->pid, q->elsewhere ? q->group : NULL, &r->reservation);
 		break;
 	case BORN:
-		r->result = reported_born(q->reservation, q->pid);
-		r->stops = r->result == 0 && freezer_born(q->pid);
+		r->result = reported_born(q->reservation, q->pid, &r->stops);
 		break;
 	case CANCEL:
 		reported_cancel(q->reservation);
@@ -56,8 +55,11 @@ static void answer(const struct question *q, struct reply *r)
 	case STOPPED:
 		freezer_told(q->pid, q->stopped);
 		break;
+	case PREPARE:
+		r->result = spaces_prepare(q->call, q->pid);
+		break;
 	case SPACE:
-		spaces_made(q->reservation, q->pid);
+		spaces_made(q->reservation, q->call);
 		break;
 	case ORDER:
 		if (!freezer_order(&r->result, &r->stops))
@@ -176,9 +178,17 @@ bool link_order(pid_t *pid, bool *stop)
 	return r.result > 0;
 }
 
-void link_space(unsigned number, pid_t maker)
+int link_prepare(unsigned call, pid_t process)
 {
-	struct question q = { .what = SPACE, .pid = maker, .reservation = number };
+	struct question q = { .what = PREPARE, .pid = process, .call = call };
+	struct reply r;
+	ask(&q, NULL, &r);
+	return r.result;
+}
+
+void link_space(unsigned number, unsigned call)
+{
+	struct question q = { .what = SPACE, .call = call, .reservation = number };
 	struct reply r;
 	ask(&q, NULL, &r);
 }

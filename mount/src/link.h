@@ -21,8 +21,10 @@ void link_cancel(unsigned reservation);
 void link_exited(pid_t pid);
 /* All threads of a frozen process rest, or no longer do. */
 void link_stopped(pid_t pid, bool stopped);
-/* A process has made a cgroup namespace. */
-void link_space(unsigned number, pid_t maker);
+/* A call of the process is about to make a cgroup namespace: 0, or the negated errno if it may not. `call` is a number by
+   which the caller knows it. Then: it has made this one, or with number 0 none. */
+int link_prepare(unsigned call, pid_t process);
+void link_space(unsigned number, unsigned call);
 /* The next process that has to stop or to continue; false if there is none. */
 bool link_order(pid_t *pid, bool *stop);
 

@@ -14,7 +14,7 @@ static const char help[] =
 	"makhloeum tree DIR [--watch]\n"
 	"makhloeum check DIR\n"
 	"\n"
-	"mount shows a hierarchy of process groups on the directory DIR, as a cgroup2 file system. A process is only a number\n"
+	"mount shows a cgroup hierarchy on the directory DIR, as a cgroup2 file system. A process is only a number\n"
 	"there. It returns once the mount is in place. fusermount3 -u DIR unmounts it; so does killing the server.\n"
 	"run mounts a hierarchy on /sys/fs/cgroup in its own namespaces and runs PROGRAM there. PROGRAM sees a cgroup2 file\n"
 	"system with its own processes. When it ends, the processes that it left behind are killed. No privileges are needed.\n"
@@ -25,7 +25,8 @@ static const char help[] =
 	"  --answers FILE  write these answers to FILE\n"
 	"  --extra         add files that clients look for and the engine does not have (run always has them). cgroup.freeze\n"
 	"                  freezes; the others are constant: cgroup.controllers and cgroup.subtree_control `pids`, cgroup.type\n"
-	"                  `domain`, cpu.stat all 0. A write of the current value succeeds; any other is EOPNOTSUPP.\n"
+	"                  `domain`, cpu.stat all 0. cgroup.subtree_control accepts +pids, and cgroup.type domain; any other value\n"
+	"                  is EOPNOTSUPP\n"
 	"  --keep LIST     add the files of these controllers (memory, cpu, io, cpuset, with commas between), and of --extra.\n"
 	"                  They check a value as the kernel does, store it and return it, but limit nothing; their counters\n"
 	"                  are 0. cgroup.subtree_control then turns controllers on and off, pids too\n"
@@ -35,11 +36,12 @@ static const char help[] =
 	"                  number so many), forget, depth, newest, trace, fork (PARENT CHILD), exit (PID). Without this option\n"
 	"                  a mount has only fork and exit, a run has no such directory, and neither keeps a history\n"
 	"  --foreground    mount stays in the foreground\n"
-	"  --root          PROGRAM sees itself as the superuser\n"
-	"  --users         PROGRAM has all users and groups of the caller, who must be a superuser\n"
+	"  --root          PROGRAM is root in its user namespace\n"
+	"  --users         PROGRAM has all users and groups of the caller, who must be root on the machine or in a user namespace\n"
 	"\n"
-	"The status of run is that of PROGRAM, or 128 plus the signal that ended it. It is 2 for a bad command line, or if\n"
-	"the machine does not allow what is needed; one sentence then names it.\n";
+	"The status of run is that of PROGRAM, or 128 plus the signal that ended it. It is 127 if PROGRAM is not found, 126 if\n"
+	"it cannot be executed, and 2 for a bad command line, or if the machine does not allow what is needed; one sentence\n"
+	"then names it.\n";
 
 /* A closed standard stream becomes /dev/null; else the next opened file would get its number. */
 static bool have_streams(void)

@@ -4,6 +4,7 @@
 #include "memory.h"
 #include "opening.h"
 #include "spaces.h"
+#include "status.h"
 #include <fcntl.h>
 #include <limits.h>
 #include <linux/capability.h>
@@ -30,29 +31,23 @@ bool mounting_opens(const struct seccomp_notif *call)
 	return names_cgroup2(call, 0);
 }
 
-bool mounting_root(pid_t thread, char *out, size_t size)
+int mounting_root(pid_t thread, char *out, size_t size)
 {
 	char name[48], text[PATH_MAX_SAID + 8];
 	snprintf(name, sizeof name, "/.makhloeum.0.%u", spaces_of(thread));
 	cleanup_fd int fd = groups_open(name, O_RDONLY);
 	ssize_t n = fd < 0 ? -1 : read(fd, text, sizeof text - 1);
-	if (n < 5)
-		return false; /* cppcheck-suppress resourceLeak ; the cleanup attribute closes it */
-	text[n - 1] = 0;
-	return snprintf(out, size, "%s", text + 3) < (int)size;
+	if (n < 0)
+		return -errno;
+	text[n > 0 ? n - 1 : 0] = 0;
+	return n >= 5 && snprintf(out, size, "%s", text + 3) < (int)size ? 0 : -EIO;
 }
 
 /* The thread's capabilities in its own user namespace. */
 static bool has_capability(pid_t thread, int which)
 {
-	char path[40], line[256];
-	unsigned long long bits = 0;
-	snprintf(path, sizeof path, "%d/status", thread);
-	cleanup_stream FILE *f = fopen(path, "re");
-	while (f && fgets(line, sizeof line, f))
-		if (strncmp(line, "CapEff:", 7) == 0)
-			bits = strtoull(line + 7, NULL, 16);
-	return bits >> which & 1;
+	char line[64];
+	return status_line(thread, "CapEff:", line, sizeof line) && strtoull(line, NULL, 16) >> which & 1;
 }
 
 static int open_space(pid_t thread, const char *which)
@@ -92,17 +87,18 @@ static int attach(int tree, int target, int users, int mounts)
 	return WIFEXITED(status) ? WEXITSTATUS(status) : EIO;
 }
 
-/* A copy of the mount, starting at the root of the caller's namespace. */
+/* A copy of the mount, starting at the root of the caller's namespace: a descriptor or -errno. */
 static int copy_of_mount(pid_t thread, bool read_only)
 {
 	char group[PATH_MAX_SAID];
 	struct mount_attr attributes = { .attr_set = MOUNT_ATTR_RDONLY };
-	if (!mounting_root(thread, group, sizeof group))
-		return -1;
+	int fault = mounting_root(thread, group, sizeof group);
+	if (fault)
+		return fault;
 	cleanup_fd int root = groups_open(group, O_PATH | O_DIRECTORY);
 	cleanup_fd int tree = root < 0 ? -1 : (int)syscall(SYS_open_tree, root, "", OPEN_TREE_CLONE | OPEN_TREE_CLOEXEC | AT_EMPTY_PATH);
-	if (tree >= 0 && read_only && syscall(SYS_mount_setattr, tree, "", AT_EMPTY_PATH, &attributes, sizeof attributes))
-		return -1;
+	if (tree < 0 || (read_only && syscall(SYS_mount_setattr, tree, "", AT_EMPTY_PATH, &attributes, sizeof attributes)))
+		return -errno;
 	return steal_fd(&tree);
 }
 
@@ -114,14 +110,16 @@ static int mount_groups(int listener, const struct seccomp_notif *call)
 		return EFAULT;
 	if (!has_capability(thread, CAP_SYS_ADMIN))
 		return EPERM;
-	cleanup_fd int target = opening_find(thread, AT_FDCWD, path, true);
-	cleanup_fd int users = open_space(thread, "user"), mounts = open_space(thread, "mnt");
 	struct statx st;
+	cleanup_fd int target = opening_find(thread, AT_FDCWD, path, true);
 	if (target < 0)
-		return ENOENT;
+		return errno == ENOMEM ? ENOMEM : ENOENT;
+	cleanup_fd int users = open_space(thread, "user"), mounts = open_space(thread, "mnt");
 	if (statx(target, "", AT_EMPTY_PATH | AT_STATX_DONT_SYNC | AT_NO_AUTOMOUNT, STATX_TYPE, &st) || !S_ISDIR(st.stx_mode))
 		return ENOTDIR;
 	cleanup_fd int tree = users < 0 || mounts < 0 ? -1 : copy_of_mount(thread, call->data.args[3] & READ_ONLY);
+	if (tree == -ENOMEM)
+		return ENOMEM;
 	if (tree < 0 || ioctl(listener, SECCOMP_IOCTL_NOTIF_ID_VALID, &call->id))
 		return EPERM;
 	return attach(tree, target, users, mounts);

@@ -12,7 +12,7 @@
 bool mounting_takes(int listener, const struct seccomp_notif *call, int *error);
 /* fsopen: true if it asks for cgroup2. */
 bool mounting_opens(const struct seccomp_notif *call);
-/* The root of a thread's cgroup namespace. */
-bool mounting_root(pid_t thread, char *out, size_t size);
+/* The root of a thread's cgroup namespace: 0 or -errno. */
+int mounting_root(pid_t thread, char *out, size_t size);
 
 #endif

@@ -1,5 +1,6 @@
 #include "opening.h"
 #include "cleanup.h"
+#include "status.h"
 #include <fcntl.h>
 #include <limits.h>
 #include <linux/magic.h>
@@ -25,24 +26,9 @@ bool opening_same_numbers(pid_t a, pid_t b)
 	return stat(path, &other) == 0 && one.st_ino == other.st_ino && one.st_dev == other.st_dev;
 }
 
-/* A number in /proc/PID/status: the last one of the line with this beginning. */
-static pid_t status_number(pid_t pid, const char *key)
-{
-	char path[40], line[256];
-	snprintf(path, sizeof path, "%d/status", pid);
-	cleanup_stream FILE *f = fopen(path, "re");
-	while (f && fgets(line, sizeof line, f))
-		if (strncmp(line, key, strlen(key)) == 0) {
-			line[strcspn(line, "\n")] = 0;
-			const char *last = strrchr(line, '\t');
-			return last ? (pid_t)strtol(last + 1, NULL, 10) : -1;
-		}
-	return -1;
-}
-
 pid_t opening_process_of(pid_t thread)
 {
-	return status_number(thread, "Tgid:");
+	return (pid_t)status_number(thread, "Tgid:");
 }
 
 /* The caller is the helper. Its parent is the supervisor, which traces its other children, except those of makhloeum. In
@@ -58,9 +44,11 @@ pid_t opening_seen_from(pid_t thread, pid_t number)
 {
 	struct dirent *entry;
 	if (opening_same_numbers(thread, getpid()))
-		return status_number(number, "Tgid:");
+		return opening_process_of(number);
 	cleanup_directory DIR *all = opendir(".");
-	while (all && (entry = readdir(all))) {
+	if (!all)
+		return -errno;
+	while ((entry = readdir(all))) {
 		pid_t pid = (pid_t)strtol(entry->d_name, NULL, 10);
 		if (pid > 0 && status_number(pid, "NStgid:") == number && opening_same_numbers(pid, thread))
 			return pid;
@@ -155,8 +143,8 @@ static bool follow_self(struct walk *w, const char *name)
 {
 	char text[64];
 	bool same = is_own_proc(w->at) || opening_same_numbers(w->thread, getpid());
-	pid_t process = same ? opening_process_of(w->thread) : status_number(w->thread, "NStgid:");
-	pid_t thread = same ? w->thread : status_number(w->thread, "NSpid:");
+	pid_t process = (pid_t)status_number(w->thread, same ? "Tgid:" : "NStgid:");
+	pid_t thread = same ? w->thread : (pid_t)status_number(w->thread, "NSpid:");
 	if (strcmp(name, "self") == 0)
 		snprintf(text, sizeof text, "%d", process);
 	else
@@ -238,20 +226,13 @@ static int walk_by_hand(pid_t thread, int root, int from, const char *path, bool
 	char name[NAME_MAX + 1];
 	bool is_last;
 	struct walk w = { .thread = thread, .root = root, .at = from };
-	if (snprintf(w.rest, sizeof w.rest, "%s", path) >= (int)sizeof w.rest) {
-		close(from);
-		return -1;
-	}
-	while (take_name(&w, name, &is_last))
-		if (!step(&w, name, follows || !is_last)) {
-			close(w.at);
-			return -1;
-		}
-	if (w.rest[strspn(w.rest, "/")]) {
-		close(w.at);
-		return -1;
-	}
-	return w.at;
+	bool found = snprintf(w.rest, sizeof w.rest, "%s", path) < (int)sizeof w.rest;
+	while (found && take_name(&w, name, &is_last))
+		found = step(&w, name, follows || !is_last);
+	if (found && w.rest[strspn(w.rest, "/")] == 0)
+		return w.at;
+	close_at(&w.at);
+	return -1;
 }
 
 /* ---------------------------------------------------------------- the whole path */
@@ -260,6 +241,7 @@ static int walk_by_hand(pid_t thread, int root, int from, const char *path, bool
    it depends on who asks, and files that this process does not see. */
 int opening_find(pid_t thread, int directory, const char *path, bool follows)
 {
+	errno = 0;
 	cleanup_fd int root = open_of(thread, "root");
 	cleanup_fd int own = open("/", O_PATH | O_CLOEXEC);
 	cleanup_fd int from = path[0] == '/' ? fcntl(root, F_DUPFD_CLOEXEC, 0)

@@ -7,7 +7,7 @@
 #include <stdbool.h>
 #include <sys/types.h>
 
-/* A descriptor (O_PATH) of the file, or -1. */
+/* A descriptor (O_PATH) of the file, or -1 and errno: ENOMEM only if memory did not suffice to find it. */
 int opening_find(pid_t thread, int directory, const char *path, bool follows);
 /* The same for a descriptor of the thread. */
 int opening_of_descriptor(pid_t thread, int fd);
@@ -17,7 +17,8 @@ bool opening_same_numbers(pid_t a, pid_t b);
 pid_t opening_process_of(pid_t thread);
 /* Whether the number, in the numbers of the asking thread, is that of a thread of makhloeum. */
 bool opening_is_own(pid_t thread, pid_t number);
-/* The process that has this number, or a thread with it, in the numbers of the asking thread. */
+/* The process that has this number, or a thread with it, in the numbers of the asking thread. -1: there is none; another
+   -errno if it can't be known. */
 pid_t opening_seen_from(pid_t thread, pid_t number);
 
 #endif

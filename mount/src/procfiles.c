@@ -16,15 +16,26 @@ enum { LONG = 4096 };
 
 /* ---------------------------------------------------------------- the texts */
 
+/* A descriptor or -errno, as all below. */
 static int new_text(const char *name, FILE **out)
 {
-	int fd = memfd_create(name, MFD_CLOEXEC);
-	*out = fd < 0 ? NULL : fdopen(dup(fd), "w");
-	if (fd >= 0 && !*out) {
-		close(fd);
-		return -1;
-	}
-	return fd;
+	cleanup_fd int fd = memfd_create(name, MFD_CLOEXEC), own = fd < 0 ? -1 : dup(fd);
+	*out = own < 0 ? NULL : fdopen(own, "w");
+	if (!*out)
+		return -errno;
+	steal_fd(&own);
+	return steal_fd(&fd);
+}
+
+/* The text is complete, or not shown. */
+static int end_text(int fd, FILE *out, int fault)
+{
+	bool incomplete = ferror(out);
+	incomplete |= fclose(out) != 0;
+	if (fault == 0 && !incomplete)
+		return fd;
+	close(fd);
+	return fault ? fault : -ENOMEM;
 }
 
 /* A file of the mount, so that it shows the current group even if it stays open. */
@@ -32,7 +43,8 @@ static int cgroup_text(pid_t reader, pid_t pid)
 {
 	char name[48];
 	snprintf(name, sizeof name, "/.makhloeum.%d.%u", pid, spaces_of(reader));
-	return groups_open(name, O_RDONLY);
+	int fd = groups_open(name, O_RDONLY);
+	return fd < 0 ? -errno : fd;
 }
 
 /* A word of a line, counted from 0. */
@@ -93,20 +105,23 @@ static void put_mount(FILE *out, char *line, const char *what, const char *root)
 
 static int mounts_text(pid_t reader, pid_t pid, const char *what)
 {
-	char path[48], root[LONG] = "/";
+	char path[48], root[LONG];
 	cleanup_free char *line = NULL;
 	size_t room = 0;
 	FILE *out;
 	snprintf(path, sizeof path, "%d/%s", pid, what);
+	int fault = mounting_root(reader, root, sizeof root);
+	if (fault)
+		return fault;
 	cleanup_stream FILE *in = fopen(path, "re");
-	int fd = in ? new_text(what, &out) : -1;
+	if (!in)
+		return errno == ENOMEM ? -ENOMEM : -1;
+	int fd = new_text(what, &out);
 	if (fd < 0)
-		return -1; /* cppcheck-suppress resourceLeak ; the cleanup attribute closes it */
-	mounting_root(reader, root, sizeof root);
+		return fd; /* cppcheck-suppress resourceLeak ; the cleanup attribute closes it */
 	while (getline(&line, &room, in) > 0)
 		put_mount(out, line, what, root);
-	fclose(out);
-	return fd;
+	return end_text(fd, out, feof(in) ? 0 : errno == ENOMEM ? -ENOMEM : -1);
 }
 
 static int constant_text(const char *name, const char *text)
@@ -114,10 +129,9 @@ static int constant_text(const char *name, const char *text)
 	FILE *out;
 	int fd = new_text(name, &out);
 	if (fd < 0)
-		return -1;
+		return fd;
 	fputs(text, out);
-	fclose(out);
-	return fd;
+	return end_text(fd, out, 0);
 }
 
 /* ---------------------------------------------------------------- which file it is */
@@ -157,6 +171,6 @@ int procfiles_text(pid_t thread, int file)
 		return -1;
 	pid_t pid = opening_seen_from(thread, (pid_t)strtol(who, NULL, 10));
 	if (pid <= 0)
-		return -1;
+		return pid ? pid : -1;
 	return is_group ? cgroup_text(thread, pid) : is_cpuset ? constant_text(what, "/\n") : mounts_text(thread, pid, what);
 }

@@ -4,8 +4,8 @@
 
 #include <sys/types.h>
 
-/* If the file (O_PATH) is one of these, a descriptor of the text that the thread has to see in its place. -1 for any other.
-    */
+/* If the file (O_PATH) is one of these, a descriptor of the text that the thread has to see in its place, or -errno if it
+   cannot be made. -1 for any other file, and for one of a process that is gone. */
 int procfiles_text(pid_t thread, int file);
 
 #endif

@@ -1,11 +1,14 @@
 #include "real.h"
 #include "cleanup.h"
 #include "engine.h"
+#include "listed.h"
 #include "place.h"
 #include "reported.h"
+#include "status.h"
 #include "watch.h"
 #include <dirent.h>
 #include <errno.h>
+#include <fcntl.h>
 #include <signal.h>
 #include <stdio.h>
 #include <stdlib.h>
@@ -17,8 +20,9 @@
 
 enum { PIDS = 4194304, PROCESS_ONE = 1 };
 
-/* What is known of each number. A process that a kill in the hierarchy reached is dying: it may fork no more. */
-enum { UNKNOWN, LIVE, DYING };
+/* What is known of each number. A process that a kill in the hierarchy reached is dying: it may fork no more. One that is
+   disowned leaves the hierarchy at the next look. */
+enum { UNKNOWN, LIVE, DYING, DISOWNED };
 static unsigned char known[PIDS];
 static enum { NUMBERS, ADOPTED, REPORTED } way;
 
@@ -56,30 +60,10 @@ static bool is_known(pid_t pid)
 	return pid > 0 && pid < PIDS && known[pid] != UNKNOWN;
 }
 
-/* The group of a process; false if there is no such process. */
-static bool find_group(pid_t pid, char group[PATH_MAX_SAID])
-{
-	size_t size;
-	if (engine_look("where %d", pid))
-		return false;
-	const char *text = engine_text(&size);
-	snprintf(group, PATH_MAX_SAID, "%.*s", (int)size - 4, text + 3);
-	return true;
-}
-
 pid_t real_process_of(pid_t thread)
 {
-	char path[40], said[64];
-	int process = thread;
-	snprintf(path, sizeof path, "%d/status", thread);
-	FILE *f = fopen(path, "re");
-	if (!f)
-		return thread;
-	while (fgets(said, sizeof said, f))
-		if (sscanf(said, "Tgid: %d", &process) == 1)
-			break;
-	fclose(f);
-	return process;
+	long process = status_number(thread, "Tgid:");
+	return process > 0 ? (pid_t)process : thread;
 }
 
 /* ---------------------------------------------------------------- mount --adopt */
@@ -120,137 +104,175 @@ static void drop_adopted(pid_t pid)
 		}
 }
 
-/* False if the exit cannot be kept now: an adopted process exits at a later look. */
-static bool die(pid_t pid)
+/* 0, or -errno if the exit cannot be kept now: then the process exits at a later look. */
+static int die(pid_t pid)
 {
 	char group[PATH_MAX_SAID];
-	bool stood = find_group(pid, group);
-	if (known[pid] == LIVE) {
-		int fault = engine_line("exit %d", pid);
-		if (fault && fault != -ESRCH && way == ADOPTED)
-			return false;
-	}
+	int fault = engine_where(pid, group, sizeof group);
+	bool stood = fault == 0;
+	if (fault == -ENOMEM)
+		return fault;
+	if (known[pid] != DYING && (fault = engine_line("exit %d", pid)) && fault != -ESRCH)
+		return fault;
 	drop_adopted(pid);
 	if (stood)
 		watch_above(group);
-	return true;
+	return 0;
 }
 
 /* Called once the child's descriptor is open: whatever the number means now, a signal reaches a child of an adopted
    process, or nothing. */
 static bool is_child_of(pid_t child, pid_t parent)
 {
-	char path[40], said[64];
-	int found = 0;
-	snprintf(path, sizeof path, "%d/status", child);
-	cleanup_stream FILE *f = fopen(path, "re");
-	while (f && fgets(said, sizeof said, f))
-		if (sscanf(said, "PPid: %d", &found) == 1)
-			break;
-	return found == parent;
+	return status_number(child, "PPid:") == parent;
 }
 
-static void adopt_child(pid_t parent, long child)
+/* 0 or -ENOMEM */
+static int adopt_child(pid_t parent, long child)
 {
 	if (child <= PROCESS_ONE || child >= PIDS || is_known((pid_t)child) || child == getpid())
-		return;
-	if (remember((pid_t)child))
-		return;
-	int fault = is_child_of((pid_t)child, parent) ? engine_line("fork %d %ld", parent, child) : -ENOENT;
+		return 0;
+	int fault = remember((pid_t)child);
+	if (fault)
+		return fault == -ENOMEM ? fault : 0;
+	fault = is_child_of((pid_t)child, parent) ? engine_line("fork %d %ld", parent, child) : -ENOENT;
 	/* A child that the hierarchy refuses (pids.max, or a refused parent) is counted once. The child is real all the
 	   same, and is remembered. A child that cannot be kept now is adopted at a later look. */
 	if (fault && fault != -EAGAIN && fault != -ESRCH && fault != -EEXIST)
 		drop_adopted((pid_t)child);
+	return fault == -ENOMEM ? fault : 0;
 }
 
-/* The children of each thread. Their list may have any length; a number at the end of a read may be incomplete. */
-static void adopt_children(pid_t pid)
+/* The numbers in a list of any length, whose reads end anywhere. */
+static int adopt_listed(pid_t parent, int list)
+{
+	char some[4096];
+	long child = 0;
+	ssize_t n;
+	int fault = 0;
+	while (fault == 0 && (n = read(list, some, sizeof some)) > 0)
+		for (ssize_t i = 0; i < n && fault == 0; i++) {
+			bool is_digit = some[i] >= '0' && some[i] <= '9';
+			if (!is_digit && child)
+				fault = adopt_child(parent, child);
+			child = is_digit ? 10 * child + some[i] - '0' : 0;
+		}
+	return fault;
+}
+
+/* The children of each thread. 0 or -ENOMEM */
+static int adopt_children(pid_t pid)
 {
 	char path[320];
-	cleanup_free char *text = NULL;
-	size_t room = 0;
 	struct dirent *thread;
+	int fault = 0;
 	snprintf(path, sizeof path, "%d/task", pid);
 	cleanup_directory DIR *threads = opendir(path);
-	while (threads && (thread = readdir(threads))) {
-		snprintf(path, sizeof path, "%d/task/%s/children", pid, thread->d_name);
-		cleanup_stream FILE *f = thread->d_name[0] == '.' ? NULL : fopen(path, "re");
-		if (!f || getdelim(&text, &room, 0, f) <= 0)
+	if (!threads)
+		return errno == ENOMEM ? -ENOMEM : 0;
+	while (fault == 0 && (thread = readdir(threads))) {
+		if (thread->d_name[0] == '.')
 			continue;
-		for (char *at = text, *end;; at = end) {
-			long child = strtol(at, &end, 10);
-			if (end == at)
-				break;
-			adopt_child(pid, child);
-		}
+		snprintf(path, sizeof path, "%d/task/%s/children", pid, thread->d_name);
+		cleanup_fd int list = open(path, O_RDONLY | O_CLOEXEC);
+		if (list >= 0)
+			fault = adopt_listed(pid, list);
 	}
+	return fault;
 }
 
-void real_sweep(void)
+/* 0 or -ENOMEM */
+static int drop_disowned(void)
+{
+	for (size_t i = adopted_count; i-- > 0;) {
+		pid_t pid = adopted[i].pid;
+		int fault = known[pid] == DISOWNED ? engine_line("exit %d", pid) : 0;
+		if (fault == -ENOMEM)
+			return fault;
+		if (known[pid] == DISOWNED && (fault == 0 || fault == -ESRCH))
+			drop_adopted(pid);
+	}
+	return 0;
+}
+
+static int sweep_adopted(void)
 {
 	struct epoll_event dead[16];
-	int n;
-	if (way == REPORTED)
-		reported_sweep();
-	if (way != ADOPTED || adopted_count == 0)
-		return;
+	int n, fault = drop_disowned();
+	if (fault)
+		return fault;
 	for (size_t i = 0; i < adopted_count; i++)
-		adopt_children(adopted[i].pid);
+		if ((fault = adopt_children(adopted[i].pid)))
+			return fault;
 	while ((n = epoll_wait(deaths, dead, 16, 0)) > 0)
 		for (int i = 0; i < n; i++)
-			if (!die((pid_t)dead[i].data.u32))
-				return;
+			if ((fault = die((pid_t)dead[i].data.u32)))
+				return fault == -ENOMEM ? fault : 0;
+	return 0;
 }
 
-int real_adopt(pid_t pid)
+int real_sweep(void)
 {
 	if (way == REPORTED)
+		return reported_sweep();
+	return way == ADOPTED && adopted_count ? sweep_adopted() : 0;
+}
+
+int real_adopt(pid_t pid, bool *is_new)
+{
+	char group[PATH_MAX_SAID];
+	*is_new = false;
+	if (way == REPORTED)
 		return reported_move(pid);
-	if (way != ADOPTED || pid == PROCESS_ONE || is_known(pid))
+	if (way != ADOPTED || pid == PROCESS_ONE)
 		return 0;
-	if (engine_look("where %d", pid) == 0)
+	if (is_known(pid)) {
+		known[pid] = known[pid] == DISOWNED ? LIVE : known[pid];
 		return 0;
-	int fault = remember(pid);
+	}
+	int fault = engine_where(pid, group, sizeof group);
+	if (fault != -ESRCH)
+		return fault;
+	fault = remember(pid);
 	if (fault)
 		return fault == -ENOMEM ? fault : -ESRCH;
 	fault = engine_line("fork %d %d", PROCESS_ONE, pid);
 	if (fault)
-		known[pid] = DYING;
+		drop_adopted(pid);
+	*is_new = fault == 0;
 	return fault;
+}
+
+void real_disown(pid_t pid)
+{
+	known[pid] = DISOWNED;
+	drop_disowned();
 }
 
 /* ---------------------------------------------------------------- cgroup.kill */
 
-void real_note(const char *group)
+static int note(pid_t pid, const char *group)
 {
-	const char *paths;
-	size_t count, size;
-	noted_count = 0;
-	noted_group[0] = 0;
-	if (way == REPORTED)
-		snprintf(noted_group, sizeof noted_group, "%s", group);
-	if (way == NUMBERS || engine_groups(group, &paths, &count))
-		return;
-	for (; count--; paths += strlen(paths) + 1) {
-		if (engine_look("cat %s cgroup.procs", paths))
-			continue;
-		const char *text = engine_text(&size), *end = text + size;
-		while (text < end) {
-			pid_t pid = (pid_t)strtol(text, NULL, 10);
-			text = (const char *)memchr(text, '\n', (size_t)(end - text)) + 1;
-			if (way != REPORTED && !is_known(pid))
-				continue;
-			if (noted_count == noted_room) {
-				size_t room = noted_room ? 2 * noted_room : 64;
-				pid_t *more = realloc(noted, room * sizeof *more);
-				if (!more)
-					return;
-				noted = more;
-				noted_room = room;
-			}
-			noted[noted_count++] = pid;
-		}
+	(void)group;
+	if (way != REPORTED && !is_known(pid))
+		return 0;
+	if (noted_count == noted_room) {
+		size_t room = noted_room ? 2 * noted_room : 64;
+		pid_t *more = realloc(noted, room * sizeof *more);
+		if (!more)
+			return -ENOMEM;
+		noted = more;
+		noted_room = room;
 	}
+	noted[noted_count++] = pid;
+	return 0;
+}
+
+int real_note(const char *group)
+{
+	noted_count = 0;
+	snprintf(noted_group, sizeof noted_group, "%s", way == REPORTED ? group : "");
+	return way == NUMBERS ? 0 : listed_each(group, true, note);
 }
 
 /* A number means the same process until its death is noticed; for an adopted process the descriptor tells. */

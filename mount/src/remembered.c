@@ -42,6 +42,25 @@ struct remembered *remembered_make(const char *group)
 	return NULL;
 }
 
+struct visit {
+	const char *top;
+	void (*call)(const struct remembered *r);
+};
+
+static void visit(const void *node, VISIT when, void *which)
+{
+	const struct visit *v = which;
+	const struct remembered *r = *(struct remembered *const *)node;
+	if ((when == postorder || when == leaf) && is_at_or_below(r->path, v->top))
+		v->call(r);
+}
+
+void remembered_each(const char *top, void (*call)(const struct remembered *r))
+{
+	WANTS_LOCK();
+	twalk_r(all, visit, &(struct visit){ top, call });
+}
+
 void remembered_tidy(struct remembered *r)
 {
 	WANTS_LOCK();

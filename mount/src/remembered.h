@@ -27,6 +27,8 @@ struct remembered {
 struct remembered *remembered_find(const char *group);
 /* The same, made if there is none; NULL: out of memory. */
 struct remembered *remembered_make(const char *group);
+/* Calls for each that is remembered, of a group and of those below it. The call may not make or drop any. */
+void remembered_each(const char *top, void (*call)(const struct remembered *r));
 /* Drops what has become empty. */
 void remembered_tidy(struct remembered *r);
 /* The group was removed. */

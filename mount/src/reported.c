@@ -3,6 +3,7 @@
 #include "controllers.h"
 #include "engine.h"
 #include "freezer.h"
+#include "listed.h"
 #include "place.h"
 #include "watch.h"
 #include "zombies.h"
@@ -17,6 +18,7 @@ enum { PIDS = 4194304, PROCESS_ONE = 1 };
 /* A process that a kill in the hierarchy reached is dying: it may fork no more. */
 enum { UNKNOWN, LIVE, DYING };
 static unsigned char known[PIDS];
+static size_t known_count;
 
 /* A fork that was allowed and is not made yet. It counts against every limit at or above its group. */
 struct reservation {
@@ -27,19 +29,11 @@ struct reservation {
 	char group[];
 };
 static struct reservation *reserved;
+static size_t reserved_count;
 
 static bool in_range(pid_t pid)
 {
 	return pid > PROCESS_ONE && pid < PIDS;
-}
-
-/* 0; -ESRCH if the hierarchy has no such process; any other errno if it can't be known. */
-static int find_group(pid_t pid, char group[PATH_MAX_SAID])
-{
-	if (pid == 0)
-		return -ESRCH;
-	int fault = engine_look("where %d", pid);
-	return fault ? fault : engine_where(pid, group, PATH_MAX_SAID) ? 0 : -ENOMEM;
 }
 
 /* ---------------------------------------------------------------- reservations */
@@ -58,6 +52,7 @@ static int reserve(const char *group, pid_t parent, bool elsewhere, unsigned *ou
 	r->killed = false;
 	r->next = reserved;
 	reserved = r;
+	reserved_count++;
 	*out = r->number;
 	return 0;
 }
@@ -79,6 +74,7 @@ void reported_cancel(unsigned reservation)
 		return;
 	struct reservation *r = *at;
 	*at = r->next;
+	reserved_count--;
 	free(r);
 }
 
@@ -112,13 +108,16 @@ static int is_any_full(const char *group, bool with_reserved)
 	return full;
 }
 
-/* A number that no process has. */
+/* A number that no process has; or -ENOMEM. */
 static pid_t free_number(pid_t below)
 {
-	pid_t pid = below - 1;
-	while (pid > PROCESS_ONE && (known[pid] != UNKNOWN || engine_look("where %d", pid) == 0))
-		pid--;
-	return pid;
+	char group[PATH_MAX_SAID];
+	for (pid_t pid = below - 1; pid > PROCESS_ONE; pid--) {
+		int fault = known[pid] == UNKNOWN ? engine_where(pid, group, sizeof group) : 0;
+		if (fault)
+			return fault == -ESRCH ? pid : fault;
+	}
+	return PROCESS_ONE;
 }
 
 /* The engine counts only a refusal that it makes itself. If only reservations fill the group, temporary processes take
@@ -127,9 +126,9 @@ static int refuse(pid_t parent, const char *group)
 {
 	pid_t lowest = PIDS;
 	int fault = 0;
-	for (long left = reserved_below("/"); left >= 0 && fault == 0; left--) {
+	for (size_t left = reserved_count + 1; left > 0 && fault == 0; left--) {
 		lowest = free_number(lowest);
-		fault = engine_line("fork %d %d", parent, lowest);
+		fault = lowest < 0 ? lowest : engine_line("fork %d %d", parent, lowest);
 		if (fault == 0)
 			zombies_add_gone(lowest);
 	}
@@ -154,24 +153,31 @@ static bool has_room(pid_t parent)
 	return !trace_may_be_full;
 }
 
+/* The group whose limits decide, if the process may make a child there. */
+static int find_place(pid_t parent, const char *group, char at[PATH_MAX_SAID])
+{
+	int fault;
+	snprintf(at, PATH_MAX_SAID, "%s", group ? group : "/");
+	if (group)
+		return (fault = engine_has_group(group)) ? fault : controllers_may_enter(group);
+	fault = parent ? engine_where(parent, at, PATH_MAX_SAID) : -ESRCH;
+	return fault == -ESRCH ? 0 : fault; /* if there is none, its own fork was undone */
+}
+
 int reported_reserve(pid_t parent, const char *group, unsigned *reservation)
 {
 	char at[PATH_MAX_SAID];
-	zombies_sweep();
+	/* `refuse` makes as many processes as there are reservations, and one more */
+	int fault = zombies_make_room(known_count + 2 * reserved_count + 2);
+	if (fault || (fault = zombies_sweep()))
+		return fault;
 	if (!in_range(parent) && parent != 0)
 		return -EAGAIN;
 	if (known[parent] == DYING)
 		return -EAGAIN;
 	if (!has_room(parent))
 		return -EAGAIN;
-	if (group && engine_has_group(group))
-		return -ENOENT;
-	int fault = group ? controllers_may_enter(group) : find_group(parent, at);
-	if (group && fault)
-		return fault;
-	if (group || fault == -ESRCH) /* if there is none, its own fork was undone */
-		snprintf(at, sizeof at, "%s", group ? group : "/");
-	else if (fault)
+	if ((fault = find_place(parent, group, at)))
 		return fault;
 	int full = is_any_full(at, true);
 	if (full < 0)
@@ -197,36 +203,39 @@ static int place(pid_t child, const char *group)
 	return fault;
 }
 
-static int tell(const struct reservation *r, pid_t child)
+static int tell(const struct reservation *r, pid_t child, bool *frozen)
 {
 	char at[PATH_MAX_SAID];
 	if (!in_range(child) || !zombies_settle(child))
 		return -EAGAIN;
 	if (r->killed || known[r->parent] == DYING)
 		return -ESRCH;
-	int fault = r->elsewhere ? -ESRCH : find_group(r->parent, at);
+	int fault = r->elsewhere || !r->parent ? -ESRCH : engine_where(r->parent, at, sizeof at);
 	bool has_parent = fault == 0;
-	if (fault && fault != -ESRCH)
+	if (fault == -ENOMEM)
 		return fault;
 	if (!has_parent)
 		snprintf(at, sizeof at, "%s", r->group);
-	if (engine_has_group(at))
-		return -ENOENT;
+	if ((fault = engine_has_group(at)))
+		return fault;
+	/* the child was allowed already: if a group is full now, or that can't be known, it is placed past the limits */
 	fault = has_parent && is_any_full(at, false) == 0 ? engine_line("fork %d %d", r->parent, child) : place(child, at);
-	if (fault == 0) {
-		known[child] = LIVE;
-		if (!has_parent)
-			watch_above(at);
-	}
-	return fault;
+	if (fault)
+		return fault;
+	known_count += known[child] == UNKNOWN;
+	known[child] = LIVE;
+	if (!has_parent)
+		watch_above(at);
+	*frozen = freezer_born(child, at);
+	return 0;
 }
 
-int reported_born(unsigned reservation, pid_t child)
+int reported_born(unsigned reservation, pid_t child, bool *frozen)
 {
 	const struct reservation *r = find_reserved(reservation);
 	if (!r)
 		return -EAGAIN;
-	int fault = tell(r, child);
+	int fault = tell(r, child, frozen);
 	reported_cancel(reservation);
 	if (fault == 0 || fault == -ESRCH || fault == -ENOENT || fault == -ENOMEM)
 		return fault;
@@ -236,23 +245,25 @@ int reported_born(unsigned reservation, pid_t child)
 
 void reported_exited(pid_t pid)
 {
-	char group[PATH_MAX_SAID] = "/";
+	char group[PATH_MAX_SAID];
 	if (!in_range(pid) || known[pid] == UNKNOWN)
 		return;
-	bool stands = known[pid] == LIVE && find_group(pid, group) != -ESRCH;
+	bool stands = known[pid] == LIVE && engine_where(pid, group, sizeof group) != -ESRCH;
 	known[pid] = UNKNOWN;
+	known_count--;
 	freezer_gone(pid);
 	if (!stands)
 		return;
 	zombies_add(pid);
-	watch_above(group);
+	watch_process(pid);
 }
 
 /* ---------------------------------------------------------------- what else the file system needs */
 
-void reported_sweep(void)
+int reported_sweep(void)
 {
-	zombies_sweep();
+	freezer_catch_up();
+	return zombies_sweep();
 }
 
 /* A program may write any number; a process that is not its own stays where it is. */
@@ -265,24 +276,44 @@ int reported_move(pid_t pid)
 	return 0;
 }
 
-void reported_leave(const char *group)
+static int is_alive(pid_t pid, const char *group)
+{
+	(void)group;
+	return !zombies_has(pid);
+}
+
+/* If a line fails, those that were moved stay above, where they count anyway. */
+static int move_all(const char *group, const char *to)
+{
+	size_t size;
+	int fault = engine_look("cat %s cgroup.procs", group);
+	if (fault)
+		return fault;
+	const char *text = engine_text(&size);
+	cleanup_free char *procs = strndup(text, size);
+	if (!procs)
+		return -ENOMEM;
+	for (char *at = procs, *end; *at && fault == 0; at = end + (*end == '\n'))
+		fault = engine_line("write %s cgroup.procs %ld", to, strtol(at, &end, 10));
+	return fault;
+}
+
+int reported_leave(const char *group)
 {
 	char above[PATH_MAX_SAID];
 	const char *names;
-	size_t count, size;
-	if (zombies_count() == 0 || is_root(group) || engine_children(group, &names, &count) || count)
-		return;
-	if (engine_look("cat %s cgroup.procs", group))
-		return;
-	const char *text = engine_text(&size);
-	cleanup_free char *procs = strndup(text, size);
-	for (char *at = procs, *end; at && *at; at = end + (*end == '\n'))
-		if (!zombies_has((pid_t)strtol(at, &end, 10)))
-			return;
+	size_t count;
+	if (zombies_count() == 0 || is_root(group))
+		return 0;
+	int fault = engine_children(group, &names, &count);
+	if (fault || count)
+		return fault;
+	fault = listed_each(group, true, is_alive);
+	if (fault)
+		return fault < 0 ? fault : 0;
 	snprintf(above, sizeof above, "%s", group);
 	go_up(above);
-	for (char *at = procs, *end; at && *at; at = end + (*end == '\n'))
-		engine_line("write %s cgroup.procs %ld", above, strtol(at, &end, 10));
+	return move_all(group, above);
 }
 
 bool reported_kill(pid_t pid)
@@ -301,39 +332,54 @@ void reported_kill_reserved(const char *group)
 
 /* ---------------------------------------------------------------- texts */
 
-static long count_below(const char *group)
+/* Leaves out the zombies. */
+static size_t shorten(char *procs)
 {
-	uint64_t count;
-	return engine_current(group, &count) ? -1 : (long)count;
+	char *to = procs;
+	for (char *at = procs, *end; *at; at = end) {
+		pid_t pid = (pid_t)strtol(at, &end, 10);
+		end += *end == '\n';
+		size_t n = (size_t)(end - at);
+		if (zombies_has(pid))
+			continue;
+		memmove(to, at, n);
+		to += n;
+	}
+	return (size_t)(to - procs);
 }
 
-const char *reported_text(const char *group, const struct file *file, const char *text, size_t *size)
+/* 1 if there is nobody but zombies; 0; -errno */
+static int are_all_zombies(const char *group)
+{
+	uint64_t count, dead;
+	int fault = engine_current(group, &count);
+	if (fault == 0)
+		fault = zombies_below(group, &dead);
+	return fault ? fault : count == dead;
+}
+
+int reported_text(const char *group, const struct file *file, const char **text, size_t *size)
 {
 	static char *own;
-	if (zombies_count() == 0)
-		return text;
+	if (zombies_count() == 0 || *size == 0)
+		return 0;
 	bool procs = strcmp(file->name, "cgroup.procs") == 0, events = strcmp(file->name, "cgroup.events") == 0;
-	if ((!procs && !events) || *size == 0)
-		return text;
+	if (!procs && !events)
+		return 0;
 	char *copy = realloc(own, *size + 1);
 	if (!copy)
-		return text;
+		return -ENOMEM;
 	own = copy;
-	memcpy(own, text, *size);
+	memcpy(own, *text, *size);
 	own[*size] = 0;
-	if (procs) {
-		char *to = own;
-		for (char *at = own, *end; *at; at = end) {
-			pid_t pid = (pid_t)strtol(at, &end, 10);
-			end += *end == '\n';
-			size_t n = (size_t)(end - at);
-			if (zombies_has(pid))
-				continue;
-			memmove(to, at, n);
-			to += n;
-		}
-		*size = (size_t)(to - own);
-	} else if (strncmp(own, "populated 1", 11) == 0 && count_below(group) == zombies_below(group))
-		own[10] = '0';
-	return own;
+	*text = own;
+	if (procs)
+		*size = shorten(own);
+	else if (strncmp(own, "populated 1", 11) == 0) {
+		int dead = are_all_zombies(group);
+		if (dead < 0)
+			return dead;
+		own[10] = dead ? '0' : '1';
+	}
+	return 0;
 }

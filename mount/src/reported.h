@@ -13,23 +13,23 @@
     */
 int reported_reserve(pid_t parent, const char *group, unsigned *reservation);
 /* The child exists and has not run: 0, or -errno if the hierarchy cannot take it (-ESRCH: a kill in the hierarchy reached
-   it). The reservation ends. */
-int reported_born(unsigned reservation, pid_t child);
+   it). The reservation ends. `frozen`: it starts in a frozen group. */
+int reported_born(unsigned reservation, pid_t child, bool *frozen);
 /* No child was made. */
 void reported_cancel(unsigned reservation);
 /* It is a zombie: it counts until its parent waits for it, and is no longer listed. */
 void reported_exited(pid_t pid);
 
-/* Zombies that were waited for exit, and an exit whose line could not be kept is tried again. */
-void reported_sweep(void);
+/* Zombies that were waited for exit, and an exit whose line could not be kept is tried again. 0 or -ENOMEM */
+int reported_sweep(void);
 /* A move of a process to a group: 0, -errno, or 1 for a zombie, which does not move. */
 int reported_move(pid_t pid);
-/* Before a group is removed: zombies do not keep it from being removed, and then count above it. */
-void reported_leave(const char *group);
+/* Before a group is removed: zombies do not keep it from being removed, and then count above it. 0 or -errno */
+int reported_leave(const char *group);
 /* A kill in the hierarchy reached it. True if the real process has to be killed. */
 bool reported_kill(pid_t pid);
 void reported_kill_reserved(const char *group);
-/* The text of a file as the kernel shows it if a group has zombies: the engine's, or another one. */
-const char *reported_text(const char *group, const struct file *file, const char *text, size_t *size);
+/* The text of a file as the kernel shows it if a group has zombies: the engine's, or another one. 0 or -errno */
+int reported_text(const char *group, const struct file *file, const char **text, size_t *size);
 
 #endif

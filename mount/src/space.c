@@ -89,7 +89,7 @@ static bool enter_with_all(void)
 bool space_enter(const struct wishes *wishes)
 {
 	if (wishes->users && geteuid()) {
-		say("--users needs a superuser, of this machine or of a user namespace: unshare --map-root-user --map-auto makes one");
+		say("--users needs root on this machine or in a user namespace: unshare --map-root-user --map-auto makes one");
 		return false;
 	}
 	bool entered = wishes->users ? enter_with_all() : enter_alone(wishes->as_root);

@@ -1,6 +1,7 @@
 #include "spaces.h"
 #include "engine.h"
 #include "place.h"
+#include <errno.h>
 #include <stdio.h>
 #include <stdlib.h>
 #include <string.h>
@@ -10,42 +11,63 @@
    once. */
 static struct space {
 	struct space *next;
-	unsigned number;
+	unsigned number; /* or that of the call that is about to make it */
 	char root[];
-} *all;
+} *all, *coming;
 
-static struct space **find(unsigned number)
+/* Takes an entry out of a list; NULL: it has none. */
+static struct space *take(struct space **at, unsigned number)
 {
-	struct space **at = &all;
 	while (*at && (*at)->number != number)
 		at = &(*at)->next;
-	return at;
+	struct space *s = *at;
+	if (s)
+		*at = s->next;
+	return s;
 }
 
-void spaces_made(unsigned number, pid_t maker)
+static void add(struct space **list, struct space *s, unsigned number)
 {
-	char group[PATH_MAX_SAID];
+	s->number = number;
+	s->next = *list;
+	*list = s;
+}
+
+int spaces_prepare(unsigned call, pid_t process)
+{
+	char group[PATH_MAX_SAID] = "/";
 	WANTS_LOCK();
-	if (!engine_where(maker, group, sizeof group))
-		snprintf(group, sizeof group, "/");
-	struct space **at = find(number), *former = *at;
-	if (former) {
-		*at = former->next;
-		free(former);
-	}
+	int fault = engine_where(process, group, sizeof group);
+	if (fault == -ENOMEM)
+		return fault;
 	size_t size = strlen(group) + 1;
 	struct space *s = malloc(sizeof *s + size);
-	if (!s) /* then its root is the hierarchy's */
-		return;
-	*s = (struct space){ .next = all, .number = number };
+	if (!s)
+		return -ENOMEM;
 	memcpy(s->root, group, size);
-	all = s;
+	free(take(&coming, call)); /* of another thread that had this number */
+	add(&coming, s, call);
+	return 0;
+}
+
+void spaces_made(unsigned number, unsigned call)
+{
+	WANTS_LOCK();
+	struct space *s = take(&coming, call);
+	if (!s || !number) {
+		free(s);
+		return;
+	}
+	free(take(&all, number));
+	add(&all, s, number);
 }
 
 const char *spaces_root(unsigned number)
 {
 	WANTS_LOCK();
-	const struct space *s = *find(number);
+	const struct space *s = all;
+	while (s && s->number != number)
+		s = s->next;
 	return s ? s->root : "/";
 }
 

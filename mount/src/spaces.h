@@ -5,8 +5,11 @@
 
 #include <sys/types.h>
 
-/* Both require the engine's lock. A process has made this namespace. */
-void spaces_made(unsigned number, pid_t maker);
+/* All three require the engine's lock. A call of the process is about to make a namespace: 0, or -ENOMEM if it may not,
+   since its root cannot be kept. `call` is a number by which the supervisor knows it. */
+int spaces_prepare(unsigned call, pid_t process);
+/* It has made this namespace; 0: it has made none. */
+void spaces_made(unsigned number, unsigned call);
 const char *spaces_root(unsigned number);
 
 /* The number of a thread's namespace; 0: it can't be known. */

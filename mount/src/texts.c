@@ -9,18 +9,18 @@ int texts_read(const char *group, const struct file *file, bool keeps, const cha
 {
 	static char own[TEXT_ROOM];
 	WANTS_LOCK();
-	if (file->show)
-		file->show(group, file, own);
+	int fault = file->show ? file->show(group, file, own) : 0;
+	if (fault)
+		return fault;
 	if (file->show || file->take || file->constant) {
 		*text = file->show ? own : file->take ? values_kept(group, file->name) : file->constant;
 		*size = strlen(*text);
 		return 0;
 	}
-	int fault = keeps ? engine_line("cat %s %s", group, file->name) : engine_look("cat %s %s", group, file->name);
+	fault = keeps ? engine_line("cat %s %s", group, file->name) : engine_look("cat %s %s", group, file->name);
 	if (fault)
 		return fault;
 	*text = engine_text(size);
-	*text = reported_text(group, file, *text, size);
-	*text = freezer_text(group, file, *text, size);
-	return 0;
+	fault = reported_text(group, file, text, size);
+	return fault ? fault : freezer_text(group, file, text, *size);
 }

@@ -2,9 +2,11 @@
 #include "births.h"
 #include "halts.h"
 #include "link.h"
+#include "registers.h"
 #include "spaces.h"
 #include "threads.h"
 #include <errno.h>
+#include <sched.h>
 #include <signal.h>
 #include <stddef.h>
 #include <stdlib.h>
@@ -35,6 +37,27 @@ bool tracer_hold(pid_t pid)
 
 /* ---------------------------------------------------------------- stops */
 
+/* What the server knows the call by; births have small numbers. */
+static unsigned unshare_of(const struct thread *t)
+{
+	return ~(unsigned)t->id;
+}
+
+/* The namespace is handled after the call. */
+static void on_unshare(struct thread *t, unsigned long long flags)
+{
+	struct registers before;
+	int fault = flags & CLONE_NEWCGROUP ? link_prepare(unshare_of(t), t->process) : 0;
+	if (fault && registers_read(t->id, &before)) {
+		registers_refuse(t->id, &before, -fault);
+		ptrace(PTRACE_CONT, t->id, 0, 0);
+		return;
+	}
+	t->unshares = flags & CLONE_NEWCGROUP;
+	t->space = t->unshares ? spaces_of(t->id) : 0;
+	ptrace(t->unshares ? PTRACE_SYSCALL : PTRACE_CONT, t->id, 0, 0);
+}
+
 /* The stop was taken a while ago. Meanwhile the thread may have been killed, and another that called execve may have its
    number and be at another stop. So the kernel is asked at which stop it is now. */
 static void on_call(struct thread *t)
@@ -44,11 +67,9 @@ static void on_call(struct thread *t)
 		return;
 	if (call.op != PTRACE_SYSCALL_INFO_SECCOMP || halts_keeps(t, BEFORE_CALL))
 		return;
-	if (call.seccomp.nr == SYS_unshare) { /* its child is handled after the call */
-		t->unshares = true;
-		t->space = spaces_of(t->id);
-		ptrace(PTRACE_SYSCALL, t->id, 0, 0);
-	} else if (births_is_fork((long)call.seccomp.nr))
+	if (call.seccomp.nr == SYS_unshare)
+		on_unshare(t, call.seccomp.args[0]);
+	else if (births_is_fork((long)call.seccomp.nr))
 		births_ask(t, (long)call.seccomp.nr);
 	else /* of a filter that the program made for its own tracer */
 		ptrace(PTRACE_CONT, t->id, 0, 0);
@@ -97,12 +118,13 @@ static void on_pause(pid_t id, int signal)
 		ptrace(PTRACE_CONT, id, 0, 0);
 }
 
-/* A call that failed has made no child. */
+/* A call that failed has made no namespace. */
 static void on_unshared(struct thread *t)
 {
-	unsigned space = t->unshares ? spaces_of(t->id) : 0;
-	if (space && space != t->space)
-		link_space(space, t->process);
+	if (!t->unshares)
+		return;
+	unsigned space = spaces_of(t->id);
+	link_space(space == t->space ? 0 : space, unshare_of(t));
 	t->unshares = false;
 }
 
@@ -173,6 +195,8 @@ static void on_end(pid_t id)
 	pid_t process = t->process;
 	if (t->counted)
 		link_exited(id);
+	if (t->unshares)
+		link_space(0, unshare_of(t));
 	births_abandon(t);
 	halts_vfork_over(t);
 	threads_drop(t);

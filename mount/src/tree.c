@@ -40,15 +40,19 @@ static int control_getattr(const char *path, struct stat *st)
 		return 0;
 	}
 	set_stat(st, S_IFREG | control_mode(file), 1);
-	control_read(file, count_bytes, st);
-	return 0;
+	int fault = control_read(file, count_bytes, st);
+	return fault == -ENOMEM ? fault : 0;
 }
+
+/* The group that this thread has just made, or "". libfuse looks it up before it answers the mkdir, which must not fail then. */
+static _Thread_local char made[PATH_MAX_SAID];
 
 static int group_getattr(const char *path, struct stat *st)
 {
 	const char *names;
 	size_t count = 0;
-	int fault = engine_children(path, &names, &count);
+	int fault = strcmp(path, made) == 0 ? 0 : engine_children(path, &names, &count);
+	made[0] = 0;
 	if (fault)
 		return fault;
 	set_stat(st, S_IFDIR | 0755, (nlink_t)(2 + count));
@@ -56,23 +60,27 @@ static int group_getattr(const char *path, struct stat *st)
 }
 
 /* The size of a file is the length of its text: sendfile and splice transfer no more than that from a FUSE file. */
-static size_t text_size(const struct place *place)
+static int text_size(const struct place *place, off_t *bytes)
 {
 	const char *text;
 	size_t size = 0;
-	real_sweep();
-	return place->file->readable && texts_read(place->group, place->file, false, &text, &size) == 0 ? size : 0;
+	int fault = real_sweep();
+	if (fault == 0 && place->file->readable)
+		fault = texts_read(place->group, place->file, false, &text, &size);
+	*bytes = (off_t)size;
+	return fault;
 }
 
 static int file_getattr(const struct place *place, struct stat *st)
 {
-	if (engine_has_group(place->group) || !controllers_have(place->group, place->file))
+	int fault = engine_has_group(place->group);
+	if (fault)
+		return fault;
+	if (!controllers_have(place->group, place->file))
 		return -ENOENT;
 	set_stat(st, S_IFREG | file_mode(place->file), 1);
-	st->st_size = (off_t)text_size(place);
-	if (place->file->notified)
-		watch_seen(place->group, place->file);
-	return 0;
+	fault = text_size(place, &st->st_size);
+	return fault == 0 && place->file->notified ? watch_seen(place->group, place->file) : fault;
 }
 
 static int getattr(const char *path, struct place *place, struct stat *st)
@@ -174,6 +182,7 @@ int tree_mkdir(const char *path, mode_t mode)
 		return -EEXIST;
 	engine_lock();
 	fault = engine_line("mkdir %s", path);
+	snprintf(made, sizeof made, "%s", fault ? "" : path);
 	engine_unlock();
 	return fault;
 }
@@ -183,9 +192,11 @@ int tree_rmdir(const char *path)
 	if (control_has(path))
 		return -EPERM;
 	engine_lock();
-	real_sweep();
-	reported_leave(path);
-	int fault = engine_line("rmdir %s", path);
+	int fault = real_sweep();
+	if (fault == 0)
+		fault = reported_leave(path);
+	if (fault == 0)
+		fault = engine_line("rmdir %s", path);
 	if (fault == 0)
 		remembered_lose(path);
 	engine_unlock();

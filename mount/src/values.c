@@ -40,7 +40,8 @@ const struct file values_files[] = {
 	{ .name = "cpuset.mems.effective", .on_root = true, .readable = true, .controller = HAS_CPUSET, .show = cpuset_show_effective },
 	SHOWN("cpuset.cpus.partition", HAS_CPUSET, "member\n", cpuset_take_partition, cpuset_show_partition),
 	SHOWN("cpu.weight", HAS_CPU, "1024", cpu_take_weight, cpu_show_weight),
-	SHOWN("cpu.weight.nice", HAS_CPU, "", cpu_take_nice, cpu_show_nice),
+	{ .name = "cpu.weight.nice", .readable = true, .value = WRITES, .write = values_write, .controller = HAS_CPU, .take = cpu_take_nice,
+	  .show = cpu_show_nice, .form_of = "cpu.weight" },
 	TAKES("cpu.idle", HAS_CPU, "0\n", cpu_take_idle),
 	TAKES("cpu.max", HAS_CPU, "max 100000\n", cpu_take_max),
 	TAKES("cpu.max.burst", HAS_CPU, "0\n", cpu_take_burst),
@@ -133,5 +134,5 @@ int values_write(const char *group, const struct file *file, const char *data, s
 	memcpy(said, data, size);
 	said[size] = 0;
 	int fault = file->take(group, file, said, text);
-	return fault ? fault : values_keep(group, file->name, text);
+	return fault ? fault : values_keep(group, file->form_of ? file->form_of : file->name, text);
 }

@@ -25,9 +25,9 @@ int cpu_take_burst(const char *group, const struct file *file, const char *said,
 int cpu_take_weight(const char *group, const struct file *file, const char *said, char out[TEXT_ROOM]);
 int cpu_take_nice(const char *group, const struct file *file, const char *said, char out[TEXT_ROOM]);
 int cpu_take_idle(const char *group, const struct file *file, const char *said, char out[TEXT_ROOM]);
-void cpu_show_weight(const char *group, const struct file *file, char out[TEXT_ROOM]);
-void cpu_show_nice(const char *group, const struct file *file, char out[TEXT_ROOM]);
-void cpu_stat_show(const char *group, const struct file *file, char out[TEXT_ROOM]);
+int cpu_show_weight(const char *group, const struct file *file, char out[TEXT_ROOM]);
+int cpu_show_nice(const char *group, const struct file *file, char out[TEXT_ROOM]);
+int cpu_stat_show(const char *group, const struct file *file, char out[TEXT_ROOM]);
 /* values_memory.c */
 int memory_take_limit(const char *group, const struct file *file, const char *said, char out[TEXT_ROOM]);
 int memory_take_switch(const char *group, const struct file *file, const char *said, char out[TEXT_ROOM]);
@@ -37,7 +37,7 @@ int io_take_weight(const char *group, const struct file *file, const char *said,
 /* values_cpuset.c */
 int cpuset_take_list(const char *group, const struct file *file, const char *said, char out[TEXT_ROOM]);
 int cpuset_take_partition(const char *group, const struct file *file, const char *said, char out[TEXT_ROOM]);
-void cpuset_show_effective(const char *group, const struct file *file, char out[TEXT_ROOM]);
-void cpuset_show_partition(const char *group, const struct file *file, char out[TEXT_ROOM]);
+int cpuset_show_effective(const char *group, const struct file *file, char out[TEXT_ROOM]);
+int cpuset_show_partition(const char *group, const struct file *file, char out[TEXT_ROOM]);
 
 #endif

@@ -51,11 +51,12 @@ int cpu_take_weight(const char *group, const struct file *file, const char *said
 	return 0;
 }
 
-void cpu_show_weight(const char *group, const struct file *file, char out[TEXT_ROOM])
+int cpu_show_weight(const char *group, const struct file *file, char out[TEXT_ROOM])
 {
 	(void)file;
 	unsigned long long shares = (unsigned long long)shares_of(group);
 	snprintf(out, TEXT_ROOM, "%llu\n", divided(shares * WEIGHT, SHARES));
+	return 0;
 }
 
 int cpu_take_nice(const char *group, const struct file *file, const char *said, char out[TEXT_ROOM])
@@ -70,11 +71,11 @@ int cpu_take_nice(const char *group, const struct file *file, const char *said, 
 	if (is_idle(group))
 		return -EINVAL;
 	snprintf(out, TEXT_ROOM, "%d", of_nice[n - NICE_FIRST]);
-	return values_keep(group, "cpu.weight", out);
+	return 0;
 }
 
 /* The nearest; of two the first. */
-void cpu_show_nice(const char *group, const struct file *file, char out[TEXT_ROOM])
+int cpu_show_nice(const char *group, const struct file *file, char out[TEXT_ROOM])
 {
 	long shares = shares_of(group);
 	int best = 0;
@@ -82,6 +83,7 @@ void cpu_show_nice(const char *group, const struct file *file, char out[TEXT_ROO
 	while (best + 1 < NICE_COUNT && labs(of_nice[best + 1] - shares) < labs(of_nice[best] - shares))
 		best++;
 	snprintf(out, TEXT_ROOM, "%d\n", best + NICE_FIRST);
+	return 0;
 }
 
 int cpu_take_idle(const char *group, const struct file *file, const char *said, char out[TEXT_ROOM])
@@ -169,11 +171,12 @@ int cpu_take_burst(const char *group, const struct file *file, const char *said,
 
 /* ---------------------------------------------------------------- cpu.stat, which exists without the controller too */
 
-void cpu_stat_show(const char *group, const struct file *file, char out[TEXT_ROOM])
+int cpu_stat_show(const char *group, const struct file *file, char out[TEXT_ROOM])
 {
 	static const struct file of_controller = { .controller = HAS_CPU };
 	(void)file;
 	bool has_more = controllers_kept() & HAS_CPU && controllers_have(group, &of_controller);
 	snprintf(out, TEXT_ROOM, "usage_usec 0\nuser_usec 0\nsystem_usec 0\n%s",
 	         has_more ? "nr_periods 0\nnr_throttled 0\nthrottled_usec 0\nnr_bursts 0\nburst_usec 0\n" : "");
+	return 0;
 }

@@ -1,8 +1,8 @@
 /* cpuset.*: lists of processors and of memory nodes of this machine. */
-#include "cleanup.h"
 #include "engine.h"
 #include "lists.h"
 #include "scan.h"
+#include "status.h"
 #include "values.h"
 #include <errno.h>
 #include <stdio.h>
@@ -11,11 +11,11 @@
 /* What the machine itself reports. If it reports nothing, it has one of each. */
 static void read_machine(bool is_mems, const char *what, struct list *out)
 {
-	char path[80], line[TEXT_ROOM] = "0";
+	char path[80], line[TEXT_ROOM];
 	snprintf(path, sizeof path, "/sys/devices/system/%s/%s", is_mems ? "node" : "cpu", what);
-	cleanup_stream FILE *f = fopen(path, "re");
-	if (f && !fgets(line, sizeof line, f))
-		line[0] = 0;
+	if (status_text(path, line, sizeof line) < 0)
+		snprintf(line, sizeof line, "0");
+	line[strcspn(line, "\n")] = 0;
 	if (list_read(line, LIST_MAX, out) || list_is_empty(out))
 		list_read("0", LIST_MAX, out);
 }
@@ -53,7 +53,7 @@ static void narrow(const char *group, const char *name, struct list *effective)
 	}
 }
 
-void cpuset_show_effective(const char *group, const struct file *file, char out[TEXT_ROOM])
+int cpuset_show_effective(const char *group, const struct file *file, char out[TEXT_ROOM])
 {
 	char at[PATH_MAX_SAID];
 	struct list effective;
@@ -68,6 +68,7 @@ void cpuset_show_effective(const char *group, const struct file *file, char out[
 		}
 	if (!list_write(&effective, out, TEXT_ROOM))
 		snprintf(out, TEXT_ROOM, "\n");
+	return 0;
 }
 
 /* ---------------------------------------------------------------- cpuset.cpus.partition */
@@ -101,7 +102,7 @@ static const char *why_invalid(const char *group)
 	return values_kept(group, "cpuset.cpus")[0] == '\n' ? "cpuset.cpus and cpuset.cpus.exclusive are empty" : NULL;
 }
 
-void cpuset_show_partition(const char *group, const struct file *file, char out[TEXT_ROOM])
+int cpuset_show_partition(const char *group, const struct file *file, char out[TEXT_ROOM])
 {
 	const char *kept = values_kept(group, file->name);
 	const char *why = strcmp(kept, "member\n") == 0 ? NULL : why_invalid(group);
@@ -109,4 +110,5 @@ void cpuset_show_partition(const char *group, const struct file *file, char out[
 		snprintf(out, TEXT_ROOM, "%.*s invalid (%s)\n", (int)strcspn(kept, "\n"), kept, why);
 	else
 		snprintf(out, TEXT_ROOM, "%s", kept);
+	return 0;
 }

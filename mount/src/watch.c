@@ -28,6 +28,7 @@ static pthread_t teller;
 static bool running, stopping;
 static int companion = -1;
 
+/* If the text cannot be read, it is empty. No text is: so whoever waits is woken now or at the next change, and reads. */
 static void read_text(struct watched *w, char out[TEXT_MAX])
 {
 	size_t size = 0;
@@ -41,37 +42,48 @@ static void read_text(struct watched *w, char out[TEXT_MAX])
 	out[size] = 0;
 }
 
-void watch_seen(const char *group, const struct file *file)
+int watch_seen(const char *group, const struct file *file)
 {
 	WANTS_LOCK();
 	struct remembered *r = remembered_make(group);
 	struct watched *w = r ? r->watched : NULL;
 	while (w && w->file != file)
 		w = w->next;
-	if (!r || w)
-		return;
-	w = calloc(1, sizeof *w);
+	if (w)
+		return 0;
+	w = r ? calloc(1, sizeof *w) : NULL;
 	if (!w) {
 		remembered_tidy(r);
-		return;
+		return -ENOMEM;
 	}
 	w->of = r;
 	w->file = file;
 	read_text(w, w->text);
 	w->next = r->watched;
 	r->watched = w;
+	return 0;
+}
+
+static void *tell(void *unused);
+
+/* Requires the queue's lock. A thread that cannot be made now is made at the next change. */
+static void start(void)
+{
+	if (!running && !stopping)
+		running = pthread_create(&teller, NULL, tell, NULL) == 0;
 }
 
 static void check(struct watched *w)
 {
 	char text[TEXT_MAX];
 	read_text(w, text);
-	if (strcmp(text, w->text) == 0)
+	if (text[0] && strcmp(text, w->text) == 0)
 		return;
 	memcpy(w->text, text, TEXT_MAX);
 	opened_wake(w->of, w->file);
 	pthread_mutex_lock(&queue_lock);
-	if (!w->queued && running) {
+	start();
+	if (!w->queued && !stopping) {
 		w->queued = true;
 		w->to_tell = NULL;
 		*queue_end = w;
@@ -81,9 +93,8 @@ static void check(struct watched *w)
 	pthread_mutex_unlock(&queue_lock);
 }
 
-static void check_group(const char *group)
+static void check_all(const struct remembered *r)
 {
-	const struct remembered *r = remembered_find(group);
 	for (struct watched *w = r ? r->watched : NULL; w; w = w->next)
 		check(w);
 }
@@ -94,18 +105,24 @@ void watch_above(const char *group)
 	WANTS_LOCK();
 	snprintf(at, sizeof at, "%s", group);
 	for (; !is_root(at); go_up(at))
-		check_group(at);
+		check_all(remembered_find(at));
 }
 
 void watch_below(const char *group)
 {
-	const char *paths;
-	size_t count;
 	WANTS_LOCK();
-	if (engine_groups(group, &paths, &count) == 0)
-		for (; count--; paths += strlen(paths) + 1)
-			check_group(paths);
+	remembered_each(group, check_all);
 	watch_above(group);
+}
+
+void watch_process(pid_t pid)
+{
+	char group[PATH_MAX_SAID];
+	int fault = engine_where(pid, group, sizeof group);
+	if (fault == 0)
+		watch_above(group);
+	else if (fault == -ENOMEM)
+		watch_below("/");
 }
 
 /* Removes an entry from the queue. */
@@ -170,10 +187,11 @@ void watch_leave(void)
 	companion = -1;
 }
 
-bool watch_run(void)
+void watch_run(void)
 {
-	running = pthread_create(&teller, NULL, tell, NULL) == 0;
-	return running;
+	pthread_mutex_lock(&queue_lock);
+	start();
+	pthread_mutex_unlock(&queue_lock);
 }
 
 void watch_stop(void)

@@ -12,15 +12,17 @@ bool watch_begin(const char *mountpoint, bool unmount);
 /* In a process that does not serve: closes its end of the companion's pipe. */
 void watch_leave(void);
 /* Call these in the server: once its threads may run, and before the unmount. */
-bool watch_run(void);
+void watch_run(void);
 void watch_stop(void);
 
-/* The rest requires the engine's lock. A notified file was looked up. */
-void watch_seen(const char *group, const struct file *file);
+/* The rest requires the engine's lock. A notified file was looked up. 0 or -ENOMEM */
+int watch_seen(const char *group, const struct file *file);
 /* The processes of a group, or its refused forks, have changed: its files and those above it may have changed. */
 void watch_above(const char *group);
 /* Those of a group and of groups below it have changed: its files, those below it and those above it may have changed. */
 void watch_below(const char *group);
+/* The same as watch_above for the group that the process is in, if it is in any. */
+void watch_process(pid_t pid);
 void watch_forget(struct remembered *r);
 
 #endif

@@ -38,19 +38,29 @@ static void drop(struct zombie *z)
 		place[z->pid] = (unsigned)(z - all) + 1;
 }
 
+int zombies_make_room(size_t more)
+{
+	WANTS_LOCK();
+	if (count + more <= room)
+		return 0;
+	size_t wanted = room ? room : 64;
+	while (wanted < count + more)
+		wanted *= 2;
+	struct zombie *at = realloc(all, wanted * sizeof *at);
+	if (!at)
+		return -ENOMEM;
+	all = at;
+	room = wanted;
+	return 0;
+}
+
 static void add(pid_t pid, int fd, bool gone)
 {
-	if (count == room) {
-		size_t more = room ? 2 * room : 64;
-		struct zombie *at = realloc(all, more * sizeof *at);
-		if (!at) { /* it exits early rather than never */
-			if (fd >= 0)
-				close(fd);
-			engine_line("exit %d", pid);
-			return;
-		}
-		all = at;
-		room = more;
+	if (zombies_make_room(1)) { /* the room was made before the process was: see zombies_make_room */
+		if (fd >= 0)
+			close(fd);
+		engine_line("exit %d", pid);
+		return;
 	}
 	all[count] = (struct zombie){ pid, fd, gone };
 	place[pid] = (unsigned)++count;
@@ -92,48 +102,52 @@ static bool was_waited_for(const struct zombie *z)
 	return kill(z->pid, 0) && errno == ESRCH;
 }
 
-/* False if the line could not be kept: it is tried again. */
-static bool let_exit(struct zombie *z)
+/* 0, or -errno if the line could not be kept: it is tried again. */
+static int let_exit(struct zombie *z)
 {
 	gone_count += !z->gone;
 	z->gone = true;
 	int fault = engine_line("exit %d", z->pid);
 	if (fault && fault != -ESRCH)
-		return false;
+		return fault;
 	drop(z);
-	return true;
+	return 0;
 }
 
 /* Those that the kernel names; all whose exit was tried before; and if the kernel names none, a few of the others in turn.
     */
-void zombies_sweep(void)
+static int sweep(void)
 {
 	struct epoll_event waited[TAKEN];
-	if (count == 0)
-		return;
-	int n;
+	int n, fault = 0;
 	do {
 		n = hangups < 0 ? 0 : epoll_wait(hangups, waited, TAKEN, 0);
 		for (int i = 0; i < n; i++) {
 			struct zombie *z = find((pid_t)waited[i].data.u32);
-			if (z && !let_exit(z))
-				return;
+			if (z && (fault = let_exit(z)))
+				return fault;
 		}
 	} while (n == TAKEN);
 	for (size_t i = count; gone_count && i-- > 0;)
-		if (all[i].gone && !let_exit(&all[i]))
-			return;
+		if (all[i].gone && (fault = let_exit(&all[i])))
+			return fault;
 	for (size_t i = 0; i < SCANNED && i < count; i++) {
 		next_scanned = next_scanned ? next_scanned - 1 : count - 1;
-		if (next_scanned < count && was_waited_for(&all[next_scanned]) && !let_exit(&all[next_scanned]))
-			return;
+		if (next_scanned < count && was_waited_for(&all[next_scanned]) && (fault = let_exit(&all[next_scanned])))
+			return fault;
 	}
+	return 0;
+}
+
+int zombies_sweep(void)
+{
+	return count && sweep() == -ENOMEM ? -ENOMEM : 0;
 }
 
 bool zombies_settle(pid_t pid)
 {
 	struct zombie *z = find(pid);
-	return !z || let_exit(z);
+	return !z || let_exit(z) == 0;
 }
 
 bool zombies_has(pid_t pid)
@@ -154,12 +168,15 @@ size_t zombies_count(void)
 	return count;
 }
 
-long zombies_below(const char *group)
+int zombies_below(const char *group, uint64_t *below)
 {
 	char at[PATH_MAX_SAID];
-	long below = 0;
+	*below = 0;
 	for (size_t i = 0; i < count; i++) {
-		below += engine_where(all[i].pid, at, sizeof at) && is_at_or_below(at, group);
+		int fault = engine_where(all[i].pid, at, sizeof at);
+		if (fault == -ENOMEM)
+			return fault;
+		*below += fault == 0 && is_at_or_below(at, group);
 	}
-	return below;
+	return 0;
 }

@@ -5,14 +5,18 @@
 
 #include <stdbool.h>
 #include <stddef.h>
+#include <stdint.h>
 #include <sys/types.h>
 
+/* Before a process is made: room for its end, for that of all others, and for so many that are only numbers. Then there is
+   room when one ends, which must not fail. 0 or -ENOMEM */
+int zombies_make_room(size_t more);
 /* It has ended, and nobody could have waited for it yet. */
 void zombies_add(pid_t pid);
 /* There is no such process any more: only its exit is missing. */
 void zombies_add_gone(pid_t pid);
-/* Sends the exits of those that were waited for. */
-void zombies_sweep(void);
+/* Sends the exits of those that were waited for. 0, or -ENOMEM: then some of them still count. */
+int zombies_sweep(void);
 /* Whether the number is free in the hierarchy for a new process that has it in the kernel: an older process of that number
    is gone, whatever else is known. */
 bool zombies_settle(pid_t pid);
@@ -20,7 +24,7 @@ bool zombies_has(pid_t pid);
 /* True if it was one. The hierarchy no longer has it. */
 bool zombies_forget(pid_t pid);
 size_t zombies_count(void);
-/* How many there are at or below a group. */
-long zombies_below(const char *group);
+/* How many there are at or below a group. 0 or -ENOMEM */
+int zombies_below(const char *group, uint64_t *below);
 
 #endif

@@ -3,9 +3,12 @@
 #include "engine.h"
 #include "control.h"
 #include "operations.h"
+#include "listed.h"
 #include "opened.h"
 #include "remembered.h"
+#include "spaces.h"
 #include "watch.h"
+#include "zombies.h"
 #include "attributes.h"
 #include <signal.h>
 #include <stdio.h>
@@ -39,6 +42,13 @@ static void forget_attributes(void) { attributes_forget(&remembered); }
 static void seen(void) { watch_seen("/", file_named("cgroup.events", false)); }
 static void above(void) { watch_above("/"); }
 static void below(void) { watch_below("/"); }
+static void process(void) { watch_process(1); }
+static int ignore(pid_t pid, const char *in) { return pid < 0 || !in; }
+static void listed(void) { listed_each("/", false, ignore); }
+static void visit(const struct remembered *r) { (void)r; }
+static void visit_each(void) { remembered_each("/", visit); }
+static void prepare(void) { spaces_prepare(1, 1); }
+static void zombies_room(void) { zombies_make_room(1); }
 static void forget_watch(void) { watch_forget(&remembered); }
 static void new_open(void) { opened_new("/", NULL, A_DIRECTORY); }
 static void is_gone(void) { opened_is_gone(&opened); }
@@ -65,7 +75,8 @@ static int ends_by(void (*call)(void), bool locked)
 int main(void)
 {
 	void (*const calls[])(void) = { line, look_at, take_text, where, has_group, children, groups, depth, history, find, make,
-		lose, apply, set, forget_owner, forget_attributes, seen, above, below, forget_watch, new_open, is_gone, wake, lose_open, control };
+		lose, apply, set, forget_owner, forget_attributes, seen, above, below, process, listed, visit_each, prepare,
+		zombies_room, forget_watch, new_open, is_gone, wake, lose_open, control };
 	static struct kept none = { .fd = -1 };
 	size_t wrong = 0, count = sizeof calls / sizeof *calls;
 	if (!engine_start(&none, &none, true))

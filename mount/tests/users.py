@@ -53,7 +53,7 @@ if sys.argv[1:2] == ["inside"]:
     inside(sys.argv[2])
 if sys.argv[1:2] == ["refused"]:
     same("for another than the superuser", said(PROGRAM, "run", "--users", "true"),
-         (2, "", "makhloeum: --users needs a superuser, of this machine or of a user namespace: "
+         (2, "", "makhloeum: --users needs root on this machine or in a user namespace: "
           "unshare --map-root-user --map-auto makes one\n"))
     same("with mount", said(PROGRAM, "mount", os.environ["TMPDIR"], "--users")[0], 2)
     finish()

@@ -1,0 +1,32 @@
+#include "listed.h"
+#include "engine.h"
+#include "reported.h"
+#include <stdlib.h>
+#include <string.h>
+
+static int each_in(const char *group, bool zombies, int (*take)(pid_t pid, const char *group))
+{
+	size_t size;
+	int fault = engine_look("cat %s cgroup.procs", group);
+	if (fault)
+		return fault;
+	const char *text = engine_text(&size);
+	if (!zombies && (fault = reported_text(group, file_named("cgroup.procs", true), &text, &size)))
+		return fault;
+	for (const char *end = text + size; text < end && fault == 0;) {
+		fault = take((pid_t)strtol(text, NULL, 10), group);
+		text = (const char *)memchr(text, '\n', (size_t)(end - text)) + 1;
+	}
+	return fault;
+}
+
+int listed_each(const char *top, bool zombies, int (*take)(pid_t pid, const char *group))
+{
+	const char *paths;
+	size_t count;
+	WANTS_LOCK();
+	int fault = engine_groups(top, &paths, &count);
+	for (; fault == 0 && count--; paths += strlen(paths) + 1)
+		fault = each_in(paths, zombies, take);
+	return fault;
+}

@@ -1,0 +1,12 @@
+/* The processes at and below a group. */
+#ifndef LISTED_H
+#define LISTED_H
+
+#include <stdbool.h>
+#include <sys/types.h>
+
+/* Requires the engine's lock. Calls `take` for each process, with its group, until one does not return 0, and returns that;
+   or -errno if the processes cannot be listed. Zombies come too if `zombies` says so. */
+int listed_each(const char *top, bool zombies, int (*take)(pid_t pid, const char *group));
+
+#endif

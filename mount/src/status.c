@@ -1,0 +1,50 @@
+#include "status.h"
+#include "cleanup.h"
+#include <fcntl.h>
+#include <string.h>
+
+bool status_line(pid_t pid, const char *key, char *out, size_t size)
+{
+	char path[40], some[4096];
+	size_t wanted = strlen(key), at = 0, kept = 0; /* `at` is the place in the line */
+	bool matches = true;
+	ssize_t n;
+	snprintf(path, sizeof path, "%d/status", pid);
+	cleanup_fd int fd = open(path, O_RDONLY | O_CLOEXEC);
+	while (fd >= 0 && (n = read(fd, some, sizeof some)) > 0)
+		for (const char *byte = some; byte < some + n; byte++) {
+			if (*byte == '\n' && matches && at >= wanted) {
+				out[kept] = 0;
+				return true;
+			}
+			if (*byte == '\n') {
+				at = kept = 0;
+				matches = true;
+				continue;
+			}
+			if (at < wanted)
+				matches &= *byte == key[at];
+			else if (matches && kept + 1 < size)
+				out[kept++] = *byte;
+			at++;
+		}
+	return false;
+}
+
+long status_number(pid_t pid, const char *key)
+{
+	char line[512];
+	const char *last = status_line(pid, key, line, sizeof line) ? strrchr(line, '\t') : NULL;
+	return last ? strtol(last + 1, NULL, 10) : -1;
+}
+
+ssize_t status_text(const char *path, char *out, size_t size)
+{
+	size_t done = 0;
+	ssize_t n = -1;
+	cleanup_fd int fd = open(path, O_RDONLY | O_CLOEXEC);
+	while (fd >= 0 && done + 1 < size && (n = read(fd, out + done, size - 1 - done)) > 0)
+		done += (size_t)n;
+	out[done] = 0;
+	return fd < 0 || n < 0 ? -errno : (ssize_t)done;
+}
