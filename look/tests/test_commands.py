@@ -160,10 +160,17 @@ def test_what_is_no_hierarchy(tmp_path):
         assert (status, out) == (2, "") and said in error and error.count("\n") == 1, (words, error)
 
 
+def watching(command):
+    """A command that SIGINT ends. A script in the background ignores SIGINT, and so do its children."""
+    return subprocess.Popen(
+        command, stdout=subprocess.PIPE, text=True, env=WORDS, preexec_fn=lambda: signal.signal(signal.SIGINT, signal.SIG_DFL)
+    )
+
+
 def test_watch_draws_again_on_a_change_and_ends(tmp_path):
     groups(tmp_path, SMALL)
     command = [sys.executable, "-u", "-m", "makhloeum", "tree", str(tmp_path), "--watch", "0.1"]
-    process = subprocess.Popen(command, stdout=subprocess.PIPE, text=True, env=WORDS)
+    process = watching(command)
     assert process.stdout is not None
     first = [process.stdout.readline() for _ in range(4)]
     assert "3/4" in first[1]
@@ -188,7 +195,7 @@ def test_watch_follows_a_mount_by_poll(tmp_path):
         (at / "a").mkdir()
         (at / ".makhloeum" / "fork").write_text("1 2\n")
         command = [sys.executable, "-u", "-m", "makhloeum", "tree", str(at), "--watch", "300"]
-        process = subprocess.Popen(command, stdout=subprocess.PIPE, text=True, env=WORDS)
+        process = watching(command)
         try:
             assert process.stdout is not None
             assert [process.stdout.readline().split()[-1] for _ in range(2)] == ["2", "empty"]
