@@ -9,7 +9,7 @@ import tempfile
 import time
 import uuid
 
-from support import CGREPLAY, PROGRAM, each_of_two, finish, read, same, status_within, step, until, write
+from support import CGREPLAY, PROGRAM, finish, in_parallel, read, same, status_within, step, until, write
 
 AT = "/sys/fs/cgroup"
 ME = os.path.realpath(__file__)
@@ -159,5 +159,5 @@ def run(name):
 if sys.argv[1:2] == ["inside"]:
     way(sys.argv[2])
     finish()
-each_of_two(run, [n for n in WAYS if n in sys.argv[1:] or not sys.argv[1:]])
+in_parallel(run, [n for n in WAYS if n in sys.argv[1:] or not sys.argv[1:]])
 finish()

@@ -9,7 +9,7 @@ import sys
 import threading
 import time
 
-from support import PATIENCE, PROGRAM, Mount, error_of, finish, libc, read, same, step, until, write
+from support import PATIENCE, PROGRAM, Mount, error_of, finish, in_parallel, libc, read, same, step, until, write
 
 AT = "/sys/fs/cgroup"
 ME = os.path.realpath(__file__)
@@ -326,11 +326,7 @@ def run(test):
     same("the status of %s" % test, (ran.returncode, ran.stderr), (0, b""))
 
 
-workers = [threading.Thread(target=run, args=(t.__name__,)) for t in INSIDE]
-for w in workers:
-    w.start()
-for w in workers:
-    w.join()
+in_parallel(run, [t.__name__ for t in INSIDE], lanes=len(INSIDE))
 left = subprocess.run([PROGRAM, "run", "sh", "-c", "mkdir %s/a; sleep 66 & echo $! > %s/a/cgroup.procs; echo 1 > %s/a/cgroup.freeze" % (AT, AT, AT)],
                       timeout=60).returncode
 same("a run ends with what it left frozen", left, 0)

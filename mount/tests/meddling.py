@@ -12,7 +12,7 @@ import sys
 import threading
 import time
 
-from support import PATIENCE, PROGRAM, each_of_two, error_of, finish, libc, read, same, status_within, step, until, write
+from support import PATIENCE, PROGRAM, error_of, finish, in_parallel, libc, read, same, status_within, step, until, write
 
 AT = "/sys/fs/cgroup"
 ME = os.path.realpath(__file__)
@@ -277,7 +277,7 @@ def beginnings():
     same("without standard streams", (ran.returncode, ran.stdout), (0, b"0::/\n"))
 
 
-each_of_two(run, [t for t in INSIDE if t.__name__ in sys.argv[1:] or not sys.argv[1:]])
+in_parallel(run, [t for t in INSIDE if t.__name__ in sys.argv[1:] or not sys.argv[1:]])
 if "beginnings" in sys.argv[1:] or not sys.argv[1:]:
     beginnings()
 finish()

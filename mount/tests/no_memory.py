@@ -13,7 +13,7 @@ import sys
 import tempfile
 import time
 
-from support import PATIENCE, PROGRAM, Mount, each_of_two, finish, libc, read, same, step, until, write
+from support import PATIENCE, PROGRAM, Mount, finish, in_parallel, libc, read, same, step, until, write
 
 AT = "/sys/fs/cgroup"
 ME = os.path.realpath(__file__)
@@ -489,7 +489,7 @@ def part(name, *start, **words):
     same("the status of %s" % name, ran.returncode, 0)
 
 
-each_of_two(part, [t.__name__ for t in OF_MOUNT])
+in_parallel(part, [t.__name__ for t in OF_MOUNT])
 # not beside a mount, which would live on in their namespaces
-each_of_two(lambda name: part(name, PROGRAM, "run", LD_PRELOAD=LIBRARY), [t.__name__ for t in INSIDE])
+in_parallel(lambda name: part(name, PROGRAM, "run", LD_PRELOAD=LIBRARY), [t.__name__ for t in INSIDE])
 finish()

@@ -6,8 +6,8 @@ import shutil
 import subprocess
 import sys
 import tempfile
-import threading
 import time
+from concurrent.futures import ThreadPoolExecutor
 
 PROGRAM = os.environ["MAKHLOEUM"]
 CGREPLAY = os.environ["CGREPLAY"].split()
@@ -142,14 +142,13 @@ def status_within(process, seconds):
         return process.wait()
 
 
-def each_of_two(run, waiting):
-    """Calls `run` with each of the list, two at a time."""
-    def work():
-        while waiting:
-            run(waiting.pop(0))
+def in_parallel(run, of, lanes=2):
+    """Calls `run` with each of these, so many at a time. A call that raises is a step that failed."""
+    def guarded(one):
+        try:
+            run(one)
+        except Exception as e:
+            step("%s raises nothing" % getattr(one, "__name__", one), False, repr(e))
 
-    workers = [threading.Thread(target=work) for _ in range(2)]
-    for worker in workers:
-        worker.start()
-    for worker in workers:
-        worker.join()
+    with ThreadPoolExecutor(lanes) as pool:
+        list(pool.map(guarded, of))
