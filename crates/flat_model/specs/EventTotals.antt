@@ -6,8 +6,8 @@ use Rattle.flat_model.specs.State.{State, Attr}
 use Rattle.flat_model.specs.Command.{Command}
 use Rattle.flat_model.specs.Machine.{Machine}
 
--- the group at p had the attributes x and has y after a refused one more fork: the local total of a rises by one, and so do the totals of
--- a and of each group above it other than the root; nothing else changes
+-- the group at p had the attributes x and has y after the group at a has refused one more fork: the local total of a rises by one, and
+-- so do the totals of a and of each group above it other than the root; nothing else changes
 pub record IsCounted (a p : Path) (x y : Attr) : Type 0 where
   pub limits : y.limits ≡ x.limits
   pub peak : y.peak ≡ x.peak

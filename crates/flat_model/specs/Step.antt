@@ -136,7 +136,7 @@ after s (Show p file) = s
 after s (Locate pid) = s
 after s Undo = s
 
--- the attributes of p after a refused one more fork
+-- the attributes of p after the group at a has refused one more fork
 abbrev pub count_up : Path → Path → Attr → Attr
 count_up a p attr = record attr {
   local = attr.local + cond (same_path p a) 1 0;
