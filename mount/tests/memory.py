@@ -3,9 +3,9 @@ import os
 import subprocess
 import sys
 
-from support import PROGRAM, Mount, finish, same, step, write
+from support import PROGRAM, Mount, finish, in_parallel, same, step, write
 
-PAIRS, FORKS = 16000, 5000
+PAIRS, FORKS, CLIENTS = 16000, 5000, 20
 
 
 def resident(pid):
@@ -17,16 +17,18 @@ def of_mount():
     m = Mount(control=False)
     fork, leave = os.open(m.control("fork"), os.O_WRONLY), os.open(m.control("exit"), os.O_WRONLY)
 
-    def pairs(count):
+    def pairs(count, pid=2):
         for _ in range(count):
-            os.write(fork, b"1 2")
-            os.write(leave, b"2")
+            os.write(fork, b"1 %d" % pid)
+            os.write(leave, b"%d" % pid)
 
+    # the mount makes its threads when calls come in parallel, and each takes memory
+    in_parallel(lambda pid: pairs(PAIRS // 40, pid), range(3, 3 + CLIENTS), lanes=CLIENTS)
     sizes, part = [], PAIRS // 4
     for count in (PAIRS // 6, part, part, part, part):
         pairs(count)
         sizes.append(resident(m.process.pid))
-    grown = min(after - before for before, after in zip(sizes, sizes[1:]))  # on a busy machine more threads begin in some of them
+    grown = min(after - before for before, after in zip(sizes, sizes[1:]))  # a thread may still begin in some of them
     print("  mount: %.1f bytes for each of %d forks and exits" % (grown / part, part))
     step("a mount does not grow", grown < 12 * part, sizes)
     os.close(fork)

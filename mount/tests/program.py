@@ -80,8 +80,8 @@ def forks():
     write(AT + "/a/pids.max", b"1\n")
     same("fork beyond pids.max", fork_error(), "EAGAIN")
     same("spawn beyond pids.max", error_of(os.posix_spawn, "/bin/true", ["true"], {}), "EAGAIN")
-    same("vfork beyond pids.max", error_of(subprocess.Popen, ["true"]), "EAGAIN")  # Popen calls vfork
-    same("each was counted", read(AT + "/a/pids.events"), b"max 3\n")
+    same("vfork beyond pids.max", error_of(subprocess.Popen, ["true"]), "EAGAIN")  # Popen calls vfork, and then fork
+    same("each was counted", read(AT + "/a/pids.events"), b"max 4\n")
     write(AT + "/a/pids.max", b"2\n")
     same("fork within it", fork_error(), 0)
     wrong = []
