@@ -1,7 +1,7 @@
 -- What a hand's amounts are less its tokens, after a charge, a split and a join.
 use Rattle.std.proofs.Common.{◌≡◌, ℕ, zero, suc, ◌+◌, ◌-◌, ◌*◌, ◌%◌, ◌^◌, ◌<◌, List, sym, refl, ap, ◌∙◌, subst, arith}
 use Rattle.snzi_core.specs.declared.holding.Holding.{Holding}
-use Rattle.snzi_core.specs.declared.event.Token.{Token}
+use Rattle.snzi_tokens.specs.declared.token.Token.{Token}
 use Rattle.snzi_core.specs.Changes.{Gains, Loses, Raises}
 use Rattle.snzi_core.specs.Holding.{amount_at}
 use Rattle.snzi_core.specs.Shape.{stripe_word}

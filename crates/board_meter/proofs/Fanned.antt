@@ -1,9 +1,9 @@
 -- A settlement of which a helper did the last part.
 use Rattle.std.proofs.Common.{◌≡◌, ℕ, ◌+◌, ◌%◌, ◌^◌, List, length, ap, ◌∙◌, arith}
 use Rattle.snzi_core.specs.declared.holding.Holding.{Holding}
-use Rattle.snzi_core.specs.declared.event.Token.{Token}
+use Rattle.snzi_tokens.specs.declared.token.Token.{Token}
 use Rattle.snzi_core.specs.Holding.{one_back}
-use Rattle.snzi_core.specs.Listed.{listed_at}
+use Rattle.snzi_tokens.specs.Listed.{listed_at}
 use Rattle.board_meter.specs.Held.{excess, Settled, CutOff, PutTogether}
 use Rattle.board_meter.proofs.Roles.{one_back-one_out}
 

@@ -2,11 +2,11 @@
 use Rattle.std.specs.Prelude.{◌≡◌, ℕ, ◌+◌, ◌-◌, ◌*◌, ◌%◌, ◌^◌, ◌<◌, ◌≤◌, List, length}
 use Rattle.snzi_core.specs.declared.holding.Holding.{Holding}
 use Rattle.snzi_core.specs.declared.holding.Role.TheVariants.{Main}
-use Rattle.snzi_core.specs.declared.event.Token.{Token}
+use Rattle.snzi_tokens.specs.declared.token.Token.{Token}
 use Rattle.snzi_core.specs.Caps.{token_cap, helper_cap}
 use Rattle.snzi_core.specs.Holding.{held, out, main_weight, one_out, one_back}
 use Rattle.snzi_tree.specs.Contents.{content_of, tokens_in, amount_in, AtLeaves}
-use Rattle.snzi_core.specs.Listed.{IsWithin, listed_at}
+use Rattle.snzi_tokens.specs.Listed.{IsWithin, listed_at}
 use Rattle.pids_charge.specs.declared.meter.TheConstants.{HELD_MAX}
 
 -- the hand's amounts at a slot less its tokens there, modulo 2^64

@@ -3,7 +3,7 @@ ghost use Rattle.std.specs.Prelude.{◌≡◌, ℕ, ◌+◌, ◌<◌};
 ghost use Rattle.snzi_core.specs.Holding.{held};
 ghost use Rattle.snzi_tree.specs.Contents.{content_of};
 ghost use Rattle.snzi_tree.specs.Hands.{IsHandOf, holds, SameHand};
-ghost use Rattle.snzi_core.specs.Listed.{one_at};
+ghost use Rattle.snzi_tokens.specs.Listed.{one_at};
 ghost use Rattle.board_meter.specs.Held.{InStep};
 
 use pids_charge::{HELD_MAX, Token};

@@ -1,6 +1,6 @@
 -- A meter that holds what it held.
 use Rattle.std.proofs.Common.{◌≡◌, ℕ, List, ◌∙◌, ap}
-use Rattle.snzi_core.specs.declared.event.Token.{Token}
+use Rattle.snzi_tokens.specs.declared.token.Token.{Token}
 use Rattle.pids_charge.specs.Content.{Content}
 use Rattle.board_tests.specs.Tokens.{Holds}
 

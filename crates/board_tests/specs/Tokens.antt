@@ -1,9 +1,9 @@
 -- The content of a meter, as a list of tokens.
 use Rattle.std.specs.Prelude.{◌≡◌, ℕ, ◌+◌, ◌-◌, List, length}
-use Rattle.snzi_core.specs.declared.event.Token.{Token}
+use Rattle.snzi_tokens.specs.declared.token.Token.{Token}
 use Rattle.snzi_core.specs.declared.holding.Holding.{Holding}
 use Rattle.snzi_tree.specs.Contents.{content_of}
-use Rattle.snzi_core.specs.Listed.{listed_at}
+use Rattle.snzi_tokens.specs.Listed.{listed_at}
 use Rattle.pids_charge.specs.Content.{Content}
 use Rattle.pids_charge.specs.declared.plain.TheConstants.{LEAVES}
 

@@ -1,6 +1,6 @@
 //! The parts of a settlement run at the same time.
 ghost use Rattle.std.specs.Prelude.{◌≡◌, ◌≤◌, length};
-ghost use Rattle.snzi_core.specs.Listed.{IsWithin};
+ghost use Rattle.snzi_tokens.specs.Listed.{IsWithin};
 
 use crate::barrier::Barrier;
 use crate::swap::{counts, fits};

@@ -1,7 +1,7 @@
 //! Removing the charges of one list and adding those of another, by single calls or by a
 //! settlement.
 ghost use Rattle.std.specs.Prelude.{◌≡◌, ℕ, ◌+◌, ◌<◌, ◌≤◌, length, IsTrue};
-ghost use Rattle.snzi_core.specs.Listed.{IsWithin, listed_at};
+ghost use Rattle.snzi_tokens.specs.Listed.{IsWithin, listed_at};
 ghost use Rattle.board_tests.specs.Tokens.{Holds};
 
 use pids_charge::{HELD_MAX, LEAVES, Meter, OpenGate, SLOTS, Token};

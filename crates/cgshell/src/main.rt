@@ -8,7 +8,7 @@
 
 ghost use Rattle.std.specs.Prelude.{◌≡◌, false};
 
-use replay_main::{LineFault, Source, StreamSource, collect_arguments};
+use program_io::{LineFault, Source, StreamSource, collect_arguments};
 use shell_main::{
     PipeSink, ProgramFault, bad_word, exit_status, input_file, run_program, with_closed_pipe,
 };

@@ -65,3 +65,12 @@ has_events s p a one is local total = record {
   local = λ attr there. subst (λ (x : Attr). 0 < x.local) (some_is (get s.groups p) a is attr there) local;
   total = λ q attr there counts. subst (λ (x : Attr). 0 < x.total) (some_is (get s.groups p) a is attr (ap (get s.groups) (sym (only_one p q one counts)) ∙ there)) total;
 }
+
+-- a call that was made after it was decided
+pub up_halves : {X E : Type 0} (n : ℕ) (s new : State) (c : Command) (r : Result X E) → HasEventsUpTo n s → OnOk r (new ≡ after s c) → OnErr r (new ≡ s) → HasEventsUpTo (n + 1) new
+up_halves n s new c (Ok x) h ok err = subst (HasEventsUpTo (n + 1)) (sym ok) (up_one_more n (after s c) (up_after n s c h))
+up_halves n s new c (Err x) h ok err = subst (HasEventsUpTo (n + 1)) (sym err) (up_one_more n s h)
+
+pub up_taken : (n : ℕ) (s decided new : State) (c : Command) → HasEventsUpTo n s → decided ≡ s → new ≡ after decided c → HasEventsUpTo (n + 1) new
+up_taken n s decided new c h kept made =
+    subst (HasEventsUpTo (n + 1)) (sym made) (up_one_more n (after decided c) (up_after n decided c (subst (HasEventsUpTo n) (sym kept) h)))

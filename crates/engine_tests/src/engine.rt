@@ -1,309 +1,363 @@
-//! Commands by their lines, the engine's replies, and what it keeps of them.
+//! An engine, and the calls on it.
 
-use crate::ample_memory::is_rehearsed;
-use crate::answers::{Plain, all_undone, answer, command, said, said_by_a_copy};
-use crate::trials::{Trial, passes};
-use group_path::GroupPath;
+use crate::commands::{command, command_of, line_of, push_reply, with_number};
+use crate::heaps::{forks_until_full, makes_in_small_heaps, shares_paths};
+use crate::values::value;
 use interface_files::File;
-use pids_charge::{OpenGate, Pid, SLOTS};
-use std::alloc::{AllocError, Global};
+use pids_charge::{Gate, OpenGate, PlainMeter};
+use std::alloc::{AllocError, Allocator, Global};
 use std::sync::Wait;
-use std::test::Fail;
+use std::sync::atomic::{AtomicU64, Ordering};
 use std::thread::Threads;
-use undo_journal::{Bytes, Command, Inverse, Reply};
+use test_support::{BLOCK_SIZE, BLOCKS_MAX, Case, CaseFault, Outcome, Subject};
+use undo_journal::{Command, Engine, Reply};
 
-#[test]
-fn numbers_of_processes(rt: HostRuntime) {
-    for (number, is_pid) in [(0, false), (1, true), (4_194_303, true), (4_194_304, false)] {
-        let found = Pid::new(number).map(|pid| pid.get());
-        assert_eq!(rt; found, if is_pid { Some(number) } else { None }, "{number}");
+/// An engine over a plain meter that lives in one memory, and copies and texts in another.
+#[derive(Drop)]
+pub(crate) struct Tested<E: Allocator + Clone, A: Allocator + Clone> {
+    pub(crate) home: E,
+    pub(crate) memory: A,
+    pub(crate) engine: Engine<E, PlainMeter<Global>>,
+    /// The reply to the last line.
+    pub(crate) last: Reply<Global>,
+    /// The commands to rehearse, and the replies to them, one a line.
+    pub(crate) planned: Vec<Command<E>>,
+    pub(crate) told: String,
+    /// What `fill` has taken.
+    taken: Vec<Vec<u8, A>>,
+}
+
+/// The parts that have passed, as the digits of a number.
+#[derive(Drop)]
+struct Passed {
+    parts: AtomicU64,
+}
+
+impl Gate for Passed {
+    fn pass(&self, part: u8) {
+        let before = self.parts.load(Ordering::SeqCst);
+        let parts = before.wrapping_mul(10).wrapping_add(u64::from(part));
+        self.parts.store(parts, Ordering::SeqCst);
     }
 }
 
-#[test]
-fn bytes_of_a_vec(rt: HostRuntime) -> Result<(), AllocError> {
-    let bytes = Bytes::of(Vec::from_slice(rt.alloc(), b"1\n")?);
-    assert!(rt; bytes.as_slice() == b"1\n".as_slice());
-    Ok(())
+/// What a call does.
+#[derive(Clone, Copy, PartialEq, Eq)]
+enum Kind {
+    Line,
+    Alone,
+    Gated,
+    UndoNewest,
+    UndoNewestAlone,
+    Show,
+    Each,
+    Rehearsal,
+    Other,
 }
 
-/// Whether the text of the line's command is the line.
-fn is_its_text(alloc: Global, line: &str) -> Result<bool, Fail> {
-    let command = command(alloc, line)?;
-    let text = command.text(alloc)?;
-    Ok(text.as_slice() == line.as_bytes())
-}
-
-/// The text of a command is its line, in each form.
-#[test]
-fn texts_of_commands(rt: HostRuntime) -> Result<(), Fail> {
-    let lines = [
-        "mkdir /a/b",
-        "rmdir /",
-        "fork 1 4194303",
-        "exit 12",
-        "write / cgroup.procs 7",
-        "write /a cgroup.max.depth 0",
-        "write /a cgroup.max.descendants 2147483646",
-        "write / cgroup.max.descendants max",
-        "write /a pids.max 5",
-        "write /a/b cgroup.kill 1",
-        "cat / cgroup.procs",
-        "cat /a cgroup.events",
-        "cat / cgroup.stat",
-        "cat / cgroup.max.descendants",
-        "cat /a cgroup.max.depth",
-        "cat /a pids.max",
-        "cat /a pids.current",
-        "cat /a pids.events",
-        "cat /a pids.events.local",
-        "where 4194303",
-        "undo",
-    ];
-    for line in lines {
-        assert!(rt; is_its_text(rt.alloc(), line)?, "{line}");
+/// What a call with this name does.
+fn kind_of(word: &str) -> Kind {
+    match word {
+        "mkdir" | "rmdir" | "fork" | "exit" | "write" | "cat" | "where" | "undo" => Kind::Line,
+        "alone" => Kind::Alone,
+        "gated" => Kind::Gated,
+        "undo_newest" => Kind::UndoNewest,
+        "undo_newest_alone" => Kind::UndoNewestAlone,
+        "show" => Kind::Show,
+        "each" => Kind::Each,
+        _ if word.starts_with("rehearse") => Kind::Rehearsal,
+        _ => Kind::Other,
     }
-    Ok(())
 }
 
-/// Lines, the engine's reply to each, and the number of records afterwards.
-pub(crate) type Row = (&'static str, &'static str, usize);
+impl<E: Allocator + Clone, A: Allocator + Clone> Tested<E, A> {
+    /// A new engine that lives in `home`; its meter is elsewhere. Its copies are in `memory`.
+    ///
+    /// # Errors
+    ///
+    /// `AllocError` when out of memory.
+    pub(crate) fn new(alloc: Global, home: E, memory: A) -> Result<Tested<E, A>, AllocError> {
+        let meter = PlainMeter::new(alloc)?;
+        let engine = Engine::new(home.clone()?, meter)?;
+        Ok(Tested {
+            home,
+            memory,
+            engine,
+            last: Reply::NothingToUndo,
+            planned: Vec::new(alloc),
+            told: String::new(alloc),
+            taken: Vec::new(alloc),
+        })
+    }
 
-/// Runs the lines, and fails at the first with another reply or another number of records.
-pub(crate) fn all_answered<R: Threads + Wait + Sync>(
-    rt: &R,
-    alloc: Global,
-    engine: &mut Plain,
-    rows: &[Row],
-) -> Result<(), Fail> {
-    for (line, wanted, depth) in rows {
-        let said = answer(rt, alloc, engine, line)?;
-        if said.as_slice() != wanted.as_bytes() || engine.depth() != *depth {
-            return Err(Fail::new(line));
+    /// Appends the reply, from a copy of it, and forgets what was rehearsed before.
+    pub(crate) fn keep(
+        &mut self,
+        alloc: Global,
+        said: &mut String,
+        reply: &Reply<E>,
+    ) -> Result<Outcome, CaseFault> {
+        let reply = reply.copy(alloc)?;
+        let outcome = push_reply(alloc, said, &reply)?;
+        self.last = reply;
+        self.planned.clear();
+        self.told.clear();
+        Ok(outcome)
+    }
+
+    /// Applies a copy of the command of a line.
+    fn apply<R: Threads + Wait + Sync>(
+        &mut self,
+        rt: &R,
+        alloc: Global,
+        said: &mut String,
+        line: &[u8],
+    ) -> Result<Outcome, CaseFault> {
+        let command = command(alloc, line)?;
+        let copy = command.copy(alloc)?;
+        let reply = self.engine.apply(rt, 0, &copy);
+        self.keep(alloc, said, &reply)
+    }
+
+    /// Applies the command of a line on the calling thread.
+    fn alone(
+        &mut self,
+        alloc: Global,
+        said: &mut String,
+        case: &Case,
+    ) -> Result<Outcome, CaseFault> {
+        let command = command_of(alloc, case, 1)?;
+        let reply = self.engine.apply_alone(0, &command);
+        self.keep(alloc, said, &reply)
+    }
+
+    /// Applies the command of a line. Appends the parts that passed the test hook, then the reply.
+    fn gated<R: Threads + Wait + Sync>(
+        &mut self,
+        rt: &R,
+        alloc: Global,
+        said: &mut String,
+        case: &Case,
+    ) -> Result<Outcome, CaseFault> {
+        let command = command_of(alloc, case, 1)?;
+        let gate = Passed {
+            parts: AtomicU64::new(0),
+        };
+        let reply = self.engine.apply_gated(rt, &gate, 0, &command);
+        write!(said, "{} ", gate.parts.load(Ordering::SeqCst))?;
+        self.keep(alloc, said, &reply)
+    }
+
+    fn undo_newest<R: Threads + Wait + Sync>(
+        &mut self,
+        rt: &R,
+        alloc: Global,
+        said: &mut String,
+    ) -> Result<Outcome, CaseFault> {
+        let reply = self.engine.undo(rt, 0);
+        self.keep(alloc, said, &reply)
+    }
+
+    fn undo_newest_alone(
+        &mut self,
+        alloc: Global,
+        said: &mut String,
+    ) -> Result<Outcome, CaseFault> {
+        let reply = self.engine.undo_alone(0);
+        self.keep(alloc, said, &reply)
+    }
+
+    /// Applies the command of the words of the call.
+    fn line<R: Threads + Wait + Sync>(
+        &mut self,
+        rt: &R,
+        alloc: Global,
+        said: &mut String,
+        case: &Case,
+    ) -> Result<Outcome, CaseFault> {
+        let line = line_of(alloc, case, 0)?;
+        self.apply(rt, alloc, said, line.as_slice())
+    }
+
+    fn show_file<R: Threads + Wait + Sync>(
+        &mut self,
+        rt: &R,
+        alloc: Global,
+        said: &mut String,
+        case: &Case,
+    ) -> Result<Outcome, CaseFault> {
+        let path = case.path(alloc, 1)?;
+        let Some(file) = File::read(case.word(2)) else {
+            return Err(CaseFault::Malformed);
+        };
+        let command = Command::Show { path, file };
+        let reply = self.engine.apply_gated(rt, &OpenGate, 0, &command);
+        self.keep(alloc, said, &reply)
+    }
+
+    /// The reply to the line with this number.
+    fn reply_at<R: Threads + Wait + Sync>(
+        &mut self,
+        rt: &R,
+        alloc: Global,
+        line: &[u8],
+        number: u64,
+    ) -> Result<String, CaseFault> {
+        let mut said = String::new(alloc);
+        let line = with_number(alloc, line, number)?;
+        self.apply(rt, alloc, &mut said, line.as_slice())?;
+        Ok(said)
+    }
+
+    /// The reply that the line has with all numbers, followed by the first other one, if there is one.
+    fn replies<R: Threads + Wait + Sync>(
+        &mut self,
+        rt: &R,
+        alloc: Global,
+        line: &[u8],
+        first: u64,
+        last: u64,
+    ) -> Result<String, CaseFault> {
+        let mut common = self.reply_at(rt, alloc, line, first)?;
+        for number in first.saturating_add(1)..=last {
+            let other = self.reply_at(rt, alloc, line, number)?;
+            if other.as_str() != common.as_str() {
+                write!(common, ", at {number} {other}")?;
+                break;
+            }
+        }
+        Ok(common)
+    }
+
+    /// Appends the reply that all numbers have, or the first other one.
+    fn each<R: Threads + Wait + Sync>(
+        &mut self,
+        rt: &R,
+        alloc: Global,
+        said: &mut String,
+        case: &Case,
+    ) -> Result<Outcome, CaseFault> {
+        let line = line_of(alloc, case, 3)?;
+        let replies = self.replies(rt, alloc, line.as_slice(), case.number(1)?, case.number(2)?)?;
+        said.push_str(replies.as_str())?;
+        Ok(Outcome::Answered)
+    }
+
+    /// Whether the group has process 1, and these.
+    fn listed(
+        &mut self,
+        alloc: Global,
+        said: &mut String,
+        case: &Case,
+    ) -> Result<Outcome, CaseFault> {
+        let path = case.path(alloc, 1)?;
+        let (first, last) = (case.number(2)?, case.number(3)?);
+        let mut wanted = String::from_str(alloc, "1\n")?;
+        for number in first..=last {
+            write!(wanted, "{number}\n")?;
+        }
+        let is_listed = match self.engine.render(alloc, &path, File::Procs) {
+            Ok(text) => text.as_slice() == wanted.as_bytes(),
+            Err(_) => false,
+        };
+        said.push_str(if is_listed { "yes" } else { "no" })?;
+        Ok(Outcome::Answered)
+    }
+
+    fn undo_all<R: Threads + Wait + Sync>(
+        &mut self,
+        rt: &R,
+        said: &mut String,
+    ) -> Result<Outcome, CaseFault> {
+        match self.engine.undo_all(rt, 0) {
+            Ok(count) => write!(said, "{count}")?,
+            Err((count, AllocError)) => write!(said, "out of memory after {count}")?,
+        }
+        Ok(Outcome::Answered)
+    }
+
+    /// Takes the memory but for so many blocks.
+    fn fill(&mut self, room: u64) -> Result<Outcome, CaseFault> {
+        for _ in 0..BLOCKS_MAX {
+            match Vec::with_capacity(self.memory.clone()?, BLOCK_SIZE) {
+                Ok(block) => self.taken.push(block).map_err(|_| CaseFault::OutOfMemory)?,
+                Err(AllocError) => break,
+            }
+        }
+        for _ in 0..room {
+            drop(self.taken.pop());
+        }
+        Ok(Outcome::Answered)
+    }
+
+    /// A call on what the engine keeps, or that needs no engine.
+    fn other<R: Threads + Wait + Sync>(
+        &mut self,
+        rt: &R,
+        alloc: Global,
+        said: &mut String,
+        case: &Case,
+    ) -> Result<Outcome, CaseFault> {
+        match str::from_utf8(case.word(0)).unwrap_or("") {
+            "records" => {
+                write!(said, "{}", self.engine.depth())?;
+                Ok(Outcome::Answered)
+            }
+            "forget" => {
+                self.engine.forget();
+                Ok(Outcome::Answered)
+            }
+            "free" => {
+                self.taken.clear();
+                Ok(Outcome::Answered)
+            }
+            "fill" => self.fill(case.number(1)?),
+            "undo_all" => self.undo_all(rt, said),
+            "listed" => self.listed(alloc, said, case),
+            "newest" | "copy" | "text" | "copy_reply" | "render" | "home" => {
+                self.copied(alloc, said, case)
+            }
+            "make_in_small_heaps" => makes_in_small_heaps(alloc, said),
+            "fork_until_full" => forks_until_full(rt, alloc, said),
+            "share_paths" => shares_paths(alloc, said),
+            _ => value(alloc, said, case),
         }
     }
-    Ok(())
-}
 
-/// A process is made, moved and moved back; everything is undone and done again, and the process killed.
-const LINES: [Row; 17] = [
-    ("undo", "nothing", 0),
-    ("mkdir /a", "ok", 1),
-    ("fork 1 2", "ok", 2),
-    ("write /a cgroup.procs 2", "ok", 3),
-    ("cat /a pids.current", "1\n", 3),
-    ("undo", "write /a cgroup.procs 2", 2),
-    ("cat /a pids.current", "0\n", 2),
-    ("undo", "fork 1 2", 1),
-    ("undo", "mkdir /a", 0),
-    ("undo", "nothing", 0),
-    ("mkdir /a", "ok", 1),
-    ("fork 1 2", "ok", 2),
-    ("write /a cgroup.procs 2", "ok", 3),
-    ("cat /a pids.current", "1\n", 3),
-    ("write /a cgroup.kill 1", "ok", 4),
-    ("cat /a cgroup.events", "populated 0\nfrozen 0\n", 4),
-    ("where 2", "noprocess 2", 4),
-];
-
-/// Lines and replies of an engine after everything was undone.
-const START: [Row; 2] = [
-    ("cat / cgroup.procs", "1\n", 0),
-    (
-        "cat / cgroup.stat",
-        "nr_descendants 0\nnr_dying_descendants 0\n",
-        0,
-    ),
-];
-
-pub(crate) fn traced<R: Threads + Wait + Sync>(
-    rt: &R,
-    alloc: Global,
-    engine: &mut Plain,
-) -> Result<bool, Fail> {
-    all_answered(rt, alloc, engine, &LINES)?;
-    all_undone(rt, engine, 4)?;
-    all_answered(rt, alloc, engine, &START)?;
-    all_undone(rt, engine, 0)?;
-    Ok(true)
-}
-
-/// Then everything is undone at once.
-#[test]
-fn one_trace(rt: HostRuntime) -> Result<(), Fail> {
-    assert!(rt; passes(&rt, rt.alloc(), Trial::Trace)?);
-    Ok(())
-}
-
-/// The engine's reply to reading the file of the group at this path, written from a copy of the reply.
-fn shown<R: Threads + Wait + Sync>(
-    rt: &R,
-    alloc: Global,
-    engine: &mut Plain,
-    path: &str,
-    file: File,
-) -> Result<Vec<u8>, Fail> {
-    let path = GroupPath::read(alloc, path.as_bytes())?;
-    let reply = engine.apply_gated(rt, &OpenGate, 0, &Command::Show { path, file });
-    Ok(said_by_a_copy(alloc, &reply)?)
-}
-
-/// A path, a file, and the reply to reading it.
-const READINGS: [(&str, File, &str); 7] = [
-    ("/", File::KillFile, "direction"),
-    ("/b", File::KillFile, "direction"),
-    ("/b", File::PidsMax, "nogroup /b"),
-    ("/b", File::Procs, "nogroup /b"),
-    ("/", File::PidsMax, "nofile"),
-    ("/", File::Events, "nofile"),
-    ("/", File::Procs, "1\n"),
-];
-
-pub(crate) fn all_shown<R: Threads + Wait + Sync>(
-    rt: &R,
-    alloc: Global,
-    engine: &mut Plain,
-) -> Result<bool, Fail> {
-    for (path, file, wanted) in READINGS {
-        let said = shown(rt, alloc, engine, path, file)?;
-        if said.as_slice() != wanted.as_bytes() {
-            return Err(Fail::new(wanted));
+    /// Makes the call.
+    fn make<R: Threads + Wait + Sync>(
+        &mut self,
+        rt: &R,
+        alloc: Global,
+        said: &mut String,
+        case: &Case,
+    ) -> Result<Outcome, CaseFault> {
+        match kind_of(str::from_utf8(case.word(0)).unwrap_or("")) {
+            Kind::Line => self.line(rt, alloc, said, case),
+            Kind::Alone => self.alone(alloc, said, case),
+            Kind::Gated => self.gated(rt, alloc, said, case),
+            Kind::UndoNewest => self.undo_newest(rt, alloc, said),
+            Kind::UndoNewestAlone => self.undo_newest_alone(alloc, said),
+            Kind::Show => self.show_file(rt, alloc, said, case),
+            Kind::Each => self.each(rt, alloc, said, case),
+            Kind::Rehearsal => self.rehearse(rt, alloc, said, case),
+            Kind::Other => self.other(rt, alloc, said, case),
         }
     }
-    Ok(true)
 }
 
-/// That a file can't be read is reported before a missing group, and this before a file that the root lacks.
-#[test]
-fn refusals_of_a_reading(rt: HostRuntime) -> Result<(), Fail> {
-    assert!(rt; passes(&rt, rt.alloc(), Trial::Readings)?);
-    Ok(())
-}
-
-/// Whether the newest record is of the fork of process 2.
-fn is_fork_newest(engine: &Plain) -> bool {
-    matches!(engine.newest(), Some(Inverse::Forked { pid, .. }) if pid.get() == 2)
-        && matches!(engine.newest_command(), Some(Command::Fork { .. }))
-}
-
-/// Whether the engine has no record.
-fn has_no_record(engine: &Plain) -> bool {
-    engine.newest().is_none() && engine.newest_command().is_none()
-}
-
-/// The engine's reply to the undo of the newest command.
-fn undone<R: Threads + Wait + Sync>(
-    rt: &R,
-    alloc: Global,
-    engine: &mut Plain,
-) -> Result<Vec<u8>, AllocError> {
-    let undone = engine.undo(rt, 0);
-    said(alloc, &undone)
-}
-
-pub(crate) fn recorded<R: Threads + Wait + Sync>(
-    rt: &R,
-    alloc: Global,
-    engine: &mut Plain,
-) -> Result<bool, Fail> {
-    let was_empty = has_no_record(engine);
-    let made = answer(rt, alloc, engine, "fork 1 2")?;
-    let is_made = made.as_slice() == b"ok".as_slice() && is_fork_newest(engine);
-    let undone = undone(rt, alloc, engine)?;
-    let is_undone = undone.as_slice() == b"fork 1 2".as_slice() && has_no_record(engine);
-    Ok(was_empty && is_made && is_undone)
-}
-
-/// The newest record and its command, and the undo that undoes it.
-#[test]
-fn newest_record(rt: HostRuntime) -> Result<(), Fail> {
-    assert!(rt; passes(&rt, rt.alloc(), Trial::Newest)?);
-    Ok(())
-}
-
-/// Whether the group with this number is made, or refused if there are as many groups as possible.
-fn is_slot_told<R: Threads + Wait + Sync>(
-    rt: &R,
-    alloc: Global,
-    engine: &mut Plain,
-    number: usize,
-) -> Result<bool, Fail> {
-    let line = format!(in alloc; "mkdir /g{number}")?;
-    let said = answer(rt, alloc, engine, line.as_str())?;
-    let wanted = if number < SLOTS { "ok" } else { "noslot" };
-    Ok(said.as_slice() == wanted.as_bytes())
-}
-
-/// What is rehearsed if there are as many groups as possible.
-const FULL: [(&str, &str); 3] = [
-    ("undo", "mkdir /g1023"),
-    ("mkdir /h", "ok"),
-    ("mkdir /i", "noslot"),
-];
-
-pub(crate) fn all_slots_told<R: Threads + Wait + Sync>(
-    rt: &R,
-    alloc: Global,
-    engine: &mut Plain,
-) -> Result<bool, Fail> {
-    for number in 0..=SLOTS {
-        if !is_slot_told(rt, alloc, engine, number)? {
-            return Ok(false);
-        }
+impl<E: Allocator + Clone, A: Allocator + Clone> Subject for Tested<E, A> {
+    fn call<R: Threads + Wait + Sync>(
+        &mut self,
+        rt: &R,
+        alloc: Global,
+        case: &Case,
+        said: &mut String,
+    ) -> Result<Outcome, CaseFault> {
+        self.make(rt, alloc, said, case)
     }
-    Ok(engine.depth() == SLOTS && is_rehearsed(rt, alloc, engine, &FULL)?)
-}
 
-#[test]
-fn slots(rt: HostRuntime) -> Result<(), Fail> {
-    assert!(rt; passes(&rt, rt.alloc(), Trial::Slots)?);
-    Ok(())
-}
-
-/// How often a command is applied, and undone.
-const TIMES: u32 = 65_537;
-
-/// Whether the command is done each time, and that many are recorded.
-fn is_recorded<R: Threads + Wait + Sync>(
-    rt: &R,
-    engine: &mut Plain,
-    command: &Command<Global>,
-) -> bool {
-    let mut all = true;
-    for _ in 0..TIMES {
-        let reply = engine.apply(rt, 0, command);
-        all = all & matches!(reply, Reply::Done);
+    fn show(&mut self, alloc: Global, text: &mut String) -> Result<(), AllocError> {
+        self.push_kept(alloc, text)
     }
-    all & (engine.depth() == 65_537)
-}
-
-/// Whether a limit is undone each time, and nothing is recorded then.
-fn is_taken_back<R: Threads + Wait + Sync>(rt: &R, engine: &mut Plain) -> bool {
-    let mut all = true;
-    for _ in 0..TIMES {
-        let undone = engine.undo(rt, 0);
-        all = all & matches!(undone, Reply::Undone(Command::SetLimit { .. }));
-    }
-    all & engine.newest().is_none()
-}
-
-/// What is rehearsed after all of them.
-const DEEP: [(&str, &str); 1] = [("undo", "write / cgroup.max.depth 7")];
-
-pub(crate) fn journaled<R: Threads + Wait + Sync>(
-    rt: &R,
-    alloc: Global,
-    engine: &mut Plain,
-) -> Result<bool, Fail> {
-    let command = command(alloc, "write / cgroup.max.depth 7")?;
-    let is_recorded = is_recorded(rt, engine, &command);
-    let is_rehearsed = is_rehearsed(rt, alloc, engine, &DEEP)?;
-    Ok(is_recorded && is_rehearsed && is_taken_back(rt, engine))
-}
-
-/// More than 65,536 commands are recorded, and each is undone.
-#[test]
-fn long_journal(rt: HostRuntime) -> Result<(), Fail> {
-    assert!(rt; passes(&rt, rt.alloc(), Trial::Journal)?);
-    Ok(())
 }

@@ -1,30 +1,25 @@
-//! Trees copied into an arena.
+//! A tree copied into an arena.
 
-use crate::calls::sample;
-use bumpalo::{Bump, ResetError};
+use bumpalo::Bump;
+use group_tree::GroupTree;
+use std::alloc::{AllocError, Allocator, Global};
 use std::mem;
-use std::test::Fail;
-use test_support::path;
 
-/// An arena is freed after the tree that was copied into it.
-#[test]
-fn tree_in_an_arena(rt: HostRuntime) -> Result<(), Fail> {
-    let root = path(rt.alloc(), "/")?;
-    let tree = sample(rt.alloc(), false)?;
-    let mut arena = Bump::new(rt.alloc());
+/// Copies the tree into an arena, and drops the copy or forgets it. Returns how many groups the copy had beside the root, and
+/// whether the arena can be freed then.
+pub(crate) fn copied_into_an_arena<A: Allocator>(
+    alloc: Global,
+    tree: &GroupTree<A>,
+    is_forgotten: bool,
+) -> Result<(u64, bool), AllocError> {
+    let mut arena = Bump::new(alloc);
     let copy = tree.copy(&arena)?;
-    let below = copy.descendants(&root);
-    drop(copy);
-    assert_eq!(rt; (below, arena.reset()), (Some(5), Ok(())));
-    Ok(())
-}
-
-/// A tree that is forgotten keeps its arena from being freed.
-#[test]
-fn tree_forgotten_in_an_arena(rt: HostRuntime) -> Result<(), Fail> {
-    let tree = sample(rt.alloc(), false)?;
-    let mut arena = Bump::new(rt.alloc());
-    mem::forget(tree.copy(&arena)?);
-    assert_eq!(rt; arena.reset(), Err(ResetError));
-    Ok(())
+    let groups = copy.groups_beside_root();
+    if is_forgotten {
+        mem::forget(copy);
+    } else {
+        drop(copy);
+    }
+    let is_freed = arena.reset().is_ok();
+    Ok((groups, is_freed))
 }

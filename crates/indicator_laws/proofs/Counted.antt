@@ -1,12 +1,12 @@
 -- A hand with nothing, and the shares that are on a board.
 use Rattle.std.proofs.Common.{◌≡◌, ℕ, zero, suc, List, [], ◌∷◌, refl, arith, Bool, true, false, cond}
 use Rattle.std.specs.Prelude.{nat_lt, slice_index}
-use Rattle.snzi_core.specs.declared.event.Token.{Token}
+use Rattle.snzi_tokens.specs.declared.token.Token.{Token}
 use Rattle.snzi_core.specs.declared.holding.Role.TheVariants.{Main}
 use Rattle.snzi_core.specs.Holding.{empty}
 use Rattle.snzi_core.specs.Shape.{leaf_word, stripe_word}
 use Rattle.snzi_core.proofs.Lists.{at_nothing}
-use Rattle.snzi_core.specs.Listed.{IsWithin}
+use Rattle.snzi_tokens.specs.Listed.{IsWithin}
 use Rattle.snzi_tree.specs.Contents.{AllInRange, content_of, amounts_to}
 
 either : (t : Bool) (n : ℕ) → n ≡ 0 → cond t n 0 ≡ 0

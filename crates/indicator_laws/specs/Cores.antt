@@ -1,7 +1,7 @@
 -- Small cores, written out, for which the refusals are computed.
 use Rattle.std.specs.Prelude.{ℕ, List, [], ◌∷◌}
 use Rattle.snzi_core.specs.declared.event.At.{At}
-use Rattle.snzi_core.specs.declared.event.Token.{Token}
+use Rattle.snzi_tokens.specs.declared.token.Token.{Token}
 use Rattle.snzi_core.specs.declared.holding.Holding.{Holding}
 use Rattle.snzi_core.specs.declared.holding.Role.TheVariants.{Main, Helper}
 use Rattle.snzi_core.specs.CoreState.{State}

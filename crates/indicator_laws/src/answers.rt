@@ -3,7 +3,7 @@ ghost use Rattle.std.specs.Prelude.{◌≡◌, ◌≢◌, ℕ, ◌+◌, ◌*◌,
 ghost use denote.Bor.{Bor};
 ghost use Rattle.snzi_core.specs.declared.event.Event.{Event};
 ghost use Rattle.snzi_core.specs.declared.event.Event.TheVariants.{Load, FastAdd, RootAdd, ChildAdd, Leave, StripeAdd, Split, Join};
-ghost use Rattle.snzi_core.specs.declared.event.Token.{Token};
+ghost use Rattle.snzi_tokens.specs.declared.token.Token.{Token};
 ghost use Rattle.snzi_core.specs.declared.holding.Holding.{Holding};
 ghost use Rattle.snzi_core.specs.declared.holding.Role.TheVariants.{Main, Helper, Spent};
 ghost use Rattle.snzi_core.specs.declared.unlawful.Unlawful.{Unlawful};

@@ -7,7 +7,7 @@ ghost use Rattle.atomic_table.specs.Table.{step};
 ghost use Rattle.snzi_core.specs.declared.holding.Role.TheVariants.{Helper};
 ghost use Rattle.snzi_core.specs.declared.event.Event.{Event};
 ghost use Rattle.snzi_core.specs.declared.event.Event.TheVariants.{RootAdd, ChildAdd, Leave, StripeAdd};
-ghost use Rattle.snzi_core.specs.declared.event.Token.{Token};
+ghost use Rattle.snzi_tokens.specs.declared.token.Token.{Token};
 ghost use Rattle.snzi_core.specs.declared.unlawful.Unlawful.{Unlawful};
 ghost use Rattle.snzi_core.specs.declared.unlawful.Unlawful.TheVariants.{Cap};
 ghost use Rattle.snzi_core.specs.Caps.{token_cap, helper_cap};

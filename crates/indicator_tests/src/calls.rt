@@ -2,7 +2,7 @@
 ghost use Rattle.std.specs.Prelude.{◌≡◌, ℕ, ◌+◌, ◌<◌, ◌≤◌, length};
 ghost use Rattle.snzi_core.specs.Caps.{helper_cap};
 ghost use Rattle.snzi_core.specs.Holding.{held, out};
-ghost use Rattle.snzi_core.specs.Listed.{IsWithin, listed_at};
+ghost use Rattle.snzi_tokens.specs.Listed.{IsWithin, listed_at};
 ghost use Rattle.snzi_tree.specs.Contents.{content_of};
 ghost use Rattle.snzi_tree.specs.Hands.{IsHandOf, holds, SameHand, IsMain};
 ghost use Rattle.indicator_tests.specs.Works.{IsFresh, IsBack};

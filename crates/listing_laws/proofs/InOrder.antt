@@ -1,20 +1,20 @@
 -- The list of all groups is the keys of the state's groups, in their order.
-use Rattle.std.proofs.Common.{◌≡◌, ℕ, zero, suc, ◌≤◌, true, inl, inr, List, [], ◌∷◌, ◌++◌, map, length, refl, ap, sym, ◌∙◌, append_assoc, append-nil}
+use Rattle.std.proofs.Common.{◌≡◌, ℕ, zero, suc, ◌≤◌, ◌<◌, true, inl, inr, List, [], ◌∷◌, ◌++◌, map, length, filter, refl, ap, sym, ◌∙◌, subst, append_assoc, append-nil, length-append, arith}
 use Rattle.std.specs.Cmp.{tied_itself}
 use Rattle.std.specs.Ordering.{ordering_then}
 use Rattle.std.specs.declared.cmp.Ordering.{Ordering}
 use Rattle.std.specs.declared.cmp.Ordering.TheVariants.{Less, Equal, Greater}
 use Rattle.std.specs.FinMap.{keys, entries, entries_sorted}
-use Rattle.flat_model.specs.Path.{Name, Path, HasPrefix, name_cmp, path_cmp}
+use Rattle.flat_model.specs.Path.{Name, Path, HasPrefix, name_cmp, path_cmp, at_or_below}
 use Rattle.flat_model.specs.State.{State}
 use Rattle.flat_model.specs.Counts.{is_group, children}
 use Rattle.flat_model.specs.WellFormed.{WellFormed}
-use Rattle.flat_model.proofs.PathLaws.{name_cmp-IsTotalOrder, path_cmp-IsTotalOrder}
+use Rattle.flat_model.proofs.PathLaws.{name_cmp-IsTotalOrder, path_cmp-IsTotalOrder, at_or_below_is}
 use Rattle.group_tree.specs.ChildNames.{last_name, is_child}
-use Rattle.line_engine.specs.Listings.{all_groups, groups_from, names_below}
-use Rattle.listing_laws.proofs.Members.{Among, contains_among, among_contains, flat_among, map_among, filter_among}
+use Rattle.line_engine.specs.Listings.{all_groups, subtree, groups_from, names_below}
+use Rattle.listing_laws.proofs.Members.{Among, contains_among, among_contains, flat_among, map_among, among_filter, filter_among}
 use Rattle.listing_laws.proofs.Order.{Ascends, ascends_keys, ascends_filter, ascends_flat, same_lists}
-use Rattle.listing_laws.proofs.Listed.{child_is, there, stands, listed_are}
+use Rattle.listing_laws.proofs.Listed.{child_is, there, stands, listed_stands, standing_listed, listed_are}
 
 -- ---- the order of paths behind the same names
 
@@ -87,3 +87,18 @@ module _ (s : State) where
       same_lists path_cmp path_cmp-IsTotalOrder (all_groups s) (keys s.groups) (groups_ascend 33 []) keys_ascend
       (λ q a. there s q ((listed_are s slots w shallow q).0 (contains_among (all_groups s) q a)))
       (λ q a. among_contains (all_groups s) q ((listed_are s slots w shallow q).1 (stands s q a)))
+
+  -- the groups at or below p, among the keys
+  pub subtree_is : (slots : ℕ) → WellFormed slots s → ((p : Path) → is_group s p ≡ true → length p ≤ 32) → (p : Path) → is_group s p ≡ true
+      → subtree s p ≡ filter (λ q. at_or_below q p) (keys s.groups)
+  subtree_is slots w shallow p g =
+      same_lists path_cmp path_cmp-IsTotalOrder (subtree s p) (filter (λ q. at_or_below q p) (keys s.groups)) (groups_ascend 33 p)
+      (ascends_filter path_cmp (λ q. at_or_below q p) (keys s.groups) keys_ascend)
+      (λ q a. among_filter (λ r. at_or_below r p) (keys s.groups) q (there s q (listed_stands s 33 p q g a)) ((at_or_below_is q p).1 (below_it 33 p q a)))
+      (λ q a.
+      let f = filter_among (λ r. at_or_below r p) (keys s.groups) q a in
+      let b = (at_or_below_is q p).0 f.1 in
+      let g2 : is_group s (p ++ b.0) ≡ true = ap (is_group s) (sym b.1) ∙ stands s q f.0 in
+      let l = shallow (p ++ b.0) g2 in
+      let e = length-append p b.0 in
+      subst (Among (subtree s p)) (sym b.1) (standing_listed s slots w 33 p b.0 g2 (omega (arith, l, e))))

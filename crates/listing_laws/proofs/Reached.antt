@@ -15,7 +15,9 @@ use Rattle.flat_model.specs.Step.{refusal, after, after_refusal, at_each, with_l
 use Rattle.flat_model.specs.Machine.{Machine, new_machine, recorded, outcome, undone, tick, end_of, after_all}
 use Rattle.flat_model.proofs.PathLaws.{path_cmp-IsTotalOrder, path_cmp-IsAntisymmetric, same_path_is}
 use Rattle.flat_model.proofs.Maps.{get-each}
-use Rattle.flat_model.proofs.Reachable.{only_root, some_attr, reached_well}
+use Rattle.flat_model.specs.WellFormed.{WellFormed}
+use Rattle.flat_model.proofs.Reachable.{only_root, some_attr, run_well, reached_well}
+use Rattle.undo_journal.specs.Beginning.{forgotten}
 use Rattle.line_engine.specs.Listings.{all_groups}
 use Rattle.listing_laws.proofs.Members.{Among, contains_among}
 use Rattle.listing_laws.proofs.InOrder.{groups_are_keys}
@@ -124,3 +126,12 @@ module _ (slots : ℕ) where
 
   pub reached_keys : (cs : List Command) → ((p : Path) → Contains cs (MakeGroup p) → length p ≤ 32) → all_groups (after_all slots cs).state ≡ keys (after_all slots cs).state.groups
   reached_keys cs k = groups_are_keys (after_all slots cs).state slots (reached_well slots cs).0 (reached_shallow cs k)
+
+  -- after forgetting, too
+
+  pub forgotten_well : (m : Machine) (cs : List Command) → WellFormed slots m.state → WellFormed slots (end_of slots (forgotten m) cs).state
+  forgotten_well m cs w = (run_well slots (forgotten m) cs (w, tt)).0
+
+  pub forgotten_shallow : (m : Machine) (cs : List Command) → IsShallow m.state → ((p : Path) → Contains cs (MakeGroup p) → length p ≤ 32)
+      → IsShallow (end_of slots (forgotten m) cs).state
+  forgotten_shallow m cs h k = (run_shallow (forgotten m) cs (λ p a. k p (contains_among cs (MakeGroup p) a)) (h, tt)).0

@@ -12,7 +12,7 @@ use Rattle.flat_model.specs.Path.{Path, at_or_below, same_name}
 use Rattle.flat_model.specs.Counts.{current}
 use Rattle.flat_model.proofs.PathLaws.{at_or_below_take, at_or_below_itself, take_above}
 use Rattle.group_tree.specs.Groups.{Groups}
-use Rattle.snzi_core.specs.Listed.{one_at, over_leaves}
+use Rattle.snzi_tokens.specs.Listed.{one_at, over_leaves}
 use Rattle.pids_charge.specs.Content.{Content}
 use Rattle.pids_charge.specs.Lists.{Row}
 use Rattle.pids_charge.specs.Recount.{Recounted, IsPlaced, HasSlots, chain_at, charges_of, state_of}

@@ -13,8 +13,8 @@ use Rattle.group_tree.specs.Along.{groups_down, along_of}
 use Rattle.group_tree.specs.Groups.{Groups, slot_of}
 use Rattle.group_tree.specs.declared.attr.Attr.{Attr}
 use Rattle.group_tree.proofs.Downward.{down-cons}
-use Rattle.snzi_core.specs.declared.event.Token.{Token}
-use Rattle.snzi_core.specs.Listed.{listed_at, one_at}
+use Rattle.snzi_tokens.specs.declared.token.Token.{Token}
+use Rattle.snzi_tokens.specs.Listed.{listed_at, one_at}
 use Rattle.pids_charge.specs.Content.{Content}
 use Rattle.pids_charge.specs.Lists.{slot_at}
 use Rattle.pids_charge.specs.Recount.{chain_at, charges_at, SlotsApart, SlotsBelow}

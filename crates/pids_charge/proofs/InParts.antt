@@ -1,8 +1,8 @@
 -- A settlement leaves the same in any number of parts.
 use Rattle.std.proofs.Common.{◌≡◌, ℕ, zero, suc, ◌+◌, ◌-◌, ◌/◌, ◌≤◌, List, length, arith}
 use Rattle.std.proofs.lemmas.List.Sums.{sum_by-take-drop}
-use Rattle.snzi_core.specs.declared.event.Token.{Token}
-use Rattle.snzi_core.specs.Listed.{listed_at, one_at}
+use Rattle.snzi_tokens.specs.declared.token.Token.{Token}
+use Rattle.snzi_tokens.specs.Listed.{listed_at, one_at}
 use Rattle.pids_charge.specs.Content.{Content}
 use Rattle.pids_charge.specs.Parts.{but_last_run, the_last_run, in_parts}
 

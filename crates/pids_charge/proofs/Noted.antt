@@ -10,7 +10,7 @@ use Rattle.flat_model.specs.Path.{Path, at_or_below}
 use Rattle.flat_model.proofs.PathLaws.{take_above}
 use Rattle.group_tree.specs.Groups.{Groups, slot_of}
 use Rattle.group_tree.specs.declared.attr.Attr.{Attr}
-use Rattle.snzi_core.specs.Listed.{one_at, over_leaves}
+use Rattle.snzi_tokens.specs.Listed.{one_at, over_leaves}
 use Rattle.pids_charge.specs.Content.{Content}
 use Rattle.pids_charge.specs.Lists.{slot_at}
 use Rattle.pids_charge.specs.Peaks.{peak_of, reached_of, AreUpward, Noted, IsNoted}

@@ -17,7 +17,7 @@ use Rattle.group_tree.specs.Flat.{group_of}
 use Rattle.group_tree.specs.Groups.{Groups, slot_of}
 use Rattle.group_tree.specs.PeaksAlong.{peaked_by}
 use Rattle.group_tree.specs.declared.attr.Attr.{Attr}
-use Rattle.snzi_core.specs.Listed.{over_leaves}
+use Rattle.snzi_tokens.specs.Listed.{over_leaves}
 use Rattle.pids_charge.specs.Content.{Content}
 use Rattle.pids_charge.specs.Lists.{Row}
 use Rattle.pids_charge.specs.Peaks.{peak_of, reached_of, raised_by, AreUpward}

@@ -2,9 +2,9 @@
 use Rattle.std.proofs.Common.{◌≡◌, ℕ, ◌+◌, ◌<◌, ◌≤◌, List, length, get_or, take, refl, arith}
 use Rattle.std.proofs.lemmas.Bool.{eq-eqb}
 use Rattle.std.proofs.lemmas.List.Sums.{sum_by_more_le}
-use Rattle.snzi_core.specs.Listed.{listed_at, one_at}
+use Rattle.snzi_tokens.specs.Listed.{listed_at, one_at}
 use Rattle.pids_charge.specs.Content.{Content}
-use Rattle.snzi_core.specs.declared.event.Token.{Token}
+use Rattle.snzi_tokens.specs.declared.token.Token.{Token}
 
 one_at-here : (s j : ℕ) → one_at s j s j ≡ 1
 one_at-here s j = rw (eq-eqb s s refl, eq-eqb j j refl) refl

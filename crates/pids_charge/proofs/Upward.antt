@@ -8,7 +8,7 @@ use Rattle.std.specs.FinMap as fin
 use Rattle.flat_model.specs.Path.{Path, parent, at_or_below}
 use Rattle.flat_model.proofs.PathLaws.{take_above}
 use Rattle.group_tree.specs.Groups.{Groups}
-use Rattle.snzi_core.specs.Listed.{one_at}
+use Rattle.snzi_tokens.specs.Listed.{one_at}
 use Rattle.pids_charge.specs.Lists.{slot_at, table_slot}
 use Rattle.pids_charge.specs.Recount.{chain_at, HasParents, SlotsBelow}
 

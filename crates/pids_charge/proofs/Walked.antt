@@ -12,7 +12,7 @@ use Rattle.flat_model.proofs.MapValues.{get-map_values}
 use Rattle.group_tree.specs.Groups.{Groups, slot_of}
 use Rattle.group_tree.specs.Flat.{group_of, limit_of}
 use Rattle.group_tree.specs.declared.attr.Attr.{Attr}
-use Rattle.snzi_core.specs.Listed.{over_leaves}
+use Rattle.snzi_tokens.specs.Listed.{over_leaves}
 use Rattle.pids_charge.specs.Content.{Content}
 use Rattle.pids_charge.specs.Events.{full_by, longest}
 use Rattle.pids_charge.specs.Lists.{Row}

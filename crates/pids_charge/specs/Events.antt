@@ -11,7 +11,7 @@ use Rattle.flat_model.specs.Step.{counts_for}
 use Rattle.group_tree.specs.Groups.{Groups}
 use Rattle.group_tree.specs.Flat.{group_of, limit_of}
 use Rattle.group_tree.specs.declared.attr.Attr.{Attr}
-use Rattle.snzi_core.specs.Listed.{over_leaves}
+use Rattle.snzi_tokens.specs.Listed.{over_leaves}
 use Rattle.pids_charge.specs.Content.{Content}
 
 -- by the meter's content, one more process would exceed the group's `pids.max`

@@ -1,7 +1,7 @@
 -- A settlement in parts: each list of tokens is cut into as many runs, and a part does one run of each.
 use Rattle.std.specs.Prelude.{ℕ, zero, suc, ◌+◌, ◌-◌, ◌/◌, min, max, List, length, take, drop}
-use Rattle.snzi_core.specs.declared.event.Token.{Token}
-use Rattle.snzi_core.specs.Listed.{listed_at}
+use Rattle.snzi_tokens.specs.declared.token.Token.{Token}
+use Rattle.snzi_tokens.specs.Listed.{listed_at}
 use Rattle.pids_charge.specs.Content.{Content}
 
 -- how many parts settle so many tokens

@@ -5,7 +5,7 @@ use Rattle.flat_model.specs.Path.{Path}
 use Rattle.flat_model.specs.Step.{counts_for}
 use Rattle.group_tree.specs.Groups.{Groups, slot_of}
 use Rattle.group_tree.specs.declared.attr.Attr.{Attr}
-use Rattle.snzi_core.specs.Listed.{over_leaves}
+use Rattle.snzi_tokens.specs.Listed.{over_leaves}
 use Rattle.pids_charge.specs.Content.{Content}
 
 -- the peak of a group

@@ -11,7 +11,7 @@ use Rattle.flat_model.specs.State.{State}
 use Rattle.group_tree.specs.Groups.{Groups, IsClosed}
 use Rattle.group_tree.specs.Flat.{group_of}
 use Rattle.flat_model.specs.Mapped.{map_values}
-use Rattle.snzi_core.specs.Listed.{one_at}
+use Rattle.snzi_tokens.specs.Listed.{one_at}
 use Rattle.pids_charge.specs.Content.{Content}
 use Rattle.pids_charge.specs.Lists.{Row, slot_at, table_slot}
 use Rattle.process_table.specs.declared.process.Process.{Process}

@@ -12,7 +12,7 @@ ghost use Rattle.flat_model.specs.CommandText.{IsPid};
 ghost use Rattle.flat_model.specs.Inverse as inverse;
 ghost use Rattle.process_table.specs.Chosen.{HaveOneHome};
 ghost use Rattle.pids_charge.specs.Answers.{Does, names_in};
-ghost use Rattle.snzi_core.specs.Listed.{IsWithin, listed_at};
+ghost use Rattle.snzi_tokens.specs.Listed.{IsWithin, listed_at};
 ghost use Rattle.pids_charge.specs.Lists.{inside, lost_each, lost_one, without_each};
 ghost use Rattle.pids_charge.specs.Recount.{charges_of, HasParents, IsPlaced, SlotsBelow};
 
@@ -28,7 +28,7 @@ use crate::walk::push_charges;
 use group_path::GroupPath;
 use group_tree::GroupTree;
 use process_table::ProcessTable;
-use snzi_core::Token;
+use snzi_tokens::Token;
 use std::alloc::{AllocError, Allocator};
 use std::sync::Wait;
 use std::thread::Threads;

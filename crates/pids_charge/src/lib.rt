@@ -78,4 +78,4 @@ pub use peaks::{INLINE_PEAKS, Peaks};
 pub use pid::{PID_MAX, Pid};
 pub use plain::{LEAVES, PlainMeter, SLOTS};
 pub use settler::{Alone, Settler, WithThreads, with_threads};
-pub use snzi_core::Token;
+pub use snzi_tokens::Token;

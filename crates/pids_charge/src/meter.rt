@@ -1,12 +1,12 @@
 //! The trait of meters, which keep charges.
 
 ghost use Rattle.std.specs.Prelude.{◌≡◌, ℕ, ◌+◌, ◌-◌, ◌^◌, ◌<◌, ◌≤◌, ◌↔◌, IsTrue, length, List};
-ghost use Rattle.snzi_core.specs.Listed.{IsWithin, listed_at, one_at, over_leaves};
+ghost use Rattle.snzi_tokens.specs.Listed.{IsWithin, listed_at, one_at, over_leaves};
 ghost use Rattle.pids_charge.specs.Content.{Content};
 ghost use Rattle.pids_charge.specs.Parts.{in_parts};
 
 use crate::gate::Gate;
-use snzi_core::Token;
+use snzi_tokens::Token;
 use std::thread::Threads;
 
 /// The most charges that a meter may hold: 2^40 - 8.

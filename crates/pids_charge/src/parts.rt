@@ -1,10 +1,10 @@
 //! How many parts a settlement has, and which tokens each part does.
 
 ghost use Rattle.std.specs.Prelude.{◌≡◌, ℕ, ◌+◌, ◌<◌, length};
-ghost use Rattle.snzi_core.specs.Listed.{IsWithin, listed_at};
+ghost use Rattle.snzi_tokens.specs.Listed.{IsWithin, listed_at};
 ghost use Rattle.pids_charge.specs.Parts.{parts_for, but_last_run, the_last_run};
 
-use snzi_core::Token;
+use snzi_tokens::Token;
 
 /// The number of parts of a settlement: the number of its tokens, but at least 2 and at most 8.
 pub fn part_count(leaving: &[Token], arriving: &[Token]) -> u8

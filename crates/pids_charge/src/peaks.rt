@@ -8,7 +8,7 @@ ghost use Rattle.flat_model.specs.Path.{Path};
 ghost use Rattle.flat_model.specs.Step as flat;
 ghost use Rattle.pids_charge.specs.Events.{flat_of};
 ghost use Rattle.group_tree.specs.PeaksAlong.{SetsPeaks};
-ghost use Rattle.snzi_core.specs.Listed.{one_at, over_leaves};
+ghost use Rattle.snzi_tokens.specs.Listed.{one_at, over_leaves};
 ghost use Rattle.pids_charge.specs.Peaks.{peak_of, raised_by, AreUpward, IsNoted};
 ghost use Rattle.pids_charge.specs.Recount.{SlotsBelow, SameSlots, with_charges};
 

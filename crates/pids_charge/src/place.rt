@@ -8,7 +8,7 @@ ghost use Rattle.std.specs.FinMap as fin;
 ghost use Rattle.std.specs.Map.{lookup};
 ghost use Rattle.flat_model.specs.CommandText.{IsPid};
 ghost use Rattle.flat_model.specs.Inverse.{back, Killed};
-ghost use Rattle.snzi_core.specs.Listed.{IsWithin, listed_at};
+ghost use Rattle.snzi_tokens.specs.Listed.{IsWithin, listed_at};
 ghost use Rattle.pids_charge.specs.Lists.{with_lost, without, placed_at, rows_of};
 ghost use Rattle.pids_charge.specs.Recount.{charges_at, SlotsBelow};
 
@@ -23,7 +23,7 @@ use crate::slot::slot_in;
 use crate::walk::push_tokens;
 use group_tree::GroupTree;
 use process_table::ProcessTable;
-use snzi_core::Token;
+use snzi_tokens::Token;
 use std::alloc::{AllocError, Allocator};
 use std::sync::Wait;
 use std::thread::Threads;

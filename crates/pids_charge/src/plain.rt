@@ -1,14 +1,14 @@
 //! A meter of plain numbers, for one thread.
 
 ghost use Rattle.std.specs.Prelude.{◌≡◌, ℕ, ◌+◌, ◌-◌, ◌%◌, ◌^◌, ◌<◌, ◌≤◌, ◌↔◌, IsTrue, IfOk, List, length, sum, slice_index, slice_set, replicate};
-ghost use Rattle.snzi_core.specs.Listed.{IsWithin, listed_at};
+ghost use Rattle.snzi_tokens.specs.Listed.{IsWithin, listed_at};
 ghost use Rattle.pids_charge.specs.Content.{IsEmpty};
 ghost use Rattle.pids_charge.specs.Table.{table_at, table_held};
 
 use crate::gate::Gate;
 use crate::meter::{HELD_MAX, Meter};
 use crate::parts::{last_run, part_count};
-use snzi_core::Token;
+use snzi_tokens::Token;
 use std::alloc::{AllocError, Allocator};
 use std::marker::Model;
 use std::thread::Threads;

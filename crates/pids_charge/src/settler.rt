@@ -1,11 +1,11 @@
 //! Settlers: where the charges of a kill, and of its undo, are settled.
 
 ghost use Rattle.std.specs.Prelude.{◌≡◌, ℕ, ◌+◌, ◌<◌, ◌≤◌, length};
-ghost use Rattle.snzi_core.specs.Listed.{IsWithin, listed_at};
+ghost use Rattle.snzi_tokens.specs.Listed.{IsWithin, listed_at};
 
 use crate::gate::Gate;
 use crate::meter::{HELD_MAX, Meter};
-use snzi_core::Token;
+use snzi_tokens::Token;
 use std::thread::Threads;
 
 /// Settles charges at any meter.

@@ -2,7 +2,7 @@
 
 ghost use Rattle.std.specs.Prelude.{◌≡◌, ℕ, ◌+◌, ◌<◌, ◌≤◌, length, IsSome, OnOk};
 ghost use Rattle.std.specs.FinMap as fin;
-ghost use Rattle.snzi_core.specs.Listed.{IsWithin, listed_at};
+ghost use Rattle.snzi_tokens.specs.Listed.{IsWithin, listed_at};
 ghost use Rattle.pids_charge.specs.Lists.{table_slot};
 ghost use Rattle.pids_charge.specs.Recount.{charges_at, charges_of, HasParents, IsPlaced, SlotsBelow};
 
@@ -12,7 +12,7 @@ use crate::parents::Parents;
 use group_path::GroupPath;
 use group_tree::GroupTree;
 use process_table::Process;
-use snzi_core::Token;
+use snzi_tokens::Token;
 use std::alloc::{AllocError, Allocator};
 
 // Adds one charge at the group of a path and at each group above it other than the root. `slot` is where the processes of the

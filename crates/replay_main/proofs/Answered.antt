@@ -10,13 +10,13 @@ use Rattle.flat_model.specs.Replies.{out, commands_in, is_fault, is_refused, is_
 use Rattle.flat_model.specs.Trace.{is_line_feed, without_empty_end, lines_in, read_line, read_trace, trace_max}
 use Rattle.replay_main.specs.declared.fault.ReplayFault.{ReplayFault}
 use Rattle.replay_main.specs.declared.fault.ReplayFault.TheVariants.{Read, Write, InputTooLong, OutOfMemory, Close}
-use Rattle.replay_main.specs.declared.trace.Summary.{Summary}
-use Rattle.replay_main.specs.Device.{IsInput}
+use Rattle.trace_talk.specs.declared.summary.Summary.{Summary}
+use Rattle.program_io.specs.Device.{IsInput, IsUnwritten}
 use Rattle.undo_journal.specs.CommandMeaning.{command_of}
 use Rattle.sessions.specs.SessionMeaning.{slots}
 use Rattle.replay_main.specs.declared.reading.Script.{Script}
 use Rattle.replay_main.specs.Script.{IsScript, answers_from, place_of}
-use Rattle.replay_main.specs.Replayed.{EndsWork, IsAnswered, IsShort, IsUnwritten, Replayed}
+use Rattle.replay_main.specs.Replayed.{EndsWork, IsAnswered, IsShort, Replayed}
 use Rattle.replay_main.proofs.ScriptLaws.{answers-out, places-count, places-faults}
 
 -- ---- the number of lines

@@ -1,20 +1,16 @@
 -- The program's command line, as `clap` sees it.
-use Rattle.std.proofs.Common.{◌≡◌, true, ap, ap₂, refl, sym, subst, ◌∙◌, ◌⊎◌, inl, inr, codes, List, Option, Result, Ok, Err, ◌≢◌, [], ◌∷◌}
-use Rattle.clap.specs.Words.{App, HasMatchesOf, IsAmong, Rule, Text, fault_of, first_of, first_value, found_of, is_simple, is_simple_and_free, matches_of, new_app, rows_of, with_rule}
+use Rattle.std.proofs.Common.{◌≡◌, true, ap, ap₂, refl, sym, subst, ◌∙◌, ◌⊎◌, inl, inr, codes, List, Option, Result, Ok, Err}
+use Rattle.clap.specs.Words.{App, HasMatchesOf, IsAmong, Rule, Text, fault_of, first_value, found_of, is_simple, is_simple_and_free, new_app, with_rule}
 use Rattle.clap.specs.declared.error.kind.ErrorKind.{ErrorKind}
 use Rattle.clap.specs.declared.error.kind.ErrorKind.TheVariants as kind
 use Rattle.clap.specs.declared.parser.matches.ArgMatches.{ArgMatches}
 use Rattle.clap.proofs.OnLiterals.{clap_on_literals}
-use Rattle.clap.proofs.WalkLemmas.{first_value-rows}
+use Rattle.program_io.proofs.CommandLines.{nameless, value_in, help_is_not_out_of_memory}
 use Rattle.replay_main.specs.declared.arguments.Ask.{Ask}
 use Rattle.replay_main.specs.declared.arguments.Ask.TheVariants.{Run, Help}
-use Rattle.replay_main.specs.declared.arguments.LineFault.{LineFault}
-use Rattle.replay_main.specs.declared.arguments.LineFault.TheVariants.{Bad, OutOfMemory}
+use Rattle.program_io.specs.declared.arguments.LineFault.{LineFault}
+use Rattle.program_io.specs.declared.arguments.LineFault.TheVariants.{Bad, OutOfMemory}
 use Rattle.replay_main.specs.ReplayArguments.{Asks, IsAskedBy, app, rehearsal_in, rehearsal_said, rehearse_rule, workers_in, workers_rule, workers_said}
-
--- a command without the binary's name
-abbrev pub nameless : App → App
-nameless a = record { top = record a.top { no_binary_name = true }; subs = a.subs }
 
 pub app_is : (fresh bare one whole : App) (workers rehearse : Rule) → fresh ≡ new_app (codes "cgreplay") → bare ≡ nameless fresh
     → one ≡ with_rule bare workers → whole ≡ with_rule one rehearse → workers ≡ workers_rule → rehearse ≡ rehearse_rule → whole ≡ app
@@ -28,13 +24,6 @@ pub app_free : is_simple_and_free app ≡ true
 unfolding clap_on_literals
 app_free = refl
 
--- a value that was read is the one that the words say, of this program's command line or another's
-pub value_in : (line : App) → is_simple line ≡ true → (a : App) (words : List Text) (m : ArgMatches) (id : Text) (value : Option Text) → a ≡ line → HasMatchesOf a words m
-    → value ≡ first_value (found_of m) id → value ≡ first_of id (matches_of line words)
-value_in line simple a words m id value is h v =
-    let rows : rows_of (found_of m) ≡ matches_of line words = (subst (λ x. HasMatchesOf x words m) is h simple).0 in
-    v ∙ first_value-rows (found_of m) id ∙ ap (first_of id) rows
-
 pub said_in : (a : App) (words : List Text) (m : ArgMatches) (value : Option Text) → a ≡ app → HasMatchesOf a words m
     → value ≡ first_value (found_of m) (codes "workers") → workers_said value ≡ workers_in words
 said_in a words m value is h v = ap workers_said (value_in app app_simple a words m (codes "workers") value is h v)
@@ -42,14 +31,6 @@ said_in a words m value is h v = ap workers_said (value_in app app_simple a word
 pub rehearsal_said_in : (a : App) (words : List Text) (m : ArgMatches) (value : Option Text) → a ≡ app → HasMatchesOf a words m
     → value ≡ first_value (found_of m) (codes "rehearse") → rehearsal_said value ≡ rehearsal_in words
 rehearsal_said_in a words m value is h v = ap rehearsal_said (value_in app app_simple a words m (codes "rehearse") value is h v)
-
-pub help_is_not_out_of_memory : kind.DisplayHelp ≡ kind.OutOfMemory → ⊥
-help_is_not_out_of_memory e = cc
-
--- where the only fault is a call for help, there is no other
-pub only_help : (k : ErrorKind) → IsAmong k (kind.DisplayHelp ∷ []) → k ≢ kind.DisplayHelp → ⊥
-only_help k (inl e) n = n e
-only_help k (inr x) n = absurd x
 
 pub asks_by : (words : List Text) (k : ErrorKind) (r : Result Ask LineFault) → IsAskedBy k r → (k ≡ kind.OutOfMemory) ⊎ IsAmong k (fault_of app words) → Asks words r
 asks_by words k (Ok (Run workers rehearse)) h b = absurd h

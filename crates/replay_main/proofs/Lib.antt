@@ -1,9 +1,7 @@
-pub mod KnownBytes
 pub mod Answered
 pub mod CommandLines
 pub mod RunJoins
 pub mod ScriptLaws
-pub mod PointCuts
 pub mod Passes
 pub mod Rehearsals
 pub mod TurnSteps

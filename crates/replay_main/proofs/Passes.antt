@@ -4,10 +4,10 @@ use Rattle.std.proofs.lemmas.List.{length-map}
 use Rattle.std.proofs.lemmas.List.Sums.{count_by-le-length}
 use Rattle.flat_model.specs.Replies.{is_numbered}
 use Rattle.flat_model.specs.Trace.{Line, lines_in, read_line, read_trace, trace_max}
-use Rattle.replay_main.specs.Points.{Point, answers_on, point_after, start_point, summary_of}
+use Rattle.trace_talk.specs.Points.{Point, answers_on, point_after, start_point, summary_of}
 use Rattle.replay_main.specs.Replayed.{IsAnswered}
 use Rattle.replay_main.proofs.Answered.{few_lines}
-use Rattle.replay_main.proofs.PointCuts.{answers_on_cut, point_cut}
+use Rattle.trace_talk.proofs.PointCuts.{answers_on_cut, point_cut}
 
 -- ---- before the first line
 

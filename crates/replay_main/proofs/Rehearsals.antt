@@ -9,7 +9,7 @@ use Rattle.flat_model.specs.Replies.{fault_bytes, is_fault, is_refused, line_rep
 use Rattle.flat_model.specs.Trace.{Line, Skip, Run, Fault, read_trace}
 use Rattle.undo_journal.specs.CommandMeaning.{command_of}
 use Rattle.replay_main.specs.declared.reading.Script.{Script}
-use Rattle.replay_main.specs.declared.trace.Summary.{Summary}
+use Rattle.trace_talk.specs.declared.summary.Summary.{Summary}
 use Rattle.replay_main.specs.Rehearsed.{answers_at_hand, is_refusal}
 use Rattle.sessions.specs.SessionMeaning.{slots}
 use Rattle.replay_main.specs.Replayed.{IsAnswered}

@@ -1,6 +1,5 @@
-pub mod Device
+pub mod WholeInput
 pub mod Replayed
-pub mod Points
 pub mod Rehearsed
 pub mod ReplayArguments
 pub mod ReplayProgram

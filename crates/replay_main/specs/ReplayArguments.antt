@@ -1,23 +1,14 @@
 -- What a command line asks for, by the kinds of fault that `clap` finds in its words (none, a call for help, or another) and by what stands at `--workers` and `--rehearse`.
 use Rattle.std.specs.Prelude.{◌≡◌, ◌≢◌, ◌≤◌, ◌-◌, ◌&&◌, ◌⊎◌, ℕ, Bool, true, false, nat_lt, if◌then◌else◌, List, [], ◌∷◌, codes, Option, Some, None, Result, Ok, Err}
 use Rattle.std.specs.Str.{bytes_eq}
-use Rattle.std.specs.Vec.Iter.{into_iter_steps}
-use Rattle.std.specs.Iterator.{Drains}
-use Rattle.std.specs.IoError.{error_kind}
-use Rattle.std.specs.declared.alloc.Global.{Global}
-use Rattle.std.specs.declared.io.Error.{Error}
-use Rattle.std.specs.declared.io.ErrorKind.TheVariants as io_kind
-use Rattle.std.specs.declared.string.String.{String}
-use Rattle.std.specs.declared.vec.IntoIter.{IntoIter}
-use Rattle.std.specs.declared.vec.Vec.{Vec}
 use Rattle.clap.specs.Words.{App, IsAmong, Kinds, Rule, Text, fault_of, first_of, matches_of, new_app, new_rule, with_rule}
 use Rattle.clap.specs.declared.builder.action.ArgAction.TheVariants.{SetTrue}
 use Rattle.clap.specs.declared.error.kind.ErrorKind.{ErrorKind}
 use Rattle.clap.specs.declared.error.kind.ErrorKind.TheVariants as kind
 use Rattle.replay_main.specs.declared.arguments.Ask.{Ask}
 use Rattle.replay_main.specs.declared.arguments.Ask.TheVariants.{Run, Help}
-use Rattle.replay_main.specs.declared.arguments.LineFault.{LineFault}
-use Rattle.replay_main.specs.declared.arguments.LineFault.TheVariants.{Bad, OutOfMemory}
+use Rattle.program_io.specs.declared.arguments.LineFault.{LineFault}
+use Rattle.program_io.specs.declared.arguments.LineFault.TheVariants.{Bad, OutOfMemory}
 
 -- `--workers N`; its value has a name in the help text
 abbrev pub workers_rule : Rule
@@ -72,12 +63,3 @@ IsAskedBy k (Ok (Run workers rehearse)) = ⊥
 IsAskedBy k (Ok (Help text)) = k ≡ kind.DisplayHelp
 IsAskedBy k (Err Bad) = (k ≢ kind.DisplayHelp) × (k ≢ kind.OutOfMemory)
 IsAskedBy k (Err OutOfMemory) = Unit {0}
-
--- the arguments; otherwise out of memory, or an argument is not text
-abbrev pub Collects : Result (IntoIter (String Global) Global) Error → Result (Vec (String Global) Global) LineFault → Type 0
-Collects (Ok args) (Ok v) = Drains into_iter_steps args v.items
-Collects (Ok args) (Err Bad) = ⊥
-Collects (Ok args) (Err OutOfMemory) = Unit {0}
-Collects (Err e) (Ok v) = ⊥
-Collects (Err e) (Err Bad) = error_kind e ≢ io_kind.OutOfMemory
-Collects (Err e) (Err OutOfMemory) = error_kind e ≡ io_kind.OutOfMemory

@@ -2,19 +2,14 @@
 use Rattle.std.specs.Prelude.{◌≡◌, ◌≢◌, ◌⊎◌, ℕ, List, [], Option, Some, Bool, true, false, Result, Ok, Err}
 use Rattle.clap.specs.Words.{IsAmong, Text, fault_of}
 use Rattle.clap.specs.declared.error.kind.ErrorKind.TheVariants as kind
-use Rattle.replay_main.specs.declared.arguments.LineFault.TheVariants.{Bad, OutOfMemory}
+use Rattle.program_io.specs.declared.arguments.LineFault.TheVariants.{Bad, OutOfMemory}
 use Rattle.replay_main.specs.declared.fault.ReplayFault.TheVariants as replay
 use Rattle.replay_main.specs.declared.program.ProgramFault.{ProgramFault}
 use Rattle.replay_main.specs.declared.program.ProgramFault.TheVariants.{Line, Replay}
-use Rattle.replay_main.specs.declared.trace.Summary.{Summary}
+use Rattle.trace_talk.specs.declared.summary.Summary.{Summary}
 use Rattle.replay_main.specs.ReplayArguments.{Asks, app, rehearsal_in, workers_in}
-use Rattle.replay_main.specs.Device.{TakesFront}
-use Rattle.replay_main.specs.Replayed.{IsWhole, IsUnwritten, Replayed}
-
--- nothing was read: the source has the bytes that it had, and no read failed
-pub record IsUnread (left rest : Option (List ℕ)) (read_failed : Bool) : Type 0 where
-  pub same : rest ≡ left
-  pub good_reads : read_failed ≡ false
+use Rattle.program_io.specs.Device.{IsUnread, IsUnwritten, TakesFront}
+use Rattle.replay_main.specs.Replayed.{IsWhole, Replayed}
 
 -- the command line asks for help; nothing was read, and a whole text was written and flushed
 pub record IsHelped (words : List Text) (left rest : Option (List ℕ)) (read_failed : Bool) (before after : Option (List ℕ)) (write_failed flushed : Bool) : Type 0 where

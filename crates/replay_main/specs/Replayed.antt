@@ -5,8 +5,9 @@ use Rattle.flat_model.specs.Trace.{trace_max, read_trace}
 use Rattle.sessions.specs.SessionMeaning.{slots}
 use Rattle.replay_main.specs.declared.fault.ReplayFault.{ReplayFault}
 use Rattle.replay_main.specs.declared.fault.ReplayFault.TheVariants.{Read, Write, InputTooLong, OutOfMemory, Close}
-use Rattle.replay_main.specs.declared.trace.Summary.{Summary}
-use Rattle.replay_main.specs.Device.{IsInput, IsTooLong, TakesFront}
+use Rattle.trace_talk.specs.declared.summary.Summary.{Summary}
+use Rattle.program_io.specs.Device.{IsInput, IsUnwritten, TakesFront}
+use Rattle.replay_main.specs.WholeInput.{IsTooLong}
 
 -- a fault of the work between reading and writing
 abbrev pub EndsWork : ReplayFault → Type 0
@@ -51,11 +52,6 @@ pub record IsCut (left before after : Option (List ℕ)) (read_failed write_fail
 abbrev pub IsShort : Option (List ℕ) → Type 0
 IsShort None = Unit {0}
 IsShort (Some left) = length left ≤ trace_max
-
--- Nothing was written, and no write failed.
-pub record IsUnwritten (before after : Option (List ℕ)) (write_failed : Bool) : Type 0 where
-  pub same : after ≡ before
-  pub good_writes : write_failed ≡ false
 
 -- What a replay leaves, by its result: the source had these bytes left, and the marks are these.
 abbrev pub Replayed : Option (List ℕ) → Bool → Option (List ℕ) → Option (List ℕ) → Bool → Bool → Result Summary ReplayFault → Type 0

@@ -2,14 +2,13 @@
 
 ghost use Rattle.std.specs.Prelude.{◌≡◌, ◌≤◌, drop, map, option_map, string_bytes, IfOk, IfSome};
 ghost use Rattle.clap.specs.Words.{app_of, kind_of};
-ghost use Rattle.replay_main.specs.ReplayArguments.{Asks, IsAskedBy, Collects, app, digit_said, rehearsal_said, workers_said};
+ghost use Rattle.replay_main.specs.ReplayArguments.{Asks, IsAskedBy, app, digit_said, rehearsal_said, workers_said};
 
 use clap::error::ErrorKind;
 use clap::{Arg, ArgAction, Command, Error};
+use program_io::{LineFault, without_name};
 use std::alloc::{AllocError, Global};
 use std::convert::AsStr;
-use std::{env, io};
-use thiserror::Error;
 
 /// What the command line asks for.
 #[derive(Drop)]
@@ -23,17 +22,6 @@ pub enum Ask {
     },
     /// The help text.
     Help(String),
-}
-
-/// Why the command line could not be read. (A fault in a line of a trace is a `TextFault`.)
-#[derive(Clone, Copy, Debug, PartialEq, Eq, Error)]
-pub enum LineFault {
-    /// A word is unknown or not text, or the number of workers is not from 1 to 8.
-    #[error("bad command line")]
-    Bad,
-    /// Out of memory.
-    #[error("out of memory")]
-    OutOfMemory,
 }
 
 /// Reads the words after the program's name: `--workers N`, where N is a digit from 1 to 8 and 1 by
@@ -53,38 +41,6 @@ pub(crate) fn read_arguments(alloc: Global, args: &[String]) -> Result<Ask, Line
     ensures { Asks (map string_bytes (drop 1 args.now)) result }
 {
     read_words(alloc, without_name(args))
-}
-
-/// The program's arguments, including its name.
-///
-/// # Errors
-///
-/// `OutOfMemory` when out of memory, and `Bad` if an argument is not text.
-pub fn collect_arguments(
-    alloc: Global,
-    args: io::Result<env::Args>,
-) -> Result<Vec<String>, LineFault>
-    ensures { Collects args result }
-{
-    match args {
-        Ok(args) => match args.collect(alloc) {
-            Ok(args) => Ok(args),
-            Err(_) => Err(LineFault::OutOfMemory),
-        },
-        Err(error) => match error.kind() {
-            io::ErrorKind::OutOfMemory => Err(LineFault::OutOfMemory),
-            _ => Err(LineFault::Bad),
-        },
-    }
-}
-
-fn without_name(args: &[String]) -> &[String]
-    ensures { result.now ≡ drop 1 args.now }
-{
-    match args {
-        [_, words @ ..] => words,
-        [] => args,
-    }
 }
 
 /// The program's arguments, described for `clap`.

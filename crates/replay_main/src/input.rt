@@ -1,13 +1,10 @@
 //! The whole input, up to a limit.
 
 ghost use Rattle.std.specs.Prelude.{◌≡◌, false};
-ghost use Rattle.replay_main.specs.Device.{WholeRead};
+ghost use Rattle.replay_main.specs.WholeInput.{WholeRead};
 
-use crate::{ReplayFault, Source};
+use crate::{ReplayFault, Source, TRACE_MAX};
 use std::alloc::Global;
-
-/// The most bytes of a trace.
-pub const TRACE_MAX: usize = 16_777_216;
 
 /// Reads to the end.
 pub(crate) fn read_whole<S: Source>(alloc: Global, source: &mut S) -> Result<Vec<u8>, ReplayFault>

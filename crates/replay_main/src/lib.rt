@@ -4,8 +4,9 @@
 //! `Sink` and flushes it. It answers nothing before the whole trace is read. It writes nothing
 //! before every line is answered.
 //!
-//! - `trace_lines` defines what a line means, and the bytes of its answer. This crate re-exports
-//!   its public names.
+//! - `trace_lines` defines what a line means, and the bytes of its answer; `trace_talk` answers line
+//!   by line; `program_io` has sources, sinks and arguments. This crate re-exports their public
+//!   names.
 //! - The answers are `answers` of `flat_model`: those of its machine from its start, with at most
 //!   1,024 groups other than the root. They don't depend on the number of workers. The same holds
 //!   for the two counts of the `Summary`.
@@ -23,38 +24,33 @@
 //!   and when a device answers.
 //!
 //! `specs/Replayed.antt` says what a replay leaves. `specs/ReplayProgram.antt` says what the
-//! program leaves, and defines its statuses. `specs/Device.antt` says what a whole read and a whole
-//! write leave. `specs/ReplayArguments.antt` says what a command line asks for. `session_laws`
+//! program leaves, and defines its statuses. `specs/WholeInput.antt` says what a whole read leaves.
+//! `specs/ReplayArguments.antt` says what a command line asks for. `session_laws`
 //! states the laws that follow from these definitions.
 #![tactic(auto)]
 
 mod arguments;
-mod device;
 mod fault;
 mod input;
 mod logged;
-mod memory;
-mod output;
+mod one_pass;
 mod program;
 mod reading;
 mod rehearsal;
 mod runs;
-mod streams;
-mod talk;
 mod texts;
 mod trace;
 mod turns;
 
-pub use arguments::{Ask, LineFault, collect_arguments, command_line};
-pub use device::{DeviceFault, Sink, Source};
+pub use arguments::{Ask, command_line};
 pub use fault::ReplayFault;
-pub use input::TRACE_MAX;
-pub use memory::{MemorySink, MemorySource};
-pub use output::write_whole;
 pub use pids_charge::{Gate, OpenGate};
 pub use program::{ProgramFault, exit_status, run_program};
+pub use program_io::{
+    DeviceFault, LineFault, MemorySink, MemorySource, Sink, Source, StreamSink, StreamSource,
+    collect_arguments, write_whole,
+};
 pub use rehearsal::rehearse_trace;
-pub use streams::{StreamSink, StreamSource};
-pub use talk::Talk;
-pub use trace::{Summary, replay, replay_gated};
+pub use trace::{replay, replay_gated};
 pub use trace_lines::{LINE_MAX, Line, TextFault, parse_line};
+pub use trace_talk::{Summary, TRACE_MAX, Talk};

@@ -1,15 +1,15 @@
 //! The program over any source and sink, and its exit status.
 
 ghost use Rattle.std.specs.Prelude.{◌≡◌, ◌≢◌, ◌≤◌, drop, true, false, map, string_bytes, Err};
-ghost use Rattle.replay_main.specs.declared.arguments.LineFault.{LineFault};
+ghost use Rattle.program_io.specs.declared.arguments.LineFault.{LineFault};
 ghost use Rattle.replay_main.specs.declared.fault.ReplayFault.TheVariants.{Close};
 ghost use Rattle.replay_main.specs.declared.program.ProgramFault.TheVariants.{Line};
 ghost use Rattle.replay_main.specs.ReplayProgram.{Ran, status_of};
 ghost use Rattle.replay_main.specs.Replayed.{Replayed};
 
-use crate::arguments::{Ask, LineFault, read_arguments};
-use crate::output::write_whole;
-use crate::{DeviceFault, ReplayFault, Sink, Source, Summary, rehearse_trace, replay};
+use crate::arguments::{Ask, read_arguments};
+use crate::{ReplayFault, Sink, Source, Summary, rehearse_trace, replay};
+use program_io::{DeviceFault, LineFault, write_whole};
 use std::alloc::Global;
 use std::sync::Wait;
 use std::thread::Threads;

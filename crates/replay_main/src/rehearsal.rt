@@ -10,12 +10,12 @@ ghost use Rattle.replay_main.specs.Replayed.{IsAnswered, Replayed};
 ghost use Rattle.replay_main.specs.Script.{place_of};
 
 use crate::input::read_whole;
-use crate::output::write_whole;
 use crate::reading::{NumberedLine, count_faults, read_script};
 use crate::trace::Answered;
 use crate::{ReplayFault, Sink, Source, Summary};
 use bumpalo::Bump;
 use pids_charge::{OpenGate, PlainMeter};
+use program_io::write_whole;
 use std::alloc::{AllocError, Global};
 use std::sync::Wait;
 use std::thread::Threads;

@@ -6,25 +6,16 @@ ghost use Rattle.replay_main.specs.declared.fault.ReplayFault.TheVariants.{Close
 ghost use Rattle.replay_main.specs.Replayed.{EndsWork, IsAnswered, Replayed};
 
 use crate::input::read_whole;
-use crate::output::write_whole;
+use crate::one_pass::answer_in_one_pass;
 use crate::reading::{count_faults, read_script};
-use crate::talk::answer_in_one_pass;
 use crate::texts::{answers_of, count_refused};
 use crate::turns::run_commands;
-use crate::{ReplayFault, Sink, Source};
+use crate::{ReplayFault, Sink, Source, Summary};
 use pids_charge::{Gate, OpenGate};
+use program_io::write_whole;
 use std::alloc::Global;
 use std::sync::Wait;
 use std::thread::Threads;
-
-/// The two counts of a replay.
-#[derive(Clone, Copy, Debug, PartialEq, Eq)]
-pub struct Summary {
-    /// How many lines have a number.
-    pub commands: u64,
-    /// How many of these were answered `refused`.
-    pub refused: u64,
-}
 
 /// The answers to a trace.
 #[derive(Drop)]

@@ -40,17 +40,16 @@ ghost use Rattle.clap.specs.declared.error.kind.ErrorKind.TheVariants as kind;
 ghost use Rattle.flat_model.specs.Trace.{read_trace};
 ghost use Rattle.flat_model.specs.Replies.{answers, command_count, refused_count};
 ghost use Rattle.replay_main.specs.declared.arguments.Ask.TheVariants as ask;
-ghost use Rattle.replay_main.specs.declared.arguments.LineFault.{LineFault};
-ghost use Rattle.replay_main.specs.declared.arguments.LineFault.TheVariants as line;
-ghost use Rattle.replay_main.specs.declared.device.DeviceFault.{DeviceFault};
+ghost use Rattle.program_io.specs.declared.arguments.LineFault.{LineFault};
+ghost use Rattle.program_io.specs.declared.arguments.LineFault.TheVariants as line;
+ghost use Rattle.program_io.specs.declared.device.DeviceFault.{DeviceFault};
 ghost use Rattle.replay_main.specs.declared.fault.ReplayFault.{ReplayFault};
 ghost use Rattle.replay_main.specs.declared.fault.ReplayFault.TheVariants as fault;
 ghost use Rattle.replay_main.specs.declared.program.ProgramFault.TheVariants as program;
-ghost use Rattle.replay_main.specs.declared.trace.Summary.{Summary};
+ghost use Rattle.trace_talk.specs.declared.summary.Summary.{Summary};
 ghost use Rattle.sessions.specs.SessionMeaning.{slots};
 ghost use Rattle.replay_main.specs.ReplayArguments.{
   Asks,
-  Collects,
   IsAskedBy,
   app,
   digit_said,
@@ -59,7 +58,9 @@ ghost use Rattle.replay_main.specs.ReplayArguments.{
   workers_in,
   workers_said,
 };
-ghost use Rattle.replay_main.specs.Device.{TakesFront, WholeRead, WholeWrite};
+ghost use Rattle.program_io.specs.Arguments.{Collects};
+ghost use Rattle.program_io.specs.Device.{TakesFront, WholeWrite};
+ghost use Rattle.replay_main.specs.WholeInput.{WholeRead};
 ghost use Rattle.replay_main.specs.ReplayProgram.{Ran, status_of};
 ghost use Rattle.replay_main.specs.Replayed.{EndsWork, IsAnswered, Replayed};
 

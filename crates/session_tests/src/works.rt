@@ -1,241 +1,198 @@
-//! Sessions at work in threads of their own.
+//! What sessions do beside one another, each in a thread of its own, as the case files write it.
+//!
+//! A job is `STEP,STEP` or `TIMES x STEP,STEP`. A step is a line of a trace; `at TURN LINE`, which waits for its turn; `halt`;
+//! `rest`, which does nothing; `pause`, after which a session that waits is asleep; or `early` or `late`, the pauses of a
+//! race. In a step `#` is the number of the round times that of the sessions, plus the number of the session.
 
-ghost use Rattle.std.specs.Prelude.{◌≤◌};
-
-use crate::calls::{Ask, closed, command, is_ended, opened};
-use sessions::{Closed, RunFault, Session};
+use crate::place::{Place, command};
+use sessions::{RunFault, Session};
 use std::alloc::{AllocError, Global};
 use std::sync::Wait;
 use std::thread::{Threads, map_vec, yield_now};
-use undo_journal::{Command, Reply};
+use test_support::CaseFault;
 
-/// What a session does in a thread of its own.
+/// After this many pauses a session that waits is asleep.
+pub(crate) const SLEEP: u64 = 100_000;
+
+/// The pauses of a race, and how many sessions take part.
 #[derive(Clone, Copy)]
-pub(crate) enum Work {
-    /// Nothing.
-    Rest,
-    /// Undoes the newest command.
-    Undo,
-    /// The same at this turn.
-    UndoAt(u64),
-    /// The same at every other turn from this one on, out of a thousand.
-    UndoByTurns(u64),
-    /// Process 1 forks a hundred, from this number on.
-    Fork(u32),
-    /// Makes this group and undoes the newest command, ten times.
-    Contend(&'static str),
-    /// Halts the desk.
-    Halt,
-    /// Undoes the newest command, and halts the desk.
-    UndoAndHalt,
+pub(crate) struct Pace {
+    pub(crate) early: u64,
+    pub(crate) late: u64,
+    pub(crate) sessions: u64,
 }
 
-/// How many commands got the expected replies, and the fault of the last that did not.
-pub(crate) type Did = (u32, Option<RunFault>);
+/// How many commands ran, each at its turn if it had one, and why the last one that did not run did not.
+#[derive(Clone, Copy)]
+pub(crate) struct Did {
+    pub(crate) ran: u64,
+    pub(crate) fault: Option<RunFault>,
+}
 
-/// Yields to other threads so many times.
-pub(crate) fn pause(times: u32) {
+/// Yields to other threads this many times.
+pub(crate) fn pause(times: u64) {
     for _ in 0..times {
         yield_now();
     }
 }
 
-/// So many pauses, after which a waiting session is asleep.
-pub(crate) const SLEEP: u32 = 100_000;
-
-/// Turns that no log of these tests reaches, including the greatest.
-pub(crate) const FAR_TURNS: [u64; 3] = [5, u64::MAX - 1, u64::MAX];
-
-/// How often a session undoes by turns, forks, and contends.
-const TURNS: u64 = 500;
-
-const FORKS: u32 = 100;
-
-const ROUNDS: u32 = 10;
-
-fn undoes<R: Threads + Wait + Sync>(rt: &R, session: &mut Session) -> Did {
-    let undo: Command<Global> = Command::Undo;
-    match session.run(rt, &undo) {
-        Ok(_) => (1, None),
-        Err(fault) => (0, Some(fault)),
+/// The step with its number.
+fn numbered(alloc: Global, step: &str, number: u64) -> Result<String, AllocError> {
+    let mut text = String::new(alloc);
+    for (at, part) in step.split('#').enumerate() {
+        if at > 0 {
+            write!(text, "{number}")?;
+        }
+        text.push_str(part)?;
     }
+    Ok(text)
 }
 
-fn undoes_at<R: Threads + Wait + Sync>(rt: &R, session: &mut Session, turn: u64) -> Did {
-    let undo: Command<Global> = Command::Undo;
-    match session.run_at(rt, turn, &undo) {
-        Ok(receipt) => (u32::from(receipt.number == turn), None),
-        Err(fault) => (0, Some(fault)),
-    }
-}
-
-fn undoes_by_turns<R: Threads + Wait + Sync>(rt: &R, session: &mut Session, first: u64) -> Did {
-    let mut right = 0u32;
-    for step in 0..TURNS {
-        let (is_right, _) = undoes_at(rt, session, 2 * step + first % 2);
-        right = right.saturating_add(is_right);
-    }
-    (right, None)
-}
-
-/// Whether process 1 forks this process.
-fn forks_one<R: Threads + Wait + Sync>(
+/// Runs the command of a step, at its turn if it has one.
+fn run_step<R: Threads + Wait + Sync>(
     rt: &R,
     alloc: Global,
     session: &mut Session,
-    number: u32,
-) -> bool {
-    match command(alloc, Ask::Fork(number)) {
-        Some(fork) => matches!(session.run(rt, &fork), Ok(r) if matches!(r.reply, Reply::Done)),
-        None => false,
+    step: &str,
+    did: &mut Did,
+) -> Result<(), CaseFault> {
+    let (turn, line) = match step.strip_prefix("at ") {
+        Some(rest) => match rest.split_once(' ') {
+            Some((turn, line)) => (turn.parse::<u64>().ok(), line),
+            None => (None, rest),
+        },
+        None => (None, step),
+    };
+    let command = command(alloc, line.as_bytes())?;
+    let answer = match turn {
+        Some(turn) => session.run_at(rt, turn, &command),
+        None => session.run(rt, &command),
+    };
+    match answer {
+        Ok(receipt) => {
+            let is_right = turn.is_none() || turn == Some(receipt.number);
+            did.ran = did.ran.saturating_add(u64::from(is_right));
+        }
+        Err(fault) => did.fault = Some(fault),
     }
+    Ok(())
 }
 
-fn forks<R: Threads + Wait + Sync>(
+/// Does a step.
+fn take_step<R: Threads + Wait + Sync>(
     rt: &R,
     alloc: Global,
     session: &mut Session,
-    first: u32,
+    step: &str,
+    pace: Pace,
+    did: &mut Did,
+) -> Result<(), CaseFault> {
+    match step {
+        "rest" => {}
+        "pause" => pause(SLEEP),
+        "early" => pause(pace.early),
+        "late" => pause(pace.late),
+        "halt" => session.halt(rt),
+        step => run_step(rt, alloc, session, step, did)?,
+    }
+    Ok(())
+}
+
+/// Does the steps of a round.
+fn take_steps<R: Threads + Wait + Sync>(
+    rt: &R,
+    alloc: Global,
+    session: &mut Session,
+    steps: &str,
+    number: u64,
+    pace: Pace,
+    did: &mut Did,
+) -> Result<(), CaseFault> {
+    for step in steps.split(',') {
+        let step = numbered(alloc, step, number)?;
+        take_step(rt, alloc, session, step.as_str(), pace, did)?;
+    }
+    Ok(())
+}
+
+/// Does a job. A step that can't be done ends it.
+pub(crate) fn work<R: Threads + Wait + Sync>(
+    rt: &R,
+    alloc: Global,
+    session: &mut Session,
+    job: &str,
+    pace: Pace,
 ) -> Did {
-    let mut right = 0u32;
-    for step in 0..FORKS {
-        let is_made = forks_one(rt, alloc, session, first.saturating_add(step));
-        right = right.saturating_add(u32::from(is_made));
-    }
-    (right, None)
-}
-
-fn contends<R: Threads + Wait + Sync>(
-    rt: &R,
-    alloc: Global,
-    session: &mut Session,
-    text: &'static str,
-) -> Did {
-    let undo: Command<Global> = Command::Undo;
-    let mut right = 0u32;
-    if let Some(make) = command(alloc, Ask::Make(text)) {
-        for _ in 0..ROUNDS {
-            right = right.saturating_add(u32::from(session.run(rt, &make).is_ok()));
-            right = right.saturating_add(u32::from(session.run(rt, &undo).is_ok()));
+    let (times, steps) = match job.split_once(" x ") {
+        Some((times, steps)) => (times.parse::<u64>().unwrap_or(0), steps),
+        None => (1, job),
+    };
+    let mut did = Did {
+        ran: 0,
+        fault: None,
+    };
+    for round in 0..times {
+        let number = round
+            .saturating_mul(pace.sessions)
+            .saturating_add(u64::from(session.number));
+        if take_steps(rt, alloc, session, steps, number, pace, &mut did).is_err() {
+            did.fault = Some(RunFault::OutOfMemory);
         }
     }
-    (right, None)
+    did
 }
 
-/// Does the work after so many pauses.
-pub(crate) fn does<R: Threads + Wait + Sync>(
-    rt: &R,
-    alloc: Global,
-    session: &mut Session,
-    pauses: u32,
-    work: Work,
-) -> Did {
-    pause(pauses);
-    match work {
-        Work::Rest => (0, None),
-        Work::Undo => undoes(rt, session),
-        Work::UndoAt(turn) => undoes_at(rt, session, turn),
-        Work::UndoByTurns(first) => undoes_by_turns(rt, session, first),
-        Work::Fork(first) => forks(rt, alloc, session, first),
-        Work::Contend(text) => contends(rt, alloc, session, text),
-        Work::Halt => {
-            session.halt(rt);
-            (0, None)
-        }
-        Work::UndoAndHalt => {
-            let did = undoes(rt, session);
-            session.halt(rt);
-            did
-        }
-    }
-}
-
-/// A session, its pauses and its work.
-pub(crate) type Job = (Session, u32, Work);
-
-/// Does the work, and returns the session.
+/// Does a job, and returns the session.
 pub(crate) fn finished<R: Threads + Wait + Sync>(
     rt: &R,
     alloc: Global,
-    job: Job,
+    mut session: Session,
+    job: &str,
+    pace: Pace,
 ) -> (Session, Did) {
-    let (mut session, pauses, work) = job;
-    let did = does(rt, alloc, &mut session, pauses, work);
+    let did = work(rt, alloc, &mut session, job, pace);
     (session, did)
 }
 
-fn jobs(
-    alloc: Global,
-    sessions: Vec<Session>,
-    works: &[(u32, Work)],
-) -> Result<Vec<Job>, AllocError> {
-    let mut jobs = Vec::new(alloc);
-    for (session, (pauses, work)) in sessions.into_iter().zip(works) {
-        jobs.push((session, *pauses, *work))?;
-    }
-    Ok(jobs)
-}
+/// A session with its place and its job.
+type Job<'a> = (usize, Session, &'a str);
 
-/// The sessions; what they did goes to `dids`.
-fn parted(
-    alloc: Global,
-    done: Vec<(Session, Did)>,
-    dids: &mut [Did],
-) -> Result<Vec<Session>, AllocError> {
-    let mut sessions = Vec::new(alloc);
-    for ((session, done), did) in done.into_iter().zip(dids) {
-        *did = done;
-        sessions.push(session)?;
-    }
-    Ok(sessions)
-}
-
-/// The sessions do these works beside one another, each in a thread of its own. What they did goes to `dids`.
-pub(crate) fn worked<R: Threads + Wait + Sync>(
+/// Does a job, and returns the session with its place.
+fn finished_at<'a, R: Threads + Wait + Sync>(
     rt: &R,
     alloc: Global,
-    sessions: Vec<Session>,
-    works: &[(u32, Work)],
-    dids: &mut [Did],
-) -> Result<Vec<Session>, AllocError> {
-    let jobs = jobs(alloc, sessions, works)?;
-    let done = map_vec(rt, jobs, &|job| finished(rt, alloc, job))?;
-    parted(alloc, done, dids)
+    pace: Pace,
+    job: Job<'a>,
+) -> (usize, Session, Did) {
+    let (at, session, text) = job;
+    let (session, did) = finished(rt, alloc, session, text, pace);
+    (at, session, did)
 }
 
-/// What a desk with so many sessions that do these works leaves; None also if it is not closed.
-pub(crate) fn ended<R: Threads + Wait + Sync>(
+/// The sessions do these jobs beside one another, each in a thread of its own, the first one that of place 0. Returns what
+/// they did.
+pub(crate) fn beside<R: Threads + Wait + Sync>(
     rt: &R,
     alloc: Global,
-    n: u8,
-    works: &[(u32, Work)],
-    dids: &mut [Did],
-) -> Option<Closed>
-    requires { (1 ≤ n) × (n ≤ 8) }
-{
-    let Ok((desk, sessions)) = opened(alloc, n) else {
-        return None;
-    };
-    match worked(rt, alloc, sessions, works, dids) {
-        Ok(sessions) => closed(rt, desk, sessions),
-        Err(AllocError) => None,
+    place: &mut Place,
+    jobs: &str,
+    pace: Pace,
+) -> Result<Vec<Did>, AllocError> {
+    let mut taken = Vec::with_capacity(alloc, 8)?;
+    for (at, job) in jobs.split(';').enumerate() {
+        if let Some(slot) = place.sessions.get_mut(at) {
+            if let Some(session) = slot.take() {
+                taken.push((at, session, job))?;
+            }
+        }
     }
-}
-
-/// Whether the sessions of such a desk did so, and its log has entries of these sessions.
-pub(crate) fn is_worked<R: Threads + Wait + Sync>(
-    rt: &R,
-    alloc: Global,
-    n: u8,
-    works: &[(u32, Work)],
-    wanted: &[Did],
-    log: &[u8],
-) -> bool
-    requires { (1 ≤ n) × (n ≤ 8) }
-{
-    let mut dids = [(0, None); 8];
-    match ended(rt, alloc, n, works, &mut dids) {
-        Some(mut closed) => { dids.starts_with(wanted) && is_ended(rt, alloc, &mut closed, log) }
-        None => false,
+    let done = map_vec(rt, taken, &|job| finished_at(rt, alloc, pace, job))?;
+    let mut dids = Vec::with_capacity(alloc, 8)?;
+    for (at, session, did) in done {
+        if let Some(slot) = place.sessions.get_mut(at) {
+            *slot = Some(session);
+        }
+        dids.push(did)?;
     }
+    Ok(dids)
 }

@@ -69,21 +69,23 @@ abbrev pub log_in : Option Book → List Entry
 log_in (Some b) = b.log.items
 log_in None = []
 
--- engine and log are unchanged, and so is whether it is halted
+-- engine and log are unchanged, and so are the turns that are waited for and whether the desk is halted
 abbrev pub IsSame : Hall → Hall → Type 0
-IsSame before after = (pages_of after.book ≡ pages_of before.book) × (after.is_halted ≡ before.is_halted)
+IsSame before after = (pages_of after.book ≡ pages_of before.book) × (after.waits ≡ before.waits) × (after.is_halted ≡ before.is_halted)
 
 -- nothing has changed but the turns that are waited for
 abbrev pub IsBut : Hall → Hall → Type 0
 IsBut before after = after ≡ record before { waits = after.waits }
 
--- this session ran this command: the log has one more entry, which is of the session, and its receipt, with that number, follows the session's others
+-- this session ran this command: the log has one more entry, which is of the session, and its receipt, with that number, follows the
+-- session's others; the turns that are waited for are unchanged, so a later call wakes the sessions that wait for them
 pub record Served (session : ℕ) (c : model.Command) (before after : Hall) (receipts more : List Receipt) : Type 0 where
   pub receipt : Receipt
   pub command : receipt.command ≡ c
   pub number : receipt.number ≡ log_len before
   pub logged : log_in after.book ≡ log_in before.book ++ entry_of session receipt ∷ []
   pub handed : more ≡ receipts ++ receipt ∷ []
+  pub waits : after.waits ≡ before.waits
   pub halted : after.is_halted ≡ before.is_halted
 
 abbrev pub IsServingFor : Option Book → Bool → Type 0

@@ -1,13 +1,10 @@
 -- What entries, receipts and logs of this crate mean in the model.
-use Rattle.std.specs.Prelude.{ℕ, Option, Some, None}
+use Rattle.std.specs.Prelude.{Option, Some, None}
 use Rattle.flat_model.specs.Command as model
-use Rattle.pids_charge.specs.declared.plain.TheConstants.{SLOTS}
 use Rattle.undo_journal.specs.declared.reply.Reply.{Reply}
 use Rattle.undo_journal.specs.CommandMeaning.{reply_of}
-
--- the number of groups other than the root: as many as the meter under a desk has slots
-abbrev pub slots : ℕ
-slots = SLOTS
+-- the number of groups other than the root: the meter under a desk has as many slots as a plain one
+pub use Rattle.undo_journal.specs.Slots.{slots}
 
 abbrev pub known : Option model.Reply → model.Reply
 known (Some r) = r

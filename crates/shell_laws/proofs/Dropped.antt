@@ -10,8 +10,8 @@ use Rattle.flat_model.specs.Step.{after, after_refusal, refusal}
 use Rattle.flat_model.specs.Trace.{Line, Skip, Run, Fault}
 use Rattle.undo_journal.specs.Beginning.{forgotten}
 use Rattle.sessions.specs.SessionMeaning.{slots}
-use Rattle.replay_main.specs.Points.{Point, answers_on, point_after, start_point, without_past}
-use Rattle.replay_main.proofs.PointCuts.{answers_on_cut}
+use Rattle.trace_talk.specs.Points.{Point, answers_on, point_after, start_point, without_past}
+use Rattle.trace_talk.proofs.PointCuts.{answers_on_cut}
 use Rattle.shell_main.specs.Forgetful.{forgetful_after, forgetful_answers}
 use Rattle.shell_main.proofs.ForgetfulCuts.{commands_by, forgetful_answers_cut}
 

@@ -1,12 +1,12 @@
 -- What a shell wrote is a prefix of what a replay writes.
 use Rattle.std.proofs.Common.{◌≡◌, ◌∙◌, ◌⊎◌, inl, inr, ℕ, Bool, true, List, [], ◌++◌, append_assoc, append-nil, sym, ap, Option, Some, None, Result, Ok, Err}
 use Rattle.flat_model.specs.Trace.{read_trace}
-use Rattle.replay_main.specs.declared.trace.Summary.{Summary}
-use Rattle.replay_main.specs.Device.{TakesFront}
+use Rattle.trace_talk.specs.declared.summary.Summary.{Summary}
+use Rattle.program_io.specs.Device.{TakesFront}
 use Rattle.shell_main.specs.declared.fault.ShellFault.{ShellFault}
 use Rattle.shell_main.specs.declared.fault.ShellFault.TheVariants.{Read, Write, InputTooLong, OutOfMemory, NotACommand}
 use Rattle.shell_main.specs.Shelled.{Shelled}
-use Rattle.replay_main.specs.Points.{start_point}
+use Rattle.trace_talk.specs.Points.{start_point}
 use Rattle.shell_main.specs.Forgetful.{after_by, answers_by, output_of}
 use Rattle.shell_main.specs.WholeLines.{ends_line}
 use Rattle.shell_main.proofs.LineCuts.{trace_cut}

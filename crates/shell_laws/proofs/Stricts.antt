@@ -1,6 +1,6 @@
 -- A strict shell is a shell, unless it stops at a line.
 use Rattle.std.proofs.Common.{◌≡◌, Bool, List, ℕ, refl, Option, Result, Ok, Err}
-use Rattle.replay_main.specs.declared.trace.Summary.{Summary}
+use Rattle.trace_talk.specs.declared.summary.Summary.{Summary}
 use Rattle.shell_main.specs.declared.fault.ShellFault.{ShellFault}
 use Rattle.shell_main.specs.declared.fault.ShellFault.TheVariants.{Read, Write, InputTooLong, OutOfMemory, NotACommand}
 use Rattle.shell_main.specs.declared.options.Options.{Options}

@@ -8,7 +8,7 @@ ghost use Rattle.flat_model.specs.Replies.{answers, command_count, commands_in, 
 ghost use Rattle.flat_model.specs.Trace.{Line, Run, read_trace};
 ghost use Rattle.undo_journal.specs.Beginning.{forgotten};
 ghost use Rattle.sessions.specs.SessionMeaning.{slots};
-ghost use Rattle.replay_main.specs.Points.{start_point};
+ghost use Rattle.trace_talk.specs.Points.{start_point};
 ghost use Rattle.shell_main.specs.Forgetful.{after_by, answers_by, output_of};
 
 /// With a history the output is that of a replay.

@@ -19,7 +19,7 @@ ghost use Rattle.std.specs.Prelude.{
   codes,
   length,
 };
-ghost use Rattle.replay_main.specs.declared.trace.Summary.{Summary};
+ghost use Rattle.trace_talk.specs.declared.summary.Summary.{Summary};
 ghost use Rattle.replay_main.specs.Replayed.{Replayed};
 ghost use Rattle.shell_main.specs.declared.fault.ShellFault.{ShellFault};
 ghost use Rattle.shell_main.specs.declared.fault.ShellFault.TheVariants as fault;

@@ -3,7 +3,7 @@
 ghost use Rattle.std.specs.Prelude.{◌≡◌, [], ◌∷◌, true, false, Some, None, Ok, Err, codes};
 ghost use Rattle.clap.specs.Words.{fault_of};
 ghost use Rattle.clap.specs.declared.error.kind.ErrorKind.TheVariants as kind;
-ghost use Rattle.replay_main.specs.declared.arguments.LineFault.TheVariants as line;
+ghost use Rattle.program_io.specs.declared.arguments.LineFault.TheVariants as line;
 ghost use Rattle.shell_main.specs.declared.fault.ShellFault.{ShellFault};
 ghost use Rattle.shell_main.specs.declared.program.ProgramFault.TheVariants as program;
 ghost use Rattle.shell_main.specs.Asks.{Asks, app, file_in, no_undo_in, options_in, strict_in};

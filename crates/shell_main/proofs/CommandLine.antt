@@ -5,9 +5,9 @@ use Rattle.clap.specs.declared.error.kind.ErrorKind.{ErrorKind}
 use Rattle.clap.specs.declared.error.kind.ErrorKind.TheVariants as kind
 use Rattle.clap.specs.declared.parser.matches.ArgMatches.{ArgMatches}
 use Rattle.clap.proofs.OnLiterals.{clap_on_literals}
-use Rattle.replay_main.specs.declared.arguments.LineFault.{LineFault}
-use Rattle.replay_main.specs.declared.arguments.LineFault.TheVariants.{Bad, OutOfMemory}
-use Rattle.replay_main.proofs.CommandLines.{nameless, value_in, help_is_not_out_of_memory}
+use Rattle.program_io.specs.declared.arguments.LineFault.{LineFault}
+use Rattle.program_io.specs.declared.arguments.LineFault.TheVariants.{Bad, OutOfMemory}
+use Rattle.program_io.proofs.CommandLines.{nameless, value_in, help_is_not_out_of_memory}
 use Rattle.shell_main.specs.declared.arguments.Ask.{Ask}
 use Rattle.shell_main.specs.declared.arguments.Ask.TheVariants.{Serve, Help, Version}
 use Rattle.shell_main.specs.Asks.{Asks, IsAskedBy, app, file_in, file_rule, flag_said, no_undo_rule, strict_rule}

@@ -7,11 +7,11 @@ use Rattle.std.specs.Result.{IsErrAnd}
 use Rattle.std.proofs.lemmas.Bool.{eqb-true}
 use Rattle.flat_model.specs.Replies.{command_count}
 use Rattle.flat_model.specs.Trace.{read_line, read_trace, trace_max}
-use Rattle.replay_main.specs.Device.{IsInput, TakesFront}
+use Rattle.program_io.specs.Device.{IsInput, TakesFront}
 use Rattle.shell_main.specs.declared.fault.ShellFault.{ShellFault}
 use Rattle.shell_main.specs.declared.fault.ShellFault.TheVariants.{Read, Write, InputTooLong, OutOfMemory, NotACommand}
 use Rattle.shell_main.specs.Shelled.{BeginsWith, IsBarred, IsBroken, IsStopped, NothingOwed, ShelledBy}
-use Rattle.replay_main.specs.Points.{Point, answers_on, number_max, start_point, summary_of}
+use Rattle.trace_talk.specs.Points.{Point, answers_on, number_max, start_point, summary_of}
 use Rattle.shell_main.specs.declared.options.Options.{Options}
 use Rattle.shell_main.specs.Forgetful.{after_by, answers_by, output_of, refused_of}
 use Rattle.shell_main.specs.Talks.{Answered, Finishes, IsCutOff, IsOut, IsStruck, Serves, Stands, Stops}

@@ -3,8 +3,8 @@ use Rattle.std.proofs.Common.{◌≡◌, ◌∙◌, ◌+◌, Bool, true, false, 
 use Rattle.flat_model.proofs.Sums.{count_by-cons}
 use Rattle.flat_model.specs.Replies.{command_count, is_numbered}
 use Rattle.flat_model.specs.Trace.{Line}
-use Rattle.replay_main.specs.Points.{Point, answers_on, point_after, without_past}
-use Rattle.replay_main.proofs.PointCuts.{answers_on_cut, point_cut}
+use Rattle.trace_talk.specs.Points.{Point, answers_on, point_after, without_past}
+use Rattle.trace_talk.proofs.PointCuts.{answers_on_cut, point_cut}
 use Rattle.shell_main.specs.Forgetful.{after_by, answers_by, forgetful_after, forgetful_answers, remembered}
 
 pub forgetful_after_cut : (p : Point) (a b : List Line) → forgetful_after p (a ++ b) ≡ forgetful_after (forgetful_after p a) b

@@ -1,9 +1,9 @@
 -- The last line, which has no line feed: its output is written, or a write fails.
 use Rattle.std.proofs.Common.{◌≡◌, ◌∙◌, ℕ, Bool, List, [], ◌∷◌, ◌++◌, refl, ap, subst, Option, Some, None, Result, Ok, Err}
 use Rattle.flat_model.specs.Trace.{Line}
-use Rattle.replay_main.specs.declared.device.DeviceFault.{DeviceFault}
-use Rattle.replay_main.specs.Device.{TakesFront, WholeWrite}
-use Rattle.replay_main.specs.Points.{Point, answers_on}
+use Rattle.program_io.specs.declared.device.DeviceFault.{DeviceFault}
+use Rattle.program_io.specs.Device.{TakesFront, WholeWrite}
+use Rattle.trace_talk.specs.Points.{Point, answers_on}
 use Rattle.shell_main.specs.declared.fault.ShellFault.{ShellFault}
 use Rattle.shell_main.specs.declared.fault.ShellFault.TheVariants.{Read, Write, InputTooLong, OutOfMemory, NotACommand}
 use Rattle.shell_main.specs.declared.options.Options.{Options}

@@ -4,7 +4,7 @@ use Rattle.std.specs.Bool.{⊤}
 use Rattle.std.specs.Result.{IsErrAnd}
 use Rattle.std.proofs.lemmas.List.Elements.{All-append, All-nil}
 use Rattle.flat_model.specs.Trace.{is_line_feed, read_line, trace_max}
-use Rattle.replay_main.specs.Points.{Point, answers_on}
+use Rattle.trace_talk.specs.Points.{Point, answers_on}
 use Rattle.shell_main.specs.declared.fault.ShellFault.{ShellFault}
 use Rattle.shell_main.specs.declared.fault.ShellFault.TheVariants.{Read, Write, InputTooLong, OutOfMemory, NotACommand}
 use Rattle.shell_main.specs.declared.options.Options.{Options}

@@ -2,9 +2,9 @@
 use Rattle.std.proofs.Common.{◌≡◌, ◌∙◌, ℕ, Bool, List, [], ◌∷◌, ◌++◌, append_assoc, sym, ap, subst, Option, Result, Ok, Err, MatchResult}
 use Rattle.std.specs.Bool.{⊤}
 use Rattle.flat_model.specs.Trace.{read_line, read_trace}
-use Rattle.replay_main.specs.declared.device.DeviceFault.{DeviceFault}
-use Rattle.replay_main.specs.Device.{TakesFront, WholeWrite}
-use Rattle.replay_main.specs.Points.{Point, answers_on}
+use Rattle.program_io.specs.declared.device.DeviceFault.{DeviceFault}
+use Rattle.program_io.specs.Device.{TakesFront, WholeWrite}
+use Rattle.trace_talk.specs.Points.{Point, answers_on}
 use Rattle.shell_main.specs.declared.fault.ShellFault.{ShellFault}
 use Rattle.shell_main.specs.declared.fault.ShellFault.TheVariants.{Read, Write, InputTooLong, OutOfMemory, NotACommand}
 use Rattle.shell_main.specs.declared.options.Options.{Options}

@@ -3,8 +3,8 @@ use Rattle.std.proofs.Common.{◌≡◌, ◌∙◌, ℕ, ◌≤◌, Bool, true, 
 use Rattle.std.specs.Io.KnownBytes.{Consumes}
 use Rattle.std.proofs.lemmas.List.Elements.{All-nil}
 use Rattle.flat_model.specs.Trace.{read_line, read_trace, trace_max}
-use Rattle.replay_main.specs.Device.{TakesFront}
-use Rattle.replay_main.specs.Points.{Point, answers_on, start_point}
+use Rattle.program_io.specs.Device.{TakesFront}
+use Rattle.trace_talk.specs.Points.{Point, answers_on, start_point}
 use Rattle.shell_main.specs.declared.options.Options.{Options}
 use Rattle.shell_main.specs.Forgetful.{after_by, answers_by, output_of}
 use Rattle.shell_main.specs.Talks.{GoesOn, Stands}

@@ -2,13 +2,13 @@
 use Rattle.std.proofs.Common.{◌≡◌, inl, Bool, true, false, List, ℕ, ◌≤◌, [], length, refl, sym, subst, Option, Some, None, Result, Ok, Err, is_err}
 use Rattle.std.proofs.lemmas.List.Elements.{All-nil}
 use Rattle.flat_model.specs.Trace.{trace_max}
-use Rattle.replay_main.specs.declared.device.DeviceFault.{DeviceFault}
-use Rattle.replay_main.specs.declared.trace.Summary.{Summary}
-use Rattle.replay_main.specs.Device.{TakesFront, WholeWrite}
+use Rattle.program_io.specs.declared.device.DeviceFault.{DeviceFault}
+use Rattle.trace_talk.specs.declared.summary.Summary.{Summary}
+use Rattle.program_io.specs.Device.{TakesFront, WholeWrite}
 use Rattle.shell_main.specs.declared.fault.ShellFault.{ShellFault}
 use Rattle.shell_main.specs.declared.fault.ShellFault.TheVariants.{Read, Write, InputTooLong, OutOfMemory, NotACommand}
 use Rattle.shell_main.specs.declared.options.Options.{Options}
-use Rattle.replay_main.specs.Points.{start_point}
+use Rattle.trace_talk.specs.Points.{start_point}
 use Rattle.shell_main.specs.Forgetful.{output_of}
 use Rattle.shell_main.specs.Shelled.{BeginsWith, IsStopped, Shelled, ShelledBy}
 use Rattle.shell_main.proofs.ForgetfulCuts.{answers_none}

@@ -4,7 +4,7 @@ use Rattle.std.specs.List.{All}
 use Rattle.std.proofs.lemmas.List.Elements.{All-append, All-cons, All-nil}
 use Rattle.flat_model.specs.Replies.{is_fault}
 use Rattle.flat_model.specs.Trace.{Line, lines_in, read_line, read_trace, trace_max}
-use Rattle.replay_main.specs.Points.{Point, answers_on, point_after}
+use Rattle.trace_talk.specs.Points.{Point, answers_on, point_after}
 use Rattle.shell_main.specs.Forgetful.{after_by, answers_by, remembered}
 use Rattle.shell_main.specs.Talks.{IsPassed}
 use Rattle.shell_main.specs.WholeLines.{HasShortLines, IsClean, ends_line}

@@ -6,8 +6,8 @@ use Rattle.clap.specs.Words.{App, IsAmong, Rule, Text, fault_of, first_of, match
 use Rattle.clap.specs.declared.builder.action.ArgAction.TheVariants.{SetTrue}
 use Rattle.clap.specs.declared.error.kind.ErrorKind.{ErrorKind}
 use Rattle.clap.specs.declared.error.kind.ErrorKind.TheVariants as kind
-use Rattle.replay_main.specs.declared.arguments.LineFault.{LineFault}
-use Rattle.replay_main.specs.declared.arguments.LineFault.TheVariants.{Bad, OutOfMemory}
+use Rattle.program_io.specs.declared.arguments.LineFault.{LineFault}
+use Rattle.program_io.specs.declared.arguments.LineFault.TheVariants.{Bad, OutOfMemory}
 use Rattle.shell_main.specs.declared.options.Options.{Options}
 use Rattle.shell_main.specs.declared.arguments.Ask.{Ask}
 use Rattle.shell_main.specs.declared.arguments.Ask.TheVariants.{Serve, Help, Version}

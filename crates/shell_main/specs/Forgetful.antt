@@ -1,7 +1,7 @@
 -- The answers of a shell with a history or without. Without one, each line is answered by the machine as it is, whose past is then emptied.
 use Rattle.std.specs.Prelude.{ℕ, Bool, true, false, List, [], ◌∷◌, ◌++◌}
 use Rattle.flat_model.specs.Trace.{Line, read_trace}
-use Rattle.replay_main.specs.Points.{Point, answers_on, point_after, start_point, without_past}
+use Rattle.trace_talk.specs.Points.{Point, answers_on, point_after, start_point, without_past}
 
 -- what remains after a line: everything with a history, all but the past without one
 abbrev pub remembered : Bool → Point → Point

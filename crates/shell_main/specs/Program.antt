@@ -1,11 +1,9 @@
 -- What the program leaves, and its exit status.
 use Rattle.std.specs.Prelude.{◌≡◌, ◌⊎◌, ℕ, List, [], Option, Bool, true, false, Result, Ok, Err}
 use Rattle.clap.specs.Words.{Text, fault_of}
-use Rattle.replay_main.specs.declared.arguments.LineFault.TheVariants.{Bad, OutOfMemory}
-use Rattle.replay_main.specs.declared.trace.Summary.{Summary}
-use Rattle.replay_main.specs.Device.{TakesFront}
-use Rattle.replay_main.specs.ReplayProgram.{IsUnread}
-use Rattle.replay_main.specs.Replayed.{IsUnwritten}
+use Rattle.program_io.specs.declared.arguments.LineFault.TheVariants.{Bad, OutOfMemory}
+use Rattle.trace_talk.specs.declared.summary.Summary.{Summary}
+use Rattle.program_io.specs.Device.{IsUnread, IsUnwritten, TakesFront}
 use Rattle.shell_main.specs.declared.fault.ShellFault.TheVariants as shell
 use Rattle.shell_main.specs.declared.program.ProgramFault.{ProgramFault}
 use Rattle.shell_main.specs.declared.program.ProgramFault.TheVariants.{Line, Shell, Open, ClosedPipe}

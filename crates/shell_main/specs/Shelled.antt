@@ -3,9 +3,9 @@ use Rattle.std.specs.Prelude.{◌≡◌, ◌⊎◌, ℕ, ◌<◌, ◌≤◌, Boo
 use Rattle.std.specs.Io.KnownBytes.{Consumes}
 use Rattle.flat_model.specs.Replies.{command_count, is_fault}
 use Rattle.flat_model.specs.Trace.{read_line, read_trace, trace_max}
-use Rattle.replay_main.specs.declared.trace.Summary.{Summary}
-use Rattle.replay_main.specs.Device.{IsInput, TakesFront}
-use Rattle.replay_main.specs.Points.{number_max}
+use Rattle.trace_talk.specs.declared.summary.Summary.{Summary}
+use Rattle.program_io.specs.Device.{IsInput, TakesFront}
+use Rattle.trace_talk.specs.Points.{number_max}
 use Rattle.shell_main.specs.declared.fault.ShellFault.{ShellFault}
 use Rattle.shell_main.specs.declared.fault.ShellFault.TheVariants.{Read, Write, InputTooLong, OutOfMemory, NotACommand}
 use Rattle.shell_main.specs.declared.options.Options.{Options}

@@ -3,12 +3,12 @@ use Rattle.std.specs.Prelude.{◌≡◌, ◌⊎◌, ℕ, ◌<◌, ◌≤◌, Boo
 use Rattle.std.specs.Io.KnownBytes.{Consumes}
 use Rattle.flat_model.specs.Replies.{is_fault}
 use Rattle.flat_model.specs.Trace.{Line, read_line, read_trace, trace_max}
-use Rattle.replay_main.specs.Device.{TakesFront}
+use Rattle.program_io.specs.Device.{TakesFront}
 use Rattle.shell_main.specs.declared.fault.ShellFault.{ShellFault}
 use Rattle.shell_main.specs.declared.fault.ShellFault.TheVariants.{Read, Write, InputTooLong, OutOfMemory, NotACommand}
 use Rattle.shell_main.specs.declared.options.Options.{Options}
 use Rattle.shell_main.specs.Forgetful.{after_by, answers_by, output_of, remembered}
-use Rattle.replay_main.specs.Points.{Point, answers_on, number_max, point_after, start_point, summary_of}
+use Rattle.trace_talk.specs.Points.{Point, answers_on, number_max, point_after, start_point, summary_of}
 use Rattle.shell_main.specs.Shelled.{ShelledBy}
 use Rattle.shell_main.specs.WholeLines.{HasNoFeed, HasShortLines, IsClean, ends_line}
 

@@ -8,8 +8,10 @@ ghost use Rattle.shell_main.specs.Forgetful.{remembered};
 ghost use Rattle.shell_main.specs.Talks.{Answered, Finishes, GoesOn, Halts, IsUnended, Keeps, Says, Stops};
 
 use crate::{Options, ShellFault};
-use replay_main::{Line, Sink, TRACE_MAX, Talk, parse_line, write_whole};
+use program_io::{Sink, write_whole};
 use std::alloc::{AllocError, Global};
+use trace_lines::{Line, parse_line};
+use trace_talk::{TRACE_MAX, Talk};
 
 /// So much output is written before more lines are answered.
 const OUTPUT_MAX: usize = 65_536;

@@ -7,7 +7,7 @@ ghost use Rattle.shell_main.specs.Asks.{Asks, IsAskedBy, IsBad, Names, app, flag
 use crate::Options;
 use clap::error::ErrorKind;
 use clap::{Arg, ArgAction, Command, Error};
-use replay_main::LineFault;
+use program_io::{LineFault, without_name};
 use std::alloc::{AllocError, Global};
 
 /// The version of the project.
@@ -93,15 +93,6 @@ fn is_bad(alloc: Global, words: &[String]) -> bool
     ensures { IsTrue result → IsBad (map string_bytes words.now) }
 {
     matches!(read_words(alloc, words), Err(LineFault::Bad))
-}
-
-fn without_name(args: &[String]) -> &[String]
-    ensures { result.now ≡ drop 1 args.now }
-{
-    match args {
-        [_, words @ ..] => words,
-        [] => args,
-    }
 }
 
 /// The program's arguments, as given to `clap`.

@@ -2,7 +2,7 @@
 
 ghost use Rattle.std.specs.Prelude.{◌≡◌, true, false, is_err, Ok, IfOk, OnErr};
 
-use replay_main::{DeviceFault, Sink};
+use program_io::{DeviceFault, Sink};
 use std::io;
 use std::io::{ErrorKind, Write};
 

@@ -1,14 +1,14 @@
 //! The program over any source and sink, and its exit status.
 
 ghost use Rattle.std.specs.Prelude.{◌≡◌, drop, false, map, string_bytes, Err};
-ghost use Rattle.replay_main.specs.declared.arguments.LineFault.{LineFault};
+ghost use Rattle.program_io.specs.declared.arguments.LineFault.{LineFault};
 ghost use Rattle.shell_main.specs.declared.program.ProgramFault.TheVariants.{Line};
 ghost use Rattle.shell_main.specs.Program.{Ran, status_of, told_apart};
 
 use crate::ShellFault;
 use crate::arguments::{Ask, read_arguments};
 use crate::serving::shell_by;
-use replay_main::{LineFault, Sink, Source, write_whole};
+use program_io::{LineFault, Sink, Source, write_whole};
 use std::alloc::Global;
 use std::sync::Wait;
 use std::thread::Threads;

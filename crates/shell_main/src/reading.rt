@@ -5,7 +5,7 @@ ghost use Rattle.std.specs.Io.KnownBytes.{ReadConsumes};
 ghost use Rattle.shell_main.specs.Shelled.{NothingOwed};
 
 use crate::Options;
-use replay_main::{DeviceFault, Sink, Source};
+use program_io::{DeviceFault, Sink, Source};
 
 /// Reads the next bytes. Requires that exactly the whole lines read before are answered and the
 /// output is flushed. It uses only the reader; the others are parameters for the contract.

@@ -7,10 +7,11 @@ ghost use Rattle.shell_main.specs.Talks.{Serves, Stands};
 use crate::answering::{answer_last, answer_some};
 use crate::reading::next_chunk;
 use crate::{Options, ShellFault};
-use replay_main::{Sink, Source, Summary, Talk, write_whole};
+use program_io::{Sink, Source, write_whole};
 use std::alloc::Global;
 use std::sync::Wait;
 use std::thread::Threads;
+use trace_talk::{Summary, Talk};
 
 /// Reads lines to the end of the source, and answers those of each read before the next read.
 ///

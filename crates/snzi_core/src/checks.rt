@@ -8,9 +8,10 @@ ghost use Rattle.snzi_core.specs.Lawful.{has_node, has_word, has_stripe, has_tok
 ghost use Rattle.snzi_core.specs.Lawful.{count_at, main_covers, main_has, is_crowded, is_inner, overflows, stays, some_word};
 
 use crate::caps::{HELPER_CAP, TOKEN_CAP};
-use crate::event::{At, Token};
+use crate::event::At;
 use crate::holding::Role;
 use crate::machine::Core;
+use snzi_tokens::Token;
 use std::alloc::Allocator;
 
 impl<A: Allocator + Clone> Core<A> {

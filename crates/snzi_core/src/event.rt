@@ -1,17 +1,11 @@
 //! The atomic steps of a board, as plain data.
+use snzi_tokens::Token;
 
 /// A node of a slot. Node 0 is the root, and the parent of node k > 0 is (k - 1) / 2.
 #[derive(Clone, Copy)]
 pub struct At {
     pub slot: u16,
     pub node: u8,
-}
-
-/// An arrival at a leaf of a slot. If the slot has w nodes, leaf j is node (w - 1) / 2 + j.
-#[derive(Clone, Copy)]
-pub struct Token {
-    pub slot: u16,
-    pub leaf: u8,
 }
 
 /// One step of one hand. Main is hand 0.

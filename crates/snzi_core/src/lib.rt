@@ -42,7 +42,8 @@ mod table;
 mod unlawful;
 
 pub use caps::{HELPER_CAP, TOKEN_CAP};
-pub use event::{At, Event, Token};
+pub use event::{At, Event};
 pub use holding::{Holding, Role};
 pub use machine::Core;
+pub use snzi_tokens::Token;
 pub use unlawful::Unlawful;

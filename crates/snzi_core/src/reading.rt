@@ -5,8 +5,9 @@ ghost use Rattle.snzi_core.specs.Balance.{Present};
 ghost use Rattle.snzi_core.specs.CoreState.{span, node_of, parent_of, stripe_of, token_of, above};
 ghost use Rattle.snzi_core.specs.Effect.{slot_amounts};
 
-use crate::event::{At, Token};
+use crate::event::At;
 use crate::machine::Core;
+use snzi_tokens::Token;
 use std::alloc::Allocator;
 
 impl<A: Allocator + Clone> Core<A> {

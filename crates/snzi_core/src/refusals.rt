@@ -3,9 +3,10 @@ ghost use Rattle.std.specs.Prelude.{◌≡◌};
 ghost use Rattle.snzi_core.specs.Lawful.{refuses_split, refuses_stripe_add, refusal};
 ghost use Rattle.snzi_core.specs.Kept.{IsCore};
 
-use crate::event::{At, Event, Token};
+use crate::event::{At, Event};
 use crate::machine::Core;
 use crate::unlawful::Unlawful;
+use snzi_tokens::Token;
 use std::alloc::Allocator;
 
 impl<A: Allocator + Clone> Core<A> {

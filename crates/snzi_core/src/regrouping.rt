@@ -7,10 +7,10 @@ ghost use Rattle.snzi_core.specs.Lawful.{has_token, helps, overflows, some_word,
 ghost use Rattle.snzi_core.specs.Effect.{counts, split_off, joined};
 ghost use Rattle.snzi_core.specs.Kept.{IsCore};
 
-use crate::event::Token;
 use crate::hand::Hand;
 use crate::holding::Role;
 use crate::machine::Core;
+use snzi_tokens::Token;
 use std::alloc::{AllocError, Allocator};
 
 // The first hand takes all that another has, which is then spent.

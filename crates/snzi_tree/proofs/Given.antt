@@ -5,9 +5,9 @@ use Rattle.std.proofs.lemmas.List.Sums.{sum_by-cons}
 use mathlib.Core.Logic.{dite}
 use native.Mathlib.Decide.{ℕ_discrete, dec_le}
 use Rattle.snzi_core.specs.declared.holding.Holding.{Holding}
-use Rattle.snzi_core.specs.declared.event.Token.{Token}
+use Rattle.snzi_tokens.specs.declared.token.Token.{Token}
 use Rattle.snzi_core.specs.Shape.{node_word, leaf_word}
-use Rattle.snzi_core.specs.Listed.{IsWithin, listed_at, one_at}
+use Rattle.snzi_tokens.specs.Listed.{IsWithin, listed_at, one_at}
 use Rattle.snzi_tree.specs.Contents.{AllInRange, count_at, token_word, content_of, AtLeaves}
 use Rattle.snzi_tree.proofs.Places.{leaf_same, leaf_not_above, leaf_or_none}
 use Rattle.snzi_tree.proofs.Leaves.{one_here, one_slot, one_leaf, inside, outside}

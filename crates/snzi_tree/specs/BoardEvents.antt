@@ -8,7 +8,7 @@ use Rattle.atomic_table.specs.Table.{State as Table, keeps, stepped, Allows, Spl
 use Rattle.snzi_core.specs.declared.event.At.{At}
 use Rattle.snzi_core.specs.declared.event.Event.{Event}
 use Rattle.snzi_core.specs.declared.event.Event.TheVariants.{Load, FastAdd, Split, Join}
-use Rattle.snzi_core.specs.declared.event.Token.{Token}
+use Rattle.snzi_tokens.specs.declared.token.Token.{Token}
 use Rattle.snzi_core.specs.declared.holding.Holding.{Holding}
 use Rattle.snzi_core.specs.Caps.{helper_cap}
 use Rattle.snzi_core.specs.Holding.{tokens_at, amount_at, out}

@@ -1,9 +1,9 @@
 -- What a hand holds, by slots, leaves and stripes.
 use Rattle.std.specs.Prelude.{◌≡◌, ℕ, zero, suc, ◌+◌, ◌-◌, ◌/◌, ◌%◌, ◌^◌, ◌<◌, eqb, cond, nat_eq, nat_lt, List, [], ◌∷◌}
-use Rattle.snzi_core.specs.declared.event.Token.{Token}
+use Rattle.snzi_tokens.specs.declared.token.Token.{Token}
 use Rattle.snzi_core.specs.declared.holding.Holding.{Holding}
 use Rattle.snzi_core.specs.Holding.{tokens_at, amount_at}
-use Rattle.snzi_core.specs.Listed.{over_leaves}
+use Rattle.snzi_tokens.specs.Listed.{over_leaves}
 use Rattle.snzi_core.specs.Shape.{node_word, stripe_word, leaf_word}
 
 -- the word of a token

@@ -4,7 +4,7 @@ ghost use Rattle.snzi_core.specs.Caps.{token_cap};
 ghost use Rattle.snzi_core.specs.Changes.{Gains, Loses, Moves};
 ghost use Rattle.snzi_core.specs.Holding.{held, gain, tokens_at};
 ghost use Rattle.snzi_core.specs.Shape.{node_word};
-ghost use Rattle.snzi_core.specs.Listed.{one_at};
+ghost use Rattle.snzi_tokens.specs.Listed.{one_at};
 ghost use Rattle.snzi_tree.specs.Contents.{token_word, content_of, AtLeaves};
 ghost use Rattle.snzi_tree.specs.Depths.{halved, OnPath, depth, leaf_depth, arrive_steps, depart_steps};
 ghost use Rattle.snzi_tree.specs.Hands.{IsHandOf, holds, joined_events, counted, IsNodeWord, SameHand};

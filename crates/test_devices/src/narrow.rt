@@ -1,22 +1,27 @@
 //! A sink with little room.
 
-ghost use Rattle.std.specs.Prelude.{◌≡◌, None, false};
+ghost use Rattle.std.specs.Prelude.{◌≡◌, None, false, IfOk};
 
 use replay_main::{DeviceFault, Sink};
-use std::alloc::Global;
+use std::alloc::{AllocError, Global};
 
-/// Where a narrow sink ends.
+/// How a narrow sink takes bytes, and where it ends.
 #[derive(Clone, Copy)]
 pub struct Limits {
-    /// So many bytes are taken.
+    /// A write takes at most this many bytes.
+    pub size: usize,
+    /// This many bytes are taken.
     pub room: usize,
-    /// So many flushes succeed; the next one fails.
+    /// This many flushes succeed; the next one fails.
     pub flushes: usize,
     /// A write without room takes no bytes instead of failing.
     pub takes_none: bool,
 }
 
-/// Takes at most three bytes at a time, up to its limits.
+/// So many bytes are taken without an allocation.
+const RESERVED: usize = 4096;
+
+/// Takes a few bytes at a time, up to its limits.
 #[derive(Drop)]
 pub struct Narrow {
     bytes: Vec<u8>,
@@ -27,15 +32,20 @@ pub struct Narrow {
 
 impl Narrow {
     /// A sink that has taken nothing.
-    pub fn new(alloc: Global, limits: Limits) -> Narrow
-        ensures { ⟦<Narrow as Sink>⟧.is_failed result ≡ false }
+    ///
+    /// # Errors
+    ///
+    /// `AllocError` when out of memory. Later only bytes beyond the first 4,096 take memory.
+    pub fn new(alloc: Global, limits: Limits) -> Result<Narrow, AllocError>
+        ensures { IfOk result (λ sink. ⟦<Narrow as Sink>⟧.is_failed sink ≡ false) }
     {
-        Narrow {
-            bytes: Vec::new(alloc),
+        let bytes = Vec::with_capacity(alloc, RESERVED)?;
+        Ok(Narrow {
+            bytes,
             limits,
             is_failed: false,
             is_flushed: false,
-        }
+        })
     }
 
     /// The bytes that were taken.
@@ -58,7 +68,7 @@ impl Sink for Narrow {
 
     fn write(&mut self, bytes: &[u8]) -> Result<usize, DeviceFault> {
         self.is_flushed = false;
-        let count = bytes.len().min(3).min(self.limits.room);
+        let count = bytes.len().min(self.limits.size).min(self.limits.room);
         if count == 0 || self.bytes.extend_from_slice(&bytes[..count]).is_err() {
             self.is_failed = true;
             if count == 0 && self.limits.takes_none {

@@ -3,3 +3,4 @@ pub mod Answer
 pub mod Beginning
 pub mod Headline
 pub mod History
+pub mod Slots

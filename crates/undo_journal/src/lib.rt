@@ -11,7 +11,8 @@
 //!   undo.
 //! - `undo` undoes the newest recorded command, whichever session issued it, and checks nothing.
 //! - A refusal names its cause and changes nothing but those totals. Out of memory comes last and changes nothing: a
-//!   command allocates its record after all checks and before any change.
+//!   command allocates its record after all checks and before any change. A fork alone allocates it before it tests
+//!   `pids.max`, since a refused fork is recorded too.
 //! - The journal keeps each command with a small record, and no states. It has no bound of its own, and is not stored
 //!   on disk.
 //! - `command_at` reads the recorded commands, oldest first.

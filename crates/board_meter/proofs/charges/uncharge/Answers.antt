@@ -1,6 +1,6 @@
 use Rattle.std.proofs.Common.{ℕ, ◌+◌, sym, ap, ◌∙◌}
 use Rattle.snzi_tree.specs.Hands.{holds}
-use Rattle.snzi_core.specs.Listed.{one_at}
+use Rattle.snzi_tokens.specs.Listed.{one_at}
 use Rattle.board_meter.proofs.Excess.{uncharged, same_content}
 use Rattle.board_meter.proofs.charges.uncharge.Goals as goal
 

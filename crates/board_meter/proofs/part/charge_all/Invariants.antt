@@ -2,7 +2,7 @@ use Rattle.std.proofs.Common.{◌≡◌, ℕ, ◌+◌, take}
 use Rattle.snzi_core.specs.Holding.{held}
 use Rattle.snzi_tree.specs.Contents.{content_of}
 use Rattle.snzi_tree.specs.Hands.{holds, SameHand}
-use Rattle.snzi_core.specs.Listed.{listed_at}
+use Rattle.snzi_tokens.specs.Listed.{listed_at}
 use Rattle.board_meter.specs.Held.{InStep}
 use Rattle.board_meter.proofs.part.charge_all.Given as goal
 

@@ -1,6 +1,6 @@
 use Rattle.std.proofs.Common.{rules, List, subst}
 use Rattle.snzi_core.specs.Holding.{held}
-use Rattle.snzi_core.specs.declared.event.Token.{Token}
+use Rattle.snzi_tokens.specs.declared.token.Token.{Token}
 use Rattle.pids_charge.specs.Table.{table_at, table_held}
 use Rattle.board_tests.specs.Tokens.{Holds, board_content}
 use Rattle.board_tests.proofs.Still.{holds_still}

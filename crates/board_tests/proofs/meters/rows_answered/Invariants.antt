@@ -1,6 +1,6 @@
 use Rattle.std.proofs.Common.{◌≡◌, ◌≤◌, length}
 use Rattle.snzi_core.specs.Holding.{held}
-use Rattle.snzi_core.specs.Listed.{IsWithin}
+use Rattle.snzi_tokens.specs.Listed.{IsWithin}
 use Rattle.pids_charge.specs.Table.{table_at, table_held}
 use Rattle.pids_charge.specs.declared.plain.TheConstants.{SLOTS, LEAVES}
 use Rattle.board_tests.specs.Tokens.{Holds, board_content}

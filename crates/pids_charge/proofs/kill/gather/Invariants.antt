@@ -1,6 +1,6 @@
 use Rattle.std.proofs.Common.{◌≡◌, ℕ, ◌+◌, drop, length, sum_by}
 use Rattle.std.specs.Map.{values_of}
-use Rattle.snzi_core.specs.Listed.{IsWithin, listed_at}
+use Rattle.snzi_tokens.specs.Listed.{IsWithin, listed_at}
 use Rattle.pids_charge.specs.Lists.{inside}
 use Rattle.pids_charge.specs.Recount.{charges_of}
 use Rattle.pids_charge.proofs.kill.gather.Given as goal

@@ -1,5 +1,5 @@
 use Rattle.std.proofs.Common.{◌≡◌, ℕ, ◌+◌, length, sum_by, ap, ◌∙◌, arith}
-use Rattle.snzi_core.specs.Listed.{one_at}
+use Rattle.snzi_tokens.specs.Listed.{one_at}
 use Rattle.pids_charge.specs.Content.{Content}
 use Rattle.pids_charge.specs.Recount.{with_charges}
 use Rattle.pids_charge.proofs.Noted.{below_noted, charges_noted, reached_noted}

@@ -1,5 +1,5 @@
 use Rattle.std.proofs.Common.{◌≡◌, ℕ, ◌+◌, take, sum_by}
-use Rattle.snzi_core.specs.Listed.{one_at}
+use Rattle.snzi_tokens.specs.Listed.{one_at}
 use Rattle.pids_charge.proofs.peaks.charge_slots.Given as goal
 
 abbrev pub invariant-loop-slot : goal.invariant-loop-slot

@@ -1,5 +1,5 @@
 use Rattle.std.proofs.Common.{◌≡◌, ℕ, length, take, sum_by}
-use Rattle.snzi_core.specs.Listed.{IsWithin, listed_at}
+use Rattle.snzi_tokens.specs.Listed.{IsWithin, listed_at}
 use Rattle.pids_charge.specs.Recount.{charges_at}
 use Rattle.pids_charge.proofs.place.tokens_of.Given as goal
 

@@ -1,5 +1,5 @@
 use Rattle.std.proofs.Common.{◌≡◌, ℕ, ◌+◌, take}
-use Rattle.snzi_core.specs.Listed.{listed_at}
+use Rattle.snzi_tokens.specs.Listed.{listed_at}
 use Rattle.pids_charge.proofs.settler.uncharge_each.Given as goal
 
 abbrev pub invariant-loop-token : goal.invariant-loop-token

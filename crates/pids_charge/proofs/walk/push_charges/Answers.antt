@@ -1,8 +1,8 @@
 use Rattle.std.proofs.Common.{◌≡◌, ℕ, ◌+◌, ◌-◌, ◌<◌, length, ap, arith, sym, subst, ◌∙◌}
 use Rattle.flat_model.specs.Path.{Path}
 use Rattle.std.proofs.lemmas.List.Elements.{All-push}
-use Rattle.snzi_core.specs.declared.event.Token.{Token}
-use Rattle.snzi_core.specs.Listed.{IsWithin, listed_at}
+use Rattle.snzi_tokens.specs.declared.token.Token.{Token}
+use Rattle.snzi_tokens.specs.Listed.{IsWithin, listed_at}
 use Rattle.pids_charge.specs.Recount.{chain_at}
 use Rattle.pids_charge.proofs.Downward.{one_token_more}
 use Rattle.pids_charge.proofs.Upward.{step_up, at_own, at_root}

@@ -1,5 +1,5 @@
 use Rattle.std.proofs.Common.{◌≡◌, ℕ, ◌+◌, ◌-◌, ◌≤◌, length, take}
-use Rattle.snzi_core.specs.Listed.{IsWithin, listed_at}
+use Rattle.snzi_tokens.specs.Listed.{IsWithin, listed_at}
 use Rattle.pids_charge.specs.Lists.{table_slot}
 use Rattle.pids_charge.specs.Recount.{chain_at, charges_of}
 use Rattle.pids_charge.proofs.walk.push_charges.Given as goal

@@ -3,8 +3,8 @@ use Rattle.std.specs.List.{All}
 use Rattle.std.proofs.lemmas.List.Elements.{All-push}
 use Rattle.group_tree.specs.Along.{along_of}
 use Rattle.group_tree.specs.declared.attr.Attr.{Attr}
-use Rattle.snzi_core.specs.declared.event.Token.{Token}
-use Rattle.snzi_core.specs.Listed.{IsWithin, listed_at}
+use Rattle.snzi_tokens.specs.declared.token.Token.{Token}
+use Rattle.snzi_tokens.specs.Listed.{IsWithin, listed_at}
 use Rattle.pids_charge.proofs.Downward.{charges_in, all_split, one_token_more, length-along, charges-along, below-along}
 use Rattle.pids_charge.proofs.walk.push_tokens.Goals as goal
 

@@ -1,7 +1,7 @@
 use Rattle.std.proofs.Common.{◌≡◌, ℕ, ◌+◌, ◌<◌, length}
 use Rattle.std.specs.List.{All}
 use Rattle.group_tree.specs.Along.{along_of}
-use Rattle.snzi_core.specs.Listed.{IsWithin, listed_at}
+use Rattle.snzi_tokens.specs.Listed.{IsWithin, listed_at}
 use Rattle.pids_charge.proofs.Downward.{charges_in}
 use Rattle.pids_charge.proofs.walk.push_tokens.Given as goal
 

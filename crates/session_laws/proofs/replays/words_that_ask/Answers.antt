@@ -3,7 +3,7 @@ use Rattle.clap.specs.Words.{fault_of}
 use Rattle.clap.specs.declared.error.kind.ErrorKind.TheVariants as kind
 use Rattle.clap.proofs.OnLiterals.{clap_on_literals}
 use Rattle.replay_main.specs.ReplayArguments.{HasFault, app, workers_in}
-use Rattle.replay_main.proofs.CommandLines.{only_help}
+use Rattle.program_io.proofs.CommandLines.{only_help}
 use Rattle.session_laws.proofs.replays.words_that_ask.Goals as goal
 
 pub returns-clause-none : goal.returns-clause-none

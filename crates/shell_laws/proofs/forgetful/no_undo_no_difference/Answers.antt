@@ -1,5 +1,5 @@
 use Rattle.flat_model.specs.Trace.{read_trace}
-use Rattle.replay_main.specs.Points.{start_point}
+use Rattle.trace_talk.specs.Points.{start_point}
 use Rattle.shell_laws.proofs.Dropped.{no_difference}
 use Rattle.shell_laws.proofs.forgetful.no_undo_no_difference.Goals as goal
 

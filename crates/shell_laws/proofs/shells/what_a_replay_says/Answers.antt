@@ -2,7 +2,7 @@ use Rattle.std.proofs.Common.{◌≡◌, ◌∙◌, ◌≤◌, ◌↔◌, Bool, 
 use Rattle.flat_model.specs.Replies.{refused_count}
 use Rattle.flat_model.specs.Trace.{read_trace, trace_max}
 use Rattle.sessions.specs.SessionMeaning.{slots}
-use Rattle.replay_main.specs.declared.trace.Summary.{Summary}
+use Rattle.trace_talk.specs.declared.summary.Summary.{Summary}
 use Rattle.replay_main.specs.Replayed.{Replayed}
 use Rattle.shell_main.specs.Shelled.{Shelled}
 use Rattle.shell_laws.proofs.Shorts.{lines_up_to}

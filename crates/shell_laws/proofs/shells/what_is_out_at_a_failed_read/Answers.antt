@@ -1,5 +1,5 @@
 use Rattle.std.proofs.Common.{◌≡◌, ◌∙◌, ◌++◌, List, ℕ, [], Option, Some, None, append-nil, ap, sym}
-use Rattle.replay_main.specs.Device.{TakesFront}
+use Rattle.program_io.specs.Device.{TakesFront}
 use Rattle.shell_main.specs.Forgetful.{output_of}
 use Rattle.shell_laws.proofs.shells.what_is_out_at_a_failed_read.Goals as goal
 

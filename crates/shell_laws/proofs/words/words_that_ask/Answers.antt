@@ -1,7 +1,7 @@
 use Rattle.std.proofs.Common.{refl, inl}
 use Rattle.clap.specs.declared.error.kind.ErrorKind.TheVariants as kind
 use Rattle.clap.proofs.OnLiterals.{clap_on_literals}
-use Rattle.replay_main.proofs.CommandLines.{only_help}
+use Rattle.program_io.proofs.CommandLines.{only_help}
 use Rattle.shell_laws.proofs.words.words_that_ask.Goals as goal
 
 pub returns-clause-none : goal.returns-clause-none

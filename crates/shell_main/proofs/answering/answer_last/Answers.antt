@@ -1,6 +1,6 @@
 use Rattle.std.proofs.Common.{List, ℕ, Err, subst}
 use Rattle.flat_model.specs.Trace.{read_line}
-use Rattle.replay_main.specs.Device.{WholeWrite}
+use Rattle.program_io.specs.Device.{WholeWrite}
 use Rattle.shell_main.specs.Talks.{Says}
 use Rattle.shell_main.proofs.Lasts.{unfinished}
 use Rattle.shell_main.proofs.answering.answer_last.Goals as goal

@@ -1,5 +1,5 @@
 use Rattle.std.proofs.Common.{List, ℕ, ◌++◌, Err, subst}
-use Rattle.replay_main.specs.Device.{WholeWrite}
+use Rattle.program_io.specs.Device.{WholeWrite}
 use Rattle.shell_main.proofs.Outputs.{cut_short}
 use Rattle.shell_main.proofs.answering.answer_some.Goals as goal
 

@@ -1,5 +1,5 @@
 use Rattle.std.proofs.Common.{Result, Ok, drop, inl, map, string_bytes, subst}
-use Rattle.replay_main.specs.declared.trace.Summary.{Summary}
+use Rattle.trace_talk.specs.declared.summary.Summary.{Summary}
 use Rattle.shell_main.specs.declared.arguments.Ask.{Ask}
 use Rattle.shell_main.specs.declared.fault.ShellFault.{ShellFault}
 use Rattle.shell_main.specs.declared.options.Options.{Options}

@@ -1,5 +1,5 @@
 use Rattle.std.proofs.Common.{Bool, Ok, sym, subst}
-use Rattle.replay_main.specs.declared.trace.Summary.{Summary}
+use Rattle.trace_talk.specs.declared.summary.Summary.{Summary}
 use Rattle.shell_main.specs.Shelled.{ShelledBy}
 use Rattle.shell_main.specs.Talks.{Serves}
 use Rattle.shell_main.proofs.serving.serve.Goals as goal

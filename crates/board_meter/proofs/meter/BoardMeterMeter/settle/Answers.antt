@@ -2,7 +2,7 @@ use Rattle.std.proofs.Common.{◌≡◌, ℕ, ◌+◌, subst}
 use Rattle.snzi_core.specs.declared.holding.Holding.{Holding}
 use Rattle.snzi_tree.specs.Contents.{content_of}
 use Rattle.snzi_tree.specs.Hands.{holds}
-use Rattle.snzi_core.specs.Listed.{listed_at}
+use Rattle.snzi_tokens.specs.Listed.{listed_at}
 use Rattle.pids_charge.proofs.InParts.{parts_settle}
 use Rattle.board_meter.specs.declared.shape.TheConstants.{NODES, ROW}
 use Rattle.board_meter.proofs.meter.BoardMeterMeter.settle.Goals as goal

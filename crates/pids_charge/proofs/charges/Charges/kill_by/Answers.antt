@@ -6,10 +6,10 @@ use Rattle.flat_model.specs.State.{State}
 use Rattle.flat_model.specs.Command.{Kill}
 use Rattle.flat_model.specs.Step.{after}
 use Rattle.flat_model.specs.Inverse.{lost}
-use Rattle.snzi_core.specs.Listed.{listed_at}
+use Rattle.snzi_tokens.specs.Listed.{listed_at}
 use Rattle.pids_charge.specs.Lists.{rows_of, inside, is_inside, lost_each, without_each}
 use Rattle.pids_charge.specs.Recount.{state_of}
-use Rattle.snzi_core.specs.declared.event.Token.{Token}
+use Rattle.snzi_tokens.specs.declared.token.Token.{Token}
 use Rattle.process_table.specs.declared.process.Process.{Process}
 use Rattle.pids_charge.proofs.Entries.{kept_keys}
 use Rattle.pids_charge.proofs.Gathers.{left_rows, lost_rows}

@@ -6,11 +6,11 @@ use Rattle.std.specs.Ordering.{nat_cmp}
 use Rattle.std.proofs.lemmas.List.Elements.{All-weaker}
 use Rattle.flat_model.specs.State.{State}
 use Rattle.flat_model.specs.Inverse.{back, Killed}
-use Rattle.snzi_core.specs.Listed.{listed_at}
+use Rattle.snzi_tokens.specs.Listed.{listed_at}
 use Rattle.pids_charge.specs.Content.{Content}
 use Rattle.pids_charge.specs.Lists.{rows_of}
 use Rattle.pids_charge.specs.Recount.{state_of, charges_at}
-use Rattle.snzi_core.specs.declared.event.Token.{Token}
+use Rattle.snzi_tokens.specs.declared.token.Token.{Token}
 use Rattle.pids_charge.proofs.Charged.{held_small, placed}
 use Rattle.pids_charge.proofs.Entries.{home_rows, to_sorted, not_found, find_new}
 use Rattle.pids_charge.proofs.Listed.{placed-is}

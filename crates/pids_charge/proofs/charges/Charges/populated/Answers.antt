@@ -3,7 +3,7 @@ use Rattle.std.specs.FinMap as fin
 use Rattle.flat_model.specs.State.{State}
 use Rattle.flat_model.specs.Counts.{current}
 use Rattle.group_tree.specs.Groups.{slot_of}
-use Rattle.snzi_core.specs.Listed.{over_leaves}
+use Rattle.snzi_tokens.specs.Listed.{over_leaves}
 use Rattle.pids_charge.proofs.Asked.{group-by, asked}
 use Rattle.pids_charge.proofs.Read.{is_positive}
 use Rattle.pids_charge.proofs.Counted.{current-is}

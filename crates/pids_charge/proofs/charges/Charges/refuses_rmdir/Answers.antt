@@ -6,7 +6,7 @@ use Rattle.flat_model.specs.Path.{strictly_below, same_path}
 use Rattle.flat_model.specs.State.{State}
 use Rattle.flat_model.specs.Counts.{current, descendant_count, populated}
 use Rattle.group_tree.specs.Groups.{slot_of}
-use Rattle.snzi_core.specs.Listed.{over_leaves}
+use Rattle.snzi_tokens.specs.Listed.{over_leaves}
 use Rattle.pids_charge.proofs.Counted.{current-is}
 use Rattle.pids_charge.proofs.Read.{is_positive}
 use Rattle.pids_charge.proofs.Removals.{any-count, processes-are, group-here, group-gone, below-is, remove_no_group, remove_children, remove_processes, remove_allowed}

@@ -1,5 +1,0 @@
-use Rattle.flat_model.proofs.Lists.{one_distinct}
-use Rattle.charge_tests.proofs.calls.place_all.Goals as goal
-
-pub place_all-requires-clause-apart : goal.place_all-requires-clause-apart
-place_all-requires-clause-apart g c κs within = one_distinct _

@@ -1,5 +1,0 @@
-use Rattle.charge_tests.proofs.UpTo.{up_set}
-use Rattle.charge_tests.proofs.calls.set_peaks.Goals as goal
-
-pub returns : goal.returns
-returns c = record { up = λ n h. up_set n c.args.charges.now c.set_peaks.new.self c.args.path.now c.args.peaks.now h c.set_peaks.ensures }

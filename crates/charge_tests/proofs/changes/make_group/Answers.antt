@@ -1,0 +1,6 @@
+use Rattle.flat_model.specs.Command.{MakeGroup}
+use Rattle.charge_tests.proofs.UpTo.{up_halves}
+use Rattle.charge_tests.proofs.changes.make_group.Goals as goal
+
+pub returns-in-None : goal.returns-in-None
+returns-in-None g c = record { up = λ n h. up_halves n c.args.charges.now c.make_group.new.self (MakeGroup c.args.path.now) c.make_group.result h c.make_group.ensures.made c.make_group.ensures.kept }

@@ -1,0 +1,162 @@
+//! Charges, and the calls on them. The number of calls bounds their event totals, so that there is room for those of a fork.
+
+ghost use Rattle.std.specs.Prelude.{ℕ, ◌+◌, ◌≡◌};
+ghost use Rattle.flat_model.specs.EventTotals.{HasEventsUpTo};
+ghost use Rattle.pids_charge.specs.Events.{HasRoomForEvents};
+
+use crate::asked::{Asked, Call, ask};
+use crate::changes::{
+    Apart, exit, fork, kill, make_group, make_process, migrate, mkdir, move_back, place, place_one,
+    place_two, restore, rmdir, set_limit, set_peaks, take_group, uncount,
+};
+use crate::said::{
+    kept, say_attr, say_done, say_flag, say_home, say_limit, say_lost, say_members, say_moved,
+    say_number, say_path, say_peaks, say_totals,
+};
+use crate::shown::{is_copied, show};
+use group_tree::Attr;
+use pids_charge::{Alone, Charges, OpenGate, PlainMeter, with_threads};
+use std::alloc::{AllocError, Allocator, Global};
+use std::sync::Wait;
+use std::thread::Threads;
+use test_support::{Case, CaseFault, Outcome, Subject};
+
+/// Charges whose groups and processes are in one allocator.
+#[derive(Drop)]
+pub(crate) struct Charged<A: Allocator + Clone> {
+    charges: Apart<A>,
+    alloc: A,
+    removed: Option<Attr>,
+    calls: u32,
+    ghost up: { HasEventsUpTo calls charges },
+}
+
+impl<A: Allocator + Clone> Charged<A> {
+    /// The root with process 1, in the second allocator.
+    pub(crate) fn new(alloc: Global, over: A) -> Result<Charged<A>, AllocError> {
+        let charges = Charges::new(over.clone()?, PlainMeter::new(alloc)?)?;
+        Ok(Charged {
+            charges,
+            alloc: over,
+            removed: None,
+            calls: 0,
+        })
+    }
+}
+
+/// Makes new charges, and drops them.
+fn make_new<A: Allocator + Clone>(
+    alloc: Global,
+    over: &A,
+    said: &mut String,
+) -> Result<Outcome, AllocError> {
+    match Charges::new(over, PlainMeter::new(alloc)?) {
+        Ok(_charges) => {
+            said.push_str("ok")?;
+            Ok(Outcome::Answered)
+        }
+        Err(AllocError) => Ok(Outcome::Refused),
+    }
+}
+
+/// Makes the call, and appends its answer.
+#[tactic(auto, using(crate::proofs::UpTo::up_more))]
+fn answer<R: Threads, A: Allocator + Clone>(
+    rt: &R,
+    alloc: Global,
+    over: &A,
+    charges: &mut Apart<A>,
+    removed: &mut Option<Attr>,
+    asked: &Asked,
+    said: &mut String,
+) -> Result<Outcome, AllocError>
+    requires { HasRoomForEvents charges.old }
+    ensures up { (n : ℕ) → HasEventsUpTo n charges.old → HasEventsUpTo (n + 1) charges.new }
+{
+    let (path, pid, other) = (&asked.path, asked.pid, asked.other);
+    match asked.call {
+        Call::New => make_new(alloc, over, said),
+        Call::Mkdir => say_done(said, Some(mkdir(charges, path))),
+        Call::MakeGroup => say_done(said, Some(make_group(charges, path))),
+        Call::Rmdir => say_attr(said, rmdir(charges, removed, path)),
+        Call::TakeGroup => say_attr(said, take_group(charges, path)),
+        Call::Restore => match *removed {
+            None => say_done(said, None),
+            Some(attr) => {
+                let made = restore(alloc, charges, attr, path)?;
+                say_done(said, made)
+            }
+        },
+        Call::Write => say_limit(said, set_limit(charges, path, asked.file, asked.limit())),
+        Call::Move => say_moved(said, migrate(charges, pid, path)),
+        Call::Fork => say_peaks(said, fork(charges, pid, other)),
+        Call::MakeProcess => say_peaks(said, make_process(charges, pid, other)),
+        Call::Exit => say_path(said, Some(exit(charges, pid))),
+        Call::Kill => say_lost(said, kill(&with_threads(rt, &OpenGate), charges, path)),
+        Call::KillAlone => say_lost(said, kill(&Alone, charges, path)),
+        Call::Uncount => say_done(said, uncount(charges, path)),
+        Call::Place => say_done(said, place(charges, pid, path)),
+        Call::PlaceAll => {
+            let one = asked.lost(alloc)?;
+            say_done(said, place_one(&with_threads(rt, &OpenGate), charges, one))
+        }
+        Call::PlaceAllAlone => {
+            let one = asked.lost(alloc)?;
+            say_done(said, place_one(&Alone, charges, one))
+        }
+        Call::PlaceBoth => {
+            let one = asked.lost(alloc)?;
+            let above = asked.lost_above(alloc)?;
+            let made = place_two(&with_threads(rt, &OpenGate), charges, one, above);
+            kept(say_done(said, made))
+        }
+        Call::PlaceBothAlone => {
+            let one = asked.lost(alloc)?;
+            let above = asked.lost_above(alloc)?;
+            kept(say_done(said, place_two(&Alone, charges, one, above)))
+        }
+        Call::MoveBack => say_path(said, move_back(charges, pid, path)),
+        Call::SetPeaks => say_done(said, set_peaks(charges, path, asked.numbers.as_slice())),
+        Call::Totals => say_totals(said, charges.attr(path)),
+        Call::Peak => say_number(said, charges.attr(path).map(|attr| attr.peak)),
+        Call::Current => say_number(said, charges.current(path)),
+        Call::Populated => say_flag(said, charges.populated(path)),
+        Call::Descendants => say_number(said, charges.descendants(path)),
+        Call::Members => say_members(said, charges.members(over, path)),
+        Call::Home => say_home(said, charges.home(pid)),
+        Call::Copy => is_copied(alloc, over, charges, said),
+    }
+}
+
+impl<A: Allocator + Clone> Subject for Charged<A> {
+    fn call<R: Threads + Wait + Sync>(
+        &mut self,
+        rt: &R,
+        alloc: Global,
+        case: &Case,
+        said: &mut String,
+    ) -> Result<Outcome, CaseFault> {
+        let asked = ask(alloc, case)?;
+        if self.calls == u32::MAX {
+            return Err(CaseFault::Malformed);
+        }
+        let answered = answer(
+            rt,
+            alloc,
+            &self.alloc,
+            &mut self.charges,
+            &mut self.removed,
+            &asked,
+            said,
+        );
+        self.calls += 1;
+        match answered {
+            Ok(outcome) => Ok(outcome),
+            Err(AllocError) => Err(CaseFault::OutOfMemory),
+        }
+    }
+
+    fn show(&mut self, alloc: Global, text: &mut String) -> Result<(), AllocError> {
+        show(alloc, &mut self.charges, text)
+    }
+}

@@ -1,5 +1,0 @@
-use Rattle.flat_model.proofs.Lists.{one_distinct}
-use Rattle.refusal_tests.proofs.calls.place_all.Goals as goal
-
-pub place_all_by-requires-clause-apart : goal.place_all_by-requires-clause-apart
-place_all_by-requires-clause-apart g c = one_distinct _
