@@ -1,6 +1,7 @@
 /* The values of kept controllers: what was taken is taken again as it is read, and then reads the same. */
 #include "controllers.h"
 #include "engine.h"
+#include "machine.h"
 #include "values.h"
 #include <stdint.h>
 #include <stdlib.h>
@@ -30,9 +31,12 @@ static void read_text(const struct file *file, char out[TEXT_ROOM])
 int LLVMFuzzerTestOneInput(const uint8_t *data, size_t size);
 int LLVMFuzzerTestOneInput(const uint8_t *data, size_t size)
 {
+	static bool has_machine;
 	char text[TEXT_ROOM], again[TEXT_ROOM];
 	if (size == 0)
 		return 0;
+	if (!has_machine)
+		require(has_machine = machine_read());
 	const struct file *file = &values_files[data[0] % values_count];
 	if (!file->take)
 		return 0;

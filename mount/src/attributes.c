@@ -2,8 +2,11 @@
 #include "cleanup.h"
 #include "control.h"
 #include "engine.h"
+#include "operations.h"
 #include <string.h>
 #include <sys/xattr.h>
+
+const char attributes_path[] = "system.makhloeum.group";
 
 enum { NAMES_MAX = 128, VALUES_MAX = 128 * 1024 }; /* the kernel's bounds, for one group or file */
 
@@ -104,9 +107,27 @@ int attributes_set(const char *path, const char *name, const char *value, size_t
 	return fault;
 }
 
+/* The length of the path, or -errno. */
+static int get_path(const char *path, char *out, size_t size)
+{
+	struct place place;
+	size_t n = strlen(path);
+	engine_lock();
+	int fault = find_place(path, &place);
+	engine_unlock();
+	if (fault || place.file)
+		return fault ? fault : -EOPNOTSUPP;
+	if (size && size < n)
+		return -ERANGE;
+	memcpy(out, path, size ? n : 0);
+	return (int)n;
+}
+
 int attributes_get(const char *path, const char *name, char *out, size_t size)
 {
 	struct place place;
+	if (look.marked && strcmp(name, attributes_path) == 0)
+		return get_path(path, out, size);
 	if (!is_users(name))
 		return -EOPNOTSUPP;
 	engine_lock();

@@ -1,16 +1,15 @@
 #include "births.h"
 #include "clones.h"
-#include "groups.h"
 #include "link.h"
 #include "place.h"
 #include "registers.h"
 #include "spaces.h"
+#include "stops.h"
 #include <errno.h>
 #include <limits.h>
 #include <signal.h>
 #include <stdlib.h>
 #include <string.h>
-#include <sys/ptrace.h>
 #include <sys/syscall.h>
 #include <sys/wait.h>
 #include <time.h>
@@ -119,8 +118,7 @@ static void refuse(struct thread *t, int error)
 {
 	struct registers before = t->makes->before;
 	end(t->makes);
-	registers_refuse(t->id, &before, error);
-	ptrace(PTRACE_CONT, t->id, 0, 0);
+	stops_return(t->id, &before, -error);
 }
 
 /* The program chose all of `args`, but can no longer change them: they are set in registers of a stopped thread.
@@ -147,7 +145,7 @@ static void make(struct thread *t, struct birth *b, long number, struct clone_re
 		goes_on = registers_set_ticket(t->id, &b->before, b->ticket);
 	b->runs = goes_on;
 	if (goes_on)
-		ptrace(PTRACE_SYSCALL, t->id, 0, 0);
+		stops_run_call(t->id);
 }
 
 /* clone3 has its arguments in memory. Other threads of the program can write there, and a file system of the program can
@@ -172,8 +170,7 @@ void births_ask(struct thread *t, long number)
 		births_abandon(t);
 	struct birth *b = begin(t);
 	if (!b) {
-		registers_refuse(t->id, &before, EAGAIN);
-		ptrace(PTRACE_CONT, t->id, 0, 0);
+		stops_return(t->id, &before, -EAGAIN);
 		return;
 	}
 	b->before = before;
@@ -189,7 +186,6 @@ void births_ask(struct thread *t, long number)
 
 void births_arguments(const struct memory_reply *reply)
 {
-	char group[PATH_MAX_SAID];
 	struct clone_registers args;
 	struct birth *b = find(reply->ticket);
 	if (!b || !b->reads || !b->creator)
@@ -202,11 +198,11 @@ void births_arguments(const struct memory_reply *reply)
 	if (elsewhere && (said->flags & CLONE_THREAD))
 		fault = -EOPNOTSUPP;
 	else if (elsewhere)
-		fault = groups_of_open(t->id, (int)said->cgroup, group);
+		fault = reply->group_fault;
 	if (fault)
 		refuse(t, -fault);
 	else
-		make(t, b, SYS_clone, &args, elsewhere ? group : NULL);
+		make(t, b, SYS_clone, &args, elsewhere ? reply->group : NULL);
 }
 
 /* ---------------------------------------------------------------- the child exists */
@@ -250,7 +246,7 @@ static struct thread *settle(struct birth *b, pid_t child)
 		link_exited(child);
 	if (fault) {
 		if (!ended)
-			kill(child, SIGKILL);
+			kill(child, SIGKILL); /* it cannot fail: it was not waited for */
 		b->fault = fault == -ESRCH ? 0 : fault; /* a kill in the hierarchy now finds the child */
 	}
 	return t;
@@ -260,19 +256,19 @@ void births_told(struct thread *creator, pid_t child)
 {
 	struct birth *b = creator->makes;
 	if (!b || !b->runs) {
-		ptrace(PTRACE_CONT, creator->id, 0, 0);
+		stops_run(creator->id, 0);
 		return;
 	}
 	settle(b, child);
 	if (b->fault) { /* its result is set after the call */
-		ptrace(PTRACE_SYSCALL, creator->id, 0, 0);
+		stops_run_call(creator->id);
 		return;
 	}
-	registers_restore(creator->id, &b->before);
+	stops_restore(creator->id, &b->before);
 	creator->makes = NULL;
 	b->creator = NULL;
 	end_if_over(b);
-	ptrace(PTRACE_CONT, creator->id, 0, 0);
+	stops_run(creator->id, 0);
 }
 
 /* The call made no child, or its child may not run. The call may be restarted, and then needs its arguments. */
@@ -281,9 +277,9 @@ void births_returned(struct thread *t)
 	struct birth *b = t->makes;
 	if (!b)
 		return;
-	registers_restore(t->id, &b->before);
+	stops_restore(t->id, &b->before);
 	if (b->fault)
-		registers_set_result(t->id, b->fault);
+		(void)registers_set_result(t->id, b->fault); /* it fails only if the thread was killed */
 	if (b->told)
 		births_abandon(t);
 	else
@@ -302,10 +298,10 @@ struct thread *births_appeared(pid_t child)
 		t = b && b->runs && !b->told ? settle(b, child) : NULL;
 	}
 	if (!t) { /* nobody asked for it, or it came too late */
-		kill(child, SIGKILL);
+		kill(child, SIGKILL); /* it cannot fail: it was not waited for */
 		return NULL;
 	}
-	registers_restore(child, &b->before);
+	stops_restore(child, &b->before);
 	t->started = true;
 	t->made_by = NULL;
 	end_if_over(b);

@@ -1,106 +1,162 @@
 #include "companion.h"
+#include "cleanup.h"
+#include "own.h"
 #include "place.h"
+#include "space.h"
 #include <errno.h>
 #include <fcntl.h>
 #include <signal.h>
 #include <stdio.h>
 #include <string.h>
 #include <sys/mount.h>
-#include <sys/prctl.h>
+#include <sys/socket.h>
+#include <sys/stat.h>
 #include <sys/wait.h>
 #include <unistd.h>
 
-/* A path of one byte that no file has. */
-static const char farewell[] = "-";
+enum { TRIES = 100, TOLD_MAX = 2 * PATH_MAX_SAID };
 
-enum { TRIES = 100 };
+struct mounted {
+	const char *at;
+	int root;           /* of a run; -1: it is looked up */
+	bool is_known;
+	struct mount_id is;
+};
 
-/* A truncation is one call and changes nothing, and inotify reports it only as a modification. The group may be gone. */
-static void touch(const char *mountpoint, const char *path)
+/* The root of the mount, if that is what is mounted there; -1. */
+static int look_up(const struct mounted *m)
 {
-	char whole[2 * PATH_MAX_SAID];
-	int n = snprintf(whole, sizeof whole, "%s%s", mountpoint, path);
-	bool fits = n > 0 && (size_t)n < sizeof whole;
-	for (int i = 0; fits && i < TRIES && truncate(whole, 0) && errno == ENOMEM; i++)
+	struct mount_id found;
+	cleanup_fd int root = open(m->at, O_PATH | O_DIRECTORY | O_CLOEXEC);
+	bool is_it = root >= 0 && m->is_known && beneath_identify(root, &found) && beneath_is_same_mount(&found, &m->is);
+	return is_it ? steal_fd(&root) : -1;
+}
+
+/* What the program mounts or makes there is never reached: the walk starts at the root of the mount and leaves it nowhere.
+   The descriptor that was checked is the file that is truncated. A truncation is one call and changes nothing, and inotify
+   reports it only as a modification. False: try again. */
+static bool touch_once(int root, const struct mount_id *system, const char *path)
+{
+	char link[32];
+	struct mount_id found;
+	cleanup_fd int file = beneath_open(root, path, O_PATH | O_NOFOLLOW);
+	if (file < 0)
+		return errno != ENOMEM; /* the group may be gone */
+	if (!beneath_identify(file, &found) || !beneath_is_same_system(&found, system))
+		return true;
+	snprintf(link, sizeof link, "self/fd/%d", file);
+	return truncate(link, 0) == 0 || errno != ENOMEM;
+}
+
+static void touch(const struct mounted *m, const char *path)
+{
+	cleanup_fd int found = m->root < 0 ? look_up(m) : -1;
+	int root = m->root < 0 ? found : m->root;
+	for (int i = 0; root >= 0 && i < TRIES && !touch_once(root, &m->is, path); i++)
 		usleep(10000);
 }
 
+/* The server has ended. If it was killed, its mount is still there and answers nobody. Any other mount stays. */
 static void take_away(const char *mountpoint)
 {
+	struct stat st;
+	if (stat(mountpoint, &st) == 0 || (errno != ENOTCONN && errno != ECONNABORTED))
+		return;
 	if (umount2(mountpoint, MNT_DETACH) == 0)
 		return;
 	execlp("fusermount3", "fusermount3", "-u", "-q", "-z", "--", mountpoint, (char *)NULL);
 }
 
-static void serve(int from, const char *mountpoint, bool unmount)
+static void serve(int from, struct mounted *m)
 {
-	char told[4 * PATH_MAX_SAID];
-	size_t size = 0;
-	for (;;) {
-		ssize_t n = read(from, told + size, sizeof told - size);
-		if (n <= 0)
-			break;
-		size += (size_t)n;
-		char *path = told, *end;
-		while ((end = memchr(path, 0, size - (size_t)(path - told)))) {
-			if (strcmp(path, farewell) == 0)
-				return;
-			touch(mountpoint, path);
-			path = end + 1;
+	char told[TOLD_MAX];
+	ssize_t n;
+	while ((n = recv(from, told, sizeof told - 1, 0)) > 0) {
+		told[n] = 0;
+		if (told[0] == '/')
+			touch(m, told);
+		else if (n == 1 + sizeof m->is) {
+			memcpy(&m->is, told + 1, sizeof m->is);
+			m->is_known = true;
 		}
-		size -= (size_t)(path - told);
-		memmove(told, path, size);
 	}
-	if (unmount)
-		take_away(mountpoint);
+	if (m->root < 0)
+		take_away(m->at);
 }
 
-/* A reader that waits for the end of the program's output must not wait for this process. */
-static void let_go(void)
+/* A reader that waits for the end of the program's output must not wait for this process; and a descriptor of the server
+   would keep the mount's connection open. */
+static void let_go(int *from, int *root)
 {
-	int null = open("/dev/null", O_RDWR);
-	for (int fd = 0; fd < 3 && null >= 0; fd++)
-		dup2(null, fd);
-	if (null > 2)
-		close(null);
+	int null = open("/dev/null", O_RDWR | O_CLOEXEC);
+	for (int fd = 0; fd < 3; fd++)
+		if (null < 0 || dup2(null, fd) < 0)
+			close(fd);
+	int low = *root < 0 || *from < *root ? *from : *root, high = *root < 0 || *from > *root ? *from : *root;
+	/* cannot fail: the ranges are not empty, or are left out */
+	if (low > 3)
+		close_range(3, (unsigned)low - 1, 0);
+	if (high > low + 1)
+		close_range((unsigned)low + 1, (unsigned)high - 1, 0);
+	close_range((unsigned)high + 1, ~0U, 0);
 }
 
-int companion_start(const char *mountpoint, bool unmount)
+/* The companion of a mount outlives the server, so it forks twice, and nobody has to wait for it. The companion of a run
+   ends with the supervisor, even if the program has stopped it. */
+static void live(int from, const char *mountpoint, int root, pid_t parent)
 {
-	int ends[2];
-	if (pipe(ends))
-		return -1;
-	pid_t pid = fork();
-	if (pid == 0) {
-		/* The companion of a mount outlives the server, so it forks twice, and nobody has to wait for it. The
-		   companion of a run ends with the supervisor, even if the program has stopped it. */
-		if (unmount && fork())
-			_exit(0);
-		if (!unmount)
-			prctl(PR_SET_PDEATHSIG, SIGKILL);
-		close(ends[1]);
-		setsid();
-		let_go();
-		signal(SIGTERM, SIG_IGN);
-		signal(SIGINT, SIG_IGN);
-		serve(ends[0], mountpoint, unmount);
+	struct mounted m = { .at = mountpoint, .root = root };
+	if (root < 0 && fork())
 		_exit(0);
+	if (root >= 0 && (!own_dies_with(parent) || !space_stand_in_proc() || !beneath_identify(root, &m.is)))
+		_exit(1);
+	if (root < 0 && chdir("/proc") && chdir("/")) /* without /proc it can only unmount */
+		_exit(1);
+	setsid(); /* it fails only for the leader of a group, which a child is not */
+	let_go(&from, &m.root);
+	signal(SIGTERM, SIG_IGN);
+	signal(SIGINT, SIG_IGN);
+	serve(from, &m);
+	_exit(0);
+}
+
+bool companion_start(struct companion *out, const char *mountpoint, int root)
+{
+	int ends[2], fault;
+	pid_t self = getpid();
+	if (socketpair(AF_UNIX, SOCK_SEQPACKET | SOCK_CLOEXEC, 0, ends))
+		return false;
+	pid_t pid = fork();
+	fault = errno;
+	if (pid == 0) {
+		close(ends[1]);
+		live(ends[0], mountpoint, root, self);
 	}
 	close(ends[0]);
 	if (pid < 0) {
 		close(ends[1]);
-		return -1;
+		errno = fault;
+		return false;
 	}
-	if (unmount)
-		waitpid(pid, NULL, 0);
-	fcntl(ends[1], F_SETFD, FD_CLOEXEC);
-	return ends[1];
+	while (root < 0 && waitpid(pid, NULL, 0) < 0 && errno == EINTR)
+		;
+	*out = (struct companion){ ends[1], root < 0 ? -1 : pid };
+	return true;
 }
 
-void companion_end(int pipe)
+bool companion_show(int to, const struct mount_id *which)
 {
-	if (write(pipe, farewell, sizeof farewell) < 0) {
-		/* it has ended already */
+	char told[1 + sizeof *which] = { 0 };
+	memcpy(told + 1, which, sizeof *which);
+	return send(to, told, sizeof told, MSG_NOSIGNAL) == (ssize_t)sizeof told;
+}
+
+bool companion_tell(int to, const char *path)
+{
+	while (send(to, path, strlen(path), MSG_NOSIGNAL) < 0) {
+		if (errno != EINTR && errno != ENOBUFS && errno != ENOMEM)
+			return false;
+		usleep(10000);
 	}
-	close(pipe);
+	return true;
 }

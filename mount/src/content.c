@@ -115,12 +115,12 @@ static int move_to(const struct opened *o, const char *said)
 	return fault;
 }
 
-/* A move takes the whole process if the number is that of one of its threads; 0 is the writer. */
+/* 0 is the writer. */
 static int move(const struct opened *o, char said[SAID_MAX], pid_t writer)
 {
 	bool is_new;
 	if (strcmp(said, "0") == 0)
-		snprintf(said, SAID_MAX, "%d", real_process_of(writer));
+		snprintf(said, SAID_MAX, "%d", writer);
 	pid_t pid = (pid_t)strtol(said, NULL, 10);
 	int fault = real_sweep();
 	if (fault == 0)
@@ -171,9 +171,14 @@ static int write_file(struct opened *o, const char *data, size_t size, pid_t wri
 int content_write(const char *path, const char *data, size_t size, off_t at, struct fuse_file_info *fi)
 {
 	(void)path, (void)at;
+	struct opened *o = opened_of(fi);
+	char said[SAID_MAX];
 	pid_t writer = fuse_get_context()->pid;
+	/* the writer may be a thread of its process; that is asked for without the lock, since the kernel may have to wait */
+	if (o->file && o->file->value == A_PID && value_said(A_PID, data, size, said) == 0 && strcmp(said, "0") == 0)
+		writer = real_process_of(writer);
 	engine_lock();
-	int fault = write_file(opened_of(fi), data, size, writer);
+	int fault = write_file(o, data, size, writer);
 	engine_unlock();
 	return fault ? fault : (int)size;
 }

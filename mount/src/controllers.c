@@ -1,6 +1,6 @@
 #include "controllers.h"
 #include "engine.h"
-#include "remembered.h"
+#include "opened.h"
 #include "reported.h"
 #include "scan.h"
 #include "values.h"
@@ -232,12 +232,14 @@ static int read_change(char *text, unsigned *enable, unsigned *disable)
 	return 0;
 }
 
-/* A child loses these controllers: their values are dropped. */
+/* A child loses these controllers: their values are dropped, and their open files are of no group any more. */
 static int forget_in(const char *child, unsigned which)
 {
 	struct remembered *r = remembered_find(child);
-	if (r)
+	if (r) {
 		values_forget(r, which);
+		opened_lose_files(r, which);
+	}
 	remembered_tidy(r);
 	return 0;
 }

@@ -10,6 +10,7 @@
 #include <sys/mount.h>
 #include <sys/prctl.h>
 #include <sys/syscall.h>
+#include <sys/wait.h>
 #include <unistd.h>
 
 #if defined(__x86_64__)
@@ -42,6 +43,17 @@ enum { X32 = 0x40000000 };
 #define SEEN_WITH(number, argument, bits, how) \
 	UNLESS(number, 4), LOAD(args[argument]), IF_ANY(bits, 1), ANSWER(how), ANSWER(SECCOMP_RET_ALLOW)
 
+/* A call that is intercepted if this argument is this number. */
+#define SEEN_IF(number, argument, value, how) \
+	UNLESS(number, 4), LOAD(args[argument]), UNLESS(value, 1), ANSWER(how), ANSWER(SECCOMP_RET_ALLOW)
+
+#define STOPS (SECCOMP_RET_TRACE | FILTER_MARK)
+
+/* wait4 that names a process (a negative number is a group, or any) and does not wait. */
+#define SEEN_LOOKS(number, how) \
+	UNLESS(number, 7), LOAD(args[0]), IF_ANY(0x80000000U, 1), ANSWER(SECCOMP_RET_ALLOW), LOAD(args[2]), IF_ANY(WNOHANG, 1), ANSWER(how), \
+		ANSWER(SECCOMP_RET_ALLOW)
+
 /* Mounts with these flags make no new file system. */
 static const unsigned other_mounts = MS_REMOUNT | MS_BIND | MS_MOVE | MS_SHARED | MS_PRIVATE | MS_SLAVE | MS_UNBINDABLE;
 /* Opens with these flags do not read a text of /proc. */
@@ -71,18 +83,22 @@ int filter_install(void)
 		BPF_JUMP(BPF_JMP | BPF_JGE | BPF_K, X32, 0, 1),
 		FAIL(ENOSYS),
 #endif
-		SEEN(__NR_clone, SECCOMP_RET_TRACE),
-		SEEN(__NR_clone3, SECCOMP_RET_TRACE),
+		SEEN(__NR_clone, STOPS),
+		SEEN(__NR_clone3, STOPS),
 #ifdef __NR_fork
-		SEEN(__NR_fork, SECCOMP_RET_TRACE),
-		SEEN(__NR_vfork, SECCOMP_RET_TRACE),
+		SEEN(__NR_fork, STOPS),
+		SEEN(__NR_vfork, STOPS),
 #endif
 		SEEN(__NR_io_uring_setup, SECCOMP_RET_ERRNO | EPERM),
-		SEEN_WITH(__NR_unshare, 0, CLONE_NEWCGROUP, SECCOMP_RET_TRACE),
+		SEEN_WITH(__NR_unshare, 0, CLONE_NEWCGROUP, STOPS),
 		SEEN_WITHOUT(__NR_mount, 3, other_mounts, SECCOMP_RET_USER_NOTIF),
 		SEEN(__NR_fsopen, SECCOMP_RET_USER_NOTIF),
 		SEEN(__NR_ptrace, SECCOMP_RET_USER_NOTIF),
 		SEEN_WITH(__NR_prlimit64, 0, UINT_MAX, SECCOMP_RET_USER_NOTIF),
+		SEEN_IF(__NR_prctl, 0, PR_SET_SECCOMP, STOPS),
+		SEEN_IF(__NR_seccomp, 0, SECCOMP_SET_MODE_STRICT, STOPS),
+		SEEN_WITH(__NR_waitid, 3, WNOHANG, STOPS),
+		SEEN_LOOKS(__NR_wait4, STOPS),
 		SEEN(__NR_openat2, SECCOMP_RET_USER_NOTIF),
 		SEEN(__NR_statfs, SECCOMP_RET_USER_NOTIF),
 		SEEN(__NR_fstatfs, SECCOMP_RET_USER_NOTIF),

@@ -1,16 +1,19 @@
 #include "halts.h"
 #include "link.h"
 #include "status.h"
+#include "stops.h"
 #include <errno.h>
 #include <signal.h>
 #include <stdint.h>
 #include <stdio.h>
 #include <string.h>
 #include <sys/ptrace.h>
+#include <sys/syscall.h>
+#include <time.h>
 #include <unistd.h>
 
 /* At most so many orders are handled before anything else, since the program decides how many there are. */
-enum { ORDERS = 32 };
+enum { ORDERS = 32, AGAIN = 5 };
 
 static int wake = -1;
 
@@ -29,23 +32,40 @@ static void set(struct thread *t, enum rest how)
 	t->rest = how;
 }
 
-/* A first thread that ended before the others never stops again, and its end is not reported before theirs. */
+/* A first thread that ended before the others never stops again, and its end is not reported before theirs. It has no memory
+   any more: the kernel says so without looking up a path, unless this process may not look at the program's memory. */
 static bool has_ended(pid_t id)
 {
 	char path[40], line[512];
+	if (syscall(SYS_move_pages, id, 0UL, NULL, NULL, NULL, 0) == 0)
+		return false;
+	if (errno == EINVAL || errno == ESRCH)
+		return true;
 	snprintf(path, sizeof path, "%d/stat", id);
 	ssize_t n = status_text(path, line, sizeof line);
 	if (n < 0)
 		return n == -ENOENT || n == -ESRCH;
-	const char *end = strrchr(line, ')');
-	return !end || end[1] == 0 || end[2] == 'Z' || end[2] == 'X';
+	const char *text = strrchr(line, ')');
+	return !text || text[1] == 0 || text[2] == 'Z' || text[2] == 'X';
 }
 
-static bool rests(const struct thread *first)
+/* Processes of which all threads rest but the first, which may be ending: they are looked at again until that is known. */
+static size_t undecided;
+
+static void set_undecided(struct thread *first, bool is)
 {
-	if (first->resting == first->members)
-		return true;
-	return first->members > 1 && first->resting + 1 == first->members && first->rest == RUNS && has_ended(first->id);
+	undecided += is;
+	undecided -= first->undecided;
+	first->undecided = is;
+}
+
+static bool rests(struct thread *first)
+{
+	bool all = first->resting == first->members;
+	bool but_first = !all && first->members > 1 && first->resting + 1 == first->members && first->rest == RUNS;
+	bool ended = but_first && has_ended(first->id);
+	set_undecided(first, but_first && !ended);
+	return all || ended;
 }
 
 void halts_tell(pid_t process)
@@ -54,10 +74,34 @@ void halts_tell(pid_t process)
 	if (!first || !first->counted)
 		return;
 	bool all = first->frozen && rests(first);
+	if (!first->frozen)
+		set_undecided(first, false);
 	if (all == first->told)
 		return;
 	first->told = all;
 	link_stopped(first->id, all);
+}
+
+void halts_forget(struct thread *t)
+{
+	set_undecided(t, false);
+}
+
+int halts_look_again(void)
+{
+	static long long looked_at;
+	if (undecided == 0)
+		return -1;
+	struct timespec t;
+	clock_gettime(CLOCK_MONOTONIC, &t); /* cannot fail: there is such a clock */
+	long long now = t.tv_sec * 1000LL + t.tv_nsec / 1000000;
+	if (now - looked_at >= AGAIN) {
+		looked_at = now;
+		for (struct thread *each = threads_all(); each; each = each->next)
+			if (each->undecided)
+				halts_tell(each->id);
+	}
+	return undecided ? AGAIN : -1;
 }
 
 /* ---------------------------------------------------------------- at a stop */
@@ -103,7 +147,7 @@ void halts_vfork_over(struct thread *t)
 void halts_insists(struct thread *t)
 {
 	if (t->frozen && t->started && (t->rest == RUNS || t->rest == VFORKS))
-		ptrace(PTRACE_INTERRUPT, t->id, 0, 0);
+		stops_interrupt(t->id);
 }
 
 static void freeze(struct thread *t)
@@ -127,7 +171,7 @@ static void go_on(struct thread *t, void (*call)(struct thread *t))
 		return;
 	set(t, RUNS);
 	if (was == PARKED && stands_parked(t->id))
-		ptrace(PTRACE_CONT, t->id, 0, 0);
+		stops_run(t->id, 0);
 	else if (was == BEFORE_CALL)
 		call(t);
 }

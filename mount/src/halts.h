@@ -21,6 +21,11 @@ void halts_listens(struct thread *t);
 /* It waits for the child that it made by vfork; the wait of the thread that made this one by vfork has ended. */
 void halts_vforks(struct thread *t, pid_t child);
 void halts_vfork_over(struct thread *t);
+/* A frozen process whose first thread may be ending is looked at again. Returns how long until the next look is needed: in
+   milliseconds, -1 for never. */
+int halts_look_again(void);
+/* The thread is about to be dropped. */
+void halts_forget(struct thread *t);
 /* After a change: tells the server whether all threads of the process rest now. */
 void halts_tell(pid_t process);
 

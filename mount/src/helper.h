@@ -3,18 +3,22 @@
 #ifndef HELPER_H
 #define HELPER_H
 
+#include "place.h"
 #include <linux/sched.h>
 #include <stdbool.h>
 #include <stddef.h>
 #include <sys/types.h>
 
+/* What a clone3 asks for. Only the beginning is sent, up to the end of the path. */
 struct memory_reply {
 	unsigned long ticket;
-	int fault; /* 0, or the -errno of the call */
+	int fault; /* 0, or the -errno of the call: its arguments cannot be read */
 	struct clone_args args;
+	int group_fault; /* with CLONE_INTO_CGROUP: 0 and the group, or -errno */
+	char group[PATH_MAX_SAID];
 };
 
-/* Starts it. It answers the notifications of `listener`. Returns its descriptor to poll, or -1. */
+/* Starts it. It answers the notifications of `listener`. Returns its descriptor to poll, or -1 with errno. */
 int helper_start(int listener);
 /* Nobody waits for it: a file system of the program may block it. */
 void helper_end(void);

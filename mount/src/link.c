@@ -101,7 +101,7 @@ void link_use(int end, pid_t process)
 	struct timeval patience = { 0, 20000 };
 	server = end;
 	server_process = process;
-	setsockopt(end, SOL_SOCKET, SO_RCVTIMEO, &patience, sizeof patience);
+	setsockopt(end, SOL_SOCKET, SO_RCVTIMEO, &patience, sizeof patience); /* it cannot fail: sockets have this option */
 }
 
 /* The program may stop the server, which has the same user: then it is continued. */
@@ -113,7 +113,7 @@ static bool hear(struct reply *r)
 			return true;
 		if (n >= 0 || (errno != EAGAIN && errno != EINTR))
 			return false;
-		kill(server_process, SIGCONT);
+		kill(server_process, SIGCONT); /* it cannot fail: only the tracer waits for the server, and not meanwhile */
 	}
 }
 

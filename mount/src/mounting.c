@@ -3,6 +3,7 @@
 #include "groups.h"
 #include "memory.h"
 #include "opening.h"
+#include "own.h"
 #include "spaces.h"
 #include "status.h"
 #include <fcntl.h>
@@ -10,9 +11,9 @@
 #include <linux/capability.h>
 #include <linux/mount.h>
 #include <sched.h>
+#include <signal.h>
 #include <string.h>
 #include <sys/ioctl.h>
-#include <sys/prctl.h>
 #include <sys/stat.h>
 #include <sys/syscall.h>
 #include <sys/wait.h>
@@ -65,26 +66,36 @@ static bool is_own(int space, const char *which)
 	return fstat(space, &st) == 0 && stat(path, &own) == 0 && st.st_ino == own.st_ino;
 }
 
+/* The status of a child, which the program may stop. */
+static int end_of(pid_t child)
+{
+	int status;
+	for (;;) {
+		pid_t n = waitpid(child, &status, WUNTRACED);
+		if (n < 0 && errno != EINTR)
+			return EIO;
+		if (n == child && !WIFSTOPPED(status))
+			return WIFEXITED(status) ? WEXITSTATUS(status) : EIO;
+		if (n == child)
+			kill(child, SIGCONT); /* it cannot fail: it was not waited for */
+	}
+}
+
 /* In a separate process, since only a process without other threads can enter a namespace. It may make only calls that are
    allowed after a fork of a process with threads. */
 static int attach(int tree, int target, int users, int mounts)
 {
-	int status;
 	bool enters = !is_own(users, "user");
-	pid_t pid = fork();
+	pid_t self = getpid(), pid = fork();
 	if (pid == 0) {
-		prctl(PR_SET_PDEATHSIG, SIGKILL);
+		if (!own_dies_with(self))
+			_exit(EIO);
 		if ((enters && setns(users, CLONE_NEWUSER)) || setns(mounts, CLONE_NEWNS) ||
 		    syscall(SYS_move_mount, tree, "", target, "", MOVE_MOUNT_F_EMPTY_PATH | MOVE_MOUNT_T_EMPTY_PATH))
 			_exit(errno);
 		_exit(0);
 	}
-	if (pid < 0)
-		return errno;
-	while (waitpid(pid, &status, 0) < 0)
-		if (errno != EINTR)
-			return EIO;
-	return WIFEXITED(status) ? WEXITSTATUS(status) : EIO;
+	return pid < 0 ? errno : end_of(pid);
 }
 
 /* A copy of the mount, starting at the root of the caller's namespace: a descriptor or -errno. */
@@ -111,7 +122,7 @@ static int mount_groups(int listener, const struct seccomp_notif *call)
 	if (!has_capability(thread, CAP_SYS_ADMIN))
 		return EPERM;
 	struct statx st;
-	cleanup_fd int target = opening_find(thread, AT_FDCWD, path, true);
+	cleanup_fd int target = opening_find(thread, AT_FDCWD, path, true, 0);
 	if (target < 0)
 		return errno == ENOMEM ? ENOMEM : ENOENT;
 	cleanup_fd int users = open_space(thread, "user"), mounts = open_space(thread, "mnt");

@@ -40,7 +40,7 @@ bool notified_next(int listener, struct seccomp_notif *call)
 static void respond(int listener, const struct seccomp_notif *call, int error, unsigned flags)
 {
 	struct seccomp_notif_resp response = { .id = call->id, .error = -error, .flags = flags };
-	ioctl(listener, SECCOMP_IOCTL_NOTIF_SEND, &response);
+	ioctl(listener, SECCOMP_IOCTL_NOTIF_SEND, &response); /* it fails if the caller was killed */
 }
 
 static void let_through(int listener, const struct seccomp_notif *call)
@@ -79,7 +79,7 @@ static bool answer_statfs(int listener, const struct seccomp_notif *call)
 	bool by_path = call->data.nr == __NR_statfs;
 	if (by_path && !memory_text(thread, call->data.args[0], path, sizeof path))
 		return false;
-	cleanup_fd int file = by_path ? opening_find(thread, AT_FDCWD, path, true) : opening_of_descriptor(thread, (int)call->data.args[0]);
+	cleanup_fd int file = by_path ? opening_find(thread, AT_FDCWD, path, true, 0) : opening_of_descriptor(thread, (int)call->data.args[0]);
 	if (file >= 0 && !groups_have(file))
 		return false;
 	if (file < 0 || fstatfs(file, &st))
@@ -94,8 +94,33 @@ static bool answer_statfs(int listener, const struct seccomp_notif *call)
 
 struct open_call {
 	int directory, flags;
+	uint64_t resolve;
 	char path[PATH_MAX];
 };
+
+/* The flags that openat2 knows. O_LARGEFILE is 0 in the C library, as every file is one. */
+static const uint64_t known_flags = O_ACCMODE | O_CREAT | O_EXCL | O_NOCTTY | O_TRUNC | O_APPEND | O_NONBLOCK | O_SYNC | O_ASYNC |
+                                    O_DIRECT | O_DIRECTORY | O_NOFOLLOW | O_NOATIME | O_CLOEXEC | O_PATH | O_TMPFILE | 0100000;
+static const uint64_t known_rules = RESOLVE_NO_XDEV | RESOLVE_NO_MAGICLINKS | RESOLVE_NO_SYMLINKS | RESOLVE_BENEATH | RESOLVE_IN_ROOT |
+                                    RESOLVE_CACHED;
+
+/* The argument of an openat2 that the kernel would not refuse at once. A longer one has zeros at its end. */
+static bool read_how(pid_t thread, unsigned long at, size_t size, struct open_how *how)
+{
+	char bytes[4096];
+	if (size < sizeof *how || size > sizeof bytes || !memory_read(thread, at, bytes, size))
+		return false;
+	for (size_t i = sizeof *how; i < size; i++)
+		if (bytes[i])
+			return false;
+	memcpy(how, bytes, sizeof *how);
+	bool makes = how->flags & (O_CREAT | (O_TMPFILE & ~O_DIRECTORY));
+	if (how->flags & ~known_flags || how->mode & ~(makes ? 07777ULL : 0ULL) || how->resolve & ~known_rules)
+		return false;
+	if (how->resolve & RESOLVE_CACHED && (makes || how->flags & O_TRUNC))
+		return false;
+	return (how->resolve & (RESOLVE_BENEATH | RESOLVE_IN_ROOT)) != (RESOLVE_BENEATH | RESOLVE_IN_ROOT);
+}
 
 /* The supervisor's own copy of the arguments. The program can change its memory afterwards; then the kernel opens another
    file than the one that was checked, and a text of /proc is the machine's. */
@@ -107,6 +132,7 @@ static bool read_open(const struct seccomp_notif *call, struct open_call *out)
 	unsigned long at = a[1];
 	out->directory = (int)a[0];
 	out->flags = (int)a[2];
+	out->resolve = 0;
 #ifdef __NR_open
 	if (call->data.nr == __NR_open) {
 		out->directory = AT_FDCWD;
@@ -115,9 +141,10 @@ static bool read_open(const struct seccomp_notif *call, struct open_call *out)
 	}
 #endif
 	if (call->data.nr == __NR_openat2) {
-		if (a[3] < sizeof how.flags || !memory_read(thread, a[2], &how, a[3] < sizeof how ? a[3] : sizeof how))
+		if (!read_how(thread, a[2], a[3], &how))
 			return false;
 		out->flags = (int)how.flags;
+		out->resolve = how.resolve;
 	}
 	if (out->flags & (O_PATH | O_WRONLY | O_DIRECTORY) || (out->flags & O_CREAT && out->flags & O_EXCL))
 		return false;
@@ -131,12 +158,16 @@ static bool answer_open(int listener, const struct seccomp_notif *call)
 	pid_t thread = (pid_t)call->pid;
 	if (!read_open(call, &asked))
 		return false;
-	cleanup_fd int file = opening_find(thread, asked.directory, asked.path, !(asked.flags & O_NOFOLLOW));
+	cleanup_fd int file = opening_find(thread, asked.directory, asked.path, !(asked.flags & O_NOFOLLOW), asked.resolve);
 	if (file < 0)
 		return answer_no_memory(listener, call);
 	cleanup_fd int text = procfiles_text(thread, file);
 	if (text == -1)
 		return false;
+	if (asked.resolve & RESOLVE_CACHED) { /* it is not known without a look-up */
+		respond(listener, call, EAGAIN, 0);
+		return true;
+	}
 	if (text < 0) {
 		respond(listener, call, -text, 0);
 		return true;

@@ -123,6 +123,18 @@ void opened_wake(const struct remembered *r, const struct file *file)
 			wake(o);
 }
 
+void opened_lose_files(struct remembered *r, unsigned controllers)
+{
+	WANTS_LOCK();
+	for (struct opened *o = r->opened, *next; o; o = next) {
+		next = o->next;
+		if (o->file && o->file->controller & controllers) {
+			leave(o);
+			wake(o);
+		}
+	}
+}
+
 void opened_lose(struct remembered *r)
 {
 	WANTS_LOCK();

@@ -9,7 +9,7 @@ enum { A_DIRECTORY = -1 }; /* as `control` */
 
 struct opened {
 	struct opened *next, *before; /* in the list of its group */
-	struct remembered *of;     /* NULL once the group was removed */
+	struct remembered *of;     /* NULL once the group was removed, or has lost the file's controller */
 	const struct file *file;   /* NULL: a directory, or a file of the control directory */
 	long control;
 	char *group;
@@ -32,6 +32,8 @@ unsigned opened_poll(struct opened *o, struct fuse_pollhandle *waiter);
 bool opened_is_gone(const struct opened *o);
 /* The text of a file has changed. */
 void opened_wake(const struct remembered *r, const struct file *file);
+/* The group has lost these controllers: files that are open stay without one, also if it gets them again. */
+void opened_lose_files(struct remembered *r, unsigned controllers);
 /* The group was removed. */
 void opened_lose(struct remembered *r);
 

@@ -58,11 +58,12 @@ pid_t opening_seen_from(pid_t thread, pid_t number)
 
 /* ---------------------------------------------------------------- one step of a path */
 
-/* How far a walk has come. `rest` is what is left of the path. */
+/* How far a walk has come. `rest` is what is left of the path; `resolve`: the rules of openat2 by which it goes. */
 struct walk {
 	pid_t thread;
 	int root, at;
 	int links;
+	uint64_t resolve;
 	char rest[2 * PATH_MAX];
 };
 
@@ -87,6 +88,13 @@ static bool is_same(int a, int b)
 	return statx(a, "", how, STATX_INO | STATX_MNT_ID, &one) == 0 && statx(b, "", how, STATX_INO | STATX_MNT_ID, &other) == 0 &&
 	       one.stx_ino == other.stx_ino && one.stx_mnt_id == other.stx_mnt_id && one.stx_dev_minor == other.stx_dev_minor &&
 	       one.stx_dev_major == other.stx_dev_major;
+}
+
+static bool is_same_mount(int a, int b)
+{
+	struct statx one, other;
+	int how = AT_EMPTY_PATH | AT_STATX_DONT_SYNC | AT_NO_AUTOMOUNT;
+	return statx(a, "", how, STATX_MNT_ID, &one) == 0 && statx(b, "", how, STATX_MNT_ID, &other) == 0 && one.stx_mnt_id == other.stx_mnt_id;
 }
 
 static bool is_link(int fd)
@@ -123,6 +131,8 @@ static bool go_on_with(struct walk *w, const char *text)
 	memcpy(w->rest, rest, (size_t)n + 1);
 	if (text[0] != '/')
 		return true;
+	if (w->resolve & RESOLVE_BENEATH)
+		return false;
 	int root = fcntl(w->root, F_DUPFD_CLOEXEC, 0);
 	if (root >= 0)
 		go(w, root);
@@ -170,13 +180,15 @@ static int take_descriptor(int directory, const char *name)
 static bool follow(struct walk *w, int link, const char *name)
 {
 	char text[PATH_MAX];
-	if (++w->links > LINKS)
+	if (++w->links > LINKS || w->resolve & RESOLVE_NO_SYMLINKS)
 		return false;
 	if (is_proc(link)) {
 		bool at_root = is_proc_root(w->at);
 		if (at_root && (strcmp(name, "self") == 0 || strcmp(name, "thread-self") == 0))
 			return follow_self(w, name);
 		if (!at_root) { /* not a text but a file: a descriptor, a directory, a program */
+			if (w->resolve & (RESOLVE_NO_MAGICLINKS | RESOLVE_BENEATH | RESOLVE_IN_ROOT))
+				return false;
 			int to = openat(w->at, name, O_PATH | O_CLOEXEC);
 			if (to >= 0)
 				go(w, to);
@@ -207,13 +219,18 @@ static bool take_name(struct walk *w, char name[NAME_MAX + 1], bool *is_last)
 
 static bool step(struct walk *w, const char *name, bool follows)
 {
-	if (strcmp(name, ".") == 0 || (strcmp(name, "..") == 0 && is_same(w->at, w->root)))
+	bool is_up = strcmp(name, "..") == 0;
+	if (is_up && w->resolve & RESOLVE_BENEATH && is_same(w->at, w->root))
+		return false;
+	if (strcmp(name, ".") == 0 || (is_up && is_same(w->at, w->root)))
 		return true;
 	cleanup_fd int next = openat(w->at, name, O_PATH | O_NOFOLLOW | O_CLOEXEC);
-	bool denied = next < 0 && errno == EACCES && follows && is_proc(w->at);
+	bool denied = next < 0 && errno == EACCES && follows && w->resolve == 0 && is_proc(w->at);
 	if (denied)
 		next = take_descriptor(w->at, name);
 	if (next < 0)
+		return false;
+	if (w->resolve & RESOLVE_NO_XDEV && !denied && !is_same_mount(w->at, next))
 		return false;
 	if (!denied && follows && is_link(next))
 		return follow(w, next, name);
@@ -221,11 +238,11 @@ static bool step(struct walk *w, const char *name, bool follows)
 	return true;
 }
 
-static int walk_by_hand(pid_t thread, int root, int from, const char *path, bool follows)
+static int walk_by_hand(pid_t thread, int root, int from, const char *path, bool follows, uint64_t resolve)
 {
 	char name[NAME_MAX + 1];
 	bool is_last;
-	struct walk w = { .thread = thread, .root = root, .at = from };
+	struct walk w = { .thread = thread, .root = root, .at = from, .resolve = resolve };
 	bool found = snprintf(w.rest, sizeof w.rest, "%s", path) < (int)sizeof w.rest;
 	while (found && take_name(&w, name, &is_last))
 		found = step(&w, name, follows || !is_last);
@@ -237,22 +254,37 @@ static int walk_by_hand(pid_t thread, int root, int from, const char *path, bool
 
 /* ---------------------------------------------------------------- the whole path */
 
+/* Where the walk begins: the directory, or with an absolute path the root. With RESOLVE_IN_ROOT the directory is the root. */
+static int open_start(pid_t thread, int root, int directory, const char *path, uint64_t resolve)
+{
+	if (path[0] == '/' && !(resolve & RESOLVE_IN_ROOT))
+		return resolve & RESOLVE_BENEATH ? -1 : fcntl(root, F_DUPFD_CLOEXEC, 0);
+	return directory == AT_FDCWD ? open_of(thread, "cwd") : opening_of_descriptor(thread, directory);
+}
+
 /* If the thread has the root of this process, the kernel finds the file directly. The exceptions are files of /proc, where
-   it depends on who asks, and files that this process does not see. */
-int opening_find(pid_t thread, int directory, const char *path, bool follows)
+   it depends on who asks, and files that this process does not see. A walk by other rules than the usual ones that does not
+   succeed here is the kernel's to refuse. */
+int opening_find(pid_t thread, int directory, const char *path, bool follows, uint64_t resolve)
 {
 	errno = 0;
 	cleanup_fd int root = open_of(thread, "root");
 	cleanup_fd int own = open("/", O_PATH | O_CLOEXEC);
-	cleanup_fd int from = path[0] == '/' ? fcntl(root, F_DUPFD_CLOEXEC, 0)
-	                      : directory == AT_FDCWD ? open_of(thread, "cwd") : opening_of_descriptor(thread, directory);
-	if (root < 0 || from < 0 || path[0] == 0)
+	cleanup_fd int from = root < 0 ? -1 : open_start(thread, root, directory, path, resolve);
+	if (from < 0 || path[0] == 0)
 		return -1; /* cppcheck-suppress resourceLeak ; the cleanup attribute closes them */
-	if (is_same(root, own)) {
+	if (resolve & (RESOLVE_BENEATH | RESOLVE_IN_ROOT)) {
+		int top = fcntl(from, F_DUPFD_CLOEXEC, 0);
+		if (top < 0)
+			return -1;
+		close_at(&root);
+		root = top;
+	}
+	if (is_same(root, own) && resolve == 0) {
 		struct open_how how = { .flags = (uint64_t)(O_PATH | O_CLOEXEC | (follows ? 0 : O_NOFOLLOW)), .resolve = RESOLVE_NO_MAGICLINKS };
 		cleanup_fd int found = (int)syscall(SYS_openat2, from, path, &how, sizeof how);
 		if (found >= 0 && !is_proc(found) && !is_proc(from))
 			return steal_fd(&found);
 	}
-	return walk_by_hand(thread, root, steal_fd(&from), path, follows);
+	return walk_by_hand(thread, root, steal_fd(&from), path, follows, resolve);
 }

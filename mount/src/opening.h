@@ -5,10 +5,12 @@
 #define OPENING_H
 
 #include <stdbool.h>
+#include <stdint.h>
 #include <sys/types.h>
 
-/* A descriptor (O_PATH) of the file, or -1 and errno: ENOMEM only if memory did not suffice to find it. */
-int opening_find(pid_t thread, int directory, const char *path, bool follows);
+/* A descriptor (O_PATH) of the file, or -1 and errno: ENOMEM only if memory did not suffice to find it. `resolve`: rules of
+   openat2, of which RESOLVE_CACHED is left out. */
+int opening_find(pid_t thread, int directory, const char *path, bool follows, uint64_t resolve);
 /* The same for a descriptor of the thread. */
 int opening_of_descriptor(pid_t thread, int fd);
 /* Whether two threads see the same process numbers. */

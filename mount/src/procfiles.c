@@ -1,5 +1,6 @@
 #include "procfiles.h"
 #include "cleanup.h"
+#include "controllers.h"
 #include "groups.h"
 #include "mounting.h"
 #include "opening.h"
@@ -134,6 +135,24 @@ static int constant_text(const char *name, const char *text)
 	return end_text(fd, out, 0);
 }
 
+/* /proc/cgroups: the controllers that this run has, in the kernel's order and by its names of version 1. */
+static int controllers_text(void)
+{
+	static const struct {
+		unsigned which;
+		const char *name;
+	} all[] = { { HAS_CPUSET, "cpuset" }, { HAS_CPU, "cpu" }, { HAS_IO, "blkio" }, { HAS_MEMORY, "memory" }, { HAS_PIDS, "pids" } };
+	FILE *out;
+	int fd = new_text("cgroups", &out);
+	if (fd < 0)
+		return fd;
+	fputs("#subsys_name\thierarchy\tnum_cgroups\tenabled\n", out);
+	for (size_t i = 0; i < sizeof all / sizeof *all; i++)
+		if (all[i].which & (controllers_kept() | HAS_PIDS))
+			fprintf(out, "%s\t0\t1\t1\n", all[i].name);
+	return end_text(fd, out, 0);
+}
+
 /* ---------------------------------------------------------------- which file it is */
 
 /* Cuts the last name off a path, and returns it. */
@@ -164,8 +183,7 @@ int procfiles_text(pid_t thread, int file)
 	path[n] = 0;
 	const char *what = cut_name(path), *who = cut_name(path);
 	if (!is_number(who))
-		return strcmp(what, "cgroups") == 0
-		       ? constant_text(what, "#subsys_name\thierarchy\tnum_cgroups\tenabled\npids\t0\t1\t1\n") : -1;
+		return strcmp(what, "cgroups") == 0 ? controllers_text() : -1;
 	bool is_group = strcmp(what, "cgroup") == 0, is_cpuset = strcmp(what, "cpuset") == 0;
 	if (!is_group && !is_cpuset && strcmp(what, "mounts") != 0 && strcmp(what, "mountinfo") != 0 && strcmp(what, "mountstats") != 0)
 		return -1;

@@ -2,6 +2,7 @@
 #include "cleanup.h"
 #include "engine.h"
 #include "listed.h"
+#include "own.h"
 #include "place.h"
 #include "reported.h"
 #include "status.h"
@@ -10,11 +11,12 @@
 #include <errno.h>
 #include <fcntl.h>
 #include <signal.h>
+#include <stdint.h>
 #include <stdio.h>
 #include <stdlib.h>
 #include <string.h>
 #include <sys/epoll.h>
-#include <sys/resource.h>
+#include <sys/ioctl.h>
 #include <sys/syscall.h>
 #include <unistd.h>
 
@@ -39,13 +41,8 @@ static char noted_group[PATH_MAX_SAID];
 
 bool real_adopt_all(void)
 {
-	struct rlimit files;
 	way = ADOPTED;
-	/* each process has a descriptor */
-	if (getrlimit(RLIMIT_NOFILE, &files) == 0) {
-		files.rlim_cur = files.rlim_max;
-		setrlimit(RLIMIT_NOFILE, &files);
-	}
+	own_raise_files(); /* each process has a descriptor */
 	deaths = epoll_create1(EPOLL_CLOEXEC);
 	return deaths >= 0;
 }
@@ -60,8 +57,23 @@ static bool is_known(pid_t pid)
 	return pid > 0 && pid < PIDS && known[pid] != UNKNOWN;
 }
 
+/* Linux 6.9 and 6.13 */
+#ifndef PIDFD_THREAD
+#define PIDFD_THREAD O_EXCL
+#endif
+struct thread_info {
+	uint64_t mask, group;
+	uint32_t thread, process, others[9];
+	int32_t ended;
+};
+#define GET_THREAD_INFO _IOWR(0xFF, 11, struct thread_info)
+
 pid_t real_process_of(pid_t thread)
 {
+	struct thread_info info = { .mask = 1 };
+	cleanup_fd int fd = (int)syscall(SYS_pidfd_open, thread, PIDFD_THREAD);
+	if (fd >= 0 && ioctl(fd, GET_THREAD_INFO, &info) == 0)
+		return (pid_t)info.process;
 	long process = status_number(thread, "Tgid:");
 	return process > 0 ? (pid_t)process : thread;
 }
@@ -281,13 +293,13 @@ static void slay(pid_t pid)
 	if (way == REPORTED) {
 		/* the supervisor reports a death before the number is free, so a living one is still this process */
 		if (reported_kill(pid))
-			kill(pid, SIGKILL);
+			kill(pid, SIGKILL); /* it fails if the process has ended */
 		return;
 	}
 	known[pid] = DYING;
 	for (size_t i = 0; i < adopted_count; i++)
 		if (adopted[i].pid == pid)
-			syscall(SYS_pidfd_send_signal, adopted[i].fd, SIGKILL, NULL, 0);
+			syscall(SYS_pidfd_send_signal, adopted[i].fd, SIGKILL, NULL, 0); /* it fails if the process has ended */
 }
 
 void real_kill_noted(void)

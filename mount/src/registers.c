@@ -1,5 +1,6 @@
 #include "registers.h"
 #include <elf.h>
+#include <errno.h>
 #include <stddef.h>
 #include <sys/ptrace.h>
 #include <sys/syscall.h>
@@ -69,12 +70,18 @@ bool registers_restore(pid_t thread, const struct registers *before)
 	return write_all(thread, k);
 }
 
-bool registers_refuse(pid_t thread, const struct registers *before, int error)
+bool registers_return(pid_t thread, const struct registers *before, int result)
 {
 	struct user_regs_struct k = before->kernel;
 	k.orig_rax = (unsigned long)-1L;
-	k.rax = (unsigned long)-(long)error;
+	k.rax = (unsigned long)(long)result;
 	return write_all(thread, &k);
+}
+
+bool registers_was_interrupted(const struct registers *r, long *call)
+{
+	*call = (long)r->kernel.orig_rax;
+	return *call >= 0 && (long)r->kernel.rax == -EINTR;
 }
 
 bool registers_set_result(pid_t thread, long result)
@@ -131,11 +138,19 @@ bool registers_restore(pid_t thread, const struct registers *before)
 	return write_all(thread, &now.kernel);
 }
 
-bool registers_refuse(pid_t thread, const struct registers *before, int error)
+bool registers_return(pid_t thread, const struct registers *before, int result)
 {
 	struct user_regs_struct k = before->kernel;
-	k.regs[0] = (unsigned long long)-(long)error;
+	k.regs[0] = (unsigned long long)(long)result;
 	return set_number(thread, -1) && write_all(thread, &k);
+}
+
+/* Here the kernel has decided about a restart before the stop. */
+bool registers_was_interrupted(const struct registers *r, long *call)
+{
+	(void)r;
+	*call = -1;
+	return false;
 }
 
 bool registers_set_result(pid_t thread, long result)

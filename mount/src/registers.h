@@ -27,8 +27,10 @@ bool registers_set_call(pid_t thread, const struct registers *before, long numbe
 bool registers_set_ticket(pid_t thread, const struct registers *before, unsigned long ticket);
 /* In or after a call: restores the arguments that the program had there. */
 bool registers_restore(pid_t thread, const struct registers *before);
-/* Before a call: skips it; it returns -error. */
-bool registers_refuse(pid_t thread, const struct registers *before, int error);
+/* Before a call: skips it; it returns this result. */
+bool registers_return(pid_t thread, const struct registers *before, int result);
+/* At the stop before a signal is delivered: whether a call has ended with EINTR, and which. */
+bool registers_was_interrupted(const struct registers *r, long *call);
 /* After a call. */
 bool registers_set_result(pid_t thread, long result);
 

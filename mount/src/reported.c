@@ -132,7 +132,7 @@ static int refuse(pid_t parent, const char *group)
 		if (fault == 0)
 			zombies_add_gone(lowest);
 	}
-	zombies_sweep();
+	zombies_sweep(false);
 	if (fault == -EAGAIN)
 		watch_above(group);
 	return fault == -ENOMEM ? -ENOMEM : -EAGAIN;
@@ -169,7 +169,7 @@ int reported_reserve(pid_t parent, const char *group, unsigned *reservation)
 	char at[PATH_MAX_SAID];
 	/* `refuse` makes as many processes as there are reservations, and one more */
 	int fault = zombies_make_room(known_count + 2 * reserved_count + 2);
-	if (fault || (fault = zombies_sweep()))
+	if (fault || (fault = zombies_sweep(false)))
 		return fault;
 	if (!in_range(parent) && parent != 0)
 		return -EAGAIN;
@@ -180,6 +180,11 @@ int reported_reserve(pid_t parent, const char *group, unsigned *reservation)
 	if ((fault = find_place(parent, group, at)))
 		return fault;
 	int full = is_any_full(at, true);
+	if (full > 0 && zombies_count() > 0) { /* some may have been waited for */
+		if ((fault = zombies_sweep(true)))
+			return fault;
+		full = is_any_full(at, true);
+	}
 	if (full < 0)
 		return full;
 	if (full) /* a child for another group is refused in that group, where nobody forks: no event is counted */
@@ -198,7 +203,7 @@ static int place(pid_t child, const char *group)
 	fault = engine_line("write %s cgroup.procs %d", group, child);
 	if (fault) {
 		zombies_add_gone(child);
-		zombies_sweep();
+		zombies_sweep(false);
 	}
 	return fault;
 }
@@ -263,7 +268,7 @@ void reported_exited(pid_t pid)
 int reported_sweep(void)
 {
 	freezer_catch_up();
-	return zombies_sweep();
+	return zombies_sweep(true);
 }
 
 /* A program may write any number; a process that is not its own stays where it is. */

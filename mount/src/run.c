@@ -9,6 +9,7 @@
 #include "helper.h"
 #include "link.h"
 #include "operations.h"
+#include "own.h"
 #include "real.h"
 #include "space.h"
 #include "tracer.h"
@@ -28,6 +29,34 @@
 
 enum { REFUSED_HERE = 2, NOT_EXECUTABLE = 126, NOT_FOUND = 127, KILLED = 128, PATIENCE = 200, SIGNALS = 16 };
 
+/* ---------------------------------------------------------------- what the program inherits */
+
+/* The program starts with the signals as this process got them. Here none is blocked at first, a child that has ended is
+   waited for, and a pipe or a file that takes no more is an errno. */
+static const int changed[] = { SIGCHLD, SIGPIPE, SIGXFSZ, SIGQUIT };
+enum { CHANGED = sizeof changed / sizeof *changed };
+static struct sigaction found[CHANGED];
+static sigset_t found_blocked;
+
+static void keep_signals(void)
+{
+	sigset_t none;
+	/* none of these can fail: the signals exist */
+	sigemptyset(&none);
+	sigprocmask(SIG_SETMASK, &none, &found_blocked);
+	for (size_t i = 0; i < CHANGED; i++)
+		sigaction(changed[i], NULL, &found[i]);
+	signal(SIGCHLD, SIG_DFL);
+}
+
+static void give_signals(void)
+{
+	/* as above */
+	for (size_t i = 0; i < CHANGED; i++)
+		sigaction(changed[i], &found[i], NULL);
+	sigprocmask(SIG_SETMASK, &found_blocked, NULL);
+}
+
 /* ---------------------------------------------------------------- the process that serves the mount */
 
 static void nothing(void)
@@ -37,20 +66,22 @@ static void nothing(void)
 static pid_t start_server(int connection, const int ends[2])
 {
 	char where[32];
-	pid_t pid = fork();
+	pid_t self = getpid(), pid = fork();
 	if (pid)
 		return pid;
 	close(ends[0]);
-	setsid();
+	groups_end();
+	setsid(); /* it fails only for the leader of a group, which a child is not */
 	snprintf(where, sizeof where, "/dev/fd/%d", connection);
-	if (!space_stand_in_proc() || !link_answer(ends[1]))
+	if (!own_dies_with(self) || !space_stand_in_proc() || !link_answer(ends[1]))
 		_exit(1);
+	own_raise_files(); /* each zombie has one */
 	exit(serve(where, nothing));
 }
 
 /* ---------------------------------------------------------------- the program */
 
-static void send_listener(int to, int fd)
+static bool send_listener(int to, int fd)
 {
 	char byte = 0, room[CMSG_SPACE(sizeof fd)] = { 0 };
 	struct iovec bytes = { &byte, 1 };
@@ -58,7 +89,7 @@ static void send_listener(int to, int fd)
 	struct cmsghdr *head = CMSG_FIRSTHDR(&message);
 	*head = (struct cmsghdr){ .cmsg_level = SOL_SOCKET, .cmsg_type = SCM_RIGHTS, .cmsg_len = CMSG_LEN(sizeof fd) };
 	memcpy(CMSG_DATA(head), &fd, sizeof fd);
-	sendmsg(to, &message, 0);
+	return sendmsg(to, &message, 0) == 1;
 }
 
 static int receive_listener(int from)
@@ -79,29 +110,25 @@ static int receive_listener(int from)
 static void hide(bool hidden)
 {
 #ifndef __SANITIZE_ADDRESS__
-	prctl(PR_SET_DUMPABLE, hidden ? 0 : 1, 0, 0, 0);
+	prctl(PR_SET_DUMPABLE, hidden ? 0 : 1, 0, 0, 0); /* it cannot fail: both values exist */
 #endif
 	(void)hidden;
 }
 
 /* Waits until it is traced, installs the filter, and becomes the program. */
-static void become(char **program, int control, const sigset_t *signals)
+static void become(char **program, int control)
 {
 	char go;
 	hide(false);
 	if (write(control, "", 1) != 1 || read(control, &go, 1) != 1)
 		_exit(1);
-	sigprocmask(SIG_SETMASK, signals, NULL);
-	signal(SIGQUIT, SIG_DFL);
-	signal(SIGPIPE, SIG_DFL);
-	signal(SIGXFSZ, SIG_DFL);
 	int listener = filter_install();
-	if (listener < 0)
+	if (listener < 0 || !send_listener(control, listener))
 		_exit(1);
-	send_listener(control, listener);
 	close(listener);
 	if (read(control, &go, 1) != 1)
 		_exit(1);
+	give_signals();
 	execvp(program[0], program);
 	say("%s: %s", program[0], strerror(errno));
 	_exit(errno == ENOENT ? NOT_FOUND : NOT_EXECUTABLE);
@@ -115,7 +142,7 @@ static void pass_on(int signals, pid_t program)
 	struct signalfd_siginfo one;
 	for (int i = 0; i < SIGNALS && read(signals, &one, sizeof one) == sizeof one; i++)
 		if (one.ssi_signo == SIGTERM || one.ssi_signo == SIGHUP || (one.ssi_signo == SIGINT && one.ssi_code != SI_KERNEL))
-			kill(program, (int)one.ssi_signo);
+			kill(program, (int)one.ssi_signo); /* it fails if the program has ended: then the run ends too */
 }
 
 /* What the supervisor listens to. It asks each once in a turn, and waits for none while another has something. */
@@ -144,13 +171,15 @@ static int watch_over(const struct ears *ears, pid_t program)
 			break;
 		hear_helper();
 		more |= tracer_obey();
-		int next = births_give_up();
+		int next = births_give_up(), again = halts_look_again();
+		if (next < 0 || (again >= 0 && again < next))
+			next = again;
 		if (poll(from, sizeof from / sizeof *from, more ? 0 : next) < 0 && errno != EINTR)
 			break;
 		for (int i = 1; i < 3; i++)
 			if (from[i].revents & (POLLHUP | POLLERR)) {
 				say(i == 1 ? "the mount has ended" : "a process of the supervisor has ended");
-				kill(program, SIGKILL);
+				kill(program, SIGKILL); /* it fails if the program has ended */
 				from[1].fd = from[2].fd = -1;
 				break;
 			}
@@ -165,13 +194,13 @@ static int give_up(pid_t program, const char *why)
 {
 	int status;
 	say("%s", why);
-	kill(program, SIGKILL);
+	kill(program, SIGKILL); /* it cannot fail: it was not waited for */
 	while (waitpid(program, &status, __WALL) < 0 && errno == EINTR)
 		;
 	return REFUSED_HERE;
 }
 
-static int supervise(char **program, const sigset_t *before, int signals, int link, int freezer)
+static int supervise(char **program, int signals, int link, int freezer)
 {
 	int control[2];
 	char why[160];
@@ -180,11 +209,11 @@ static int supervise(char **program, const sigset_t *before, int signals, int li
 		return REFUSED_HERE;
 	}
 	/* this process, not the machine's first one, waits for the orphans that the program leaves */
-	prctl(PR_SET_CHILD_SUBREAPER, 1, 0, 0, 0);
+	prctl(PR_SET_CHILD_SUBREAPER, 1, 0, 0, 0); /* it cannot fail */
 	pid_t pid = fork();
 	if (pid == 0) {
 		close(control[0]); /* else it would wait forever if the supervisor is killed */
-		become(program, control[1], before);
+		become(program, control[1]);
 	}
 	close(control[1]);
 	char there;
@@ -209,16 +238,17 @@ static int supervise(char **program, const sigset_t *before, int signals, int li
 static void end_server(pid_t server, int end)
 {
 	int status;
-	umount2(cgroup_mount, MNT_DETACH);
+	umount2(cgroup_mount, MNT_DETACH); /* it fails if the program has unmounted it; the closed link ends the server too */
 	close(end);
 	for (int i = 0; i < PATIENCE; i++) {
 		if (waitpid(server, &status, WNOHANG))
-			return;
-		kill(server, SIGCONT);
+			return; /* it has ended, or was waited for by the tracer */
+		kill(server, SIGCONT); /* it cannot fail: it was not waited for */
 		usleep(10000);
 	}
-	kill(server, SIGKILL);
-	waitpid(server, &status, 0);
+	kill(server, SIGKILL); /* as above */
+	while (waitpid(server, &status, 0) < 0 && errno == EINTR)
+		;
 }
 
 /* Whether there is a tracer, as inside another run. */
@@ -233,11 +263,63 @@ static bool is_traced(void)
 	return tracer != 0;
 }
 
+/* The mount, its companion and its server: the server, or -1 after an error message. The supervisor's part of the companion
+   and of the engine ends here. */
+static pid_t start_mount(int ends[2], int *freezer, pid_t *companion)
+{
+	if (!link_make(ends) || !freezer_begin(freezer)) {
+		say("this machine does not allow another descriptor: %s", strerror(errno));
+		return -1;
+	}
+	int connection = space_mount();
+	if (connection < 0)
+		return -1;
+	cleanup_fd int copy = space_copy_mount();
+	if (copy < 0 || !groups_begin()) {
+		say("the mount cannot be opened: %s", strerror(errno));
+		return -1;
+	}
+	if (!watch_begin(cgroup_mount, copy)) {
+		say("this machine does not allow another process: %s", strerror(errno));
+		return -1;
+	}
+	close_at(&copy); /* in the server it would keep the mount in use */
+	copy = -1;
+	pid_t server = start_server(connection, ends);
+	int fault = errno;
+	close(connection);
+	close(ends[1]);
+	*companion = watch_leave();
+	own_add(*companion);
+	engine_end();
+	if (server < 0)
+		say("this machine does not allow another process: %s", strerror(fault));
+	else
+		own_add(server);
+	return server;
+}
+
+/* SIGCHLD, and those that are passed on to the program. */
+static int receive_signals(void)
+{
+	sigset_t held;
+	/* none of these can fail: the signals exist */
+	sigemptyset(&held);
+	sigaddset(&held, SIGCHLD);
+	sigaddset(&held, SIGTERM);
+	sigaddset(&held, SIGHUP);
+	sigaddset(&held, SIGINT);
+	sigprocmask(SIG_BLOCK, &held, NULL);
+	signal(SIGQUIT, SIG_IGN);
+	return signalfd(-1, &held, SFD_CLOEXEC | SFD_NONBLOCK);
+}
+
 int run_program(char **program, const struct wishes *asked)
 {
 	struct wishes wishes = *asked;
-	sigset_t held, before;
 	int ends[2], freezer;
+	pid_t companion;
+	keep_signals();
 	wishes.extra = true;
 	if (is_traced()) {
 		say("run does not work inside run, strace or gdb: this process already has a tracer, and can have only one");
@@ -252,40 +334,20 @@ int run_program(char **program, const struct wishes *asked)
 	look.marked = true;
 	hide(true);
 	real_are_reported();
-	if (!watch_begin(cgroup_mount, false) || !link_make(ends) || !freezer_begin(&freezer)) {
-		say("this machine does not allow another process or descriptor: %s", strerror(errno));
+	pid_t server = start_mount(ends, &freezer, &companion);
+	if (server < 0)
 		return REFUSED_HERE;
-	}
-	int connection = space_mount();
-	if (connection < 0)
-		return REFUSED_HERE;
-	pid_t server = start_server(connection, ends);
-	close(connection);
-	close(ends[1]);
-	watch_leave();
-	engine_end();
-	if (server < 0) {
-		say("this machine does not allow another process: %s", strerror(errno));
-		return REFUSED_HERE;
-	}
-	sigemptyset(&held);
-	sigaddset(&held, SIGCHLD);
-	sigaddset(&held, SIGTERM);
-	sigaddset(&held, SIGHUP);
-	sigaddset(&held, SIGINT);
-	sigprocmask(SIG_BLOCK, &held, &before);
-	signal(SIGQUIT, SIG_IGN);
-	int signals = signalfd(-1, &held, SFD_CLOEXEC | SFD_NONBLOCK);
 	link_use(ends[0], server);
+	int status = 1, signals = receive_signals();
 	/* until its first request, the kernel thinks that nobody owns the mount's root, and nothing can be made there */
-	int status = 1;
 	if (stat(cgroup_mount, &(struct stat){ 0 }))
 		say("the mount does not answer: %s", strerror(errno));
-	else if (!groups_begin())
-		say("the mount cannot be opened: %s", strerror(errno));
+	else if (signals < 0)
+		say("this machine does not allow another descriptor: %s", strerror(errno));
 	else
-		status = supervise(program, &before, signals, ends[0], freezer);
+		status = supervise(program, signals, ends[0], freezer);
 	groups_end();
+	own_kill(companion); /* its descriptor would keep the mount in use */
 	end_server(server, ends[0]);
 	return status;
 }

@@ -1,6 +1,15 @@
+/* Which processes may block on what.
+
+   A thread of the server waits for its next request, for the engine's lock, and for a write to the files of --trace and
+   --answers. Whoever holds the lock waits for these writes and for nothing else: it looks up no path (what the machine has is
+   read before: machine.c), and makes no request to its own mount, which only these threads answer. A look-up that a request
+   needs comes before the lock. (With --adopt, where no supervisor waits for the server, the lock is held while /proc is read.)
+   The thread that tells the companion about changes waits for it, without the lock, and ends when the server ends.
+   For the processes of a run see tracer.c. */
 #include "serve.h"
 #include "controllers.h"
 #include "engine.h"
+#include "machine.h"
 #include "operations.h"
 #include "real.h"
 #include "watch.h"
@@ -55,6 +64,10 @@ bool serve_prepare(const struct wishes *wishes)
 {
 	if (wishes->keep && !controllers_keep(wishes->keep)) {
 		say("--keep takes memory, cpu, io and cpuset, with commas between");
+		return false;
+	}
+	if (wishes->keep && !machine_read()) {
+		say("out of memory");
 		return false;
 	}
 	if (!open_kept(wishes))
@@ -157,6 +170,8 @@ int serve(const char *where, void (*ready)(void))
 		say("no file system can be mounted on %s: /dev/fuse, fusermount3 or the directory does not allow it", where);
 		return REFUSED;
 	}
+	if (!look.marked)
+		watch_mounted(where);
 	int ended = answer(fuse, ready);
 	watch_stop();
 	fuse_unmount(fuse);
@@ -180,8 +195,9 @@ static void tell_starter(void)
 	close(to_starter);
 	to_starter = -1;
 	int null = open("/dev/null", O_RDWR);
-	for (int fd = 0; fd < 3 && null >= 0; fd++)
-		dup2(null, fd);
+	for (int fd = 0; fd < 3; fd++)
+		if (null < 0 || dup2(null, fd) < 0)
+			close(fd); /* who waits for its end must not wait for this process */
 	if (null > 2)
 		close(null);
 }
@@ -193,7 +209,8 @@ static int wait_for(pid_t server, int from)
 	int ended = 0;
 	if (read(from, &status, 1) == 1)
 		return 0;
-	waitpid(server, &ended, 0);
+	while (waitpid(server, &ended, 0) < 0 && errno == EINTR)
+		;
 	return WIFEXITED(ended) && WEXITSTATUS(ended) ? WEXITSTATUS(ended) : 1;
 }
 
@@ -202,6 +219,7 @@ int mount_directory(const char *directory, const struct wishes *wishes)
 	char whole[PATH_MAX];
 	struct stat st;
 	int ends[2] = { -1, -1 };
+	signal(SIGCHLD, SIG_DFL); /* a caller that ignores it would keep its status from who waits for a child */
 	if (!realpath(directory, whole) || stat(whole, &st)) {
 		say("%s: %s", directory, strerror(errno));
 		return REFUSED;
@@ -215,7 +233,7 @@ int mount_directory(const char *directory, const struct wishes *wishes)
 		return REFUSED;
 	}
 	if (!wishes->foreground) {
-		if (pipe(ends))
+		if (pipe2(ends, O_CLOEXEC))
 			return 1;
 		pid_t server = fork();
 		if (server < 0)
@@ -226,13 +244,12 @@ int mount_directory(const char *directory, const struct wishes *wishes)
 		}
 		close(ends[0]);
 		to_starter = ends[1];
-		fcntl(to_starter, F_SETFD, FD_CLOEXEC);
-		setsid();
+		setsid(); /* it fails only for the leader of a group, which a child is not */
 	}
 	if (!serve_prepare(wishes))
 		return REFUSED;
-	if (!watch_begin(whole, true)) {
-		say("a process cannot be started");
+	if (!watch_begin(whole, -1)) {
+		say("a process cannot be started: %s", strerror(errno));
 		return 1;
 	}
 	if (chdir("/proc") && chdir("/"))

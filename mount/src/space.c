@@ -119,6 +119,11 @@ int space_mount(void)
 	return fd;
 }
 
+int space_copy_mount(void)
+{
+	return (int)syscall(SYS_open_tree, AT_FDCWD, cgroup_mount, OPEN_TREE_CLONE | OPEN_TREE_CLOEXEC);
+}
+
 bool space_stand_in_proc(void)
 {
 	cleanup_fd int proc = (int)syscall(SYS_open_tree, AT_FDCWD, "/proc", OPEN_TREE_CLONE | OPEN_TREE_CLOEXEC | AT_RECURSIVE);

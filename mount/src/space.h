@@ -16,6 +16,8 @@ struct wishes;
 bool space_enter(const struct wishes *wishes);
 /* Mounts, and returns the connection; -1 after an error message. */
 int space_mount(void);
+/* A copy of the mount, in which nobody can mount anything: a descriptor of its root, or -1 with errno. */
+int space_copy_mount(void);
 /* Makes /proc the working directory: paths of processes begin there. The program with --root may mount something over
    /proc, so it is a copy of the mount, which no other process has. */
 bool space_stand_in_proc(void);

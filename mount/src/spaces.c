@@ -1,11 +1,22 @@
 #include "spaces.h"
+#include "cleanup.h"
 #include "engine.h"
 #include "place.h"
 #include <errno.h>
+#include <fcntl.h>
 #include <stdio.h>
 #include <stdlib.h>
 #include <string.h>
+#include <sys/ioctl.h>
 #include <sys/stat.h>
+#include <sys/syscall.h>
+
+#ifndef PIDFD_THREAD
+#define PIDFD_THREAD O_EXCL /* Linux 6.9 */
+#endif
+#ifndef PIDFD_GET_CGROUP_NAMESPACE
+#define PIDFD_GET_CGROUP_NAMESPACE _IO(0xFF, 1) /* Linux 6.11 */
+#endif
 
 /* The kernel reuses a number once its namespace is gone, so there are as many entries as there ever were namespaces at
    once. */
@@ -75,6 +86,13 @@ unsigned spaces_of(pid_t thread)
 {
 	char path[48];
 	struct stat st;
+	cleanup_fd int process = (int)syscall(SYS_pidfd_open, thread, PIDFD_THREAD);
+	cleanup_fd int space = process < 0 ? -1 : ioctl(process, PIDFD_GET_CGROUP_NAMESPACE, 0);
+	if (space >= 0)
+		return fstat(space, &st) ? 0 : (unsigned)st.st_ino;
+	if (errno != EINVAL && errno != ENOTTY)
+		return 0;
+	/* before Linux 6.11 */
 	snprintf(path, sizeof path, "%d/ns/cgroup", thread);
 	return stat(path, &st) ? 0 : (unsigned)st.st_ino;
 }

@@ -12,7 +12,7 @@ int spaces_prepare(unsigned call, pid_t process);
 void spaces_made(unsigned number, unsigned call);
 const char *spaces_root(unsigned number);
 
-/* The number of a thread's namespace; 0: it can't be known. */
+/* The number of a thread's namespace; 0: it can't be known. It looks up no path, but before Linux 6.11 one in /proc. */
 unsigned spaces_of(pid_t thread);
 
 #endif

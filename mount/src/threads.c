@@ -67,5 +67,5 @@ size_t threads_count(void)
 void threads_kill_all(void)
 {
 	for (struct thread *t = all; t; t = t->next)
-		kill(t->process, SIGKILL);
+		kill(t->process, SIGKILL); /* it cannot fail, or the process has just ended */
 }

@@ -20,14 +20,15 @@ struct thread {
 	struct birth *makes;  /* the call by which it is making a child */
 	struct birth *made_by; /* until it has left its first stop */
 	bool frozen;           /* it stays at its next stop */
-	bool unshares;         /* it asks for a cgroup namespace, and has been in the namespace `space` */
-	unsigned space;
+	bool unshares;         /* it asks for a cgroup namespace */
+	bool strict;           /* it has entered the strict mode of seccomp */
+	bool was_stopped;      /* a signal has stopped it, and no SIGCONT was delivered since */
 	enum rest rest;
 	pid_t vforked_by;
 	/* of the first thread of a process: how many threads there are, how many of them rest, and whether the server knows
 	   that all do */
 	unsigned members, resting;
-	bool told;
+	bool told, undecided; /* undecided: all rest but the first, which may be ending */
 };
 
 /* NULL if there is none. */

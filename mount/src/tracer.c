@@ -1,9 +1,24 @@
+/* Which processes may block on what.
+
+   The supervisor (run, tracer, births, halts, threads, registers, stops, strict, restarts, clones) waits for ptrace stops, for
+   signals, and for its sockets to the server and to the helper. It waits for nothing else, since all threads of the program
+   wait for it. So it looks up no path, opens, reads and writes no file, and does not touch the program's memory: each can be
+   in a file system of the program, or behind a lock that the kernel holds for a thread that waits for one. (One look-up in
+   /proc remains on kernels before 6.11: see spaces_of and halts.c.)
+   It waits for an answer of the server, which waits for nobody but the engine's lock (serve.c). A server that the program has
+   stopped is continued meanwhile.
+   The helper's threads may block on the program. What they are asked can be given up, and there are enough of them. */
 #include "tracer.h"
 #include "births.h"
+#include "filter.h"
 #include "halts.h"
 #include "link.h"
+#include "own.h"
 #include "registers.h"
+#include "restarts.h"
 #include "spaces.h"
+#include "stops.h"
+#include "strict.h"
 #include "threads.h"
 #include <errno.h>
 #include <sched.h>
@@ -43,19 +58,34 @@ static unsigned unshare_of(const struct thread *t)
 	return ~(unsigned)t->id;
 }
 
-/* The namespace is handled after the call. */
-static void on_unshare(struct thread *t, unsigned long long flags)
+/* The program has no tracer but this one, so its filter sends a call to nobody: then the kernel does not make the call. */
+static void refuse(struct thread *t, int error)
 {
 	struct registers before;
-	int fault = flags & CLONE_NEWCGROUP ? link_prepare(unshare_of(t), t->process) : 0;
-	if (fault && registers_read(t->id, &before)) {
-		registers_refuse(t->id, &before, -fault);
-		ptrace(PTRACE_CONT, t->id, 0, 0);
+	if (registers_read(t->id, &before)) /* else it was killed */
+		stops_return(t->id, &before, -error);
+}
+
+/* The namespace is handled after the call. */
+static void on_unshare(struct thread *t)
+{
+	int fault = link_prepare(unshare_of(t), t->process);
+	if (fault) {
+		refuse(t, -fault);
 		return;
 	}
-	t->unshares = flags & CLONE_NEWCGROUP;
-	t->space = t->unshares ? spaces_of(t->id) : 0;
-	ptrace(t->unshares ? PTRACE_SYSCALL : PTRACE_CONT, t->id, 0, 0);
+	t->unshares = true;
+	stops_run_call(t->id);
+}
+
+static void on_seccomp(struct thread *t, long number, const uint64_t args[6])
+{
+	struct registers before;
+	int result = strict_begin(t, number, args);
+	if (result > 0)
+		stops_run(t->id, 0);
+	else if (registers_read(t->id, &before)) /* else it was killed */
+		stops_return(t->id, &before, result);
 }
 
 /* The stop was taken a while ago. Meanwhile the thread may have been killed, and another that called execve may have its
@@ -64,43 +94,47 @@ static void on_call(struct thread *t)
 {
 	struct __ptrace_syscall_info call;
 	if (ptrace(PTRACE_GET_SYSCALL_INFO, t->id, sizeof call, &call) <= 0)
-		return;
+		return; /* it was killed */
 	if (call.op != PTRACE_SYSCALL_INFO_SECCOMP || halts_keeps(t, BEFORE_CALL))
 		return;
-	if (call.seccomp.nr == SYS_unshare)
-		on_unshare(t, call.seccomp.args[0]);
-	else if (births_is_fork((long)call.seccomp.nr))
-		births_ask(t, (long)call.seccomp.nr);
-	else /* of a filter that the program made for its own tracer */
-		ptrace(PTRACE_CONT, t->id, 0, 0);
+	long number = (long)call.seccomp.nr;
+	bool is_ours = call.seccomp.ret_data == FILTER_MARK;
+	if (is_ours && births_is_fork(number))
+		births_ask(t, number);
+	else if (is_ours && number == SYS_unshare)
+		on_unshare(t);
+	else if (is_ours && (number == SYS_prctl || number == SYS_seccomp))
+		on_seccomp(t, number, call.seccomp.args);
+	else if (is_ours && (number == SYS_waitid || number == SYS_wait4))
+		stops_run(t->id, 0); /* every death before this stop has been handled: so the caller sees it */
+	else /* a filter of the program wants it */
+		refuse(t, ENOSYS);
 }
 
 static void on_birth(struct thread *t, bool waits)
 {
-	unsigned long child = 0;
-	if (ptrace(PTRACE_GETEVENTMSG, t->id, 0, &child) == 0 && child) {
-		births_told(t, (pid_t)child);
-		if (waits)
-			halts_vforks(t, (pid_t)child);
-	} else
-		ptrace(PTRACE_CONT, t->id, 0, 0);
+	pid_t child = stops_message(t->id);
+	if (child == 0)
+		return; /* it was killed */
+	births_told(t, child);
+	if (waits)
+		halts_vforks(t, child);
 }
 
 /* All other threads of the process have been killed. If the caller of execve was not the first thread, it has the first
    one's number from now on. The first thread, whatever it was doing, no longer exists, and its death is not reported. */
 static void on_exec(struct thread *t)
 {
-	unsigned long former = 0;
+	pid_t former = stops_message(t->id);
 	births_abandon(t);
 	halts_vfork_over(t);
-	if (ptrace(PTRACE_GETEVENTMSG, t->id, 0, &former) == 0 && (pid_t)former != t->id) {
-		struct thread *other = threads_find((pid_t)former);
-		if (other) {
-			births_abandon(other);
-			threads_drop(other);
-		}
+	struct thread *other = former == t->id ? NULL : threads_find(former);
+	if (other) {
+		births_abandon(other);
+		halts_forget(other);
+		threads_drop(other);
 	}
-	ptrace(PTRACE_CONT, t->id, 0, 0);
+	stops_run(t->id, 0);
 }
 
 /* The first stop of a new thread, or a stop of a whole process (job control), in which it stays until it is continued. */
@@ -113,19 +147,26 @@ static void on_pause(pid_t id, int signal)
 		return;
 	if (signal == SIGSTOP || signal == SIGTSTP || signal == SIGTTIN || signal == SIGTTOU) {
 		halts_listens(t);
-		ptrace(PTRACE_LISTEN, id, 0, 0);
+		stops_listen(id);
 	} else if (!halts_keeps(t, PARKED))
-		ptrace(PTRACE_CONT, id, 0, 0);
+		stops_run(id, 0);
 }
 
-/* A call that failed has made no namespace. */
-static void on_unshared(struct thread *t)
+/* The stop after a call, or before one of a thread in strict mode. A call that failed has made no namespace. */
+static void at_call(struct thread *t)
 {
-	if (!t->unshares)
+	struct __ptrace_syscall_info call;
+	if (ptrace(PTRACE_GET_SYSCALL_INFO, t->id, sizeof call, &call) <= 0)
+		return; /* it was killed */
+	if (t->strict && call.op == PTRACE_SYSCALL_INFO_ENTRY && !strict_allows((long)call.entry.nr)) {
+		kill(t->process, SIGKILL); /* it cannot fail: the process is not waited for before this thread */
 		return;
-	unsigned space = spaces_of(t->id);
-	link_space(space == t->space ? 0 : space, unshare_of(t));
+	}
+	births_returned(t);
+	if (t->unshares)
+		link_space(call.op == PTRACE_SYSCALL_INFO_EXIT && !call.exit.is_error ? spaces_of(t->id) : 0, unshare_of(t));
 	t->unshares = false;
+	stops_run(t->id, 0);
 }
 
 static void on_stop_of(pid_t id, struct thread *t, int status)
@@ -136,7 +177,7 @@ static void on_stop_of(pid_t id, struct thread *t, int status)
 		return;
 	}
 	if (!t) { /* it was never allowed to run, so it can only have been killed */
-		kill(id, SIGKILL);
+		kill(id, SIGKILL); /* it cannot fail: it was not waited for */
 		return;
 	}
 	switch (event) {
@@ -152,12 +193,12 @@ static void on_stop_of(pid_t id, struct thread *t, int status)
 		on_exec(t);
 		return;
 	}
-	if (status == (SIGTRAP | 0x80)) {
-		births_returned(t);
-		on_unshared(t);
-		ptrace(PTRACE_CONT, id, 0, 0);
-	} else
-		ptrace(PTRACE_CONT, id, 0, signal);
+	if (status == (SIGTRAP | 0x80))
+		at_call(t);
+	else {
+		restarts_call(t, signal);
+		stops_run(id, signal);
+	}
 }
 
 /* Between the look and the answer another thread of the process may have called execve: then its stop now has this number,
@@ -166,7 +207,7 @@ static bool stands_there(pid_t id, int status)
 {
 	siginfo_t now;
 	if (ptrace(PTRACE_GETSIGINFO, id, 0, &now))
-		return true;
+		return true; /* a stop of the whole process has no such record */
 	if (status >> 8 || status == (SIGTRAP | 0x80))
 		return now.si_code == status;
 	return now.si_signo == status;
@@ -199,6 +240,7 @@ static void on_end(pid_t id)
 		link_space(0, unshare_of(t));
 	births_abandon(t);
 	halts_vfork_over(t);
+	halts_forget(t);
 	threads_drop(t);
 	halts_tell(process);
 }
@@ -219,8 +261,8 @@ static int take_next(size_t at)
 		return 0;
 	id_t id = (id_t)next.si_pid;
 	if (next.si_code == CLD_STOPPED) { /* of makhloeum itself: the program has stopped it */
-		kill((pid_t)id, SIGCONT);
-		waitid(P_PID, id, &next, WSTOPPED | WNOHANG);
+		kill((pid_t)id, SIGCONT); /* it cannot fail: it was not waited for */
+		waitid(P_PID, id, &next, WSTOPPED | WNOHANG); /* it fails if the stop has ended already */
 		return -1;
 	}
 	if (next.si_code == CLD_TRAPPED) {
@@ -233,7 +275,10 @@ static int take_next(size_t at)
 	}
 	on_end((pid_t)id);
 	int status;
-	if (waitpid((pid_t)id, &status, WNOHANG | __WALL) == (pid_t)id && (pid_t)id == program) {
+	if (waitpid((pid_t)id, &status, WNOHANG | __WALL) != (pid_t)id)
+		return -1; /* of a first thread whose number another has by an execve: then it is no death */
+	own_gone((pid_t)id);
+	if ((pid_t)id == program) {
 		program_status = status;
 		program_ended = true;
 	}

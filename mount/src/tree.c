@@ -127,12 +127,36 @@ int tree_getattr(const char *path, struct stat *st, struct fuse_file_info *fi)
 	return fault;
 }
 
+/* With all offsets 0, libfuse refuses a name only if it has no memory. 0 or -ENOMEM */
+static int put(void *out, fuse_fill_dir_t fill, const char *name)
+{
+	return fill(out, name, NULL, 0, 0) ? -ENOMEM : 0;
+}
+
 static int list_control(void *out, fuse_fill_dir_t fill)
 {
-	for (int i = 0; i < CONTROL_FILES; i++)
+	int fault = 0;
+	for (int i = 0; i < CONTROL_FILES && fault == 0; i++)
 		if (control_is_there(i))
-			fill(out, control_name(i), NULL, 0, 0);
-	return 0;
+			fault = put(out, fill, control_name(i));
+	return fault;
+}
+
+/* The files of a group, and the groups below it. */
+static int list_group(const char *path, void *out, fuse_fill_dir_t fill)
+{
+	const struct file *file;
+	const char *names;
+	size_t count;
+	int fault = engine_children(path, &names, &count);
+	for (size_t i = 0; fault == 0 && (file = file_at(i)); i++)
+		if ((file->on_root || !is_root(path)) && controllers_have(path, file))
+			fault = put(out, fill, file->name);
+	if (fault == 0 && look.history && is_root(path))
+		fault = put(out, fill, control_directory);
+	for (; fault == 0 && count > 0; count--, names += strlen(names) + 1)
+		fault = put(out, fill, names);
+	return fault;
 }
 
 int tree_opendir(const char *path, struct fuse_file_info *fi)
@@ -146,27 +170,15 @@ int tree_opendir(const char *path, struct fuse_file_info *fi)
 int tree_readdir(const char *unsaid, void *out, fuse_fill_dir_t fill, off_t at, struct fuse_file_info *fi,
                  enum fuse_readdir_flags flags)
 {
-	const struct file *file;
-	const char *names;
-	size_t count;
 	const struct opened *o = (const struct opened *)(uintptr_t)fi->fh;
 	const char *path = o->group;
 	(void)unsaid, (void)at, (void)flags;
-	fill(out, ".", NULL, 0, 0);
-	fill(out, "..", NULL, 0, 0);
+	if (put(out, fill, ".") || put(out, fill, ".."))
+		return -ENOMEM;
 	if (control_has(path))
 		return list_control(out, fill);
 	engine_lock();
-	int fault = opened_is_gone(o) ? -ENOENT : engine_children(path, &names, &count);
-	if (fault == 0) {
-		for (size_t i = 0; (file = file_at(i)); i++)
-			if ((file->on_root || !is_root(path)) && controllers_have(path, file))
-				fill(out, file->name, NULL, 0, 0);
-		if (look.history && is_root(path))
-			fill(out, control_directory, NULL, 0, 0);
-		for (; count--; names += strlen(names) + 1)
-			fill(out, names, NULL, 0, 0);
-	}
+	int fault = opened_is_gone(o) ? -ENOENT : list_group(path, out, fill);
 	engine_unlock();
 	return fault;
 }

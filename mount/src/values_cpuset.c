@@ -1,24 +1,11 @@
 /* cpuset.*: lists of processors and of memory nodes of this machine. */
 #include "engine.h"
-#include "lists.h"
+#include "machine.h"
 #include "scan.h"
-#include "status.h"
 #include "values.h"
 #include <errno.h>
 #include <stdio.h>
 #include <string.h>
-
-/* What the machine itself reports. If it reports nothing, it has one of each. */
-static void read_machine(bool is_mems, const char *what, struct list *out)
-{
-	char path[80], line[TEXT_ROOM];
-	snprintf(path, sizeof path, "/sys/devices/system/%s/%s", is_mems ? "node" : "cpu", what);
-	if (status_text(path, line, sizeof line) < 0)
-		snprintf(line, sizeof line, "0");
-	line[strcspn(line, "\n")] = 0;
-	if (list_read(line, LIST_MAX, out) || list_is_empty(out))
-		list_read("0", LIST_MAX, out);
-}
 
 static bool is_mems(const struct file *file)
 {
@@ -29,15 +16,15 @@ static bool is_mems(const struct file *file)
 int cpuset_take_list(const char *group, const struct file *file, const char *said, char out[TEXT_ROOM])
 {
 	char text[TEXT_ROOM];
-	struct list possible, wanted;
+	struct list wanted;
+	const struct list *possible = machine_has(is_mems(file) ? NODES_POSSIBLE : CPUS_POSSIBLE);
 	(void)group;
-	read_machine(is_mems(file), "possible", &possible);
 	snprintf(text, sizeof text, "%s", said);
-	unsigned bits = is_mems(file) ? NODES_MAX : list_last(&possible) + 1;
+	unsigned bits = is_mems(file) ? NODES_MAX : list_last(possible) + 1;
 	int fault = list_read(scan_strip(text), bits, &wanted);
 	if (fault)
 		return fault;
-	if (!list_is_within(&wanted, &possible))
+	if (!list_is_within(&wanted, possible))
 		return -EINVAL;
 	return list_write(&wanted, out, TEXT_ROOM) ? 0 : -ENOMEM;
 }
@@ -56,9 +43,8 @@ static void narrow(const char *group, const char *name, struct list *effective)
 int cpuset_show_effective(const char *group, const struct file *file, char out[TEXT_ROOM])
 {
 	char at[PATH_MAX_SAID];
-	struct list effective;
+	struct list effective = *machine_has(is_mems(file) ? NODES_WITH_MEMORY : CPUS_ONLINE);
 	const char *name = is_mems(file) ? "cpuset.mems" : "cpuset.cpus";
-	read_machine(is_mems(file), is_mems(file) ? "has_memory" : "online", &effective);
 	for (size_t n = 1; !is_root(group); n++)
 		if (group[n] == '/' || group[n] == 0) {
 			snprintf(at, sizeof at, "%.*s", (int)n, group);

@@ -1,4 +1,5 @@
 /* io.*: a write names one device and leaves the others unchanged. The text that is stored is the text that is read. */
+#include "machine.h"
 #include "scan.h"
 #include "values.h"
 #include <errno.h>
@@ -6,7 +7,6 @@
 #include <stdio.h>
 #include <stdlib.h>
 #include <string.h>
-#include <unistd.h>
 
 enum { RATES = 4, WEIGHT_MAX = 10000 };
 
@@ -16,7 +16,6 @@ static const char *const rate_names[RATES] = { "rbps", "wbps", "riops", "wiops" 
    machine. */
 static int take_device(const char **at, char device[32])
 {
-	char path[80];
 	unsigned long long major, minor;
 	if (!scan_decimal(at, &major) || **at != ':')
 		return -EINVAL;
@@ -24,11 +23,7 @@ static int take_device(const char **at, char device[32])
 	if (!(**at >= '0' && **at <= '9') || !scan_decimal(at, &minor) || !(**at == ' ' || (**at >= '\t' && **at <= '\r')))
 		return -EINVAL;
 	snprintf(device, 32, "%u:%u", (unsigned)major, (unsigned)minor);
-	snprintf(path, sizeof path, "/sys/dev/block/%s", device);
-	if (access(path, F_OK))
-		return -ENODEV;
-	snprintf(path, sizeof path, "/sys/dev/block/%s/partition", device);
-	return access(path, F_OK) == 0 ? -ENODEV : 0;
+	return machine_has_disk((unsigned)major, (unsigned)minor) ? 0 : -ENODEV;
 }
 
 /* The line of a device in a text, and its length; the end of the text if it has none. */

@@ -1,13 +1,15 @@
 #include "watch.h"
+#include "cleanup.h"
 #include "companion.h"
 #include "engine.h"
 #include "opened.h"
 #include "texts.h"
-#include <errno.h>
+#include <fcntl.h>
 #include <pthread.h>
 #include <stdio.h>
 #include <stdlib.h>
 #include <string.h>
+#include <sys/socket.h>
 #include <unistd.h>
 
 enum { TEXT_MAX = 40 };
@@ -26,7 +28,7 @@ static pthread_cond_t told = PTHREAD_COND_INITIALIZER;
 static pthread_mutex_t queue_lock = PTHREAD_MUTEX_INITIALIZER;
 static pthread_t teller;
 static bool running, stopping;
-static int companion = -1;
+static struct companion companion = { -1, -1 };
 
 /* If the text cannot be read, it is empty. No text is: so whoever waits is woken now or at the next change, and reads. */
 static void read_text(struct watched *w, char out[TEXT_MAX])
@@ -150,7 +152,7 @@ void watch_forget(struct remembered *r)
 	}
 }
 
-/* The thread that writes to the companion: only this thread may wait for the pipe, and it holds no lock meanwhile. */
+/* The thread that writes to the companion: only this thread may wait for the socket, and it holds no lock meanwhile. */
 static void *tell(void *unused)
 {
 	char path[PATH_MAX_SAID + 32];
@@ -170,21 +172,30 @@ static void *tell(void *unused)
 		w->queued = false;
 		int n = snprintf(path, sizeof path, "%s/%s", w->of->path, w->file->name);
 		pthread_mutex_unlock(&queue_lock);
-		if (write(companion, path, (size_t)n + 1) < 0 && errno == EPIPE)
+		if (n > 0 && (size_t)n < sizeof path && !companion_tell(companion.to, path))
 			return NULL;
 	}
 }
 
-bool watch_begin(const char *mountpoint, bool unmount)
+bool watch_begin(const char *mountpoint, int root)
 {
-	companion = companion_start(mountpoint, unmount);
-	return companion >= 0;
+	return companion_start(&companion, mountpoint, root);
 }
 
-void watch_leave(void)
+void watch_mounted(const char *mountpoint)
 {
-	close(companion);
-	companion = -1;
+	struct mount_id which;
+	cleanup_fd int root = open(mountpoint, O_PATH | O_DIRECTORY | O_CLOEXEC);
+	/* if it fails, the mount has gone already, or inotify reports nothing */
+	if (root >= 0 && beneath_identify(root, &which))
+		companion_show(companion.to, &which);
+}
+
+pid_t watch_leave(void)
+{
+	close(companion.to);
+	companion.to = -1;
+	return companion.process;
 }
 
 void watch_run(void)
@@ -194,15 +205,18 @@ void watch_run(void)
 	pthread_mutex_unlock(&queue_lock);
 }
 
+/* The companion may be stopped, or wait for this server. So the thread that writes to it is not waited for before its socket
+   was shut. */
 void watch_stop(void)
 {
 	pthread_mutex_lock(&queue_lock);
 	stopping = true;
 	pthread_cond_signal(&told);
 	pthread_mutex_unlock(&queue_lock);
+	shutdown(companion.to, SHUT_WR); /* it fails only if the companion has ended */
 	if (running)
-		pthread_join(teller, NULL);
+		pthread_join(teller, NULL); /* it cannot fail: the thread runs and nobody else joins it */
 	running = false;
-	if (companion >= 0)
-		companion_end(companion);
+	close(companion.to);
+	companion.to = -1;
 }

@@ -7,10 +7,13 @@
 #include "remembered.h"
 
 /* inotify reports only a change that is made through the mount, and the process that serves it must never make one. So a
-   companion process makes the change, and receives its path by a pipe. It also unmounts if the server died. */
-bool watch_begin(const char *mountpoint, bool unmount);
-/* In a process that does not serve: closes its end of the companion's pipe. */
-void watch_leave(void);
+   companion process makes the change, and receives its path by a socket. `root`: of a run, the root of its mount; -1: the
+   companion looks the mount up, and unmounts if the server died. False with errno. */
+bool watch_begin(const char *mountpoint, int root);
+/* With root -1, once it is mounted. */
+void watch_mounted(const char *mountpoint);
+/* In the supervisor: closes its end of the companion's socket, and returns the companion. */
+pid_t watch_leave(void);
 /* Call these in the server: once its threads may run, and before the unmount. */
 void watch_run(void);
 void watch_stop(void);

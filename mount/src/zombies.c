@@ -3,10 +3,12 @@
 #include "place.h"
 #include <errno.h>
 #include <signal.h>
+#include <stdio.h>
 #include <stdlib.h>
 #include <sys/epoll.h>
 #include <sys/resource.h>
 #include <sys/syscall.h>
+#include <sys/utsname.h>
 #include <unistd.h>
 
 enum { PIDS = 4194304, SCANNED = 16, TAKEN = 64, SPARED = 64 };
@@ -16,11 +18,27 @@ static struct zombie {
 	int fd; /* -1: it could not be opened */
 	bool gone;
 } *all;
-static size_t count, room, gone_count, next_scanned;
+static size_t count, room, gone_count, unnamed_count, next_scanned;
 static unsigned place[PIDS]; /* its place in the list of all, from 1; 0: it is not a zombie */
 
 /* A pidfd hangs up once its process was waited for (Linux 6.9): so the kernel names those to look at, among very many. */
 static int hangups = -1;
+
+static bool kernel_names(void)
+{
+	static unsigned version;
+	unsigned major, minor;
+	struct utsname name;
+	if (version == 0)
+		version = uname(&name) == 0 && sscanf(name.release, "%u.%u", &major, &minor) == 2 ? 1000 * major + minor : 1;
+	return version >= 6009;
+}
+
+/* One that the kernel does not name has to be looked at. */
+static bool is_unnamed(const struct zombie *z)
+{
+	return z->fd < 0 || hangups < 0 || !kernel_names();
+}
 
 static struct zombie *find(pid_t pid)
 {
@@ -29,6 +47,7 @@ static struct zombie *find(pid_t pid)
 
 static void drop(struct zombie *z)
 {
+	unnamed_count -= is_unnamed(z);
 	if (z->fd >= 0)
 		close(z->fd);
 	gone_count -= z->gone;
@@ -63,6 +82,7 @@ static void add(pid_t pid, int fd, bool gone)
 		return;
 	}
 	all[count] = (struct zombie){ pid, fd, gone };
+	unnamed_count += is_unnamed(&all[count]);
 	place[pid] = (unsigned)++count;
 	gone_count += gone;
 }
@@ -78,10 +98,12 @@ void zombies_add(pid_t pid)
 {
 	int fd = may_open() ? (int)syscall(SYS_pidfd_open, pid, 0) : -1;
 	struct epoll_event none = { .events = 0, .data.u32 = (unsigned)pid };
-	if (hangups < 0)
+	if (hangups < 0 && count == 0) /* else some are unnamed already */
 		hangups = epoll_create1(EPOLL_CLOEXEC);
-	if (fd >= 0 && hangups >= 0)
-		epoll_ctl(hangups, EPOLL_CTL_ADD, fd, &none);
+	if (fd >= 0 && hangups >= 0 && epoll_ctl(hangups, EPOLL_CTL_ADD, fd, &none)) {
+		close(fd);
+		fd = -1;
+	}
 	add(pid, fd, false);
 }
 
@@ -114,9 +136,16 @@ static int let_exit(struct zombie *z)
 	return 0;
 }
 
-/* Those that the kernel names; all whose exit was tried before; and if the kernel names none, a few of the others in turn.
-    */
-static int sweep(void)
+/* 0, or -errno if the exit of the one that was looked at could not be kept. */
+static int look_at_next(void)
+{
+	next_scanned = next_scanned && next_scanned <= count ? next_scanned - 1 : count - 1;
+	struct zombie *z = &all[next_scanned];
+	return is_unnamed(z) && was_waited_for(z) ? let_exit(z) : 0;
+}
+
+/* Those that the kernel names; all whose exit was tried before; and of the others all, or a few in turn. */
+static int sweep(bool looks_at_all)
 {
 	struct epoll_event waited[TAKEN];
 	int n, fault = 0;
@@ -131,17 +160,17 @@ static int sweep(void)
 	for (size_t i = count; gone_count && i-- > 0;)
 		if (all[i].gone && (fault = let_exit(&all[i])))
 			return fault;
-	for (size_t i = 0; i < SCANNED && i < count; i++) {
-		next_scanned = next_scanned ? next_scanned - 1 : count - 1;
-		if (next_scanned < count && was_waited_for(&all[next_scanned]) && (fault = let_exit(&all[next_scanned])))
+	if (unnamed_count == 0)
+		return 0;
+	for (size_t left = looks_at_all || count < SCANNED ? count : SCANNED; left > 0 && count > 0; left--)
+		if ((fault = look_at_next()))
 			return fault;
-	}
 	return 0;
 }
 
-int zombies_sweep(void)
+int zombies_sweep(bool looks_at_all)
 {
-	return count && sweep() == -ENOMEM ? -ENOMEM : 0;
+	return count && sweep(looks_at_all) == -ENOMEM ? -ENOMEM : 0;
 }
 
 bool zombies_settle(pid_t pid)

@@ -15,8 +15,9 @@ int zombies_make_room(size_t more);
 void zombies_add(pid_t pid);
 /* There is no such process any more: only its exit is missing. */
 void zombies_add_gone(pid_t pid);
-/* Sends the exits of those that were waited for. 0, or -ENOMEM: then some of them still count. */
-int zombies_sweep(void);
+/* Sends the exits of those that were waited for. 0, or -ENOMEM: then some of them still count. Each that the kernel does not
+   name has to be looked at; without `looks_at_all` that is done for a few. */
+int zombies_sweep(bool looks_at_all);
 /* Whether the number is free in the hierarchy for a new process that has it in the kernel: an older process of that number
    is gone, whatever else is known. */
 bool zombies_settle(pid_t pid);

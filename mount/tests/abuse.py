@@ -9,7 +9,7 @@ import tempfile
 import time
 import uuid
 
-from support import CGREPLAY, PROGRAM, finish, in_parallel, read, same, status_within, step, until, write
+from support import CGREPLAY, PATIENCE, PROGRAM, finish, in_parallel, read, same, status_within, step, until, write
 
 AT = "/sys/fs/cgroup"
 ME = os.path.realpath(__file__)
@@ -73,8 +73,8 @@ def into(group):
 # ---------------------------------------------------------------- inside
 
 def others_go_on(name):
-    """Another process forks and reads, forty times each in twenty seconds."""
-    wrong, times, end = [], 0, time.monotonic() + 20
+    """Another process forks and reads, forty times each."""
+    wrong, times, end = [], 0, time.monotonic() + PATIENCE
     while times < 40 and time.monotonic() < end:
         pid = os.fork()
         if pid == 0:
@@ -127,15 +127,24 @@ def left(mark):
     return found
 
 
+def line_of(pid):
+    """The words of a process, or one that is empty."""
+    try:
+        return open("/proc/%d/cmdline" % pid, "rb").read().split(b"\0")
+    except OSError:
+        return [b""]
+
+
 def ends(name, how):
     """The run gets a signal in the middle of it."""
     mark = uuid.uuid4().hex
     script = 'mkdir %s/abuse && echo 0 > %s/abuse/cgroup.procs && exec "$@"' % (AT, AT)
     p = subprocess.Popen([PROGRAM, "run", "sh", "-c", script, "sh", *WAYS[name], mark], start_new_session=True, stdout=subprocess.DEVNULL)
-    time.sleep(0.3)
+    until(lambda: any(line[0] == WAYS[name][0].encode() for line in map(line_of, left(mark.encode()))))
+    time.sleep(0.1)
     p.send_signal(how)
     try:
-        p.wait(20)
+        p.wait(PATIENCE)
     except subprocess.TimeoutExpired:
         pass
     same("%s: %s ends the run" % (name, how.name), p.poll(), 128 + how if how != signal.SIGKILL else -how)
@@ -148,7 +157,7 @@ def run(name):
     home = tempfile.mkdtemp()
     trace, answers = os.path.join(home, "trace"), os.path.join(home, "answers")
     p = subprocess.Popen([PROGRAM, "run", "--trace", trace, "--answers", answers, sys.executable, ME, "inside", name], start_new_session=True)
-    same("%s: its status" % name, status_within(p, 120), 0)
+    same("%s: its status" % name, status_within(p, 6 * PATIENCE), 0)
     with open(trace) as lines, open(answers, "rb") as wanted:
         if os.path.getsize(trace) < 16 << 20:
             step("%s: cgreplay gives the same answers" % name, subprocess.run(CGREPLAY, stdin=lines, stdout=subprocess.PIPE).stdout == wanted.read())

@@ -2,7 +2,7 @@
 import os
 import subprocess
 
-from support import PROGRAM, Mount, error_of, finish, read, same, write
+from support import PATIENCE, PROGRAM, Mount, error_of, finish, read, same, write
 
 KEPT = "memory,cpu,io,cpuset"
 
@@ -139,7 +139,7 @@ if echo 0 > a/cgroup.procs; then echo in; else echo refused; fi
 echo 0 > a/b/cgroup.procs
 cat /proc/self/cgroup
 """
-    ran = subprocess.run([PROGRAM, "run", "--keep", "memory", "--", "sh", "-c", script], stdout=subprocess.PIPE, stderr=subprocess.PIPE, timeout=60)
+    ran = subprocess.run([PROGRAM, "run", "--keep", "memory", "--", "sh", "-c", script], stdout=subprocess.PIPE, stderr=subprocess.PIPE, timeout=PATIENCE)
     same("under run", ran.stdout, b"1048576\nmemory pids\nrefused\n0::/a/b\n")
 
 

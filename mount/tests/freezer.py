@@ -274,9 +274,11 @@ def signals():
 def itself():
     """A process that freezes its own group stops soon after the write; another lets it go."""
     os.mkdir(AT + "/a")
-    one = subprocess.Popen(["sh", "-c", "echo 0 > %s/a/cgroup.procs; echo 1 > %s/a/cgroup.freeze; sleep 0.5; exit 5" % (AT, AT)])
+    one = subprocess.Popen(["sh", "-c", "echo 0 > %s/a/cgroup.procs; echo 1 > %s/a/cgroup.freeze; read x; exit 5" % (AT, AT)], stdin=subprocess.PIPE)
     becomes("it stops", "/a", FROZEN)
-    time.sleep(1)
+    one.stdin.write(b"\n")
+    one.stdin.close()
+    time.sleep(0.2)
     same("it has not ended", one.poll(), None)
     freeze("/a", 0)
     same("it ends", one.wait(PATIENCE), 5)
@@ -300,7 +302,7 @@ def told():
 def many():
     """A hundred processes."""
     os.mkdir(AT + "/a")
-    all_of = [subprocess.Popen(["sleep", "60"]) for _ in range(100)]
+    all_of = [subprocess.Popen(["sleep", "600"]) for _ in range(100)]
     for p in all_of:
         write(AT + "/a/cgroup.procs", b"%d\n" % p.pid)
     for _ in range(3):
@@ -322,12 +324,12 @@ notified()
 
 
 def run(test):
-    ran = subprocess.run([PROGRAM, "run", sys.executable, ME, "inside", test], timeout=120, stderr=subprocess.PIPE)
+    ran = subprocess.run([PROGRAM, "run", sys.executable, ME, "inside", test], timeout=6 * PATIENCE, stderr=subprocess.PIPE)
     same("the status of %s" % test, (ran.returncode, ran.stderr), (0, b""))
 
 
 in_parallel(run, [t.__name__ for t in INSIDE], lanes=len(INSIDE))
-left = subprocess.run([PROGRAM, "run", "sh", "-c", "mkdir %s/a; sleep 66 & echo $! > %s/a/cgroup.procs; echo 1 > %s/a/cgroup.freeze" % (AT, AT, AT)],
-                      timeout=60).returncode
+left = subprocess.run([PROGRAM, "run", "sh", "-c", "mkdir %s/a; sleep 666 & echo $! > %s/a/cgroup.procs; echo 1 > %s/a/cgroup.freeze" % (AT, AT, AT)],
+                      timeout=6 * PATIENCE).returncode
 same("a run ends with what it left frozen", left, 0)
 finish()

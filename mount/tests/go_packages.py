@@ -9,7 +9,7 @@ import re
 import subprocess
 import sys
 
-from support import finish, same, step, until, write
+from support import PATIENCE, finish, same, step, until, write
 
 SOURCES = "/usr/share/gocode/src/"
 RUNC = "github.com/opencontainers/runc/libcontainer/cgroups"
@@ -84,7 +84,7 @@ def start_manager():
 
 def run_package(folder, package):
     ran = subprocess.run([program(folder, package), "-test.v"], cwd=SOURCES + package, stdout=subprocess.PIPE, stderr=subprocess.STDOUT,
-                         timeout=120)
+                         timeout=6 * PATIENCE)
     text = ran.stdout.decode(errors="replace")
     became = re.findall(r"^--- (PASS|FAIL|SKIP): (\w+) ", text, re.M)
     for how, name in became:

@@ -87,7 +87,7 @@ static void never(const char *what)
 			statfs("/", &st);
 }
 
-/* Twelve that do nothing else; then how many opens and forks one more makes, of forty each, in twelve seconds each. */
+/* Twelve that do nothing else; then how many opens and forks one more makes, of forty each, in a hundred seconds each. */
 static int starve(const char *what)
 {
 	pid_t busy[12];
@@ -102,9 +102,9 @@ static int starve(const char *what)
 		}
 	usleep(300000);
 	int opens = 0, forks = 0;
-	for (double end = now() + 12; now() < end && opens < 40; opens++)
+	for (double end = now() + 100; now() < end && opens < 40; opens++)
 		close(open("/etc/passwd", O_RDONLY));
-	for (double end = now() + 12; now() < end && forks < 40;) {
+	for (double end = now() + 100; now() < end && forks < 40;) {
 		pid_t pid = fork();
 		if (pid == 0)
 			_exit(0);
@@ -163,7 +163,7 @@ static int stalled(const char *file)
 		pthread_create(&thread, NULL, i < 20 ? call_with : clone_with, page);
 	usleep(300000);
 	int forks = 0;
-	for (double end = now() + 1; now() < end;) {
+	for (double end = now() + 30; now() < end && forks < 3;) {
 		pid_t pid = fork();
 		if (pid == 0)
 			_exit(open("/etc/passwd", O_RDONLY) < 0);

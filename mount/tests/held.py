@@ -7,7 +7,7 @@ import tempfile
 import threading
 import time
 
-from support import PROGRAM, Mount, error_of, finish, same, step, write
+from support import PATIENCE, PROGRAM, Mount, error_of, finish, same, step, write
 
 HERE = os.path.dirname(PROGRAM)
 
@@ -33,7 +33,7 @@ def owners():
 def beginnings():
     at = tempfile.mkdtemp()
     env = dict(os.environ, LD_PRELOAD=os.path.join(HERE, "no_signals.so"))
-    ran = subprocess.run([PROGRAM, "mount", at], env=env, stderr=subprocess.PIPE, timeout=20)
+    ran = subprocess.run([PROGRAM, "mount", at], env=env, stderr=subprocess.PIPE, timeout=PATIENCE)
     step("without signal handlers it does not begin", ran.returncode != 0, ran.returncode)
     same("it says so", ran.stderr.count(b"makhloeum:"), 1)
     step("and no mount is left", not os.path.ismount(at))

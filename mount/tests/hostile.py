@@ -8,7 +8,6 @@ import signal
 import subprocess
 import sys
 import tempfile
-import time
 
 from support import CGREPLAY, PATIENCE, PROGRAM, error_of, finish, libc, read, same, status_within, step, until, write
 
@@ -26,7 +25,7 @@ def started(*words, group="/", program=HOSTILE):
     return subprocess.Popen([program, *words], stdin=subprocess.PIPE, stdout=subprocess.PIPE, preexec_fn=lambda: into(group))
 
 
-def said(*words, seconds=60, program=HOSTILE):
+def said(*words, seconds=4 * PATIENCE, program=HOSTILE):
     """What it prints, as words; a description of the fault if it does not end."""
     p = started(*words, program=program)
     try:
@@ -89,8 +88,8 @@ def falling():
 def races():
     os.mkdir(AT + "/one")
     racing = [started("exec-race", program=HANGS) for _ in range(4)]
-    step("execve in one thread while another forks", until(lambda: all(p.poll() is not None for p in racing), 40))
-    same("the others fork", subprocess.run(["true"], timeout=20).returncode, 0)
+    step("execve in one thread while another forks", until(lambda: all(p.poll() is not None for p in racing)))
+    same("the others fork", subprocess.run(["true"], timeout=PATIENCE).returncode, 0)
     same("parents that are killed while they fork leave no child stopped", said("killed-parents", program=HANGS), ["0"])
     step("and nobody is left", until(lambda: len(processes("")) == 2), processes(""))
 
@@ -99,7 +98,7 @@ def fair():
     os.mkdir(AT + "/one")
     write(AT + "/one/pids.max", b"12\n")
     for what in ("fork", "statfs"):
-        got = said("starve", what, seconds=40, program=HANGS)
+        got = said("starve", what, program=HANGS)
         step("twelve that only call %s leave room for others" % what, got == ["40", "40"], got)
 
 
@@ -157,8 +156,8 @@ def texts():
     same("from /proc/self", error_text("cgroup"), "0::/a\n")
     os.chdir("/")
     for name in ("/etc/mtab", "/proc/mounts", "/proc/self/mountinfo", "/proc/self/mountstats", "/proc/self/root/proc/mounts"):
-        lines = [x for x in error_text(name).splitlines() if "cgroup" in x]
-        step("%s shows one cgroup mount, of type cgroup2" % name, len(lines) == 1 and "fuse" not in lines[0], lines)
+        lines = [x for x in error_text(name).splitlines() if AT in x.split()]
+        step("%s shows one mount there, of type cgroup2" % name, len(lines) == 1 and "fuse" not in lines[0], lines)
     same("/proc/cgroups", [x.split()[0] for x in error_text("/proc/cgroups").splitlines()], ["#subsys_name", "pids"])
     same("no io_uring, which opens unseen", (libc.syscall(425, 1, ctypes.create_string_buffer(120)), ctypes.get_errno()), (-1, errno.EPERM))
     same("/proc/self/cpuset", error_text("/proc/self/cpuset"), "/\n")
@@ -179,7 +178,7 @@ def full_trace():
     code = ("import os\nmade = 0\nfor i in range(200):\n try: pid = os.fork()\n except OSError: continue\n"
             " if pid == 0: os._exit(0)\n made += 1\n os.waitpid(pid, 0)\nstrangers = 0\n"
             "try:\n while os.waitpid(-1, 0): strangers += 1\nexcept ChildProcessError: print(made, strangers)")
-    ran = subprocess.run([PROGRAM, "run", "--trace", trace, sys.executable, "-c", code], stdout=subprocess.PIPE, timeout=60,
+    ran = subprocess.run([PROGRAM, "run", "--trace", trace, sys.executable, "-c", code], stdout=subprocess.PIPE, timeout=4 * PATIENCE,
                          preexec_fn=lambda: resource.setrlimit(resource.RLIMIT_FSIZE, (900, 900)))
     told = len(re.findall(r"^fork ", open(trace).read(), re.M)) - 1
     made, strangers = map(int, ran.stdout.split())
@@ -206,7 +205,7 @@ def taken_hold():
     """With --root the program has every capability in its namespace, and none over those who count it."""
     if b"__asan_init" in open(PROGRAM, "rb").read():
         return  # a sanitizer needs ptrace
-    ran = subprocess.run([PROGRAM, "run", "--root", sys.executable, "-c", HOLD], stdout=subprocess.PIPE, timeout=20)
+    ran = subprocess.run([PROGRAM, "run", "--root", sys.executable, "-c", HOLD], stdout=subprocess.PIPE, timeout=PATIENCE)
     same("neither supervisor, server, helper nor companion is taken hold of", ran.stdout.split(), [b"EPERM", b"EACCES"] * 4)
 
 
@@ -220,17 +219,16 @@ def stalled():
     line = []
     thread = __import__("threading").Thread(target=lambda: line.append(p.stdout.readline()), daemon=True)
     thread.start()
-    thread.join(PATIENCE)
+    thread.join(2 * PATIENCE)
     numbers = [int(n) for n in line[0].split()] if line else []
     step("memory that can't be read stops nobody else", bool(numbers) and numbers[0] > 2, line)
     same("and no signal ends an open that waits for it", numbers[1:], [0])
     p.send_signal(signal.SIGTERM)
-    started_at = time.monotonic()
     try:
         p.wait(PATIENCE)
     except subprocess.TimeoutExpired:
         pass
-    step("and SIGTERM ends the run", p.poll() is not None and time.monotonic() - started_at < 10)
+    step("and SIGTERM ends the run", p.poll() is not None)
     system.kill()
     subprocess.run(["fusermount3", "-u", "-q", "-z", home])
     system.wait()
@@ -249,7 +247,7 @@ for test in INSIDE:
     trace, answers = os.path.join(home, "trace"), os.path.join(home, "answers")
     p = subprocess.Popen([PROGRAM, "run", "--trace", trace, "--answers", answers, sys.executable, ME, "inside", test.__name__],
                          start_new_session=True)
-    same("%s: its status" % test.__name__, status_within(p, 100), 0)
+    same("%s: its status" % test.__name__, status_within(p, 8 * PATIENCE), 0)
     with open(trace) as lines, open(answers, "rb") as wanted:
         if os.path.getsize(trace) < 16 << 20:
             step("cgreplay gives the same answers", subprocess.run(CGREPLAY, stdin=lines, stdout=subprocess.PIPE).stdout == wanted.read())

@@ -16,9 +16,9 @@ TRACE_MAX = 16777216
 
 
 def refused(words):
-    """What the program says and its status, in ten seconds; and whether it mounted."""
+    """What the program says and its status; and whether it mounted."""
     try:
-        ran = subprocess.run([PROGRAM, "mount", *words], stderr=subprocess.PIPE, stdin=subprocess.DEVNULL, timeout=10)
+        ran = subprocess.run([PROGRAM, "mount", *words], stderr=subprocess.PIPE, stdin=subprocess.DEVNULL, timeout=PATIENCE)
     except subprocess.TimeoutExpired:
         return "hangs", ""
     return ran.returncode, ran.stderr.decode()

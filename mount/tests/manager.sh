@@ -7,8 +7,8 @@ w=$(mktemp -d) || exit 1
 [ -d /run/systemd/system ] || { mount -t tmpfs tmpfs /run && mkdir -p /run/systemd/system; }
 export XDG_RUNTIME_DIR="$w/run" XDG_CONFIG_HOME="$w/config"
 mkdir -p "$w/config/systemd/user" && mkdir -m 700 "$w/run"
-printf '[Service]\nExecStart=/bin/sh -c "sleep 60 & sleep 60 & wait"\nTasksMax=10\n' > "$w/config/systemd/user/box.service"
-printf '[Service]\nExecStart=/bin/sh -c "for i in 1 2 3 4 5 6; do sleep 60 & done; wait"\nTasksMax=4\nRemainAfterExit=yes\n' \
+printf '[Service]\nExecStart=/bin/sh -c "sleep 3600 & sleep 3600 & wait"\nTasksMax=10\n' > "$w/config/systemd/user/box.service"
+printf '[Service]\nExecStart=/bin/sh -c "for i in 1 2 3 4 5 6; do sleep 3600 & done; wait"\nTasksMax=4\nRemainAfterExit=yes\n' \
 	> "$w/config/systemd/user/full.service"
 printf '[Service]\nExecStart=/bin/sleep 0.3\n' > "$w/config/systemd/user/short.service"
 S="systemctl --user"
@@ -34,7 +34,7 @@ step "set-property TasksMax=5" $S set-property --runtime box TasksMax=5
 soon "pids.max follows" grep -qx 5 $g/pids.max
 if [ "${1:-}" = keep ]; then
 	says "memory.max is MemoryMax" 16777216 cat $g/memory.max
-	step "systemd-run -p TasksMax= -p MemoryMax=" systemd-run --user --unit=once -p TasksMax=7 -p MemoryMax=8M sleep 60
+	step "systemd-run -p TasksMax= -p MemoryMax=" systemd-run --user --unit=once -p TasksMax=7 -p MemoryMax=8M sleep 3600
 	soon "both are written" sh -c "[ \"\$(cat $u/app.slice/once.service/pids.max $u/app.slice/once.service/memory.max | tr '\\n' ' ')\" = '7 8388608 ' ]"
 	step "stop it" $S stop once
 fi

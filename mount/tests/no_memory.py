@@ -481,7 +481,7 @@ if sys.argv[1:2] == ["inside"]:
 
 def part(name, *start, **words):
     own = Memory()
-    ran = subprocess.run([*start, sys.executable, ME, "inside", name], timeout=120, stdout=subprocess.PIPE, stderr=subprocess.PIPE,
+    ran = subprocess.run([*start, sys.executable, ME, "inside", name], timeout=6 * PATIENCE, stdout=subprocess.PIPE, stderr=subprocess.PIPE,
                          env=dict(os.environ, NO_MEMORY=own.file, **words))
     os.unlink(own.file)
     said = ran.stdout.decode() + "".join(line for line in ran.stderr.decode().splitlines(True) if not line.startswith("fuse: "))

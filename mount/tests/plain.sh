@@ -26,7 +26,7 @@ p=$(sed -n 's/.*"init_process_pid":\([0-9]*\).*/\1/p' "$w/root/c1/state.json" 2>
 g=/sys/fs/cgroup$(sed s/0::// /proc/$p/cgroup)
 step "its own group" test "$g" != /sys/fs/cgroup/
 says "one process there" "$p" cat "$g/cgroup.procs"
-step "type to the shell" sh -c "echo 'cat /proc/self/cgroup && touch /x; sleep 30 & sleep 30 &' > $w/in"
+step "type to the shell" sh -c "echo 'cat /proc/self/cgroup && touch /x; sleep 3600 & sleep 3600 &' > $w/in"
 soon "three processes" grep -qx 3 "$g/pids.current"
 soon "it shows its namespace's root" grep -q 0::/ "$w/shown"
 soon "its root is read only" grep -q "Read-only file system" "$w/shown"

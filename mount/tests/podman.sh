@@ -37,7 +37,7 @@ P="podman --root $w/storage --runroot $w/run --tmpdir $w/tmp --storage-driver vf
 
 step "import an image" $P import "$w/image.tar" box
 step "run --memory 64m --cpus 0.5 --pids-limit 20" $P run --detach --name c1 $parent --network none --memory 64m --cpus 0.5 \
-	--pids-limit 20 box /bin/sh -c 'sleep 60 & sleep 60 & wait'
+	--pids-limit 20 box /bin/sh -c 'sleep 3600 & sleep 3600 & wait'
 g=$(echo $groups)
 soon "three processes in its group" grep -qx 3 "$g/pids.current"
 says "memory.max" 67108864 cat "$g/memory.max"
@@ -45,7 +45,7 @@ says "cpu.max" "50000 100000" cat "$g/cpu.max"
 says "pids.max" 20 cat "$g/pids.max"
 says "inspect: running" running $P inspect --format '{{.State.Status}}' c1
 says "exec cat /proc/self/cgroup: its namespace's root" 0::/ $P exec c1 /bin/cat /proc/self/cgroup
-refused "exec that forks beyond the limit" "can't fork" $P exec c1 /bin/sh -c 'for i in 1 2 3 4 5 6 7 8 9 10 11 12 13 14 15 16 17 18 19; do sleep 1 & done'
+refused "exec that forks beyond the limit" "can't fork" $P exec c1 /bin/sh -c 'for i in 1 2 3 4 5 6 7 8 9 10 11 12 13 14 15 16 17 18 19; do sleep 5 & done'
 soon "three processes again" grep -qx 3 "$g/pids.current"
 says "stats: processes and limit" "3 0B / 67.11MB" $P stats --no-stream --format '{{.PIDs}} {{.MemUsage}}' c1
 says "top" 3 sh -c "$P top c1 pid | grep -c '^[0-9]'"

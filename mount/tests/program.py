@@ -44,9 +44,9 @@ def looks():
     same("so does fstatfs", struct.unpack("l", buffer.raw[:8])[0], 0x63677270)
     libc.statfs(b"/proc", buffer)
     same("another file system is what it is", struct.unpack("l", buffer.raw[:8])[0], 0x9FA0)
-    lines = [x.split() for x in open("/proc/self/mounts") if "cgroup" in x]
-    same("the mount table has one", [x[:3] for x in lines], [["cgroup2", AT, "cgroup2"]])
-    lines = [x for x in open("/proc/self/mountinfo") if "cgroup" in x]
+    lines = [x.split() for x in open("/proc/self/mounts") if AT in x.split()]
+    same("the mount table has one there", [x[:3] for x in lines], [["cgroup2", AT, "cgroup2"]])
+    lines = [x for x in open("/proc/self/mountinfo") if AT in x.split()]
     step("so has mountinfo", len(lines) == 1 and lines[0].endswith(" - cgroup2 cgroup2 rw\n"))
     same("/proc/self/cgroup", open("/proc/self/cgroup").read(), "0::/\n")
     os.mkdir(AT + "/a")
@@ -194,7 +194,7 @@ def taken_back():
 # ---------------------------------------------------------------- outside
 
 def run(*words, **more):
-    return subprocess.run([PROGRAM, "run", *words], stdout=subprocess.PIPE, stderr=subprocess.PIPE, timeout=60, close_fds=False, **more)
+    return subprocess.run([PROGRAM, "run", *words], stdout=subprocess.PIPE, stderr=subprocess.PIPE, timeout=5 * PATIENCE, close_fds=False, **more)
 
 
 def statuses():
@@ -206,13 +206,12 @@ def statuses():
     same("what it says", run("--", "echo", "x").stdout, b"x\n")
     same("who it is", run("id", "-u").stdout, b"%d\n" % os.getuid())
     same("with --root", run("--root", "id", "-u").stdout, b"0\n")
-    started = time.monotonic()
     left = run("sh", "-c", "%s & exec setsid %s & true" % (SLEEPS[0], SLEEPS[1]))
     same("what it leaves behind", left.returncode, 0)
-    step("ends with it", time.monotonic() - started < 10 and not any(map(running, SLEEPS)))
+    step("ends with it", not any(map(running, SLEEPS)))
 
 
-SLEEPS = ["sleep %d.%d" % (seconds, os.getpid()) for seconds in (61, 62, 63, 64, 65)]  # no other test has these
+SLEEPS = ["sleep %d.%d" % (seconds, os.getpid()) for seconds in (601, 602, 603, 604, 605)]  # no other test has these, and none waits for their end
 
 
 def running(command):
@@ -222,10 +221,10 @@ def running(command):
 def beside():
     """A mount of another program is what it is, and no part of the run."""
     m = Mount()
-    lines = [x.split()[1:3] for x in run("cat", "/proc/mounts").stdout.decode().splitlines() if "cgroup2" in x]
+    lines = [x.split()[1:3] for x in run("cat", "/proc/mounts").stdout.decode().splitlines() if x.split()[1] in (AT, m.at)]
     same("two mounts", sorted(lines), sorted([[AT, "cgroup2"], [m.at, "fuse.cgroup2"]]))
     lines = run("cat", "/proc/self/mountinfo").stdout.decode().splitlines()
-    same("one is of type cgroup2", sum(" - cgroup2 " in x for x in lines), 1)
+    same("one is of type cgroup2", [x.split()[4] for x in lines if " - cgroup2 " in x], [AT])
     m.end()
 
 
@@ -240,7 +239,7 @@ def ends():
         status = p.wait(PATIENCE)
         same("the %s is killed" % which, status, -9 if which == "supervisor" else 137)
         step("its program goes with it", until(lambda: not running(SLEEPS[2])))
-        step("and so does every other process", until(lambda: not running(re.escape(PROGRAM + " run sh"))))
+        step("and so does every other process", until(lambda: not running(re.escape(PROGRAM + " run sh -c " + SLEEPS[2]))))
     p = subprocess.Popen([PROGRAM, "run", *SLEEPS[4].split()])
     until(lambda: running(SLEEPS[4]))
     p.terminate()
@@ -279,7 +278,7 @@ def refused_here():
         "FUSE": "mount --bind /dev/null /dev/fuse",
     }
     for what, how in deny.items():
-        ran = subprocess.run(["unshare", "-Urm", "sh", "-c", how + ' && exec "$0" run true', PROGRAM], stderr=subprocess.PIPE, timeout=20)
+        ran = subprocess.run(["unshare", "-Urm", "sh", "-c", how + ' && exec "$0" run true', PROGRAM], stderr=subprocess.PIPE, timeout=PATIENCE)
         same("without %s" % what, (ran.returncode, ran.stderr.count(b"\n")), (2, 1))
         step("it is named", ("does not allow " + what).encode() in ran.stderr, ran.stderr)
     ran = run("true", preexec_fn=listen)
@@ -304,7 +303,7 @@ if sys.argv[1:2] == ["inside"]:
 for test in INSIDE:
     trace, answers = (os.path.join(tempfile.mkdtemp(), n) for n in ("trace", "answers"))
     ran = subprocess.run([PROGRAM, "run", "--control", "--trace", trace, "--answers", answers, sys.executable, ME, "inside", test.__name__],
-                         timeout=120, stderr=subprocess.PIPE)
+                         timeout=6 * PATIENCE, stderr=subprocess.PIPE)
     same("its status", (ran.returncode, ran.stderr), (0, b""))
     with open(trace) as lines, open(answers, "rb") as wanted:
         step("cgreplay gives the same answers (%d lines)" % sum(1 for _ in open(trace)),

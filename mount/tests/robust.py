@@ -112,7 +112,7 @@ def killed_under_load():
 
 def bad_lines():
     for words in ([], ["mount"], ["run"], ["mount", "--bogus", "/tmp"], ["mount", "/nowhere/at/all"], ["mount", "/tmp", "x"], ["run", "--adopt", "true"]):
-        ran = subprocess.run([PROGRAM, *words], stderr=subprocess.PIPE, timeout=10)
+        ran = subprocess.run([PROGRAM, *words], stderr=subprocess.PIPE, timeout=PATIENCE)
         same("makhloeum %s" % " ".join(words), (ran.returncode, ran.stderr.count(b"\n")), (2, 1))
     same("--help", subprocess.run([PROGRAM, "--help"], stdout=subprocess.PIPE).returncode, 0)
 
@@ -122,7 +122,7 @@ def background(closed=""):
     home = os.environ.get("TMPDIR", "/tmp")
     at = os.path.join(home, "background")
     os.makedirs(at, exist_ok=True)
-    ran = subprocess.run(["sh", "-c", '"$0" mount "$1" ' + closed, PROGRAM, at], stdout=subprocess.PIPE, timeout=10)
+    ran = subprocess.run(["sh", "-c", '"$0" mount "$1" ' + closed, PROGRAM, at], stdout=subprocess.PIPE, timeout=PATIENCE)
     same("mount %sreturns once it is there" % closed, (ran.returncode, os.path.ismount(at)), (0, True))
     os.mkdir(at + "/a")
     same("and stays", (read(at + "/a/pids.current"), os.path.ismount(at)), (b"0\n", True))

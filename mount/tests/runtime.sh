@@ -12,7 +12,7 @@ for x in sh sleep cat ls true; do ln -s busybox "$w/b/rootfs/bin/$x"; done
 python3 - "$w/b/config.json" <<'END'
 import json, sys
 c = json.load(open(sys.argv[1]))
-c["process"].update(terminal=False, args=["/bin/sh", "-c", "sleep 40 & sleep 40 & wait"], env=["PATH=/bin"])
+c["process"].update(terminal=False, args=["/bin/sh", "-c", "sleep 3600 & sleep 3600 & wait"], env=["PATH=/bin"])
 c["linux"].update(cgroupsPath="/box", resources={"pids": {"limit": 12}})
 json.dump(c, open(sys.argv[1], "w"))
 END
@@ -32,7 +32,7 @@ step "exec true" $R exec c1 /bin/true
 says "exec cat /proc/self/cgroup: its namespace's root" 0::/ $R exec c1 /bin/cat /proc/self/cgroup
 says "the same from outside" 0::/box sh -c "cat /proc/\$(head -n 1 $g/cgroup.procs)/cgroup"
 step "exec ls /sys/fs/cgroup" $R exec c1 /bin/ls /sys/fs/cgroup
-refused "exec that forks beyond the limit" "temporarily unavailable" $R exec c1 /bin/sh -c 'for i in 1 2 3 4 5 6 7 8 9; do sleep 1 & done; wait'
+refused "exec that forks beyond the limit" "temporarily unavailable" $R exec c1 /bin/sh -c 'for i in 1 2 3 4 5 6 7 8 9; do sleep 5 & done; wait'
 step "the refused fork is counted" sh -c "! grep -qx 'max 0' $g/pids.events"
 soon "three processes again" grep -qx 3 $g/pids.current
 step "pause" $R pause c1

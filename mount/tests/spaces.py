@@ -6,7 +6,7 @@ import signal
 import subprocess
 import sys
 
-from support import PROGRAM, error_of, finish, libc, read, same, step, write
+from support import PATIENCE, PROGRAM, error_of, finish, libc, read, same, step, write
 
 AT = "/sys/fs/cgroup"
 ME = os.path.realpath(__file__)
@@ -14,7 +14,7 @@ CLONE_NEWCGROUP = 0x02000000
 
 
 def shell(script, *before):
-    ran = subprocess.run([*before, "sh", "-ec", script], stdout=subprocess.PIPE, stderr=subprocess.PIPE, timeout=60)
+    ran = subprocess.run([*before, "sh", "-ec", script], stdout=subprocess.PIPE, stderr=subprocess.PIPE, timeout=PATIENCE)
     return ran.returncode, ran.stdout.decode(), ran.stderr.decode()
 
 
@@ -106,6 +106,6 @@ if sys.argv[1:2] == ["inside"]:
     finish()
 for test in INSIDE:
     how = [] if test is unprivileged else ["--root"]
-    ran = subprocess.run([PROGRAM, "run", *how, sys.executable, ME, "inside", test.__name__], timeout=120, stderr=subprocess.PIPE)
+    ran = subprocess.run([PROGRAM, "run", *how, sys.executable, ME, "inside", test.__name__], timeout=6 * PATIENCE, stderr=subprocess.PIPE)
     same("the status of %s" % test.__name__, (ran.returncode, ran.stderr), (0, b""))
 finish()

@@ -33,7 +33,7 @@ def finish():
     sys.exit(1 if failed else 0)
 
 
-PATIENCE = 20.0  # seconds: a busy machine takes long, and what becomes true at once costs nothing
+PATIENCE = 60.0  # seconds: a busy machine takes long, and what becomes true at once costs nothing
 
 
 def until(what, seconds=PATIENCE):

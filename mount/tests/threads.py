@@ -51,7 +51,7 @@ readers = [threading.Thread(target=reader, args=(m, stop, wrong)) for n in range
 for t in writers + readers:
     t.start()
 for t in writers:
-    t.join(120)
+    t.join(8 * PATIENCE)
 stop.set()
 for t in readers:
     t.join(PATIENCE)

@@ -5,7 +5,7 @@ import shutil
 import subprocess
 import sys
 
-from support import PROGRAM, error_of, finish, read, same, step
+from support import PATIENCE, PROGRAM, error_of, finish, read, same, step
 
 ME = os.path.realpath(__file__)
 OTHER = 1
@@ -16,7 +16,7 @@ def numbers(which):
 
 
 def said(*command, **how):
-    ran = subprocess.run(command, stdout=subprocess.PIPE, stderr=subprocess.PIPE, timeout=20, **how)
+    ran = subprocess.run(command, stdout=subprocess.PIPE, stderr=subprocess.PIPE, timeout=PATIENCE, **how)
     return ran.returncode, ran.stdout.decode(), ran.stderr.decode()
 
 
@@ -58,4 +58,4 @@ if sys.argv[1:2] == ["refused"]:
     same("with mount", said(PROGRAM, "mount", os.environ["TMPDIR"], "--users")[0], 2)
     finish()
 maps = ";".join("%d,%d" % (numbers(which)[0][0], sum(c for _, _, c in numbers(which))) for which in ("uid_map", "gid_map"))
-sys.exit(subprocess.run([PROGRAM, "run", "--users", sys.executable, ME, "inside", maps], timeout=60).returncode)
+sys.exit(subprocess.run([PROGRAM, "run", "--users", sys.executable, ME, "inside", maps], timeout=6 * PATIENCE).returncode)

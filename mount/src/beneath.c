@@ -1,0 +1,33 @@
+#include "beneath.h"
+#include <fcntl.h>
+#include <linux/openat2.h>
+#include <stdint.h>
+#include <sys/stat.h>
+#include <sys/syscall.h>
+#include <unistd.h>
+
+int beneath_open(int root, const char *path, int flags)
+{
+	struct open_how how = { .flags = (uint64_t)(unsigned)(flags | O_CLOEXEC),
+		                .resolve = RESOLVE_NO_XDEV | RESOLVE_NO_SYMLINKS | RESOLVE_BENEATH };
+	return (int)syscall(SYS_openat2, root, path[1] ? path + 1 : ".", &how, sizeof how);
+}
+
+bool beneath_identify(int fd, struct mount_id *out)
+{
+	struct statx st;
+	if (statx(fd, "", AT_EMPTY_PATH | AT_STATX_DONT_SYNC | AT_NO_AUTOMOUNT, STATX_INO | STATX_MNT_ID, &st))
+		return false;
+	*out = (struct mount_id){ st.stx_dev_major, st.stx_dev_minor, st.stx_mnt_id };
+	return true;
+}
+
+bool beneath_is_same_system(const struct mount_id *a, const struct mount_id *b)
+{
+	return a->major == b->major && a->minor == b->minor;
+}
+
+bool beneath_is_same_mount(const struct mount_id *a, const struct mount_id *b)
+{
+	return beneath_is_same_system(a, b) && a->mount == b->mount;
+}

@@ -1,0 +1,80 @@
+#include "machine.h"
+#include "cleanup.h"
+#include "files.h"
+#include "status.h"
+#include <fcntl.h>
+#include <stdio.h>
+#include <string.h>
+
+static const char *const paths[MACHINE_LISTS] = {
+	[CPUS_POSSIBLE] = "/sys/devices/system/cpu/possible",
+	[CPUS_ONLINE] = "/sys/devices/system/cpu/online",
+	[NODES_POSSIBLE] = "/sys/devices/system/node/possible",
+	[NODES_WITH_MEMORY] = "/sys/devices/system/node/has_memory",
+};
+static struct list lists[MACHINE_LISTS];
+
+static struct disk {
+	unsigned major, minor;
+} *disks;
+static size_t disk_count;
+
+static void read_list(const char *path, struct list *out)
+{
+	char line[TEXT_ROOM];
+	if (status_text(path, line, sizeof line) < 0)
+		snprintf(line, sizeof line, "0");
+	line[strcspn(line, "\n")] = 0;
+	if (list_read(line, LIST_MAX, out) || list_is_empty(out))
+		(void)list_read("0", LIST_MAX, out); /* it is a list */
+}
+
+static bool add_disk(unsigned major, unsigned minor)
+{
+	struct disk *more = realloc(disks, (disk_count + 1) * sizeof *more);
+	if (!more)
+		return false;
+	disks = more;
+	disks[disk_count++] = (struct disk){ major, minor };
+	return true;
+}
+
+/* Each device has a link MAJOR:MINOR there, and a part of a device has a file `partition`. */
+static bool read_disks(void)
+{
+	char path[300];
+	struct disk d;
+	struct dirent *entry;
+	int end;
+	bool added = true;
+	cleanup_directory DIR *all = opendir("/sys/dev/block");
+	while (all && added && (entry = readdir(all))) {
+		end = 0;
+		if (sscanf(entry->d_name, "%u:%u%n", &d.major, &d.minor, &end) != 2 || entry->d_name[end])
+			continue;
+		snprintf(path, sizeof path, "%s/partition", entry->d_name);
+		if (faccessat(dirfd(all), path, F_OK, 0))
+			added = add_disk(d.major, d.minor);
+	}
+	return added;
+}
+
+bool machine_read(void)
+{
+	for (size_t i = 0; i < MACHINE_LISTS; i++)
+		read_list(paths[i], &lists[i]);
+	return read_disks();
+}
+
+const struct list *machine_has(enum machine_list which)
+{
+	return &lists[which];
+}
+
+bool machine_has_disk(unsigned major, unsigned minor)
+{
+	for (size_t i = 0; i < disk_count; i++)
+		if (disks[i].major == major && disks[i].minor == minor)
+			return true;
+	return false;
+}

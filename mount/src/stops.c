@@ -1,0 +1,54 @@
+#include "stops.h"
+#include "serve.h"
+#include "threads.h"
+#include <errno.h>
+#include <string.h>
+#include <sys/ptrace.h>
+
+/* All calls here fail if the thread does not stand at the stop, since it was killed. Its end is reported, or another thread of
+   its process that called execve has its number by now; that one has its own stops. So there is nothing to do. A right call
+   has no other fault. */
+static void resume(enum __ptrace_request how, pid_t thread, int signal)
+{
+	if (ptrace(how, thread, 0, signal) && errno != ESRCH)
+		say("a thread cannot go on: %s", strerror(errno));
+}
+
+void stops_run(pid_t thread, int signal)
+{
+	const struct thread *t = threads_find(thread);
+	resume(t && t->strict ? PTRACE_SYSCALL : PTRACE_CONT, thread, signal);
+}
+
+void stops_run_call(pid_t thread)
+{
+	resume(PTRACE_SYSCALL, thread, 0);
+}
+
+/* A thread whose registers could not be written must not go on to make the call. */
+void stops_return(pid_t thread, const struct registers *before, int result)
+{
+	if (registers_return(thread, before, result))
+		stops_run(thread, 0);
+}
+
+void stops_restore(pid_t thread, const struct registers *before)
+{
+	(void)registers_restore(thread, before); /* it fails as all calls here do */
+}
+
+void stops_listen(pid_t thread)
+{
+	resume(PTRACE_LISTEN, thread, 0);
+}
+
+void stops_interrupt(pid_t thread)
+{
+	resume(PTRACE_INTERRUPT, thread, 0);
+}
+
+pid_t stops_message(pid_t thread)
+{
+	unsigned long number = 0;
+	return ptrace(PTRACE_GETEVENTMSG, thread, 0, &number) == 0 ? (pid_t)number : 0;
+}

@@ -1,0 +1,24 @@
+/* A traced thread that stands at a stop goes on. */
+#ifndef STOPS_H
+#define STOPS_H
+
+#include "registers.h"
+#include <stdbool.h>
+#include <sys/types.h>
+
+/* It runs until its next stop. `signal` is delivered to it; 0 is none. A thread in strict mode also stops at each call. */
+void stops_run(pid_t thread, int signal);
+/* It runs until the end of the call that it is about to make, or is in. */
+void stops_run_call(pid_t thread);
+/* The call that it is about to make is not made, and returns this: 0 or -errno. */
+void stops_return(pid_t thread, const struct registers *before, int result);
+/* Its registers are as before the call; the result stays. */
+void stops_restore(pid_t thread, const struct registers *before);
+/* It stays stopped as a signal has stopped it, until it is continued. */
+void stops_listen(pid_t thread);
+/* A running thread stops as soon as it can. */
+void stops_interrupt(pid_t thread);
+/* The event's number: the child's, or the former number of a thread that called execve. 0: the thread was killed. */
+pid_t stops_message(pid_t thread);
+
+#endif

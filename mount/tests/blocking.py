@@ -1,0 +1,384 @@
+"""What a program can hold back or cover stops nobody else of its run, and files of the user keep their content. This file is
+also the program (blocking.py inside NAME)."""
+import ctypes
+import errno
+import glob
+import os
+import select
+import shutil
+import signal
+import subprocess
+import sys
+import tempfile
+import threading
+import time
+
+from support import PATIENCE, PROGRAM, Mount, error_of, finish, in_parallel, libc, read, same, status_within, step, until, write
+
+AT = "/sys/fs/cgroup"
+ME = os.path.realpath(__file__)
+BUILT = os.environ.get("HOSTILE") or os.path.join(os.path.dirname(PROGRAM), "..", "hostile")
+BLOCKING, STALLED = os.path.join(BUILT, "blocking"), os.path.join(BUILT, "stalled")
+PAGE = os.environ.get("PAGE", "")
+CLONE_INTO_CGROUP, CLONE_NEWNS, CLONE_NEWCGROUP, MS_BIND = 0x200000000, 0x20000, 0x2000000, 4096
+
+
+def into(group):
+    write(AT + group + "/cgroup.procs", b"0\n")
+
+
+def mount(source, target, kind, flags=0):
+    if libc.mount(source.encode(), target.encode(), kind.encode() if kind else None, flags, None):
+        raise OSError(ctypes.get_errno(), "mount on " + target)
+
+
+def forks(times=20):
+    """Whether this number of forks ends in time."""
+    done = []
+
+    def all_of():
+        for _ in range(times):
+            pid = os.fork()
+            if pid == 0:
+                os._exit(0)
+            os.waitpid(pid, 0)
+        done.append(True)
+
+    thread = threading.Thread(target=all_of, daemon=True)
+    thread.start()
+    thread.join(5)
+    return bool(done)
+
+
+def clone_into(fd):
+    """A child that ends at once, made in the group of this descriptor: its wait status, or the name of the errno."""
+    args = (ctypes.c_uint64 * 11)(CLONE_INTO_CGROUP, 0, 0, 0, signal.SIGCHLD, 0, 0, 0, 0, 0, fd)
+    pid = libc.syscall(435, args, 88)
+    if pid == 0:
+        libc._exit(0)
+    return os.waitpid(pid, 0)[1] if pid > 0 else errno.errorcode[ctypes.get_errno()]
+
+
+def tracer():
+    return int(next(x for x in open("/proc/self/status") if x.startswith("TracerPid:")).split()[1])
+
+
+def line_of(pid):
+    try:
+        return open("/proc/%d/cmdline" % pid, "rb").read()
+    except OSError:
+        return b""
+
+
+def own(supervisor):
+    """The processes of makhloeum besides this one."""
+    line = line_of(supervisor)
+    if not line:  # it has ended
+        return []
+    return [int(p) for p in os.listdir("/proc") if p.isdigit() and int(p) != supervisor and line_of(int(p)) == line]
+
+
+def holder(*words):
+    p = subprocess.Popen([BLOCKING, *words], stdout=subprocess.PIPE)
+    told = []
+    thread = threading.Thread(target=lambda: told.append(p.stdout.readline()), daemon=True)
+    thread.start()
+    thread.join(5)
+    return p, told == [b"held\n"]
+
+
+# ---------------------------------------------------------------- inside: files of the user
+
+def covered():
+    """A file that covers one of the mount keeps its content, and a watch of the file below is told all the same."""
+    os.mkdir(AT + "/a")
+    home = tempfile.mkdtemp()
+    mine = os.path.join(home, "mine")
+    with open(mine, "w") as f:
+        f.write("precious\n")
+    watch = libc.inotify_init1(os.O_NONBLOCK)
+    same("a watch", libc.inotify_add_watch(watch, (AT + "/a/cgroup.events").encode(), 2) > 0, True)  # IN_MODIFY
+    procs, back = os.open(AT + "/a/cgroup.procs", os.O_WRONLY), os.open(AT + "/cgroup.procs", os.O_WRONLY)
+    mount(mine, AT + "/a/cgroup.events", None, MS_BIND)
+    os.write(procs, b"0")
+    step("the watch is told", until(lambda: error_of(os.read, watch, 4096) == "ok", 5))
+    os.write(back, b"0")
+    step("and told again", until(lambda: error_of(os.read, watch, 4096) == "ok", 5))
+    same("the file that covers it", read(mine), b"precious\n")
+    mount("none", AT, "tmpfs")
+    os.mkdir(AT + "/a")
+    with open(AT + "/a/cgroup.events", "w") as f:
+        f.write("precious\n")
+    os.write(procs, b"0")
+    step("the watch is told below a tmpfs", until(lambda: error_of(os.read, watch, 4096) == "ok", 5))
+    os.write(back, b"0")
+    time.sleep(0.3)
+    same("the file of the tmpfs", read(AT + "/a/cgroup.events"), b"precious\n")
+
+
+def machine():
+    """The values of the machine do not depend on what the program mounts."""
+    write(AT + "/cgroup.subtree_control", b"+cpuset +io")
+    os.mkdir(AT + "/a")
+    names = ("cpuset.cpus.effective", "cpuset.mems.effective")
+    before = [read(AT + "/a/" + n) for n in names]
+    disks = [d for d in os.listdir("/sys/dev/block") if not os.path.exists("/sys/dev/block/%s/partition" % d)][:1]
+    mount(PAGE, "/sys/devices/system/cpu/online", None, MS_BIND)
+    got = []
+    thread = threading.Thread(target=lambda: got.append(read(AT + "/a/" + names[0])), daemon=True)
+    thread.start()
+    thread.join(5)
+    same("a read beside a file that does not answer", got, before[:1])
+    step("others still run", forks())
+    for cover in ("/sys/devices/system", "/sys/dev/block"):
+        mount("none", cover, "tmpfs")
+    same("under a tmpfs", [read(AT + "/a/" + n) for n in names], before)
+    for disk in disks:
+        same("a limit for a disk", error_of(write, AT + "/a/io.max", b"%s rbps=1000" % disk.encode()), "ok")
+    same("a limit for no disk", error_of(write, AT + "/a/io.max", b"4095:1 rbps=1000"), "ENODEV")
+
+
+# ---------------------------------------------------------------- inside: locks and memory
+
+def listing():
+    """A listing into memory that is held back, a mkdir behind it, and a clone3 into a removed group."""
+    os.mkdir(AT + "/gone")
+    os.mkdir(AT + "/stays")
+    gone, stays = os.open(AT + "/gone", os.O_RDONLY), os.open(AT + "/stays", os.O_RDONLY)
+    os.rmdir(AT + "/gone")
+    p, held = holder("hold", PAGE, AT)
+    step("a directory is held", held)
+    asking = threading.Thread(target=clone_into, args=(gone,), daemon=True)
+    asking.start()
+    time.sleep(0.2)
+    step("others still run", forks())
+    asking.join(5)
+    same("the call has ended", asking.is_alive(), False)
+    same("a call into a removed group", clone_into(gone), "ENOENT")
+    same("a call into another group", clone_into(stays), 0)
+    p.kill()
+
+
+def spaces():
+    """A new cgroup namespace while the directory of the process's namespaces is held."""
+    p, held = holder("unshare", PAGE)
+    step("others still run", forks())
+    step("the call returns", held)
+    p.kill()
+
+
+LEADERLESS = "import ctypes, threading, time\nthreading.Thread(target=time.sleep, args=(60,)).start()\nctypes.CDLL(None).syscall(%d, 0)" % (
+    60 if os.uname().machine == "x86_64" else 93)
+
+
+def leaderless():
+    """A process whose first thread has ended is frozen while its directory in /proc is held."""
+    os.mkdir(AT + "/a")
+    left = subprocess.Popen([sys.executable, "-c", LEADERLESS], preexec_fn=lambda: into("/a"))
+    time.sleep(1)
+    p, held = holder("hold", PAGE, "/proc/%d" % left.pid)
+    step("its directory is held", held)
+    write(AT + "/a/cgroup.freeze", b"1")
+    step("others still run", forks())
+    step("it is frozen", until(lambda: read(AT + "/a/cgroup.events") == b"populated 1\nfrozen 1\n", 5))
+    p.kill()
+    left.kill()
+
+
+def ending():
+    """The first thread of a process is just ending when the process is frozen."""
+    os.mkdir(AT + "/a")
+    p = subprocess.Popen([BLOCKING, "leader", os.path.dirname(PAGE) + "/slow"], stdin=subprocess.PIPE, stdout=subprocess.PIPE,
+                         preexec_fn=lambda: into("/a"))
+    p.stdout.read(1)
+    p.stdin.write(b"x")
+    p.stdin.flush()
+    time.sleep(0.3)
+    write(AT + "/a/cgroup.freeze", b"1")
+    step("it is frozen", until(lambda: read(AT + "/a/cgroup.events") == b"populated 1\nfrozen 1\n", 5))
+    write(AT + "/a/cgroup.freeze", b"0")
+    same("and thawed", read(AT + "/a/cgroup.events"), b"populated 1\nfrozen 0\n")
+    p.kill()
+
+
+def waiting():
+    """More clone3 calls wait for memory than the helper has threads at first."""
+    same("another clone3", subprocess.run([BLOCKING, "sixteen", PAGE], stdout=subprocess.PIPE, timeout=30).stdout, b"1\n")
+    step("others still run", forks())
+
+
+def stopped():
+    """The server is stopped again and again while children are made in a group."""
+    os.mkdir(AT + "/a")
+    fd, others, wrong = os.open(AT + "/a", os.O_RDONLY), own(tracer()), []
+    end = time.monotonic() + 2
+    while time.monotonic() < end and not wrong:
+        for pid in others:
+            os.kill(pid, signal.SIGSTOP)
+        got = []
+        thread = threading.Thread(target=lambda: got.append(clone_into(fd)), daemon=True)
+        thread.start()
+        thread.join(10)
+        if got != [0]:
+            wrong.append(got)
+    same("children that could not be made", wrong, [])
+    step("others still run", forks())
+
+
+def elsewhere():
+    """Children by a descriptor of another mount namespace's mount, beside many groups."""
+    for i in range(20):
+        os.makedirs(AT + "/g%d" % i)
+        for k in range(20):
+            os.mkdir(AT + "/g%d/h%d" % (i, k))
+    os.makedirs(AT + "/z/y")
+    r, w = os.pipe()
+    pid = os.fork()
+    if pid == 0:
+        into("/z")
+        home = tempfile.mkdtemp()
+        failed = libc.unshare(CLONE_NEWNS | CLONE_NEWCGROUP)
+        mount("none", home, "cgroup2")
+        fd = os.open(home + "/y", os.O_RDONLY)
+        start = time.monotonic()
+        got = [clone_into(fd) for _ in range(20)]
+        os.write(w, repr((failed, set(got), time.monotonic() - start < 1)).encode())
+        os._exit(0)
+    os.waitpid(pid, 0)
+    same("twenty children in a second", os.read(r, 200), repr((0, {0}, True)).encode())
+
+
+def mounting():
+    """The process that mounts for the program is stopped whenever it is seen."""
+    home = tempfile.mkdtemp()
+    others = own(tracer())
+    count = os.path.join(home, "count")
+    os.mkdir(home + "/at")
+    pid = os.fork()
+    while pid == 0:
+        mount("none", home + "/at", "cgroup2")
+        libc.umount2((home + "/at").encode(), 2)
+        with open(count, "a") as f:
+            f.write("x")
+    seen, end = 0, time.monotonic() + 3
+    files = [t + "/children" for p in others for t in glob.glob("/proc/%d/task/*" % p)]
+    while time.monotonic() < end:
+        for name in files:
+            try:
+                for child in open(name).read().split():
+                    os.kill(int(child), signal.SIGSTOP)
+                    seen += 1
+            except (OSError, ProcessLookupError):
+                pass
+    step("some were stopped", seen > 0, seen)
+    size = os.path.getsize(count)
+    step("the program still mounts", until(lambda: os.path.getsize(count) > size + 10, 5))
+    os.kill(pid, signal.SIGKILL)
+    os.waitpid(pid, 0)
+
+
+INSIDE = {covered: ["--root"], machine: ["--root", "--keep", "cpuset,io"], listing: [], spaces: ["--root"], leaderless: [], ending: [], waiting: [], stopped: [],
+          elsewhere: ["--root"], mounting: ["--root"]}
+if sys.argv[1:2] == ["inside"]:
+    {t.__name__: t for t in INSIDE}[sys.argv[2]]()
+    sys.stdout.flush()
+    print("  %d steps" % len(__import__("support").steps), flush=True)
+    os._exit(1 if __import__("support").failed else 0)
+
+
+# ---------------------------------------------------------------- outside
+
+def run(test):
+    """The file system of a run that hangs goes first: until then a process that waits for it cannot be killed."""
+    home = tempfile.mkdtemp()
+    system = subprocess.Popen([STALLED, home], stderr=subprocess.DEVNULL)
+    if not until(lambda: os.path.ismount(home), 5):
+        step("%s: a file system that does not answer can be mounted" % test.__name__, False)
+        return
+    p = subprocess.Popen([PROGRAM, "run", *INSIDE[test], sys.executable, ME, "inside", test.__name__], start_new_session=True,
+                         env=dict(os.environ, PAGE=home + "/page"))
+    try:
+        status = p.wait(60)
+    except subprocess.TimeoutExpired:
+        status = "it hangs"
+        p.kill()
+    system.kill()
+    subprocess.run(["fusermount3", "-u", "-q", "-z", home])
+    system.wait()
+    p.wait()
+    same("%s: its status" % test.__name__, status, 0)
+
+
+def unmounted():
+    """A file where a mount was, which was unmounted while files of it were open."""
+    m = Mount()
+    os.mkdir(m.path("a"))
+    os.stat(m.path("a", "cgroup.events"))
+    procs = os.open(m.path("a", "cgroup.procs"), os.O_WRONLY)
+    same("a lazy unmount", m.unmount("-z"), 0)
+    os.mkdir(m.path("a"))
+    with open(m.path("a", "cgroup.events"), "w") as f:
+        f.write("precious\n")
+    os.write(procs, b"1")
+    time.sleep(0.3)
+    same("the file keeps its content", read(m.path("a", "cgroup.events")), b"precious\n")
+    os.close(procs)
+    same("the process ends", m.ended(), 0)
+    shutil.rmtree(m.home)
+
+
+def stuck():
+    """A companion that is stopped does not keep the server from ending."""
+    m = Mount("--extra")
+    name = "n" * 200
+    os.mkdir(m.path(name))
+    os.stat(m.path(name, "cgroup.events"))
+    companions = own(m.process.pid)
+    for pid in companions:
+        os.kill(pid, signal.SIGSTOP)
+    for value in (b"1", b"0") * 1000:
+        write(m.path(name, "cgroup.freeze"), value)
+    step("it can be unmounted", m.unmounted())
+    same("the server ends", m.ended(), 0)
+    for pid in companions:
+        os.kill(pid, signal.SIGKILL)
+    shutil.rmtree(m.home)
+
+
+def killed():
+    """makhloeum is killed while its other processes are stopped."""
+    p = subprocess.Popen([PROGRAM, "run", "sleep", "60.%d" % os.getpid()])
+    step("it runs", until(lambda: len(own(p.pid)) == 3))
+    others = own(p.pid)
+    line = line_of(p.pid)
+    for pid in others:
+        os.kill(pid, signal.SIGSTOP)
+    p.kill()
+    p.wait()
+    step("nothing is left", until(lambda: all(line_of(pid) != line for pid in others), 5))
+    for pid in others:
+        if line_of(pid) == line:
+            os.kill(pid, signal.SIGKILL)
+
+
+def callers():
+    """A caller that ignores SIGCHLD or blocks every signal; and what the program inherits."""
+    ways = (("ignores SIGCHLD", lambda: signal.signal(signal.SIGCHLD, signal.SIG_IGN)),
+            ("blocks all signals", lambda: signal.pthread_sigmask(signal.SIG_BLOCK, signal.valid_signals())))
+    for name, way in ways:
+        p = subprocess.Popen([PROGRAM, "run", "sh", "-c", "/bin/true; exit 7"], preexec_fn=way)
+        same("its caller " + name, status_within(p, 20), 7)
+    for names in (("SIGCHLD", "SIGPIPE", "SIGQUIT", "SIGXFSZ"), ("SIGUSR1",), ()):
+        def ignore():
+            for n in names:
+                signal.signal(getattr(signal, n), signal.SIG_IGN)
+            signal.pthread_sigmask(signal.SIG_BLOCK, [signal.SIGUSR2])
+        wanted = sum(1 << (getattr(signal, n) - 1) for n in names)
+        said = subprocess.run([PROGRAM, "run", "grep", "^Sig[IB]", "/proc/self/status"], stdout=subprocess.PIPE, preexec_fn=ignore, timeout=20).stdout
+        same("ignored and blocked: %s" % (names,), [int(x.split()[1], 16) for x in said.splitlines()], [1 << (signal.SIGUSR2 - 1), wanted])
+
+
+OUTSIDE = (unmounted, stuck, killed, callers)
+wanted = [t for t in (*INSIDE, *OUTSIDE) if t.__name__ in sys.argv[1:] or not sys.argv[1:]]
+in_parallel(lambda t: run(t) if t in INSIDE else t(), wanted)
+finish()

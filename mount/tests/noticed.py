@@ -1,0 +1,128 @@
+"""Small differences by which a program could notice that `makhloeum run` is no kernel. This file is also the program
+(noticed.py inside NAME)."""
+import ctypes
+import errno
+import os
+import resource
+import signal
+import subprocess
+import sys
+
+from support import PROGRAM, Mount, error_of, finish, in_parallel, libc, read, same, step, write
+
+AT = "/sys/fs/cgroup"
+ME = os.path.realpath(__file__)
+BUILT = os.environ.get("HOSTILE") or os.path.join(os.path.dirname(PROGRAM), "..", "hostile")
+NOTICED = os.path.join(BUILT, "noticed")
+
+
+def said(*words, before=None):
+    ran = subprocess.run([NOTICED, *map(str, words)], stdout=subprocess.PIPE, timeout=60, preexec_fn=before)
+    return ran.stdout.split() if ran.returncode == 0 else ["status %d" % ran.returncode]
+
+
+# ---------------------------------------------------------------- inside
+
+def interrupted():
+    """A signal that a process ignores ends none of its calls, and one that it handles ends them."""
+    for which in (signal.SIGUSR1, signal.SIGCHLD, signal.SIGWINCH):
+        same("calls that an ignored %s ends" % which.name, said("ignored", int(which)), [])
+    same("calls that a handled signal does not end", said("handled", int(signal.SIGUSR1)), [])
+    same("a stop ends epoll_wait", said("stops"), [b"1"])
+
+
+def children():
+    same("children without a status though their pidfd can be read", said("pidfds"), [b"0", b"0"])
+
+
+def zombies():
+    """2,000 zombies beside a server that may have 1,024 descriptors."""
+    os.mkdir(AT + "/a")
+    got = said("zombies", 2000, before=lambda: write(AT + "/a/cgroup.procs", b"0"))
+    same("counted beside them, after them, and wrongly refused forks", got[:3], [b"2001", b"1", b"0"])
+    step("a fork beside them takes at most 3 times as long", float(got[-1]) <= 3, got)
+
+
+def filters():
+    same("calls that a filter traces, and do not fail with ENOSYS", said("traces"), [])
+    same("strict mode: exit, then calls that it forbids", said("strict"), [b"5", b"1009", b"1009", b"1009", b"1009"] * 2 + [b"22"])
+
+
+NO_XDEV, NO_MAGICLINKS, NO_SYMLINKS, BENEATH, IN_ROOT, CACHED = 1, 2, 4, 8, 16, 32
+
+
+def opened(directory, path, flags=0, mode=0, resolve=0, size=24, tail=0):
+    """The text that openat2 opens, or the name of its errno."""
+    how = (ctypes.c_uint64 * 4)(flags, mode, resolve, tail)
+    fd = libc.syscall(437, directory, path.encode(), how, size)
+    if fd < 0:
+        return errno.errorcode[ctypes.get_errno()]
+    with os.fdopen(fd) as f:
+        return f.read()
+
+
+def opens():
+    """Texts of /proc by openat2: its rules are kept, and what it refuses is refused."""
+    os.mkdir(AT + "/a")
+    write(AT + "/a/cgroup.procs", b"0")
+    proc, here, me, cwd = os.open("/proc", os.O_RDONLY), os.open("/proc/self", os.O_RDONLY), os.getpid(), -100
+    link = "/proc/self/fd/%d" % os.open("/proc/self/cgroup", os.O_PATH)
+    text = "0::/a\n"
+    for wanted, directory, path, more in (
+            (text, cwd, "/proc/self/cgroup", {}), (text, proc, "/self/cgroup", {"resolve": IN_ROOT}), (text, proc, "/../self/cgroup", {"resolve": IN_ROOT}),
+            ("ENOENT", here, "/self/cgroup", {"resolve": IN_ROOT}), (text, here, "/../cgroup", {"resolve": IN_ROOT}),
+            (text, proc, "self/cgroup", {"resolve": BENEATH}), ("EXDEV", proc, "/self/cgroup", {"resolve": BENEATH}),
+            ("EXDEV", here, "../self/cgroup", {"resolve": BENEATH}), (text, here, "task/../cgroup", {"resolve": BENEATH}),
+            ("ELOOP", cwd, "/proc/self/cgroup", {"resolve": NO_SYMLINKS}), (text, cwd, "/proc/%d/cgroup" % me, {"resolve": NO_SYMLINKS}),
+            ("EXDEV", cwd, "/proc/%d/cgroup" % me, {"resolve": NO_XDEV}), (text, proc, "%d/cgroup" % me, {"resolve": NO_XDEV}),
+            ("ELOOP", cwd, link, {"resolve": NO_MAGICLINKS}), (text, cwd, link, {}),
+            ("EINVAL", cwd, "/proc/self/cgroup", {"resolve": IN_ROOT | BENEATH}), ("EINVAL", cwd, "/proc/self/cgroup", {"resolve": 64}),
+            ("EINVAL", cwd, "/proc/self/cgroup", {"mode": 0o644}), ("EINVAL", cwd, "/proc/self/cgroup", {"flags": 1 << 40}),
+            ("EINVAL", cwd, "/proc/self/cgroup", {"size": 16}), (text, cwd, "/proc/self/cgroup", {"size": 32}),
+            ("E2BIG", cwd, "/proc/self/cgroup", {"size": 32, "tail": 1})):
+        same("%s %s" % (path.replace(str(me), "PID"), more), opened(directory, path, **more), wanted)
+    step("what is not known without a look-up", opened(cwd, "/proc/self/cgroup", resolve=CACHED) in ("EAGAIN", text))
+    same("/proc/cgroups", [x.split()[0] for x in open("/proc/cgroups")], ["#subsys_name", "cpuset", "cpu", "blkio", "memory", "pids"])
+
+
+INSIDE = (interrupted, children, zombies, filters, opens)
+if sys.argv[1:2] == ["inside"]:
+    {t.__name__: t for t in INSIDE}[sys.argv[2]]()
+    finish()
+
+
+# ---------------------------------------------------------------- outside
+
+def run(test):
+    def limit():
+        if test is zombies:
+            resource.setrlimit(resource.RLIMIT_NOFILE, (1024, 1024))
+
+    keeps = ["--keep", "memory,cpu,io,cpuset"] if test is opens else []
+    ran = subprocess.run([PROGRAM, "run", *keeps, sys.executable, ME, "inside", test.__name__], timeout=120, preexec_fn=limit)
+    same("%s: its status" % test.__name__, ran.returncode, 0)
+
+
+def reopened():
+    """A file of a controller that was disabled stays without one, also if the controller is enabled again."""
+    m = Mount("--keep", "memory")
+    write(m.path("cgroup.subtree_control"), b"+memory +pids")
+    os.mkdir(m.path("a"))
+    for controller, name in (("memory", "memory.max"), ("pids", "pids.max"), ("pids", "pids.current")):
+        file = m.path("a", name)
+        fd, other = os.open(file, os.O_RDONLY), os.open(m.path("a", "cgroup.procs"), os.O_RDONLY)
+        same("%s can be read" % name, error_of(os.pread, fd, 99, 0), "ok")
+        write(m.path("cgroup.subtree_control"), b"-%s" % controller.encode())
+        same("disabled", error_of(os.pread, fd, 99, 0), "ENODEV")
+        write(m.path("cgroup.subtree_control"), b"+%s" % controller.encode())
+        same("enabled again", error_of(os.pread, fd, 99, 0), "ENODEV")
+        same("a new one", error_of(read, file), "ok")
+        same("a file of no controller", error_of(os.pread, other, 99, 0), "ok")
+        os.close(fd)
+        os.close(other)
+    m.end()
+
+
+wanted = [t for t in (*INSIDE, reopened) if t.__name__ in sys.argv[1:] or not sys.argv[1:]]
+in_parallel(lambda t: run(t) if t in INSIDE else t(), wanted)
+finish()
