@@ -73,6 +73,7 @@ static uint32_t meet(mk0_handle *engine, const struct fault *fault, mk0_info *to
 
 uint32_t faults_before(mk0_handle *engine, const uint8_t *path, size_t len, mk0_info *told) {
     uint32_t status = MK_DONE;
+    bool occurred = false;
     for (struct fault **at = &slot_of(engine)->faults; *at != NULL;) {
         struct fault *fault = *at;
         if (!is_for(fault, path, len) || --fault->left > 0) {
@@ -80,7 +81,8 @@ uint32_t faults_before(mk0_handle *engine, const uint8_t *path, size_t len, mk0_
             continue;
         }
         *at = fault->next;
-        if (status == MK_DONE) status = meet(engine, fault, told);
+        if (!occurred) status = meet(engine, fault, told);
+        occurred = true;
         free(fault);
     }
     return status;

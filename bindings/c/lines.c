@@ -5,19 +5,38 @@
 #include <string.h>
 
 #define NO_WORD "?"
-#define BLANKS " \t\r\n"
 
-static bool is_word(const char *text, size_t most) {
-    size_t len = strnlen(text, most + 1);
-    return len > 0 && len <= most && strcspn(text, BLANKS) == len;
+/* ---- words */
+
+static bool is_blank(char byte) { return byte == ' ' || byte == '\t' || byte == '\r' || byte == '\n'; }
+
+static bool is_word(const char *text, size_t len, size_t most) {
+    if (len == 0 || len > most) return false;
+    for (size_t i = 0; i < len; i++)
+        if (is_blank(text[i])) return false;
+    return true;
 }
 
-void add(struct line *line, const char *text) {
-    size_t len = strlen(text);
+static void add_bytes(struct line *line, const char *text, size_t len) {
     if (line->len > 0) line->text[line->len++] = ' ';
     memcpy(line->text + line->len, text, len);
     line->len += len;
 }
+
+static void add_up_to(struct line *line, const char *text, size_t len, size_t most) {
+    if (is_word(text, len, most))
+        add_bytes(line, text, len);
+    else
+        add_bytes(line, NO_WORD, strlen(NO_WORD));
+}
+
+static void add_trimmed(struct line *line, const char *value, size_t len) {
+    while (len > 0 && is_blank(value[0])) value++, len--;
+    while (len > 0 && is_blank(value[len - 1])) len--;
+    add_up_to(line, value, len, WORD_BYTES);
+}
+
+void add(struct line *line, const char *text) { add_bytes(line, text, strlen(text)); }
 
 void command_line(struct line *line, const char *command) {
     line->len = 0;
@@ -26,10 +45,12 @@ void command_line(struct line *line, const char *command) {
 
 void begin_line(struct line *line, const char *command, const char *path) {
     command_line(line, command);
-    add(line, is_word(path, PATH_BYTES) ? path : NO_WORD);
+    add_up_to(line, path, strlen(path), PATH_BYTES);
 }
 
-void add_word(struct line *line, const char *word) { add(line, is_word(word, WORD_BYTES) ? word : NO_WORD); }
+void add_word(struct line *line, const char *word) { add_up_to(line, word, strlen(word), WORD_BYTES); }
+
+void add_value(struct line *line, const char *value) { add_trimmed(line, value, strlen(value)); }
 
 void add_pid(struct line *line, int64_t pid) {
     char digits[24];
@@ -37,31 +58,33 @@ void add_pid(struct line *line, int64_t pid) {
     add(line, digits);
 }
 
-void add_value(struct line *line, const char *value) {
-    char word[WORD_BYTES + 1];
-    value += strspn(value, BLANKS);
-    size_t len = strnlen(value, WORD_BYTES * 2);
-    while (len > 0 && strchr(BLANKS, value[len - 1]) != NULL) len--;
-    if (len > WORD_BYTES) len = 0;
-    memcpy(word, value, len);
-    word[len] = 0;
-    add_word(line, word);
+static bool begins_with(const struct line *line, const char *command) {
+    return line->len > strlen(command) && memcmp(line->text, command, strlen(command)) == 0 && line->text[strlen(command)] == ' ';
+}
+
+void line_of_words(struct line *line, const char *words, const size_t *lens, size_t count) {
+    line->len = 0;
+    for (size_t i = 0; i < count && i < WORDS; words += lens[i++])
+        if (i == 3 && begins_with(line, "write"))
+            add_trimmed(line, words, lens[i]);
+        else
+            add_up_to(line, words, lens[i], i == 1 ? PATH_BYTES : WORD_BYTES);
 }
 
 /* ---- answers */
 
-static bool is_blank(uint8_t byte) { return byte == ' ' || byte == '\t' || byte == '\r'; }
+static bool is_between_words(uint8_t byte) { return byte == ' ' || byte == '\t' || byte == '\r'; }
 
 /* the second word of a line, if it is a path and the line is not a comment */
 static size_t path_of_line(const uint8_t *line, size_t len, const uint8_t **path) {
     size_t at = 0, from;
     *path = line;
-    while (at < len && is_blank(line[at])) at++;
+    while (at < len && is_between_words(line[at])) at++;
     if (at < len && line[at] == '#') return 0;
-    while (at < len && !is_blank(line[at])) at++;
-    while (at < len && is_blank(line[at])) at++;
+    while (at < len && !is_between_words(line[at])) at++;
+    while (at < len && is_between_words(line[at])) at++;
     from = at;
-    while (at < len && !is_blank(line[at])) at++;
+    while (at < len && !is_between_words(line[at])) at++;
     *path = line + from;
     return at > from && line[from] == '/' ? at - from : 0;
 }

@@ -1,16 +1,19 @@
 /* Lines of the trace language, made of arguments, and the texts of their answers.
  *
- * Arguments become words of a line. One that is not one word would be read as several, so NO_WORD stands for it: it is
- * neither a path nor a file nor a value, and the engine refuses it in the order in which it refuses words. */
+ * Each argument becomes one word, which the proved parser judges whole: nothing here knows which words are valid. Two kinds of
+ * argument can't be put into a line: one that isn't one word, since it would be read as several, and one that is longer than
+ * every valid word, since the line might become too long. NO_WORD stands for these: it is neither a path nor a file nor a
+ * value, so the parser refuses it in the order in which it refuses words. */
 #ifndef MAKHLOEUM_LINES_H
 #define MAKHLOEUM_LINES_H
 
 #include "private.h"
 
 enum {
-    PATH_BYTES = 4095,
-    WORD_BYTES = 255,
-    LINE_BYTES = PATH_BYTES + 2 * WORD_BYTES + 16,
+    PATH_BYTES = 4095, /* no path is longer */
+    WORD_BYTES = 255,  /* no command, file or value is longer */
+    WORDS = 5,         /* one more than any command has */
+    LINE_BYTES = PATH_BYTES + (WORDS - 1) * (WORD_BYTES + 1),
     /* longer than each answer except a long file's: a path, a command, or a few numbers */
     ANSWER_BYTES = LINE_BYTES + 64,
 };
@@ -24,11 +27,15 @@ struct line {
 void command_line(struct line *line, const char *command);
 void begin_line(struct line *line, const char *command, const char *path);
 
-/* Adds a word: any text that is one word, a text without changes, a pid, a value without the blanks at its ends. */
+/* Adds a word: any text, a text that is a word of the language, a pid, a value without the blanks at its ends. */
 void add_word(struct line *line, const char *word);
 void add(struct line *line, const char *text);
 void add_pid(struct line *line, int64_t pid);
 void add_value(struct line *line, const char *value);
+
+/* A line of count words, which follow each other in words; lens has how many bytes each has. The last word of a `write` is a
+   value. */
+void line_of_words(struct line *line, const char *words, const size_t *lens, size_t count);
 
 /* mk0_line, with the faults that a test asked for. */
 uint32_t answer_line(mk0_handle *engine, uint64_t number, const uint8_t *line, size_t len, uint8_t *out, size_t size,

@@ -38,26 +38,33 @@ static void end(void) {
     inside = 0;
 }
 
-/* The slot of an open handle, with its lock; or NULL. */
-static struct slot *lock_open(const mk_handle *h) {
+/* In the serial number of a handle: its calls don't wait for those of other threads. */
+#define NONBLOCKING (UINT64_C(1) << 63)
+
+/* MK_DONE with the slot of an open handle and its lock; MK_CLOSED, or MK_WOULD_BLOCK. */
+static uint32_t lock_open(const mk_handle *h, struct slot **locked) {
     struct slot *slot = __atomic_load_n(&h->slot, __ATOMIC_ACQUIRE);
-    if (slot == NULL) return NULL;
-    pthread_mutex_lock(&slot->lock);
-    if (slot->serial == __atomic_load_n(&h->serial, __ATOMIC_RELAXED)) return slot;
+    if (slot == NULL) return MK_CLOSED;
+    if ((__atomic_load_n(&h->serial, __ATOMIC_RELAXED) & NONBLOCKING) == 0)
+        pthread_mutex_lock(&slot->lock);
+    else if (pthread_mutex_trylock(&slot->lock) != 0)
+        return MK_WOULD_BLOCK;
+    *locked = slot;
+    if (slot->serial == (__atomic_load_n(&h->serial, __ATOMIC_RELAXED) & ~NONBLOCKING)) return MK_DONE;
     pthread_mutex_unlock(&slot->lock);
-    return NULL;
+    return MK_CLOSED;
 }
 
 uint32_t enter(const mk_handle *h, mk0_handle **engine) {
     if (inside) return MK_BUSY;
     begin();
-    struct slot *slot = lock_open(h);
-    if (slot == NULL) {
+    struct slot *slot;
+    uint32_t status = lock_open(h, &slot);
+    if (status == MK_DONE)
+        *engine = &slot->engine;
+    else
         end();
-        return MK_CLOSED;
-    }
-    *engine = &slot->engine;
-    return MK_DONE;
+    return status;
 }
 
 /* Each command that changes the hierarchy is recorded, and each undo takes a record away. */
@@ -97,8 +104,8 @@ uint32_t tell(mk_info *info, uint32_t status, const mk0_info *told) {
 
 /* with the registry locked */
 static bool is_open(const mk_handle *h) {
-    struct slot *slot = lock_open(h);
-    if (slot == NULL) return false;
+    struct slot *slot;
+    if (lock_open(h, &slot) != MK_DONE) return false;
     pthread_mutex_unlock(&slot->lock);
     return true;
 }
@@ -142,9 +149,10 @@ static void give_slot(struct slot *slot) {
 }
 
 static uint32_t copy_engine(const mk_handle *from, mk0_handle *to) {
-    struct slot *slot = lock_open(from);
-    if (slot == NULL) return MK_CLOSED;
-    uint32_t status = mk0_copy(&slot->engine, to);
+    struct slot *slot;
+    uint32_t status = lock_open(from, &slot);
+    if (status != MK_DONE) return status;
+    status = mk0_copy(&slot->engine, to);
     pthread_mutex_unlock(&slot->lock);
     return status;
 }
@@ -184,6 +192,12 @@ static uint32_t open_or_copy(mk_handle *h, const mk_handle *from) {
 PUBLIC uint32_t mk_open(mk_handle *h) { return open_or_copy(h, NULL); }
 
 PUBLIC uint32_t mk_copy(mk_handle *from, mk_handle *to) { return open_or_copy(to, from); }
+
+PUBLIC void mk_nonblocking(const mk_handle *from, mk_handle *to) {
+    void *slot = __atomic_load_n(&from->slot, __ATOMIC_ACQUIRE);
+    uint64_t serial = __atomic_load_n(&from->serial, __ATOMIC_RELAXED);
+    *to = (mk_handle){.slot = slot, .serial = serial | NONBLOCKING};
+}
 
 PUBLIC uint32_t mk_close(mk_handle *h) {
     mk0_handle *engine;

@@ -66,7 +66,8 @@ enum {
     MK_CLOSED = 6,        /* the handle has no engine (mk_open, and `to` of mk_copy: it has one); nothing has changed */
     MK_BUSY = 7,          /* called by a signal handler that interrupted a call of this thread; nothing has changed */
     MK_TIMED_OUT = 8,     /* mk_wait: nothing has changed in that time */
-    MK_FAILED = 9         /* a fault that mk_fail asked for, with info->error; nothing has changed */
+    MK_FAILED = 9,        /* a fault that mk_fail asked for, with info->error; nothing has changed */
+    MK_WOULD_BLOCK = 64   /* by a handle of mk_nonblocking: a call of another thread is running; nothing has changed */
 };
 
 /* The code of a refusal (MK_REFUSED): why the state refuses the command. */
@@ -126,6 +127,12 @@ uint32_t mk_open(mk_handle *h);
    again. MK_DONE, MK_BUSY, or MK_CLOSED if there was no engine. */
 uint32_t mk_close(mk_handle *h);
 
+/* Makes `to` a second handle of the engine of `from`. A call by it returns MK_WOULD_BLOCK where the same call by `from` would
+   first wait until a call of another thread ends. Close the engine by `from`: `to` is then closed too. mk_open, mk_copy,
+   mk_close, mk_wait and mk_wait_file by it may wait all the same. It is for callers that hold a lock of their own, as Python's
+   interpreter does. */
+void mk_nonblocking(const mk_handle *from, mk_handle *to);
+
 /* Answers one line, given without its line feed, as the number-th of a trace. With MK_DONE, MK_REFUSED and MK_FAULT the
    first info->len bytes of out are the answer, its line feed included. Every other status leaves the engine unchanged:
    after MK_TOO_SMALL ask again with info->needed bytes. */
@@ -176,8 +183,9 @@ uint32_t mk_has_group(mk_handle *h, const uint8_t *path, size_t path_len, mk_inf
 
 /* ---- a call for each command: paths, files and values are texts that end with a zero byte.
 
-   Each argument is one word of a command: "/a b" is not a path, and never two words. MK_DONE; MK_REFUSED, MK_FAULT,
-   MK_OUT_OF_MEMORY, MK_CLOSED and MK_BUSY as for mk_line, with info->code and info->error. */
+   Each argument is one word of a command, whatever its length: "/a b" is not a path, and never two words. The first fault
+   counts, in the order path, file, direction, value. MK_DONE; MK_REFUSED, MK_FAULT, MK_OUT_OF_MEMORY, MK_CLOSED and MK_BUSY as
+   for mk_line, with info->code and info->error. */
 uint32_t mk_mkdir(mk_handle *h, const char *path, mk_info *info);
 uint32_t mk_rmdir(mk_handle *h, const char *path, mk_info *info);
 uint32_t mk_fork(mk_handle *h, int64_t parent, int64_t child, mk_info *info);
@@ -186,11 +194,19 @@ uint32_t mk_exit(mk_handle *h, int64_t pid, mk_info *info);
 /* Moves the process to the group. */
 uint32_t mk_attach(mk_handle *h, const char *path, int64_t pid, mk_info *info);
 
-/* Writes a file: a pid to cgroup.procs, a limit or "max" to a limit, "1" to cgroup.kill. */
+/* Writes a file: a pid to cgroup.procs, a limit or "max" to a limit, "1" to cgroup.kill. Blanks, tabs, carriage returns and
+   line feeds at both ends of the value are dropped. */
 uint32_t mk_write(mk_handle *h, const char *path, const char *file, const char *value, mk_info *info);
 
 /* Kills the processes of the group and of the groups below it. */
 uint32_t mk_kill(mk_handle *h, const char *path, mk_info *info);
+
+/* A command given as words, with the answer that mk_line gives to it as the number-th of a trace: it names the group whose
+   limit blocks, for example, which info can't. words has count words, one directly after the other, and lens the length of
+   each; they may have any bytes, zero bytes included. The first word is the command, as "mkdir", and the others are arguments
+   as of the calls above. */
+uint32_t mk_words(mk_handle *h, uint64_t number, const char *words, const size_t *lens, size_t count, uint8_t *out, size_t out_size,
+                  mk_info *info);
 
 /* The text of a file, and of /proc/PID/cgroup: info->len bytes and a zero byte. MK_TOO_SMALL if these do not fit; exactly
    info->needed bytes are enough then. */
@@ -241,10 +257,19 @@ uint32_t mk_changes(mk_handle *h, uint64_t *changes);
 #define MK_FOREVER UINT32_MAX
 uint32_t mk_wait(mk_handle *h, uint64_t seen, uint32_t milliseconds, uint64_t *changes);
 
+/* Waits until the text of a file differs from `seen`, and returns it as mk_read does; at once if it differs already. A poll of
+   cgroup.events or pids.events on a mount is such a wait. text may be `seen`: it keeps its bytes unless MK_DONE is returned.
+   MK_TIMED_OUT and MK_CLOSED as for mk_wait; other statuses as for mk_read: MK_REFUSED with MK_NO_GROUP once the group is removed,
+   MK_TOO_SMALL if the new text does not fit. The faults below don't count this call. */
+uint32_t mk_wait_file(mk_handle *h, const char *path, const char *file, const char *seen, uint32_t milliseconds, char *text,
+                      size_t size, mk_info *info);
+
+/* A thread may be cancelled (pthread_cancel) in mk_wait and mk_wait_file, and in no other call. */
+
 /* ---- faults, for tests of programs that use a hierarchy.
 
    Calls that name a path are mk_line with a path, mk_children, mk_subtree, mk_has_group, mk_read_many for each of its files,
-   and every call here with a path but mk_fail, mk_vanish and mk_path_fault. A call that returns MK_TOO_SMALL does not count.
+   mk_words with a path, and every call here with a path but mk_fail, mk_vanish, mk_wait_file and mk_path_fault. A call that returns MK_TOO_SMALL does not count.
    If several faults are due at one call, the newest occurs, and the others are dropped. */
 
 /* The nth call from now on that names the path fails: it returns MK_FAILED with that errno. nth is 1 for the next. MK_DONE;
@@ -324,7 +349,8 @@ static inline int mk_errno(uint32_t code) {
 }
 
 /* The errno for a status with its code: mk_errno of the code for MK_REFUSED and MK_FAULT, 0 for MK_DONE and MK_SKIPPED,
-   ERANGE for MK_TOO_SMALL, ENOMEM, EBADF for MK_CLOSED, EDEADLK for MK_BUSY, ETIMEDOUT, EIO for MK_FAILED. */
+   ERANGE for MK_TOO_SMALL, ENOMEM, EBADF for MK_CLOSED, EDEADLK for MK_BUSY, ETIMEDOUT, EIO for MK_FAILED, EAGAIN for
+   MK_WOULD_BLOCK. */
 static inline int mk_status_errno(uint32_t status, uint32_t code) {
     switch (status) {
     case MK_REFUSED:
@@ -342,6 +368,8 @@ static inline int mk_status_errno(uint32_t status, uint32_t code) {
         return ETIMEDOUT;
     case MK_FAILED:
         return EIO;
+    case MK_WOULD_BLOCK:
+        return EAGAIN;
     default:
         return 0;
     }

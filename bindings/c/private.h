@@ -26,7 +26,8 @@ struct slot {
 
 static inline struct slot *slot_of(mk0_handle *engine) { return (struct slot *)engine; }
 
-/* MK_DONE with *engine, which no other call uses until leave; or MK_CLOSED or MK_BUSY, and then there is nothing to leave. */
+/* MK_DONE with *engine, which no other call uses until leave; or MK_CLOSED, MK_BUSY or MK_WOULD_BLOCK, and then there is
+   nothing to leave. */
 uint32_t enter(const mk_handle *h, mk0_handle **engine);
 void leave(mk0_handle *engine);
 

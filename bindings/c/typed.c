@@ -71,6 +71,13 @@ PUBLIC uint32_t mk_kill(mk_handle *h, const char *path, mk_info *info) {
     return run(h, &line, info);
 }
 
+PUBLIC uint32_t mk_words(mk_handle *h, uint64_t number, const char *words, const size_t *lens, size_t count, uint8_t *out,
+                         size_t out_size, mk_info *info) {
+    struct line line;
+    line_of_words(&line, words, lens, count);
+    return mk_line(h, number, (const uint8_t *)line.text, line.len, out, out_size, info);
+}
+
 /* ---- texts */
 
 /* The buffer needs room only for the text: not for the answer, which has marks too. */

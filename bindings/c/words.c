@@ -80,7 +80,10 @@ PUBLIC const char *mk_message(uint32_t code) {
     return found == NULL ? NULL : found->message;
 }
 
-PUBLIC const char *mk_status_message(uint32_t status) { return status < COUNT(statuses) ? statuses[status] : NULL; }
+PUBLIC const char *mk_status_message(uint32_t status) {
+    if (status == MK_WOULD_BLOCK) return "a call of another thread is running";
+    return status < COUNT(statuses) ? statuses[status] : NULL;
+}
 
 PUBLIC const char *mk_path_message(uint32_t fault) { return fault < COUNT(path_faults) ? path_faults[fault] : NULL; }
 

@@ -6,6 +6,7 @@ import "C"
 
 import (
 	"fmt"
+	"math"
 	"runtime"
 	"syscall"
 	"unsafe"
@@ -14,7 +15,11 @@ import (
 // Fail makes the nth call from now on that names the path fail with the errno; it changes nothing. nth is 1 for the next. It is
 // for tests of programs that use a hierarchy.
 func (h *Hierarchy) Fail(path string, nth uint64, errno syscall.Errno) error {
-	return h.plan(fmt.Sprintf("fail %s", path), path, func(text *C.char, info *C.mk_info) C.uint32_t {
+	what := fmt.Sprintf("fail %s", path)
+	if errno > math.MaxInt32 {
+		return fmt.Errorf("%s: %d is not an errno: %w", what, uint64(errno), syscall.EINVAL)
+	}
+	return h.plan(what, path, func(text *C.char, info *C.mk_info) C.uint32_t {
 		return C.mk_fail(&h.handle, text, C.uint64_t(nth), C.int32_t(errno), info)
 	})
 }

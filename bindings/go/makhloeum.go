@@ -75,11 +75,12 @@ func at(text []byte) *C.uint8_t {
 // call is what one call of the library needs and returns. Each has its own, so calls share nothing.
 type call struct {
 	info  C.mk_info
+	lens  [wordsMax]C.size_t
 	out   []byte
 	first [firstSize]byte
 }
 
-const firstSize = 512
+const firstSize, wordsMax = 512, 4
 
 var calls = sync.Pool{New: func() interface{} { return new(call) }}
 
@@ -128,14 +129,9 @@ func shown(answer []byte) string {
 	return strings.Join(lines, "")
 }
 
-// asked answers a line of the trace language.
-func (h *Hierarchy) asked(line string, what command) (string, error) {
-	c := newCall()
-	defer c.end()
-	text := []byte(line)
-	answer, err := c.told(what, func() C.uint32_t {
-		return C.mk_line(&h.handle, 1, at(text), C.size_t(len(text)), at(c.out), C.size_t(len(c.out)), &c.info)
-	})
+// asked returns the text that a call's answer shows.
+func (h *Hierarchy) asked(c *call, what command, do func() C.uint32_t) (string, error) {
+	answer, err := c.told(what, do)
 	runtime.KeepAlive(h)
 	if err != nil || len(answer) == 0 {
 		return "", err
@@ -146,35 +142,40 @@ func (h *Hierarchy) asked(line string, what command) (string, error) {
 // Line answers one line of the trace language, and returns its text: the file's for a cat and a where, the
 // undone command for an undo, else none.
 func (h *Hierarchy) Line(line string) (string, error) {
-	what := command{text: line}
 	if strings.Contains(line, "\n") {
 		return "", &Refused{Code: BadSyntax, Reply: "syntax", Command: line}
 	}
-	return h.asked(line, what)
+	c := newCall()
+	defer c.end()
+	text := []byte(line)
+	return h.asked(c, command{text: line}, func() C.uint32_t {
+		return C.mk_line(&h.handle, 1, at(text), C.size_t(len(text)), at(c.out), C.size_t(len(c.out)), &c.info)
+	})
 }
 
-// word returns the text as one word of a line. A text that is not one word would be read as several, so that one becomes
-// a word which is neither a path nor a file nor a value, and which the library refuses.
-func word(text string) string {
-	if text == "" || len(text) > wordMax || strings.ContainsAny(text, " \t\r\n") {
-		return "?"
+// words returns the text that a command of words shows.
+func (h *Hierarchy) words(what command, words ...string) (string, error) {
+	c := newCall()
+	defer c.end()
+	text := []byte(strings.Join(words, ""))
+	for i, word := range words {
+		c.lens[i] = C.size_t(len(word))
 	}
-	return text
+	return h.asked(c, what, func() C.uint32_t {
+		return C.mk_words(&h.handle, 1, (*C.char)(unsafe.Pointer(at(text))), &c.lens[0], C.size_t(len(words)), at(c.out),
+			C.size_t(len(c.out)), &c.info)
+	})
 }
-
-const wordMax = 4095
 
 func (h *Hierarchy) do(operation, path string, words ...string) (string, error) {
-	line := operation + " " + word(path)
 	what := command{text: operation + " " + path, path: path, hasPath: true}
 	if operation == "cat" {
 		what.text = "read " + path
 	}
 	for _, it := range words {
-		line += " " + word(it)
 		what.text += " " + it
 	}
-	return h.asked(line, what)
+	return h.words(what, append([]string{operation, path}, words...)...)
 }
 
 // Mkdir makes a group.
@@ -194,16 +195,16 @@ func (h *Hierarchy) Read(path, file string) (string, error) { return h.do("cat",
 
 // Write writes a file of the group: a pid to cgroup.procs, a limit or "max" to a limit, "1" to cgroup.kill.
 func (h *Hierarchy) Write(path, file, value string) error {
-	_, err := h.do("write", path, file, strings.Trim(value, " \t\r\n"))
+	_, err := h.do("write", path, file, value)
 	return err
 }
 
 func (h *Hierarchy) pids(operation string, pids ...int) (string, error) {
-	line := operation
+	words := []string{operation}
 	for _, pid := range pids {
-		line += " " + strconv.Itoa(pid)
+		words = append(words, strconv.Itoa(pid))
 	}
-	return h.asked(line, command{text: line})
+	return h.words(command{text: strings.Join(words, " ")}, words...)
 }
 
 // Fork makes the process child, which starts in its parent's group.
@@ -223,7 +224,11 @@ func (h *Hierarchy) Where(pid int) (string, error) { return h.pids("where", pid)
 
 // Undo undoes the newest recorded command, and returns its text.
 func (h *Hierarchy) Undo() (string, error) {
-	text, err := h.asked("undo", command{text: "undo"})
+	c := newCall()
+	defer c.end()
+	text, err := h.asked(c, command{text: "undo"}, func() C.uint32_t {
+		return C.mk_undo(&h.handle, 1, at(c.out), C.size_t(len(c.out)), &c.info)
+	})
 	return strings.TrimSuffix(text, "\n"), err
 }
 

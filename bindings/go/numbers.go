@@ -8,6 +8,7 @@ import (
 	"fmt"
 	"runtime"
 	"strings"
+	"syscall"
 	"unsafe"
 )
 
@@ -92,12 +93,13 @@ func (h *Hierarchy) Processes(path string) ([]int, error) {
 	return pids, err
 }
 
-// UndoTo undoes recorded commands until only mark are left. An earlier Depth gives the mark. No other call
-// comes in between. If it runs out of memory, the commands that were undone so far stay undone, and Depth says how many are
+// UndoTo undoes recorded commands until only mark are left. An earlier Depth gives the mark; syscall.EINVAL if it is negative. No
+// other call comes in between. If it runs out of memory, the commands that were undone so far stay undone, and Depth says how many are
 // left.
 func (h *Hierarchy) UndoTo(mark int) error {
+	what := command{text: fmt.Sprint("undo to ", mark)}
 	if mark < 0 {
-		mark = 0
+		return fmt.Errorf("%s: a mark is not negative: %w", what.text, syscall.EINVAL)
 	}
 	var info C.mk_info
 	status := C.mk_undo_to(&h.handle, C.size_t(mark), &info)
@@ -105,7 +107,7 @@ func (h *Hierarchy) UndoTo(mark int) error {
 	if status == C.MK_DONE {
 		return nil
 	}
-	return failed(command{text: fmt.Sprint("undo to ", mark)}, uint32(status), info, nil)
+	return failed(what, uint32(status), info, nil)
 }
 
 // Reset undoes all recorded commands. If it runs out of memory, some stay undone, as with UndoTo.

@@ -1,9 +1,49 @@
-"""The wheel is for one platform, since it contains the library, and for every Python 3."""
+"""The wheel is for one platform, since it contains the library, and for every Python 3.
+
+`pip install bindings/python` needs what bindings/build left, or MAKHLOEUM_LIBRARY with the path of a library.
+"""
 
 from __future__ import annotations
 
+import os
+import shutil
+import sys
+from pathlib import Path
+
 from setuptools import setup
+from setuptools.command.build_py import build_py
 from wheel.bdist_wheel import bdist_wheel
+
+HERE = Path(__file__).resolve().parent
+NAME = "libmakhloeum.so.1"
+
+
+def library() -> Path:
+    """Beside the modules, as in a source archive; else where the environment says, or where bindings/build leaves it."""
+    given = os.environ.get("MAKHLOEUM_LIBRARY")
+    places = [HERE / "makhloeum" / NAME, Path(given) if given else HERE.parent / "out" / NAME]
+    for place in places:
+        if place.is_file():
+            return place.resolve()
+    sys.exit(f"makhloeum: {places[-1]} is missing: run bindings/build first, or set MAKHLOEUM_LIBRARY to the path of {NAME}")
+
+
+class Build(build_py):
+    """Adds the library, and the traces that `makhloeum check` plays."""
+
+    def run(self) -> None:
+        found = library()
+        super().run()
+        if getattr(self, "editable_mode", False):
+            return
+        to = Path(self.build_lib) / "makhloeum"
+        shutil.copyfile(found, to / NAME)
+        for name in ("rows", "text"):
+            worked = HERE.parent.parent / "evidence" / "linux" / name
+            if worked.is_dir():
+                (to / "check" / "worked" / name).mkdir(parents=True, exist_ok=True)
+                for trace in worked.glob("*.trace"):
+                    shutil.copyfile(trace, to / "check" / "worked" / name / trace.name)
 
 
 class Wheel(bdist_wheel):
@@ -12,7 +52,8 @@ class Wheel(bdist_wheel):
         self.root_is_pure = False
 
     def get_tag(self) -> tuple[str, str, str]:
-        return "py3", "none", super().get_tag()[2]
+        # bindings/wheel checks that the library needs no newer glibc
+        return "py3", "none", super().get_tag()[2].replace("linux_", "manylinux_2_36_", 1)
 
 
-setup(cmdclass={"bdist_wheel": Wheel})
+setup(cmdclass={"build_py": Build, "bdist_wheel": Wheel})

@@ -214,6 +214,7 @@ static int failing(void) {
     CHECK(done(mk_fail(&h, "/a", 1, EIO, &info)) && failed(mk_has_group(&h, (const uint8_t *)"/a", 2, &info), EIO));
     CHECK(done(mk_fail(&h, "/a", 1, EIO, &info)) && failed(mk_line(&h, 1, (const uint8_t *)" mkdir\t/a", 9, out, sizeof out, &info), EIO));
     CHECK(done(mk_fail(&h, "/a", 1, EIO, &info)) && failed(mk_put(&h, "/a", "pids.max", "5", 1, 1, &info), EIO));
+    CHECK(done(mk_fail(&h, "/a", 1, EIO, &info)) && failed(mk_words(&h, 1, "mkdir/a", (const size_t[]){5, 2}, 2, out, sizeof out, &info), EIO));
     CHECK(mk_depth(&h, &after) == MK_DONE && after == before && reads("/a", "pids.max", "max\n"));
     /* a call that does not name the path, and a call that is made again with a larger buffer */
     CHECK(done(mk_fail(&h, "/a", 2, EIO, &info)) && mk_line(&h, 1, (const uint8_t *)"# /a", 4, out, sizeof out, &info) == MK_SKIPPED);
@@ -230,6 +231,25 @@ static int failing(void) {
     CHECK(failed(mk_rmdir(&h, "/a", &info), ENOSPC) && mk_clear_faults(&h, &left) == MK_DONE && left == 1 && mk_clear_faults(&h, &left) == MK_DONE && left == 0);
     CHECK(mk_fail(&h, "a", 1, EIO, &info) == MK_FAULT && info.code == MK_PATH && mk_fail(&h, "/a", 0, EIO, &info) == MK_FAULT && info.code == MK_VALUE);
     CHECK(mk_fail(&h, "/a", 1, 0, &info) == MK_FAULT && info.code == MK_VALUE && mk_clear_faults(&h, &left) == MK_DONE && left == 0);
+    return 0;
+}
+
+/* Of several faults that are due at one call, the newest occurs, and the others are dropped. */
+static int one_at_a_time(void) {
+    size_t left;
+    uint64_t value;
+    CHECK(done(mk_mkdir(&h, "/o", &info)) && done(mk_fail(&h, "/o", 1, EIO, &info)) && done(mk_vanish(&h, "/o", 1, &info)));
+    CHECK(mk_read(&h, "/o", "pids.max", text, sizeof text, &info) == MK_REFUSED && info.code == MK_NO_GROUP);
+    CHECK(mk_clear_faults(&h, &left) == MK_DONE && left == 0 && done(mk_mkdir(&h, "/o", &info)));
+    CHECK(done(mk_vanish(&h, "/o", 2, &info)) && done(mk_fail(&h, "/o", 2, EIO, &info)) && done(mk_current(&h, "/o", &value, &info)));
+    CHECK(failed(mk_read(&h, "/o", "pids.max", text, sizeof text, &info), EIO) && reads("/o", "pids.max", "max\n"));
+    CHECK(done(mk_vanish(&h, "/o", 3, &info)) && done(mk_vanish(&h, "/o", 1, &info)) && mk_rmdir(&h, "/o", &info) == MK_REFUSED && info.code == MK_NO_GROUP);
+    CHECK(mk_clear_faults(&h, &left) == MK_DONE && left == 1);
+    /* a call that will be made again with a larger buffer counts for none of them */
+    CHECK(done(mk_mkdir(&h, "/o", &info)) && done(mk_fail(&h, "/o", 2, EIO, &info)) && done(mk_fail(&h, "/o", 3, ENOSPC, &info)) && done(mk_fail(&h, "/o", 4, EPERM, &info)));
+    CHECK(mk_read(&h, "/o", "pids.max", text, 4, &info) == MK_TOO_SMALL && reads("/o", "pids.max", "max\n"));
+    CHECK(failed(mk_rmdir(&h, "/o", &info), EIO) && failed(mk_rmdir(&h, "/o", &info), ENOSPC) && failed(mk_rmdir(&h, "/o", &info), EPERM));
+    CHECK(done(mk_rmdir(&h, "/o", &info)));
     return 0;
 }
 
@@ -270,7 +290,7 @@ static int vanishing(void) {
 }
 
 int main(void) {
-    int (*const parts[])(void) = {many, many_long, changes, closed_while_waiting, forked_while_waiting, failing, vanishing};
+    int (*const parts[])(void) = {many, many_long, changes, closed_while_waiting, forked_while_waiting, failing, one_at_a_time, vanishing};
     if (mk_open(&h) != MK_DONE) return 1;
     for (size_t i = 0; i < sizeof parts / sizeof *parts; i++) {
         int bad = parts[i]();

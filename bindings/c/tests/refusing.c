@@ -140,6 +140,9 @@ CALL(put_constant, mk_put(&h, LONG, "cgroup.freeze", "0", 1, 1, &info))
 CALL(fail, mk_fail(&h, LONG, 1, EIO, &info))
 CALL(vanish, mk_vanish(&h, LONG, 1, &info))
 CALL(read_one, mk_read(&h, LONG, "cgroup.procs", (char *)out, sizeof out, &info))
+CALL(words, mk_words(&h, 1, "mkdir" LONG "/c", (const size_t[]){5, sizeof LONG + 1}, 2, out, sizeof out, &info))
+CALL(wait_file, mk_wait_file(&h, LONG, "cgroup.procs", "", 0, (char *)out, sizeof out, &info))
+CALL(wait_file_shortly, mk_wait_file(&h, LONG, "cgroup.procs", "2\n5\n", 1, (char *)out, sizeof out, &info))
 CALL(processes, mk_processes(&h, LONG, pids, MANY, &info))
 
 static uint32_t is_populated(void) {
@@ -160,6 +163,7 @@ CALL(read_exactly, READ_MANY(sizeof many))
 CALL(read_too_little, READ_MANY(sizeof many - 1))
 CALL(processes_long, mk_processes(&h, "/many", pids, MANY, &info))
 CALL(processes_too_few, mk_processes(&h, "/many", pids, MANY - 1, &info))
+CALL(wait_file_long, mk_wait_file(&h, "/many", "cgroup.procs", "", 0, (char *)out, sizeof out, &info))
 
 static const char names[] = LONG "\0pids.max\0/many\0cgroup.procs\0" LONG "/none\0pids.max";
 
@@ -289,6 +293,10 @@ static const struct call calls[] = {
     {"mk_read, long", .make = read_long, .gives = is_many},
     {"mk_read, long, exactly enough", .make = read_exactly, .gives = is_many},
     {"mk_read, long, too little", .make = read_too_little, .status = MK_TOO_SMALL, .gives = needs_many},
+    {"mk_words", .make = words, .records = "mkdir " LONG "/c\n"},
+    {"mk_wait_file", .make = wait_file, TEXT("2\n5\n")},
+    {"mk_wait_file, long", .make = wait_file_long, .gives = is_many},
+    {"mk_wait_file, too late", .make = wait_file_shortly, .status = MK_TIMED_OUT},
     {"mk_where", .make = where, TEXT("0::" LONG "\n")},
     {"mk_current", .make = current, .value = 3},
     {"mk_peak", .make = peak, .value = 4},

@@ -20,10 +20,12 @@ needs. It calls libmakhloeum.so by ctypes. The library is looked for at MAKHLOEU
 leaves it, and then where the system keeps libraries.
 """
 
-from . import errors
+from . import _interrupts, errors  # noqa: F401
 from .errors import *  # noqa: F403
 from .hierarchy import Hierarchy
 from .mounted import mounted_at
 
 __version__ = "1.0.0"
-__all__ = ["Hierarchy", "mounted_at"] + errors.__all__
+# in this form, since type checkers read it
+__all__ = ["Hierarchy", "mounted_at"]
+__all__ += errors.__all__

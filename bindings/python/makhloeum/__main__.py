@@ -8,6 +8,7 @@ quit. Scripts are answered in order, and then the shell ends; `-` is standard in
 from __future__ import annotations
 
 import cmd
+import errno
 import importlib
 import importlib.util
 import os
@@ -16,9 +17,10 @@ import sys
 from typing import Any, Callable, TextIO
 
 from . import __version__
+from ._interrupts import ended_by_interrupt
 from .errors import NothingToUndo, Refused
 from .hierarchy import Hierarchy
-from .look.tree import draw, of_hierarchy, uses_colour
+from .look.tree import drawn_for, of_hierarchy
 
 COMMANDS = {"view": "makhloeum.look.view", "tree": "makhloeum.look.tree", "check": "makhloeum.check"}
 FILES = (
@@ -38,6 +40,7 @@ class Shell(cmd.Cmd):
         self.use_rawinput = True
         self.h = hierarchy
         self.failed = False
+        self._sources: list[tuple[int, int]] = []  # the scripts that are being answered, by device and inode
 
     def _try(self, call: Callable[[], str | None]) -> None:
         try:
@@ -53,20 +56,46 @@ class Shell(cmd.Cmd):
         """Reads commands until `quit`. Ctrl-C drops the line that is being typed."""
         while True:
             try:
-                return self.cmdloop(intro)
+                return self.read_lines(intro)
             except KeyboardInterrupt:
                 self.stdout.write("\n")
                 intro = ""
 
-    def get_names(self) -> list[str]:
-        # help and completion list these; the end of input is not a command
-        return [name for name in super().get_names() if name != "do_EOF"]
+    def parseline(self, line: str) -> tuple[str | None, str | None, str]:
+        """The command, its words, and the line. A command is the first word between blanks, not the first letters."""
+        line = line.strip()
+        spelled = f"help {line[1:]}" if line.startswith("?") else line
+        name, _, words = spelled.replace("\t", " ").partition(" ")
+        return (name, words.strip(), line) if line else (None, None, line)
 
     def onecmd(self, line: str) -> bool:
-        # cmd would take these as help, a shell command and its end-of-file word
+        # cmd would take a comment as a command, and a line EOF as the end of the input
         if line.strip().startswith("#"):
             return False
+        name = self.parseline(line)[0]
+        if name and not hasattr(self, "do_" + name):
+            self.default(line)
+            return False
         return bool(super().onecmd(line))
+
+    def read_lines(self, intro: str) -> None:
+        """Reads lines until `quit` or the end of the input. cmd's own loop would take a line EOF for the end."""
+        try:
+            import readline
+        except ImportError:
+            pass
+        else:
+            readline.set_completer(self.complete)  # type: ignore[arg-type]
+            readline.parse_and_bind("tab: complete")
+        self.stdout.write(f"{intro}\n" if intro else "")
+        while True:
+            try:
+                line = input(self.prompt)
+            except EOFError:
+                self.stdout.write("\n")
+                return
+            if self.onecmd(line):
+                return
 
     def emptyline(self) -> bool:
         return False
@@ -133,24 +162,31 @@ class Shell(cmd.Cmd):
 
     def do_tree(self, words: str) -> None:
         """tree [PATH]: the groups with pids.current/pids.max, peak, refused forks and processes"""
-        self._try(lambda: draw(of_hierarchy(self.h, words or "/"), uses_colour(self.stdout)))
+        self._try(lambda: drawn_for(of_hierarchy(self.h, words or "/"), self.stdout))
 
     def do_source(self, words: str) -> None:
         """source SCRIPT: answer the commands of a file"""
 
         def source() -> None:
             for file in shlex.split(words):
-                run_script(self, file)
+                self.answer_file(file)
 
         self._try(source)
 
+    def answer_file(self, file: str) -> bool:
+        """Answers the lines of a script; whether it ended by `quit`. A script that reads itself is a fault."""
+        with open(file, encoding="utf-8", errors="surrogateescape") as script:
+            at = os.fstat(script.fileno())
+            if (at.st_dev, at.st_ino) in self._sources:
+                raise OSError(errno.ELOOP, "the script reads itself", file)
+            self._sources.append((at.st_dev, at.st_ino))
+            try:
+                return any(self.onecmd(line.rstrip("\n")) for line in script)
+            finally:
+                self._sources.pop()
+
     def do_quit(self, words: str) -> bool:
         """quit: leave the shell"""
-        return True
-
-    def do_EOF(self, words: str) -> bool:  # noqa: N802
-        """the end of input: leave the shell"""
-        self.stdout.write("\n")
         return True
 
     # ---- completion
@@ -180,8 +216,7 @@ def run_script(shell: Shell, file: str) -> bool:
     """Answers the lines of a script; whether it ended by `quit`."""
     if file == "-":
         return any(shell.onecmd(line.rstrip("\n")) for line in sys.stdin)
-    with open(file, encoding="utf-8", errors="surrogateescape") as script:
-        return any(shell.onecmd(line.rstrip("\n")) for line in script)
+    return shell.answer_file(file)
 
 
 def command(name: str, words: list[str]) -> int:
@@ -195,17 +230,17 @@ def command(name: str, words: list[str]) -> int:
 
 def view() -> int:
     """makhloeum-view of a wheel."""
-    return command("view", sys.argv[1:])
+    return ended_by_interrupt(lambda words: command("view", words), sys.argv[1:])
 
 
 def tree() -> int:
     """makhloeum-tree of a wheel."""
-    return command("tree", sys.argv[1:])
+    return ended_by_interrupt(lambda words: command("tree", words), sys.argv[1:])
 
 
 def check() -> int:
     """makhloeum-check of a wheel."""
-    return command("check", sys.argv[1:])
+    return ended_by_interrupt(lambda words: command("check", words), sys.argv[1:])
 
 
 def main(arguments: list[str]) -> int:
@@ -236,4 +271,4 @@ def main(arguments: list[str]) -> int:
 
 
 if __name__ == "__main__":
-    sys.exit(main(sys.argv[1:]))
+    sys.exit(ended_by_interrupt(main, sys.argv[1:]))

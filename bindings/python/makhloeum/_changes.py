@@ -3,23 +3,34 @@
 from __future__ import annotations
 
 import ctypes
+import math
+import numbers
 import time
-from typing import Any
+from typing import Any, Callable
 
-from ._library import DONE, TIMED_OUT, library, waiting
-from ._words import _raise
+from ._library import DONE, TIMED_OUT, waiting
+from ._words import _integer, _raise
 
 # The interpreter handles signals between two waits: Ctrl-C ends a wait after at most so many seconds.
 _SLICE = 0.1
 
 
+def _seconds(timeout: Any) -> float:
+    if isinstance(timeout, bool) or not isinstance(timeout, numbers.Real):
+        raise TypeError(f"wait: a timeout is a number of seconds or None, not {type(timeout).__name__}")
+    if math.isnan(timeout):
+        raise ValueError("wait: a timeout is a number of seconds, not nan")
+    return float(timeout)
+
+
 class Changes:
     _at: Any
+    _call: Callable[..., int]
 
     def changes(self) -> int:
         """How many calls have changed the hierarchy, undos included."""
         count = ctypes.c_uint64()
-        status = library.mk_changes(self._at, ctypes.byref(count))
+        status = self._call("mk_changes", ctypes.byref(count))
         if status != DONE:
             _raise(status, 0, "", None, "changes")
         return count.value
@@ -27,7 +38,10 @@ class Changes:
     def wait(self, seen: int, timeout: float | None = None) -> int:
         """Waits until changes() is another number than `seen`, and returns it. TimeoutError after `timeout` seconds, ValueError
         when the hierarchy is closed. Other threads can make calls meanwhile."""
-        end = None if timeout is None else time.monotonic() + timeout
+        seen = _integer(seen, "a number of changes")
+        if not 0 <= seen < 1 << 64:
+            raise ValueError(f"wait: {seen} is not a number of changes")
+        end = None if timeout is None else time.monotonic() + _seconds(timeout)
         count = ctypes.c_uint64()
         while True:
             left = _SLICE if end is None else min(_SLICE, max(0.0, end - time.monotonic()))

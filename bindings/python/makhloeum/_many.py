@@ -6,16 +6,17 @@ import ctypes
 from typing import Any, Iterable
 
 from ._library import DONE, TOO_SMALL, Info, Text, library
-from ._words import _NO_WORD, Path, _bytes, _raise, _text
+from ._words import Path, _c_text, _raise, _text
 from .errors import BY_CODE, NoGroup, Refused
 
 _BYTES_EACH = 64
 
 
-def _part(text: Path) -> bytes:
-    """A text that ends with a zero byte, and has no other."""
-    part = _bytes(text)
-    return (_NO_WORD if b"\0" in part else part) + b"\0"
+def _pair(pair: tuple[Path, str]) -> tuple[Path, str]:
+    if isinstance(pair, (str, bytes)):
+        raise TypeError(f"read_many: {pair!r} is not a pair of a path and a file's name")
+    path, file = pair
+    return path, file
 
 
 class Many:
@@ -25,8 +26,8 @@ class Many:
         """The texts of many files, given as pairs of a path and a file's name. All are of one state: no other thread's command
         comes in between. A file that can't be read has the exception in the place of its text, so a group that was removed since
         it was listed does not affect the others."""
-        pairs = list(files)
-        names = b"".join(_part(path) + _part(file) for path, file in pairs)
+        pairs = list(map(_pair, files))
+        names = b"".join(_c_text(part) + b"\0" for pair in pairs for part in pair)
         texts, size = (Text * len(pairs))(), _BYTES_EACH * len(pairs) + 64
         while True:
             out, info = ctypes.create_string_buffer(size), Info()

@@ -11,15 +11,22 @@ import stat
 import time
 import weakref
 import zlib
-from typing import Any, Callable, Iterator
+from typing import Any, Iterator
 
 from ._library import DONE, FAILED, FAULT, REFUSED, Info, library
+from ._notify import NOTIFIED, Poller, Watch
 from ._words import _raise
 from .errors import BadPath, NameTooLong, NoGroup, PathTooLong
 from .hierarchy import Hierarchy
 
 _DEVICE = 0x6D6B0001
-_BORN = time.time()
+_BORN = time.time_ns()
+_TIMES = (_BORN // 10**9,) * 3
+_MORE = {
+    **dict.fromkeys(("st_atime", "st_mtime", "st_ctime"), _BORN / 10**9),
+    **dict.fromkeys(("st_atime_ns", "st_mtime_ns", "st_ctime_ns"), _BORN),
+    **{"st_blksize": 4096, "st_blocks": 0, "st_rdev": 0},
+}
 
 
 def _files() -> Iterator[Any]:
@@ -41,6 +48,8 @@ class Node:
 
     def __init__(self, tree: Tree, group: str, file: Any, shown: str) -> None:
         self.tree, self.group, self.file, self.shown = tree, group, file, shown
+        self.name = file.name.decode() if file is not None else ""
+        self.path = group if file is None else f"{group.rstrip('/')}/{self.name}"
 
     def text(self) -> bytes:
         if not self.file.readable:
@@ -75,9 +84,9 @@ class Node:
         else:
             self.check()
             mode, links, size = stat.S_IFREG | 0o200, 1, 0
-        name = f"{self.group}\0{self.file.name.decode() if self.file else ''}"
+        name = f"{self.group}\0{self.name}"
         number = 1 if name == "/\0" else 2 + zlib.crc32(name.encode())
-        return os.stat_result((mode, number, _DEVICE, links, os.getuid(), os.getgid(), size, _BORN, _BORN, _BORN))
+        return os.stat_result((mode, number, _DEVICE, links, os.getuid(), os.getgid(), size, *_TIMES), _MORE)
 
 
 @contextlib.contextmanager
@@ -100,6 +109,7 @@ class Tree:
     def __init__(self, h: Hierarchy, pid: int) -> None:
         self.h, self.pid = h, pid
         self.opened: weakref.WeakSet[RawFile] = weakref.WeakSet()
+        self.watch = Watch(h)
 
     def locate(self, group: str, shown: str) -> Node:
         """The group or file of that path, as "/a/pids.max", which may not be there."""
@@ -134,6 +144,7 @@ class Tree:
             raise error(library.mk_path_errno(refused.fault), shown) from None
         except OSError as refused:
             raise error(refused.errno, shown) from None
+        self.watch.look()
 
     def rmdir(self, group: str, shown: str) -> None:
         node = self.locate(group, shown)
@@ -144,6 +155,7 @@ class Tree:
             self.h.rmdir(group)
         for file in list(self.opened):
             file.gone = file.gone or file.node.group == group
+        self.watch.look()
 
     def open(self, node: Node, reads: bool, writes: bool) -> RawFile:
         """As in the kernel, the superuser can open a file against its mode, and then gets an error from the read or write."""
@@ -163,14 +175,15 @@ class RawFile(io.RawIOBase):
         self._text, self._position, self._read_to = b"", 0, -1
         self.name, self.mode = node.shown, ("rb+" if writes else "rb") if reads else "wb"
         self.gone = False
-        self.on_close: Callable[[], None] | None = None
+        self.poller = Poller(node.group, node.name) if node.name in NOTIFIED else None
         node.tree.opened.add(self)
+        if self.poller is not None:
+            node.tree.watch.add(self.poller)
 
     def close(self) -> None:
         super().close()
-        if self.on_close is not None:
-            on_close, self.on_close = self.on_close, None
-            on_close()
+        if self.poller is not None:
+            self.poller.close()
 
     def readable(self) -> bool:
         return self._reads
@@ -198,10 +211,12 @@ class RawFile(io.RawIOBase):
 
     def _current(self) -> bytes:
         try:
-            return b"" if self.gone else self.node.text()
+            text = b"" if self.gone else self.node.text()
         except FileNotFoundError:
-            self.gone = True
-            return b""
+            self.gone, text = True, b""
+        if self.poller is not None and not self.gone:
+            self.poller.take(text)
+        return text
 
     def readinto(self, buffer: Any) -> int:
         if not self._reads:
@@ -226,6 +241,7 @@ class RawFile(io.RawIOBase):
         number = errno.ENODEV if self.gone else self._put(data)
         if number != 0:
             raise error(number, self.name)
+        self.node.tree.watch.look()
         self._position += len(data)
         return len(data)
 
@@ -233,7 +249,8 @@ class RawFile(io.RawIOBase):
         """The errno of the write."""
         info, tree = Info(), self.node.tree
         group = self.node.group.encode("utf-8", "surrogateescape")
-        status = library.mk_put(tree.h._at, group, self.node.file.name, data, len(data), tree.pid, ctypes.byref(info))
+        is_long = self.node.name == "cgroup.kill"
+        status = tree.h._either(is_long, "mk_put", group, self.node.file.name, data, len(data), tree.pid, ctypes.byref(info))
         if status not in (DONE, REFUSED, FAULT, FAILED):
             _raise(status, 0, "", None, f"write {self.name}")
         if info.code == NoGroup.code:

@@ -6,7 +6,7 @@ import ctypes
 import operator
 import os
 import re
-from typing import NoReturn, Union
+from typing import Any, NoReturn, Union
 
 from ._library import BUSY, CLOSED, FAILED, FAULT, OUT_OF_MEMORY, REFUSED, library
 from .errors import BY_CODE, BY_FAULT, BadPath, asked_for
@@ -14,50 +14,66 @@ from .errors import BY_CODE, BY_FAULT, BadPath, asked_for
 Path = Union[str, bytes, "os.PathLike[str]"]
 Value = Union[str, bytes, int]
 
-_WORD = re.compile(rb"[^ \t\r\n]{1,4095}")
-_BLANKS = b" \t\r\n"
-_NO_WORD = b"?"  # neither a path nor a file nor a value, so the library refuses it in the place of the bad word
+_NO_WORD = b"?"  # neither a path nor a file, so the library refuses it
 _FIRST_SIZE = 512
+_BEYOND = 1 << 64
 
 
 def _bytes(text: Path) -> bytes:
     text = os.fspath(text)
-    return text if isinstance(text, bytes) else text.encode("utf-8", "surrogateescape")
+    return bytes(text) if isinstance(text, bytes) else text.encode("utf-8", "surrogateescape")
 
 
 def _text(text: Path | Value) -> str:
-    text = text if isinstance(text, int) else os.fspath(text)
-    return text.decode("utf-8", "surrogateescape") if isinstance(text, bytes) else str(text)
+    if isinstance(text, int):
+        return _number(text)
+    text = os.fspath(text)
+    return text.decode("utf-8", "surrogateescape") if isinstance(text, bytes) else text
 
 
-def _word(text: Path) -> bytes:
-    """The text as one word of a line. A text that is not one word would be read as several."""
+def _number(number: object) -> str:
+    """A number in a message: Python writes only 4,300 digits in decimal."""
+    return hex(number) if isinstance(number, int) and not -_BEYOND < number < _BEYOND else str(number)
+
+
+def _c_text(text: Path) -> bytes:
+    """A text for a call that would cut it at a zero byte."""
     word = _bytes(text)
-    return word if _WORD.fullmatch(word) else _NO_WORD
+    return _NO_WORD if b"\0" in word else word
 
 
-def _value(value: Value) -> bytes:
-    """A value as a word: without the blanks at its ends."""
-    if isinstance(value, int):
-        return _pid(value)
-    if not isinstance(value, (str, bytes)):
-        raise TypeError(f"a value is a str, bytes or an int, not {type(value).__name__}; no limit is 'max'")
-    return _word(_bytes(value).strip(_BLANKS))
+def _integer(number: Any, what: str) -> int:
+    """True and False are no numbers here: a pid, a limit or an errno that is one of them is a mistake."""
+    if isinstance(number, bool):
+        raise TypeError(f"{what} is an int, not bool")
+    return operator.index(number)
+
+
+def _digits(number: int) -> bytes:
+    """An int in decimal. The largest stand for those beyond them, which are out of range too and may be too long to write."""
+    return b"%d" % (number if -1 <= number <= _BEYOND else -1 if number < 0 else _BEYOND)
 
 
 def _pid(number: int) -> bytes:
-    number = operator.index(number)
-    return b"%d" % number if 0 <= number < 1 << 64 else _NO_WORD
+    return _digits(_integer(number, "a pid"))
+
+
+def _value(value: Value) -> bytes:
+    if isinstance(value, bool) or not isinstance(value, (str, bytes, int)):
+        raise TypeError(f"a value is a str, bytes or an int, not {type(value).__name__}; no limit is 'max'")
+    return _digits(value) if isinstance(value, int) else _bytes(value)
 
 
 def _shown(answer: bytes) -> str:
     """The text after an answer's first line."""
-    return "".join(line[2:] + "\n" for line in answer.decode().split("\n")[1:-1])
+    text = answer.partition(b"\n")[2].decode()
+    # each line begins with a bar and a blank
+    return text[2:].replace("\n| ", "\n")
 
 
 def _path_word(line: bytes) -> bytes:
     """The word of a line that is its path, if it has one: the second."""
-    words = re.findall(rb"[^ \t\r]+", line)
+    words: list[bytes] = re.findall(rb"[^ \t\r]+", line)
     return words[1] if len(words) > 1 else b""
 
 

@@ -3,18 +3,24 @@
 from __future__ import annotations
 
 import ctypes
-import operator
+import re
+import struct
 import warnings
 from typing import Any, Callable, NoReturn
 
 from ._changes import Changes
 from ._faults import Faults
-from ._library import ANSWER_MAX, CLOSED, DONE, NO_LIMIT, SKIPPED, TOO_SMALL, Handle, Info, library
+from ._library import ANSWER_MAX, CLOSED, DONE, NO_LIMIT, REFUSED, SKIPPED, TOO_SMALL, WOULD_BLOCK, Handle, Info, library, patient
 from ._many import Many
-from ._words import _FIRST_SIZE, _NO_WORD, Path, Value, _bytes, _path_word, _pid, _raise, _shown, _text, _value, _word
+from ._words import _FIRST_SIZE, Path, Value, _bytes, _c_text, _integer, _number, _path_word, _pid, _raise, _shown, _text, _value
 from .errors import BY_CODE, BadSyntax, NoGroup, Refused
 
-_Call = Callable[[Any, int, Any], int]
+# What a command names that may take long: a list of pids, a kill, and the undo of one.
+_LONG = (b"cgroup.procs", b"cgroup.kill")
+_long_line = re.compile(rb"cgroup\.(procs|kill)|undo").search
+
+# Packs the lengths of so many words as C has them.
+_LENS = tuple(struct.Struct(f"{count}N").pack for count in range(5))
 
 
 class Hierarchy(Changes, Faults, Many):
@@ -31,13 +37,17 @@ class Hierarchy(Changes, Faults, Many):
     def __init__(self) -> None:
         if hasattr(self, "_handle"):
             raise RuntimeError("a hierarchy is initialized once")
-        self._handle = Handle()
-        self._at = ctypes.byref(self._handle)
-        status = library.mk_open(self._at)
+        self._begin(library.mk_open, "open")
+
+    def _begin(self, fill: Callable[[Any], int], operation: str) -> None:
+        """Takes the engine that a call fills a handle with, and a second handle, whose calls don't wait for other threads."""
+        handle, quick = Handle(), Handle()
+        self._at, self._quick = ctypes.byref(handle), ctypes.byref(quick)
+        status = fill(self._at)
         if status != DONE:
-            del self._handle
-            _raise(status, 0, "", None, "open")
-        self._closed = False
+            _raise(status, 0, "", None, operation)
+        library.mk_nonblocking(self._at, self._quick)
+        self._handle, self._closed = handle, False
 
     def __enter__(self) -> Hierarchy:
         if self._closed:
@@ -62,11 +72,7 @@ class Hierarchy(Changes, Faults, Many):
         independent. The copy has no faults of `fail` and `vanish`, its `changes()` begins at 0, and it has to be closed
         like any other. `copy.copy` and `copy.deepcopy` return the same. A copy of a subclass is a plain `Hierarchy`."""
         made = Hierarchy.__new__(Hierarchy)
-        handle = Handle()
-        status = library.mk_copy(self._at, ctypes.byref(handle))
-        if status != DONE:
-            _raise(status, 0, "", None, "copy")
-        made._handle, made._at, made._closed = handle, ctypes.byref(handle), False
+        made._begin(lambda at: int(library.mk_copy(self._at, at)), "copy")
         return made
 
     def __copy__(self) -> Hierarchy:
@@ -90,27 +96,49 @@ class Hierarchy(Changes, Faults, Many):
         """Whether it was closed."""
         return self._closed
 
-    def _told(self, call: _Call, command: str | bytes, path: Path | None = None, refused: bytes | None = None) -> bytes:
-        """The bytes that the call returns. Another thread may make the answer longer between two calls, so the buffer may
-        grow more than once, but not beyond the longest answer."""
-        size = _FIRST_SIZE
+    def _call(self, name: str, *words: Any) -> int:
+        """The status of a short call. It keeps the interpreter's lock, unless it has to wait for another thread's call."""
+        status = getattr(library, name)(self._quick, *words)
+        if status == WOULD_BLOCK:  # a call of another thread is running
+            status = getattr(patient, name)(self._at, *words)
+        return int(status)
+
+    def _either(self, is_long: bool, name: str, *words: Any) -> int:
+        return int(getattr(patient, name)(self._at, *words)) if is_long else self._call(name, *words)
+
+    def _told(
+        self,
+        name: str,
+        given: tuple[Any, ...],
+        command: str | bytes,
+        path: Path | None = None,
+        refused: bytes | None = None,
+        is_long: bool = False,
+    ) -> bytes:
+        """The bytes that a call returns. Another thread may make the answer longer between two calls, so the buffer may grow more
+        than once, but not beyond the longest answer."""
+        calls, handle, size = (patient, self._at, _FIRST_SIZE) if is_long else (library, self._quick, _FIRST_SIZE)
         while True:
             buffer: Any = (ctypes.c_char * size)()
             info = Info()
-            status = call(buffer, size, ctypes.byref(info))
+            words = (*given, buffer, size, ctypes.byref(info))
+            status = getattr(calls, name)(handle, *words)
+            if status == WOULD_BLOCK:
+                status = getattr(patient, name)(self._at, *words)
             if status == DONE or status == SKIPPED:
-                return buffer[: info.len]
+                return bytes(buffer[: info.len])
             if status != TOO_SMALL or size > ANSWER_MAX:
                 break
             size = 1 << max(info.needed - 1, size).bit_length()
-        words = buffer[: info.len].decode().rstrip("\n").split(" ", 2)
-        _raise(status, info.code, words[2] if len(words) > 2 else "", path, _text(command), info.error, refused)
+        told = buffer[: info.len].decode().rstrip("\n").split(" ", 2)
+        _raise(status, info.code, told[2] if len(told) > 2 else "", path, _text(command), info.error, refused)
 
-    def _line(self, line: bytes, command: str | bytes, path: Path | None = None, refused: bytes | None = None) -> str:
-        answer = self._told(
-            lambda out, size, info: library.mk_line(self._at, 1, line, len(line), out, size, info), command, path, refused
-        )
-        return _shown(answer) if answer else ""
+    def _asked(self, words: tuple[bytes, ...], command: str, path: Path | None = None) -> str:
+        """The text that a command of words shows."""
+        count = len(words)
+        is_long = count > 2 and words[2] in _LONG and (words[0] == b"cat" or words[2] == b"cgroup.kill")
+        given = (1, b"".join(words), _LENS[count](*map(len, words)), count)
+        return _shown(self._told("mk_words", given, command, path, None, is_long))
 
     def line(self, line: str | bytes, path: Path | None = None) -> str:
         """Answers one line of the trace language, as 'cat /a pids.current', and returns the text that it shows: the file's
@@ -120,49 +148,49 @@ class Hierarchy(Changes, Faults, Many):
         text = _bytes(line)
         if b"\n" in text:
             raise BadSyntax("syntax", None if path is None else _text(path), _text(text))
-        return self._line(text, text, path, _path_word(text))
+        is_long = _long_line(text) is not None
+        return _shown(self._told("mk_line", (1, text, len(text)), text, path, _path_word(text), is_long))
 
     def mkdir(self, path: Path) -> None:
         """Makes a group."""
-        self._line(b"mkdir " + _word(path), f"mkdir {_text(path)}", path)
+        self._asked((b"mkdir", _bytes(path)), f"mkdir {_text(path)}", path)
 
     def rmdir(self, path: Path) -> None:
         """Removes a group that has neither children nor processes."""
-        self._line(b"rmdir " + _word(path), f"rmdir {_text(path)}", path)
+        self._asked((b"rmdir", _bytes(path)), f"rmdir {_text(path)}", path)
 
     def fork(self, parent: int, child: int) -> None:
         """The process `parent` forks `child`, which starts in its group."""
-        self._line(b"fork %b %b" % (_pid(parent), _pid(child)), f"fork {parent} {child}")
+        self._asked((b"fork", _pid(parent), _pid(child)), f"fork {_number(parent)} {_number(child)}")
 
     def exit(self, pid: int) -> None:
         """The process exits and is reaped."""
-        self._line(b"exit " + _pid(pid), f"exit {pid}")
+        self._asked((b"exit", _pid(pid)), f"exit {_number(pid)}")
 
     def read(self, path: Path, file: str | bytes) -> str:
         """The text of a file of the group, as '1\\n' of pids.current."""
-        return self._line(b"cat %b %b" % (_word(path), _word(file)), f"read {_text(path)} {_text(file)}", path)
+        return self._asked((b"cat", _bytes(path), _bytes(file)), f"read {_text(path)} {_text(file)}", path)
 
     def write(self, path: Path, file: str | bytes, value: Value) -> None:
         """Writes a file of the group: a pid to cgroup.procs, a limit or 'max' to a limit, 1 to cgroup.kill."""
-        line = b"write %b %b %b" % (_word(path), _word(file), _value(value))
-        self._line(line, f"write {_text(path)} {_text(file)} {_text(value)}", path)
+        words = (b"write", _bytes(path), _bytes(file), _value(value))
+        self._asked(words, f"write {_text(path)} {_text(file)} {_text(value)}", path)
 
     def where(self, pid: int) -> str:
         """The text of /proc/PID/cgroup."""
-        return self._line(b"where " + _pid(pid), f"where {pid}")
+        return self._asked((b"where", _pid(pid)), f"where {_number(pid)}")
 
     def undo(self) -> str:
         """Undoes the newest recorded command, and returns its text."""
-        answer = self._told(lambda out, size, info: library.mk_undo(self._at, 1, out, size, info), "undo")
-        return _shown(answer).rstrip("\n")
+        return _shown(self._told("mk_undo", (1,), "undo")).rstrip("\n")
 
     def depth(self) -> int:
         """How many recorded commands can be undone."""
         depth = ctypes.c_size_t()
-        status = library.mk_depth(self._at, ctypes.byref(depth))
+        status = self._call("mk_depth", ctypes.byref(depth))
         if status != DONE:
             _raise(status, 0, "", None, "depth")
-        return depth.value
+        return int(depth.value)
 
     def forget(self) -> None:
         """Forgets the recorded commands and frees their memory: groups, processes and counts stay, and nothing earlier can
@@ -171,10 +199,10 @@ class Hierarchy(Changes, Faults, Many):
         if status != DONE:
             _raise(status, 0, "", None, "forget")
 
-    def _listed(self, call: Any, operation: str, path: Path) -> list[str]:
-        command, text = f"{operation} {_text(path)}", _bytes(path)
+    def _listed(self, name: str, operation: str, path: Path) -> list[str]:
+        text = _bytes(path)
         try:
-            told = self._told(lambda out, size, info: int(call(self._at, text, len(text), out, size, info)), command, path)
+            told = self._told(name, (text, len(text)), f"{operation} {_text(path)}", path)
         except NoGroup as refused:
             refused.reply = f"nogroup {_text(path)}"
             raise
@@ -182,20 +210,18 @@ class Hierarchy(Changes, Faults, Many):
 
     def children(self, path: Path) -> list[str]:
         """The names of the groups one name below the group, in the order of their bytes."""
-        return self._listed(library.mk_children, "children", path)
+        return self._listed("mk_children", "children", path)
 
     def groups(self, path: Path = "/") -> list[str]:
         """The paths of the group and of all below it, each before those below it."""
-        return self._listed(library.mk_subtree, "groups", path)
+        return self._listed("mk_subtree", "groups", path)
 
-    def _number(self, call: Any, value: Any, operation: str, path: Path) -> Any:
+    def _number(self, operation: str, value: Any, path: Path) -> Any:
         """What a call reads of a group."""
-        word, info = _word(path), Info()
-        # C would cut the path at a zero byte
-        word = _NO_WORD if b"\0" in word else word
-        status = call(self._at, word, ctypes.byref(value), ctypes.byref(info))
+        info = Info()
+        status = self._call(f"mk_{operation}", _c_text(path), ctypes.byref(value), ctypes.byref(info))
         if status != DONE:
-            self._refuse(status, info, operation, path)
+            self._refuse(status, info, f"{operation} {_text(path)}", path)
         return value.value
 
     def _refuse(self, status: int, info: Any, operation: str, path: Path) -> NoReturn:
@@ -205,25 +231,24 @@ class Hierarchy(Changes, Faults, Many):
 
     def current(self, path: Path) -> int:
         """pids.current: the number of processes of the group and of the groups below it."""
-        return int(self._number(library.mk_current, ctypes.c_uint64(), f"current {_text(path)}", path))
+        return int(self._number("current", ctypes.c_uint64(), path))
 
     def peak(self, path: Path) -> int:
         """pids.peak: the largest pids.current so far."""
-        return int(self._number(library.mk_peak, ctypes.c_uint64(), f"peak {_text(path)}", path))
+        return int(self._number("peak", ctypes.c_uint64(), path))
 
     def limit(self, path: Path) -> int | None:
         """pids.max; None if there is no limit."""
-        value = int(self._number(library.mk_limit, ctypes.c_uint64(), f"limit {_text(path)}", path))
+        value = int(self._number("limit", ctypes.c_uint64(), path))
         return None if value == NO_LIMIT else value
 
     def populated(self, path: Path) -> bool:
         """Whether the group or a group below it has a process."""
-        return bool(self._number(library.mk_populated, ctypes.c_bool(), f"populated {_text(path)}", path))
+        return bool(self._number("populated", ctypes.c_bool(), path))
 
     def processes(self, path: Path) -> list[int]:
         """The pids of the group itself, ascending."""
-        word, room = _word(path), 64
-        word = _NO_WORD if b"\0" in word else word
+        word, room = _c_text(path), 64
         while True:
             pids, info = (ctypes.c_uint32 * room)(), Info()
             status = library.mk_processes(self._at, word, pids, room, ctypes.byref(info))
@@ -242,12 +267,13 @@ class Hierarchy(Changes, Faults, Many):
         between. NothingToUndo if fewer commands are left than at the mark. With MemoryError the commands that were undone so
         far stay undone, and `depth()` says how many are left."""
         info = Info()
-        mark = operator.index(mark)
+        mark = _integer(mark, "a mark")
         if mark < 0:
             raise ValueError("a mark is not negative")
-        status = library.mk_undo_to(self._at, mark, ctypes.byref(info))
+        # a larger number would be cut to a smaller one
+        status = library.mk_undo_to(self._at, min(mark, (1 << 64) - 1), ctypes.byref(info))
         if status != DONE:
-            _raise(status, info.code, "nothing", None, f"undo to {mark}")
+            _raise(status, info.code, "nothing", None, f"undo to {_number(mark)}")
         return int(info.count)
 
     def reset(self) -> int:
@@ -256,15 +282,12 @@ class Hierarchy(Changes, Faults, Many):
 
     def has_group(self, path: Path) -> bool:
         """Whether there is such a group."""
-        text = _bytes(path)
-        try:
-            self._told(
-                lambda out, size, info: library.mk_has_group(self._at, text, len(text), info),
-                f"has_group {_text(path)}",
-                path,
-            )
-        except NoGroup:
+        text, info = _bytes(path), Info()
+        status = self._call("mk_has_group", text, len(text), ctypes.byref(info))
+        if status == REFUSED and info.code == NoGroup.code:
             return False
+        if status != DONE:
+            self._refuse(status, info, f"has_group {_text(path)}", path)
         return True
 
 

@@ -32,7 +32,11 @@ def names(max_size: int = 12) -> st.SearchStrategy[str]:
     """Names of groups: printable ASCII without a slash, and not reserved."""
     letters = st.characters(min_codepoint=0x21, max_codepoint=0x7E, blacklist_characters="/")
     texts = st.text(letters, min_size=1, max_size=min(max_size, 255))
-    return texts.filter(lambda name: name not in (".", "..") and not name.startswith(_RESERVED))
+    return texts.filter(_is_name)
+
+
+def _is_name(name: str) -> bool:
+    return name not in (".", "..") and not name.startswith(_RESERVED)
 
 
 def paths(max_names: int = 4, name: st.SearchStrategy[str] | None = None) -> st.SearchStrategy[str]:
@@ -67,8 +71,9 @@ def commands(path: st.SearchStrategy[str] | None = None, pid: st.SearchStrategy[
 
 
 class HierarchyMachine(RuleBasedStateMachine):
-    """Changes the hierarchy `h` by commands that are aimed at its state. Commands that are refused are part of it. A subclass
-    adds invariants and rules, and may override `do`."""
+    """Changes the hierarchy `h` by commands that are aimed at its state. Commands that are refused are part of it: each kind of limit
+    (pids.max, cgroup.max.depth, cgroup.max.descendants) refuses more than one in twenty. A subclass adds invariants and rules, and may
+    override `do`."""
 
     names = ("a", "b", "c")
     pids = 8
@@ -93,7 +98,14 @@ class HierarchyMachine(RuleBasedStateMachine):
     def _pid(self, data: st.DataObject) -> int:
         """Most often an existing one."""
         there = [pid for group in self.h.groups() for pid in self.h.processes(group)]
-        return data.draw(st.one_of(*([st.sampled_from(there)] if there else []), pids(self.pids)))
+        return int(data.draw(st.one_of(*([st.sampled_from(there)] * 3 if there else []), pids(self.pids))))
+
+    def _has_ended(self) -> bool:
+        """Without a process there is nothing to fork: then a command is undone instead."""
+        if any(self.h.processes(group) for group in self.h.groups()):
+            return False
+        self.do("undo")
+        return True
 
     @rule(data=st.data())
     def mkdir(self, data: st.DataObject) -> None:
@@ -105,14 +117,20 @@ class HierarchyMachine(RuleBasedStateMachine):
 
     @rule(data=st.data())
     def fork(self, data: st.DataObject) -> None:
+        if self._has_ended():
+            return
         self.do(f"fork {self._pid(data)} {data.draw(pids(self.pids))}")
 
     @rule(data=st.data())
     def exit(self, data: st.DataObject) -> None:
+        if self._has_ended():
+            return
         self.do(f"exit {self._pid(data)}")
 
     @rule(data=st.data())
     def move(self, data: st.DataObject) -> None:
+        if self._has_ended():
+            return
         self.do(f"write {self._group(data)} cgroup.procs {self._pid(data)}")
 
     @rule(data=st.data())
@@ -126,6 +144,106 @@ class HierarchyMachine(RuleBasedStateMachine):
     @rule()
     def undo(self) -> None:
         self.do("undo")
+
+    # ---- limits, which commands that are drawn without regard to them hardly ever meet
+
+    def _try_again(self, line: str) -> None:
+        """Makes a command that a limit refuses, and once more, as a program does that doesn't give up."""
+        for _ in range(2):
+            self.do(line)
+
+    def _below_root(self, data: st.DataObject) -> str:
+        """A group with limits of its own, which is made if there is none; "" if none can be made."""
+        groups = self.h.groups()[1:]
+        if groups:
+            return data.draw(st.sampled_from(groups))
+        name = f"/{data.draw(st.sampled_from(self.names))}"
+        return "" if isinstance(self.do(f"mkdir {name}"), Refused) else name
+
+    @rule(data=st.data())
+    def fork_at_a_limit(self, data: st.DataObject) -> None:
+        """Forks in a group whose pids.max, or an ancestor's, is reached; if there is none, limits one that has a process."""
+        if self._has_ended():
+            return
+        processes = {group: self.h.processes(group) for group in self.h.groups()}
+        there = [pid for pids_there in processes.values() for pid in pids_there]
+        unused = sorted(set(range(1, self.pids + 1)) - set(there))
+        if not unused:
+            unused = [data.draw(st.sampled_from(there))]
+            self.do(f"exit {unused[0]}")
+            processes = {group: self.h.processes(group) for group in processes}
+        full = [pid for group in processes if _is_full(self.h, group) for pid in processes[group]]
+        if not full:
+            full = self._fill(data, [group for group in processes if group != "/" and processes[group]])
+        if full:
+            self._try_again(f"fork {data.draw(st.sampled_from(full))} {data.draw(st.sampled_from(unused))}")
+
+    def _fill(self, data: st.DataObject, groups: list[str]) -> list[int]:
+        """Limits one of the groups, or another into which a process is moved, to what it has; the processes of the group."""
+        group = data.draw(st.sampled_from(groups)) if groups else self._below_root(data)
+        if not group:
+            return []
+        if not groups:
+            self.do(f"write {group} cgroup.procs {self._pid(data)}")
+        if self.h.current(group):
+            self.do(f"write {group} pids.max {self.h.current(group)}")
+        return self.h.processes(group)
+
+    @rule(data=st.data())
+    def mkdir_at_a_descendants_limit(self, data: st.DataObject) -> None:
+        self._mkdir_at(data, "cgroup.max.descendants")
+
+    @rule(data=st.data())
+    def mkdir_at_a_depth_limit(self, data: st.DataObject) -> None:
+        self._mkdir_at(data, "cgroup.max.depth")
+
+    def _mkdir_at(self, data: st.DataObject, file: str) -> None:
+        """Makes a group where the limit blocks. Where it blocks nothing, it is set first, or another that would block before it is
+        taken away."""
+        new = {group: sorted(set(self.names) - set(self.h.children(group))) for group in self.h.groups()}
+        why = {group: _blocking(self.h, group) for group in new if new[group]}
+        blocked = [group for group in why if why[group][1] == file]
+        if not blocked:
+            free = [group for group in why if group != "/" and not why[group][1]]
+            if not free:
+                self._make_free(data, [why[group] for group in why if why[group][1]])
+                return
+            group = data.draw(st.sampled_from(free))
+            count = len(self.h.groups(group)) - 1 if file == "cgroup.max.descendants" else 0
+            self.do(f"write {group} {file} {count}")
+            blocked = [group]
+        group = data.draw(st.sampled_from(blocked))
+        self._try_again(f"mkdir {group.rstrip('/')}/{data.draw(st.sampled_from(new[group]))}")
+
+    def _make_free(self, data: st.DataObject, limits: list[tuple[str, str]]) -> None:
+        if limits:
+            group, file = data.draw(st.sampled_from(limits))
+            self.do(f"write {group} {file} max")
+        else:
+            self._below_root(data)
+
+
+def _upward(group: str) -> list[str]:
+    """The group and those above it, the root last."""
+    names = group.split("/")[1:] if group != "/" else []
+    return ["/" + "/".join(names[:count]) for count in range(len(names), -1, -1)]
+
+
+def _is_full(h: Hierarchy, group: str) -> bool:
+    limits_here = [(h.limit(above), above) for above in _upward(group)[:-1]]
+    return any(limit is not None and h.current(above) >= limit for limit, above in limits_here)
+
+
+def _blocking(h: Hierarchy, group: str) -> tuple[str, str]:
+    """Which limit refuses a new group here, by its group and file: the first from this group upward, and the descendants' before the
+    depth's. Two empty texts if none does."""
+    for depth, above in enumerate(_upward(group)):
+        most, deepest = (h.read(above, file).strip() for file in ("cgroup.max.descendants", "cgroup.max.depth"))
+        if most != "max" and len(h.groups(above)) - 1 >= int(most):
+            return above, "cgroup.max.descendants"
+        if deepest != "max" and depth + 1 > int(deepest):
+            return above, "cgroup.max.depth"
+    return "", ""
 
 
 __all__ = ["HierarchyMachine", "commands", "limits", "names", "paths", "pids"]

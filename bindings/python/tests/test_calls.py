@@ -159,7 +159,7 @@ def test_the_header_has_these_codes():
     refusals = {name: code for name, code in codes.items() if name.startswith("MK_") and code in kinds}
     path_faults = re.findall(r"(MK_\w+) = \d+", re.search(r"MK_NOT_ROOTED = 1.*?\}", header, re.S).group(0))
     statuses = ("MK_DONE", "MK_REFUSED", "MK_FAULT", "MK_TOO_SMALL", "MK_OUT_OF_MEMORY", "MK_SKIPPED", "MK_CLOSED", "MK_BUSY",
-                "MK_TIMED_OUT", "MK_FAILED", *path_faults)
+                "MK_TIMED_OUT", "MK_FAILED", "MK_WOULD_BLOCK", *path_faults)
     refusals = {name: code for name, code in refusals.items() if name not in statuses}
     assert sorted(refusals.values()) == sorted(kinds)
     for name, code in refusals.items():

@@ -166,6 +166,22 @@ def test_a_group_vanishes_between_a_listing_and_a_read(hierarchy):
     assert h.limit("/a/b") is None and not h.has_group("/a/b") and h.clear_faults() == 1
 
 
+def test_only_the_newest_of_the_faults_that_are_due_occurs(hierarchy):
+    h = hierarchy
+    h.mkdir("/a")
+    h.fail("/a", errno.EIO)
+    h.vanish("/a")
+    with pytest.raises(NoGroup):
+        h.read("/a", "pids.max")
+    assert h.clear_faults() == 0 and h.groups() == ["/"]
+    h.mkdir("/a")
+    h.vanish("/a")
+    h.fail("/a", errno.EIO)
+    with pytest.raises(OSError) as failed:
+        h.read("/a", "pids.max")
+    assert failed.value.errno == errno.EIO and h.clear_faults() == 0 and h.groups() == ["/", "/a"]
+
+
 @pytest.mark.parametrize("path", ["a", "", "/a b", "/a\0", "/é"])
 def test_faults_need_a_path(hierarchy, path):
     for call in (lambda: hierarchy.fail(path, errno.EIO), lambda: hierarchy.vanish(path)):

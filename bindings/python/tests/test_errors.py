@@ -212,7 +212,8 @@ def test_without_a_path_a_line_has_the_words_of_the_answer(h):
 CALLS = {
     "mk_open": (lambda h: Hierarchy(), "open"),
     "mk_copy": (lambda h: h.copy(), "copy"),
-    "mk_line": (lambda h: h.mkdir("/c"), "mkdir /c"),
+    "mk_line": (lambda h: h.line("mkdir /c"), "mkdir /c"),
+    "mk_words": (lambda h: h.mkdir("/c"), "mkdir /c"),
     "mk_undo": (lambda h: h.undo(), "undo"),
     "mk_undo_to": (lambda h: h.undo_to(1), "undo to 1"),
     "mk_depth": (lambda h: h.depth(), "depth"),

@@ -1,5 +1,6 @@
 """The interactive shell: python3 -m makhloeum"""
 
+import errno
 import fcntl
 import io
 import os
@@ -172,3 +173,42 @@ def test_an_interrupt_drops_the_line():
     terminal.type(b"ls\nquit\n")
     told = terminal.end()
     assert b"a/\r\n" in told and b"b/" not in told and b"Traceback" not in told
+
+
+def test_a_command_is_a_whole_word():
+    ran = run(text="mkdir/q\nEOF\nmkdir /a\nls\n")
+    syntax = "Invalid argument (syntax: an unknown command, a wrong number of words, or a line that is too long)"
+    assert ran.returncode == 1
+    assert ran.stdout.startswith(f"mkdir/q: {syntax}\nEOF: {syntax}\na/\n"), ran.stdout
+
+
+def test_a_script_that_reads_itself(tmp_path):
+    script, other = tmp_path / "script", tmp_path / "other"
+    script.write_text(f"source {other}\nwhere 1\n")
+    other.write_text(f"source {script}\n")
+    ran = run(str(script))
+    assert (ran.returncode, ran.stderr) == (1, "")
+    assert ran.stdout == f"[Errno {errno.ELOOP}] the script reads itself: '{script}'\n0::/\n"
+
+
+def test_an_interrupt_ends_a_script_without_a_traceback(tmp_path):
+    pipe = tmp_path / "pipe"
+    os.mkfifo(pipe)
+    command = [sys.executable, "-m", "makhloeum", str(pipe)]
+    default = lambda: signal.signal(signal.SIGINT, signal.SIG_DFL)  # noqa: E731: a background ignores SIGINT
+    shell = subprocess.Popen(command, stdout=subprocess.PIPE, stderr=subprocess.PIPE, env=WORDS, preexec_fn=default)
+    with open(pipe, "w") as script:
+        script.write("where 1\n")
+        script.flush()
+        shell.send_signal(signal.SIGINT)
+        told = shell.communicate(timeout=60)
+    assert (shell.returncode, told[1]) == (-signal.SIGINT, b"")
+
+
+def test_the_end_of_the_input_at_a_terminal_leaves_the_shell():
+    terminal = Terminal()
+    terminal.wait_for(b"makhloeum> ")
+    terminal.type(b"EOF\n")
+    assert b"syntax" in terminal.wait_for(b"makhloeum> ")
+    terminal.type(b"\x04")
+    terminal.end()

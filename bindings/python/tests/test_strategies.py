@@ -1,5 +1,7 @@
 """The Hypothesis strategies, and the state machine beside the plain model."""
 
+import collections
+
 import pytest
 
 hypothesis = pytest.importorskip("hypothesis")
@@ -9,8 +11,8 @@ from hypothesis import HealthCheck, given, settings  # noqa: E402
 from hypothesis import strategies as st  # noqa: E402
 from hypothesis.stateful import invariant, run_state_machine_as_test  # noqa: E402
 
-from makhloeum import Hierarchy, Refused  # noqa: E402
-from makhloeum.strategies import HierarchyMachine, commands, limits, names, paths, pids  # noqa: E402
+from makhloeum import BadPath, Hierarchy, Refused  # noqa: E402
+from makhloeum.strategies import HierarchyMachine, _is_name, commands, limits, names, paths, pids  # noqa: E402
 
 FEW = settings(max_examples=200, deadline=None, database=None, derandomize=True, suppress_health_check=list(HealthCheck))
 
@@ -83,6 +85,44 @@ KINDS = set()
 def test_the_state_machine_reaches_everything():
     run_state_machine_as_test(BesideTheModel, settings=settings(FEW, max_examples=60, stateful_step_count=40))
     assert KINDS >= {word + end for word in ("mkdir", "rmdir", "fork", "exit", "write", "undo") for end in ("", " refused")}
+
+
+class Counting(HierarchyMachine):
+    """Counts the commands, and those that each kind of limit refused."""
+
+    def do(self, line):
+        told = super().do(line)
+        COUNTS["all"] += 1
+        COUNTS[type(told).__name__] += 1
+        return told
+
+
+COUNTS = collections.Counter()
+
+
+@pytest.mark.parametrize("examples, steps", [(40, 40), (100, 10)])
+def test_each_kind_of_limit_refuses_one_command_in_twenty(examples, steps):
+    COUNTS.clear()
+    run_state_machine_as_test(Counting, settings=settings(FEW, max_examples=examples, stateful_step_count=steps))
+    for kind in ("PidsMax", "Descendants", "Depth"):
+        assert COUNTS[kind] >= COUNTS["all"] / 20, COUNTS
+    assert COUNTS["str"] >= COUNTS["all"] / 3, COUNTS
+
+
+def test_a_name_that_no_group_can_have_is_not_drawn():
+    with Hierarchy() as h:
+        for name in (".", "..", "cgroup.", "cgroup.x", "pids.", "pids.max", "cgroup", "pids", "...", ".a", "xpids.", "cgroup-x"):
+            assert _is_name(name) == (not isinstance(refusal(h, f"mkdir /{name}"), BadPath)), name
+    with pytest.raises(hypothesis.errors.NoSuchExample):
+        hypothesis.find(names(1), lambda name: name in "./", settings=settings(FEW, max_examples=3000))
+
+
+def refusal(h, line):
+    try:
+        h.line(line, path="/")
+    except Refused as refused:
+        return refused
+    return None
 
 
 def test_a_wrong_monitor_is_found():

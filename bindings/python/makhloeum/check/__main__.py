@@ -2,6 +2,7 @@
 
 import sys
 
+from .._interrupts import ended_by_interrupt
 from . import main
 
-sys.exit(main(sys.argv[1:]))
+sys.exit(ended_by_interrupt(main, sys.argv[1:]))

@@ -21,7 +21,10 @@ DIR claims to be a cgroup2 hierarchy. Worked and random sequences of operations 
 new group in DIR, and the proved engine is asked the same. Each errno and each text is compared. A difference is made short
 and printed as a shell script that shows it. Nothing is left behind in DIR.
 """
-END = "The status is 0 if there is no difference, 1 if there is one, and 2 if DIR cannot be checked or the check was interrupted."
+END = (
+    "The status is 0 if there is no difference, 1 if there is one, and 2 if DIR cannot be checked, if the check was interrupted, "
+    "or if something in DIR could not be removed."
+)
 _SHOWN_EVERY = 5.0  # seconds, where standard error is no terminal
 
 
@@ -119,7 +122,7 @@ class _Check:
         self._player.on_operation = lambda: None
         began = time.monotonic()
         if found.hangs:
-            short = found._replace(played=[words for words in found.played[:-1] if words[0] != "cat"] + found.played[-1:])
+            short = found._replace(played=[words for words in found.played[:-1] if words[0] not in ("cat", "reread", "list")] + found.played[-1:])
         else:
             short = shorten(found, lambda commands: self._retry(found.way, commands), self._options.shorten)
         self._player.on_operation = self.progress
@@ -165,7 +168,7 @@ def _checked(options: argparse.Namespace, player: Player) -> int:
         _say(options.directory, f"{path} could not be removed")
     if interrupted:
         _say(options.directory, "interrupted")
-    return 1 if check.counts.differences else 2 if interrupted else 0
+    return 1 if check.counts.differences else 2 if interrupted or player.left else 0
 
 
 def main(words: list[str]) -> int:

@@ -10,6 +10,8 @@ from .engine import Answer, Engine, Words
 CONTRADICTION = "CONTRADICTION"
 _GROUP_MISSING = ("ENOENT", "ENODEV")
 _GREATEST_PIDS_LIMIT = 1 << 63
+# The greatest number that a kernel accepts in each file with a limit.
+_GREATEST_ACCEPTED = {"pids.max": 4194304, "cgroup.max.descendants": (1 << 31) - 1, "cgroup.max.depth": (1 << 31) - 1}
 
 
 def difference(words: Words, ours: Answer, theirs: Answer, engine: Engine, directory: dict[str, object]) -> Optional[str]:
@@ -23,7 +25,7 @@ def difference(words: Words, ours: Answer, theirs: Answer, engine: Engine, direc
         return None
     if words[0] == "told":
         return None if _told_alike(words[1], ours, theirs, engine) else CONTRADICTION
-    if words[0] == "cat":
+    if words[0] in ("cat", "reread"):
         return _of_texts(words, ours.text, theirs.text, engine, directory)
     return None if ours.text == theirs.text else CONTRADICTION
 
@@ -65,13 +67,20 @@ def _of_values(words: Words, error: str) -> Optional[str]:
         return None
     is_pid = name == "cgroup.procs"
     if error == "ok":
-        return known.TAKES_MORE if not is_pid else None
+        return known.TAKES_MORE if _is_accepted(name, number) else None
     outside = (
         number != 1 if name == "cgroup.kill" else not 0 <= number < (_GREATEST_PIDS_LIMIT if name == "pids.max" else 1 << 31)
     )
     if error == "ERANGE" and not is_pid and outside:
         return known.OTHER_ERRNO
     return known.OTHER_ERRNO if error == "ESRCH" and is_pid and number > 0 else None
+
+
+def _is_accepted(name: str, number: int) -> bool:
+    """Whether a kernel accepts the number: only how it is written may differ from what the engine accepts."""
+    if name == "cgroup.kill":
+        return number == 1
+    return 0 <= number <= _GREATEST_ACCEPTED.get(name, -1)
 
 
 def _of_texts(words: Words, ours: str, theirs: str, engine: Engine, directory: dict[str, object]) -> Optional[str]:
@@ -83,7 +92,7 @@ def _of_texts(words: Words, ours: str, theirs: str, engine: Engine, directory: d
     if name == "pids.peak" and theirs.strip().isdecimal():
         return known.peak_difference(int(theirs), int(ours), engine.peak_by_way(path)) or CONTRADICTION
     if name == "pids.events" and "pids.events.local" in directory["missing"]:  # type: ignore[operator]
-        return known.OLD_EVENTS
+        return known.OLD_EVENTS if theirs == engine.events_before_6_11(path) else CONTRADICTION
     return CONTRADICTION
 
 

@@ -18,6 +18,7 @@ import socket
 import time
 from typing import Callable
 
+from .engine import FILES, listing
 from .processes import Process, is_alive, wait_for_end
 from .watching import Watch
 
@@ -28,14 +29,19 @@ NO_PID = 4194303
 def file_read(path: str) -> str:
     descriptor = os.open(path, os.O_RDONLY | os.O_CLOEXEC)
     try:
-        found = b""
-        while True:
-            more = os.read(descriptor, 65536)
-            if not more:
-                return found.decode("latin1")
-            found += more
+        return read_whole(descriptor)
     finally:
         os.close(descriptor)
+
+
+def read_whole(descriptor: int) -> str:
+    """The text of an open file from its beginning."""
+    found = b""
+    while True:
+        more = os.pread(descriptor, 65536, len(found))
+        if not more:
+            return found.decode("latin1")
+        found += more
 
 
 def file_write(path: str, text: str) -> None:
@@ -83,6 +89,7 @@ class Groups:
         self.top, self.home = os.path.join(own, f"top{number}"), os.path.join(own, f"home{number}")
         self.processes: dict[int, Process] = {}
         self.watches: dict[str, Watch] = {}
+        self._kept: dict[tuple[str, str], int] = {}  # files that are open since they were first reread
         self.children: dict[str, int] = {}
         os.mkdir(self.top)
         os.mkdir(self.home)
@@ -131,6 +138,7 @@ class Groups:
         parent = os.path.dirname(path)
         self.children[parent] = self.children.get(parent, 1) - 1
         self.children.pop(path, None)
+        self._close_kept(path)
         for gone in [watched for watched in self.watches if watched == path]:
             self.watches.pop(gone).close()
         if self._controlled and self.way == "D" and parent != "/" and not self.children[parent]:
@@ -179,7 +187,28 @@ class Groups:
         return "alive: " + " ".join(map(str, alive))
 
     def cat(self, path: str, name: str) -> str:
-        text = file_read(self.file(path, name))
+        return self._shown(name, file_read(self.file(path, name)))
+
+    def reread(self, path: str, name: str) -> str:
+        """Reads a file again that is kept open since the first time."""
+        if (path, name) not in self._kept:
+            self._kept[path, name] = os.open(self.file(path, name), os.O_RDONLY | os.O_CLOEXEC)
+        return self._shown(name, read_whole(self._kept[path, name]))
+
+    def _close_kept(self, path: str | None = None) -> None:
+        """Closes the files of the group that are kept open, or all."""
+        for key in [key for key in self._kept if path in (None, key[0])]:
+            os.close(self._kept.pop(key))
+
+    def listed(self, path: str) -> str:
+        """The groups in a group, and those of its files that the engine has too."""
+        names = [entry for entry in os.scandir(self.place(path))]
+        # what is a file by its name is not asked for its type, which some file systems do not list
+        groups = [it.name for it in names if not it.name.startswith(("cgroup.", "pids.")) and it.is_dir(follow_symlinks=False)]
+        return listing(groups, [it.name for it in names if it.name in (*FILES, "cgroup.kill")])
+
+    def _shown(self, name: str, text: str) -> str:
+        """The text with the engine's numbers of processes."""
         if name != "cgroup.procs":
             return text
         pids = text.split()
@@ -209,6 +238,7 @@ class Groups:
 
     def end(self) -> list[str]:
         """Ends all processes, and returns what is left."""
+        self._close_kept()
         for watch in self.watches.values():
             watch.close()
         for process in self.processes.values():
@@ -220,4 +250,5 @@ class Groups:
         return {
             **{"mkdir": self.mkdir, "rmdir": self.rmdir, "fork": self.fork, "exit": self.exit, "write": self.write},
             **{"cat": self.cat, "where": self.where, "watch": self.watch, "told": self.told, "unmake": self.unmake},
+            **{"list": self.listed, "reread": self.reread},
         }

@@ -7,7 +7,7 @@ from typing import List, NamedTuple, Optional
 
 from ..errors import Refused
 from ..hierarchy import Hierarchy
-from .known import LIMITS, WAYS, Peaks, kernel_number
+from .known import LIMITS, WAYS, Events, Peaks, kernel_number
 
 FILES = (
     *("cgroup.procs", "cgroup.events", "cgroup.stat", "cgroup.max.descendants", "cgroup.max.depth"),
@@ -32,6 +32,11 @@ class Answer(NamedTuple):
         return f"{self.error}{f' ({self.reply})' if self.reply else ''}{f' {shown!r}' if shown else ''}"
 
 
+def listing(groups: List[str], files: List[str]) -> str:
+    """A line of groups and a line of files."""
+    return " ".join(sorted(groups)) + "\n" + " ".join(sorted(files)) + "\n"
+
+
 def _parent(path: str) -> str:
     return path.rpartition("/")[0] or "/"
 
@@ -43,6 +48,7 @@ class Engine:
         self.h = Hierarchy()
         self._way, self._missing, self._has_where = way, missing, has_where
         self.peaks = {way: Peaks(*way) for way in WAYS}
+        self._events = Events()
         self.changes: dict[str, int] = {}  # of each watched group since it was last asked for
         self._populated: dict[str, str] = {}
         self._late: dict[str, int] = {}  # how many notifications may still come, since several changes may have one or more
@@ -77,6 +83,10 @@ class Engine:
     def peak_by_way(self, path: str) -> dict[tuple[bool, bool], int]:
         return {way: peaks.peak[path] for way, peaks in self.peaks.items()}
 
+    def events_before_6_11(self, path: str) -> str:
+        """The text of `pids.events` of a kernel before Linux 6.11."""
+        return f"max {self._events.own[path]}\n"
+
     # ---- which commands a directory can do
 
     def can_do(self, words: Words) -> bool:
@@ -84,6 +94,8 @@ class Engine:
         kind = words[0]
         if kind in ("undo", "#"):
             return False
+        if kind == "list":
+            return True
         if kind == "where":
             return self._has_where and self.group_of(int(words[1])) is not None
         if kind in ("fork", "exit"):
@@ -113,7 +125,7 @@ class Engine:
         # the writer itself, and numbers that mean another process to a kernel
         return (
             name != "cgroup.procs"
-            or words[0] == "cat"
+            or words[0] in ("cat", "reread")
             or words[3].isdecimal()
             and words[3][0] != "0"
             or kernel_number(words[3]) is None
@@ -148,6 +160,10 @@ class Engine:
             return Answer("ok")
         if words[0] == "told":
             return self._told(words[1])
+        if words[0] == "list":
+            return self._list(words[1])
+        if words[0] == "reread":
+            words = ["cat", *words[1:]]
         group = self.group_of(int(words[1])) if words[0] in ("fork", "exit") else None
         line = " ".join(words)
         try:
@@ -156,8 +172,10 @@ class Engine:
             answer = Answer(errno.errorcode[no.number], "", no.reply)
         else:
             answer = Answer("ok", text)
+        said = "ok" if answer.error == "ok" else f"refused {answer.reply}"
         for peaks in self.peaks.values():
-            peaks.play(words, "ok" if answer.error == "ok" else f"refused {answer.reply}")
+            peaks.play(words, said)
+        self._events.play(words, said)
         self._note(words, answer)
         if answer.error == "ok" and group is not None:
             return Answer("ok", self.h.read(group, "cgroup.procs"))
@@ -170,6 +188,17 @@ class Engine:
         self._late[path] = self._late.get(path, 0) + max(0, changes - 1)
         several = "several changes" if self._late[path] else ""
         return Answer("ok", "poll inotify" if changes else "nothing", several)
+
+    def _list(self, path: str) -> Answer:
+        """The groups in a group, and its files."""
+        try:
+            children = self.h.children(path)
+        except Refused as no:
+            return Answer(errno.errorcode[no.number], "", no.reply)
+        # the root of the engine is no root in the directory, so it has each file
+        is_without = self._way == "N" and path != "/"
+        files = [name for name in (*FILES, "cgroup.kill") if name not in self._missing]
+        return Answer("ok", listing(children, [name for name in files if not is_without or not name.startswith("pids.")]))
 
     def came_late(self, path: str) -> None:
         """A notification of several changes that came after the others."""
@@ -196,7 +225,8 @@ class Engine:
     def dump(self) -> list[Words]:
         """Reads of every file of every group."""
         groups = self.h.groups()
-        return [["cat", group, name] for group in groups for name in (ON_ROOT if group == "/" else FILES)]
+        reads = [["cat", group, name] for group in groups for name in (ON_ROOT if group == "/" else FILES)]
+        return reads + [["list", group] for group in groups]
 
 
 __all__ = ["Answer", "Engine", "FILES", "LIMITS", "ON_ROOT", "Words"]

@@ -28,6 +28,8 @@ AT_THE_OPEN = "the kernel refuses at the open"
 LONG_NAMES = "the kernel has its own bounds of names"
 MORE_KEYS = "the kernel's cgroup.stat has more keys"
 OLD_EVENTS = "before Linux 6.11 a refused fork is counted at the group of the process"
+OLD_LOCAL = "before Linux 6.11 there is no pids.events.local"
+OLD_WHICH = "before Linux 6.11 the kernel doesn't say which group refuses a fork"
 NOT_STOPPED = "a file system of FUSE counts a refused fork and cannot stop it"
 
 # The kernel's answers with one errno for several words here.
@@ -48,6 +50,35 @@ def upward(path: str) -> Iterator[str]:
     while path not in ("", "/"):
         yield path
         path = os.path.dirname(path)
+
+
+class Events:
+    """What `pids.events` is after the lines that a kernel took. `total` follows the guide: a refused fork is counted at the group
+    whose limit refused it and at those above. `own` is the count of a kernel before Linux 6.11: a refused fork is counted at
+    the group of the process that forks, and nowhere else."""
+
+    def __init__(self) -> None:
+        self.home = {"1": "/"}
+        self.total: collections.Counter[str] = collections.Counter()
+        self.own: collections.Counter[str] = collections.Counter()
+
+    def play(self, words: list[str], reply: str) -> None:
+        said = reply.split(" ")
+        if said[:2] == ["refused", "pidsmax"]:
+            self.own[self.home[words[1]]] += 1
+            self.total.update(upward(said[2]))
+        elif said != ["ok"]:
+            return
+        elif words[0] == "mkdir":
+            self.total[words[1]] = self.own[words[1]] = 0
+        elif words[0] == "fork":
+            self.home[words[2]] = self.home[words[1]]
+        elif words[0] == "exit":
+            self.home.pop(words[1])
+        elif words[0] == "write" and words[2] == "cgroup.procs":
+            self.home[words[3]] = words[1]
+        elif words[0] == "write" and words[2] == "cgroup.kill":
+            self.home = {pid: home for pid, home in self.home.items() if words[1] not in upward(home)}
 
 
 class Peaks:

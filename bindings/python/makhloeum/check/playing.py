@@ -30,7 +30,7 @@ class Difference(NamedTuple):
     def kind(self) -> tuple[str, ...]:
         """What differs, so that the same is not shown twice."""
         last = self.played[-1]
-        return (last[0], last[2] if last[0] in ("cat", "write") else "", self.ours.error, self.theirs.error)
+        return (last[0], last[2] if last[0] in ("cat", "reread", "write") else "", self.ours.error, self.theirs.error)
 
     @property
     def hangs(self) -> bool:

@@ -15,6 +15,8 @@ _POLL = (
     'print("poll", p.poll(2000) and "came" or "nothing")\' {file} & w=$!; inotifywait -q -t 2 -e modify {file} & v=$!; sleep 0.5'
 )
 
+_REREAD = "python3 -c 'import os; print(os.pread(0, 65536, 0).decode(), end=\"\")'"
+
 
 def said(answer: Answer) -> str:
     """An answer as a user reads it."""
@@ -48,6 +50,7 @@ class _Script:
         self._children: dict[str, int] = {}
         self._lines: list[str] = []
         self._at = 0
+        self._open: dict[str, int] = {}
         self._starting: dict[str, str] = {}  # what starts a process, until it is moved
 
     @staticmethod
@@ -149,6 +152,18 @@ class _Script:
 
     def _cat(self, words: Words) -> str:
         return f"cat {self._file(words[1], words[2])}"
+
+    def _reread(self, words: Words) -> str:
+        """The first time the file is opened; its number stays open."""
+        file = self._file(words[1], words[2])
+        if file not in self._open:
+            # a shell has one digit for an open file
+            self._open[file] = 4 + len(self._open) % 6
+            return f"exec {self._open[file]}<{file}; cat <&{self._open[file]}"
+        return f"{_REREAD} <&{self._open[file]}"
+
+    def _list(self, words: Words) -> str:
+        return f"ls {self._place(words[1])}"
 
     def _where(self, words: Words) -> str:
         return f"cat /proc/$p{words[1]}/cgroup"

@@ -74,6 +74,8 @@ class Random:
             "bound": 4,
             "kill": 4,
             "cat": 16,
+            "reread": 8,
+            "list": 4,
             "told": 6,
         }
         kinds.update({"where": 1, "wrong": 2})
@@ -143,6 +145,14 @@ class Random:
 
     def _cat(self, engine: Engine) -> Words:
         return ["cat", self._group(engine, beside_root=True), self._choice.choice(FILES)]
+
+    def _reread(self, engine: Engine) -> Words:
+        """Of few files, so that one is often read again after it changed; not of cgroup.events, which notifies if it is open."""
+        files = ("cgroup.procs", "cgroup.stat", "pids.current", "pids.max")
+        return ["reread", self._group(engine, beside_root=True), self._choice.choice(files)]
+
+    def _list(self, engine: Engine) -> Words:
+        return ["list", self._group(engine)]
 
     def _told(self, engine: Engine) -> Words:
         if engine.changes and self._choice.random() < 0.6:

@@ -8,6 +8,7 @@ a correction is.
 
 from __future__ import annotations
 
+import collections
 import re
 from typing import Dict, Iterator, List, Optional, Tuple
 
@@ -22,6 +23,8 @@ NONE = -1  # no limit
 FROM_STATE = "ok\n"  # an answer that the page takes from its state: the processes of the group
 NEW = (NONE, 0, 0, 0, NONE, NONE, 0)
 FIELDS = {"pids.max": LIMIT, "cgroup.max.depth": DEPTH, "cgroup.max.descendants": DESCENDANTS}
+FILES = {field: file for file, field in FIELDS.items()}
+FILES |= {PEAK: "pids.peak", TOTAL: "pids.events", LOCAL: "pids.events.local", CURRENT: "pids.current"}
 LONG_ANSWER = 40
 LINE_MAX = 8192
 AUDIT_EACH = 20000
@@ -33,13 +36,20 @@ _BLANKS = b" \t\r"
 class Group:
     """A group of the copy: `numbers` by field, its own pids, the groups below."""
 
-    __slots__ = ("id", "path", "above", "numbers", "pids", "below")
+    __slots__ = ("id", "path", "above", "numbers", "pids", "below", "text")
 
     def __init__(self, number: int, path: str, above: Optional[Group]) -> None:
         self.id, self.path, self.above = number, path, above
         self.numbers: List[int] = list(NEW)
         self.pids: Dict[int, None] = {}
         self.below: Dict[int, Group] = {}
+        self.text: Optional[str] = None  # what listed() returned, until a process comes or goes
+
+    def listed(self) -> str:
+        """The text of cgroup.procs."""
+        if self.text is None:
+            self.text = "".join([f"{pid}\n" for pid in sorted(self.pids)])
+        return self.text
 
     def up(self) -> Iterator[Group]:
         """The group and those above it; the root last."""
@@ -102,6 +112,7 @@ class Copy:
         group = self.groups[number]
         self.home[pid] = group
         group.pids[pid] = None
+        group.text = None
         for at in group.up():
             at.numbers[CURRENT] += 1
             if at.numbers[CURRENT] > at.numbers[PEAK]:
@@ -110,6 +121,7 @@ class Copy:
     def died(self, pid: int) -> None:
         group = self.home.pop(pid)
         del group.pids[pid]
+        group.text = None
         for at in group.up():
             at.numbers[CURRENT] -= 1
 
@@ -120,12 +132,27 @@ class Copy:
     def kill(self, number: int, command: int) -> None:
         ended = [(pid, group) for group in self.groups[number].down() for pid in group.pids]
         self.killed[command] = ended
-        for pid, _ in ended:
-            self.died(pid)
+        for pid, group in ended:
+            del self.home[pid]
+            group.pids = {}
+            group.text = None
+        self._count(collections.Counter(group.id for _, group in ended), -1)
 
     def back(self, command: int) -> None:
         for pid, group in self.killed[command]:
-            self.born(pid, group.id)
+            # a group that was removed and restored since is another value
+            there = self.groups[group.id]
+            self.home[pid] = there
+            there.pids[pid] = None
+            there.text = None
+        self._count(collections.Counter(group.id for _, group in self.killed[command]), 1)
+
+    def _count(self, amounts: Dict[int, int], by: int) -> None:
+        """Counts processes that all came or all went, by their groups: each group is changed once."""
+        for number, amount in amounts.items():
+            for at in self.groups[number].up():
+                at.numbers[CURRENT] += by * amount
+                at.numbers[PEAK] = max(at.numbers[PEAK], at.numbers[CURRENT])
 
     def set(self, field: int, number: int, value: int) -> None:
         self.groups[number].numbers[field] = value
@@ -175,7 +202,8 @@ class History:
         if answer not in self._indexes:
             self._indexes[answer] = len(self.answers)
             self.answers.append(answer)
-        self.lines.append(shown(bare))
+        # blanks of each kind separate words, and the page splits a line at them
+        self.lines.append(shown(bare.replace(b"\t", b" ").replace(b"\r", b" ")))
         self.answer.append(self._indexes[answer])
         self._put(self._step)
 
@@ -215,7 +243,7 @@ class History:
         return "ok" + "".join(f"\n| {line}" for line in text.split("\n")[:-1])
 
     def _long_list(self, path: str, text: str) -> bool:
-        return len(text) > LONG_ANSWER and text == "".join(f"{pid}\n" for pid in sorted(self.copy.at(path).pids))
+        return len(text) > LONG_ANSWER and text == self.copy.at(path).listed()
 
     # ---- what a command changed
 
@@ -232,25 +260,36 @@ class History:
             return self.h.current(group.path)
         if field == PEAK:
             return self.h.peak(group.path)
-        if field == LIMIT:
-            limit = self.h.limit(group.path)
-            return NONE if limit is None else limit
-        file = {TOTAL: "pids.events", LOCAL: "pids.events.local", DEPTH: "cgroup.max.depth", DESCENDANTS: "cgroup.max.descendants"}
-        text = self.h.read(group.path, file[field]).split()[-1]
-        return NONE if text == "max" else int(text)
+        return self._numbers_of([group], field)[0]
+
+    def _numbers_of(self, groups: List[Group], field: int) -> List[int]:
+        """The numbers of many groups, read in one call."""
+        texts = self.h.read_many((group.path, FILES[field]) for group in groups)
+        words = [str(text).split()[-1] for text in texts]
+        return [NONE if word == "max" else int(word) for word in words]
+
+    def _follow(self, group: Group) -> None:
+        """After a process has come or gone, the counts and peaks along its path follow from the processes. The engine is asked for
+        those of the group and of the outermost one; `audit` asks for all."""
+        along = [at for at in group.up() if at.id]
+        if any(self._number(at, field) != at.numbers[field] for at in along[:1] + along[1:][-1:] for field in (CURRENT, PEAK)):
+            self._settle(group, CURRENT, PEAK)
 
     def _settle(self, group: Group, *fields: int) -> None:
         """The numbers of the group and of those above it that differ from the copy's."""
-        for field in fields:
+        along = [at for at in group.up() if at.id]
+        for field in fields if along else ():
             run: List[int] = []
-            for at in group.up():
-                amount = self._number(at, field) - at.numbers[field] if at.id else 0
+            for at, number in zip(along, self._numbers_of(along, field)):
+                amount = number - at.numbers[field]
                 if run and amount == run[2]:
                     run[1] += 1
                     continue
                 if run and run[2]:
                     self._emit(ADD, field, *run)
                 run = [at.id, 1, amount]
+            if run and run[2]:
+                self._emit(ADD, field, *run)
 
     def _set(self, group: Group, *fields: int) -> None:
         for field in fields:
@@ -268,7 +307,7 @@ class History:
 
     def _fork(self, parent: str, child: str) -> None:
         self._emit(BORN, int(child), self._home(int(child)))
-        self._settle(self.copy.home[int(child)], CURRENT, PEAK)
+        self._follow(self.copy.home[int(child)])
         self._past.append(("fork", child))
 
     def _counted(self, path: str) -> None:
@@ -278,18 +317,19 @@ class History:
     def _exit(self, pid: str) -> None:
         group = self.copy.home[int(pid)]
         self._emit(DIED, int(pid))
-        self._settle(group, CURRENT, PEAK)
+        self._follow(group)
         self._past.append(("exit", pid))
 
     def _move(self, path: str, file: str, pid: str) -> None:
-        self._moved(int(pid))
+        for group in self._moved(int(pid)):
+            self._follow(group)
         self._past.append(("move", pid))
 
-    def _moved(self, pid: int) -> None:
+    def _moved(self, pid: int) -> Tuple[Group, Group]:
+        """Writes a move down, and returns the old and the new group."""
         before = self.copy.home[pid]
         self._emit(MOVE, pid, self._home(pid))
-        for group in (before, self.copy.home[pid]):
-            self._settle(group, CURRENT, PEAK)
+        return before, self.copy.home[pid]
 
     def _kill(self, path: str, file: str, value: str) -> None:
         self.kills += 1
@@ -324,7 +364,8 @@ class History:
             self._emit(BORN, int(word), self._home(int(word)))
             self._settle(self.copy.home[int(word)], CURRENT, PEAK)
         elif verb == "move":
-            self._moved(int(word))
+            for group in self._moved(int(word)):
+                self._settle(group, CURRENT, PEAK)
         elif verb == "kill":
             self._emit(BACK, int(more[0]))
             self._settle_below(word)

@@ -71,10 +71,35 @@ class State {
   }
 
   kill(id, command) {
-    const ended = [];
-    this.home.forEach((home, at) => home >= 0 && this.run.isWithin(home, id) && ended.push([at, home]));
-    this.run.killed.set(command, ended);
-    for (const [at, home] of ended) this.count(at, home, -1);
+    const { home, run } = this, places = [], within = new Map();
+    for (let at = 0; at < home.length; at++) {
+      const group = home[at];
+      if (group < 0) continue;
+      if (!within.has(group)) within.set(group, run.isWithin(group, id));
+      if (within.get(group)) places.push(at);
+    }
+    const ended = { places: Int32Array.from(places), homes: Int32Array.from(places, (at) => home[at]) };
+    run.killed.set(command, ended);
+    this.countAll(ended, -1);
+  }
+
+  // As `count` for each of these processes: they all come or all go, so each group is changed once.
+  countAll({ places, homes }, by) {
+    const many = new Map();
+    for (let i = 0; i < places.length; i++) {
+      this.home[places[i]] = by > 0 ? homes[i] : -1;
+      if (by > 0 && this.before) this.fresh.add(this.run.pids[places[i]]);
+      many.set(homes[i], (many.get(homes[i]) || 0) + by);
+    }
+    for (const [id, amount] of many) {
+      this.groups.get(id).own += amount;
+      for (let group = this.groups.get(id); group; group = group.above) {
+        const numbers = this.change(group).numbers;
+        numbers[CURRENT] += amount;
+        if (numbers[CURRENT] > numbers[PEAK]) numbers[PEAK] = numbers[CURRENT];
+      }
+    }
+    this.work += places.length;
   }
 
   // What the command changed. `before` keeps the earlier numbers if it is wanted.
@@ -88,7 +113,7 @@ class State {
       else if (kind === MAKE) this.make(a);
       else if (kind === GONE) this.gone(a);
       else if (kind === KILL) this.kill(a, command);
-      else if (kind === BACK) this.run.killed.get(a).forEach(([killed, home]) => this.count(killed, home, 1));
+      else if (kind === BACK) this.countAll(this.run.killed.get(a), 1);
       else if (kind === SET) this.change(this.groups.get(b)).numbers[a] = c;
       else for (let at = this.groups.get(b), left = c; left > 0; left--, at = at.above) this.change(at).numbers[a] += d;
     });
@@ -145,7 +170,7 @@ export class Run {
   }
 
   // Plays the run and keeps checkpoints, each after work in proportion to its size. So all of them are in proportion to the
-  // run's differences, and a move restores one and applies a bounded part.
+  // run's differences, and a move restores one and applies a bounded part. Few commands with much work, as kills, have theirs.
   begin() {
     const state = this.fresh();
     this.checkpoints = [state.save(0)];
@@ -153,7 +178,8 @@ export class Run {
     for (let command = 0; command < this.length; command++) {
       state.apply(command);
       since++;
-      if (since < STEPS_BETWEEN || state.work < state.groups.size * NEW.length + this.pids.length / 8) continue;
+      const size = state.groups.size * NEW.length + this.pids.length / 8;
+      if (state.work < size || (since < STEPS_BETWEEN && state.work < size * 8)) continue;
       this.checkpoints.push(state.save(command + 1));
       since = state.work = 0;
     }

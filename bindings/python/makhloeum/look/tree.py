@@ -8,8 +8,10 @@ every SECONDS (0.5) for the others.
 
 from __future__ import annotations
 
+import io
 import os
 import select
+import shutil
 import sys
 import time
 from dataclasses import dataclass, field
@@ -21,6 +23,8 @@ BAR = 10
 PIDS_MOST = 16
 WATCHED_MOST = 200
 _EIGHTHS = " ▏▎▍▌▋▊▉█"
+# What is drawn where the output's encoding has no lines and blocks.
+_ASCII = str.maketrans("├└─│█▏▎▍▌▋▊▉", "|`-|#       ")
 
 
 @dataclass
@@ -86,16 +90,24 @@ def of_directory(folder: str, name: Optional[str] = None) -> Node:
 
 # ---- as text
 
-_Paint = Callable[[str, str], str]
+_Part = Tuple[str, str]  # a text and its kind
 COLOURS = {"name": "1", "bar": "34", "full": "31", "peak": "33", "yes": "32", "soft": "2", "refused": "1;31"}
 
 
-def _plain(text: str, kind: str) -> str:
-    return text
-
-
 def _coloured(text: str, kind: str) -> str:
-    return f"\x1b[{COLOURS[kind]}m{text}\x1b[0m" if text.strip() else text
+    return f"\x1b[{COLOURS[kind]}m{text}\x1b[0m" if kind and text.strip() else text
+
+
+def _escaped(name: str) -> str:
+    return name.encode("ascii", "backslashreplace").decode("ascii")
+
+
+def _cut(parts: List[_Part], width: Optional[int]) -> Iterator[_Part]:
+    """The parts of a line, as far as they fit into the width."""
+    left = sum(len(text) for text, _ in parts) if width is None else width
+    for text, kind in parts:
+        yield text[:left], kind
+        left -= len(text[:left])
 
 
 def _printable(name: str) -> str:
@@ -104,22 +116,22 @@ def _printable(name: str) -> str:
     return "".join(c if c.isprintable() else c.encode("unicode_escape").decode("ascii") for c in text)
 
 
-def _bar(node: Node, paint: _Paint) -> str:
+def _bar(node: Node) -> List[_Part]:
     """The count as a part of the limit, with a mark at the peak; without a limit there are no parts."""
     if node.current is None or node.limit is None:
-        return " " * (BAR + 2)
+        return [(" " * (BAR + 2), "")]
     eighths = min(BAR * 8, node.current * BAR * 8 // max(node.limit, 1))
     cells = ["█"] * (eighths // 8) + ([_EIGHTHS[eighths % 8]] if eighths % 8 else [])
     cells += [" "] * (BAR - len(cells))
     kind = "full" if node.current >= node.limit else "bar"
-    painted = [paint(cell, kind) for cell in cells]
+    parts = [(cell, kind) for cell in cells]
     at = min(BAR, node.peak * BAR // max(node.limit, 1)) if node.peak else 0
     if at < BAR and node.peak and cells[at] == " ":
-        painted[at] = paint("|", "peak")
-    return "[" + "".join(painted) + "]"
+        parts[at] = ("|", "peak")
+    return [("[", ""), *parts, ("]", "")]
 
 
-def _columns(node: Node, paint: _Paint) -> Tuple[str, ...]:
+def _columns(node: Node) -> Tuple[str, ...]:
     limit = "max" if node.limit is None else str(node.limit)
     count = "" if node.current is None else f"{node.current}/{limit}"
     peak = "" if node.peak is None else f"peak {node.peak}"
@@ -137,21 +149,32 @@ def _flat(node: Node, indent: str = "", mark: str = "") -> Iterator[Tuple[str, s
         yield from _flat(below, indent, "└─ " if at == len(node.below) - 1 else "├─ ")
 
 
-def draw(node: Node, colour: bool = False) -> str:
-    """The tree as text, one line for each group."""
-    paint = _coloured if colour else _plain
-    rows = [(lead, name, group, _columns(group, paint)) for lead, name, group in _flat(node)]
-    width = max(len(lead) + len(name) for lead, name, _, _ in rows)
+def draw(node: Node, colour: bool = False, width: Optional[int] = None, is_ascii: bool = False) -> str:
+    """The tree as text, one line for each group, cut to the width if there is one."""
+    rows = [(lead, _escaped(name) if is_ascii else name, group, _columns(group)) for lead, name, group in _flat(node)]
+    names = max(len(lead) + len(name) for lead, name, _, _ in rows)
     sizes = [max(len(row[3][at]) for row in rows) for at in range(4)]
     lines = []
     for lead, name, group, (count, peak, populated, refused, pids) in rows:
-        parts = [lead + paint(name, "name") + " " * (width - len(lead) - len(name)), _bar(group, paint)]
-        parts.append(count.rjust(sizes[0]))
-        parts.append(paint(peak.ljust(sizes[1]), "peak"))
-        parts.append(paint(populated.ljust(sizes[2]), "yes" if group.populated else "soft"))
-        parts += [paint(refused.ljust(sizes[3]), "refused")] if sizes[3] else []
-        lines.append("  ".join([*parts, pids]).rstrip() + "\n")
-    return "".join(lines)
+        parts = [(lead, ""), (name, "name"), (" " * (names - len(lead) - len(name) + 2), ""), *_bar(group)]
+        parts += [("  " + count.rjust(sizes[0]), ""), ("  " + peak.ljust(sizes[1]), "peak")]
+        parts.append(("  " + populated.ljust(sizes[2]), "yes" if group.populated else "soft"))
+        parts += [("  " + refused.ljust(sizes[3]), "refused")] if sizes[3] else []
+        shown = list(_cut([*parts, ("  " + pids, "")], width))
+        lines.append("".join(_coloured(*part) if colour else part[0] for part in shown).rstrip() + "\n")
+    text = "".join(lines)
+    return text.translate(_ASCII) if is_ascii else text
+
+
+def drawn_for(node: Node, out: IO[str]) -> str:
+    """The tree as this output can show it: its colours, its width if it is a terminal, and its encoding."""
+    width = shutil.get_terminal_size().columns if out.isatty() else None
+    try:
+        "├└─│█▏".encode(getattr(out, "encoding", None) or "utf-8")
+        is_ascii = False
+    except (UnicodeError, LookupError):
+        is_ascii = True
+    return draw(node, uses_colour(out), width, is_ascii)
 
 
 # ---- the command
@@ -214,7 +237,7 @@ def watch(folder: str, seconds: float, out: TextIO) -> None:
         while os.path.exists(os.path.join(folder, "cgroup.procs")):
             node = of_directory(folder)
             following.follow(node)
-            text = draw(node, uses_colour(out))
+            text = drawn_for(node, out)
             if text != last:
                 out.write(("\x1b[H\x1b[2J" if out.isatty() else "" if last is None else "\n") + text)
                 out.flush()
@@ -260,14 +283,21 @@ def main(words: List[str]) -> int:
         why = "it has no cgroup.procs" if os.path.isdir(folder) and not os.path.exists(failure.filename) else failure.strerror
         print(f"makhloeum tree: {_printable(folder)} is not a cgroup2 directory: {why}", file=sys.stderr)
         return 2
+    # a name may have letters that the output's encoding lacks
+    if isinstance(sys.stdout, io.TextIOWrapper):
+        sys.stdout.reconfigure(errors="backslashreplace")
     try:
         if seconds is None:
-            sys.stdout.write(draw(of_directory(folder), uses_colour(sys.stdout)))
+            sys.stdout.write(drawn_for(of_directory(folder), sys.stdout))
             sys.stdout.flush()
         else:
             watch(folder, seconds, sys.stdout)
     except KeyboardInterrupt:
         return 0
+    except BrokenPipeError:
+        # nobody reads the output any more; what is left of it must not fail again when the interpreter ends
+        os.dup2(os.open(os.devnull, os.O_WRONLY), sys.stdout.fileno())
+        return 141
     except OSError as failure:
         print(f"makhloeum tree: {failure}", file=sys.stderr)
         return 1

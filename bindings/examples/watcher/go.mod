@@ -1,0 +1,7 @@
+module watcher
+
+go 1.18
+
+require makhloeum v1.0.0
+
+replace makhloeum => ../../go

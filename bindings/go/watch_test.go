@@ -1,0 +1,146 @@
+package makhloeum
+
+import (
+	"context"
+	"errors"
+	"runtime"
+	"strings"
+	"syscall"
+	"testing"
+	"time"
+)
+
+const patience = 20 * time.Second
+
+// next is the next text of a watch; the end is "closed".
+func next(t *testing.T, texts <-chan string) string {
+	t.Helper()
+	select {
+	case text, ok := <-texts:
+		if !ok {
+			return "closed"
+		}
+		return text
+	case <-time.After(patience):
+		t.Fatal("no text")
+		return ""
+	}
+}
+
+func TestAWatchSendsEachText(t *testing.T) {
+	h := open(t)
+	do(t, h, "mkdir /a", "write /a pids.max 2", "write /a cgroup.procs 1", "fork 1 2")
+	texts := h.Watch(context.Background(), "/a", "pids.events")
+	says(t, "max 0\n", next(t, texts), nil)
+	do(t, h, "write /a pids.max 2") // changes the hierarchy, but not the file
+	select {
+	case text := <-texts:
+		t.Error(text)
+	case <-time.After(80 * time.Millisecond):
+	}
+	if err := h.Fork(1, 3); !errors.Is(err, syscall.EAGAIN) {
+		t.Fatal(err)
+	}
+	says(t, "max 1\n", next(t, texts), nil)
+	do(t, h, "write /a cgroup.kill 1", "rmdir /a")
+	says(t, "closed", next(t, texts), nil)
+}
+
+func TestAWatchOfALongFile(t *testing.T) {
+	h := open(t)
+	do(t, h, "mkdir /a")
+	texts := h.Watch(context.Background(), "/a", "cgroup.procs")
+	says(t, "", next(t, texts), nil)
+	do(t, h, "write /a cgroup.procs 1")
+	says(t, "1\n", next(t, texts), nil)
+	want := "1\n"
+	for _, pid := range []string{"4000001", "4000002", "4000003"} {
+		do(t, h, "fork 1 "+pid)
+		want += pid + "\n"
+	}
+	for text := next(t, texts); text != want; text = next(t, texts) {
+		if !strings.HasPrefix(want, text) {
+			t.Fatal(text)
+		}
+	}
+	h.Close()
+	says(t, "closed", next(t, texts), nil)
+}
+
+func TestAWatchEndsWithItsContextAndWithoutAFile(t *testing.T) {
+	h := open(t)
+	do(t, h, "mkdir /a")
+	ctx, cancel := context.WithCancel(context.Background())
+	texts := h.Watch(ctx, "/a", "cgroup.events")
+	says(t, "populated 0\nfrozen 0\n", next(t, texts), nil)
+	cancel()
+	says(t, "closed", next(t, texts), nil)
+	// nobody reads the first text
+	ctx, cancel = context.WithTimeout(context.Background(), 30*time.Millisecond)
+	defer cancel()
+	unread := h.Watch(ctx, "/a", "cgroup.events")
+	<-ctx.Done()
+	for text := next(t, unread); text != "closed"; text = next(t, unread) {
+		says(t, "populated 0\nfrozen 0\n", text, nil)
+	}
+	for _, row := range [][2]string{{"/none", "cgroup.events"}, {"a", "cgroup.events"}, {"/a", "none"}, {"/a", "cgroup.kill"}, {"/a\x00", "x\x00"}} {
+		says(t, "closed", next(t, h.Watch(context.Background(), row[0], row[1])), nil)
+	}
+	// a fault doesn't count a watch
+	if err := h.Fail("/a", 1, syscall.EIO); err != nil {
+		t.Fatal(err)
+	}
+	ctx, stop := context.WithCancel(context.Background())
+	defer stop()
+	says(t, "populated 0\nfrozen 0\n", next(t, h.Watch(ctx, "/a", "cgroup.events")), nil)
+	if left, err := h.ClearFaults(); err != nil || left != 1 {
+		t.Error(left, err)
+	}
+}
+
+func TestAWaitReturnsAtItsDeadline(t *testing.T) {
+	h := open(t)
+	for _, ahead := range []time.Duration{-time.Hour, 0, time.Microsecond, 70 * time.Millisecond} {
+		ended := make(chan error)
+		go func() {
+			ctx, cancel := context.WithDeadline(context.Background(), time.Now().Add(ahead))
+			defer cancel()
+			_, err := h.Wait(ctx, 0)
+			ended <- err
+		}()
+		select {
+		case err := <-ended:
+			if !errors.Is(err, context.DeadlineExceeded) {
+				t.Error(ahead, err)
+			}
+		case <-time.After(patience):
+			t.Fatal(ahead, "no end")
+		}
+	}
+}
+
+// A hierarchy that nothing refers to any more is freed: the memory of many would be more than this.
+func TestAForgottenHierarchyIsFreed(t *testing.T) {
+	forget := func(rounds int) {
+		for i := 0; i < rounds; i++ {
+			h, err := New()
+			if err != nil {
+				t.Fatal(err)
+			}
+			if err := h.Mkdir("/a"); err != nil {
+				t.Fatal(err)
+			}
+			if i%50 == 0 {
+				runtime.GC()
+				time.Sleep(5 * time.Millisecond) // the finalizers run in a goroutine
+			}
+		}
+	}
+	forget(200)
+	before := memory(t)
+	forget(2000)
+	// an engine takes more than 100,000 bytes
+	if grown := memory(t) - before; grown > 60_000_000 {
+		t.Errorf("%d bytes more", grown)
+	}
+}

@@ -1,0 +1,137 @@
+"""Descriptors of served files: numbers that no other file has, and what each of them names.
+
+A number is that of a real descriptor by which nothing can be read or written (O_PATH): a call that is not served fails with EBADF.
+For the files of which a mount tells that they have changed it can be waited on. Copies of a descriptor share the open file.
+"""
+
+from __future__ import annotations
+
+import errno
+import io
+import os
+from typing import Any, Callable, Union
+
+from ._tree import Node, RawFile, Tree, error
+
+Opened = Union[Node, RawFile]
+_real_open, _real_close, _real_dup2 = os.open, os.close, os.dup2
+
+
+def _number_to_poll(opened: Opened) -> int | None:
+    if not isinstance(opened, RawFile) or opened.poller is None:
+        return None
+    try:
+        return opened.poller.descriptor()
+    except OSError:  # the kernel has no bytes out of band for these sockets: the file can be read, but not polled
+        return None
+
+
+class Descriptors:
+    def __init__(self) -> None:
+        self._opened: dict[int, Opened] = {}
+
+    def get(self, fd: Any) -> Opened | None:
+        return self._opened.get(fd) if isinstance(fd, int) else None
+
+    def add(self, opened: Opened) -> int:
+        """A new descriptor, which is closed on exec."""
+        fd = _number_to_poll(opened)
+        fd = _real_open(os.devnull, os.O_PATH | os.O_CLOEXEC) if fd is None else fd
+        self._opened[fd] = opened
+        return fd
+
+    def onto(self, fd: int, to: int, inheritable: bool) -> int:
+        """dup2 of a served descriptor."""
+        opened = self._opened[fd]
+        self.forget(to)
+        _real_dup2(fd, to, inheritable)
+        self._opened[to] = opened
+        return to
+
+    def forget(self, fd: int) -> None:
+        """The number no longer names the file, which is closed with its last descriptor."""
+        opened = self._opened.pop(fd, None)
+        if isinstance(opened, RawFile) and not any(it is opened for it in list(self._opened.values())):
+            opened.close()
+
+    def close(self, fd: int) -> None:
+        self.forget(fd)
+        _real_close(fd)
+
+    def forget_all(self, low: int, high: int) -> None:
+        for fd in [number for number in list(self._opened) if low <= number < high]:
+            self.forget(fd)
+
+    def end(self, tree: Tree) -> None:
+        """The tree is no longer mounted: its descriptors are only numbers until they are closed."""
+        for fd in [fd for fd, it in list(self._opened.items()) if (it if isinstance(it, Node) else it.node).tree is tree]:
+            del self._opened[fd]
+
+    def raw(self, fd: int) -> RawFile:
+        opened = self._opened[fd]
+        if isinstance(opened, Node):
+            raise error(errno.EISDIR, opened.shown)
+        return opened
+
+
+class Shared(io.RawIOBase):
+    """A file object over a served descriptor, which it closes or not. The open file is that of the descriptor."""
+
+    def __init__(self, table: Descriptors, fd: int, closes: bool, name: Any) -> None:
+        self._raw = table.raw(fd)
+        self._table, self._fd, self._closes = table, fd, closes
+        self.name, self.mode = name, self._raw.mode
+
+    def close(self) -> None:
+        if not self.closed:
+            super().close()
+            if self._closes:
+                self._table.close(self._fd)
+
+    def fileno(self) -> int:
+        return self._fd
+
+    def readable(self) -> bool:
+        return self._raw.readable()
+
+    def writable(self) -> bool:
+        return self._raw.writable()
+
+    def seekable(self) -> bool:
+        return True
+
+    def seek(self, offset: int, whence: int = os.SEEK_SET) -> int:
+        return self._raw.seek(offset, whence)
+
+    def tell(self) -> int:
+        return self._raw.tell()
+
+    def truncate(self, size: int | None = None) -> int:
+        return self._raw.truncate(size)
+
+    def readinto(self, buffer: Any) -> int:
+        return self._raw.readinto(buffer)
+
+    def write(self, data: Any) -> int:
+        return self._raw.write(data)
+
+
+def at_position(raw: RawFile, offset: int, call: Callable[[], Any]) -> Any:
+    """What the call returns with the file at another position, which is then as before."""
+    before = raw.tell()
+    raw.seek(offset)
+    try:
+        return call()
+    finally:
+        raw.seek(before)
+
+
+def scatter(raw: RawFile, buffers: Any) -> int:
+    """Reads once, into several buffers."""
+    parts = [memoryview(buffer).cast("B") for buffer in buffers]
+    data = raw.read(sum(map(len, parts))) or b""
+    rest = data
+    for part in parts:
+        size = min(len(part), len(rest))
+        part[:size], rest = rest[:size], rest[size:]
+    return len(data)

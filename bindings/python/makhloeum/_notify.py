@@ -1,0 +1,118 @@
+"""Descriptors that poll, select and epoll can wait on, for the files of which a mount tells that they have changed.
+
+Such a descriptor is one end of a pair of sockets, and a byte that is sent out of band to it is its POLLPRI. As on a mount it is
+ready before the first read, and then once the text differs from the one that was read last, or the group is gone.
+"""
+
+from __future__ import annotations
+
+import contextlib
+import ctypes
+import socket
+import threading
+import weakref
+from typing import TYPE_CHECKING
+
+from ._library import DONE, REFUSED, TOO_SMALL, Info, patient
+
+if TYPE_CHECKING:
+    from .hierarchy import Hierarchy
+
+NOTIFIED = ("cgroup.events", "pids.events", "pids.events.local")
+_TEXT_BYTES = 256
+_SLICE = 0.05  # seconds after which the thread looks whether it should end
+
+
+class Poller:
+    """The notification of one open file."""
+
+    def __init__(self, group: str, file: str) -> None:
+        self._words = group.encode("utf-8", "surrogateescape"), file.encode()
+        self._lock = threading.Lock()
+        self._seen = b""
+        self._ready = True
+        self._ends: tuple[socket.socket, socket.socket] | None = None
+
+    def descriptor(self) -> int:
+        """A new descriptor, which the caller closes. All of a file are ready together."""
+        with self._lock:
+            if self._ends is None:
+                self._ends = socket.socketpair()
+                for end in self._ends:
+                    end.setblocking(False)
+                if self._ready:
+                    self._tell()
+            return socket.dup(self._ends[0].fileno())
+
+    def _tell(self) -> None:
+        if self._ends is not None:
+            self._ends[1].send(b"!", socket.MSG_OOB)
+
+    def take(self, text: bytes) -> None:
+        """The file was read."""
+        with self._lock:
+            self._seen = text
+            if self._ready and self._ends is not None:
+                with contextlib.suppress(BlockingIOError):
+                    self._ends[0].recv(1, socket.MSG_OOB)
+            self._ready = False
+
+    def look(self, h: Hierarchy) -> None:
+        """Tells that the text is another one, or that the group is gone. Faults don't count this call."""
+        with self._lock:
+            if self._ready:
+                return
+            text, info = ctypes.create_string_buffer(_TEXT_BYTES), Info()
+            words = (*self._words, self._seen, 0, text, _TEXT_BYTES)
+            status = patient.mk_wait_file(h._at, *words, ctypes.byref(info))
+            if status in (DONE, REFUSED, TOO_SMALL):
+                self._ready = True
+                self._tell()
+
+    def close(self) -> None:
+        with self._lock:
+            if self._ends is not None:
+                for end in self._ends:
+                    end.close()
+            self._ends, self._ready = None, True
+
+
+class Watch:
+    """Looks at the open files of a hierarchy whenever it changes: in a thread, which starts with the first of them."""
+
+    def __init__(self, h: Hierarchy) -> None:
+        self._h = h
+        self._pollers: weakref.WeakSet[Poller] = weakref.WeakSet()
+        self._lock = threading.Lock()
+        self._thread: threading.Thread | None = None
+        self._ended = False
+
+    def add(self, poller: Poller) -> None:
+        with self._lock:
+            self._pollers.add(poller)
+            if self._thread is None and not self._ended:
+                self._thread = threading.Thread(target=self._follow, name="makhloeum-poll", daemon=True)
+                self._thread.start()
+
+    def look(self) -> None:
+        with self._lock:
+            pollers = list(self._pollers)
+        for poller in pollers:
+            poller.look(self._h)
+
+    def _follow(self) -> None:
+        seen = 0
+        while not self._ended:
+            try:
+                seen = self._h.changes()
+                self.look()
+                self._h.wait(seen, _SLICE)
+            except TimeoutError:
+                continue
+            except ValueError:  # the hierarchy is closed
+                return
+
+    def end(self) -> None:
+        self._ended = True
+        if self._thread is not None:
+            self._thread.join()

@@ -1,0 +1,63 @@
+"""Puts functions in the place of others, and takes them away again, also where somebody else does so meanwhile."""
+
+from __future__ import annotations
+
+import glob
+import os
+from typing import Any, Callable, NamedTuple
+
+# os says in these sets which functions take a descriptor, a dir_fd and the like
+_SETS = (os.supports_fd, os.supports_dir_fd, os.supports_effective_ids, os.supports_follow_symlinks)
+
+
+class Place(NamedTuple):
+    module: Any
+    name: str
+    key: str  # in `was`
+    function: Callable[..., Any]
+
+
+class Replacement:
+    """The functions that were replaced are in `was`."""
+
+    def __init__(self, places: list[Place], was: dict[str, Callable[..., Any]]) -> None:
+        self._places, self.was = places, was
+        # somebody else's patch that stood over a function of ours when it was to be taken away, so that ours stays below it
+        self._above: dict[tuple[Any, str], Any] = {}
+        self._bound: list[tuple[type, str, Any]] = []
+
+    def put(self) -> None:
+        for place in self._places:
+            current = getattr(place.module, place.name)
+            if current is place.function or self._above.get((place.module, place.name)) is current:
+                continue
+            self.was[place.key] = current
+            setattr(place.module, place.name, place.function)
+        for place in self._places:
+            for names in _SETS:
+                if self.was[place.key] in names:
+                    names.add(place.function)
+        self._put_bound()
+
+    def _put_bound(self) -> None:
+        """From Python 3.13 on pathlib calls functions of os that classes of glob have as static methods."""
+        functions = {id(self.was[place.key]): place.function for place in self._places}
+        for kind in [it for it in vars(glob).values() if isinstance(it, type)]:
+            for name, value in list(vars(kind).items()):
+                if isinstance(value, staticmethod) and id(value.__func__) in functions:
+                    self._bound.append((kind, name, value))
+                    setattr(kind, name, staticmethod(functions[id(value.__func__)]))
+
+    def take_away(self) -> None:
+        for kind, name, value in self._bound:
+            setattr(kind, name, value)
+        self._bound.clear()
+        for place in self._places:
+            for names in _SETS:
+                names.discard(place.function)
+            current = getattr(place.module, place.name)
+            if current is place.function:
+                setattr(place.module, place.name, self.was[place.key])
+                self._above.pop((place.module, place.name), None)
+            else:
+                self._above[place.module, place.name] = current

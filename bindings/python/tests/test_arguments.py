@@ -1,0 +1,102 @@
+"""Arguments of a wrong type or out of range are refused by the errors that Python has for them, and change nothing."""
+
+import errno
+import math
+
+import pytest
+
+from makhloeum import BadValue, Hierarchy, NothingToUndo, mounted_at
+
+
+@pytest.fixture
+def h(hierarchy):
+    hierarchy.mkdir("/a")
+    hierarchy.mkdir("/b")
+    return hierarchy
+
+
+@pytest.mark.parametrize("number", [2**32 + 5, 2**31, 2**64 + 5, 0, -1, -(2**32) + 5])
+def test_an_errno_out_of_range_is_a_value_error(h, number):
+    with pytest.raises(ValueError, match=f"fail /a: {number} is not an errno"):
+        h.fail("/a", number)
+    assert h.clear_faults() == 0
+
+
+@pytest.mark.parametrize("wrong", ["0", None, 1.0, True, b"1", [1]])
+def test_what_is_no_number_is_a_type_error(h, wrong):
+    for call in (
+        lambda: h.fail("/a", wrong), lambda: h.fail("/a", errno.EIO, nth=wrong), lambda: h.vanish("/a", nth=wrong), lambda: h.wait(wrong, timeout=0),
+        lambda: h.undo_to(wrong), lambda: h.exit(wrong), lambda: h.where(wrong), lambda: h.fork(wrong, 5), lambda: h.fork(1, wrong),
+        lambda: mounted_at("/x", pid=wrong).__enter__(),
+    ):
+        with pytest.raises(TypeError):
+            call()
+    assert h.clear_faults() == 0 and h.depth() == 2
+
+
+@pytest.mark.parametrize("file", ["pids.max", "cgroup.procs", "cgroup.kill", "cgroup.max.depth"])
+@pytest.mark.parametrize("wrong", [True, False])
+def test_a_truth_value_is_no_value(h, file, wrong):
+    with pytest.raises(TypeError, match="not bool"):
+        h.write("/a", file, wrong)
+    assert h.depth() == 2 and h.limit("/a") is None
+
+
+def test_a_number_of_changes_is_not_wrapped(h):
+    for wrong in (-1, 2**64, 2**64 + 2):
+        with pytest.raises(ValueError, match="is not a number of changes"):
+            h.wait(wrong, timeout=0)
+    with pytest.raises(TimeoutError):
+        h.wait(2, timeout=-1)
+    assert h.wait(2**64 - 1, timeout=0) == 2
+
+
+def test_a_timeout_is_a_number_of_seconds(h):
+    for wrong in ("1", True, [1], b"1"):
+        with pytest.raises(TypeError, match="wait: a timeout is"):
+            h.wait(2, timeout=wrong)
+    with pytest.raises(ValueError, match="nan"):
+        h.wait(2, timeout=math.nan)
+    assert h.wait(1, timeout=math.inf) == 2
+
+
+def test_a_mark_beyond_64_bits_undoes_nothing(h):
+    for mark in (3, 2**63, 2**64, 2**64 + 1, 2**70):
+        with pytest.raises(NothingToUndo):
+            h.undo_to(mark)
+    with pytest.raises(ValueError):
+        h.undo_to(-1)
+    assert h.depth() == 2
+
+
+def test_files_to_read_are_pairs(h):
+    for wrong in ("ab", b"ab"):
+        with pytest.raises(TypeError, match="not a pair"):
+            h.read_many([wrong])
+    with pytest.raises(ValueError):
+        h.read_many([("/a",)])
+    with pytest.raises(TypeError):
+        h.read_many(5)
+
+
+def test_pids_as_other_ints(h):
+    class Number:
+        def __index__(self):
+            return 2
+
+    h.fork(1, Number())
+    assert h.where(Number()) == "0::/\n"
+    with pytest.raises(BadValue):
+        h.exit(0)
+
+
+@pytest.mark.parametrize("pid", [0, -1, 2**63, 2**70])
+def test_the_caller_is_a_process(pid):
+    with pytest.raises(ValueError, match="is not a pid"):
+        mounted_at("/x", pid=pid).__enter__()
+
+
+def test_what_is_mounted_is_a_hierarchy():
+    for wrong in (5, "x", Hierarchy):
+        with pytest.raises(TypeError, match="a Hierarchy or None"):
+            mounted_at("/x", wrong).__enter__()

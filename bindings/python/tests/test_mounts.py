@@ -1,0 +1,371 @@
+"""Several blocks of mounted_at at a time, what they leave behind, and calls that reach files by descriptors."""
+
+import builtins
+import ctypes
+import errno
+import glob
+import io
+import os
+import pathlib
+import shutil
+import subprocess
+import sys
+import threading
+import unittest.mock
+from os import listdir as early_listdir
+from os import open as early_open
+
+import pytest
+
+from makhloeum import Hierarchy, mounted_at
+from makhloeum._calls import _REFUSED, _SERVED, _WITHOUT_EFFECT
+
+AT = "/sys/fs/cgroup"
+REPLACED = [(builtins, "open"), (io, "open"), *((os, name) for name in ("open", *_SERVED, *_REFUSED, *_WITHOUT_EFFECT) if hasattr(os, name))]
+
+
+def functions():
+    return [getattr(module, name) for module, name in REPLACED] + [value for kind in vars(glob).values() if isinstance(kind, type) for value in vars(kind).values()]
+
+
+BEFORE = functions()
+SETS = [set(it) for it in (os.supports_fd, os.supports_dir_fd, os.supports_effective_ids, os.supports_follow_symlinks)]
+
+
+@pytest.fixture(autouse=True)
+def everything_is_put_back():
+    yield
+    assert all(now is was for now, was in zip(functions(), BEFORE))
+    assert SETS == [set(it) for it in (os.supports_fd, os.supports_dir_fd, os.supports_effective_ids, os.supports_follow_symlinks)]
+
+
+@pytest.fixture
+def h():
+    with mounted_at(AT) as hierarchy:
+        os.mkdir(f"{AT}/a")
+        yield hierarchy
+
+
+def code(call, *arguments, **more):
+    try:
+        call(*arguments, **more)
+    except OSError as error:
+        return errno.errorcode[error.errno].replace("ENOTSUP", "EOPNOTSUPP") if error.errno == errno.EOPNOTSUPP else errno.errorcode[error.errno]
+    return "ok"
+
+
+# ---- several at a time
+
+
+def test_two_blocks_may_end_crosswise():
+    first, second = mounted_at("/one"), mounted_at("/two")
+    one, two = first.__enter__(), second.__enter__()
+    os.mkdir("/one/a")
+    os.mkdir("/two/b")
+    first.__exit__(None, None, None)
+    assert not os.path.exists("/one") and os.listdir("/two")[-1] == "b" and one.closed
+    os.mkdir("/two/c")
+    assert two.groups() == ["/", "/b", "/c"]
+    second.__exit__(None, None, None)
+    assert not os.path.exists("/two")
+
+
+@pytest.mark.parametrize("order", [(0, 1, 2), (1, 0, 2), (1, 2, 0), (2, 0, 1), (0, 2, 1), (2, 1, 0)])
+def test_three_blocks_may_end_in_any_order(order):
+    blocks = [mounted_at(f"/m{number}") for number in range(3)]
+    for number, block in enumerate(blocks):
+        block.__enter__()
+        os.mkdir(f"/m{number}/x")
+    left = {0, 1, 2}
+    for number in order:
+        blocks[number].__exit__(None, None, None)
+        left.remove(number)
+        assert {it for it in range(3) if os.path.isdir(f"/m{it}/x")} == left
+
+
+def test_blocks_in_threads():
+    failures = []
+
+    def use(number):
+        try:
+            for round_ in range(60):
+                with mounted_at(f"/t{number}") as h:
+                    os.mkdir(f"/t{number}/a")
+                    with open(f"/t{number}/a/pids.max", "w") as file:
+                        file.write(str(number))
+                    assert h.limit("/a") == number and os.path.isdir(f"/t{number}/a")
+        except BaseException as failure:  # to be raised by the test
+            failures.append(failure)
+
+    threads = [threading.Thread(target=use, args=(number,)) for number in range(4)]
+    for thread in threads:
+        thread.start()
+    for thread in threads:
+        thread.join(60)
+    assert not failures and not any(thread.is_alive() for thread in threads)
+
+
+def test_one_over_another_and_below_it(hierarchy):
+    hierarchy.mkdir("/lower")
+    with mounted_at(AT, hierarchy), mounted_at(AT) as upper:
+        os.mkdir(f"{AT}/upper")
+        assert upper.groups() == ["/", "/upper"] and not os.path.exists(f"{AT}/lower")
+        with mounted_at(f"{AT}/upper/deeper") as deeper:
+            os.mkdir(f"{AT}/upper/deeper/x")
+            assert deeper.groups() == ["/", "/x"] and upper.groups() == ["/", "/upper"]
+    with mounted_at(AT, hierarchy):
+        assert os.path.isdir(f"{AT}/lower")
+
+
+def test_a_patch_that_ends_later_leaves_nothing():
+    block = mounted_at(AT)
+    block.__enter__()
+    patch = unittest.mock.patch("os.listdir", wraps=os.listdir)
+    mock = patch.__enter__()
+    assert os.listdir(AT)
+    block.__exit__(None, None, None)
+    assert os.listdir is mock and os.listdir("/") and code(os.listdir, f"{AT}/none") == "ENOENT"
+    with mounted_at(AT):
+        assert "cgroup.procs" in os.listdir(AT)
+    patch.__exit__(None, None, None)
+    with mounted_at(AT):
+        assert "cgroup.procs" in os.listdir(AT)
+
+
+def test_a_patch_below_is_used_for_other_paths(tmp_path):
+    with unittest.mock.patch("os.listdir", lambda path: ["patched"]), mounted_at(AT):
+        assert os.listdir(tmp_path) == ["patched"] and "cgroup.procs" in os.listdir(AT)
+
+
+# ---- descriptors
+
+
+def test_a_copy_of_a_descriptor_is_the_same_open_file(h):
+    fd = os.open(f"{AT}/a/pids.max", os.O_RDWR)
+    copy = os.dup(fd)
+    assert os.read(fd, 2) == b"ma" and os.read(copy, 9) == b"x\n" and not os.get_inheritable(copy)
+    os.close(fd)
+    assert os.write(copy, b"5") == 1 and h.limit("/a") == 5 and os.pread(copy, 9, 0) == b"5\n"
+    other = os.open(f"{AT}/a/pids.current", os.O_RDONLY)
+    assert os.dup2(copy, other) == other and os.pread(other, 9, 0) == b"5\n" and os.dup2(other, other) == other
+    os.close(copy)
+    with os.fdopen(other, "r+") as file:
+        file.seek(0)
+        assert file.read() == "5\n"
+    for closed in (fd, copy, other):
+        assert code(os.read, closed, 1) == "EBADF" and code(os.dup, closed) == "EBADF"
+
+
+def test_a_real_descriptor_over_a_served_one_and_the_reverse(h, tmp_path):
+    (tmp_path / "f").write_text("real")
+    real, served = os.open(tmp_path / "f", os.O_RDONLY), os.open(f"{AT}/a/pids.max", os.O_RDONLY)
+    os.dup2(real, served)
+    assert os.read(served, 9) == b"real"
+    again = os.open(f"{AT}/a/pids.max", os.O_RDONLY)
+    os.dup2(again, real, inheritable=False)
+    assert os.read(real, 9) == b"max\n" and not os.get_inheritable(real)
+    os.closerange(again, again + 1)
+    assert code(os.read, again, 1) == "EBADF" and os.pread(real, 1, 0) == b"m"
+    for fd in (real, served):
+        os.close(fd)
+
+
+def test_vectors(h):
+    fd = os.open(f"{AT}/a/pids.max", os.O_RDWR)
+    first, second, third = bytearray(1), bytearray(2), bytearray(b"....")
+    assert os.readv(fd, [first, second, third]) == 4 and (first, second, third) == (b"m", b"ax", b"\n...")
+    assert os.readv(fd, [first]) == 0
+    assert os.preadv(fd, [memoryview(second), third], 1) == 3 and (second, third) == (b"ax", b"\n...")
+    assert os.lseek(fd, 0, os.SEEK_CUR) == 4
+    assert os.writev(fd, [b"1", b"2\n"]) == 3 and h.limit("/a") == 12 and h.changes() == 2
+    os.lseek(fd, 0, os.SEEK_SET)
+    assert os.pwritev(fd, [b"3", b"", memoryview(b"4")], 7) == 2 and h.limit("/a") == 34 and os.lseek(fd, 0, os.SEEK_CUR) == 0
+    assert os.pwrite(fd, b"56", 0) == 2 and h.limit("/a") == 56 and os.lseek(fd, 0, os.SEEK_CUR) == 0 and os.read(fd, 9) == b"56\n"
+    assert code(os.writev, fd, [b"x", b"y"]) == "EINVAL" and code(os.preadv, fd, [first], -1) == "EINVAL"
+    os.close(fd)
+    reading, writing = os.open(f"{AT}/a/pids.max", os.O_RDONLY), os.open(f"{AT}/a/pids.max", os.O_WRONLY)
+    assert code(os.writev, reading, [b"1"]) == "EBADF" and code(os.readv, writing, [first]) == "EBADF"
+    for fd in (reading, writing):
+        os.close(fd)
+
+
+def test_vectors_of_other_files_are_as_before(h, tmp_path):
+    fd = os.open(tmp_path / "f", os.O_RDWR | os.O_CREAT)
+    part = bytearray(2)
+    assert os.writev(fd, [b"ab", b"c"]) == 3 and os.preadv(fd, [part], 1) == 2 and part == b"bc"
+    assert os.pwritev(fd, [b"X"], 0) == 1 and os.pread(fd, 9, 0) == b"Xbc" and os.lseek(fd, 0, os.SEEK_SET) == 0
+    assert os.readv(fd, [part]) == 2 and os.pwrite(fd, b"Y", 0) == 1
+    copy = os.dup(fd)
+    assert os.fstat(copy).st_size == 3
+    os.closerange(copy, copy + 1)
+    os.ftruncate(fd, 1)
+    assert os.fstat(fd).st_size == 1
+    os.close(fd)
+
+
+def test_files_share_a_descriptor_or_not(h):
+    fd = os.open(f"{AT}/a/pids.max", os.O_RDWR)
+    with open(fd, "rb", buffering=0, closefd=False) as file:
+        assert file.read(2) == b"ma" and file.fileno() == fd and file.name == fd
+    assert os.read(fd, 9) == b"x\n"
+    copy = os.dup(fd)
+    with open(copy) as file:
+        pass
+    assert code(os.read, copy, 1) == "EBADF" and os.pread(fd, 9, 0) == b"max\n"
+    os.close(fd)
+    with open(f"{AT}/a/pids.max") as file:
+        assert os.fstat(file.fileno()).st_size == 4 and os.pread(file.fileno(), 3, 0) == b"max" and file.name == f"{AT}/a/pids.max"
+    with open(f"{AT}/a/pids.max", opener=lambda path, flags: os.open(path, flags, 0o600)) as file:
+        assert file.read() == "max\n"
+    with open(f"{AT}/a/pids.max", "w", opener=os.open) as file:
+        file.write("8")
+    assert h.limit("/a") == 8
+
+
+@pytest.mark.parametrize("mode, more", [("q", {}), ("", {}), ("rw", {}), ("rbt", {}), ("rr", {}), ("rb", {"encoding": "utf-8"}), ("r", {"buffering": 0}), ("r", {"closefd": False})])
+def test_a_wrong_mode_is_a_value_error_as_of_a_real_file(h, tmp_path, mode, more):
+    (tmp_path / "f").write_text("")
+    for path in (f"{AT}/a/pids.max", tmp_path / "f"):
+        with pytest.raises(ValueError):
+            open(path, mode, **more)
+
+
+def test_all_fields_of_a_stat(h, tmp_path):
+    for path in (AT, f"{AT}/a", f"{AT}/a/pids.max", f"{AT}/a/cgroup.kill"):
+        it, real = os.stat(path), os.stat(tmp_path)
+        names = [name for name in dir(real) if name.startswith("st_")]
+        assert all(type(getattr(it, name)) is type(getattr(real, name)) for name in names)
+        assert it.st_mtime_ns // 10**9 == int(it.st_mtime) == it[8] and it.st_blocks == 0 and it.st_blksize == 4096
+        assert (it.st_atime_ns, it.st_ctime_ns) == (it.st_mtime_ns,) * 2
+
+
+# ---- listings
+
+
+def test_scandir_and_listdir_by_path_bytes_and_descriptor(h):
+    os.mkdir(f"{AT}/a/b")
+    fd = os.open(f"{AT}/a", os.O_RDONLY | os.O_DIRECTORY)
+    names = os.listdir(f"{AT}/a")
+    assert os.listdir(fd) == names and os.listdir(os.fsencode(f"{AT}/a")) == list(map(os.fsencode, names))
+    for given, above in ((fd, ""), (f"{AT}/a", f"{AT}/a/"), (pathlib.Path(AT, "a"), f"{AT}/a/")):
+        with os.scandir(given) as entries:
+            found = {entry.name: entry for entry in entries}
+        assert list(found) == names and found["b"].path == f"{above}b" and found["b"].is_dir() and found["pids.max"].is_file()
+        assert found["pids.max"].stat().st_size == 4 and os.fspath(found["b"]) == f"{above}b" and found["b"].inode() == os.stat(f"{AT}/a/b").st_ino
+    with os.scandir(os.fsencode(f"{AT}/a")) as entries:
+        assert os.fsencode(f"{AT}/a/b") in [entry.path for entry in entries]
+    assert [it[2][-1] for it in os.fwalk(f"{AT}/a/b")] == [os.listdir(f"{AT}/a/b")[-1]]
+    os.close(fd)
+
+
+GLOBBING = """
+import glob, os, pathlib, sys
+from makhloeum import mounted_at
+
+def bound():
+    return [value for kind in vars(glob).values() if isinstance(kind, type) for value in vars(kind).values()]
+
+before = bound()
+with mounted_at("/sys/fs/cgroup") as h:
+    os.makedirs("/sys/fs/cgroup/a/b")
+    top = pathlib.Path("/sys/fs/cgroup")
+    assert sorted(map(str, top.rglob("pids.max"))) == ["/sys/fs/cgroup/a/b/pids.max", "/sys/fs/cgroup/a/pids.max"], list(top.rglob("*"))
+    assert [str(path) for path in top.glob("*/b")] == ["/sys/fs/cgroup/a/b"] and len(list(top.glob("a/*.procs"))) == 1
+    assert sorted(path.name for path in top.iterdir() if path.is_dir()) == ["a"]
+    assert [str(it[0]) for it in os.walk(top)] == ["/sys/fs/cgroup", "/sys/fs/cgroup/a", "/sys/fs/cgroup/a/b"]
+    if hasattr(top, "walk"):
+        assert [str(it[0]) for it in top.walk()] == ["/sys/fs/cgroup", "/sys/fs/cgroup/a", "/sys/fs/cgroup/a/b"]
+assert not list(pathlib.Path("/sys/fs/cgroup").glob("a/b/pids.max")) and all(now is was for now, was in zip(bound(), before))
+"""
+
+
+@pytest.mark.parametrize("version", ["3.11", "3.12", "3.13", "3.14"])
+def test_pathlib_of_each_python_finds_files(version):
+    """What pathlib calls differs; where an interpreter isn't at hand, the test above has the calls of os that it makes."""
+    python = shutil.which(f"python{version}")
+    words = dict(os.environ, PYTHONPATH=str(pathlib.Path(__file__).parents[1]), PYENV_VERSION="")
+    words["PYENV_VERSION"] = next((it.name for it in pathlib.Path(os.environ.get("PYENV_ROOT", "/root/.pyenv"), "versions").glob(f"{version}.*")), "system")
+    if python is None or subprocess.run([python, "-c", ""], env=words, capture_output=True).returncode != 0:
+        pytest.skip(f"there is no Python {version}")
+    ran = subprocess.run([python, "-c", GLOBBING], env=words, capture_output=True, text=True)
+    assert ran.returncode == 0, ran.stderr
+
+
+# ---- what isn't supported raises
+
+
+def test_real_files_are_not_moved_into_a_mount(h, tmp_path):
+    (tmp_path / "f").write_text("real")
+    for call in (os.rename, os.replace, os.link, os.symlink):
+        assert code(call, tmp_path / "f", f"{AT}/a/f") == "EPERM" and code(call, f"{AT}/a/pids.max", tmp_path / "g") == "EPERM"
+    assert os.listdir(tmp_path) == ["f"] and (tmp_path / "f").read_text() == "real"
+
+
+def test_what_reaches_the_real_functions_raises(h, tmp_path):
+    for call, arguments in (
+        (early_listdir, (f"{AT}/a",)), (early_open, (f"{AT}/a/pids.max", os.O_RDONLY)), (io.FileIO, (f"{AT}/a/pids.max",)),
+        (io.FileIO, (os.fsencode(f"{AT}/../cgroup/a/pids.max"),)),
+    ):
+        with pytest.raises(OSError, match="mounted_at serves open and the functions of os .* `makhloeum run`") as failed:
+            call(*arguments)
+        assert failed.value.errno == errno.EOPNOTSUPP
+    with pytest.raises(OSError, match="makhloeum run"):
+        subprocess.run([sys.executable, "-c", ""], cwd=f"{AT}/a")
+    assert early_listdir(tmp_path) == []
+    with io.FileIO("/dev/null") as file:
+        assert file.read() == b""
+
+
+def test_inotify_raises(h):
+    for name in ("inotify_init1", "inotify_add_watch"):
+        with pytest.raises(OSError, match=f"{name}: mounted_at has no inotify: .*`makhloeum run`"):
+            getattr(ctypes.CDLL(None), name)
+
+
+def test_after_the_block_there_is_inotify():
+    assert ctypes.CDLL(None).inotify_add_watch
+
+
+def test_calls_on_a_descriptor_that_are_not_served_raise(h):
+    fd, group = os.open(f"{AT}/a/pids.max", os.O_RDWR), os.open(f"{AT}/a", os.O_RDONLY)
+    real = os.open("/dev/null", os.O_RDWR)
+    for it in (fd, group):
+        for call in (
+            lambda: os.sendfile(real, it, 0, 4), lambda: os.fchdir(it), lambda: os.fstatvfs(it), lambda: os.fsync(it), lambda: os.lockf(it, os.F_LOCK, 0),
+            lambda: os.posix_fallocate(it, 0, 1), lambda: os.copy_file_range(it, real, 1), lambda: os.fpathconf(it, "PC_NAME_MAX"), lambda: os.listxattr(it),
+        ):
+            with pytest.raises(OSError):
+                call()
+    assert code(os.pathconf, f"{AT}/a", "PC_NAME_MAX") == code(os.statvfs, AT) == code(os.chdir, AT) == "EOPNOTSUPP"
+    assert code(os.open, f"{AT}/a", os.O_TMPFILE | os.O_RDWR) == "EOPNOTSUPP" and os.fchmod(fd, 0o600) is None and os.ftruncate(fd, 0) is None
+    assert code(os.open, "x", os.O_RDONLY, dir_fd=fd) == "ENOTDIR" and code(os.readv, group, [bytearray(1)]) == "EISDIR"
+    ran = subprocess.run([sys.executable, "-c", f"import os\nos.read({fd}, 9)"], pass_fds=[fd], capture_output=True, text=True)
+    assert ran.returncode == 1 and "Bad file descriptor" in ran.stderr
+    for it in (fd, group, real):
+        os.close(it)
+
+
+def test_after_the_block_a_descriptor_reads_nothing(hierarchy):
+    with mounted_at(AT, hierarchy):
+        fd, top = os.open(f"{AT}/cgroup.procs", os.O_RDONLY), os.open(AT, os.O_RDONLY)
+        file = open(f"{AT}/cgroup.procs")
+    assert code(os.read, fd, 9) == "EBADF" and code(os.listdir, top) == "ENOTDIR"
+    assert file.read() == "1\n"  # the hierarchy is open still
+    file.close()
+    os.close(fd)
+    os.close(top)
+
+
+def test_a_removed_group_ends_its_own_files_alone(h):
+    os.mkdir(f"{AT}/ab")
+    os.makedirs(f"{AT}/a/b")
+    with open(f"{AT}/ab/pids.max") as near, open(f"{AT}/a/b/pids.max") as below, open(f"{AT}/a/pids.max") as gone:
+        os.rmdir(f"{AT}/a/b")
+        os.rmdir(f"{AT}/a")
+        os.mkdir(f"{AT}/a")
+        assert near.read() == "max\n" and code(below.read) == "ENODEV" and code(gone.read) == "ENODEV"
+
+
+def test_a_hierarchy_is_mounted_only_once_it_is_one():
+    with pytest.raises(ValueError):
+        mounted_at(AT, Hierarchy.__new__(Hierarchy), pid=-1).__enter__()
