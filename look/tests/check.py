@@ -12,7 +12,7 @@ import time
 CHECK = [sys.executable, "-W", "error", "-m", "makhloeum.check"]
 MAKHLOEUM, FAULTY = os.environ["MAKHLOEUM"], os.environ["FAULTY"]
 OPERATIONS = 3000
-LINES_AT_MOST, SECONDS_AT_MOST = 10, 60
+LINES_AT_MOST, SECONDS_AT_MOST = 12, 240
 # Each planted fault, and what the directory does.
 FAULTS = {
     "one_too_few": "pids.current above a killed group is one too few",
@@ -38,6 +38,10 @@ FAULTS = {
     "child_in_root": "a child begins in the root",
     "exit_late": "an exit is counted late",
     "esrch": "a process that is not there is EINVAL",
+    "range": "pids.max accepts 4194305",
+    "kill_two": "cgroup.kill accepts 2",
+    "list_empty": "a listing has no groups",
+    "old_text": "an open file keeps its first text",
 }
 # What a script cannot show by its text alone, since it depends on how long it waits.
 NOT_REPLAYED = {"twice", "chatter", "silent", "poll_only", "inotify_only", "exit_late"}
@@ -163,7 +167,7 @@ def caught(name):
     """What went wrong, or ''; and how long it took."""
     began = time.monotonic()
     with faulty(name) as m:
-        status, out, said = check(m.at, "--no-worked", "--most", "1", "--shorten", "15", "--time", "50", "--count", "100000")
+        status, out, said = check(m.at, "--no-worked", "--most", "1", "--shorten", "90", "--time", "120", "--count", "100000")
         seconds, script = time.monotonic() - began, script_of(out)
         if status != 1 or not script:
             return f"status {status}: {out}{said}", seconds
@@ -207,6 +211,13 @@ def hanging():
         step("what could not be removed is named", "could not be removed" in said, said)
     step("it ends in time", time.monotonic() - began < 60)
     step("no process is left once the directory is gone", until(lambda: not workers()), workers())
+
+
+def not_removed():
+    with faulty("stays") as m:
+        status, out, said = check(m.at, "--no-worked", "--count", "50")
+        step("groups that cannot be removed: the status", status == 2 and ", 0 differences" in out, f"{status}: {out}{said}")
+        step("groups that cannot be removed are named", re.search(r"/top\d+ could not be removed$", said, re.M), said)
 
 
 def signalled(number, status):
@@ -283,6 +294,7 @@ same_under_run()
 progress()
 catch_all()
 hanging()
+not_removed()
 signalled(signal.SIGINT, 2)
 signalled(signal.SIGTERM, 2)
 signalled(signal.SIGKILL, -signal.SIGKILL)

@@ -38,6 +38,7 @@ static struct opened {
 	char group[PATH_MAX];
 	const struct kind *kind;
 	char text[64];
+	char *first; /* with `old_text` what the file said first */
 	bool changed;
 	int again;
 	struct fuse_pollhandle *waiter;
@@ -133,6 +134,15 @@ static int text_of(const char *group, const struct kind *kind, char text[TEXT_RO
 
 /* ---- notification */
 
+/* One event of inotify for each file, however many have it open. */
+static bool is_first_of_its_file(const struct opened *o)
+{
+	for (const struct opened *it = all_opened; it != o; it = it->next)
+		if (it->kind == o->kind && strcmp(it->group, o->group) == 0)
+			return false;
+	return true;
+}
+
 static void mark(struct opened *o)
 {
 	if (has("silent"))
@@ -144,7 +154,7 @@ static void mark(struct opened *o)
 		fuse_pollhandle_destroy(o->waiter);
 		o->waiter = NULL;
 	}
-	if (!has("poll_only"))
+	if (!has("poll_only") && is_first_of_its_file(o))
 		touch_later(o->group, o->kind->name, has("twice") ? 2 : 1);
 }
 
@@ -194,7 +204,7 @@ static int list(const char *path, void *out, fuse_fill_dir_t fill, off_t at, str
 	for (size_t i = 0; i < sizeof kinds / sizeof *kinds; i++)
 		if (kinds[i].on_root || strcmp(path, "/"))
 			fill(out, kinds[i].name, NULL, 0, 0);
-	for (size_t n = info.count; n--; name += strlen(name) + 1)
+	for (size_t n = has("list_empty") ? 0 : info.count; n--; name += strlen(name) + 1)
 		fill(out, name, NULL, 0, 0);
 	return 0;
 }
@@ -213,6 +223,8 @@ static int take_away(const char *path)
 	look();
 	if (has("hang"))
 		pause();
+	if (has("stays") && strncmp(strrchr(path, '/'), "/top", 4) == 0)
+		return -EBUSY;
 	int failure = failed(mk_rmdir(&engine, path, &info));
 	if (failure == -EBUSY && has("einval"))
 		return -EINVAL;
@@ -256,6 +268,7 @@ static int close_it(const char *path, struct fuse_file_info *fi)
 	*at = o->next;
 	if (o->waiter)
 		fuse_pollhandle_destroy(o->waiter);
+	free(o->first);
 	free(o);
 	return 0;
 }
@@ -269,6 +282,11 @@ static int read_it(const char *path, char *out, size_t size, off_t at, struct fu
 	if (!(o->kind->mode & 0444))
 		return -EINVAL;
 	int failure = text_of(o->group, o->kind, text);
+	if (has("old_text") && failure == 0) {
+		if (!o->first && !(o->first = strdup(text)))
+			return -ENOMEM;
+		snprintf(text, sizeof text, "%s", o->first);
+	}
 	size_t n = failure ? 0 : strlen(text);
 	if (failure || (size_t)at >= n)
 		return failure;
@@ -318,7 +336,7 @@ static int move(const char *group, const char *value)
 
 static int kill_group(const char *group, const char *value)
 {
-	if (strcmp(value, "1"))
+	if (strcmp(value, "1") && !(has("kill_two") && strcmp(value, "2") == 0))
 		return -EINVAL;
 	if (has("hang_kill"))
 		pause();
@@ -343,6 +361,8 @@ static int write_it(const char *path, const char *data, size_t size, off_t at, s
 	else if (strcmp(name, "cgroup.kill") == 0)
 		failure = kill_group(o->group, value);
 	else if (has("max_kept") && strcmp(value, "max") == 0)
+		failure = 0;
+	else if (has("range") && strcmp(name, "pids.max") == 0 && strcmp(value, "4194305") == 0)
 		failure = 0;
 	else {
 		if (has("depth") && strcmp(name, "cgroup.max.depth") == 0 && strspn(value, "0123456789") == strlen(value))

@@ -33,6 +33,35 @@ test("each moment, forwards and backwards", () => {
   assert.deepStrictEqual(there.state.pidsOf(there.state.groups.get(0)), [1]);
 });
 
+test("a list of processes after blanks of each kind", () => {
+  const there = new Run({
+    lines: "fork 1 2\ncat / cgroup.procs", names: ["/"], parents: [0], notes: {}, times: null,
+    answers: ["ok", "ok\n"], answer: [0, 1], steps: [3, 2, 2, 0, 0],
+  });
+  there.go(2);
+  assert.strictEqual(there.answerOf(1), "ok\n| 1\n| 2");
+});
+
+test("a kill of many and its undo take little time at each step", () => {
+  const many = 30000, lines = ["mkdir /a"], steps = [[0, 1]];
+  for (let pid = 2; pid < many; pid++) lines.push(`fork 1 ${pid}`), steps.push([2, pid, 1]);
+  for (let i = 0; i < 20; i++) {
+    lines.push("write /a cgroup.kill 1"), steps.push([5, 1]);
+    lines.push("undo"), steps.push([6, lines.length - 2]);
+  }
+  const there = new Run({
+    lines: lines.join("\n"), names: ["/", "a"], parents: [0, 0], notes: {}, times: null,
+    answers: ["ok"], answer: lines.map(() => 0), steps: steps.flatMap((step) => [step.length, ...step]),
+  });
+  const began = process.cpuUsage().user;
+  for (let moment = lines.length; moment > lines.length - 40; moment--) {
+    const state = there.go(moment), is_killed = (moment - many) % 2 === 0;
+    assert.strictEqual(state.groups.get(1).numbers[CURRENT], is_killed ? 0 : many - 2, `moment ${moment}`);
+  }
+  const each = (process.cpuUsage().user - began) / 40000;
+  assert.ok(each < 200, `${each} ms of processor time for each step`);
+});
+
 test("what the last command changed", () => {
   const there = run();
   there.go(4);

@@ -1,11 +1,15 @@
 """The command lines: python3 -m makhloeum view, tree; makhloeum NAME."""
 
+import fcntl
 import os
 import pty
+import re
 import shutil
 import signal
+import struct
 import subprocess
 import sys
+import termios
 import time
 
 import pytest
@@ -146,6 +150,62 @@ def test_colour_is_for_a_terminal(tmp_path):
             pass
         os.close(ours)
         assert process.wait(60) == 0 and (b"\x1b[" in told) == coloured, (more, told)
+
+
+def test_a_closed_pipe_is_no_message(tmp_path):
+    groups(tmp_path, {f"g{number}": {"cgroup.procs": "1\n"} for number in range(2000)} | {".": {"cgroup.procs": ""}})
+    command = [sys.executable, "-m", "makhloeum", "tree", str(tmp_path)]
+    tree = subprocess.Popen(command, stdout=subprocess.PIPE, stderr=subprocess.PIPE, env=WORDS)
+    tree.stdout.close()
+    assert (tree.communicate(timeout=60)[1], tree.returncode) == (b"", 141)
+
+
+def test_an_output_without_lines_and_blocks(tmp_path):
+    groups(tmp_path, {".": {"cgroup.procs": ""}, "a/\u00fc": {"cgroup.procs": "7\n", "pids.current": "1\n", "pids.max": "2\n"}})
+    groups(tmp_path, {"a": {"cgroup.procs": "", "pids.current": "1\n", "pids.max": "2\n", "pids.peak": "2\n"}})
+    words = dict(WORDS, PYTHONIOENCODING="ascii")
+    ran = subprocess.run([sys.executable, "-m", "makhloeum", "tree", "."], capture_output=True, env=words, cwd=tmp_path, timeout=60)
+    assert (ran.returncode, ran.stderr) == (0, b"")
+    assert ran.stdout.decode("ascii").split("\n") == [
+        ".",
+        "`- a        [#####     ]  1/2  peak 2",
+        "   `- \\xfc  [#####     ]  1/2            7",
+        "",
+    ]
+
+
+def test_lines_are_cut_to_a_terminal(tmp_path):
+    groups(tmp_path, {".": {"cgroup.procs": ""}, "a": {"cgroup.procs": "".join(f"{pid}\n" for pid in range(100000, 100016))}})
+    ours, theirs = pty.openpty()
+    fcntl.ioctl(theirs, termios.TIOCSWINSZ, struct.pack("HHHH", 24, 40, 0, 0))
+    for more in ({"NO_COLOR": "1"}, {}):
+        tree = subprocess.Popen([sys.executable, "-m", "makhloeum", "tree", "."], stdout=theirs, env=dict(WORDS, TERM="xterm", **more), cwd=tmp_path)
+        assert tree.wait(60) == 0
+        lines = re.sub(r"\x1b\[[0-9;]*m", "", os.read(ours, 65536).decode()).split("\r\n")
+        # 40 columns, the last of which is a blank between two pids
+        assert lines == [".", "└─ a" + " " * 22 + "100000 100001", ""], lines
+    os.close(theirs)
+    os.close(ours)
+
+
+def test_an_interrupt_is_no_traceback(tmp_path):
+    """Of `view` and of a command that has just begun."""
+    pipe = tmp_path / "pipe"
+    os.mkfifo(pipe)
+    default = lambda: signal.signal(signal.SIGINT, signal.SIG_DFL)  # noqa: E731: a background ignores SIGINT
+    for words, begun in ((["view", str(pipe), "-o", "-"], True), (["check", str(tmp_path)], False)):
+        command = [sys.executable, "-m", "makhloeum", *words]
+        running = subprocess.Popen(command, stdout=subprocess.PIPE, stderr=subprocess.PIPE, env=WORDS, preexec_fn=default)
+        if begun:
+            with open(pipe, "w"):
+                running.send_signal(signal.SIGINT)
+        for _ in () if begun else range(100):
+            time.sleep(0.002)
+            running.send_signal(signal.SIGINT)
+            if running.poll() is not None:
+                break
+        out, error = running.communicate(timeout=60)
+        assert b"Traceback" not in error and running.returncode in ((-signal.SIGINT,) if begun else (-signal.SIGINT, 2)), (words, error)
 
 
 def test_what_is_no_hierarchy(tmp_path):
