@@ -78,7 +78,7 @@ abbrev pub IsBut : Hall → Hall → Type 0
 IsBut before after = after ≡ record before { waits = after.waits }
 
 -- this session ran this command: the log has one more entry, which is of the session, and its receipt, with that number, follows the
--- session's others; the turns that are waited for are unchanged, so a later call wakes the sessions that wait for them
+-- session's others; the turns that are waited for are unchanged
 pub record Served (session : ℕ) (c : model.Command) (before after : Hall) (receipts more : List Receipt) : Type 0 where
   pub receipt : Receipt
   pub command : receipt.command ≡ c
