@@ -118,6 +118,41 @@ class Edits(unittest.TestCase):
         self.edit("sessions", "must-fail-more", "d", new="also wrong")
         self.assertEqual(self.names("--due"), ["sessions"])
 
+    def laid(self):
+        self.run_edits("--lay")
+        return sorted(path[len(f"{self.top}/crates/"):] for path in glob.glob(f"{self.top}/crates/*/must-fail/second-set-*"))
+
+    def test_a_new_edit_is_tried_alone(self):
+        self.land()
+        self.edit("low", "must-fail-more", "new")
+        self.assertEqual(self.laid(), ["low/must-fail/second-set-new.edit"])
+        said = self.land()
+        self.assertIn("edits of low: 1 of 1 refused", said)
+        self.assertEqual(self.names("--due") + self.names("--due-below"), [])
+        self.change("crates/low/src/lib.rt")
+        self.assertEqual(self.laid(), ["low/must-fail/second-set-a.edit", "low/must-fail/second-set-new.edit"])
+
+    def test_a_new_edit_of_a_crate_that_is_due_below_leaves_it_due(self):
+        self.land()
+        self.change("crates/low/src/lib.rt")
+        self.edit("sessions", "must-fail-more", "new")
+        self.land()
+        self.assertEqual((self.names("--due"), self.names("--due-below")), ([], ["snzi_tree", "sessions"]))
+
+    def test_a_comment_in_an_edit_makes_nothing_due(self):
+        self.land()
+        text = self.read("crates/low/must-fail-more/a.edit")
+        self.write("crates/low/must-fail-more/a.edit", "# breaks: a clause\n" + text)
+        self.assertEqual(self.names("--due"), [])
+
+    def test_a_removed_edit_is_no_longer_noted(self):
+        self.edit("low", "must-fail-more", "old")
+        self.land()
+        self.assertIn("low/old.edit", self.read("passed"))
+        os.remove(f"{self.top}/crates/low/must-fail-more/old.edit")
+        self.land()
+        self.assertNotIn("low/old.edit", self.read("passed"))
+
     def test_another_kit_makes_all_due_below(self):
         self.run_edits()
         self.kit = "kit-2"
