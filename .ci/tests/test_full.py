@@ -22,11 +22,14 @@ class Full(unittest.TestCase):
     def setUp(self):
         self.top = tempfile.mkdtemp()
         self.addCleanup(shutil.rmtree, self.top)
-        values = {"ROOT": self.top, "PASSED": f"{self.top}/.ci/full-passed", "STATE": f"{self.top}/out/full", "run": self.runs, "SOAK_STEPS": 3}
+        values = {"ROOT": self.top, "PASSED": f"{self.top}/.ci/full-passed", "STATE": f"{self.top}/out/full", "run": self.runs}
         for name, value in values.items():
             patcher = mock.patch.object(full, name, value)
             patcher.start()
             self.addCleanup(patcher.stop)
+        patcher = mock.patch.dict(os.environ, MINUTES="15")
+        patcher.start()
+        self.addCleanup(patcher.stop)
         self.calls, self.fails_at = [], None
         for name, text in {".gitignore": "out/\n", "mount/a.c": "a\n", "bindings/c/b.c": "b\n", ".ci/full-passed": ""}.items():
             self.write(name, text)
@@ -91,6 +94,15 @@ class Full(unittest.TestCase):
         self.assertEqual(list(self.noted()), ["soak"])
         self.full("soak")
         self.assertEqual(len(self.calls), 7)
+
+    def test_how_long_a_part_took_is_noted_if_it_can_be_chosen(self):
+        for minutes, runs in ("1", 1), ("5", 1), ("6", 2), ("60", 12):
+            self.calls.clear()
+            with mock.patch.dict(os.environ, MINUTES=minutes):
+                self.full("fuzz", "edits")
+            self.assertEqual(len(self.calls), runs + 1)
+            noted = full.passed()
+            self.assertEqual((noted["fuzz"].split()[3:], noted["edits"].split()[3:]), ([minutes, "minutes"], []))
 
     def test_a_part_begins_anew_on_other_code_of_the_mount(self):
         self.fails_at = 3
