@@ -11,6 +11,7 @@
 #include "operations.h"
 #include "own.h"
 #include "real.h"
+#include "signals.h"
 #include "space.h"
 #include "tracer.h"
 #include "watch.h"
@@ -22,12 +23,11 @@
 #include <string.h>
 #include <sys/mount.h>
 #include <sys/prctl.h>
-#include <sys/signalfd.h>
 #include <sys/socket.h>
 #include <sys/wait.h>
 #include <unistd.h>
 
-enum { REFUSED_HERE = 2, NOT_EXECUTABLE = 126, NOT_FOUND = 127, KILLED = 128, PATIENCE = 200, SIGNALS = 16 };
+enum { REFUSED_HERE = 2, NOT_EXECUTABLE = 126, NOT_FOUND = 127, KILLED = 128, PATIENCE = 200 };
 
 /* ---------------------------------------------------------------- what the program inherits */
 
@@ -136,15 +136,6 @@ static void become(char **program, int control)
 
 /* ---------------------------------------------------------------- the supervisor */
 
-/* Passes on signals that were meant for the program: a few at a time, since the program may send them too. */
-static void pass_on(int signals, pid_t program)
-{
-	struct signalfd_siginfo one;
-	for (int i = 0; i < SIGNALS && read(signals, &one, sizeof one) == sizeof one; i++)
-		if (one.ssi_signo == SIGTERM || one.ssi_signo == SIGHUP || (one.ssi_signo == SIGINT && one.ssi_code != SI_KERNEL))
-			kill(program, (int)one.ssi_signo); /* it fails if the program has ended: then the run ends too */
-}
-
 /* What the supervisor listens to. It asks each once in a turn, and waits for none while another has something. */
 struct ears {
 	int signals, link, helper, freezer;
@@ -157,6 +148,12 @@ static void hear_helper(void)
 		births_arguments(&reply);
 }
 
+/* Of two times to wait; -1: without an end. */
+static int sooner(int one, int other)
+{
+	return one < 0 || (other >= 0 && other < one) ? other : one;
+}
+
 /* The program decides how often it forks and ends, and how long a read of its memory takes. A turn takes the pending stops,
    answers each thread once, and then looks at the signals and the server again. */
 static int watch_over(const struct ears *ears, pid_t program)
@@ -165,15 +162,13 @@ static int watch_over(const struct ears *ears, pid_t program)
 	struct pollfd from[] = { { .fd = ears->signals, .events = POLLIN }, { .fd = ears->link }, { .fd = ears->helper, .events = POLLIN },
 		                 { .fd = ears->freezer, .events = POLLIN } };
 	for (;;) {
-		pass_on(ears->signals, program);
+		int next = signals_pass_on(ears->signals, program);
 		bool more = tracer_look();
 		if (tracer_has_ended(&status))
 			break;
 		hear_helper();
 		more |= tracer_obey();
-		int next = births_give_up(), again = halts_look_again();
-		if (next < 0 || (again >= 0 && again < next))
-			next = again;
+		next = sooner(sooner(next, births_give_up()), halts_look_again());
 		if (poll(from, sizeof from / sizeof *from, more ? 0 : next) < 0 && errno != EINTR)
 			break;
 		for (int i = 1; i < 3; i++)
@@ -299,21 +294,6 @@ static pid_t start_mount(int ends[2], int *freezer, pid_t *companion)
 	return server;
 }
 
-/* SIGCHLD, and those that are passed on to the program. */
-static int receive_signals(void)
-{
-	sigset_t held;
-	/* none of these can fail: the signals exist */
-	sigemptyset(&held);
-	sigaddset(&held, SIGCHLD);
-	sigaddset(&held, SIGTERM);
-	sigaddset(&held, SIGHUP);
-	sigaddset(&held, SIGINT);
-	sigprocmask(SIG_BLOCK, &held, NULL);
-	signal(SIGQUIT, SIG_IGN);
-	return signalfd(-1, &held, SFD_CLOEXEC | SFD_NONBLOCK);
-}
-
 int run_program(char **program, const struct wishes *asked)
 {
 	struct wishes wishes = *asked;
@@ -338,7 +318,7 @@ int run_program(char **program, const struct wishes *asked)
 	if (server < 0)
 		return REFUSED_HERE;
 	link_use(ends[0], server);
-	int status = 1, signals = receive_signals();
+	int status = 1, signals = signals_receive();
 	/* until its first request, the kernel thinks that nobody owns the mount's root, and nothing can be made there */
 	if (stat(cgroup_mount, &(struct stat){ 0 }))
 		say("the mount does not answer: %s", strerror(errno));

@@ -1,8 +1,8 @@
 /* Which processes may block on what.
 
-   The supervisor (run, tracer, births, halts, threads, registers, stops, strict, restarts, clones) waits for ptrace stops, for
-   signals, and for its sockets to the server and to the helper. It waits for nothing else, since all threads of the program
-   wait for it. So it looks up no path, opens, reads and writes no file, and does not touch the program's memory: each can be
+   The supervisor (run, tracer, births, halts, threads, registers, stops, strict, restarts, clones, signals) waits for ptrace
+   stops, for signals, and for its sockets to the server and to the helper. It waits for nothing else, since all threads of the
+   program wait for it. So it looks up no path, opens, reads and writes no file, and does not touch the program's memory: each can be
    in a file system of the program, or behind a lock that the kernel holds for a thread that waits for one. (One look-up in
    /proc remains on kernels before 6.11: see spaces_of and halts.c.)
    It waits for an answer of the server, which waits for nobody but the engine's lock (serve.c). A server that the program has
@@ -261,8 +261,9 @@ static int take_next(size_t at)
 		return 0;
 	id_t id = (id_t)next.si_pid;
 	if (next.si_code == CLD_STOPPED) { /* of makhloeum itself: the program has stopped it */
-		kill((pid_t)id, SIGCONT); /* it cannot fail: it was not waited for */
+		/* in this order, since the program may stop it again at once: that stop is not the one that is taken here */
 		waitid(P_PID, id, &next, WSTOPPED | WNOHANG); /* it fails if the stop has ended already */
+		kill((pid_t)id, SIGCONT); /* it cannot fail: it was not waited for */
 		return -1;
 	}
 	if (next.si_code == CLD_TRAPPED) {

@@ -73,9 +73,10 @@ def into(group):
 # ---------------------------------------------------------------- inside
 
 def others_go_on(name):
-    """Another process forks and reads, forty times each."""
+    """Another process forks and reads, forty times each, and each ends in time."""
     wrong, times, end = [], 0, time.monotonic() + PATIENCE
     while times < 40 and time.monotonic() < end:
+        end = time.monotonic() + PATIENCE
         pid = os.fork()
         if pid == 0:
             os._exit(0)

@@ -17,7 +17,7 @@ def is_alive(pid):
 
 m = Mount("--adopt")
 os.mkdir(m.path("a"))
-child = subprocess.Popen(["sh", "-c", "sleep 60 & sleep 60 & wait"])
+child = subprocess.Popen(["sh", "-c", "sleep 600 & sleep 600 & wait"])
 write(m.path("a", "cgroup.procs"), b"%d\n" % child.pid)
 step("a process is adopted, and its children", until(lambda: read(m.path("a", "pids.current")) == b"3\n"))
 step("it is listed", b"%d" % child.pid in read(m.path("a", "cgroup.procs")).split())

@@ -1,5 +1,6 @@
 """What a program can hold back or cover stops nobody else of its run, and files of the user keep their content. This file is
 also the program (blocking.py inside NAME)."""
+import ast
 import ctypes
 import errno
 import glob
@@ -10,16 +11,17 @@ import signal
 import subprocess
 import sys
 import tempfile
-import threading
 import time
 
-from support import PATIENCE, PROGRAM, Mount, error_of, finish, in_parallel, libc, read, same, status_within, step, until, write
+from support import PATIENCE, PROGRAM, Beside, Mount, error_of, finish, in_parallel, libc, read, same, status_within, step, until, write
 
 AT = "/sys/fs/cgroup"
 ME = os.path.realpath(__file__)
 BUILT = os.environ.get("HOSTILE") or os.path.join(os.path.dirname(PROGRAM), "..", "hostile")
 BLOCKING, STALLED = os.path.join(BUILT, "blocking"), os.path.join(BUILT, "stalled")
 PAGE = os.environ.get("PAGE", "")
+SLOW_KILL = os.path.join(os.path.dirname(PROGRAM), "slow_kill.so")  # only with the plain build
+PF_EXITING = 4
 CLONE_INTO_CGROUP, CLONE_NEWNS, CLONE_NEWCGROUP, MS_BIND = 0x200000000, 0x20000, 0x2000000, 4096
 
 
@@ -34,20 +36,15 @@ def mount(source, target, kind, flags=0):
 
 def forks(times=20):
     """Whether this number of forks ends in time."""
-    done = []
-
     def all_of():
         for _ in range(times):
             pid = os.fork()
             if pid == 0:
                 os._exit(0)
             os.waitpid(pid, 0)
-        done.append(True)
+        return True
 
-    thread = threading.Thread(target=all_of, daemon=True)
-    thread.start()
-    thread.join(5)
-    return bool(done)
+    return Beside(all_of).result() is True
 
 
 def clone_into(fd):
@@ -70,6 +67,11 @@ def line_of(pid):
         return b""
 
 
+def stat_of(pid):
+    """The words of /proc/PID/stat after the name: the state first, and the flags of the thread as the seventh."""
+    return open("/proc/%d/stat" % pid, "rb").read().rpartition(b")")[2].split()
+
+
 def own(supervisor):
     """The processes of makhloeum besides this one."""
     line = line_of(supervisor)
@@ -80,11 +82,7 @@ def own(supervisor):
 
 def holder(*words):
     p = subprocess.Popen([BLOCKING, *words], stdout=subprocess.PIPE)
-    told = []
-    thread = threading.Thread(target=lambda: told.append(p.stdout.readline()), daemon=True)
-    thread.start()
-    thread.join(5)
-    return p, told == [b"held\n"]
+    return p, Beside(p.stdout.readline).result() == b"held\n"
 
 
 # ---------------------------------------------------------------- inside: files of the user
@@ -101,18 +99,18 @@ def covered():
     procs, back = os.open(AT + "/a/cgroup.procs", os.O_WRONLY), os.open(AT + "/cgroup.procs", os.O_WRONLY)
     mount(mine, AT + "/a/cgroup.events", None, MS_BIND)
     os.write(procs, b"0")
-    step("the watch is told", until(lambda: error_of(os.read, watch, 4096) == "ok", 5))
+    step("the watch is told", until(lambda: error_of(os.read, watch, 4096) == "ok"))
     os.write(back, b"0")
-    step("and told again", until(lambda: error_of(os.read, watch, 4096) == "ok", 5))
+    step("and told again", until(lambda: error_of(os.read, watch, 4096) == "ok"))
     same("the file that covers it", read(mine), b"precious\n")
     mount("none", AT, "tmpfs")
     os.mkdir(AT + "/a")
     with open(AT + "/a/cgroup.events", "w") as f:
         f.write("precious\n")
     os.write(procs, b"0")
-    step("the watch is told below a tmpfs", until(lambda: error_of(os.read, watch, 4096) == "ok", 5))
+    step("the watch is told below a tmpfs", until(lambda: error_of(os.read, watch, 4096) == "ok"))
     os.write(back, b"0")
-    time.sleep(0.3)
+    step("and told again", until(lambda: error_of(os.read, watch, 4096) == "ok"))
     same("the file of the tmpfs", read(AT + "/a/cgroup.events"), b"precious\n")
 
 
@@ -124,11 +122,7 @@ def machine():
     before = [read(AT + "/a/" + n) for n in names]
     disks = [d for d in os.listdir("/sys/dev/block") if not os.path.exists("/sys/dev/block/%s/partition" % d)][:1]
     mount(PAGE, "/sys/devices/system/cpu/online", None, MS_BIND)
-    got = []
-    thread = threading.Thread(target=lambda: got.append(read(AT + "/a/" + names[0])), daemon=True)
-    thread.start()
-    thread.join(5)
-    same("a read beside a file that does not answer", got, before[:1])
+    same("a read beside a file that does not answer", Beside(read, AT + "/a/" + names[0]).result(), before[0])
     step("others still run", forks())
     for cover in ("/sys/devices/system", "/sys/dev/block"):
         mount("none", cover, "tmpfs")
@@ -148,12 +142,9 @@ def listing():
     os.rmdir(AT + "/gone")
     p, held = holder("hold", PAGE, AT)
     step("a directory is held", held)
-    asking = threading.Thread(target=clone_into, args=(gone,), daemon=True)
-    asking.start()
-    time.sleep(0.2)
+    asking = Beside(clone_into, gone)
     step("others still run", forks())
-    asking.join(5)
-    same("the call has ended", asking.is_alive(), False)
+    same("a call that began before", asking.result(), "ENOENT")
     same("a call into a removed group", clone_into(gone), "ENOENT")
     same("a call into another group", clone_into(stays), 0)
     p.kill()
@@ -167,7 +158,7 @@ def spaces():
     p.kill()
 
 
-LEADERLESS = "import ctypes, threading, time\nthreading.Thread(target=time.sleep, args=(60,)).start()\nctypes.CDLL(None).syscall(%d, 0)" % (
+LEADERLESS = "import ctypes, threading, time\nthreading.Thread(target=time.sleep, args=(600,)).start()\nctypes.CDLL(None).syscall(%d, 0)" % (
     60 if os.uname().machine == "x86_64" else 93)
 
 
@@ -175,12 +166,12 @@ def leaderless():
     """A process whose first thread has ended is frozen while its directory in /proc is held."""
     os.mkdir(AT + "/a")
     left = subprocess.Popen([sys.executable, "-c", LEADERLESS], preexec_fn=lambda: into("/a"))
-    time.sleep(1)
+    step("its first thread has ended", until(lambda: stat_of(left.pid)[0] == b"Z"))
     p, held = holder("hold", PAGE, "/proc/%d" % left.pid)
     step("its directory is held", held)
     write(AT + "/a/cgroup.freeze", b"1")
     step("others still run", forks())
-    step("it is frozen", until(lambda: read(AT + "/a/cgroup.events") == b"populated 1\nfrozen 1\n", 5))
+    step("it is frozen", until(lambda: read(AT + "/a/cgroup.events") == b"populated 1\nfrozen 1\n"))
     p.kill()
     left.kill()
 
@@ -193,9 +184,9 @@ def ending():
     p.stdout.read(1)
     p.stdin.write(b"x")
     p.stdin.flush()
-    time.sleep(0.3)
+    step("the thread is ending", until(lambda: int(stat_of(p.pid)[6]) & PF_EXITING))
     write(AT + "/a/cgroup.freeze", b"1")
-    step("it is frozen", until(lambda: read(AT + "/a/cgroup.events") == b"populated 1\nfrozen 1\n", 5))
+    step("it is frozen", until(lambda: read(AT + "/a/cgroup.events") == b"populated 1\nfrozen 1\n"))
     write(AT + "/a/cgroup.freeze", b"0")
     same("and thawed", read(AT + "/a/cgroup.events"), b"populated 1\nfrozen 0\n")
     p.kill()
@@ -203,7 +194,7 @@ def ending():
 
 def waiting():
     """More clone3 calls wait for memory than the helper has threads at first."""
-    same("another clone3", subprocess.run([BLOCKING, "sixteen", PAGE], stdout=subprocess.PIPE, timeout=30).stdout, b"1\n")
+    same("another clone3", subprocess.run([BLOCKING, "sixteen", PAGE], stdout=subprocess.PIPE, timeout=PATIENCE).stdout, b"1\n")
     step("others still run", forks())
 
 
@@ -211,18 +202,37 @@ def stopped():
     """The server is stopped again and again while children are made in a group."""
     os.mkdir(AT + "/a")
     fd, others, wrong = os.open(AT + "/a", os.O_RDONLY), own(tracer()), []
-    end = time.monotonic() + 2
-    while time.monotonic() < end and not wrong:
+    for _ in range(100):
         for pid in others:
             os.kill(pid, signal.SIGSTOP)
-        got = []
-        thread = threading.Thread(target=lambda: got.append(clone_into(fd)), daemon=True)
-        thread.start()
-        thread.join(10)
-        if got != [0]:
+        got = Beside(clone_into, fd).result()
+        if got != 0:
             wrong.append(got)
+            break
     same("children that could not be made", wrong, [])
     step("others still run", forks())
+
+
+def stopping():
+    """The processes of makhloeum are stopped again while they are continued."""
+    os.mkdir(AT + "/a")
+    fd, supervisor = os.open(AT + "/a", os.O_RDONLY), tracer()
+    others = own(supervisor)
+    for i in range(20):
+        for pause in (i % 4 * 0.005, 0):
+            for pid in others:
+                os.kill(pid, signal.SIGSTOP)
+            time.sleep(pause)
+        got = Beside(clone_into, fd).result()
+        if got != 0:
+            step("a child is made", False, (i, got))
+            os.kill(supervisor, signal.SIGKILL)  # else each open waits for one that is stopped
+    step("nobody stays stopped", until(lambda: not any(stat_of(pid)[0] == b"T" for pid in others)))
+
+
+def timed(call, *args):
+    start = time.monotonic()
+    return call(*args), time.monotonic() - start
 
 
 def elsewhere():
@@ -240,12 +250,15 @@ def elsewhere():
         failed = libc.unshare(CLONE_NEWNS | CLONE_NEWCGROUP)
         mount("none", home, "cgroup2")
         fd = os.open(home + "/y", os.O_RDONLY)
-        start = time.monotonic()
-        got = [clone_into(fd) for _ in range(20)]
-        os.write(w, repr((failed, set(got), time.monotonic() - start < 1)).encode())
+        got, took = zip(*(timed(clone_into, fd) for _ in range(20)))
+        os.write(w, repr((failed, set(got), min(took))).encode())
         os._exit(0)
     os.waitpid(pid, 0)
-    same("twenty children in a second", os.read(r, 200), repr((0, {0}, True)).encode())
+    failed, got, took = ast.literal_eval(os.read(r, 200).decode())
+    same("twenty children", (failed, got), (0, {0}))
+    fd = os.open(AT + "/z/y", os.O_RDONLY)
+    least = min(timed(clone_into, fd)[1] for _ in range(20))
+    step("the fastest takes at most ten times as long as one by a descriptor of the run's mount", took <= 10 * least, (took, least))
 
 
 def mounting():
@@ -260,9 +273,9 @@ def mounting():
         libc.umount2((home + "/at").encode(), 2)
         with open(count, "a") as f:
             f.write("x")
-    seen, end = 0, time.monotonic() + 3
+    seen, end = 0, time.monotonic() + PATIENCE
     files = [t + "/children" for p in others for t in glob.glob("/proc/%d/task/*" % p)]
-    while time.monotonic() < end:
+    while time.monotonic() < end and seen < 50:
         for name in files:
             try:
                 for child in open(name).read().split():
@@ -272,12 +285,12 @@ def mounting():
                 pass
     step("some were stopped", seen > 0, seen)
     size = os.path.getsize(count)
-    step("the program still mounts", until(lambda: os.path.getsize(count) > size + 10, 5))
+    step("the program still mounts", until(lambda: os.path.getsize(count) > size + 10))
     os.kill(pid, signal.SIGKILL)
     os.waitpid(pid, 0)
 
 
-INSIDE = {covered: ["--root"], machine: ["--root", "--keep", "cpuset,io"], listing: [], spaces: ["--root"], leaderless: [], ending: [], waiting: [], stopped: [],
+INSIDE = {covered: ["--root"], machine: ["--root", "--keep", "cpuset,io"], listing: [], spaces: ["--root"], leaderless: [], ending: [], waiting: [], stopped: [], stopping: [],
           elsewhere: ["--root"], mounting: ["--root"]}
 if sys.argv[1:2] == ["inside"]:
     {t.__name__: t for t in INSIDE}[sys.argv[2]]()
@@ -292,13 +305,14 @@ def run(test):
     """The file system of a run that hangs goes first: until then a process that waits for it cannot be killed."""
     home = tempfile.mkdtemp()
     system = subprocess.Popen([STALLED, home], stderr=subprocess.DEVNULL)
-    if not until(lambda: os.path.ismount(home), 5):
+    if not until(lambda: os.path.ismount(home)):
         step("%s: a file system that does not answer can be mounted" % test.__name__, False)
         return
+    slow = {"LD_PRELOAD": SLOW_KILL} if test is stopping and os.path.exists(SLOW_KILL) else {}
     p = subprocess.Popen([PROGRAM, "run", *INSIDE[test], sys.executable, ME, "inside", test.__name__], start_new_session=True,
-                         env=dict(os.environ, PAGE=home + "/page"))
+                         env=dict(os.environ, PAGE=home + "/page", **slow))
     try:
-        status = p.wait(60)
+        status = p.wait(6 * PATIENCE)
     except subprocess.TimeoutExpired:
         status = "it hangs"
         p.kill()
@@ -312,6 +326,7 @@ def run(test):
 def unmounted():
     """A file where a mount was, which was unmounted while files of it were open."""
     m = Mount()
+    line, companions = line_of(m.process.pid), own(m.process.pid)
     os.mkdir(m.path("a"))
     os.stat(m.path("a", "cgroup.events"))
     procs = os.open(m.path("a", "cgroup.procs"), os.O_WRONLY)
@@ -320,10 +335,10 @@ def unmounted():
     with open(m.path("a", "cgroup.events"), "w") as f:
         f.write("precious\n")
     os.write(procs, b"1")
-    time.sleep(0.3)
-    same("the file keeps its content", read(m.path("a", "cgroup.events")), b"precious\n")
     os.close(procs)
     same("the process ends", m.ended(), 0)
+    step("and its companion", len(companions) == 1 and until(lambda: line_of(companions[0]) != line), companions)
+    same("the file keeps its content", read(m.path("a", "cgroup.events")), b"precious\n")
     shutil.rmtree(m.home)
 
 
@@ -347,7 +362,7 @@ def stuck():
 
 def killed():
     """makhloeum is killed while its other processes are stopped."""
-    p = subprocess.Popen([PROGRAM, "run", "sleep", "60.%d" % os.getpid()])
+    p = subprocess.Popen([PROGRAM, "run", "sleep", "600.%d" % os.getpid()])
     step("it runs", until(lambda: len(own(p.pid)) == 3))
     others = own(p.pid)
     line = line_of(p.pid)
@@ -355,7 +370,7 @@ def killed():
         os.kill(pid, signal.SIGSTOP)
     p.kill()
     p.wait()
-    step("nothing is left", until(lambda: all(line_of(pid) != line for pid in others), 5))
+    step("nothing is left", until(lambda: all(line_of(pid) != line for pid in others)))
     for pid in others:
         if line_of(pid) == line:
             os.kill(pid, signal.SIGKILL)
@@ -367,14 +382,14 @@ def callers():
             ("blocks all signals", lambda: signal.pthread_sigmask(signal.SIG_BLOCK, signal.valid_signals())))
     for name, way in ways:
         p = subprocess.Popen([PROGRAM, "run", "sh", "-c", "/bin/true; exit 7"], preexec_fn=way)
-        same("its caller " + name, status_within(p, 20), 7)
+        same("its caller " + name, status_within(p), 7)
     for names in (("SIGCHLD", "SIGPIPE", "SIGQUIT", "SIGXFSZ"), ("SIGUSR1",), ()):
         def ignore():
             for n in names:
                 signal.signal(getattr(signal, n), signal.SIG_IGN)
             signal.pthread_sigmask(signal.SIG_BLOCK, [signal.SIGUSR2])
         wanted = sum(1 << (getattr(signal, n) - 1) for n in names)
-        said = subprocess.run([PROGRAM, "run", "grep", "^Sig[IB]", "/proc/self/status"], stdout=subprocess.PIPE, preexec_fn=ignore, timeout=20).stdout
+        said = subprocess.run([PROGRAM, "run", "grep", "^Sig[IB]", "/proc/self/status"], stdout=subprocess.PIPE, preexec_fn=ignore, timeout=PATIENCE).stdout
         same("ignored and blocked: %s" % (names,), [int(x.split()[1], 16) for x in said.splitlines()], [1 << (signal.SIGUSR2 - 1), wanted])
 
 

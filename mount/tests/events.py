@@ -2,7 +2,6 @@
 import os
 import select
 import struct
-import time
 
 from support import PATIENCE, Mount, error_of, finish, libc, read, same, step, until, write
 
@@ -10,8 +9,12 @@ IN_MODIFY = 0x2
 
 
 class Watch:
+    """`mark` is a watched file of a group that has nothing to do with the others. What the mount tells comes in the order of the
+    changes: once it has told that this file was changed last, nothing else is on its way."""
+
     def __init__(self, *paths):
         self.fd = libc.inotify_init1(os.O_NONBLOCK)
+        self.mark = libc.inotify_add_watch(self.fd, mark.encode(), 0xFFF)
         self.names = {libc.inotify_add_watch(self.fd, p.encode(), 0xFFF): p for p in paths}
         self.take()
 
@@ -23,29 +26,30 @@ class Watch:
             return
         while data:
             number, mask, _, size = struct.unpack("iIII", data[:16])
-            if mask & IN_MODIFY:
+            if number == self.mark:
+                self.marked |= mask & IN_MODIFY
+            elif mask & IN_MODIFY:
                 self.modified.add(self.names[number])
-            if mask & ~IN_MODIFY:
+            if number != self.mark and mask & ~IN_MODIFY:
                 self.others.add(hex(mask))
             data = data[16 + size:]
 
-    def take(self, *wanted):
-        """What came since the last time, once the wanted files are among it, or did not come."""
-        self.modified, self.others = set(), set()
+    def take(self):
+        """What came since the last time."""
+        self.modified, self.others, self.marked = set(), set(), 0
+        write(m.path("cgroup.procs") if b"9" in read(m.path("mark", "cgroup.procs")) else m.path("mark", "cgroup.procs"), b"9\n")
 
         def came():
             self.read()
-            return self.modified.issuperset(wanted)
+            return self.marked
 
-        until(came)
-        time.sleep(0.15)
-        self.read()
+        step("the last change is told", until(came))
         return self.modified, self.others
 
 
 def tells(what, watch, *wanted):
     """These files were modified, and nothing else came."""
-    same(what, watch.take(*wanted), (set(wanted), set()))
+    same(what, watch.take(), (set(wanted), set()))
 
 
 def told(poller):
@@ -54,6 +58,9 @@ def told(poller):
 
 m = Mount()
 os.makedirs(m.path("a", "b"))
+os.mkdir(m.path("mark"))
+mark = m.path("mark", "cgroup.events")
+write(m.control("fork"), b"1 9\n")
 a, b = m.path("a", "cgroup.events"), m.path("a", "b", "cgroup.events")
 write(m.control("fork"), b"1 2\n")
 
@@ -89,7 +96,7 @@ tells("it moves below", watch, b)
 write(m.path("cgroup.procs"), b"4\n")
 tells("it leaves", watch, a, b)
 write(m.path("a", "cgroup.procs"), b"4\n")
-watch.take(a)
+watch.take()
 write(m.path("a", "pids.max"), b"1\n")
 both = m.path("a", "pids.events"), m.path("a", "pids.events.local")
 events = Watch(*both)

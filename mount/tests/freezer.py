@@ -102,16 +102,29 @@ class Counter:
         self.read()
         return until(lambda: self.read() != b"")
 
-    def rests(self, seconds=0.2):
-        """Whether nothing comes for a while."""
+    def rests(self, times=40):
+        """Whether it writes nothing while a process that nobody freezes writes this number of times."""
         self.read()
-        time.sleep(seconds)
+        while_others_run(times)
         return self.read() == b""
 
     def end(self):
         self.process.kill()
         self.process.wait(PATIENCE)
         self.process.stdout.close()
+
+
+def while_others_run(times):
+    """Returns when a process that nobody freezes has written this number of times from now on."""
+    if not runner:
+        runner.append(Counter(""))
+    for _ in range(times):
+        if not runner[0].counts():
+            step("a process that nobody freezes runs", False)
+            return
+
+
+runner = []
 
 
 def freeze(group, value):
@@ -171,7 +184,7 @@ def moves():
         libc.mkdir(path, 0o755)
         libc._exit(0)
     becomes("a child that is born there stops", "/cold", FROZEN)
-    time.sleep(0.2)
+    while_others_run(40)
     same("before its first instruction", os.path.exists(mark), False)
     freeze("/cold", 0)
     same("it runs again", os.waitpid(pid, 0)[1], 0)
@@ -228,7 +241,7 @@ def kinds():
             freeze(group, 1)
             if not until(lambda: frozen(AT + group) == FROZEN):
                 break
-            if not one.rests(0.05):  # each of them writes much more often
+            if not one.rests(10):  # each of them writes much more often
                 break
             freeze(group, 0)
             if not one.counts():
@@ -264,7 +277,7 @@ def signals():
     freeze("/a", 1)
     becomes("frozen", "/a", FROZEN)
     one.process.send_signal(signal.SIGTERM)
-    time.sleep(0.1)
+    while_others_run(20)
     same("a signal waits", one.process.poll(), None)
     freeze("/a", 0)
     same("it comes after the thaw", one.process.wait(PATIENCE), -signal.SIGTERM)
@@ -278,7 +291,7 @@ def itself():
     becomes("it stops", "/a", FROZEN)
     one.stdin.write(b"\n")
     one.stdin.close()
-    time.sleep(0.2)
+    while_others_run(40)
     same("it has not ended", one.poll(), None)
     freeze("/a", 0)
     same("it ends", one.wait(PATIENCE), 5)
@@ -318,6 +331,8 @@ def many():
 INSIDE = (stops, moves, kinds, signals, itself, told, many)
 if sys.argv[1:2] == ["inside"]:
     {t.__name__: t for t in INSIDE}[sys.argv[2]]()
+    for one in runner:
+        one.end()
     finish()
 numbers()
 notified()

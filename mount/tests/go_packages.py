@@ -8,8 +8,9 @@ import os
 import re
 import subprocess
 import sys
+import tempfile
 
-from support import PATIENCE, finish, same, step, until, write
+from support import PATIENCE, finish, same, status_within, step, until, write
 
 SOURCES = "/usr/share/gocode/src/"
 RUNC = "github.com/opencontainers/runc/libcontainer/cgroups"
@@ -64,8 +65,7 @@ def build(folder):
 
 def start_manager():
     """These packages look for the machine's systemd and find the user's, which makes its groups in the root."""
-    home = os.path.join(os.environ["TMPDIR"], "manager")
-    os.makedirs(home, 0o700)
+    home = tempfile.mkdtemp(dir=os.environ["TMPDIR"])
     if not os.path.isdir("/run/systemd/system"):
         subprocess.run(["mount", "-t", "tmpfs", "tmpfs", "/run"], check=True)
         os.makedirs("/run/systemd/system")
@@ -104,7 +104,7 @@ def run(folder):
     for package in PACKAGES:
         run_package(folder, package)
     subprocess.run(["systemctl", "--user", "exit"], check=True)
-    same("systemd ends", manager.wait(), 0)
+    same("systemd ends", status_within(manager), 0)
     finish()
 
 

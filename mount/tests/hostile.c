@@ -91,7 +91,7 @@ static int count_forks(const char *name)
 		for (int i = 0; i < 40 && strcmp(name, ways[w].name) == 0; i++) {
 			long pid = ways[w].fork();
 			if (pid == 0) {
-				sleep(60);
+				sleep(600);
 				_exit(0);
 			}
 			made += pid > 0;
@@ -250,7 +250,7 @@ static int falling(void)
 	int procs = open("/sys/fs/cgroup/one/cgroup.procs", O_WRONLY);
 	if (write(procs, "0", 1) != 1)
 		return 1;
-	for (double end = now() + 1.5; now() < end;) {
+	for (double end = now() + 1.5; now() < end || made == 0;) {
 		int status;
 		pid_t pid = fork();
 		if (pid == 0)

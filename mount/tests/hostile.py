@@ -212,7 +212,7 @@ def taken_hold():
 def stalled():
     home = tempfile.mkdtemp()
     system = subprocess.Popen([STALLED, home], stderr=subprocess.DEVNULL)
-    if not until(lambda: os.path.ismount(home), 5):
+    if not until(lambda: os.path.ismount(home)):
         step("a file system that does not answer is left out: it can't be mounted", True)
         return
     p = subprocess.Popen([PROGRAM, "run", HANGS, "stalled", home + "/page"], stdout=subprocess.PIPE)

@@ -49,9 +49,9 @@ def own():
 
 
 def forks(times=20):
-    """Whether this number of forks and reads ends in time."""
-    end = time.monotonic() + PATIENCE
+    """Whether this number of forks and reads ends, each in time."""
     for _ in range(times):
+        end = time.monotonic() + PATIENCE
         pid = os.fork()
         if pid == 0:
             os._exit(read("/proc/self/cgroup") != b"0::/\n")
@@ -95,7 +95,7 @@ def writers():
     thread.join()
     same("the process has moved", read(AT + "/a/cgroup.procs"), b"%d\n" % os.getpid())
     os.mkdir(AT + "/a/b")
-    left = subprocess.Popen([sys.executable, "-c", "import ctypes, threading, time\nthreading.Thread(target=time.sleep, args=(30,)).start()\n"
+    left = subprocess.Popen([sys.executable, "-c", "import ctypes, threading, time\nthreading.Thread(target=time.sleep, args=(600,)).start()\n"
                              "ctypes.CDLL(None).syscall(%d, 0)" % (60 if os.uname().machine == "x86_64" else 93)])
     step("one whose first thread has ended", until(lambda: open("/proc/%d/stat" % left.pid).read().split()[2] == "Z"))
     same("is listed", b"%d\n" % left.pid in read(AT + "/a/cgroup.procs"), True)
@@ -126,7 +126,7 @@ def limited():
         for which in (resource.RLIMIT_NOFILE, resource.RLIMIT_NPROC, resource.RLIMIT_AS, resource.RLIMIT_CPU):
             same("a limit %d" % which, error_of(resource.prlimit, pid, which, (0, 0)), "EPERM")
     step("its limits can be read", len(resource.prlimit(tracer(), resource.RLIMIT_NOFILE)) == 2)
-    child = subprocess.Popen(["sleep", "60"])
+    child = subprocess.Popen(["sleep", "600"])
     resource.prlimit(child.pid, resource.RLIMIT_NOFILE, (20, 20))
     same("a limit for another process", resource.prlimit(child.pid, resource.RLIMIT_NOFILE), (20, 20))
     child.kill()
@@ -142,10 +142,28 @@ def flooded():
     while 0 in floods:
         os.kill(supervisor, signal.SIGHUP)
         os.kill(supervisor, signal.SIGCHLD)
-    step("the others still run", forks(40))
+    step("the others still run", forks())
     for pid in floods:
         os.kill(pid, signal.SIGKILL)
         os.waitpid(pid, 0)
+
+
+def passed_on():
+    """The program gets the signals that are sent to the supervisor, and runs in between however often they come."""
+    got = []
+    signal.signal(signal.SIGHUP, lambda *_: got.append(time.monotonic()))
+    supervisor, begin = tracer(), time.monotonic()
+    for count in (1, 2, 3):
+        os.kill(supervisor, signal.SIGHUP)
+        step("signal %d comes" % count, until(lambda: len(got) == count), got)
+    flood = os.fork()
+    while flood == 0:
+        os.kill(supervisor, signal.SIGHUP)
+    step("they still come", until(lambda: len(got) >= 10), got)
+    os.kill(flood, signal.SIGKILL)
+    os.waitpid(flood, 0)
+    signal.signal(signal.SIGHUP, signal.SIG_IGN)  # the last may come after the end of this test
+    step("at most ten in a second", len(got) <= 10 * (time.monotonic() - begin) + 2, (len(got), got[-1] - begin))
 
 
 def untold():
@@ -157,7 +175,7 @@ def untold():
     for pid in own():
         if len(os.listdir("/proc/%d/task" % pid)) == 1:
             os.kill(pid, signal.SIGKILL)
-    child = subprocess.Popen(["sleep", "60"], preexec_fn=lambda: into("/a"))
+    child = subprocess.Popen(["sleep", "600"], preexec_fn=lambda: into("/a"))
     for value in (b"1\n", b"0\n") * 20:
         write(AT + "/a/cgroup.freeze", value)
     same("who polls is woken", [mask & select.POLLPRI for _, mask in poller.poll(1000 * PATIENCE)], [select.POLLPRI])
@@ -228,7 +246,7 @@ def lists():
     same("lists that lack one, or have one twice", wrong[:3], [])
 
 
-INSIDE = (unshares, crowds, unread, writers, stopped, limited, flooded, untold, calls, lists)
+INSIDE = (unshares, crowds, unread, writers, stopped, limited, flooded, passed_on, untold, calls, lists)
 if sys.argv[1:2] == ["inside"]:
     os.mkdir(AT + "/a")
     {t.__name__: t for t in INSIDE}[sys.argv[2]]()
@@ -262,7 +280,7 @@ def beginnings():
                 got = (type(e).__name__, b"", b"")
             right = got == (0, b"0::/\n", b"") or (got[0] not in (0, "TimeoutExpired") and got[1] == b"" and got[2])
             step("limit %d is %d" % (which, value), right, got)
-    words = [PROGRAM, "run", "sleep", "60.%d" % os.getpid()]
+    words = [PROGRAM, "run", "sleep", "600.%d" % os.getpid()]
     for i in range(60):
         p = subprocess.Popen(words, stderr=subprocess.DEVNULL)
         time.sleep(i * 0.0005)

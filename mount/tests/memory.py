@@ -3,7 +3,7 @@ import os
 import subprocess
 import sys
 
-from support import PROGRAM, Mount, finish, in_parallel, same, step, write
+from support import PROGRAM, Mount, finish, in_parallel, same, status_within, step, write
 
 PAIRS, FORKS, CLIENTS = 16000, 5000, 20
 
@@ -64,7 +64,7 @@ def of_run():
     step("a run does not grow", len(grown) >= 2 and max(grown) < 60 * FORKS, grown)
     p.stdin.write("\n")
     p.stdin.close()
-    same("its status", p.wait(), 0)
+    same("its status", status_within(p), 0)
 
 
 of_mount()

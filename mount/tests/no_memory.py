@@ -186,7 +186,7 @@ def wakes(m, group):
             woken = poll(0)
             refused.append(memory.refused())
             gone = change("exit", b"8")
-            if gone and not woken and not poll(1000):
+            if gone and not woken and not poll(1000 * PATIENCE):
                 missed.append((of, nth))
             if not any(refused):
                 break
@@ -196,7 +196,7 @@ def wakes(m, group):
 
 # ---------------------------------------------------------------- real processes of a mount
 
-CHILDREN = "read x; sleep 99 & sleep 99 & echo; wait"
+CHILDREN = "read x; sleep 600 & sleep 600 & echo; wait"
 
 
 def is_alive(pid):

@@ -15,6 +15,7 @@
 #include <sys/inotify.h>
 #include <sys/mman.h>
 #include <sys/prctl.h>
+#include <sys/resource.h>
 #include <sys/sem.h>
 #include <sys/socket.h>
 #include <sys/syscall.h>
@@ -30,7 +31,7 @@
 /* ---------------------------------------------------------------- calls that a signal would interrupt */
 
 static int ends[2];
-static struct timeval three = { 3, 0 };
+static int seconds = 3; /* how long a call takes that no signal ends */
 static atomic_int *ready; /* shared with the parent: the next thing that this process does is the call */
 
 static long in_epoll(void)
@@ -39,13 +40,19 @@ static long in_epoll(void)
 	int set = epoll_create1(0);
 	epoll_ctl(set, EPOLL_CTL_ADD, ends[0], &e);
 	atomic_store(ready, 1);
-	return epoll_wait(set, &e, 1, 3000);
+	return epoll_wait(set, &e, 1, 1000 * seconds);
+}
+
+static void set_timeout(int fd, int which)
+{
+	struct timeval most = { seconds, 0 };
+	setsockopt(fd, SOL_SOCKET, which, &most, sizeof most);
 }
 
 static long in_recv(void)
 {
 	char byte;
-	setsockopt(ends[0], SOL_SOCKET, SO_RCVTIMEO, &three, sizeof three);
+	set_timeout(ends[0], SO_RCVTIMEO);
 	atomic_store(ready, 1);
 	return recv(ends[0], &byte, 1, 0);
 }
@@ -53,7 +60,7 @@ static long in_recv(void)
 static long in_read_of_socket(void)
 {
 	char byte;
-	setsockopt(ends[0], SOL_SOCKET, SO_RCVTIMEO, &three, sizeof three);
+	set_timeout(ends[0], SO_RCVTIMEO);
 	atomic_store(ready, 1);
 	return read(ends[0], &byte, 1);
 }
@@ -61,7 +68,7 @@ static long in_read_of_socket(void)
 static long in_send(void)
 {
 	static char bytes[1 << 20];
-	setsockopt(ends[0], SOL_SOCKET, SO_SNDTIMEO, &three, sizeof three);
+	set_timeout(ends[0], SO_SNDTIMEO);
 	while (send(ends[0], bytes, sizeof bytes, MSG_DONTWAIT) > 0)
 		;
 	atomic_store(ready, 1);
@@ -72,7 +79,7 @@ static long in_accept(void)
 {
 	int fd = socket(AF_UNIX, SOCK_STREAM, 0);
 	struct sockaddr own = { .sa_family = AF_UNIX };
-	setsockopt(fd, SOL_SOCKET, SO_RCVTIMEO, &three, sizeof three);
+	set_timeout(fd, SO_RCVTIMEO);
 	bind(fd, &own, sizeof own.sa_family);
 	listen(fd, 1);
 	atomic_store(ready, 1);
@@ -82,7 +89,7 @@ static long in_accept(void)
 static long in_semtimedop(void)
 {
 	struct sembuf take = { 0, -1, 0 };
-	struct timespec most = { 3, 0 };
+	struct timespec most = { seconds, 0 };
 	int set = semget(IPC_PRIVATE, 1, 0600);
 	atomic_store(ready, 1);
 	long result = semtimedop(set, &take, 1, &most);
@@ -95,7 +102,7 @@ static long in_semtimedop(void)
 static long in_sigtimedwait(void)
 {
 	sigset_t some;
-	struct timespec most = { 3, 0 };
+	struct timespec most = { seconds, 0 };
 	sigemptyset(&some);
 	sigaddset(&some, SIGUSR2);
 	sigprocmask(SIG_BLOCK, &some, NULL);
@@ -107,7 +114,7 @@ static long in_getevents(void)
 {
 	aio_context_t all = 0;
 	struct io_event e;
-	struct timespec most = { 3, 0 };
+	struct timespec most = { seconds, 0 };
 	syscall(SYS_io_setup, 1, &all);
 	atomic_store(ready, 1);
 	return syscall(SYS_io_getevents, all, 1, 1, &e, &most);
@@ -117,7 +124,7 @@ static long in_inotify(void)
 {
 	char event[4096];
 	int fd = inotify_init();
-	struct itimerval later = { { 0, 0 }, { 4, 0 } };
+	struct itimerval later = { { 0, 0 }, { seconds + 1, 0 } };
 	inotify_add_watch(fd, "/", IN_MOVE_SELF);
 	setitimer(ITIMER_REAL, &later, NULL);
 	atomic_store(ready, 1);
@@ -127,12 +134,12 @@ static long in_inotify(void)
 static long in_poll(void)
 {
 	atomic_store(ready, 1);
-	return poll(NULL, 0, 3000);
+	return poll(NULL, 0, 1000 * seconds);
 }
 
 static long in_nanosleep(void)
 {
-	struct timespec most = { 3, 0 };
+	struct timespec most = { seconds, 0 };
 	atomic_store(ready, 1);
 	return nanosleep(&most, NULL);
 }
@@ -178,6 +185,8 @@ static int signals(int which, int handled)
 	enum { CALLS = sizeof calls / sizeof *calls };
 	pid_t all[CALLS];
 	struct sigaction act = { .sa_handler = on_alarm };
+	if (handled)
+		seconds = 600;
 	ready = mmap(NULL, 4096, PROT_READ | PROT_WRITE, MAP_SHARED | MAP_ANONYMOUS, -1, 0);
 	for (size_t i = 0; i < CALLS; i++) {
 		atomic_store(ready, 0);
@@ -212,7 +221,7 @@ static int stops(void)
 		struct epoll_event e;
 		int set = epoll_create1(0);
 		atomic_store(ready, 1);
-		long result = epoll_wait(set, &e, 1, 20000);
+		long result = epoll_wait(set, &e, 1, 600000);
 		_exit(result < 0 ? errno : 0);
 	}
 	until_it_sleeps(pid);
@@ -248,29 +257,41 @@ static int pidfds(void)
 	return 0;
 }
 
-static double now(void)
+/* The processes of makhloeum. */
+static char **ours;
+
+/* The processor time that this process, its children and makhloeum have used: other work on the machine hardly changes it. */
+static double used(void)
 {
-	struct timespec t;
-	clock_gettime(CLOCK_MONOTONIC, &t);
-	return (double)t.tv_sec + (double)t.tv_nsec / 1e9;
+	struct rusage children;
+	double sum = (double)clock() / CLOCKS_PER_SEC;
+	getrusage(RUSAGE_CHILDREN, &children);
+	sum += (double)(children.ru_utime.tv_sec + children.ru_stime.tv_sec) + (double)(children.ru_utime.tv_usec + children.ru_stime.tv_usec) / 1e6;
+	for (int i = 0; ours[i]; i++) {
+		struct timespec t = { 0, 0 };
+		clock_gettime(~atoi(ours[i]) * 8 + 2, &t); /* the clock of a process, as the kernel numbers it */
+		sum += (double)t.tv_sec + (double)t.tv_nsec / 1e9;
+	}
+	return sum;
 }
 
-/* Of some rounds the fastest, since other work on the machine only makes them slower. */
+/* Of some rounds the cheapest. */
 static double time_of_forks(void)
 {
-	double fastest = 1e9;
+	double least = 1e9;
 	for (int round = 0; round < 20; round++) {
-		double begin = now();
+		double begin = used();
 		for (int i = 0; i < 10; i++) {
 			pid_t pid = fork();
 			if (pid == 0)
 				_exit(0);
 			waitpid(pid, NULL, 0);
 		}
-		if (now() - begin < fastest)
-			fastest = now() - begin;
+		double cost = used() - begin;
+		if (cost < least)
+			least = cost;
 	}
-	return fastest;
+	return least;
 }
 
 static long number_in(const char *file)
@@ -419,8 +440,10 @@ int main(int argc, char **argv)
 		return stops();
 	if (strcmp(what, "pidfds") == 0)
 		return pidfds();
-	if (strcmp(what, "zombies") == 0)
+	if (strcmp(what, "zombies") == 0) {
+		ours = argv + 3;
 		return zombies(number);
+	}
 	if (strcmp(what, "traces") == 0)
 		return traces();
 	if (strcmp(what, "strict") == 0)

@@ -68,7 +68,8 @@ def forks():
     same("the writer of 0", read(AT + "/a/cgroup.procs"), me)
     child = os.fork()
     if child == 0:
-        time.sleep(60)
+        time.sleep(600)
+        os._exit(0)
     same("a child is there when fork returns", read(AT + "/a/pids.current"), b"2\n")
     os.kill(child, signal.SIGKILL)
     os.waitpid(child, 0)
@@ -127,7 +128,7 @@ def kills():
         into("/a/b")
         while True:  # forks as fast as it can while it is killed
             if os.fork() == 0:
-                time.sleep(60)
+                time.sleep(600)
                 os._exit(0)
             time.sleep(0.001)
     until(lambda: int(read(AT + "/a/pids.current")) > 5)
@@ -153,7 +154,7 @@ def clones():
     args = (ctypes.c_uint64 * 11)(0x200000000, 0, 0, 0, signal.SIGCHLD, 0, 0, 0, 0, 0, fd)
     pid = libc.syscall(435, args, 88)
     if pid == 0:
-        libc.sleep(60)
+        libc.sleep(600)
         libc._exit(0)
     same("the child is born in the group", read(AT + "/c/cgroup.procs"), b"%d\n" % pid)
     same("the arguments are as they were", args[0], 0x200000000)
@@ -166,7 +167,7 @@ def clones():
 
 def stops():
     """Job control works under the supervisor."""
-    child = subprocess.Popen(["sleep", "60"])
+    child = subprocess.Popen(["sleep", "600"])
     child.send_signal(signal.SIGSTOP)
     same("a stop is seen by the parent", os.waitpid(child.pid, os.WUNTRACED)[1] & 0xFF, 0x7F)
     child.send_signal(signal.SIGCONT)

@@ -2,7 +2,7 @@
 bad=0
 step() { # NAME COMMAND..
 	name=$1; shift
-	timeout 120 "$@" > "$w/out" 2>&1 < /dev/null
+	timeout 600 "$@" > "$w/out" 2>&1 < /dev/null
 	rc=$?
 	if [ $rc = 0 ]; then
 		printf '  %-58s ok\n' "$name"
@@ -19,7 +19,7 @@ says() { # NAME TEXT COMMAND..: exactly that on standard output
 	name=$1; text=$2; shift 2
 	step "$name" sh -c 'text=$1; shift; got=$("$@") && echo "$got" && [ "$got" = "$text" ]' sh "$text" "$@"
 }
-soon() { # NAME COMMAND..: it succeeds within a minute or two
+soon() { # NAME COMMAND..: it succeeds within some minutes
 	name=$1; shift
-	step "$name" sh -c 'i=0; until "$@"; do i=$((i + 1)); [ $i -lt 600 ] || exit 1; sleep 0.1; done' sh "$@"
+	step "$name" sh -c 'i=0; until "$@"; do i=$((i + 1)); [ $i -lt 3000 ] || exit 1; sleep 0.1; done' sh "$@"
 }

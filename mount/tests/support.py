@@ -6,6 +6,7 @@ import shutil
 import subprocess
 import sys
 import tempfile
+import threading
 import time
 from concurrent.futures import ThreadPoolExecutor
 
@@ -44,6 +45,20 @@ def until(what, seconds=PATIENCE):
             return True
         time.sleep(0.01)
     return False
+
+
+class Beside:
+    """A call in a thread of its own, which may hang."""
+
+    def __init__(self, call, *args):
+        self.got = []
+        self.thread = threading.Thread(target=lambda: self.got.append(call(*args)), daemon=True)
+        self.thread.start()
+
+    def result(self):
+        """What it returns; None if it does not return in time."""
+        self.thread.join(PATIENCE)
+        return self.got[0] if self.got else None
 
 
 def error_of(call, *args):
@@ -133,7 +148,7 @@ class Mount:
 libc = ctypes.CDLL(None, use_errno=True)
 
 
-def status_within(process, seconds):
+def status_within(process, seconds=PATIENCE):
     """The status of a process. One that takes longer is killed."""
     try:
         return process.wait(seconds)
