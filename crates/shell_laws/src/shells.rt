@@ -26,7 +26,7 @@ ghost use Rattle.shell_main.specs.declared.fault.ShellFault.TheVariants as fault
 ghost use Rattle.shell_main.specs.declared.options.Options.{Options};
 ghost use Rattle.shell_main.specs.Forgetful.{output_of};
 ghost use Rattle.shell_main.specs.Shelled.{Shelled, ShelledBy};
-ghost use Rattle.shell_main.specs.WholeLines.{HasNoFeed, ends_line};
+ghost use Rattle.shell_main.specs.WholeLines.{HasCommandsBeforeLast, HasNoFeed, ends_line};
 
 /// For a source that a replay reads completely, a shell that no fault ends leaves exactly what the
 /// replay leaves.
@@ -66,10 +66,27 @@ pub fn a_strict_shell_is_a_shell()
         → Shelled how.keeps_history left rest read_failed before after write_failed flushed r }
 {}
 
+/// If a write of a strict shell failed, then what was written is the front of the output for some lines of the source, of
+/// which at most the last is neither a command nor skipped.
+pub fn a_strict_shell_passes_no_fault()
+    ensures { (history : Bool) (left before : List ℕ) (rest after : Option (List ℕ)) (read_failed write_failed flushed : Bool)
+        → ShelledBy (record { is_strict = true; keeps_history = history }) (Some left) rest read_failed (Some before) after
+            write_failed flushed (Err fault.Write)
+        → (lines unread front unwritten : List ℕ) × (left ≡ lines ++ unread) × HasCommandsBeforeLast lines
+        × (output_of history lines ≡ front ++ unwritten) × (after ≡ Some (before ++ front)) }
+{}
+
 /// Texts of whole lines, by example.
 pub fn whole_lines()
     ensures nothing { ends_line [] ≡ true }
     ensures two { ends_line (codes "undo\nundo\n") ≡ true }
     ensures blank { ends_line (codes "\n") ≡ true }
     ensures unended { ends_line (codes "undo\nundo") ≡ false }
+{}
+
+/// Lines of which only the last may be no command, by example.
+pub fn commands_before_the_last()
+    ensures none { HasCommandsBeforeLast [] }
+    ensures last { HasCommandsBeforeLast (codes "undo\nx\n") }
+    ensures first { HasCommandsBeforeLast (codes "x\nundo\n") → ⊥ }
 {}

@@ -15,11 +15,11 @@ use Rattle.trace_talk.specs.Points.{Point, answers_on, number_max, start_point, 
 use Rattle.shell_main.specs.declared.options.Options.{Options}
 use Rattle.shell_main.specs.Forgetful.{after_by, answers_by, output_of, refused_of}
 use Rattle.shell_main.specs.Talks.{Answered, Finishes, IsCutOff, IsOut, IsStruck, Serves, Stands, Stops}
-use Rattle.shell_main.specs.WholeLines.{HasCommandsOnly, IsClean}
+use Rattle.shell_main.specs.WholeLines.{HasCommandsOnly, IsClean, IsCleanBeforeLast}
 use Rattle.shell_main.proofs.ForgetfulCuts.{commands_by}
 use Rattle.shell_main.proofs.LineCuts.{with_feed, without_feed}
 use Rattle.shell_main.proofs.Standing.{both_written, came, read_cut, written_both, written_more}
-use Rattle.shell_main.proofs.Texts.{answers_both, answers_more, clean_both, clean_more, ends_both, point_both, point_more, short_both}
+use Rattle.shell_main.proofs.Texts.{answers_both, answers_more, before_last_both, clean_both, clean_more, ends_both, last_any, point_both, point_more, short_both}
 
 -- ---- the source
 
@@ -119,18 +119,21 @@ stopped_at how start left before taken after read_failed failed failed2 flushed 
 -- a write or a flush failed
 cut_off : (how : Options) (start left before taken after : Option (List ℕ)) (read_failed failed failed2 flushed : Bool) (now : Point) (lines line pending : List ℕ)
     → Stands how start left before taken failed flushed now lines line pending
-    → IsCutOff how.keeps_history now (line ++ pending) taken after failed2 → read_failed ≡ false
-    → IsBroken how.keeps_history start before after read_failed failed2
-cut_off how start left before taken after read_failed failed failed2 flushed now lines line pending s c r = record {
-  lines = lines ++ c.text;
-  whole = inl (ends_both lines c.text s.whole c.whole);
-  short = short_both lines c.text s.whole s.short c.short;
-  is_front = begins start left (lines ++ c.text) c.more (read_cut start left lines (line ++ pending) c.text c.more s.read c.is_front);
-  rest = c.rest;
-  written = written_both how.keeps_history lines c.text c.rest now before taken after s.whole s.point s.written c.written;
-  good_reads = r;
-  bad_write = c.bad;
-}
+    → IsCutOff how now (line ++ pending) taken after failed2 → read_failed ≡ false
+    → (broken : IsBroken how.keeps_history start before after read_failed failed2) × IsCleanBeforeLast how.is_strict broken.lines
+cut_off how start left before taken after read_failed failed failed2 flushed now lines line pending s c r = (
+  record {
+    lines = lines ++ c.text;
+    whole = inl (ends_both lines c.text s.whole c.whole);
+    short = short_both lines c.text s.whole s.short c.short;
+    is_front = begins start left (lines ++ c.text) c.more (read_cut start left lines (line ++ pending) c.text c.more s.read c.is_front);
+    rest = c.rest;
+    written = written_both how.keeps_history lines c.text c.rest now before taken after s.whole s.point s.written c.written;
+    good_reads = r;
+    bad_write = c.bad;
+  },
+  before_last_both how.is_strict lines c.text s.whole s.clean c.clean,
+)
 
 -- a strict shell answered commands only
 strictly : (how : Options) (lines : List ℕ) → how.is_strict ≡ true → IsClean how.is_strict lines → HasCommandsOnly lines
@@ -230,17 +233,19 @@ pub last_ended : (fault : ShellFault) (how : Options) (start left before taken a
 last_ended Read how start left before taken after read_failed failed failed2 flushed flushed2 now new lines line s e some r w = absurd w
 last_ended Write how start left before taken after read_failed failed failed2 flushed flushed2 now new lines line s e some r w =
     let i = input_of how start left before taken failed flushed now lines line s e in
-    let one = without_feed lines line s.whole s.unended.no_feed some in
-    record {
-      lines = lines ++ line;
-      whole = inr i;
-      short = one.short s.short s.unended.fits;
-      is_front = all_begins start (lines ++ line) i;
-      rest = w.1.0;
-      written = written_more how.keeps_history lines line (lines ++ line) w.1.0 now before taken after one s.point s.written w.1.1;
-      good_reads = r;
-      bad_write = w.0;
-    }
+    let one = without_feed lines line s.whole s.unended.no_feed some in (
+      record {
+        lines = lines ++ line;
+        whole = inr i;
+        short = one.short s.short s.unended.fits;
+        is_front = all_begins start (lines ++ line) i;
+        rest = w.1.0;
+        written = written_more how.keeps_history lines line (lines ++ line) w.1.0 now before taken after one s.point s.written w.1.1;
+        good_reads = r;
+        bad_write = w.0;
+      },
+      last_any how.is_strict lines line (lines ++ line) one s.clean,
+    )
 last_ended OutOfMemory how start left before taken after read_failed failed failed2 flushed flushed2 now new lines line s e some r w =
     (lines, (last_stopped how start left before taken after read_failed failed failed2 flushed flushed2 now lines line s w r, s.clean))
 last_ended InputTooLong how start left before taken after read_failed failed failed2 flushed flushed2 now new lines line s e some r w =

@@ -11,7 +11,7 @@ use Rattle.shell_main.specs.declared.options.Options.{Options}
 use Rattle.shell_main.specs.Forgetful.{answers_by}
 use Rattle.shell_main.specs.Talks.{Answered, GoesOn, Halts, IsCutOff, IsUnended, Stops}
 use Rattle.shell_main.proofs.LineCuts.{ends_more, with_feed}
-use Rattle.shell_main.proofs.Texts.{answers_more}
+use Rattle.shell_main.proofs.Texts.{answers_more, before_last, last_any}
 
 -- the output is out, and a shell goes on
 pub sent : (how : Options) (old new : Point) (bytes line rest out : List ℕ) (before after : Option (List ℕ)) (failed flushed : Bool) (u : Unit {0})
@@ -34,20 +34,21 @@ stops NotACommand how old bytes out before after failed flushed u h w = (out, (h
 
 -- a write failed after lines that are answered
 unsent : (how : Options) (old new : Point) (bytes more out : List ℕ) (before after : Option (List ℕ)) (failed flushed : Bool) (e : DeviceFault)
-    → Answered how old bytes more out new → WholeWrite before out after failed flushed (Err e) → IsCutOff how.keeps_history old bytes before after failed
+    → Answered how old bytes more out new → WholeWrite before out after failed flushed (Err e) → IsCutOff how old bytes before after failed
 unsent how old new bytes more out before after failed flushed e a w = record {
   text = a.text;
   more = more;
   is_front = a.is_front;
   whole = a.whole;
   short = a.short;
+  clean = before_last how.is_strict a.text a.clean;
   rest = w.1.0;
   written = subst (λ x. TakesFront before x w.1.0 after) a.output w.1.1;
   bad = w.0;
 }
 
 unsent_halt : (fault : ShellFault) (how : Options) (old : Point) (bytes out : List ℕ) (before after : Option (List ℕ)) (failed flushed : Bool) (e : DeviceFault)
-    → Halts how old bytes out fault → WholeWrite before out after failed flushed (Err e) → IsCutOff how.keeps_history old bytes before after failed
+    → Halts how old bytes out fault → WholeWrite before out after failed flushed (Err e) → IsCutOff how old bytes before after failed
 unsent_halt Read how old bytes out before after failed flushed e h w = absurd h
 unsent_halt Write how old bytes out before after failed flushed e h w = absurd h
 unsent_halt InputTooLong how old bytes out before after failed flushed e h w = unsent how old h.2 bytes (h.0 ++ h.1) out before after failed flushed e h.3.0 w
@@ -62,6 +63,7 @@ unsent_halt NotACommand how old bytes out before after failed flushed e h w =
       is_front = a.is_front ∙ ap (λ x. a.text ++ x) (sym (append_assoc h.line (0x0A ∷ []) h.more)) ∙ sym (append_assoc a.text (h.line ++ 0x0A ∷ []) h.more);
       whole = ends_more a.text h.line;
       short = one.short a.short h.unended.fits;
+      clean = last_any how.is_strict a.text h.line text one a.clean;
       rest = w.1.0;
       written =
           let all : out ≡ answers_by how.keeps_history old (read_trace text) =
@@ -75,6 +77,6 @@ unsent_halt NotACommand how old bytes out before after failed flushed e h w =
 pub cut_short : {T : Type 0} (r : Result T ShellFault) (rest : T → List ℕ) (how : Options) (old new : Point) (bytes line out : List ℕ)
     (before after : Option (List ℕ)) (failed flushed : Bool) (e : DeviceFault)
     → MatchResult r (λ x. Answered how old bytes (line ++ rest x) out new) (λ f. ⊤) → MatchResult r (λ x. ⊤) (Halts how old bytes out)
-    → WholeWrite before out after failed flushed (Err e) → IsCutOff how.keeps_history old bytes before after failed
+    → WholeWrite before out after failed flushed (Err e) → IsCutOff how old bytes before after failed
 cut_short (Ok x) rest how old new bytes line out before after failed flushed e a h w = unsent how old new bytes (line ++ rest x) out before after failed flushed e a w
 cut_short (Err f) rest how old new bytes line out before after failed flushed e a h w = unsent_halt f how old bytes out before after failed flushed e h w

@@ -13,7 +13,7 @@ use Rattle.shell_main.specs.Forgetful.{output_of}
 use Rattle.shell_main.specs.Shelled.{BeginsWith, IsStopped, Shelled, ShelledBy}
 use Rattle.shell_main.proofs.ForgetfulCuts.{answers_none}
 use Rattle.shell_main.proofs.Standing.{both_written}
-use Rattle.shell_main.proofs.Texts.{clean_none}
+use Rattle.shell_main.proofs.Texts.{before_last, clean_none}
 
 nothing : (left : Option (List ℕ)) → BeginsWith left []
 nothing None = tt
@@ -67,16 +67,20 @@ after_flush (Err Read) how left rest before mid after read_failed failed flushed
         s.1.3,
       ),
     )
-after_flush (Err Write) how left rest before mid after read_failed failed flushed w s = record {
-  lines = s.lines;
-  whole = s.whole;
-  short = s.short;
-  is_front = s.is_front;
-  rest = s.rest;
-  written = both_written before mid after [] (output_of how.keeps_history s.lines) s.rest w s.written;
-  good_reads = s.good_reads;
-  bad_write = s.bad_write;
-}
+after_flush (Err Write) how left rest before mid after read_failed failed flushed w t =
+    let s = t.0 in (
+      record {
+        lines = s.lines;
+        whole = s.whole;
+        short = s.short;
+        is_front = s.is_front;
+        rest = s.rest;
+        written = both_written before mid after [] (output_of how.keeps_history s.lines) s.rest w s.written;
+        good_reads = s.good_reads;
+        bad_write = s.bad_write;
+      },
+      t.1,
+    )
 after_flush (Err InputTooLong) how left rest before mid after read_failed failed flushed w s =
     (s.0, s.1, (stopped_after how.keeps_history left before mid after read_failed failed flushed s.0 w s.2.0, s.2.1, s.2.2))
 after_flush (Err OutOfMemory) how left rest before mid after read_failed failed flushed w s =
@@ -108,7 +112,7 @@ pub lenient : (r : Result Summary ShellFault) (history : Bool) (left rest before
     → Shelled history left rest read_failed before after failed flushed r
 lenient (Ok summary) history left rest before after read_failed failed flushed s = s.0
 lenient (Err Read) history left rest before after read_failed failed flushed s = (s.0, (s.1.0, s.1.1, s.1.2))
-lenient (Err Write) history left rest before after read_failed failed flushed s = s
+lenient (Err Write) history left rest before after read_failed failed flushed s = s.0
 lenient (Err InputTooLong) history left rest before after read_failed failed flushed s = (s.0, s.1, (s.2.0, s.2.1))
 lenient (Err OutOfMemory) history left rest before after read_failed failed flushed s = (s.0, s.1.0)
 lenient (Err NotACommand) history left rest before after read_failed failed flushed s = let e = s.0 in cc
@@ -117,16 +121,19 @@ lenient (Err NotACommand) history left rest before after read_failed failed flus
 pub unflushed : (r : Result (Unit {0}) DeviceFault) (how : Options) (left rest before after : Option (List ℕ)) (read_failed failed flushed : Bool)
     → WholeWrite before [] after failed flushed r → is_err r ≡ true → read_failed ≡ false → ShelledBy how left rest read_failed before after failed flushed (Err Write)
 unflushed (Ok u) how left rest before after read_failed failed flushed w e r = cc
-unflushed (Err f) how left rest before after read_failed failed flushed w e r = record {
-  lines = [];
-  whole = inl refl;
-  short = All-nil (λ (l : List ℕ). length l ≤ trace_max);
-  is_front = nothing left;
-  rest = w.1.0;
-  written = subst (λ x. TakesFront before x w.1.0 after) (sym (answers_none how.keeps_history start_point)) w.1.1;
-  good_reads = r;
-  bad_write = w.0;
-}
+unflushed (Err f) how left rest before after read_failed failed flushed w e r = (
+  record {
+    lines = [];
+    whole = inl refl;
+    short = All-nil (λ (l : List ℕ). length l ≤ trace_max);
+    is_front = nothing left;
+    rest = w.1.0;
+    written = subst (λ x. TakesFront before x w.1.0 after) (sym (answers_none how.keeps_history start_point)) w.1.1;
+    good_reads = r;
+    bad_write = w.0;
+  },
+  before_last how.is_strict [] (clean_none how.is_strict),
+)
 
 -- it did not
 pub flushed_by : (r : Result (Unit {0}) DeviceFault) (before after : Option (List ℕ)) (failed flushed : Bool)

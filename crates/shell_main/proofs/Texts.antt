@@ -1,5 +1,5 @@
 -- Two texts of whole lines, one after the other: their lines, their answers, and the point after them.
-use Rattle.std.proofs.Common.{◌≡◌, ◌∙◌, ℕ, ◌≤◌, Bool, true, false, List, [], ◌∷◌, ◌++◌, length, sym, ap, subst}
+use Rattle.std.proofs.Common.{◌≡◌, ◌∙◌, ℕ, ◌≤◌, Bool, true, false, List, [], ◌∷◌, ◌++◌, length, append-nil, append_assoc, arith, sym, ap, subst}
 use Rattle.std.specs.List.{All}
 use Rattle.std.proofs.lemmas.List.Elements.{All-append, All-cons, All-nil}
 use Rattle.flat_model.specs.Replies.{is_fault}
@@ -7,7 +7,7 @@ use Rattle.flat_model.specs.Trace.{Line, lines_in, read_line, read_trace, trace_
 use Rattle.trace_talk.specs.Points.{Point, answers_on, point_after}
 use Rattle.shell_main.specs.Forgetful.{after_by, answers_by, remembered}
 use Rattle.shell_main.specs.Talks.{IsPassed}
-use Rattle.shell_main.specs.WholeLines.{HasShortLines, IsClean, ends_line}
+use Rattle.shell_main.specs.WholeLines.{HasShortLines, IsClean, IsCleanBeforeLast, ends_line}
 use Rattle.shell_main.proofs.LineCuts.{HasOneMore, lines_cut, trace_cut}
 use Rattle.shell_main.proofs.ForgetfulCuts.{after_by_cut, after_one, answers_by_cut, answers_one}
 
@@ -38,7 +38,28 @@ clean_more true lines line text one c p =
     let P : Line → Type 0 = λ l. is_fault l ≡ false in
     subst (All P) (sym one.reads) (All-append P (read_trace lines) (read_line line ∷ []) c (All-cons P (read_line line) [] p (All-nil P)))
 
--- the point after both
+-- ---- clean but for the last line
+
+pub before_last : (strict : Bool) (text : List ℕ) → IsClean strict text → IsCleanBeforeLast strict text
+before_last false text c = tt
+before_last true text c = (read_trace text, [], sym (append-nil (read_trace text)), omega (arith), c)
+
+pub last_any : (strict : Bool) (lines line text : List ℕ) → HasOneMore lines line text → IsClean strict lines → IsCleanBeforeLast strict text
+last_any false lines line text one c = tt
+last_any true lines line text one c = (read_trace lines, read_line line ∷ [], one.reads, omega (arith), c)
+
+pub before_last_both : (strict : Bool) (a b : List ℕ) → ends_line a ≡ true → IsClean strict a → IsCleanBeforeLast strict b → IsCleanBeforeLast strict (a ++ b)
+before_last_both false a b e c d = tt
+before_last_both true a b e c d =
+    let P : Line → Type 0 = λ l. is_fault l ≡ false in (
+      read_trace a ++ d.0,
+      d.1,
+      trace_cut a b e ∙ ap (λ ls. read_trace a ++ ls) d.2 ∙ sym (append_assoc (read_trace a) d.0 d.1),
+      d.3,
+      All-append P (read_trace a) d.0 c d.4,
+    )
+
+-- ---- the point after both
 pub point_both : (history : Bool) (old now new : Point) (a b : List ℕ) → ends_line a ≡ true → now ≡ after_by history old (read_trace a)
     → new ≡ after_by history now (read_trace b) → new ≡ after_by history old (read_trace (a ++ b))
 point_both history old now new a b e p n =

@@ -10,7 +10,7 @@ use Rattle.shell_main.specs.declared.fault.ShellFault.{ShellFault}
 use Rattle.shell_main.specs.declared.fault.ShellFault.TheVariants.{Read, Write, InputTooLong, OutOfMemory, NotACommand}
 use Rattle.shell_main.specs.declared.options.Options.{Options}
 use Rattle.shell_main.specs.Forgetful.{output_of, refused_of}
-use Rattle.shell_main.specs.WholeLines.{HasCommandsOnly, HasNoFeed, HasShortLines, IsClean, ends_line}
+use Rattle.shell_main.specs.WholeLines.{HasCommandsOnly, HasNoFeed, HasShortLines, IsClean, IsCleanBeforeLast, ends_line}
 
 -- the known bytes begin with these
 abbrev pub BeginsWith : Option (List ℕ) → List ℕ → Type 0
@@ -97,14 +97,15 @@ Shelled history left rest read_failed before after write_failed flushed (Err Inp
 Shelled history left rest read_failed before after write_failed flushed (Err OutOfMemory) = (lines : List ℕ) × IsStopped history left before after read_failed write_failed flushed lines
 Shelled history left rest read_failed before after write_failed flushed (Err NotACommand) = ⊥
 
--- The same by its options: a strict shell stops after the first line that is not a command, so there is none in what it answered before.
+-- The same by its options: a strict shell stops after the first line that is not a command, so there is none in what it answered before. If a write fails, such a line may be the last that was answered.
 abbrev pub ShelledBy : Options → Option (List ℕ) → Option (List ℕ) → Bool → Option (List ℕ) → Option (List ℕ) → Bool → Bool → Result Summary ShellFault → Type 0
 ShelledBy how left rest read_failed before after write_failed flushed (Ok summary) =
     (served : IsServed how.keeps_history left before after read_failed write_failed flushed summary) × IsClean how.is_strict served.trace
 ShelledBy how left rest read_failed before after write_failed flushed (Err Read) = (read_failed ≡ true)
     × ((lines line : List ℕ) × NothingOwed how.keeps_history left rest before after write_failed flushed lines line
     × IsClean how.is_strict lines)
-ShelledBy how left rest read_failed before after write_failed flushed (Err Write) = IsBroken how.keeps_history left before after read_failed write_failed
+ShelledBy how left rest read_failed before after write_failed flushed (Err Write) =
+    (broken : IsBroken how.keeps_history left before after read_failed write_failed) × IsCleanBeforeLast how.is_strict broken.lines
 ShelledBy how left rest read_failed before after write_failed flushed (Err InputTooLong) = (lines line : List ℕ)
     × (IsStopped how.keeps_history left before after read_failed write_failed flushed lines × IsTooLong left lines line
     × IsClean how.is_strict lines)

@@ -10,7 +10,7 @@ use Rattle.shell_main.specs.declared.options.Options.{Options}
 use Rattle.shell_main.specs.Forgetful.{after_by, answers_by, output_of, remembered}
 use Rattle.trace_talk.specs.Points.{Point, answers_on, number_max, point_after, start_point, summary_of}
 use Rattle.shell_main.specs.Shelled.{ShelledBy}
-use Rattle.shell_main.specs.WholeLines.{HasNoFeed, HasShortLines, IsClean, ends_line}
+use Rattle.shell_main.specs.WholeLines.{HasNoFeed, HasShortLines, IsClean, IsCleanBeforeLast, ends_line}
 
 -- ---- one line
 
@@ -84,14 +84,15 @@ pub record IsOut (before : Option (List ℕ)) (out : List ℕ) (after : Option (
   pub is_out : flushed ≡ true
 
 -- a write or a flush failed, and a prefix of the output for whole lines at the front of these bytes was written
-pub record IsCutOff (history : Bool) (old : Point) (bytes : List ℕ) (before after : Option (List ℕ)) (failed : Bool) : Type 0 where
+pub record IsCutOff (how : Options) (old : Point) (bytes : List ℕ) (before after : Option (List ℕ)) (failed : Bool) : Type 0 where
   pub text : List ℕ
   pub more : List ℕ
   pub is_front : bytes ≡ text ++ more
   pub whole : ends_line text ≡ true
   pub short : HasShortLines text
+  pub clean : IsCleanBeforeLast how.is_strict text
   pub rest : List ℕ
-  pub written : TakesFront before (answers_by history old (read_trace text)) rest after
+  pub written : TakesFront before (answers_by how.keeps_history old (read_trace text)) rest after
   pub bad : failed ≡ true
 
 -- whole lines at the front of these bytes are answered, and their output is out; a line that has not ended and the rest are after them
@@ -103,7 +104,7 @@ pub record GoesOn (how : Options) (old : Point) (bytes : List ℕ) (before after
 
 -- the same for a shell that stops: also then the output is out, unless a write failed
 abbrev pub Stops : Options → Point → List ℕ → Option (List ℕ) → Option (List ℕ) → Bool → Bool → ShellFault → Type 0
-Stops how old bytes before after failed flushed Write = IsCutOff how.keeps_history old bytes before after failed
+Stops how old bytes before after failed flushed Write = IsCutOff how old bytes before after failed
 Stops how old bytes before after failed flushed fault = (out : List ℕ) × (Halts how old bytes out fault × IsOut before out after failed flushed)
 
 -- the last line, which has no line feed, is answered, and its output is out

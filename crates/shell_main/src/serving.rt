@@ -49,8 +49,8 @@ pub fn shell<R: Threads + Wait + Sync, S: Source, W: Sink>(
 ///
 /// # Errors
 ///
-/// Those of `shell`. `NotACommand` after such a line: its answer, and those of the lines before it, are all that was
-/// written, and flushed.
+/// Those of `shell`; before `Write`, no line after the first such line was answered. `NotACommand` after such a line: its
+/// answer, and those of the lines before it, are all that was written, and flushed.
 pub fn strict_shell<R: Threads + Wait + Sync, S: Source, W: Sink>(
     rt: &R,
     alloc: Global,
