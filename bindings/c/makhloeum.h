@@ -2,14 +2,13 @@
  *
  *     mk_handle h = {0};
  *     mk_info info;
- *     uint8_t out[4096];
  *     if (mk_open(&h) != MK_DONE) return 1;
- *     if (mk_line(&h, 1, (const uint8_t *)"mkdir /a", 8, out, sizeof out, &info) == MK_DONE)
- *         fwrite(out, 1, info.len, stdout);
+ *     if (mk_mkdir(&h, "/a", &info) != MK_DONE) fprintf(stderr, "mkdir /a: %s\n", strerror(info.error));
  *     mk_close(&h);
  *
  * A handle names one engine: the groups, the processes and a journal that can undo commands. A line is a line of the trace
- * language, and its answer the bytes that a replay writes for it (docs/FORMATS.md, "Trace" and "Replies").
+ * language, and its answer the bytes that a replay writes for it (docs/FORMATS.md, "Trace" and "Replies"). `man 3 makhloeum` lists
+ * the manual pages of the calls.
  *
  * - Threads may share a handle. Each call holds the lock of its engine from beginning to end, so calls take effect one
  *   after the other. Two handles have two locks.
