@@ -46,7 +46,7 @@ RAISED = {
     "undo": [((), "NothingToUndo")],
     "undo_to": [((99,), "NothingToUndo"), ((-1,), "ValueError")],
     "vanish": [(("/",), "ValueError"), (("c",), "BadPath"), (("/a", 0), "ValueError")],
-    "wait": [((99, -1), "TimeoutError"), ((0,), "ValueError")],
+    "wait": [((6, 0), "TimeoutError"), ((0,), "ValueError")],
     "where": [((7,), "NoProcess"), ((0,), "BadValue")],
     "write": [
         *((("/c", "pids.max", 1), "NoGroup"), (("/a", "x", 1), "BadFile"), (("/", "pids.max", 1), "NoFile")),
