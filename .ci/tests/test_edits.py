@@ -1,22 +1,17 @@
 """Tests of .ci/edits on a made-up repository, with a function in place of `rt`."""
 import contextlib
 import glob
-import importlib.machinery
-import importlib.util
 import io
 import os
 import shutil
 import subprocess
-import sys
 import tempfile
 import unittest
 from unittest import mock
 
-TOP = os.path.dirname(os.path.dirname(os.path.dirname(os.path.realpath(__file__))))
-loader = importlib.machinery.SourceFileLoader("edits", os.path.join(TOP, ".ci", "edits"))
-edits = importlib.util.module_from_spec(importlib.util.spec_from_loader("edits", loader))
-sys.dont_write_bytecode = True
-loader.exec_module(edits)
+from scripts import load
+
+edits = load(".ci/edits")
 
 
 class Edits(unittest.TestCase):

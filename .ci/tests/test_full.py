@@ -1,21 +1,16 @@
 """Tests of .ci/full in a made-up repository, with a function in place of the programs that it runs."""
 import contextlib
-import importlib.machinery
-import importlib.util
 import io
 import os
 import shutil
 import subprocess
-import sys
 import tempfile
 import unittest
 from unittest import mock
 
-TOP = os.path.dirname(os.path.dirname(os.path.dirname(os.path.realpath(__file__))))
-loader = importlib.machinery.SourceFileLoader("full", os.path.join(TOP, ".ci", "full"))
-full = importlib.util.module_from_spec(importlib.util.spec_from_loader("full", loader))
-sys.dont_write_bytecode = True
-loader.exec_module(full)
+from scripts import load
+
+full = load(".ci/full")
 
 
 class Full(unittest.TestCase):

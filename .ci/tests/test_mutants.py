@@ -1,22 +1,17 @@
 """Tests of .ci/mutants in a made-up repository whose builder and tests are two lines of shell."""
 import contextlib
-import importlib.machinery
-import importlib.util
 import io
 import os
 import pathlib
 import shutil
 import subprocess
-import sys
 import tempfile
 import unittest
 from unittest import mock
 
-TOP = os.path.dirname(os.path.dirname(os.path.dirname(os.path.realpath(__file__))))
-loader = importlib.machinery.SourceFileLoader("mutants", os.path.join(TOP, ".ci", "mutants"))
-mutants = importlib.util.module_from_spec(importlib.util.spec_from_loader("mutants", loader))
-sys.dont_write_bytecode = True
-loader.exec_module(mutants)
+from scripts import load
+
+mutants = load(".ci/mutants")
 
 BUILD = "#!/bin/sh\n! grep -q broken mount/src/*.c\n"
 # The test `one` looks at the first line, `none` runs nothing, `bad` always fails.

@@ -2,14 +2,13 @@
  *
  *     mk_handle h = {0};
  *     mk_info info;
- *     uint8_t out[4096];
  *     if (mk_open(&h) != MK_DONE) return 1;
- *     if (mk_line(&h, 1, (const uint8_t *)"mkdir /a", 8, out, sizeof out, &info) == MK_DONE)
- *         fwrite(out, 1, info.len, stdout);
+ *     if (mk_mkdir(&h, "/a", &info) != MK_DONE) fprintf(stderr, "mkdir /a: %s\n", strerror(info.error));
  *     mk_close(&h);
  *
  * A handle names one engine: the groups, the processes and a journal that can undo commands. A line is a line of the trace
- * language, and its answer the bytes that a replay writes for it (docs/FORMATS.md, "Trace" and "Replies").
+ * language, and its answer the bytes that a replay writes for it (docs/FORMATS.md, "Trace" and "Replies"). `man 3 makhloeum` lists
+ * the manual pages of the calls.
  *
  * - Threads may share a handle. Each call holds the lock of its engine from beginning to end, so calls take effect one
  *   after the other. Two handles have two locks.
@@ -36,9 +35,24 @@
 extern "C" {
 #endif
 
-/* The version of this header. mk_version returns that of the library. */
-#define MK_VERSION "1.0.0"
+/* The version of this header. No other file has it: what is built and packed takes it from here, by bindings/version.
+
+   MAJOR is the number of the soname, libmakhloeum.so.1. It rises when a program that was built before could fail: a call or a
+   constant is removed or renamed, a call has other parameters, a struct another layout, a status or code another meaning. MINOR
+   rises with a new call or constant, PATCH with every other change that a user notices. When one rises, those behind it are 0. */
+#define MK_VERSION_MAJOR 1
+#define MK_VERSION_MINOR 0
+#define MK_VERSION_PATCH 0
+#define MK_JOINED_(major, minor, patch) #major "." #minor "." #patch
+#define MK_JOINED(major, minor, patch) MK_JOINED_(major, minor, patch)
+#define MK_VERSION MK_JOINED(MK_VERSION_MAJOR, MK_VERSION_MINOR, MK_VERSION_PATCH)
+
+/* A number that can be compared: 1.2.3 is 1002003. */
+#define MK_VERSION_NUMBER (MK_VERSION_MAJOR * 1000000 + MK_VERSION_MINOR * 1000 + MK_VERSION_PATCH)
+
+/* The version of the library, as MK_VERSION and as MK_VERSION_NUMBER. */
 const char *mk_version(void);
+uint32_t mk_version_number(void);
 
 /* Initialize it with {0}: no engine. The fields are the library's. A copy of an open handle names the same engine. */
 typedef struct {
@@ -118,6 +132,17 @@ enum { MK_GROUPS_MAX = 1025 * 4096 };
 /* A buffer of so many bytes is large enough for the answer to any line: the first line, and at most 4,194,303 lines of a
    pid. */
 enum { MK_ANSWER_MAX = 32 + 10 * 4194303 };
+
+/* A buffer of so many bytes is large enough for mk_read of any file of a group that has at most this many processes itself: a pid
+   of cgroup.procs and its line feed have at most 8 bytes, and every other text, with its zero byte, fewer than 64. */
+#define MK_READ_MAX(processes) (64 + 8 * (size_t)(processes))
+
+/* A buffer of so many bytes is large enough for mk_where. */
+enum { MK_WHERE_MAX = 4100 };
+
+/* A buffer of so many bytes is large enough for mk_history of this many recorded commands: the longest one sets a limit of a group
+   whose path has 4,095 bytes. */
+#define MK_HISTORY_MAX(commands) (4136 * (size_t)(commands))
 
 /* Makes an engine in a handle that has none: only the root group, and process 1 in it. MK_DONE, MK_OUT_OF_MEMORY, MK_BUSY,
    or MK_CLOSED if the handle has one. */

@@ -5,6 +5,7 @@
 enum { PATH_BYTES = 4095, NAME_BYTES = 255, NAMES = 32 };
 
 PUBLIC const char *mk_version(void) { return MK_VERSION; }
+PUBLIC uint32_t mk_version_number(void) { return MK_VERSION_NUMBER; }
 
 struct code {
     const char *name;

@@ -1,19 +1,26 @@
 /* A group with a process in it, a refusal, and an undo. */
-#include "makhloeum.h"
+#include <makhloeum.h>
 #include <stdio.h>
 #include <string.h>
 
+static void show(mk_handle *h) {
+    mk_info info;
+    uint64_t current;
+    if (mk_current(h, "/a", &current, &info) == MK_DONE) printf("processes of /a: %llu\n", (unsigned long long)current);
+}
+
 int main(void) {
-    static const char *const lines[] = {"mkdir /a", "fork 1 2", "write /a cgroup.procs 2", "cat /a pids.current", "rmdir /a", "undo"};
     mk_handle h = {0};
     mk_info info;
-    uint8_t out[4096];
+    size_t mark;
     if (mk_open(&h) != MK_DONE) return 1;
-    for (size_t i = 0; i < sizeof lines / sizeof *lines; i++) {
-        uint32_t status = mk_line(&h, i + 1, (const uint8_t *)lines[i], strlen(lines[i]), out, sizeof out, &info);
-        if (status > MK_FAULT) return 2;
-        fwrite(out, 1, info.len, stdout);
-        if (status != MK_DONE) printf("  (%s)\n", strerror(mk_errno(info.code)));
-    }
-    return (int)mk_close(&h);
+    if (mk_mkdir(&h, "/a", &info) != MK_DONE || mk_fork(&h, 1, 2, &info) != MK_DONE) return 1;
+    mk_depth(&h, &mark);
+    if (mk_attach(&h, "/a", 2, &info) != MK_DONE) return 1;
+    show(&h);
+    if (mk_rmdir(&h, "/a", &info) == MK_REFUSED) printf("rmdir /a: %s (%s)\n", strerror(info.error), mk_name(info.code));
+    if (mk_undo_to(&h, mark, &info) != MK_DONE) return 1;
+    printf("undone commands: %zu\n", info.count);
+    show(&h);
+    return mk_close(&h) == MK_DONE ? 0 : 1;
 }

@@ -12,7 +12,7 @@ import (
 // A wait looks at its context once in each such time.
 const slice = 50 * time.Millisecond
 
-// Changes returns how many calls have changed the hierarchy, undos included.
+// Changes returns how many calls have changed the hierarchy, undos included. The error is ErrClosed or ErrBusy.
 func (h *Hierarchy) Changes() (uint64, error) {
 	var changes C.uint64_t
 	status := C.mk_changes(&h.handle, &changes)
@@ -23,7 +23,7 @@ func (h *Hierarchy) Changes() (uint64, error) {
 	return uint64(changes), nil
 }
 
-// Wait waits until Changes differs from seen, and returns it. The error is that of the context when it ends, or
+// Wait waits until Changes differs from seen, and returns it. The error is that of the context ctx, within 50 ms of its end, or
 // ErrClosed when the hierarchy is closed. Each wait keeps a thread.
 func (h *Hierarchy) Wait(ctx context.Context, seen uint64) (uint64, error) {
 	defer runtime.KeepAlive(h)

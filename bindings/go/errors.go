@@ -19,42 +19,42 @@ var ErrBusy = errors.New("a call of this thread is running")
 // Code says why a command was refused.
 type Code uint32
 
-// The codes of the header.
+// The codes, with the errno of each.
 const (
-	Exists        Code = C.MK_EXISTS
-	NoGroup       Code = C.MK_NO_GROUP
-	Descendants   Code = C.MK_DESCENDANTS
-	Depth         Code = C.MK_DEPTH
-	NoSlot        Code = C.MK_NO_SLOT
-	RootFixed     Code = C.MK_ROOT_FIXED
-	HasChildren   Code = C.MK_HAS_CHILDREN
-	HasProcesses  Code = C.MK_HAS_PROCESSES
-	NoProcess     Code = C.MK_NO_PROCESS
-	PidInUse      Code = C.MK_PID_IN_USE
-	PidsMax       Code = C.MK_PIDS_MAX
-	NoFile        Code = C.MK_NO_FILE
-	NotReadable   Code = C.MK_NOT_READABLE // no answer has it
-	NothingToUndo Code = C.MK_NOTHING_TO_UNDO
-	BadSyntax     Code = C.MK_SYNTAX
-	BadPath       Code = C.MK_PATH
-	BadFile       Code = C.MK_FILE
-	BadDirection  Code = C.MK_DIRECTION
-	BadValue      Code = C.MK_VALUE
+	Exists        Code = C.MK_EXISTS          // EEXIST: the group exists
+	NoGroup       Code = C.MK_NO_GROUP        // ENOENT: there is no such group; for Mkdir, no such parent
+	Descendants   Code = C.MK_DESCENDANTS     // EAGAIN: the cgroup.max.descendants of the group in Reply is reached
+	Depth         Code = C.MK_DEPTH           // EAGAIN: the cgroup.max.depth of the group in Reply is reached
+	NoSlot        Code = C.MK_NO_SLOT         // ENOSPC: there are 1,024 groups besides the root; the kernel has no such limit
+	RootFixed     Code = C.MK_ROOT_FIXED      // EBUSY: the root cannot be removed
+	HasChildren   Code = C.MK_HAS_CHILDREN    // EBUSY: there are groups below the group
+	HasProcesses  Code = C.MK_HAS_PROCESSES   // EBUSY: there are processes in the group
+	NoProcess     Code = C.MK_NO_PROCESS      // ESRCH: there is no such process
+	PidInUse      Code = C.MK_PID_IN_USE      // EEXIST: there is a process with this pid
+	PidsMax       Code = C.MK_PIDS_MAX        // EAGAIN: the fork would exceed the pids.max of the group in Reply
+	NoFile        Code = C.MK_NO_FILE         // ENOENT: the root has no such file
+	NotReadable   Code = C.MK_NOT_READABLE    // EINVAL: no answer has it
+	NothingToUndo Code = C.MK_NOTHING_TO_UNDO // ENODATA: no recorded command is left to undo
+	BadSyntax     Code = C.MK_SYNTAX          // EINVAL: an unknown command, a wrong number of words, or too many bytes
+	BadPath       Code = C.MK_PATH            // EINVAL: a word is not a path; PathFault says why
+	BadFile       Code = C.MK_FILE            // ENOENT: there is no file of that name
+	BadDirection  Code = C.MK_DIRECTION       // EINVAL: the file cannot be written, or cannot be read
+	BadValue      Code = C.MK_VALUE           // EINVAL: a value is not a number, or out of range
 )
 
 // PathFault is the fault of a text that is not a path.
 type PathFault uint32
 
-// The faults of the header.
+// The faults of a path.
 const (
-	NotRooted    PathFault = C.MK_NOT_ROOTED
-	PathTooLong  PathFault = C.MK_PATH_TOO_LONG
-	TooDeep      PathFault = C.MK_TOO_DEEP
-	EmptyName    PathFault = C.MK_EMPTY_NAME
-	BadByte      PathFault = C.MK_BAD_BYTE
-	NameTooLong  PathFault = C.MK_NAME_TOO_LONG
-	DotName      PathFault = C.MK_DOT_NAME
-	ReservedName PathFault = C.MK_RESERVED
+	NotRooted    PathFault = C.MK_NOT_ROOTED    // the path does not begin with a slash
+	PathTooLong  PathFault = C.MK_PATH_TOO_LONG // more than 4,095 bytes
+	TooDeep      PathFault = C.MK_TOO_DEEP      // more than 32 names
+	EmptyName    PathFault = C.MK_EMPTY_NAME    // a name is empty, as after a slash at the end
+	BadByte      PathFault = C.MK_BAD_BYTE      // a byte is not printable ASCII
+	NameTooLong  PathFault = C.MK_NAME_TOO_LONG // a name has more than 255 bytes
+	DotName      PathFault = C.MK_DOT_NAME      // a name is . or ..
+	ReservedName PathFault = C.MK_RESERVED      // a name begins with cgroup. or pids.
 )
 
 // Refused is the error of a command that was refused, or of a text that is not a command.

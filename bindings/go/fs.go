@@ -29,7 +29,7 @@ var (
 // FS returns the hierarchy as a file system, as process 1 sees it.
 func (h *Hierarchy) FS() FS { return FS{h, 1} }
 
-// As returns the same file system for another process: the one that moves when 0 is written to cgroup.procs.
+// As returns the same file system for the process pid: the one that moves when 0 is written to cgroup.procs.
 func (f FS) As(pid int) FS { return FS{f.h, pid} }
 
 // node is a group or a file, as it was found.
@@ -113,10 +113,12 @@ func notFound(err error) error {
 	return syscall.ENOENT
 }
 
-// Stat describes a group or a file.
+// Stat describes the group or file of that name. The error is syscall.ENOENT if there is none, and fs.ErrInvalid if the name is not one
+// of an fs.FS.
 func (f FS) Stat(name string) (fs.FileInfo, error) { return f.find("stat", name) }
 
-// ReadFile returns the text of a file.
+// ReadFile returns the text of the file of that name. The error is as of Stat, and syscall.EISDIR for a group. Of cgroup.procs it takes
+// time for each process.
 func (f FS) ReadFile(name string) ([]byte, error) {
 	n, err := f.find("open", name)
 	if err != nil {
@@ -140,7 +142,8 @@ func (e entry) IsDir() bool                { return e.mode.IsDir() }
 func (e entry) Type() fs.FileMode          { return e.mode.Type() }
 func (e entry) Info() (fs.FileInfo, error) { return e.f.Stat(e.path) }
 
-// ReadDir lists the files of a group and the groups one name below it, in the order of their names.
+// ReadDir lists the files of the group of that name and the groups one name below it, in the order of their names. The error is as of
+// Stat, and syscall.ENOTDIR for a file. It takes time for each of them.
 func (f FS) ReadDir(name string) ([]fs.DirEntry, error) {
 	group := groupOf(name)
 	if !fs.ValidPath(name) || isFile(name) {
@@ -166,7 +169,7 @@ func (f FS) ReadDir(name string) ([]fs.DirEntry, error) {
 	return entries, nil
 }
 
-// Open opens a group or a file for reading.
+// Open opens the group or file of that name for reading. The error is as of Stat. Of cgroup.procs it takes time for each process.
 func (f FS) Open(name string) (fs.File, error) {
 	n, err := f.find("open", name)
 	if err != nil {
@@ -221,8 +224,9 @@ func (o *openGroup) ReadDir(n int) ([]fs.DirEntry, error) {
 	return part, nil
 }
 
-// WriteFile writes a file, as os.WriteFile does below a mount: numbers may be octal, hexadecimal or signed, a constant accepts
-// its current value, and 0 in cgroup.procs is this process.
+// WriteFile writes data to the file of that name, as os.WriteFile does below a mount: numbers may be octal, hexadecimal or signed, a
+// constant accepts its current value, and 0 in cgroup.procs is this process. The error is the errno of a mount, such as
+// syscall.ENOENT, EINVAL, ERANGE or ESRCH. A kill takes time for each process that it ends.
 func (f FS) WriteFile(name string, data []byte) error {
 	if !fs.ValidPath(name) || name == "." {
 		return &fs.PathError{Op: "open", Path: name, Err: fs.ErrInvalid}
@@ -239,7 +243,8 @@ func isFile(name string) bool {
 	return ok && name != "."
 }
 
-// Mkdir makes a group, as os.Mkdir does.
+// Mkdir makes the group of that name, as os.Mkdir does. The error is that of Hierarchy.Mkdir, or an errno of a mount for a name that
+// no group can have, such as syscall.ENAMETOOLONG. It moves 40 bytes for each group with the same parent.
 func (f FS) Mkdir(name string) error {
 	if isFile(name) {
 		if _, err := f.find("mkdir", name); err != nil {
@@ -250,7 +255,8 @@ func (f FS) Mkdir(name string) error {
 	return f.change("mkdir", name, f.h.Mkdir)
 }
 
-// Remove removes a group, as os.Remove does.
+// Remove removes the group of that name, as os.Remove does. The error is that of Hierarchy.Rmdir, and syscall.EPERM for a file. It
+// moves 40 bytes for each group with the same parent.
 func (f FS) Remove(name string) error {
 	if isFile(name) {
 		if _, err := f.find("remove", name); err != nil {

@@ -17,7 +17,8 @@ func listed(told []byte, err error) ([]string, error) {
 	return strings.Split(string(told[:len(told)-1]), "\x00"), nil
 }
 
-// Children returns the names of the groups one name below the group, in the order of their bytes.
+// Children returns the names of the groups one name below the group path, in the order of their bytes. It is refused with NoGroup. It
+// takes time for each of them.
 func (h *Hierarchy) Children(path string) ([]string, error) {
 	c := newCall()
 	defer c.end()
@@ -29,7 +30,8 @@ func (h *Hierarchy) Children(path string) ([]string, error) {
 	return listed(told, err)
 }
 
-// Groups returns the paths of the group and of all below it, each before those below it.
+// Groups returns the paths of the group path and of all below it, each before those below it. It is refused with NoGroup. It takes
+// time for each group, with each name of its path.
 func (h *Hierarchy) Groups(path string) ([]string, error) {
 	c := newCall()
 	defer c.end()
@@ -41,7 +43,7 @@ func (h *Hierarchy) Groups(path string) ([]string, error) {
 	return listed(told, err)
 }
 
-// HasGroup says whether there is such a group.
+// HasGroup says whether there is a group path. It is refused with BadPath if the text is not a path.
 func (h *Hierarchy) HasGroup(path string) (bool, error) {
 	c := newCall()
 	defer c.end()

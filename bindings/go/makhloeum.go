@@ -17,10 +17,15 @@
 //		return err
 //	}
 //
-// A refusal is a *Refused: errors.Is finds the errno that the kernel gives for it (docs/FORMATS.md, "Codes for C"), and
-// fs.ErrExist and fs.ErrNotExist. In other errors errors.Is finds ErrClosed, ErrBusy, syscall.ENOMEM or the errno that Fail
-// was given; their text begins with the command. Wait also returns the error of its context, and FS every error in a
+// A path is "/" or a text such as "/a/b", of at most 4,095 bytes and 32 names. A pid is a number from 1 to 4,194,303.
+//
+// A refusal is a *Refused, whose Code is BadPath for a text that is not a path, NoGroup for a group that doesn't exist, or one of
+// those that the method names. Nothing has changed then. errors.Is finds the errno that the kernel gives for it, and fs.ErrExist and
+// fs.ErrNotExist. In other errors errors.Is finds ErrClosed, ErrBusy, syscall.ENOMEM or the errno that Fail was given; every method
+// can return these, and their text begins with the command. Wait also returns the error of its context, and FS every error in a
 // *fs.PathError.
+//
+// A method with a path takes time for each name of the path. Its comment says what else takes time; the others take constant time.
 //
 // The package links the archive libmakhloeum.a beside it, which bindings/build puts there. With the build tag
 // makhloeum_pkgconfig it links the library that pkg-config names.
@@ -61,7 +66,7 @@ func made(operation string, fill func(h *Hierarchy) uint32) (*Hierarchy, error) 
 }
 
 // Close waits for the call that is running and frees the engine. Every later call returns ErrClosed; a second Close does
-// nothing.
+// nothing. It takes time for each group, process and recorded command.
 func (h *Hierarchy) Close() { C.mk_close(&h.handle) }
 
 // at returns a pointer for a text that may be empty.
@@ -139,8 +144,9 @@ func (h *Hierarchy) asked(c *call, what command, do func() C.uint32_t) (string, 
 	return shown(answer), nil
 }
 
-// Line answers one line of the trace language, and returns its text: the file's for a cat and a where, the
-// undone command for an undo, else none.
+// Line answers one line of the trace language, such as "cat /a pids.current", and returns its text: the file's for a cat and a
+// where, the undone command for an undo, else none. It is refused with what the method of the command is, and with BadSyntax if
+// the line is not a command or has more than 8,192 bytes. It takes time for each byte of the line, and for what the command does.
 func (h *Hierarchy) Line(line string) (string, error) {
 	if strings.Contains(line, "\n") {
 		return "", &Refused{Code: BadSyntax, Reply: "syntax", Command: line}
@@ -178,22 +184,28 @@ func (h *Hierarchy) do(operation, path string, words ...string) (string, error) 
 	return h.words(what, append([]string{operation, path}, words...)...)
 }
 
-// Mkdir makes a group.
+// Mkdir makes the group path. It is refused with Exists, NoGroup if there is no parent, Descendants or Depth if a limit is reached,
+// and NoSlot beyond 1,024 groups. It moves 40 bytes for each group with the same parent.
 func (h *Hierarchy) Mkdir(path string) error {
 	_, err := h.do("mkdir", path)
 	return err
 }
 
-// Rmdir removes a group that has neither children nor processes.
+// Rmdir removes the group path, which has neither children nor processes. It is refused with RootFixed, NoGroup, HasChildren or
+// HasProcesses. It moves 40 bytes for each group with the same parent.
 func (h *Hierarchy) Rmdir(path string) error {
 	_, err := h.do("rmdir", path)
 	return err
 }
 
-// Read returns the text of a file of the group.
+// Read returns the text of a file of the group path, such as "1\n" of pids.current. It is refused with NoGroup, BadFile if no group
+// has such a file, NoFile if the root has none, and BadDirection for cgroup.kill. Of cgroup.procs it takes time for each process.
 func (h *Hierarchy) Read(path, file string) (string, error) { return h.do("cat", path, file) }
 
-// Write writes a file of the group: a pid to cgroup.procs, a limit or "max" to a limit, "1" to cgroup.kill.
+// Write writes value to a file of the group path: a pid to cgroup.procs, a limit or "max" to pids.max, cgroup.max.depth or
+// cgroup.max.descendants, "1" to cgroup.kill. It is refused with NoGroup, BadFile, NoFile if the root has no such file, BadDirection
+// if it can't be written, BadValue if the value is not a number or out of range, and NoProcess. A kill takes time for each process
+// that it ends.
 func (h *Hierarchy) Write(path, file, value string) error {
 	_, err := h.do("write", path, file, value)
 	return err
@@ -207,22 +219,26 @@ func (h *Hierarchy) pids(operation string, pids ...int) (string, error) {
 	return h.words(command{text: strings.Join(words, " ")}, words...)
 }
 
-// Fork makes the process child, which starts in its parent's group.
+// Fork makes the process child, which starts in the group of the process parent. It is refused with NoProcess if there is no parent,
+// PidInUse, PidsMax if a limit is reached, and BadValue for a number that is not a pid. PidsMax is counted in pids.events, and
+// recorded.
 func (h *Hierarchy) Fork(parent, child int) error {
 	_, err := h.pids("fork", parent, child)
 	return err
 }
 
-// Exit ends and reaps the process.
+// Exit ends and reaps the process pid. It is refused with NoProcess, and with BadValue for a number that is not a pid.
 func (h *Hierarchy) Exit(pid int) error {
 	_, err := h.pids("exit", pid)
 	return err
 }
 
-// Where returns the text of /proc/PID/cgroup.
+// Where returns the text of /proc/PID/cgroup of the process pid, such as "0::/a\n". It is refused with NoProcess, and with BadValue
+// for a number that is not a pid.
 func (h *Hierarchy) Where(pid int) (string, error) { return h.pids("where", pid) }
 
-// Undo undoes the newest recorded command, and returns its text.
+// Undo undoes the newest recorded command, and returns its text, such as "mkdir /a". It is refused with NothingToUndo. It takes as
+// much time as the command: that of a kill for each process that it ended.
 func (h *Hierarchy) Undo() (string, error) {
 	c := newCall()
 	defer c.end()
@@ -232,7 +248,7 @@ func (h *Hierarchy) Undo() (string, error) {
 	return strings.TrimSuffix(text, "\n"), err
 }
 
-// Depth returns how many recorded commands can be undone.
+// Depth returns how many recorded commands can be undone. The error is ErrClosed or ErrBusy.
 func (h *Hierarchy) Depth() (int, error) {
 	var depth C.size_t
 	status := C.mk_depth(&h.handle, &depth)
@@ -244,7 +260,7 @@ func (h *Hierarchy) Depth() (int, error) {
 }
 
 // Forget forgets the recorded commands and frees their memory: groups, processes and counts stay, and nothing earlier can
-// be undone.
+// be undone. The error is ErrClosed or ErrBusy. It takes time for each recorded command, and no memory.
 func (h *Hierarchy) Forget() error {
 	status := C.mk_forget(&h.handle)
 	runtime.KeepAlive(h)
@@ -256,7 +272,7 @@ func (h *Hierarchy) Forget() error {
 
 // Copy makes a new hierarchy with the same groups, processes, counts and recorded commands. From then on the two are
 // independent. The copy has no faults of Fail and Vanish, and its Changes begins at 0. It is freed like one that New
-// makes.
+// makes. The error is ErrClosed, ErrBusy or syscall.ENOMEM. It takes time and memory for each group, process and recorded command.
 func (h *Hierarchy) Copy() (*Hierarchy, error) {
 	defer runtime.KeepAlive(h)
 	return made("copy", func(to *Hierarchy) uint32 { return uint32(C.mk_copy(&h.handle, &to.handle)) })

@@ -19,7 +19,8 @@ type Text struct {
 }
 
 // ReadMany returns the texts of many files, all of the same state: no other call comes in between. A file that cannot be read
-// has its own error, so a group that was removed since it was listed does not affect the others.
+// has its own error, as of Read, so a group that was removed since it was listed does not affect the others. The error is ErrClosed,
+// ErrBusy or syscall.ENOMEM. It takes time for each file and each byte of the texts.
 func (h *Hierarchy) ReadMany(files []File) ([]Text, error) {
 	if len(files) == 0 {
 		return nil, nil

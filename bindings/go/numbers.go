@@ -33,7 +33,8 @@ func (h *Hierarchy) number(what, path string, read func(path *C.char, info *C.mk
 	return failed(command{text: what + " " + path, path: path, hasPath: true}, uint32(status), info, nil)
 }
 
-// Current returns pids.current: the number of processes of the group and of the groups below it.
+// Current returns pids.current: the number of processes of the group path and of the groups below it. It is refused with NoGroup, and
+// with NoFile for the root.
 func (h *Hierarchy) Current(path string) (int, error) {
 	var value C.uint64_t
 	err := h.number("current", path, func(text *C.char, info *C.mk_info) C.uint32_t {
@@ -42,7 +43,7 @@ func (h *Hierarchy) Current(path string) (int, error) {
 	return int(value), err
 }
 
-// Peak returns pids.peak: the largest pids.current so far.
+// Peak returns pids.peak: the largest pids.current of the group path so far. It is refused with NoGroup, and with NoFile for the root.
 func (h *Hierarchy) Peak(path string) (int, error) {
 	var value C.uint64_t
 	err := h.number("peak", path, func(text *C.char, info *C.mk_info) C.uint32_t {
@@ -51,7 +52,8 @@ func (h *Hierarchy) Peak(path string) (int, error) {
 	return int(value), err
 }
 
-// Limit returns pids.max, and false if there is no limit.
+// Limit returns pids.max of the group path, a number of processes, and false if there is no limit. It is refused with NoGroup, and
+// with NoFile for the root.
 func (h *Hierarchy) Limit(path string) (int, bool, error) {
 	var value C.uint64_t
 	err := h.number("limit", path, func(text *C.char, info *C.mk_info) C.uint32_t {
@@ -63,7 +65,7 @@ func (h *Hierarchy) Limit(path string) (int, bool, error) {
 	return int(value), true, nil
 }
 
-// Populated says whether the group or a group below it has a process.
+// Populated says whether the group path or a group below it has a process. It is refused with NoGroup, and with NoFile for the root.
 func (h *Hierarchy) Populated(path string) (bool, error) {
 	var populated C.bool
 	err := h.number("populated", path, func(text *C.char, info *C.mk_info) C.uint32_t {
@@ -72,7 +74,7 @@ func (h *Hierarchy) Populated(path string) (bool, error) {
 	return bool(populated), err
 }
 
-// Processes returns the pids of the group itself, ascending.
+// Processes returns the pids of the group path itself, ascending. It is refused with NoGroup. It takes time for each of them.
 func (h *Hierarchy) Processes(path string) ([]int, error) {
 	found := make([]C.uint32_t, 64)
 	count := 0
@@ -94,8 +96,8 @@ func (h *Hierarchy) Processes(path string) ([]int, error) {
 }
 
 // UndoTo undoes recorded commands until only mark are left. An earlier Depth gives the mark; syscall.EINVAL if it is negative. No
-// other call comes in between. If it runs out of memory, the commands that were undone so far stay undone, and Depth says how many are
-// left.
+// other call comes in between. It is refused with NothingToUndo if fewer are left already. If it runs out of memory, the commands that
+// were undone so far stay undone, and Depth says how many are left. It takes time for each of them.
 func (h *Hierarchy) UndoTo(mark int) error {
 	what := command{text: fmt.Sprint("undo to ", mark)}
 	if mark < 0 {
@@ -110,5 +112,6 @@ func (h *Hierarchy) UndoTo(mark int) error {
 	return failed(what, uint32(status), info, nil)
 }
 
-// Reset undoes all recorded commands. If it runs out of memory, some stay undone, as with UndoTo.
+// Reset undoes all recorded commands. The error is ErrClosed, ErrBusy or syscall.ENOMEM; then some stay undone, as with UndoTo. It
+// takes time for each of them.
 func (h *Hierarchy) Reset() error { return h.UndoTo(0) }

@@ -13,9 +13,9 @@ import (
 	"unsafe"
 )
 
-// Watch sends the text of a file of the group, and then each text that differs from the one before, as a poll of cgroup.events or
+// Watch sends the text of a file of the group path, and then each text that differs from the one before, as a poll of cgroup.events or
 // pids.events on a mount tells of them: of changes that follow each other faster than the channel is read, the last. The channel is
-// closed when the context ends, the group is removed, the hierarchy is closed or the file can't be read; Read then says why. The
+// closed when the context ctx ends, the group is removed, the hierarchy is closed or the file can't be read; Read then says why. The
 // faults of Fail and Vanish don't count it. Each watch keeps a thread.
 func (h *Hierarchy) Watch(ctx context.Context, path, file string) <-chan string {
 	texts := make(chan string)

@@ -1,10 +1,12 @@
 """The wheel is for one platform, since it contains the library, and for every Python 3.
 
-`pip install bindings/python` needs what bindings/build left, or MAKHLOEUM_LIBRARY with the path of a library.
+`pip install bindings/python` needs what bindings/build left, or MAKHLOEUM_LIBRARY with the path of a library. The version is
+that of the library.
 """
 
 from __future__ import annotations
 
+import ctypes
 import os
 import shutil
 import sys
@@ -26,6 +28,12 @@ def library() -> Path:
         if place.is_file():
             return place.resolve()
     sys.exit(f"makhloeum: {places[-1]} is missing: run bindings/build first, or set MAKHLOEUM_LIBRARY to the path of {NAME}")
+
+
+def version() -> str:
+    call = ctypes.CDLL(str(library())).mk_version
+    call.restype = ctypes.c_char_p
+    return str(call().decode())
 
 
 class Build(build_py):
@@ -56,4 +64,4 @@ class Wheel(bdist_wheel):
         return "py3", "none", super().get_tag()[2].replace("linux_", "manylinux_2_36_", 1)
 
 
-setup(cmdclass={"build_py": Build, "bdist_wheel": Wheel})
+setup(version=version(), cmdclass={"build_py": Build, "bdist_wheel": Wheel})

@@ -177,7 +177,10 @@ static int names_of_codes(void) {
     CHECK(mk_name(15) == NULL && mk_name(31) == NULL && mk_name(37) == NULL && mk_message(37) == NULL);
     for (uint32_t status = MK_DONE; status <= MK_BUSY; status++) CHECK(mk_status_message(status) != NULL);
     CHECK(mk_status_message(MK_FAILED + 1) == NULL && mk_path_message(MK_RESERVED + 1) == NULL);
-    CHECK(strcmp(mk_version(), MK_VERSION) == 0);
+    char version[32];
+    uint32_t number = mk_version_number();
+    snprintf(version, sizeof version, "%u.%u.%u", number / 1000000, number / 1000 % 1000, number % 1000);
+    CHECK(number == MK_VERSION_NUMBER && strcmp(mk_version(), MK_VERSION) == 0 && strcmp(version, MK_VERSION) == 0);
     CHECK(mk_status_errno(MK_DONE, 0) == 0 && mk_status_errno(MK_CLOSED, 0) == EBADF && mk_status_errno(MK_OUT_OF_MEMORY, 0) == ENOMEM);
     CHECK(mk_status_errno(MK_REFUSED, MK_EXISTS) == EEXIST && mk_status_errno(MK_SKIPPED, 0) == 0 && mk_status_errno(MK_BUSY, 0) == EDEADLK);
     return 0;

@@ -15,20 +15,20 @@ import (
 const containers, limit = 8, 5
 
 // life runs one container and returns how many processes it had when a fork was refused.
-func life(h *makhloeum.Hierarchy, number int) (string, error) {
+func life(h *makhloeum.Hierarchy, number int) (int, error) {
 	group := fmt.Sprint("/containers/", number)
 	first := 100 * (number + 1)
 	if err := h.Mkdir(group); err != nil {
-		return "", err
+		return 0, err
 	}
 	if err := h.Write(group, "pids.max", fmt.Sprint(limit)); err != nil {
-		return "", err
+		return 0, err
 	}
 	if err := h.Fork(1, first); err != nil {
-		return "", err
+		return 0, err
 	}
 	if err := h.Write(group, "cgroup.procs", fmt.Sprint(first)); err != nil {
-		return "", err
+		return 0, err
 	}
 	for pid := first + 1; ; pid++ {
 		err := h.Fork(first, pid)
@@ -36,15 +36,15 @@ func life(h *makhloeum.Hierarchy, number int) (string, error) {
 			break
 		}
 		if err != nil {
-			return "", err
+			return 0, err
 		}
 	}
-	current, err := h.Read(group, "pids.current")
+	current, err := h.Current(group)
 	if err != nil {
-		return "", err
+		return 0, err
 	}
 	if err := h.Write(group, "cgroup.kill", "1"); err != nil {
-		return "", err
+		return 0, err
 	}
 	return current, h.Rmdir(group)
 }
@@ -59,7 +59,7 @@ func run() error {
 		return err
 	}
 	var all sync.WaitGroup
-	counts, failures := make([]string, containers), make([]error, containers)
+	counts, failures := make([]int, containers), make([]error, containers)
 	for i := 0; i < containers; i++ {
 		all.Add(1)
 		go func(i int) {
@@ -72,7 +72,7 @@ func run() error {
 		if err != nil {
 			return err
 		}
-		fmt.Printf("container %d: %s", i, counts[i])
+		fmt.Printf("container %d: %d\n", i, counts[i])
 	}
 	refused, err := h.Read("/containers", "pids.events")
 	if err != nil {

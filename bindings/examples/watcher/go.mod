@@ -2,6 +2,6 @@ module watcher
 
 go 1.18
 
-require makhloeum v1.0.0
+require makhloeum v0.0.0
 
 replace makhloeum => ../../go

@@ -31,16 +31,28 @@ func refusals(texts <-chan string, report func(count int)) error {
 	return nil
 }
 
+// start makes a service whose two processes are as many as its limit allows.
+func start(h *makhloeum.Hierarchy) error {
+	if err := h.Mkdir("/service"); err != nil {
+		return err
+	}
+	if err := h.Write("/service", "pids.max", "2"); err != nil {
+		return err
+	}
+	if err := h.Write("/service", "cgroup.procs", "1"); err != nil {
+		return err
+	}
+	return h.Fork(1, 2)
+}
+
 func run() error {
 	h, err := makhloeum.New()
 	if err != nil {
 		return err
 	}
 	defer h.Close()
-	for _, line := range []string{"mkdir /service", "write /service pids.max 2", "write /service cgroup.procs 1", "fork 1 2"} {
-		if _, err := h.Line(line); err != nil {
-			return err
-		}
+	if err := start(h); err != nil {
+		return err
 	}
 	ctx, cancel := context.WithTimeout(context.Background(), patience)
 	defer cancel()

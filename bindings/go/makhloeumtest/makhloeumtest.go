@@ -13,7 +13,7 @@ import (
 	"makhloeum"
 )
 
-// New makes a hierarchy that is closed when the test ends.
+// New makes a hierarchy that is closed when the test t ends. It ends the test if there is no memory.
 func New(t testing.TB) *makhloeum.Hierarchy {
 	t.Helper()
 	h, err := makhloeum.New()
@@ -24,7 +24,7 @@ func New(t testing.TB) *makhloeum.Hierarchy {
 	return h
 }
 
-// Do answers lines of the trace language, and ends the test at the first that is refused.
+// Do answers lines of the trace language in the hierarchy h, and ends the test t at the first that is refused.
 func Do(t testing.TB, h *makhloeum.Hierarchy, lines ...string) {
 	t.Helper()
 	for _, line := range lines {

@@ -21,11 +21,13 @@ leaves it, and then where the system keeps libraries.
 """
 
 from . import _interrupts, errors  # noqa: F401
+from ._library import library as _c
 from .errors import *  # noqa: F403
 from .hierarchy import Hierarchy
 from .mounted import mounted_at
 
-__version__ = "1.0.0"
+# the library's, which a wheel brings along
+__version__: str = _c.mk_version().decode()
 # in this form, since type checkers read it
 __all__ = ["Hierarchy", "mounted_at"]
 __all__ += errors.__all__

@@ -24,6 +24,8 @@ def _seconds(timeout: Any) -> float:
 
 
 class Changes:
+    """The part of a Hierarchy that counts changes and waits for them."""
+
     _at: Any
     _call: Callable[..., int]
 
@@ -36,8 +38,10 @@ class Changes:
         return count.value
 
     def wait(self, seen: int, timeout: float | None = None) -> int:
-        """Waits until changes() is another number than `seen`, and returns it. TimeoutError after `timeout` seconds, ValueError
-        when the hierarchy is closed. Other threads can make calls meanwhile."""
+        """Waits until changes() is another number than `seen`, and returns it. Other threads can make calls meanwhile.
+
+        `timeout` is a number of seconds, None for no end. Raises TimeoutError after that time, ValueError when the hierarchy is closed,
+        and the exception of a signal's handler, as KeyboardInterrupt, within a tenth of a second."""
         seen = _integer(seen, "a number of changes")
         if not 0 <= seen < 1 << 64:
             raise ValueError(f"wait: {seen} is not a number of changes")

@@ -20,12 +20,16 @@ def _pair(pair: tuple[Path, str]) -> tuple[Path, str]:
 
 
 class Many:
+    """The part of a Hierarchy that reads many files in one call."""
+
     _at: Any
 
     def read_many(self, files: Iterable[tuple[Path, str]]) -> list[str | Refused | OSError]:
-        """The texts of many files, given as pairs of a path and a file's name. All are of one state: no other thread's command
-        comes in between. A file that can't be read has the exception in the place of its text, so a group that was removed since
-        it was listed does not affect the others."""
+        """The texts of many `files`, given as pairs of a path and a file's name. All are of one state: no other thread's command
+        comes in between. A file that can't be read has the exception that `read` would raise in the place of its text, so a group that
+        was removed since it was listed does not affect the others.
+
+        Raises TypeError if an element is not a pair. Takes time for each file and each byte of the texts."""
         pairs = list(map(_pair, files))
         names = b"".join(_c_text(part) + b"\0" for pair in pairs for part in pair)
         texts, size = (Text * len(pairs))(), _BYTES_EACH * len(pairs) + 64

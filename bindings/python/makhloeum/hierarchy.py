@@ -26,9 +26,14 @@ _LENS = tuple(struct.Struct(f"{count}N").pack for count in range(5))
 class Hierarchy(Changes, Faults, Many):
     """A hierarchy of groups: at first only the root, and process 1 in it.
 
-    A context manager, once: its end frees the engine. Paths are texts as '/' and '/a/b', pids numbers. Threads may share a
-    hierarchy: commands take effect one after the other. Each call raises a `Refused` if the command is refused,
-    `MemoryError` when out of memory, and `ValueError` once the hierarchy is closed.
+    A context manager, once: its end frees the engine. Threads may share a hierarchy: commands take effect one after the other.
+
+    - A path is a text as '/' or '/a/b', of at most 4,095 bytes and 32 names. A pid is a number from 1 to 4,194,303.
+    - A command that is refused raises a `Refused`, an OSError with the kernel's errno: BadPath for a text that is not a path, NoGroup
+      for a group that doesn't exist, and those that its method names. Nothing has changed then. Every call raises MemoryError when out
+      of memory, ValueError once the hierarchy is closed, TypeError for an argument of a wrong type, and RuntimeError in a signal
+      handler that interrupted a call of the same thread.
+    - A call with a path takes time for each name of the path. A method says what else it takes time for; the others take constant time.
     """
 
     _handle: Handle
@@ -70,7 +75,9 @@ class Hierarchy(Changes, Faults, Many):
     def copy(self) -> Hierarchy:
         """A new hierarchy with the same groups, processes, counts and recorded commands. From then on the two are
         independent. The copy has no faults of `fail` and `vanish`, its `changes()` begins at 0, and it has to be closed
-        like any other. `copy.copy` and `copy.deepcopy` return the same. A copy of a subclass is a plain `Hierarchy`."""
+        like any other. `copy.copy` and `copy.deepcopy` return the same. A copy of a subclass is a plain `Hierarchy`.
+
+        Takes time and memory for each group, process and recorded command."""
         made = Hierarchy.__new__(Hierarchy)
         made._begin(lambda at: int(library.mk_copy(self._at, at)), "copy")
         return made
@@ -85,7 +92,8 @@ class Hierarchy(Changes, Faults, Many):
         raise TypeError("a hierarchy cannot be pickled")
 
     def close(self) -> None:
-        """Frees the engine. A second call does nothing."""
+        """Waits for a call of another thread, and frees the engine. A second call does nothing. Takes time for each group, process
+        and recorded command."""
         status = library.mk_close(self._at)
         if status not in (DONE, CLOSED):
             _raise(status, 0, "", None, "close")
@@ -93,7 +101,7 @@ class Hierarchy(Changes, Faults, Many):
 
     @property
     def closed(self) -> bool:
-        """Whether it was closed."""
+        """Whether `close` was called."""
         return self._closed
 
     def _call(self, name: str, *words: Any) -> int:
@@ -141,10 +149,13 @@ class Hierarchy(Changes, Faults, Many):
         return _shown(self._told("mk_words", given, command, path, None, is_long))
 
     def line(self, line: str | bytes, path: Path | None = None) -> str:
-        """Answers one line of the trace language, as 'cat /a pids.current', and returns the text that it shows: the file's
+        """Answers one `line` of the trace language, as 'cat /a pids.current', and returns the text that it shows: the file's
         for a `cat` and a `where`, the undone command for an `undo`, else ''. A comment and an empty line show nothing.
         `path` is the `filename` of an error. If it is given, a BadPath is as from `mkdir` and the like: its class, `fault`,
-        `position` and `reply` say what is wrong with the path in the line."""
+        `position` and `reply` say what is wrong with the path in the line.
+
+        Raises what the method of the command does, and BadSyntax if the line is not a command or has more than 8,192 bytes. Takes time
+        for each byte of the line, and for what the command does."""
         text = _bytes(line)
         if b"\n" in text:
             raise BadSyntax("syntax", None if path is None else _text(path), _text(text))
@@ -152,36 +163,45 @@ class Hierarchy(Changes, Faults, Many):
         return _shown(self._told("mk_line", (1, text, len(text)), text, path, _path_word(text), is_long))
 
     def mkdir(self, path: Path) -> None:
-        """Makes a group."""
+        """Makes the group `path`. Raises Exists, NoGroup if there is no parent, Descendants or Depth if a limit is reached, and NoSlot
+        beyond 1,024 groups. Moves 40 bytes for each group with the same parent."""
         self._asked((b"mkdir", _bytes(path)), f"mkdir {_text(path)}", path)
 
     def rmdir(self, path: Path) -> None:
-        """Removes a group that has neither children nor processes."""
+        """Removes the group `path`, which has neither children nor processes. Raises RootFixed, NoGroup, HasChildren or HasProcesses;
+        all but NoGroup are Busy. Moves 40 bytes for each group with the same parent."""
         self._asked((b"rmdir", _bytes(path)), f"rmdir {_text(path)}", path)
 
     def fork(self, parent: int, child: int) -> None:
-        """The process `parent` forks `child`, which starts in its group."""
+        """The process `parent` forks `child`, which starts in its group: pids. Raises NoProcess if there is no parent, PidInUse, PidsMax
+        if a limit is reached, and BadValue for a number that is not a pid. PidsMax is counted in pids.events, and recorded."""
         self._asked((b"fork", _pid(parent), _pid(child)), f"fork {_number(parent)} {_number(child)}")
 
     def exit(self, pid: int) -> None:
-        """The process exits and is reaped."""
+        """The process `pid` exits and is reaped. Raises NoProcess, and BadValue for a number that is not a pid."""
         self._asked((b"exit", _pid(pid)), f"exit {_number(pid)}")
 
     def read(self, path: Path, file: str | bytes) -> str:
-        """The text of a file of the group, as '1\\n' of pids.current."""
+        """The text of the `file` of the group at `path`, as '1\\n' of pids.current. Raises NoGroup, BadFile if no group has such a file,
+        NoFile if the root has none, and BadDirection for cgroup.kill. cgroup.procs takes time for each process of the group."""
         return self._asked((b"cat", _bytes(path), _bytes(file)), f"read {_text(path)} {_text(file)}", path)
 
     def write(self, path: Path, file: str | bytes, value: Value) -> None:
-        """Writes a file of the group: a pid to cgroup.procs, a limit or 'max' to a limit, 1 to cgroup.kill."""
+        """Writes `value`, an int or a text, to the `file` of the group at `path`: a pid to cgroup.procs, a limit or 'max' to pids.max,
+        cgroup.max.depth or cgroup.max.descendants, 1 to cgroup.kill. Raises NoGroup, BadFile, NoFile if the root has no such file,
+        BadDirection if it can't be written, BadValue if the value is not a number or out of range, and NoProcess. A kill takes time for
+        each process that it ends."""
         words = (b"write", _bytes(path), _bytes(file), _value(value))
         self._asked(words, f"write {_text(path)} {_text(file)} {_text(value)}", path)
 
     def where(self, pid: int) -> str:
-        """The text of /proc/PID/cgroup."""
+        """The text of /proc/PID/cgroup of the process `pid`, as '0::/a\\n'. Raises NoProcess, and BadValue for a number that is not a
+        pid."""
         return self._asked((b"where", _pid(pid)), f"where {_number(pid)}")
 
     def undo(self) -> str:
-        """Undoes the newest recorded command, and returns its text."""
+        """Undoes the newest recorded command, and returns its text, as 'mkdir /a'. Raises NothingToUndo. Takes as much time as the
+        command: that of a kill for each process that it ended."""
         return _shown(self._told("mk_undo", (1,), "undo")).rstrip("\n")
 
     def depth(self) -> int:
@@ -194,7 +214,7 @@ class Hierarchy(Changes, Faults, Many):
 
     def forget(self) -> None:
         """Forgets the recorded commands and frees their memory: groups, processes and counts stay, and nothing earlier can
-        be undone."""
+        be undone. Takes time for each recorded command, and no memory."""
         status = library.mk_forget(self._at)
         if status != DONE:
             _raise(status, 0, "", None, "forget")
@@ -209,11 +229,13 @@ class Hierarchy(Changes, Faults, Many):
         return told.decode().split("\0")[:-1]
 
     def children(self, path: Path) -> list[str]:
-        """The names of the groups one name below the group, in the order of their bytes."""
+        """The names of the groups one name below the group at `path`, in the order of their bytes. Raises NoGroup. Takes time for each
+        of them."""
         return self._listed("mk_children", "children", path)
 
     def groups(self, path: Path = "/") -> list[str]:
-        """The paths of the group and of all below it, each before those below it."""
+        """The paths of the group at `path` and of all below it, each before those below it. Raises NoGroup. Takes time for each group,
+        with each name of its path."""
         return self._listed("mk_subtree", "groups", path)
 
     def _number(self, operation: str, value: Any, path: Path) -> Any:
@@ -230,24 +252,25 @@ class Hierarchy(Changes, Faults, Many):
         _raise(status, info.code, words, path, operation, info.error)
 
     def current(self, path: Path) -> int:
-        """pids.current: the number of processes of the group and of the groups below it."""
+        """pids.current: the number of processes of the group at `path` and of the groups below it. Raises NoGroup, and NoFile for the
+        root."""
         return int(self._number("current", ctypes.c_uint64(), path))
 
     def peak(self, path: Path) -> int:
-        """pids.peak: the largest pids.current so far."""
+        """pids.peak: the largest pids.current of the group at `path` so far. Raises NoGroup, and NoFile for the root."""
         return int(self._number("peak", ctypes.c_uint64(), path))
 
     def limit(self, path: Path) -> int | None:
-        """pids.max; None if there is no limit."""
+        """pids.max of the group at `path`, a number of processes; None if there is no limit. Raises NoGroup, and NoFile for the root."""
         value = int(self._number("limit", ctypes.c_uint64(), path))
         return None if value == NO_LIMIT else value
 
     def populated(self, path: Path) -> bool:
-        """Whether the group or a group below it has a process."""
+        """Whether the group at `path` or a group below it has a process. Raises NoGroup, and NoFile for the root."""
         return bool(self._number("populated", ctypes.c_bool(), path))
 
     def processes(self, path: Path) -> list[int]:
-        """The pids of the group itself, ascending."""
+        """The pids of the group at `path` itself, ascending. Raises NoGroup. Takes time for each of them."""
         word, room = _c_text(path), 64
         while True:
             pids, info = (ctypes.c_uint32 * room)(), Info()
@@ -259,13 +282,13 @@ class Hierarchy(Changes, Faults, Many):
             room = 1 << (info.needed - 1).bit_length()
 
     def mark(self) -> int:
-        """A mark for undo_to: the depth."""
+        """A mark for undo_to: the number of recorded commands, as `depth` returns it."""
         return self.depth()
 
     def undo_to(self, mark: int) -> int:
-        """Undoes the commands that were recorded since the mark, and returns how many. No other thread's command comes in
-        between. NothingToUndo if fewer commands are left than at the mark. With MemoryError the commands that were undone so
-        far stay undone, and `depth()` says how many are left."""
+        """Undoes the commands that were recorded since the `mark`, and returns how many. No other thread's command comes in
+        between. Raises NothingToUndo if fewer commands are left than at the mark, and ValueError if it is negative. With MemoryError
+        the commands that were undone so far stay undone, and `depth()` says how many are left. Takes time for each of them."""
         info = Info()
         mark = _integer(mark, "a mark")
         if mark < 0:
@@ -277,11 +300,12 @@ class Hierarchy(Changes, Faults, Many):
         return int(info.count)
 
     def reset(self) -> int:
-        """Undoes all recorded commands, and returns how many. With MemoryError some stay undone, as with `undo_to`."""
+        """Undoes all recorded commands, and returns how many. With MemoryError some stay undone, as with `undo_to`. Takes time for each
+        of them."""
         return self.undo_to(0)
 
     def has_group(self, path: Path) -> bool:
-        """Whether there is such a group."""
+        """Whether there is a group at `path`. Raises BadPath if the text is not a path."""
         text, info = _bytes(path), Info()
         status = self._call("mk_has_group", text, len(text), ctypes.byref(info))
         if status == REFUSED and info.code == NoGroup.code:

@@ -31,8 +31,13 @@ from .hierarchy import Hierarchy
 def mounted_at(
     path: str | os.PathLike[str] = "/sys/fs/cgroup", hierarchy: Hierarchy | None = None, *, pid: int = 1
 ) -> Iterator[Hierarchy]:
-    """Shows the hierarchy, or a new one that is closed at the end, at and below the path. The caller is process `pid` of it: that
-    process moves when 0 is written to cgroup.procs."""
+    """Shows the `hierarchy`, or a new one that is closed at the end, at and below the `path`. The caller is process `pid` of it: that
+    process moves when 0 is written to cgroup.procs.
+
+    Raises RuntimeError before Python 3.11, ValueError for the path / and for a number that is not a pid, and TypeError if the hierarchy
+    is none. Within the block calls raise the OSError of a mount, and what a mount in memory can't do (inotify, a path given to code in C
+    or to another process) raises an OSError that says so. Every call of a replaced function takes a little more time, below the path
+    or not."""
     if sys.version_info < (3, 11):
         raise RuntimeError("mounted_at needs Python 3.11")
     at = "/" + os.path.normpath(os.path.abspath(os.fsdecode(path))).lstrip("/")

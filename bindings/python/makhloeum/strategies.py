@@ -29,7 +29,7 @@ _RESERVED = ("cgroup.", "pids.")
 
 
 def names(max_size: int = 12) -> st.SearchStrategy[str]:
-    """Names of groups: printable ASCII without a slash, and not reserved."""
+    """Names of groups, of at most `max_size` characters: printable ASCII without a slash, and not reserved."""
     letters = st.characters(min_codepoint=0x21, max_codepoint=0x7E, blacklist_characters="/")
     texts = st.text(letters, min_size=1, max_size=min(max_size, 255))
     return texts.filter(_is_name)
@@ -40,23 +40,23 @@ def _is_name(name: str) -> bool:
 
 
 def paths(max_names: int = 4, name: st.SearchStrategy[str] | None = None) -> st.SearchStrategy[str]:
-    """Paths of groups, including the root's."""
+    """Paths of groups, including the root's, of at most `max_names` names, each drawn from `name` if it is given."""
     return st.lists(names() if name is None else name, max_size=min(max_names, 32)).map(lambda parts: "/" + "/".join(parts))
 
 
 def pids(most: int = 4194303) -> st.SearchStrategy[int]:
-    """Process numbers."""
+    """Process numbers from 1 to `most`."""
     return st.integers(1, most)
 
 
 def limits(most: int = 4194304) -> st.SearchStrategy[str]:
-    """What can be written to pids.max."""
+    """What can be written to pids.max: 'max', or a number of processes up to `most`."""
     return st.one_of(st.just("max"), st.integers(0, most).map(str))
 
 
 def commands(path: st.SearchStrategy[str] | None = None, pid: st.SearchStrategy[int] | None = None) -> st.SearchStrategy[str]:
-    """Lines of the trace language that change a hierarchy. Few paths and pids make commands that meet each other:
-    commands(paths(3, sampled_from("ab")), pids(8))."""
+    """Lines of the trace language that change a hierarchy, with paths drawn from `path` and pids from `pid`. Few of them make commands
+    that meet each other: commands(paths(3, sampled_from("ab")), pids(8))."""
     path, pid = paths() if path is None else path, pids() if pid is None else pid
     return st.one_of(
         st.builds("mkdir {}".format, path),
@@ -83,10 +83,12 @@ class HierarchyMachine(RuleBasedStateMachine):
         self.h = Hierarchy()
 
     def teardown(self) -> None:
+        """Closes the hierarchy at the end of each run. A subclass that overrides it calls it."""
         self.h.close()
 
     def do(self, line: str) -> str | Refused:
-        """Answers a command, and returns what it shows, or why it was refused."""
+        """Answers the command `line`, and returns what it shows, or why it was refused. Raises what `Hierarchy.line` does when out of
+        memory or closed."""
         try:
             return self.h.line(line)
         except Refused as refused:
@@ -109,40 +111,48 @@ class HierarchyMachine(RuleBasedStateMachine):
 
     @rule(data=st.data())
     def mkdir(self, data: st.DataObject) -> None:
+        """Makes a group below an existing one."""
         self.do(f"mkdir {self._group(data).rstrip('/')}/{data.draw(st.sampled_from(self.names))}")
 
     @rule(data=st.data())
     def rmdir(self, data: st.DataObject) -> None:
+        """Removes a group, or tries to."""
         self.do(f"rmdir {self._group(data)}")
 
     @rule(data=st.data())
     def fork(self, data: st.DataObject) -> None:
+        """Forks a process, most often an existing one."""
         if self._has_ended():
             return
         self.do(f"fork {self._pid(data)} {data.draw(pids(self.pids))}")
 
     @rule(data=st.data())
     def exit(self, data: st.DataObject) -> None:
+        """Ends a process."""
         if self._has_ended():
             return
         self.do(f"exit {self._pid(data)}")
 
     @rule(data=st.data())
     def move(self, data: st.DataObject) -> None:
+        """Moves a process to a group."""
         if self._has_ended():
             return
         self.do(f"write {self._group(data)} cgroup.procs {self._pid(data)}")
 
     @rule(data=st.data())
     def limit(self, data: st.DataObject) -> None:
+        """Sets one of the three limits of a group."""
         self.do(f"write {self._group(data)} {data.draw(st.sampled_from(_LIMITS))} {data.draw(limits(4))}")
 
     @rule(data=st.data())
     def kill(self, data: st.DataObject) -> None:
+        """Kills the processes of a group and below it."""
         self.do(f"write {self._group(data)} cgroup.kill 1")
 
     @rule()
     def undo(self) -> None:
+        """Undoes the newest command."""
         self.do("undo")
 
     # ---- limits, which commands that are drawn without regard to them hardly ever meet
@@ -191,10 +201,12 @@ class HierarchyMachine(RuleBasedStateMachine):
 
     @rule(data=st.data())
     def mkdir_at_a_descendants_limit(self, data: st.DataObject) -> None:
+        """Makes a group where cgroup.max.descendants refuses it."""
         self._mkdir_at(data, "cgroup.max.descendants")
 
     @rule(data=st.data())
     def mkdir_at_a_depth_limit(self, data: st.DataObject) -> None:
+        """Makes a group where cgroup.max.depth refuses it."""
         self._mkdir_at(data, "cgroup.max.depth")
 
     def _mkdir_at(self, data: st.DataObject, file: str) -> None:

@@ -18,14 +18,14 @@ def h(hierarchy):
 @pytest.mark.parametrize("number", [2**32 + 5, 2**31, 2**64 + 5, 0, -1, -(2**32) + 5])
 def test_an_errno_out_of_range_is_a_value_error(h, number):
     with pytest.raises(ValueError, match=f"fail /a: {number} is not an errno"):
-        h.fail("/a", number)
+        h.fail("/a", error=number)
     assert h.clear_faults() == 0
 
 
 @pytest.mark.parametrize("wrong", ["0", None, 1.0, True, b"1", [1]])
 def test_what_is_no_number_is_a_type_error(h, wrong):
     for call in (
-        lambda: h.fail("/a", wrong), lambda: h.fail("/a", errno.EIO, nth=wrong), lambda: h.vanish("/a", nth=wrong), lambda: h.wait(wrong, timeout=0),
+        lambda: h.fail("/a", error=wrong), lambda: h.fail("/a", error=errno.EIO, nth=wrong), lambda: h.vanish("/a", nth=wrong), lambda: h.wait(wrong, timeout=0),
         lambda: h.undo_to(wrong), lambda: h.exit(wrong), lambda: h.where(wrong), lambda: h.fork(wrong, 5), lambda: h.fork(1, wrong),
         lambda: mounted_at("/x", pid=wrong).__enter__(),
     ):

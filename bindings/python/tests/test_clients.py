@@ -101,24 +101,24 @@ def test_a_wait_ends_with_a_change_and_with_the_hierarchy(hierarchy):
 def test_the_nth_call_fails(hierarchy):
     h = hierarchy
     h.mkdir("/a")
-    h.fail("/a", errno.EIO)
+    h.fail("/a", error=errno.EIO)
     with pytest.raises(OSError) as failed:
         h.read("/a", "pids.max")
     assert (failed.value.errno, failed.value.filename) == (errno.EIO, "/a") and not isinstance(failed.value, Refused)
     assert str(failed.value) == "[Errno 5] Input/output error (asked for by fail, at read /a pids.max): '/a'"
     assert str(pickle.loads(pickle.dumps(failed.value))) == str(failed.value)
     assert h.read("/a", "pids.max") == "max\n"
-    h.fail("/a", errno.EACCES, nth=3)
+    h.fail("/a", error=errno.EACCES, nth=3)
     h.write("/a", "pids.max", 5)
     assert h.children("/") == ["a"] and h.limit("/a") == 5
     with pytest.raises(PermissionError):
         h.rmdir("/a")
     for call in (h.current, h.processes, h.children, h.has_group, h.mkdir):
-        h.fail("/a", errno.ENODEV)
+        h.fail("/a", error=errno.ENODEV)
         with pytest.raises(OSError) as failed:
             call("/a")
         assert failed.value.errno == errno.ENODEV
-    h.fail("/a", errno.EIO)
+    h.fail("/a", error=errno.EIO)
     told = h.read_many([("/a", "pids.max"), ("/a", "pids.max")])
     assert isinstance(told[0], OSError) and told[0].errno == errno.EIO and told[1] == "5\n"
     assert h.clear_faults() == 0 and h.depth() == 2
@@ -130,7 +130,7 @@ def group_whose_second_call_fails(h, count):
     for pid in range(2, 2 + count):
         h.fork(1, pid)
         h.write("/a", "cgroup.procs", pid)
-    h.fail("/a", errno.EIO, nth=2)
+    h.fail("/a", error=errno.EIO, nth=2)
 
 
 def test_a_long_list_of_processes_counts_once(hierarchy):
@@ -162,21 +162,21 @@ def test_a_group_vanishes_between_a_listing_and_a_read(hierarchy):
     h.undo_to(before)
     assert h.where(2) == "0::/a/b\n"
     h.vanish("/a/b", nth=2)
-    h.fail("/c", errno.EIO, nth=9)
+    h.fail("/c", error=errno.EIO, nth=9)
     assert h.limit("/a/b") is None and not h.has_group("/a/b") and h.clear_faults() == 1
 
 
 def test_only_the_newest_of_the_faults_that_are_due_occurs(hierarchy):
     h = hierarchy
     h.mkdir("/a")
-    h.fail("/a", errno.EIO)
+    h.fail("/a", error=errno.EIO)
     h.vanish("/a")
     with pytest.raises(NoGroup):
         h.read("/a", "pids.max")
     assert h.clear_faults() == 0 and h.groups() == ["/"]
     h.mkdir("/a")
     h.vanish("/a")
-    h.fail("/a", errno.EIO)
+    h.fail("/a", error=errno.EIO)
     with pytest.raises(OSError) as failed:
         h.read("/a", "pids.max")
     assert failed.value.errno == errno.EIO and h.clear_faults() == 0 and h.groups() == ["/", "/a"]
@@ -184,14 +184,14 @@ def test_only_the_newest_of_the_faults_that_are_due_occurs(hierarchy):
 
 @pytest.mark.parametrize("path", ["a", "", "/a b", "/a\0", "/é"])
 def test_faults_need_a_path(hierarchy, path):
-    for call in (lambda: hierarchy.fail(path, errno.EIO), lambda: hierarchy.vanish(path)):
+    for call in (lambda: hierarchy.fail(path, error=errno.EIO), lambda: hierarchy.vanish(path)):
         with pytest.raises(BadPath) as bad:
             call()
         assert path in str(bad.value)
 
 
 def test_faults_that_cannot_come(hierarchy):
-    for call in (lambda: hierarchy.fail("/a", 0), lambda: hierarchy.fail("/a", -5), lambda: hierarchy.fail("/a", errno.EIO, nth=0),
+    for call in (lambda: hierarchy.fail("/a", error=0), lambda: hierarchy.fail("/a", error=-5), lambda: hierarchy.fail("/a", error=errno.EIO, nth=0),
                  lambda: hierarchy.vanish("/a", nth=-1), lambda: hierarchy.vanish("/a", nth=1 << 64), lambda: hierarchy.vanish("/")):
         with pytest.raises(ValueError):
             call()

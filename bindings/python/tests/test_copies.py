@@ -69,7 +69,7 @@ def test_changes_of_one_do_not_reach_the_other(way):
 
 def test_a_copy_has_neither_faults_nor_changes():
     with filled() as h:
-        h.fail("/a", errno.EIO)
+        h.fail("/a", error=errno.EIO)
         with h.copy() as other:
             assert other.clear_faults() == 0 and other.changes() == 0
             assert other.read("/a", "pids.max") == "1\n"

@@ -164,7 +164,7 @@ def test_what_is_no_text_is_a_type_error_as_for_os(h):
     for wrong in (None, 5, 5.0, ["/a"], object()):
         for call in (h.mkdir, h.rmdir, h.children, h.groups, h.has_group, h.current, h.processes, lambda it: h.read(it, "pids.max"),
                      lambda it: h.read("/a", it), lambda it: h.write(it, "pids.max", 5), lambda it: h.write("/a", it, 5), h.line, h.vanish,
-                     lambda it: h.fail(it, errno.EIO), lambda it: h.read_many([(it, "pids.max")])):
+                     lambda it: h.fail(it, error=errno.EIO), lambda it: h.read_many([(it, "pids.max")])):
             with pytest.raises(TypeError):
                 call(wrong)
     for wrong in (None, 5.0, ["5"], object()):
@@ -228,7 +228,7 @@ CALLS = {
     "mk_processes": (lambda h: h.processes("/a"), "processes /a"),
     "mk_read_many": (lambda h: h.read_many([("/a", "pids.max")]), "read_many"),
     "mk_changes": (lambda h: h.changes(), "changes"),
-    "mk_fail": (lambda h: h.fail("/a", errno.EIO), "fail /a"),
+    "mk_fail": (lambda h: h.fail("/a", error=errno.EIO), "fail /a"),
     "mk_vanish": (lambda h: h.vanish("/a"), "vanish /a"),
     "mk_clear_faults": (lambda h: h.clear_faults(), "clear_faults"),
     "waiting": (lambda h: h.wait(2), "wait"),

@@ -135,9 +135,10 @@ def test_a_missing_library_is_said_in_one_sentence():
 
 
 def test_the_version_is_that_of_the_library_and_the_header():
-    from makhloeum._library import library
+    from makhloeum import _library
 
-    assert library.mk_version().decode() == makhloeum.__version__
-    header = os.path.join(os.path.dirname(makhloeum.__file__), "..", "..", "c", "makhloeum.h")
-    with open(header, encoding="utf-8") as file:
-        assert f'#define MK_VERSION "{makhloeum.__version__}"' in file.read()
+    program = os.path.join(os.path.dirname(makhloeum.__file__), "..", "..", "version")
+    version = subprocess.run([program], capture_output=True, text=True, check=True).stdout.strip()
+    assert makhloeum.__version__ == version
+    # the calls are declared for this soname
+    assert _library._NAME == f"libmakhloeum.so.{version.split('.')[0]}"

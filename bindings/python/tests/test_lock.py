@@ -84,7 +84,7 @@ SHORT = {
     "children": lambda h: h.children("/"),
     "has_group": lambda h: h.has_group("/a"),
     "current": lambda h: h.current("/a"),
-    "fail": lambda h: h.fail("/a", 5),
+    "fail": lambda h: h.fail("/a", error=5),
     "clear_faults": lambda h: h.clear_faults(),
 }
 

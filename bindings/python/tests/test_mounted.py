@@ -278,12 +278,12 @@ def test_faults_reach_who_opens_files(hierarchy):
         with open(at("a", "pids.max"), "r") as file:
             assert code(file.read) == "ENODEV"
         os.mkdir(at("b"))
-        hierarchy.fail("/b", errno.ENOSPC, nth=2)
+        hierarchy.fail("/b", error=errno.ENOSPC, nth=2)
         assert code(write, at("b", "pids.max"), b"5") == "ENOSPC" and hierarchy.limit("/b") is None
         for call in (os.stat, os.listdir, os.scandir, os.rmdir, os.mkdir):
-            hierarchy.fail("/b", errno.EIO)
+            hierarchy.fail("/b", error=errno.EIO)
             assert code(call, at("b")) == "EIO" and hierarchy.clear_faults() == 0
-        hierarchy.fail("/b", errno.EIO)
+        hierarchy.fail("/b", error=errno.EIO)
         assert code(read, at("b", "pids.max")) == "EIO" and read(at("b", "pids.max")) == b"max\n"
 
 

@@ -37,7 +37,7 @@ def test_the_first_fault_counts_however_long_the_words_are(h, n):
     path, file, digits = "/a/" + "x" * (n + 256), "pids.max" + "x" * n, "5" * (n + 7)
     for call, want in (
         (lambda: h.mkdir(path), BadPath), (lambda: h.rmdir(path), BadPath), (lambda: h.read(path, file), BadPath), (lambda: h.write(path, file, digits), BadPath),
-        (lambda: h.children(path), BadPath), (lambda: h.current(path), BadPath), (lambda: h.processes(path), BadPath), (lambda: h.fail(path, errno.EIO), BadPath),
+        (lambda: h.children(path), BadPath), (lambda: h.current(path), BadPath), (lambda: h.processes(path), BadPath), (lambda: h.fail(path, error=errno.EIO), BadPath),
         (lambda: h.read("/a", file), BadFile), (lambda: h.write("/a", file, digits), BadFile), (lambda: h.write("/a", file, "max"), BadFile),
         (lambda: h.write("/a", "pids.current", digits), BadDirection), (lambda: h.write("/a", "pids.max", digits), BadValue),
         (lambda: h.write("/a", "pids.max", "0" * n + "5"), BadValue), (lambda: h.write("/a", "pids.max", "max" + "x" * n), BadValue),
