@@ -7,6 +7,7 @@ import test from "node:test";
 
 const folder = new URL("../../bindings/python/makhloeum/look/", import.meta.url);
 const { LIMIT, PEAK, TOTAL, LOCAL, CURRENT, Run, treeRows } = await import(new URL("state.mjs", folder));
+const { groupOf, refusalsOf, search } = await import(new URL("search.mjs", folder));
 const { columns, momentAt, scale, stepPath, ticks } = await import(new URL("plot.mjs", folder));
 
 // mkdir /a; write /a pids.max 1; fork 1 2; write /a cgroup.procs 2; fork 2 3 (refused); write /a cgroup.kill 1; undo; exit 2; rmdir /a
@@ -36,9 +37,10 @@ test("each moment, forwards and backwards", () => {
 test("a list of processes after blanks of each kind", () => {
   const there = new Run({
     lines: "fork 1 2\ncat / cgroup.procs", names: ["/"], parents: [0], notes: {}, times: null,
-    answers: ["ok", "ok\n"], answer: [0, 1], steps: [3, 2, 2, 0, 0],
+    answers: ["ok", "ok\n2"], answer: [0, 1], steps: [3, 2, 2, 0, 0],
   });
   there.go(2);
+  assert.deepStrictEqual([there.listedBy(0), there.listedBy(1)], [NaN, 2]);
   assert.strictEqual(there.answerOf(1), "ok\n| 1\n| 2");
 });
 
@@ -84,12 +86,44 @@ test("a process's life", () => {
 });
 
 test("search by pid, path and word", () => {
-  assert.deepStrictEqual(run().search("2"), [3, 4, 5, 6, 7, 8]);
-  assert.deepStrictEqual(run().search("1"), [3], "a value is no pid");
-  assert.deepStrictEqual(run().search("/a"), [1, 2, 4, 5, 6, 7, 9]);
-  assert.deepStrictEqual(run().search("Too Many"), [5]);
-  assert.deepStrictEqual(run().search("refused"), [5]);
-  assert.deepStrictEqual(run().search(" "), []);
+  assert.deepStrictEqual(search(run(), "2"), [3, 4, 5, 6, 7, 8]);
+  assert.deepStrictEqual(search(run(), "1"), [3], "a value is no pid");
+  assert.deepStrictEqual(search(run(), "/a"), [1, 2, 4, 5, 6, 7, 9]);
+  assert.deepStrictEqual(search(run(), "Too Many"), [5]);
+  assert.deepStrictEqual(search(run(), "refused"), [5]);
+  assert.deepStrictEqual(search(run(), " "), []);
+});
+
+// A run of commands that change nothing that these questions need: lines with answers.
+const answered = (...pairs) => new Run({
+  lines: pairs.map(([line]) => line).join("\n"), names: ["/", "a", "b", "bc"], parents: [0, 0, 1, 1], notes: {}, times: null,
+  answers: pairs.map(([, answer]) => answer ?? "ok"), answer: pairs.map((_, at) => at),
+  steps: pairs.flatMap(([, , ...step]) => [step.length, ...step]),
+});
+
+test("the refusals of a group", () => {
+  const there = answered(
+    ["mkdir /a", "ok", 0, 1], ["mkdir /a/b", "ok", 0, 2], ["mkdir /a/bc", "ok", 0, 3], ["fork 1 2", "refused pidsmax /a/b"], ["fork 1 2", "refused pidsmax /a/bc"],
+    ["rmdir /a", "refused haschildren"], ["mkdir /a/b", "refused exists"], ["mkdir /a/b/c", "refused depth /a"], ["exit 9", "refused noprocess 9"],
+    ["cat /a/b pids.max", "ok\n| refused"],
+  );
+  const of = (path) => refusalsOf(there, path);
+  assert.deepStrictEqual([of("/a/b"), of("/a/bc"), of("/a"), of("/")], [[4, 7], [5], [6, 8], []]);
+  assert.deepStrictEqual(search(there, " refused   /a/b "), [4, 7]);
+  assert.deepStrictEqual(search(there, "refused /a/B"), []);
+  assert.deepStrictEqual(search(there, "refused pidsmax"), [4, 5]);
+});
+
+test("the group of a command", () => {
+  const group = (moment, there = run()) => (there.go(moment), there.paths[groupOf(there, moment - 1)]);
+  assert.deepStrictEqual([0, 1, 2, 3, 4, 5, 6, 7, 8, 9].map((moment) => group(moment)), ["/", "/a", "/a", "/", "/a", "/a", "/a", "/a", "/a", "/"]);
+  const there = answered(
+    ["mkdir /a", "ok", 0, 1], ["mkdir /a/b", "ok", 0, 2], ["fork 1 2", "ok", 2, 2, 0], ["write /a/b cgroup.procs 2", "ok", 4, 2, 2], ["fork 2 3", "refused pidsmax /a"],
+    ["where 2"], ["exit 9", "refused noprocess 9"], ["cat /a/zz pids.max", "refused nogroup /a/zz"], ["fork 2 1", "refused pidinuse 1"], ["exit 2", "ok", 3, 2],
+    ["undo", "ok\n| exit 2", 2, 2, 2], ["undo", "ok\n| write /a/b cgroup.procs 2", 4, 2, 0], ["rmdir /a/b", "ok", 1, 2], ["nonsense", "refused syntax"],
+  );
+  const wanted = ["/", "/a", "/a/b", "/", "/a/b", "/a", "/a/b", "/", "/a", "/a/b", "/a/b", "/a/b", "/a/b", "/a", "/"];
+  assert.deepStrictEqual(wanted.map((_, moment) => group(moment, there)), wanted);
 });
 
 test("series with marks, and times", () => {
@@ -121,6 +155,9 @@ test("shapes of plots", () => {
   const same = (value) => value;
   const points = [{ moment: 0, n: -1 }, { moment: 2, n: 1 }, { moment: 5, n: 3 }, { moment: 8, n: -1 }, { moment: 9, n: 2 }];
   assert.strictEqual(stepPath(points, "n", same, same, 10), "M2 1V1H5H5V3V3H8M9 2V2H10");
+  // of the points in one column the first, the least, the greatest and the last are shown, in both directions
+  const column = [5, 9, 2, 6].map((n, at) => ({ moment: 1 + at / 100, n })), beside = [{ moment: 0, n: 4 }, ...column, { moment: 3, n: 7 }];
+  assert.strictEqual(stepPath(beside, "n", same, same, 4), "M0 4V4H1H1V5V2V9V6H3H3V7V7H4");
   const many = Array.from({ length: 10000 }, (_, at) => ({ moment: at, n: at % 7 }));
   assert.ok(stepPath(many, "n", (at) => at / 100, same, 100).length < 201 * 40, "no more than the columns of the picture");
   assert.strictEqual(stepPath([], "n", same, same, 10), "");
@@ -130,6 +167,7 @@ test("shapes of plots", () => {
   assert.strictEqual(scale(0, 10, 100, 200)(5), 150);
   assert.strictEqual(scale(3, 3, 7, 9)(3), 7);
   assert.deepStrictEqual([[-1, 0], [0, 0], [2.5, 2], [9, 3]].map(([value]) => momentAt([0, 1, 2, 3], value)), [0, 0, 2, 3]);
+  assert.deepStrictEqual([1, 2, 3].map((value) => momentAt([0, 1, 2, 3], value)), [1, 2, 3]);
   assert.deepStrictEqual(columns([4, 5, 9].map((moment) => ({ moment })), same).map(({ at, count }) => [at, count]), [[4, 2], [8, 1]]);
 });
 

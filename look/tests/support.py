@@ -80,6 +80,33 @@ def wide_trace(groups: int = 1000) -> str:
     return "\n".join([*told, "fork 1 2", "write /g0777 cgroup.procs 2"]) + "\n"
 
 
+def pods_trace() -> str:
+    """Pods as Kubernetes has them: long names that differ at their ends, eight levels deep, with limits that refuse forks."""
+    told = ["mkdir /kubepods.slice", "mkdir /system.slice", "mkdir /system.slice/containerd.service"]
+    told += ["fork 1 100", "write /system.slice/containerd.service cgroup.procs 100"]
+    pid = 1000
+    for kind in ("besteffort", "burstable"):
+        told.append(f"mkdir /kubepods.slice/kubepods-{kind}.slice")
+        for number in range(3):
+            pod = f"/kubepods.slice/kubepods-{kind}.slice/kubepods-{kind}-pod7b2f4c1d_4a0e_4f0c_9d1a_c0ffee00000{number}.slice"
+            container = f"{pod}/cri-containerd-{pid * 0x9E3779B97F4A7C15 % (1 << 256):064x}.scope"
+            pool = f"{container}/init.scope/workers/pool-of-the-greatest-importance-{number}"
+            told += [f"mkdir {pod}", f"write {pod} pids.max {8 + number}", f"mkdir {container}", f"mkdir {container}/init.scope"]
+            told += [f"mkdir {container}/init.scope/workers", f"mkdir {pool}", f"fork 100 {pid}", f"write {container} cgroup.procs {pid}"]
+            told += [f"fork {pid} {pid + 1 + child}" for child in range(10)] + [f"write {pool} cgroup.procs {pid + 2}"]
+            pid += 20
+    return "\n".join(told) + "\n"
+
+
+def deep_trace() -> str:
+    """Groups of all levels, with long names."""
+    name, path, told = "a-name-of-many-letters-that-ends-in-{}", "", []
+    for level in range(1, 33):
+        path += "/" + name.format(level)
+        told.append(f"mkdir {path}")
+    return "\n".join([*told, f"write {path} cgroup.procs 1"]) + "\n"
+
+
 HOSTILE = (
     "# </script><script>window.hacked = 1</script> <!-- <script>\n"
     "# \x1b[31m \u202e text from the right\n"

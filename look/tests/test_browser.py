@@ -5,56 +5,11 @@ import time
 
 import pytest
 from demo import demo
-from support import HOSTILE, long_trace, page_of, wide_trace
-from webdriver import Browser, is_there
+from reading import moment, row_of
+from support import HOSTILE, long_trace, wide_trace
+from webdriver import is_there
 
 pytestmark = pytest.mark.skipif(not is_there(), reason="chromium and chromedriver are missing")
-
-
-@pytest.fixture(scope="module")
-def browser():
-    made = Browser()
-    yield made
-    made.close()
-
-
-@pytest.fixture(scope="module")
-def pages(tmp_path_factory):
-    """The address of the page of a trace."""
-    folder, made = tmp_path_factory.mktemp("pages"), {}
-
-    def address(name, trace):
-        if name not in made:
-            file = folder / f"{name}.html"
-            file.write_text(page_of(trace, f"{name}.trace"))
-            made[name] = file.as_uri()
-        return made[name]
-
-    return address
-
-
-@pytest.fixture
-def shown(browser, pages):
-    """The demo's page at a moment."""
-
-    def show(moment=0):
-        browser.open("about:blank")
-        browser.open(f"{pages('demo', demo())}#line={moment}")
-        return browser
-
-    yield show
-    assert browser.complaints() == []
-
-
-def moment(browser):
-    return int(re.match(r"after ([\d,]+) of", browser.text("#moment")).group(1).replace(",", ""))
-
-
-def row_of(browser, name):
-    """The cells of a group's row, and its classes."""
-    script = """const row = [...document.querySelectorAll("#tree .row")].find((one) => one.firstChild.title === arguments[0]);
-        return row && [row.className, ...[...row.children].map((one) => one.textContent.trim())]"""
-    return browser.run(script, name)
 
 
 # ---- opening, stepping, playing
@@ -175,10 +130,10 @@ def test_groups_are_folded_and_chosen(shown):
     b.click("#tree .row[data-at='1'] .twist")
     assert row_of(b, "/batch/job") is not None
     b.run("document.getElementById('tree').focus()")
-    b.press("down", "down")
-    assert b.text("#group h3") == "/batch/job"
+    b.press("down")
+    assert b.text("#path") == "/batch/job"
     b.press("up", "enter")
-    assert b.text("#group h3") == "/batch" and row_of(b, "/batch/job") is None and moment(b) == 32
+    assert b.text("#path") == "/batch" and row_of(b, "/batch/job") is None and moment(b) == 32
     b.press("enter")
     assert b.texts("#group td")[:6] == ["cgroup.procs", "", "pids.max", "8", "pids.current", "8"]
     assert b.texts("figcaption strong") == ["/batch", "/system/web"]
@@ -192,12 +147,12 @@ def test_a_thousand_siblings_are_folded(browser, pages):
     b.open(pages("wide", wide_trace()))
     rows = "return document.querySelector('#tree > div').clientHeight / 22"
     assert b.run(rows) == 1 + 20 + 1 + 1, "the root, the first twenty, the changed one, the rest"
-    assert row_of(b, "/g0777")[3] == "1 / max" and b.texts("#tree .rest") == ["\u00a0\u00a0▸ 979 more groups"]
+    assert row_of(b, "/g0777")[3] == "1 / max" and b.texts("#tree .rest") == ["▸ 979 more groups"]
     b.run("document.querySelector('#tree .rest').click()")
     assert b.run(rows) == 1002
     assert b.run("return document.querySelectorAll('#tree .row').length") < 80, "only rows in sight are drawn"
     b.run("document.getElementById('tree').scrollTop = 1e9")
-    assert b.until(lambda: b.texts("#tree .rest") == ["\u00a0\u00a0▾ fold these groups"])
+    assert b.until(lambda: b.texts("#tree .rest") == ["▾ fold these groups"])
     b.run("document.querySelector('#tree .rest').click()")
     assert b.run(rows) == 23
     assert b.complaints() == []
@@ -209,7 +164,7 @@ def test_a_thousand_siblings_are_folded(browser, pages):
 def test_search_by_group_pid_and_word(shown):
     b = shown(0)
     b.type("#query", "/batch")
-    assert (b.text("#found"), moment(b), b.text("#group h3")) == ("1 of 11", 4, "/batch")
+    assert (b.text("#found"), moment(b), b.text("#path")) == ("1 of 11", 4, "/batch")
     b.click("#found-after")
     assert (b.text("#found"), moment(b)) == ("2 of 11", 5)
     b.click("#found-before")
@@ -264,8 +219,8 @@ def test_plots_have_marks_and_tell_the_command(shown):
     b.click("figcaption button")
     assert "press p" in b.text("#plots")
     b.run("document.querySelector('#tree').focus()")
-    b.press("down", "down", "p")
-    assert b.texts("figcaption strong") == ["/batch/job"]
+    b.press("up", "p")
+    assert b.texts("figcaption strong") == ["/system/db"]
 
 
 def test_without_times_the_axis_is_the_number_of_the_line(browser, pages):
@@ -293,7 +248,7 @@ def test_names_are_shown_as_written(browser, pages):
         assert re.match(r"\d+ of \d", b.text("#found")), query
     b.type("#query", "/<script>/&quot;")
     b.click("#last")
-    assert b.text("#group h3") == "/<script>/&quot;" and row_of(b, "/<script>/&quot;")[3] == "1 / 0"
+    assert b.text("#path") == "/<script>/&quot;" and row_of(b, "/<script>/&quot;")[3] == "1 / 0"
     assert b.complaints() == []
 
 
@@ -351,13 +306,13 @@ def test_text_has_contrast(shown, is_dark):
 
 
 def test_everything_can_be_reached_by_the_keyboard(shown):
-    b = shown(32)
+    b = shown(31)
     seen = []
     for _ in range(40):
         b.press("tab")
         seen.append(b.run("const it = document.activeElement; return it.id || it.className || it.title || it.textContent"))
         assert b.run("return document.activeElement === document.body || getComputedStyle(document.activeElement).outlineWidth") in (True, "3px")
-    for wanted in ("query", "found-after", "first", "play-back", "last", "speed", "slider", "list", "tree", "pid", "Take this plot off"):
+    for wanted in ("query", "found-after", "first", "play-back", "last", "speed", "slider", "list", "before", "name-width", "tree", "refusals", "plot-it", "pid", "Take this plot off"):
         assert wanted in seen, (wanted, seen)
 
 

@@ -56,7 +56,7 @@ def test_the_page_has_the_engines_state_at_every_moment(seed, tmp_path):
     ran = subprocess.run(command, env=words, capture_output=True, text=True)
     assert ran.returncode == 0 and re.search(r"^# fail 0$", ran.stdout, re.M), ran.stdout[-3000:]
     if seed == 0:
-        assert "ok\n" in history.answers
+        assert any(re.fullmatch("ok\n[0-9]+", answer) for answer in history.answers)
 
 
 def test_every_command_is_audited():
@@ -86,6 +86,7 @@ def test_lines_comments_and_times():
     assert history.notes == {0: "# a run", 1: "#at 7"}
     assert (history.refused, history.kills) == (3, 0)
     assert shown("a\u202eb\u2028\x1b".encode()) == "a\\u202eb\\u2028\\x1b"
+    assert history_of(b"mkdir\t/a\nmkdir \r/b\n").lines == ["mkdir /a", "mkdir  /b"], "the page splits a line at blanks"
 
 
 def test_times_are_comments_to_the_engine():
@@ -115,7 +116,7 @@ SHAPES = {
 def test_the_page_is_at_most_ten_times_the_trace(shape):
     trace = SHAPES[shape]
     empty, whole = len(page_of("").encode()), len(page_of(trace).encode())
-    assert empty < 60000
+    assert empty < 65000
     assert whole - empty <= 10 * len(trace.encode()), (whole - empty) / len(trace.encode())
 
 

@@ -12,7 +12,7 @@ import tempfile
 import time
 import urllib.error
 import urllib.request
-from typing import Any, Callable, Dict, Optional
+from typing import Any, Callable, Dict, List, Optional
 
 ELEMENT = "element-6066-11e4-a52e-4f735466cecf"
 KEYS = {
@@ -32,7 +32,7 @@ def is_there() -> bool:
 class Browser:
     """One headless Chromium with a driver and a folder of its own."""
 
-    def __init__(self, width: int = 1400, height: int = 900) -> None:
+    def __init__(self, width: int = 1400, height: int = 900, scrollbars: bool = False) -> None:
         self.folder = tempfile.mkdtemp(prefix="look-")
         words = dict(os.environ, HOME=self.folder, TMPDIR=self.folder)
         self.driver = subprocess.Popen(
@@ -45,7 +45,8 @@ class Browser:
                 if found:
                     self.at = f"http://127.0.0.1:{found.group(1)}"
                     break
-            arguments = ["--headless=new", "--hide-scrollbars", f"--window-size={width},{height}", "--force-device-scale-factor=1"]
+            arguments = ["--headless=new", f"--window-size={width},{height}", "--force-device-scale-factor=1"]
+            arguments += [] if scrollbars else ["--hide-scrollbars"]
             arguments += ["--no-sandbox"] if os.getuid() == 0 else []
             arguments += ["--disable-gpu", "--disable-dev-shm-usage", f"--user-data-dir={self.folder}/profile"]
             options = {"binary": chromium(), "args": arguments}
@@ -61,7 +62,7 @@ class Browser:
         request = urllib.request.Request(self.at + path, body, {"Content-Type": "application/json"}, method=method)
         opener = urllib.request.build_opener(urllib.request.ProxyHandler({}))
         try:
-            with opener.open(request, timeout=60) as reply:
+            with opener.open(request, timeout=240) as reply:
                 return json.load(reply)["value"]
         except urllib.error.HTTPError as failure:
             raise RuntimeError(json.load(failure)["value"]["message"]) from None
@@ -106,12 +107,24 @@ class Browser:
         acts += [{"type": "pointerDown", "button": 0}, {"type": "pointerUp", "button": 0}] if click else []
         self.call("POST", "/actions", actions=[{"type": "pointer", "id": "mouse", "actions": acts}])
 
+    def drag(self, x: float, y: float, to_x: float, to_y: float) -> None:
+        acts: List[Dict[str, Any]] = [{"type": "pointerMove", "duration": 0, "x": int(x), "y": int(y)}, {"type": "pointerDown", "button": 0}]
+        acts += [{"type": "pointerMove", "duration": 20, "x": int(to_x), "y": int(to_y)}, {"type": "pointerUp", "button": 0}]
+        self.call("POST", "/actions", actions=[{"type": "pointer", "id": "mouse", "actions": acts}])
+
     def cdp(self, command: str, **words: Any) -> Any:
         """A command of Chromium's own protocol."""
         return self.call("POST", "/goog/cdp/execute", cmd=command, params=words)
 
     def dark(self, is_dark: bool) -> None:
         self.cdp("Emulation.setEmulatedMedia", features=[{"name": "prefers-color-scheme", "value": "dark" if is_dark else "light"}])
+
+    def size(self, width: int = 0, height: int = 900) -> None:
+        """The size of the page; as the window is without a width."""
+        if width:
+            self.cdp("Emulation.setDeviceMetricsOverride", width=width, height=height, deviceScaleFactor=1, mobile=False)
+        else:
+            self.cdp("Emulation.clearDeviceMetricsOverride")
 
     def busy(self) -> float:
         """The seconds that the page's thread has worked, after Performance.enable."""

@@ -26,6 +26,7 @@ END = (
     "or if something in DIR could not be removed."
 )
 _SHOWN_EVERY = 5.0  # seconds, where standard error is no terminal
+_ENDING = (signal.SIGINT, signal.SIGTERM, signal.SIGHUP)
 
 
 class Interrupted(BaseException):
@@ -144,7 +145,14 @@ class _Check:
         return "\n".join(lines)
 
 
+def _ignore_ending() -> None:
+    """From now on no signal interrupts what cleans up."""
+    for number in _ENDING:
+        signal.signal(number, signal.SIG_IGN)
+
+
 def _interrupt(number: int, frame: object) -> None:
+    _ignore_ending()
     raise Interrupted
 
 
@@ -159,8 +167,7 @@ def _checked(options: argparse.Namespace, player: Player) -> int:
     except Interrupted:
         interrupted = True
     finally:
-        for number in (signal.SIGINT, signal.SIGTERM, signal.SIGHUP):
-            signal.signal(number, signal.SIG_IGN)
+        _ignore_ending()
         player.close()
     check.progress.clear()
     print(check.told())
@@ -173,7 +180,7 @@ def _checked(options: argparse.Namespace, player: Player) -> int:
 
 def main(words: list[str]) -> int:
     options = _arguments(words)
-    for number in (signal.SIGINT, signal.SIGTERM, signal.SIGHUP):
+    for number in _ENDING:
         signal.signal(number, _interrupt)
     try:
         player = Player(options.directory, options.limit)

@@ -7,7 +7,7 @@ from typing import List, NamedTuple, Optional
 
 from ..errors import Refused
 from ..hierarchy import Hierarchy
-from .known import LIMITS, WAYS, Events, Peaks, kernel_number
+from .known import LIMITS, Followed, kernel_number
 
 FILES = (
     *("cgroup.procs", "cgroup.events", "cgroup.stat", "cgroup.max.descendants", "cgroup.max.depth"),
@@ -47,8 +47,7 @@ class Engine:
     def __init__(self, way: str, missing: list[str], has_where: bool) -> None:
         self.h = Hierarchy()
         self._way, self._missing, self._has_where = way, missing, has_where
-        self.peaks = {way: Peaks(*way) for way in WAYS}
-        self._events = Events()
+        self._followed = Followed()
         self.changes: dict[str, int] = {}  # of each watched group since it was last asked for
         self._populated: dict[str, str] = {}
         self._late: dict[str, int] = {}  # how many notifications may still come, since several changes may have one or more
@@ -81,11 +80,11 @@ class Engine:
         return self.alive(words[1])
 
     def peak_by_way(self, path: str) -> dict[tuple[bool, bool], int]:
-        return {way: peaks.peak[path] for way, peaks in self.peaks.items()}
+        return self._followed.peak_by_way(path)
 
     def events_before_6_11(self, path: str) -> str:
         """The text of `pids.events` of a kernel before Linux 6.11."""
-        return f"max {self._events.own[path]}\n"
+        return f"max {self._followed.events.own[path]}\n"
 
     # ---- which commands a directory can do
 
@@ -173,9 +172,7 @@ class Engine:
         else:
             answer = Answer("ok", text)
         said = "ok" if answer.error == "ok" else f"refused {answer.reply}"
-        for peaks in self.peaks.values():
-            peaks.play(words, said)
-        self._events.play(words, said)
+        self._followed.play(words, said)
         self._note(words, answer)
         if answer.error == "ok" and group is not None:
             return Answer("ok", self.h.read(group, "cgroup.procs"))

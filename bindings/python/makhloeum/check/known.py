@@ -53,87 +53,95 @@ def upward(path: str) -> Iterator[str]:
 
 
 class Events:
-    """What `pids.events` is after the lines that a kernel took. `total` follows the guide: a refused fork is counted at the group
-    whose limit refused it and at those above. `own` is the count of a kernel before Linux 6.11: a refused fork is counted at
-    the group of the process that forks, and nowhere else."""
+    """What `pids.events` is. `total` follows the guide: a refused fork is counted at the group whose limit refused it and at those
+    above. `own` is the count of a kernel before Linux 6.11: a refused fork is counted at the group of the process that forks,
+    and nowhere else."""
 
     def __init__(self) -> None:
-        self.home = {"1": "/"}
         self.total: collections.Counter[str] = collections.Counter()
         self.own: collections.Counter[str] = collections.Counter()
 
-    def play(self, words: list[str], reply: str) -> None:
-        said = reply.split(" ")
-        if said[:2] == ["refused", "pidsmax"]:
-            self.own[self.home[words[1]]] += 1
-            self.total.update(upward(said[2]))
-        elif said != ["ok"]:
-            return
-        elif words[0] == "mkdir":
-            self.total[words[1]] = self.own[words[1]] = 0
-        elif words[0] == "fork":
-            self.home[words[2]] = self.home[words[1]]
-        elif words[0] == "exit":
-            self.home.pop(words[1])
-        elif words[0] == "write" and words[2] == "cgroup.procs":
-            self.home[words[3]] = words[1]
-        elif words[0] == "write" and words[2] == "cgroup.kill":
-            self.home = {pid: home for pid, home in self.home.items() if words[1] not in upward(home)}
+    def make(self, path: str) -> None:
+        self.total[path] = self.own[path] = 0
+
+    def refuse(self, home: str, path: str) -> None:
+        self.own[home] += 1
+        self.total.update(upward(path))
 
 
 class Peaks:
-    """What `pids.peak` is after the lines that a kernel took: as the guide says, and with either or both of the two points in
-    which the kernel differs. A refused fork raises the peaks below the group whose limit refused it, since the kernel
-    has counted the child there; a move raises the peaks of the groups that both places lie in, since the kernel counts
-    the process in the new place before it leaves the old one."""
+    """What `pids.peak` is: as the guide says, and with either or both of the two points in which the kernel differs. A refused
+    fork raises the peaks below the group whose limit refused it, since the kernel has counted the child there; a move raises
+    the peaks of the groups that both places lie in, since the kernel counts the process in the new place before it leaves
+    the old one."""
 
     def __init__(self, refused: bool, moved: bool) -> None:
         self.refused, self.moved = refused, moved
-        self.home = {"1": "/"}
         self.count: collections.Counter[str] = collections.Counter()
         self.peak: collections.Counter[str] = collections.Counter()
+
+    def make(self, path: str) -> None:
+        self.count[path] = self.peak[path] = 0
 
     def add(self, path: str, n: int) -> None:
         for group in upward(path):
             self.count[group] += n
             self.peak[group] = max(self.peak[group], self.count[group])
 
-    def move(self, pid: str, path: str) -> None:
-        old = self.home.get(pid)
-        if old is None or old == path:
-            return
-        self.home[pid] = path
+    def move(self, old: str, path: str) -> None:
         for place, n in ((path, 1), (old, -1)) if self.moved else ((old, -1), (path, 1)):
             self.add(place, n)
 
-    def kill(self, path: str) -> None:
-        for pid, home in list(self.home.items()):
-            if path in upward(home):
-                self.add(self.home.pop(pid), -1)
-
-    def refuse(self, parent: str, path: str) -> None:
-        for group in upward(self.home[parent]) if self.refused else ():
+    def refuse(self, home: str, path: str) -> None:
+        for group in upward(home) if self.refused else ():
             if group == path:
                 return
             self.peak[group] = max(self.peak[group], self.count[group] + 1)
 
+
+class Followed:
+    """Where each process is after the lines that a kernel took, and what `pids.events` and `pids.peak` then are."""
+
+    def __init__(self) -> None:
+        self.home = {"1": "/"}
+        self.events = Events()
+        self.peaks = {way: Peaks(*way) for way in WAYS}
+
+    def peak_by_way(self, path: str) -> dict[tuple[bool, bool], int]:
+        return {way: peaks.peak[path] for way, peaks in self.peaks.items()}
+
     def play(self, words: list[str], reply: str) -> None:
         said = reply.split(" ")
         if said[:2] == ["refused", "pidsmax"]:
-            self.refuse(words[1], said[2])
+            for counts in (self.events, *self.peaks.values()):
+                counts.refuse(self.home[words[1]], said[2])
         elif said != ["ok"]:
             return
         elif words[0] == "mkdir":
-            self.count[words[1]] = self.peak[words[1]] = 0
+            for counts in (self.events, *self.peaks.values()):
+                counts.make(words[1])
         elif words[0] == "fork":
             self.home[words[2]] = self.home[words[1]]
-            self.add(self.home[words[1]], 1)
+            self._add(self.home[words[1]], 1)
         elif words[0] == "exit":
-            self.add(self.home.pop(words[1]), -1)
+            self._add(self.home.pop(words[1]), -1)
         elif words[0] == "write" and words[2] == "cgroup.procs":
-            self.move(words[3], words[1])
+            self._move(words[3], words[1])
         elif words[0] == "write" and words[2] == "cgroup.kill":
-            self.kill(words[1])
+            for pid in [pid for pid, home in self.home.items() if words[1] in upward(home)]:
+                self._add(self.home.pop(pid), -1)
+
+    def _add(self, path: str, n: int) -> None:
+        for peaks in self.peaks.values():
+            peaks.add(path, n)
+
+    def _move(self, pid: str, path: str) -> None:
+        old = self.home.get(pid)
+        if old is None or old == path:
+            return
+        self.home[pid] = path
+        for peaks in self.peaks.values():
+            peaks.move(old, path)
 
 
 def peak_difference(kernel: int, ours: int, by_way: dict[tuple[bool, bool], int]) -> str | None:

@@ -75,14 +75,15 @@ class _Script:
     # ---- words of the shell
 
     def _place(self, path: str) -> str:
-        return shlex.quote(path[1:] or ".")
+        """The path in the script's folder. A name that begins with a dash is no option."""
+        return shlex.quote("./" + path[1:] if path.startswith("/-") else path[1:] or ".")
 
     def _file(self, path: str, name: str, writes: bool = False) -> str:
         if name == "cgroup.procs" and path == "/":
             return "../home/cgroup.procs"
         if name == "cgroup.procs" and self._difference.way == "T" and not writes:
             name = "cgroup.threads"
-        return shlex.quote(name if path == "/" else path[1:] + "/" + name)
+        return name if path == "/" else self._place(f"{path}/{name}")
 
     def _is_shell(self, pid: str) -> bool:
         return pid == "1" and not self._own_first

@@ -20,7 +20,7 @@ from ..hierarchy import Hierarchy
 MAKE, GONE, BORN, DIED, MOVE, KILL, BACK, SET, ADD = range(9)
 LIMIT, PEAK, TOTAL, LOCAL, DEPTH, DESCENDANTS, CURRENT = range(7)
 NONE = -1  # no limit
-FROM_STATE = "ok\n"  # an answer that the page takes from its state: the processes of the group
+FROM_STATE = "ok\n"  # with a number: a list of so many processes, which the page takes from its state
 NEW = (NONE, 0, 0, 0, NONE, NONE, 0)
 FIELDS = {"pids.max": LIMIT, "cgroup.max.depth": DEPTH, "cgroup.max.descendants": DESCENDANTS}
 FILES = {field: file for file, field in FIELDS.items()}
@@ -239,7 +239,7 @@ class History:
         if verb in ("mkdir", "rmdir", "fork", "exit", "move", "kill", "limit"):
             getattr(self, "_" + verb)(*words)
         if verb == "cat" and words[1] == "cgroup.procs" and self._long_list(words[0], text):
-            return FROM_STATE
+            return FROM_STATE + str(text.count("\n"))
         return "ok" + "".join(f"\n| {line}" for line in text.split("\n")[:-1])
 
     def _long_list(self, path: str, text: str) -> bool:

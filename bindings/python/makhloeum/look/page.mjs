@@ -1,97 +1,59 @@
 // The page of a run: what is shown of a moment, and how one gets to another.
-import { CURRENT, DEPTH, DESCENDANTS, LIMIT, LOCAL, PEAK, Run, TOTAL, sorted, treeRows } from "./state.mjs";
-import { Rows, make } from "./parts.mjs";
+import { CURRENT, DEPTH, DESCENDANTS, LIMIT, LOCAL, PEAK, Run, TOTAL, treeRows } from "./state.mjs";
+import { groupOf, refusalsOf, search } from "./search.mjs";
+import { Rows, count, limitText, make, refill } from "./parts.mjs";
+import { nameWidth, processes, treeRow } from "./groups.mjs";
+import { letterWidth, resizable } from "./widths.mjs";
 import { plotOf } from "./figure.mjs";
 
 const run = new Run(JSON.parse(document.getElementById("run").textContent));
 const at = (id) => document.getElementById(id);
-const count = (number) => number.toLocaleString("en");
-const limitText = (value) => (value < 0 ? "max" : String(value));
-const PIDS_IN_ROW = 8, PIDS_IN_GROUP = 400;
-const folded = new Set(), unfolded = new Set();
-let moment = 0, rows = [], chosen = 0, matches = [], hits = new Set(), playing = null, plotted = [], plots = [], linking = null;
+const PIDS_IN_GROUP = 2000; // letters
+const SIGNS = { play: "\u25b6\ufe0e", "play-back": "\u25c0\ufe0e" }, STOP = "\u275a\u275a";
+const folded = new Set(), unfolded = new Set(), letter = letterWidth(at("tree")), lastColumn = at("columns").querySelector(".head").lastElementChild;
+let moment = 0, isBefore = false, rows = [], matches = [], hits = new Set(), playing = null, plotted = [], plots = [], linking = null;
+let view = { chosen: 0, others: new Map(), fresh: new Set(), room: 0 }, refused = { of: -1, moments: [] };
 
 // ---- the commands
 
 const list = new Rows(at("list"), "option", (index) => {
-  const refused = run.isRefused(index), row = make("div", { className: "row", ariaSelected: String(index === moment - 1) });
-  row.classList.toggle("refused", refused);
+  const row = make("div", { className: "row", ariaSelected: String(index === moment - 1) });
+  row.classList.toggle("refused", run.isRefused(index));
   row.classList.toggle("now", index === moment - 1);
   row.classList.toggle("hit", hits.has(index + 1));
-  const [word, ...text] = run.wordsOf(index).split("\n");
   row.append(make("span", { className: "number" }, String(index + 1)));
   row.append(make("span", { className: run.isKill(index) ? "text kill" : "text" }, run.lines[index]));
   if (run.notes[index]) row.append(make("span", { className: "text note" }, run.notes[index]));
-  row.append(make("span", { className: "said" }, refused ? `✗ ${word}` : text.join(" ") || word));
+  row.append(make("span", { className: "said" }, shortAnswer(index)));
   return row;
 });
+
+// The answer in one line. Of a long one it says how much there is.
+function shortAnswer(index) {
+  const [word, ...text] = run.wordsOf(index).split("\n"), listed = run.listedBy(index);
+  if (run.isRefused(index)) return `✗ ${word}`;
+  if (listed >= 0) return `${count(listed)} lines`;
+  return (text.length > 2 ? `${text.length} lines: ` : "") + text.slice(0, 9).join(" ") || word;
+}
 
 // ---- the tree
 
-const tree = new Rows(at("tree"), "treeitem", (index) => {
-  const { group, level, rest, children, closed } = rows[index], indent = "\u00a0\u00a0".repeat(level);
-  const row = make("div", { className: "row", ariaLevel: String(level + 1) });
-  if (!group) {
-    row.append(make("span", { className: "rest" }, `${indent}${rest > 0 ? `▸ ${count(rest)} more groups` : "▾ fold these groups"}`));
-    return row;
-  }
-  const before = run.changed.get(group.id), numbers = group.numbers;
-  const cell = (text, ...fields) => {
-    const was = before && fields.some((field) => before[field] !== numbers[field]);
-    return make("span", { className: was ? "number-cell was" : "number-cell" }, text);
-  };
-  row.ariaSelected = String(group.id === chosen);
-  if (children) row.ariaExpanded = String(!closed);
-  row.classList.toggle("changed", run.changed.has(group.id));
-  row.classList.toggle("chosen", group.id === chosen);
-  const twist = make("span", { className: "twist" }, children ? (closed ? "▸" : "▾") : "");
-  row.append(make("span", { title: run.paths[group.id] }, indent, twist, run.names[group.id]));
-  if (group.id === 0) {
-    row.append(make("span"), cell(`${count(numbers[CURRENT])} in all`, CURRENT), make("span"), make("span"), make("span"));
-  } else {
-    const populated = numbers[CURRENT] > 0, refused = cell(`${numbers[LOCAL]} / ${numbers[TOTAL]}`, LOCAL, TOTAL);
-    refused.classList.toggle("refused", numbers[TOTAL] > 0);
-    row.append(bar(numbers), cell(`${numbers[CURRENT]} / ${limitText(numbers[LIMIT])}`, CURRENT, LIMIT), cell(String(numbers[PEAK]), PEAK));
-    row.append(make("span", { className: populated ? "yes" : "no" }, populated ? "● yes" : "○ no"), refused);
-  }
-  row.append(make("span", {}, ...pids(group, PIDS_IN_ROW, "span")));
-  return row;
-});
+const tree = new Rows(at("tree"), "treeitem", (index) => treeRow(run, rows[index], view));
 
-// Without a limit the bar ends at the peak.
-function bar(numbers) {
-  const whole = Math.max(1, numbers[LIMIT] < 0 ? numbers[PEAK] : numbers[LIMIT]);
-  const part = (value) => `${Math.min(100, (100 * value) / whole)}%`, box = make("span", { className: "bar" }, make("b"));
-  box.classList.toggle("full", numbers[LIMIT] >= 0 && numbers[CURRENT] >= numbers[LIMIT]);
-  box.classList.toggle("free", numbers[LIMIT] < 0);
-  box.firstChild.style.width = part(numbers[CURRENT]);
-  if (numbers[PEAK] > 0) box.append(make("i"));
-  if (numbers[PEAK] > 0) box.lastChild.style.left = `calc(${part(numbers[PEAK])} - 2px)`;
-  return box;
-}
-
-// If not all of them have room, those that the last command brought come first.
-function pids(group, most, tag) {
-  const inside = (pid) => run.state.home[run.places.get(pid)] === group.id;
-  const fresh = [...run.state.fresh].filter(inside).slice(0, most), few = new Set(fresh);
-  for (const pid of run.state.pidsOf(group, most)) if (few.size < most) few.add(pid);
-  const all = sorted(few).map((pid) => {
-    const one = make(tag, { className: fresh.includes(pid) ? "pid fresh" : "pid" }, String(pid));
-    one.dataset.pid = pid;
-    return one;
-  });
-  return few.size < group.own ? [...all, ` .. ${count(group.own - few.size)} more`] : all;
+function fitColumns() {
+  view.room = Math.floor(lastColumn.clientWidth / letter);
+  tree.show(rows.length);
 }
 
 // ---- one group, one process
 
 function showGroup() {
-  const group = run.state.groups.get(chosen), table = make("table"), heading = make("h3", {}, run.paths[chosen]);
+  const { chosen, fresh } = view, group = run.state.groups.get(chosen), table = make("table");
   const line = (name, ...value) => table.append(make("tr", {}, make("td", {}, name), make("td", {}, ...value)));
   if (!group) line("There is no such group at this moment.");
   else {
     const n = group.numbers;
-    line("cgroup.procs", ...pids(group, PIDS_IN_GROUP, "button"));
+    line("cgroup.procs", ...processes(run, group, fresh, "button", PIDS_IN_GROUP));
     if (chosen !== 0) {
       line("pids.max", limitText(n[LIMIT]));
       line("pids.current", String(n[CURRENT]));
@@ -104,8 +66,20 @@ function showGroup() {
     line("cgroup.max.descendants", limitText(n[DESCENDANTS]));
     line("nr_descendants", String([...group.down()].length - 1));
   }
-  const plot = make("button", { onclick: () => choosePlot(chosen) }, plotted.includes(chosen) ? "Take off the plots" : "Plot");
-  at("group").replaceChildren(heading, table, ...(chosen === 0 ? [] : [plot]));
+  if (refused.of !== chosen) refused = { of: chosen, moments: refusalsOf(run, run.paths[chosen]) };
+  at("path").textContent = run.paths[chosen];
+  at("refusals").textContent = refused.moments.length > 0 ? `First of ${many(refused.moments.length, "refusal")}` : "No refusals";
+  at("refusals").disabled = refused.moments.length === 0;
+  at("plot-it").textContent = plotted.includes(chosen) ? "Take off the plots" : "Plot";
+  at("plot-it").hidden = chosen === 0;
+  refill(at("group"), table);
+}
+
+function goToRefusal() {
+  if (refused.moments.length === 0) return;
+  at("query").value = `refused ${run.paths[view.chosen]}`;
+  find();
+  go(matches[0]);
 }
 
 function showLife(pid) {
@@ -123,7 +97,7 @@ function showLife(pid) {
 function showPlots() {
   const note = make("p", { className: "note" }, "Choose a group in the tree and press p to plot its pids.current.");
   plots = run.series(plotted).map((series) => plotOf(run, series, at("plots").clientWidth - 24, at("tip"), go, choosePlot));
-  at("plots").replaceChildren(...(plots.length > 0 ? plots.map(({ figure }) => figure) : [note]));
+  refill(at("plots"), ...(plots.length > 0 ? plots.map(({ figure }) => figure) : [note]));
   plots.forEach(({ mark }) => mark(moment));
 }
 
@@ -135,18 +109,36 @@ function choosePlot(id) {
 
 // ---- moments
 
-function show() {
+// The state after the chosen command, or before it. The numbers on its other side show what it changes.
+function goThere() {
   run.go(moment);
-  rows = treeRows(run.state, folded, unfolded, new Set([chosen, ...run.changed.keys()]));
+  view = { ...view, others: run.changed, fresh: run.state.fresh };
+  if (!isBefore || moment === 0) return;
+  const after = [...run.changed.keys()].map((id) => [id, run.state.groups.get(id)?.numbers.slice() ?? null]);
+  run.go(moment - 1);
+  view = { ...view, others: new Map(after), fresh: new Set() };
+}
+
+// With `reaches` the chosen group is in sight.
+function show(reaches = false) {
+  goThere();
+  rows = treeRows(run.state, folded, unfolded, new Set([view.chosen, ...view.others.keys()]));
+  at("tree").style.setProperty("--deepest", rows.reduce((most, { level }) => Math.max(most, level), 1));
   list.show(run.length, Math.max(0, moment - 1));
-  tree.show(rows.length);
+  tree.show(rows.length, reaches ? rowOf(view.chosen) : -1);
   const time = run.times ? `, at ${run.times[moment].toFixed(6)} s` : "";
-  at("moment").textContent = `after ${count(moment)} of ${count(run.length)}${time}`;
+  at("moment").textContent = `${isBefore ? "before" : "after"} ${count(moment)} of ${count(run.length)}${time}`;
+  at("when").textContent = `Groups ${isBefore ? "before" : "after"} this line`;
+  at("before").ariaPressed = String(isBefore);
   at("slider").value = moment;
   at("slider").setAttribute("aria-valuetext", at("moment").textContent);
   showAnswer();
   showGroup();
   plots.forEach(({ mark }) => mark(moment));
+}
+
+function rowOf(id) {
+  return rows.findIndex((row) => row.group && row.group.id === id);
 }
 
 function showAnswer() {
@@ -155,12 +147,13 @@ function showAnswer() {
   at("answer").replaceChildren(`${moment} ${run.lines[moment - 1]}\n`, make("span", { className }, word), ["", ...text].join("\n"));
 }
 
-function go(wanted) {
+function go(wanted, before = isBefore) {
   moment = Math.min(run.length, Math.max(0, Math.round(wanted)));
+  isBefore = before;
   show();
   showFound();
   clearTimeout(linking); // browsers allow few changes of the address in a second
-  linking = setTimeout(() => history.replaceState(null, "", `#line=${moment}`), 250);
+  linking = setTimeout(() => history.replaceState(null, "", `#${isBefore ? "before" : "line"}=${moment}`), 250);
 }
 
 // Forward or backward; a second time, or at an end, it stops.
@@ -169,23 +162,33 @@ function play(by) {
   if (playing) clearInterval(playing.timer);
   const step = () => (moment + by < 0 || moment + by > run.length ? play(by) : go(moment + by * each));
   playing = stops ? null : { by, timer: setInterval(step, (1000 * each) / speed) };
-  at("play").classList.toggle("now", !stops && by > 0);
-  at("play-back").classList.toggle("now", !stops && by < 0);
+  for (const [id, its] of [["play", 1], ["play-back", -1]]) {
+    at(id).ariaPressed = String(!stops && by === its);
+    at(id).textContent = !stops && by === its ? STOP : SIGNS[id];
+  }
 }
 
 function openLink() {
-  const found = /^#line=([0-9]{1,9})$/.exec(location.hash);
-  go(found ? Number(found[1]) : run.length);
+  const found = /^#(line|before)=([0-9]{1,9})$/.exec(location.hash);
+  go(found ? Number(found[2]) : run.length, Boolean(found) && found[1] === "before");
+}
+
+// At first the group of the command is chosen.
+function begin() {
+  openLink();
+  run.go(moment);
+  view.chosen = groupOf(run, moment - 1);
+  show(true);
 }
 
 // ---- search
 
-function search() {
-  const query = at("query").value.trim();
-  matches = run.search(query);
+function find() {
+  const query = at("query").value.trim(), path = query.replace(/^refused\s+/, "");
+  matches = search(run, query);
   hits = new Set(matches);
   if (/^[0-9]+$/.test(query)) showLife(Number(query));
-  if (run.ids.has(query)) chosen = run.ids.get(query);
+  if (run.ids.has(path)) view.chosen = run.ids.get(path);
   go(matches.find((one) => one >= moment) ?? matches[0] ?? moment);
 }
 
@@ -202,9 +205,8 @@ function goMatch(by) {
 // ---- groups
 
 function choose(id) {
-  chosen = id;
-  show();
-  tree.show(rows.length, rows.findIndex((row) => row.group && row.group.id === chosen));
+  view.chosen = id;
+  show(true);
 }
 
 function fold({ group, of }) {
@@ -216,14 +218,13 @@ function fold({ group, of }) {
 // ---- what a person does
 
 function onTreeKey(event) {
-  const index = rows.findIndex((row) => row.group && row.group.id === chosen), by = { ArrowUp: -1, ArrowDown: 1 }[event.key];
+  const index = rowOf(view.chosen), by = { ArrowUp: -1, ArrowDown: 1 }[event.key];
   if (by) {
     let next = index + by;
     if (rows[next] && rows[next].rest > 0) fold(rows[next]);
     if (rows[next] && !rows[next].group) next += by;
     if (rows[next]) choose(rows[next].group.id);
   } else if (event.key === "Enter" && index >= 0) fold(rows[index]);
-  else if (event.key === "p" && chosen !== 0) choosePlot(chosen);
   else return;
   event.preventDefault();
   event.stopPropagation();
@@ -238,10 +239,12 @@ function onTreeClick(event) {
 const ACTS = {
   first: () => go(0), back: () => go(moment - 1), next: () => go(moment + 1), last: () => go(run.length), play: () => play(1),
   "play-back": () => play(-1), "found-before": () => goMatch(-1), "found-after": () => goMatch(1),
+  before: () => go(moment, !isBefore), refusals: goToRefusal, "plot-it": () => view.chosen !== 0 && choosePlot(view.chosen),
 };
 const KEYS = {
   ArrowLeft: ACTS.back, ArrowUp: ACTS.back, ArrowRight: ACTS.next, ArrowDown: ACTS.next, Home: ACTS.first, End: ACTS.last,
   PageUp: () => go(moment - 20), PageDown: () => go(moment + 20), n: ACTS["found-after"], N: ACTS["found-before"],
+  b: ACTS.before, r: ACTS.refusals, p: ACTS["plot-it"],
   " ": (event) => play(event.shiftKey ? -1 : 1), "/": () => at("query").focus(), Escape: () => playing && play(playing.by),
 };
 
@@ -257,18 +260,22 @@ at("list").addEventListener("click", (event) => event.target.closest(".row") && 
 at("tree").addEventListener("click", onTreeClick);
 at("tree").addEventListener("keydown", onTreeKey);
 at("slider").addEventListener("input", () => go(Number(at("slider").value)));
-at("query").addEventListener("input", search);
+at("query").addEventListener("input", find);
 at("search").addEventListener("submit", (event) => (event.preventDefault(), goMatch(1)));
 document.addEventListener("click", (event) => event.target.closest("[data-pid]") && showLife(Number(event.target.dataset.pid)));
 document.addEventListener("keydown", onKey);
 addEventListener("hashchange", openLink);
 addEventListener("resize", showPlots);
+resizable(at("name-width"), at("groups"), () => Math.ceil(Math.max(...rows.map((row) => nameWidth(run, row))) * letter) + 8);
+new ResizeObserver(fitColumns).observe(lastColumn);
 
-const many = (number, one) => `${count(number)} ${one}${number === 1 ? "" : "s"}`;
+function many(number, one) {
+  return `${count(number)} ${one}${number === 1 ? "" : "s"}`;
+}
 const those = (test) => run.lines.filter((_, index) => test(index)).length;
 at("summary").textContent = `${many(run.length, "command")}, ${count(those((index) => run.isRefused(index)))} refused, ` +
   `${many(those((index) => run.isKill(index)), "kill")}, ${many(run.paths.length - 1, "group")}`;
 at("slider").max = run.length;
 plotted = run.busiest(2);
 showPlots();
-openLink();
+begin();

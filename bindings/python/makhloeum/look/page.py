@@ -13,7 +13,7 @@ from typing import List
 from .history import History
 
 HERE = os.path.dirname(os.path.abspath(__file__))
-SCRIPTS = ("state.mjs", "plot.mjs", "parts.mjs", "figure.mjs", "page.mjs")
+SCRIPTS = ("state.mjs", "search.mjs", "plot.mjs", "parts.mjs", "figure.mjs", "groups.mjs", "widths.mjs", "page.mjs")
 _JOINS = re.compile(r"^import .*;\n|^export ", re.M)
 
 

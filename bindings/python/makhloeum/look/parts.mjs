@@ -1,4 +1,4 @@
-// The parts of the page that know no run: elements, and a list that draws only the rows in sight.
+// The parts of the page that know no run: elements, numbers as text, and a list that draws only the rows in sight.
 
 // An element with properties and children. Texts become text, never markup.
 export function make(tag, properties = {}, ...children) {
@@ -12,6 +12,16 @@ export function makeSvg(tag, attributes, text = "") {
   for (const [name, value] of Object.entries(attributes)) element.setAttribute(name, value);
   element.textContent = text;
   return element;
+}
+
+export const count = (number) => number.toLocaleString("en");
+export const limitText = (value) => (value < 0 ? "max" : String(value));
+
+// Fills a box anew. What had the focus there keeps it if it is made again, with the same `data-key`; else the box gets it.
+export function refill(box, ...children) {
+  const key = box.contains(document.activeElement) ? document.activeElement.dataset.key ?? "" : null;
+  box.replaceChildren(...children);
+  if (key !== null) ([...box.querySelectorAll("[data-key]")].find((one) => one.dataset.key === key) ?? box).focus({ preventScroll: true });
 }
 
 // `draw` makes the row with a number; all have the same height. Size and place of the box are remembered, since asking for them

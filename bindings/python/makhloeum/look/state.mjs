@@ -213,10 +213,14 @@ export class Run {
     return this.answers[this.answer[command]];
   }
 
-  // The whole answer to the last command. A long list of processes is that of the state.
+  // How many processes a long list has, which is that of the state; NaN if the answer is no such list.
+  listedBy(command) {
+    return Number(/^ok\n([0-9]+)$/.exec(this.wordsOf(command))?.[1]);
+  }
+
+  // The whole answer to the last command.
   answerOf(command) {
-    const answer = this.wordsOf(command);
-    if (answer !== "ok\n") return answer;
+    if (Number.isNaN(this.listedBy(command))) return this.wordsOf(command);
     const group = this.state.groups.get(this.ids.get(this.lines[command].split(/[ \t\r]+/)[1]));
     return "ok" + this.state.pidsOf(group).map((pid) => `\n| ${pid}`).join("");
   }
@@ -252,23 +256,6 @@ export class Run {
     return life;
   }
 
-  // The moments after the commands that a query finds: a pid, a path from its start, or a word anywhere.
-  search(query) {
-    const text = query.trim().toLowerCase(), found = new Set();
-    if (text === "") return [];
-    if (/^[0-9]+$/.test(text)) for (const { moment } of this.life(Number(text))) if (moment > 0) found.add(moment);
-    for (let command = 0; command < this.length; command++) {
-      const line = this.lines[command];
-      if (/^[0-9]+$/.test(text) ? pidsOf(line).includes(text) : this.says(command, line, text)) found.add(command + 1);
-    }
-    return sorted(found);
-  }
-
-  says(command, line, text) {
-    const all = [line, this.wordsOf(command), this.notes[command] || ""].join("\n").toLowerCase();
-    return text[0] === "/" ? all.split(/\s+/).some((word) => word.startsWith(text)) : all.includes(text);
-  }
-
   // For each group: the points at which its numbers change, and the marks of refused forks and of kills.
   series(ids) {
     const state = this.fresh(), all = ids.map((id) => ({ id, points: [], refused: [], kills: [], last: {} })), none = NEW.map(() => -1);
@@ -302,12 +289,6 @@ export class Run {
 
 export function sorted(numbers) {
   return [...numbers].sort((a, b) => a - b);
-}
-
-function pidsOf(line) {
-  const [verb, ...words] = line.split(/[ \t\r]+/);
-  if (verb === "fork" || verb === "exit" || verb === "where") return words;
-  return verb === "write" && words[1] === "cgroup.procs" ? words.slice(2) : [];
 }
 
 // The rows of the tree. A group with many others beside it is folded: `shown` of them, those in `keep`, and a row for the rest.

@@ -1,0 +1,247 @@
+"""The parts of `makhloeum check` that clean up, talk to the worker, compare and write scripts. bindings/python/tests/test_check.py
+has others, and look/test-check has the whole."""
+
+import os
+import re
+import signal
+import socket
+import subprocess
+
+import pytest
+from support import HERE
+
+from makhloeum.check import command, known
+from makhloeum.check.differences import CONTRADICTION, difference
+from makhloeum.check.directory import remove_groups
+from makhloeum.check.engine import Answer, Engine
+from makhloeum.check.playing import Counts, Difference
+from makhloeum.check.script import shell_script
+from makhloeum.check.worker import Hang, Worker, _Lines
+
+ENDING = (signal.SIGINT, signal.SIGTERM, signal.SIGHUP)
+BUSY = Answer("EBUSY", "", "hasprocesses")
+
+
+# ---- signals
+
+
+@pytest.fixture
+def handlers():
+    """The handlers of `check`, and the earlier ones in the end."""
+    before = [signal.signal(number, command._interrupt) for number in ENDING]
+    yield
+    for number, handler in zip(ENDING, before):
+        signal.signal(number, handler)
+
+
+class Player:
+    """A player whose every sequence, and whose cleaning up, is interrupted."""
+
+    def __init__(self, number):
+        self.number, self.counts, self.left, self.is_closed = number, Counts(), [], False
+        self.found = {"ways": ["free"], "missing": []}
+
+    def play(self, *words):
+        os.kill(os.getpid(), self.number)
+
+    def close(self):
+        for number in ENDING:
+            os.kill(os.getpid(), number)
+        self.is_closed = True
+
+
+@pytest.mark.parametrize("number", ENDING)
+def test_a_second_signal_does_not_interrupt_the_cleaning_up(handlers, capsys, number):
+    player = Player(number)
+    status = command._checked(command._arguments(["/nowhere", "--no-worked", "--quiet"]), player)
+    told = capsys.readouterr()
+    assert (status, player.is_closed) == (2, True)
+    assert told.out.startswith("0 operations in ") and told.err == "makhloeum check: /nowhere: interrupted\n"
+
+
+def test_what_could_not_be_removed_is_named(handlers, capsys):
+    player = Player(signal.SIGINT)
+    player.play, player.close, player.left = (lambda *words: None), (lambda: None), ["/nowhere/makhloeum-check-1"]
+    status = command._checked(command._arguments(["/nowhere", "--count", "0", "--quiet"]), player)
+    assert status == 2 and capsys.readouterr().err == "makhloeum check: /nowhere: /nowhere/makhloeum-check-1 could not be removed\n"
+
+
+def test_a_second_signal_does_not_come_before_the_cleaning_up(handlers):
+    with pytest.raises(command.Interrupted):
+        os.kill(os.getpid(), signal.SIGTERM)
+    for number in ENDING:
+        os.kill(os.getpid(), number)
+        assert signal.getsignal(number) == signal.SIG_IGN
+
+
+# ---- the worker
+
+
+class Answering(Worker):
+    """A worker that has these answers ready."""
+
+    def __init__(self, *answers, limit=0.2):
+        ours, self.theirs = socket.socketpair()
+        self.limit, self._lines, self._number = limit, _Lines(ours), 0
+        for answer in answers:
+            _Lines(self.theirs).put(answer)
+
+
+def test_a_late_answer_is_not_taken_for_the_next_one():
+    worker = Answering([1, "ok", "of the first"], [2, "EBUSY", "of the second"])
+    worker._number = 1  # its request was interrupted
+    assert worker.ask("play", "rmdir", "/a") == ("EBUSY", "of the second")
+    with pytest.raises(Hang):
+        worker.ask("play", "rmdir", "/a")
+    worker.theirs.close()
+    with pytest.raises((Hang, BrokenPipeError)):
+        worker.ask("end")
+    worker._lines.at.close()
+
+
+def test_an_answer_that_comes_in_parts():
+    ours, theirs = socket.socketpair()
+    theirs.sendall(b'[1, "o')
+    lines = _Lines(ours)
+    with pytest.raises(Hang):
+        lines.get(0.05)
+    theirs.sendall(b'k", ""]\n[2, ')
+    assert lines.get(1) == [1, "ok", ""]
+    theirs.sendall(b"3]\n")
+    theirs.close()
+    assert (lines.get(1), lines.get(1)) == ([2, 3], None)
+    ours.close()
+
+
+# ---- removing groups
+
+
+def test_groups_are_removed_from_below(tmp_path):
+    (tmp_path / "own" / "a" / "b").mkdir(parents=True)
+    (tmp_path / "own" / "c").mkdir()
+    assert remove_groups(str(tmp_path / "own"), 0) == [] and os.listdir(tmp_path) == []
+    (tmp_path / "own" / "a").mkdir(parents=True)
+    (tmp_path / "own" / "a" / "busy").write_text("")
+    assert remove_groups(str(tmp_path / "own"), 0) == [str(tmp_path / "own" / "a"), str(tmp_path / "own")]
+    assert remove_groups(str(tmp_path / "none"), 0) == []
+
+
+# ---- scripts
+
+NAMES = ["a;id>hit", "$(id>hit)", "`id>hit`", "it's", '"', "-p", "--help", "*", "~", "a&b", "#", "\\", "{a,b}", "a|b", "<x", "!"]
+
+
+@pytest.mark.parametrize("way", ["free", "D", "T"])
+def test_the_names_of_groups_are_quoted_in_a_script(tmp_path, way):
+    """It runs in a plain directory, where each command but mkdir and rmdir fails and nothing else happens."""
+    commands = []
+    for name in NAMES:
+        commands += [["mkdir", f"/{name}"], ["cat", f"/{name}", "pids.max"], ["list", f"/{name}"]]
+    for name in NAMES[:-1]:
+        commands.append(["rmdir", f"/{name}"])
+    commands += [["mkdir", "/-x"], ["mkdir", "/-x/-y"], ["rmdir", "/-x/-y"], ["rmdir", "/-x"], ["rmdir", f"/{NAMES[-1]}"]]
+    script = "\n".join(shell_script(Difference(way, commands, BUSY, Answer("EINVAL")), str(tmp_path), False)) + "\n"
+    if way == "T":
+        script = re.sub(r"; echo threaded >\S*'?[^;\n]*cgroup\.type'?", "", script)
+    ran = subprocess.run(["sh"], input=script, text=True, capture_output=True, timeout=60, env=dict(os.environ, LC_ALL="C"))
+    assert ran.returncode == 0, ran.stderr
+    said = [line for line in ran.stderr.split("\n") if line and not line.startswith("cat: ") and "kill" not in line]
+    assert said == [] and ran.stderr.count("No such file") == len(NAMES)
+    assert os.listdir(tmp_path) == [], "the script removes what it made, and nothing else was made"
+
+
+def test_values_and_the_directory_are_quoted_in_a_script(tmp_path):
+    home = tmp_path / "it's $(id>hit) here"
+    home.mkdir()
+    commands = [["mkdir", "/a"], ["write", "/a", "pids.max", "$(id>hit)"], ["rmdir", "/a"]]
+    script = shell_script(Difference("free", commands, BUSY, Answer("EINVAL")), str(home))
+    assert "echo '$(id>hit)' >a/pids.max" in "\n".join(script)
+    ran = subprocess.run(["sh"], input="\n".join(script[:4]) + "\n", text=True, capture_output=True, timeout=60)
+    assert ran.returncode == 0 and os.listdir(home) == [] and os.listdir(tmp_path) == [home.name]
+
+
+# ---- differences
+
+
+@pytest.mark.parametrize(
+    "file, value, error, wanted",
+    [
+        ("pids.max", "0x400000", "ok", known.TAKES_MORE),
+        ("pids.max", "0x400001", "ok", CONTRADICTION),
+        ("pids.max", "4194305", "ok", CONTRADICTION),
+        ("pids.max", "+5", "ok", known.TAKES_MORE),
+        ("pids.max", "-1", "ok", CONTRADICTION),
+        ("pids.max", "9223372036854775808", "ERANGE", known.OTHER_ERRNO),
+        ("pids.max", "9223372036854775807", "ERANGE", CONTRADICTION),
+        ("cgroup.max.depth", "0x7fffffff", "ok", known.TAKES_MORE),
+        ("cgroup.max.depth", "2147483648", "ok", CONTRADICTION),
+        ("cgroup.max.depth", "2147483648", "ERANGE", known.OTHER_ERRNO),
+        ("cgroup.max.depth", "-1", "ERANGE", known.OTHER_ERRNO),
+        ("cgroup.max.depth", "0x10", "ERANGE", CONTRADICTION),
+        ("cgroup.kill", "2", "ok", CONTRADICTION),
+        ("cgroup.kill", "01", "ok", known.TAKES_MORE),
+        ("cgroup.kill", "2", "ERANGE", known.OTHER_ERRNO),
+        ("cgroup.kill", "0x1", "ERANGE", CONTRADICTION),
+        ("cgroup.procs", "99999999", "ESRCH", known.OTHER_ERRNO),
+        ("cgroup.procs", "-5", "ESRCH", CONTRADICTION),
+        ("cgroup.procs", "010", "ERANGE", CONTRADICTION),
+        ("pids.max", "x", "ok", CONTRADICTION),
+        ("pids.max", "-1", "ENOENT", known.GROUP_FIRST),
+        ("pids.max", "-1", "EBUSY", CONTRADICTION),
+    ],
+)
+def test_numbers_that_only_a_kernel_takes(file, value, error, wanted):
+    engine = Engine("free", [], False)
+    try:
+        engine.play(["mkdir", "/a"])
+        words, ours = ["write", "/a", file, value], Answer("EINVAL", "", "value")
+        assert difference(words, ours, Answer(error), engine, {"kind": "cgroup2", "missing": []}) == wanted
+    finally:
+        engine.close()
+
+
+def test_which_processes_a_kill_ends():
+    engine = Engine("free", [], False)
+    try:
+        for line in ("mkdir /a", "mkdir /a/b", "fork 1 2", "write /a/b cgroup.procs 2"):
+            engine.play(line.split(" "))
+        for value, ended in (("1", [2]), ("0x1", [2]), ("01", [2]), ("2", []), ("0", []), ("x", [])):
+            assert engine.dying(["write", "/a", "cgroup.kill", value]) == ended, value
+        assert engine.dying(["write", "/b", "cgroup.kill", "1"]) == engine.dying(["write", "/a", "pids.max", "1"]) == []
+    finally:
+        engine.close()
+
+
+def played(*lines):
+    """What a kernel shows after these lines, each of which it took, or with what it refused it."""
+    followed = known.Followed()
+    for line in lines:
+        words, _, said = line.partition(" -> ")
+        followed.play(words.split(" "), said or "ok")
+    return followed
+
+
+def test_peaks_and_events_of_a_kernel():
+    """As DECISIONS says it. Plain is the guide's way, then a kernel's with refused forks, with moves, and with both."""
+    ways = (False, False), (True, False), (False, True), (True, True)
+    start = "mkdir /a", "mkdir /a/b", "mkdir /a/b/c", "fork 1 2", "write /a/b/c cgroup.procs 2"
+    refused = played(*start, "fork 2 3 -> refused pidsmax /a/b")
+    assert [[refused.peak_by_way(path)[way] for way in ways] for path in ("/a", "/a/b", "/a/b/c")] == [[1, 1, 1, 1], [1, 1, 1, 1], [1, 2, 1, 2]]
+    assert [refused.events.total[path] for path in ("/a", "/a/b", "/a/b/c")] == [1, 1, 0]
+    assert [refused.events.own[path] for path in ("/a", "/a/b", "/a/b/c")] == [0, 0, 1]
+    moved = played(*start, "mkdir /a/d", "write /a/d cgroup.procs 2")
+    assert [[moved.peak_by_way(path)[way] for way in ways] for path in ("/a", "/a/b", "/a/d")] == [[1, 1, 2, 2], [1, 1, 1, 1], [1, 1, 1, 1]]
+    still = played(*start, "write /a/b/c cgroup.procs 2", "fork 2 3", "exit 3", "fork 2 4")
+    assert [still.peak_by_way("/a/b/c")[way] for way in ways] == [2, 2, 2, 2]
+    killed = played(*start, "fork 2 3", "write /a cgroup.kill 1", "fork 1 5", "write /a/b cgroup.procs 5", "rmdir /a/b/c", "mkdir /a/b/c")
+    assert killed.home == {"1": "/", "5": "/a/b"} and killed.peak_by_way("/a")[False, False] == 2
+    assert killed.peak_by_way("/a/b/c")[True, True] == 0
+
+
+def test_the_names_of_known_differences_are_those_of_the_documents():
+    """DECISIONS has one table of all of them, by the names that `check` and evidence/compare print."""
+    with open(os.path.join(HERE, "..", "..", "docs", "DECISIONS.md"), encoding="utf-8") as file:
+        table = re.findall(r"^\| `([^`]*)` \|", file.read(), re.M)
+    constants = vars(known).items()
+    names = [value for name, value in constants if name.isupper() and isinstance(value, str)]
+    assert len(names) > 15 and sorted(table) == sorted(names)
