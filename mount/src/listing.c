@@ -78,22 +78,10 @@ static int put_control(struct entries *e)
 	return fault;
 }
 
-/* The directory above; the root's is the root. */
-static int find_above(const struct node *directory, struct node *out)
-{
-	char path[PATH_MAX_SAID] = "/";
-	if (directory->group) {
-		memcpy(path, directory->group->path, strlen(directory->group->path) + 1);
-		go_up(path);
-	}
-	*out = (struct node){ .group = remembered_make(path) };
-	return out->group ? 0 : -ENOMEM;
-}
-
 static int collect(struct entries *e, const struct node *directory)
 {
 	struct node above;
-	int fault = find_above(directory, &above);
+	int fault = nodes_find_above(directory, &above);
 	if (fault == 0)
 		fault = put(e, ".", directory);
 	if (fault == 0)

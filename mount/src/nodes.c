@@ -70,12 +70,38 @@ static int find_group(const char *path, struct node *out)
 	return out->group ? 0 : -ENOMEM;
 }
 
+int nodes_find_above(const struct node *node, struct node *out)
+{
+	char path[PATH_MAX_SAID] = "/";
+	WANTS_LOCK();
+	*out = (struct node){ .control = CONTROL_ITSELF };
+	if (!node->group && !nodes_is_directory(node))
+		return 0;
+	if (node->group)
+		snprintf(path, sizeof path, "%s", node->group->path);
+	if (!node->file)
+		go_up(path);
+	out->group = remembered_make(path);
+	return out->group ? 0 : -ENOMEM;
+}
+
+static int find_relative(const struct node *node, bool above, struct node *out)
+{
+	if (above)
+		return nodes_find_above(node, out);
+	*out = *node;
+	return 0;
+}
+
 int nodes_find_below(const struct node *directory, const char *name, struct node *out)
 {
 	char path[PATH_MAX_SAID];
+	bool above = strcmp(name, "..") == 0;
 	WANTS_LOCK();
 	if (directory->group && directory->group->gone)
 		return -ENOENT;
+	if (above || strcmp(name, ".") == 0)
+		return find_relative(directory, above, out);
 	int fault = nodes_path(directory, name, path);
 	if (fault)
 		return fault;

@@ -8,7 +8,8 @@
 
 static void start(void *unused, struct fuse_conn_info *connection)
 {
-	(void)unused, (void)connection;
+	(void)unused;
+	connection->want |= connection->capable & FUSE_CAP_EXPORT_SUPPORT; /* look-ups of . and .. (nodes.h) */
 	watch_run();
 }
 

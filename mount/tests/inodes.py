@@ -1,6 +1,7 @@
 """What a stat and a listing show of groups and files: types, inode numbers, modes, owners and times; and what an open group still
 answers once it was removed. `inodes.py` tries it on a mount, `inodes.py kernel` on the cgroup2 of this machine."""
 import ctypes
+import errno
 import os
 import stat
 import sys
@@ -53,11 +54,11 @@ def numbered(at):
     os.mkdir(group)
     before = os.stat(group).st_ino, os.stat(file).st_ino
     fds = [os.open(path, os.O_RDONLY) for path in (group, file)]
-    for i in range(50):
+    for i in range(9):
         os.mkdir("%s/%d" % (group, i))
     same("after other groups were made", (os.stat(group).st_ino, os.stat(file).st_ino), before)
     same("by descriptors", tuple(os.fstat(fd).st_ino for fd in fds), before)
-    for i in range(50):
+    for i in range(9):
         os.rmdir("%s/%d" % (group, i))
     os.rmdir(group)
     os.mkdir(group)
@@ -160,7 +161,7 @@ def continued(at):
     """A listing in many pieces; its offsets; and a seek to any."""
     group = at + "/c"
     os.mkdir(group)
-    names = ["%s-%d" % ("x" * (1 + i % 40), i) for i in range(300)]
+    names = ["%s-%d" % ("x" * (1 + i), i) for i in range(100)]  # more than a page
     for name in names:
         os.mkdir(group + "/" + name)
     found = entries(group)
@@ -174,7 +175,7 @@ def continued(at):
         if not at_entry:
             break
         order.append(Entry.from_address(at_entry).name)
-    for i in (0, 1, 150, 299, len(order) - 1):
+    for i in (0, 1, 50, 99, len(order) - 1):
         libc.seekdir(stream, ctypes.c_long(offsets[i]))
         same("after a seek to entry %d" % i, Entry.from_address(libc.readdir(stream)).name, order[i])
     libc.rewinddir(stream)
@@ -182,6 +183,24 @@ def continued(at):
     libc.closedir(stream)
     for name in names:
         os.rmdir(group + "/" + name)
+    os.rmdir(group)
+
+
+def handled(at):
+    """A file handle is of the group as long as that exists. Only the superuser of the machine may open one."""
+    group = at + "/h"
+    os.mkdir(group)
+    above = os.open(at, os.O_RDONLY)
+    for path in (group, group + "/cgroup.procs"):
+        handle, mount_id = ctypes.create_string_buffer(136), ctypes.c_int()
+        ctypes.memmove(handle, ctypes.byref(ctypes.c_uint(128)), 4)
+        same("a handle", libc.name_to_handle_at(-100, path.encode(), handle, ctypes.byref(mount_id), 0), 0)
+        fd = libc.open_by_handle_at(above, handle, os.O_RDONLY)
+        if fd < 0 and ctypes.get_errno() == errno.EPERM:
+            continue
+        same("what it is of", os.fstat(fd).st_ino if fd >= 0 else errno.errorcode[ctypes.get_errno()], os.stat(path).st_ino)
+        os.close(fd)
+    os.close(above)
     os.rmdir(group)
 
 
@@ -215,7 +234,7 @@ def control():
     m.end()
 
 
-ON_BOTH = (listed, numbered, modes, owned, timed, removed, continued)
+ON_BOTH = (listed, numbered, modes, owned, timed, removed, continued, handled)
 if sys.argv[1:] == ["kernel"]:
     with new_group() as group:
         for test in ON_BOTH if group else ():

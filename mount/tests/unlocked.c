@@ -40,6 +40,7 @@ static void numbered(void) { remembered_numbered(1); }
 static void tidy(void) { remembered_tidy(&remembered); }
 static void node_find(void) { nodes_find(1, &node); }
 static void node_below(void) { nodes_find_below(&node, "x", &found); }
+static void node_above(void) { nodes_find_above(&node, &found); }
 static void node_known(void) { nodes_known(&node); }
 static void node_forget(void) { nodes_forget(1, 1); }
 static void begin(void) { owner_begin(&remembered, NULL); }
@@ -86,7 +87,7 @@ static int ends_by(void (*call)(void), bool locked)
 int main(void)
 {
 	void (*const calls[])(void) = { line, look_at, take_text, where, has_group, children, groups, depth, history, find, make,
-		lose, numbered, tidy, node_find, node_below, node_known, node_forget, begin, apply, set, touch, forget_owner, forget_attributes, seen, above, below, process, listed, visit_each, prepare,
+		lose, numbered, tidy, node_find, node_below, node_above, node_known, node_forget, begin, apply, set, touch, forget_owner, forget_attributes, seen, above, below, process, listed, visit_each, prepare,
 		zombies_room, forget_watch, new_open, has, read_open, is_gone, wake, lose_open, control };
 	static struct kept none = { .fd = -1 };
 	size_t wrong = 0, count = sizeof calls / sizeof *calls;
