@@ -1,7 +1,7 @@
 #include "attributes.h"
 #include "cleanup.h"
-#include "control.h"
 #include "engine.h"
+#include "nodes.h"
 #include "operations.h"
 #include <string.h>
 #include <sys/xattr.h>
@@ -17,13 +17,11 @@ struct attribute {
 	size_t size;
 };
 
-/* The group or file at a path. 0 or -errno. */
-static int find_place(const char *path, struct place *place)
+/* The group or file with this number. 0 or -errno. */
+static int find_node(uint64_t number, struct node *node)
 {
-	if (control_has(path))
-		return -EOPNOTSUPP;
-	int fault = place_of(path, place);
-	return fault ? fault : engine_has_group(place->group);
+	int fault = nodes_find(number, node);
+	return fault == 0 && !node->group ? -EOPNOTSUPP : fault;
 }
 
 /* The place of a file's name among these attributes, or the end. */
@@ -92,91 +90,96 @@ static bool is_users(const char *name)
 	return strncmp(name, "user.", 5) == 0;
 }
 
-int attributes_set(const char *path, const char *name, const char *value, size_t size, int flags)
+void attributes_set(fuse_req_t req, fuse_ino_t number, const char *name, const char *value, size_t size, int flags)
 {
-	struct place place;
-	if (!is_users(name))
-		return -EOPNOTSUPP;
+	struct node node;
 	engine_lock();
-	int fault = find_place(path, &place);
-	struct remembered *r = fault ? NULL : remembered_make(place.group);
-	if (!fault)
-		fault = r ? set_in(r, place.file, name, value, size, flags) : -ENOMEM;
-	remembered_tidy(r);
+	int fault = is_users(name) ? find_node(number, &node) : -EOPNOTSUPP;
+	if (fault == 0)
+		fault = set_in(node.group, node.file, name, value, size, flags);
 	engine_unlock();
-	return fault;
+	fuse_reply_err(req, -fault);
 }
 
-/* The length of the path, or -errno. */
-static int get_path(const char *path, char *out, size_t size)
+/* A request for 0 bytes asks for the size. */
+static void reply(fuse_req_t req, int fault, const char *value, size_t size, size_t room)
 {
-	struct place place;
-	size_t n = strlen(path);
-	engine_lock();
-	int fault = find_place(path, &place);
-	engine_unlock();
-	if (fault || place.file)
-		return fault ? fault : -EOPNOTSUPP;
-	if (size && size < n)
-		return -ERANGE;
-	memcpy(out, path, size ? n : 0);
-	return (int)n;
+	if (fault == 0 && room && room < size)
+		fault = -ERANGE;
+	if (fault)
+		fuse_reply_err(req, -fault);
+	else if (room)
+		fuse_reply_buf(req, value, size);
+	else
+		fuse_reply_xattr(req, size);
 }
 
-int attributes_get(const char *path, const char *name, char *out, size_t size)
+static int get(uint64_t number, const char *name, const char **value, size_t *size)
 {
-	struct place place;
-	if (look.marked && strcmp(name, attributes_path) == 0)
-		return get_path(path, out, size);
-	if (!is_users(name))
-		return -EOPNOTSUPP;
-	engine_lock();
-	int n = find_place(path, &place);
-	struct remembered *r = n ? NULL : remembered_find(place.group);
-	const struct attribute *a = r ? *find(&r->attributes, place.file, name) : NULL;
-	if (a && size >= a->size)
-		memcpy(out, a->value, a->size);
-	if (n == 0)
-		n = !a ? -ENODATA : size && size < a->size ? -ERANGE : (int)a->size;
-	engine_unlock();
-	return n;
+	struct node node;
+	bool is_path = look.marked && strcmp(name, attributes_path) == 0;
+	int fault = is_path || is_users(name) ? find_node(number, &node) : -EOPNOTSUPP;
+	if (fault)
+		return fault;
+	if (is_path) {
+		*value = node.group->path;
+		*size = strlen(*value);
+		return node.group->gone ? -ENOENT : node.file ? -EOPNOTSUPP : 0;
+	}
+	const struct attribute *a = *find(&node.group->attributes, node.file, name);
+	if (!a)
+		return -ENODATA;
+	*value = a->value;
+	*size = a->size;
+	return 0;
 }
 
-int attributes_list(const char *path, char *out, size_t size)
+void attributes_get(fuse_req_t req, fuse_ino_t number, const char *name, size_t room)
 {
-	struct place place;
-	size_t all = 0;
+	const char *value = NULL;
+	size_t size = 0;
 	engine_lock();
-	int n = find_place(path, &place);
-	struct remembered *r = n ? NULL : remembered_find(place.group);
-	for (const struct attribute *a = r ? r->attributes : NULL; a; a = a->next) {
+	int fault = get(number, name, &value, &size);
+	cleanup_free char *copy = fault == 0 && room >= size ? malloc(size + 1) : NULL;
+	if (copy)
+		memcpy(copy, value, size);
+	else if (fault == 0 && room >= size)
+		fault = -ENOMEM;
+	engine_unlock();
+	reply(req, fault, copy, size, room);
+}
+
+void attributes_list(fuse_req_t req, fuse_ino_t number, size_t room)
+{
+	struct node node;
+	size_t size = 0;
+	cleanup_free char *names = malloc(room + 1);
+	engine_lock();
+	int fault = names ? find_node(number, &node) : -ENOMEM;
+	for (const struct attribute *a = fault ? NULL : node.group->attributes; a; a = a->next) {
 		size_t name = strlen(a->name) + 1;
-		if (a->file != place.file)
+		if (a->file != node.file)
 			continue;
-		if (all + name <= size)
-			memcpy(out + all, a->name, name);
-		all += name;
+		if (size + name <= room)
+			memcpy(names + size, a->name, name);
+		size += name;
 	}
 	engine_unlock();
-	return n ? n : size && size < all ? -ERANGE : (int)all;
+	reply(req, fault, names, size, room);
 }
 
-int attributes_remove(const char *path, const char *name)
+void attributes_remove(fuse_req_t req, fuse_ino_t number, const char *name)
 {
-	struct place place;
-	if (!is_users(name))
-		return -EOPNOTSUPP;
+	struct node node;
 	engine_lock();
-	int fault = find_place(path, &place);
-	struct remembered *r = fault ? NULL : remembered_find(place.group);
-	struct attribute **at = r ? find(&r->attributes, place.file, name) : NULL;
-	if (fault == 0 && (!at || !*at))
+	int fault = is_users(name) ? find_node(number, &node) : -EOPNOTSUPP;
+	struct attribute **at = fault ? NULL : find(&node.group->attributes, node.file, name);
+	if (fault == 0 && !*at)
 		fault = -ENODATA;
 	if (fault == 0)
 		drop(at);
-	remembered_tidy(r);
 	engine_unlock();
-	return fault;
+	fuse_reply_err(req, -fault);
 }
 
 void attributes_forget(struct remembered *r)

@@ -3,16 +3,17 @@
 #define ATTRIBUTES_H
 
 #include "remembered.h"
+#include <fuse3/fuse_lowlevel.h>
 
 /* Under `run` each group has this attribute, which no list shows: the path of the group. A request by a descriptor looks up no
    name. */
 extern const char attributes_path[];
 
 /* For libfuse. */
-int attributes_set(const char *path, const char *name, const char *value, size_t size, int flags);
-int attributes_get(const char *path, const char *name, char *out, size_t size);
-int attributes_list(const char *path, char *out, size_t size);
-int attributes_remove(const char *path, const char *name);
+void attributes_set(fuse_req_t req, fuse_ino_t number, const char *name, const char *value, size_t size, int flags);
+void attributes_get(fuse_req_t req, fuse_ino_t number, const char *name, size_t room);
+void attributes_list(fuse_req_t req, fuse_ino_t number, size_t room);
+void attributes_remove(fuse_req_t req, fuse_ino_t number, const char *name);
 
 /* Wants the engine's lock. */
 void attributes_forget(struct remembered *r);

@@ -1,5 +1,6 @@
 #include "companion.h"
 #include "cleanup.h"
+#include "operations.h"
 #include "own.h"
 #include "place.h"
 #include "space.h"
@@ -33,10 +34,11 @@ static int look_up(const struct mounted *m)
 }
 
 /* What the program mounts or makes there is never reached: the walk starts at the root of the mount and leaves it nowhere.
-   The descriptor that was checked is the file that is truncated. A truncation is one call and changes nothing, and inotify
-   reports it only as a modification. False: try again. */
+   The descriptor that was checked is the file whose time is set. The server leaves out this time, and inotify reports the call
+   only as a modification, since it sets no other time. False: try again. */
 static bool touch_once(int root, const struct mount_id *system, const char *path)
 {
+	static const struct timespec times[2] = { { .tv_nsec = UTIME_OMIT }, { .tv_sec = -MARK } };
 	char link[32];
 	struct mount_id found;
 	cleanup_fd int file = beneath_open(root, path, O_PATH | O_NOFOLLOW);
@@ -45,7 +47,7 @@ static bool touch_once(int root, const struct mount_id *system, const char *path
 	if (!beneath_identify(file, &found) || !beneath_is_same_system(&found, system))
 		return true;
 	snprintf(link, sizeof link, "self/fd/%d", file);
-	return truncate(link, 0) == 0 || errno != ENOMEM;
+	return utimensat(AT_FDCWD, link, times, 0) == 0 || errno != ENOMEM;
 }
 
 static void touch(const struct mounted *m, const char *path)

@@ -1,7 +1,9 @@
+#include "cleanup.h"
 #include "control.h"
 #include "controllers.h"
 #include "engine.h"
 #include "freezer.h"
+#include "nodes.h"
 #include "number.h"
 #include "opened.h"
 #include "operations.h"
@@ -14,56 +16,71 @@
 #include <stdlib.h>
 #include <string.h>
 
-static struct opened *opened_of(const struct fuse_file_info *fi)
+static bool may_read(mode_t mode)
 {
-	return (struct opened *)(uintptr_t)fi->fh;
+	return mode & 0444;
+}
+
+static bool may_write(mode_t mode)
+{
+	return mode & 0222;
 }
 
 /* As in the kernel, the superuser can open a file against its mode, and then gets an error from the read or write. */
-static int may_open(mode_t mode, int flags)
+static int may_open(mode_t mode, int flags, uid_t uid)
 {
 	int way = flags & O_ACCMODE;
-	bool reads = way != O_WRONLY, writes = way != O_RDONLY;
-	if (fuse_get_context()->uid != 0 && ((reads && !(mode & 0444)) || (writes && !(mode & 0222))))
+	bool reads = way != O_WRONLY, writes = way != O_RDONLY || flags & O_TRUNC;
+	if (uid != 0 && ((reads && !may_read(mode)) || (writes && !may_write(mode))))
+		return -EACCES;
+	return flags & O_DIRECT ? -EINVAL : 0;
+}
+
+/* What an open would answer. Nobody can execute a file here. */
+static int may_access(mode_t mode, int mask, uid_t uid)
+{
+	if (S_ISDIR(mode))
+		return 0;
+	if (mask & X_OK || (uid != 0 && ((mask & R_OK && !may_read(mode)) || (mask & W_OK && !may_write(mode)))))
 		return -EACCES;
 	return 0;
 }
 
-static int open_control(const char *path, struct fuse_file_info *fi)
+void content_access(fuse_req_t req, fuse_ino_t number, int mask)
 {
-	long file = control_find(path);
-	int fault = file < 0 ? -ENOENT : may_open(control_mode(file), fi->flags);
-	if (fault)
-		return fault;
-	fi->fh = (uintptr_t)opened_new("/", NULL, file);
-	return fi->fh ? 0 : -ENOMEM;
+	struct node node;
+	engine_lock();
+	int fault = nodes_find(number, &node);
+	if (fault == 0)
+		fault = may_access(nodes_mode(&node), mask, fuse_req_ctx(req)->uid);
+	engine_unlock();
+	fuse_reply_err(req, -fault);
 }
 
-static int open_file(const char *path, struct fuse_file_info *fi)
+/* A file of a removed group can be found by a descriptor of it. */
+static int open_node(const struct node *node, int flags, uid_t uid, struct opened **out)
 {
-	struct place place;
-	int fault = place_of(path, &place);
+	struct remembered *of = node->group ? node->group : remembered_find("/");
+	int fault = may_open(nodes_mode(node), flags, uid);
 	if (fault)
 		return fault;
-	if (!place.file)
-		return -ENOENT;
-	if ((fault = engine_has_group(place.group)))
-		return fault;
-	if (!controllers_have(place.group, place.file))
-		return -ENOENT;
-	if ((fault = may_open(file_mode(place.file), fi->flags)))
-		return fault;
-	fi->fh = (uintptr_t)opened_new(place.group, place.file, 0);
-	return fi->fh ? 0 : -ENOMEM;
+	if (node->group && (node->group->gone || !controllers_have(node->group->path, node->file)))
+		return -ENODEV;
+	*out = opened_new(of, node->file, node->control);
+	return *out ? 0 : -ENOMEM;
 }
 
-int content_open(const char *path, struct fuse_file_info *fi)
+void content_open(fuse_req_t req, fuse_ino_t number, struct fuse_file_info *fi)
 {
+	struct node node;
+	struct opened *o = NULL;
 	fi->direct_io = 1;
 	engine_lock();
-	int fault = control_has(path) ? open_control(path, fi) : open_file(path, fi);
+	int fault = nodes_find(number, &node);
+	if (fault == 0)
+		fault = open_node(&node, fi->flags, fuse_req_ctx(req)->uid, &o);
 	engine_unlock();
-	return fault;
+	opened_reply(req, fault, o, fi);
 }
 
 static int keep(void *opened, const char *text, size_t size)
@@ -79,23 +96,32 @@ static int begin_read(struct opened *o)
 		return control_read(o->control, keep, o);
 	if (!o->file->readable)
 		return -EINVAL;
-	if (opened_is_gone(o) || !controllers_have(o->group, o->file))
+	if (opened_is_gone(o) || !controllers_have(o->of->path, o->file))
 		return -ENODEV;
 	int fault = real_sweep();
 	if (fault == 0)
-		fault = texts_read(o->group, o->file, true, &text, &size);
+		fault = texts_read(o->of->path, o->file, true, &text, &size);
 	return fault ? fault : opened_keep(o, text, size);
 }
 
-int content_read(const char *path, char *out, size_t size, off_t at, struct fuse_file_info *fi)
+void content_read(fuse_req_t req, fuse_ino_t number, size_t size, off_t at, struct fuse_file_info *fi)
 {
 	struct opened *o = opened_of(fi);
-	(void)path;
+	char few[TEXT_ROOM], *bytes = few;
+	cleanup_free char *many = NULL;
+	(void)number;
 	engine_lock();
 	int fault = opened_goes_on(o, at) ? 0 : begin_read(o);
-	int n = fault ? fault : opened_read(o, out, size, at);
+	size = opened_has(o, size, at);
+	if (fault == 0 && size > sizeof few && !(bytes = many = malloc(size)))
+		fault = -ENOMEM;
+	if (fault == 0)
+		opened_read(o, bytes, size, at);
 	engine_unlock();
-	return n;
+	if (fault)
+		fuse_reply_err(req, -fault);
+	else
+		fuse_reply_buf(req, bytes, size);
 }
 
 static int move_to(const struct opened *o, const char *said)
@@ -104,13 +130,13 @@ static int move_to(const struct opened *o, const char *said)
 	long pid = strtol(said, NULL, 10);
 	int fault = engine_where(pid, from, sizeof from);
 	bool was_there = fault == 0;
-	if (fault == -ENOMEM || (was_there && (fault = controllers_may_enter(o->group))))
+	if (fault == -ENOMEM || (was_there && (fault = controllers_may_enter(o->of->path))))
 		return fault;
-	fault = engine_line("write %s %s %s", o->group, o->file->name, said);
+	fault = engine_line("write %s %s %s", o->of->path, o->file->name, said);
 	if (fault == 0 && was_there) {
-		freezer_moved((pid_t)pid, o->group);
+		freezer_moved((pid_t)pid, o->of->path);
 		watch_above(from);
-		watch_above(o->group);
+		watch_above(o->of->path);
 	}
 	return fault;
 }
@@ -137,12 +163,12 @@ static int kill_group(const struct opened *o, const char *said)
 {
 	int fault = real_sweep();
 	if (fault == 0)
-		fault = real_note(o->group);
+		fault = real_note(o->of->path);
 	if (fault == 0)
-		fault = engine_line("write %s %s %s", o->group, o->file->name, said);
+		fault = engine_line("write %s %s %s", o->of->path, o->file->name, said);
 	if (fault == 0) {
 		real_kill_noted();
-		watch_below(o->group);
+		watch_below(o->of->path);
 	}
 	return fault;
 }
@@ -154,10 +180,10 @@ static int write_file(struct opened *o, const char *data, size_t size, pid_t wri
 		return control_write(o->control, data, size);
 	if (o->file->value == NOTHING)
 		return -EINVAL;
-	if (opened_is_gone(o) || !controllers_have(o->group, o->file))
+	if (opened_is_gone(o) || !controllers_have(o->of->path, o->file))
 		return -ENODEV;
 	if (o->file->value == WRITES)
-		return o->file->write(o->group, o->file, data, size);
+		return o->file->write(o->of->path, o->file, data, size);
 	int fault = value_said(o->file->value, data, size, said);
 	if (fault)
 		return fault;
@@ -165,40 +191,46 @@ static int write_file(struct opened *o, const char *data, size_t size, pid_t wri
 		return move(o, said, writer);
 	if (o->file->value == A_ONE)
 		return kill_group(o, said);
-	return engine_line("write %s %s %s", o->group, o->file->name, said);
+	return engine_line("write %s %s %s", o->of->path, o->file->name, said);
 }
 
-int content_write(const char *path, const char *data, size_t size, off_t at, struct fuse_file_info *fi)
+void content_write(fuse_req_t req, fuse_ino_t number, const char *data, size_t size, off_t at, struct fuse_file_info *fi)
 {
-	(void)path, (void)at;
 	struct opened *o = opened_of(fi);
 	char said[SAID_MAX];
-	pid_t writer = fuse_get_context()->pid;
+	pid_t writer = fuse_req_ctx(req)->pid;
+	(void)number, (void)at;
 	/* the writer may be a thread of its process; that is asked for without the lock, since the kernel may have to wait */
 	if (o->file && o->file->value == A_PID && value_said(A_PID, data, size, said) == 0 && strcmp(said, "0") == 0)
 		writer = real_process_of(writer);
 	engine_lock();
 	int fault = write_file(o, data, size, writer);
 	engine_unlock();
-	return fault ? fault : (int)size;
+	if (fault)
+		fuse_reply_err(req, -fault);
+	else
+		fuse_reply_write(req, size);
 }
 
-int content_poll(const char *path, struct fuse_file_info *fi, struct fuse_pollhandle *waiter, unsigned *told)
+void content_poll(fuse_req_t req, fuse_ino_t number, struct fuse_file_info *fi, struct fuse_pollhandle *waiter)
 {
 	struct opened *o = opened_of(fi);
-	(void)path;
+	(void)number;
 	engine_lock();
-	int fault = o->file && o->file->notified && !opened_is_gone(o) ? watch_seen(o->group, o->file) : 0;
-	*told = opened_poll(o, waiter);
+	int fault = o->file && o->file->notified && !opened_is_gone(o) ? watch_seen(o->of->path, o->file) : 0;
+	unsigned told = opened_poll(o, waiter);
 	engine_unlock();
-	return fault;
+	if (fault)
+		fuse_reply_err(req, -fault);
+	else
+		fuse_reply_poll(req, told);
 }
 
-int content_release(const char *path, struct fuse_file_info *fi)
+void content_release(fuse_req_t req, fuse_ino_t number, struct fuse_file_info *fi)
 {
-	(void)path;
+	(void)number;
 	engine_lock();
 	opened_free(opened_of(fi));
 	engine_unlock();
-	return 0;
+	fuse_reply_err(req, 0);
 }

@@ -240,7 +240,6 @@ static int forget_in(const char *child, unsigned which)
 		values_forget(r, which);
 		opened_lose_files(r, which);
 	}
-	remembered_tidy(r);
 	return 0;
 }
 
@@ -308,7 +307,6 @@ static int set_subtree(const char *group, unsigned which, unsigned lost)
 		each_of(group, children, count, forget_in, lost);
 		r->subtree = which;
 	}
-	remembered_tidy(r);
 	return fault;
 }
 

@@ -45,6 +45,19 @@ static const struct file *entry(size_t i)
 	return i < FILES ? &files[i] : i - FILES < values_count ? &values_files[i - FILES] : NULL;
 }
 
+size_t file_place(const struct file *file)
+{
+	size_t i = 0;
+	for (const struct file *f; (f = entry(i)) && f != file;)
+		i++;
+	return i;
+}
+
+const struct file *file_in_place(size_t i)
+{
+	return entry(i);
+}
+
 const struct file *file_at(size_t i)
 {
 	const struct file *f;

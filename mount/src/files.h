@@ -32,5 +32,8 @@ void files_use_extra(void);
 const struct file *file_at(size_t i);
 const struct file *file_named(const char *name, bool on_root);
 mode_t file_mode(const struct file *file);
+/* A number for each file, the same whichever files exist; and the file with that number, or NULL. */
+size_t file_place(const struct file *file);
+const struct file *file_in_place(size_t i);
 
 #endif

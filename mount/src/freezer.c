@@ -221,7 +221,6 @@ int freezer_write(const char *group, const struct file *file, const char *data, 
 	set(r, freezes);
 	if (differs && (fault = order_all(group)))
 		set(r, !freezes);
-	remembered_tidy(r);
 	if (differs && fault == 0)
 		watch_below(group);
 	return fault;

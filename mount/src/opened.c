@@ -1,29 +1,44 @@
 #include "opened.h"
-#include "cleanup.h"
 #include "engine.h"
 #include <errno.h>
 #include <poll.h>
 #include <stdlib.h>
 #include <string.h>
 
-struct opened *opened_new(const char *group, const struct file *file, long control)
+struct opened *opened_new(struct remembered *group, const struct file *file, long control)
 {
 	WANTS_LOCK();
-	cleanup_free struct opened *o = calloc(1, sizeof *o);
-	cleanup_free char *own_group = strdup(group);
-	struct remembered *r = o && own_group ? remembered_make(group) : NULL;
-	if (!r)
+	struct opened *o = calloc(1, sizeof *o);
+	if (!o)
 		return NULL;
 	o->file = file;
 	o->control = control;
 	o->changed = true;
-	o->group = steal_pointer(&own_group);
-	o->of = r;
-	o->next = r->opened;
+	o->of = group;
+	if (!group)
+		return o;
+	o->next = group->opened;
 	if (o->next)
 		o->next->before = o;
-	r->opened = o;
-	return steal_pointer(&o);
+	group->opened = o;
+	return o;
+}
+
+struct opened *opened_of(const struct fuse_file_info *fi)
+{
+	return (struct opened *)(uintptr_t)fi->fh;
+}
+
+void opened_reply(fuse_req_t req, int fault, struct opened *o, struct fuse_file_info *fi)
+{
+	fi->fh = (uintptr_t)o;
+	if (fault) {
+		fuse_reply_err(req, -fault);
+	} else if (fuse_reply_open(req, fi) == -ENOENT) {
+		engine_lock();
+		opened_free(o);
+		engine_unlock();
+	}
 }
 
 bool opened_is_gone(const struct opened *o)
@@ -37,7 +52,7 @@ static void wake(struct opened *o)
 	o->changed = true;
 	if (!o->waiting)
 		return;
-	fuse_notify_poll(o->waiting);
+	fuse_lowlevel_notify_poll(o->waiting);
 	fuse_pollhandle_destroy(o->waiting);
 	o->waiting = NULL;
 }
@@ -60,12 +75,9 @@ static void leave(struct opened *o)
 void opened_free(struct opened *o)
 {
 	WANTS_LOCK();
-	struct remembered *r = o->of;
 	if (o->waiting)
 		fuse_pollhandle_destroy(o->waiting);
 	leave(o);
-	remembered_tidy(r);
-	free(o->group);
 	free(o->text);
 	free(o);
 }
@@ -91,17 +103,20 @@ bool opened_goes_on(const struct opened *o, off_t at)
 	return at != 0 && o->text && at == o->read_to;
 }
 
-int opened_read(struct opened *o, char *out, size_t size, off_t at)
+size_t opened_has(const struct opened *o, size_t size, off_t at)
 {
 	WANTS_LOCK();
 	if (at < 0 || (size_t)at >= o->size)
-		size = 0;
-	else if (size > o->size - (size_t)at)
-		size = o->size - (size_t)at;
+		return 0;
+	return size < o->size - (size_t)at ? size : o->size - (size_t)at;
+}
+
+void opened_read(struct opened *o, char *out, size_t size, off_t at)
+{
+	WANTS_LOCK();
 	if (size)
 		memcpy(out, o->text + at, size);
 	o->read_to = at + (off_t)size;
-	return (int)size;
 }
 
 unsigned opened_poll(struct opened *o, struct fuse_pollhandle *waiter)

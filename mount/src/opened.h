@@ -3,16 +3,15 @@
 #define OPENED_H
 
 #include "remembered.h"
-#include <fuse3/fuse.h>
+#include <fuse3/fuse_lowlevel.h>
 
 enum { A_DIRECTORY = -1 }; /* as `control` */
 
 struct opened {
 	struct opened *next, *before; /* in the list of its group */
-	struct remembered *of;     /* NULL once the group was removed, or has lost the file's controller */
+	struct remembered *of;     /* NULL once the group was removed, or has lost the file's controller; and of the control directory */
 	const struct file *file;   /* NULL: a directory, or a file of the control directory */
 	long control;
-	char *group;
 	char *text;                /* of the last read that did not continue an earlier one */
 	size_t size;
 	off_t read_to;             /* where the last read ended */
@@ -20,13 +19,19 @@ struct opened {
 	struct fuse_pollhandle *waiting;
 };
 
-/* All calls require the engine's lock. */
-struct opened *opened_new(const char *group, const struct file *file, long control);
+struct opened *opened_of(const struct fuse_file_info *fi);
+/* Answers an open: with an errno, or with what was opened. Wants no lock. */
+void opened_reply(fuse_req_t req, int fault, struct opened *o, struct fuse_file_info *fi);
+
+/* All calls below require the engine's lock. The group may be NULL. */
+struct opened *opened_new(struct remembered *group, const struct file *file, long control);
 void opened_free(struct opened *o);
 /* Keeps a text for the reads that continue it. */
 int opened_keep(struct opened *o, const char *text, size_t size);
 bool opened_goes_on(const struct opened *o, off_t at);
-int opened_read(struct opened *o, char *out, size_t size, off_t at);
+/* How many of `size` bytes the kept text has at a place; and a read of that many. */
+size_t opened_has(const struct opened *o, size_t size, off_t at);
+void opened_read(struct opened *o, char *out, size_t size, off_t at);
 /* A poll: returns what it reports, and notes whom to wake at the next change. */
 unsigned opened_poll(struct opened *o, struct fuse_pollhandle *waiter);
 bool opened_is_gone(const struct opened *o);

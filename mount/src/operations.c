@@ -6,89 +6,87 @@
 #include <stdint.h>
 #include <sys/statvfs.h>
 
-static void *start(struct fuse_conn_info *connection, struct fuse_config *config)
+static void start(void *unused, struct fuse_conn_info *connection)
 {
-	(void)connection;
-	config->entry_timeout = config->attr_timeout = config->negative_timeout = 0;
-	config->direct_io = 1;
-	config->nullpath_ok = 1;
-	config->hard_remove = 1;
+	(void)unused;
+	connection->want |= connection->capable & FUSE_CAP_EXPORT_SUPPORT; /* look-ups of . and .. (nodes.h) */
 	watch_run();
-	return NULL;
 }
 
-/* An open with truncation and a truncation succeed and do nothing. */
-static int truncate_nothing(const char *path, off_t size, struct fuse_file_info *fi)
+static void statfs_group(fuse_req_t req, fuse_ino_t number)
 {
-	(void)path, (void)size, (void)fi;
-	return 0;
+	struct statvfs st = { .f_bsize = 4096, .f_frsize = 4096, .f_namemax = 255, .f_ffree = look.marked ? MARK : 0 };
+	(void)number;
+	fuse_reply_statfs(req, &st);
 }
 
-static int statfs_group(const char *path, struct statvfs *st)
+static void no_create(fuse_req_t req, fuse_ino_t parent, const char *name, mode_t mode, struct fuse_file_info *fi)
 {
-	(void)path;
-	*st = (struct statvfs){ .f_bsize = 4096, .f_frsize = 4096, .f_namemax = 255, .f_ffree = look.marked ? MARK : 0 };
-	return 0;
+	(void)parent, (void)name, (void)mode, (void)fi;
+	fuse_reply_err(req, EACCES);
 }
 
-static int set_times(const char *path, const struct timespec times[2], struct fuse_file_info *fi)
+/* To make a regular file by mknod is to create it. */
+static void no_mknod(fuse_req_t req, fuse_ino_t parent, const char *name, mode_t mode, dev_t device)
 {
-	(void)path, (void)times, (void)fi;
-	return 0;
+	(void)parent, (void)name, (void)device;
+	fuse_reply_err(req, S_ISREG(mode) ? EACCES : EPERM);
 }
 
-static int no_create(const char *path, mode_t mode, struct fuse_file_info *fi)
+static void no_unlink(fuse_req_t req, fuse_ino_t parent, const char *name)
 {
-	(void)path, (void)mode, (void)fi;
-	return -EACCES;
+	(void)parent, (void)name;
+	fuse_reply_err(req, EPERM);
 }
 
-static int no_mknod(const char *path, mode_t mode, dev_t device)
+static void no_symlink(fuse_req_t req, const char *text, fuse_ino_t parent, const char *name)
 {
-	(void)path, (void)mode, (void)device;
-	return -EACCES;
+	(void)text, (void)parent, (void)name;
+	fuse_reply_err(req, EPERM);
 }
 
-static int no_unlink(const char *path)
+static void no_link(fuse_req_t req, fuse_ino_t number, fuse_ino_t parent, const char *name)
 {
-	(void)path;
-	return -EPERM;
+	(void)number, (void)parent, (void)name;
+	fuse_reply_err(req, EPERM);
 }
 
-static int no_link(const char *from, const char *to)
+static void no_rename(fuse_req_t req, fuse_ino_t parent, const char *name, fuse_ino_t to, const char *to_name, unsigned flags)
 {
-	(void)from, (void)to;
-	return -EPERM;
+	(void)parent, (void)name, (void)to, (void)to_name;
+	fuse_reply_err(req, flags ? EINVAL : EPERM);
 }
 
-static int no_rename(const char *from, const char *to, unsigned flags)
+static void no_fsync(fuse_req_t req, fuse_ino_t number, int only_data, struct fuse_file_info *fi)
 {
-	(void)from, (void)to, (void)flags;
-	return -EPERM;
+	(void)number, (void)only_data, (void)fi;
+	fuse_reply_err(req, EINVAL);
 }
 
-const struct fuse_operations operations = {
+const struct fuse_lowlevel_ops operations = {
 	.init = start,
+	.lookup = tree_lookup,
+	.forget = tree_forget,
+	.forget_multi = tree_forget_several,
 	.getattr = tree_getattr,
-	.opendir = tree_opendir,
-	.readdir = tree_readdir,
-	.releasedir = content_release,
+	.setattr = tree_setattr,
 	.mkdir = tree_mkdir,
 	.rmdir = tree_rmdir,
-	.chmod = tree_chmod,
-	.chown = tree_chown,
+	.opendir = listing_open,
+	.readdir = listing_read,
+	.releasedir = listing_release,
+	.fsyncdir = no_fsync,
+	.access = content_access,
 	.open = content_open,
 	.read = content_read,
 	.write = content_write,
 	.poll = content_poll,
 	.release = content_release,
-	.truncate = truncate_nothing,
-	.utimens = set_times,
 	.statfs = statfs_group,
 	.create = no_create,
 	.mknod = no_mknod,
 	.unlink = no_unlink,
-	.symlink = no_link,
+	.symlink = no_symlink,
 	.link = no_link,
 	.rename = no_rename,
 	.setxattr = attributes_set,

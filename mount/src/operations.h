@@ -1,11 +1,11 @@
-/* The operations of the file system, for libfuse. */
+/* The operations of the file system, for libfuse: each answers one request. */
 #ifndef OPERATIONS_H
 #define OPERATIONS_H
 
-#include "remembered.h"
-#include <fuse3/fuse.h>
+#include <fuse3/fuse_lowlevel.h>
 #include <stdbool.h>
 #include <sys/stat.h>
+#include <time.h>
 
 /* The options of the mount. */
 struct look {
@@ -16,31 +16,32 @@ struct look {
 	struct timespec born; /* at each notification */
 };
 extern struct look look;
-extern const struct fuse_operations operations;
+extern const struct fuse_lowlevel_ops operations;
 
-/* The mark: a number of free files that no file system has. */
+/* The mark: a number of free files that no file system has; and a time of modification, before 1970, whose setting the server
+   leaves out. The companion sets it so that inotify reports a change (companion.c). */
 enum { MARK = 0x6d6b6872 };
 
-/* Groups (tree.c) */
-int tree_getattr(const char *path, struct stat *st, struct fuse_file_info *fi);
-int tree_opendir(const char *path, struct fuse_file_info *fi);
-int tree_readdir(const char *path, void *out, fuse_fill_dir_t fill, off_t at, struct fuse_file_info *fi,
-                 enum fuse_readdir_flags flags);
-int tree_mkdir(const char *path, mode_t mode);
-int tree_rmdir(const char *path);
-int tree_chmod(const char *path, mode_t mode, struct fuse_file_info *fi);
-int tree_chown(const char *path, uid_t uid, gid_t gid, struct fuse_file_info *fi);
+/* Groups and files (tree.c) */
+void tree_lookup(fuse_req_t req, fuse_ino_t parent, const char *name);
+void tree_forget(fuse_req_t req, fuse_ino_t number, uint64_t count);
+void tree_forget_several(fuse_req_t req, size_t count, struct fuse_forget_data *forgets);
+void tree_getattr(fuse_req_t req, fuse_ino_t number, struct fuse_file_info *fi);
+void tree_setattr(fuse_req_t req, fuse_ino_t number, struct stat *st, int fields, struct fuse_file_info *fi);
+void tree_mkdir(fuse_req_t req, fuse_ino_t parent, const char *name, mode_t mode);
+void tree_rmdir(fuse_req_t req, fuse_ino_t parent, const char *name);
+
+/* Listings (listing.c) */
+void listing_open(fuse_req_t req, fuse_ino_t number, struct fuse_file_info *fi);
+void listing_read(fuse_req_t req, fuse_ino_t number, size_t size, off_t at, struct fuse_file_info *fi);
+void listing_release(fuse_req_t req, fuse_ino_t number, struct fuse_file_info *fi);
 
 /* Files (content.c) */
-int content_open(const char *path, struct fuse_file_info *fi);
-int content_read(const char *path, char *out, size_t size, off_t at, struct fuse_file_info *fi);
-int content_write(const char *path, const char *data, size_t size, off_t at, struct fuse_file_info *fi);
-int content_poll(const char *path, struct fuse_file_info *fi, struct fuse_pollhandle *waiter, unsigned *told);
-int content_release(const char *path, struct fuse_file_info *fi);
-
-/* Owners and modes that were given to a group or file (owner.c); all require the engine's lock. */
-void owner_apply(const struct place *place, struct stat *st);
-int owner_set(const struct place *place, const struct stat *st);
-void owner_forget(struct remembered *r);
+void content_access(fuse_req_t req, fuse_ino_t number, int mask);
+void content_open(fuse_req_t req, fuse_ino_t number, struct fuse_file_info *fi);
+void content_read(fuse_req_t req, fuse_ino_t number, size_t size, off_t at, struct fuse_file_info *fi);
+void content_write(fuse_req_t req, fuse_ino_t number, const char *data, size_t size, off_t at, struct fuse_file_info *fi);
+void content_poll(fuse_req_t req, fuse_ino_t number, struct fuse_file_info *fi, struct fuse_pollhandle *waiter);
+void content_release(fuse_req_t req, fuse_ino_t number, struct fuse_file_info *fi);
 
 #endif

@@ -1,57 +1,108 @@
-/* Owners and modes are stored and shown, and decide nothing: the mount belongs to one user. */
+#include "owner.h"
 #include "engine.h"
 #include "operations.h"
-#include "remembered.h"
 #include <errno.h>
 #include <stdlib.h>
 
+/* What was set for a file. */
 struct owned {
 	struct owned *next;
-	const struct file *file; /* NULL: of the group itself */
-	uid_t uid;
-	gid_t gid;
-	mode_t mode;
+	const struct file *file;
+	struct shown shown;
 };
 
 static struct owned *find(const struct remembered *r, const struct file *file)
 {
-	struct owned *o = r ? r->owned : NULL;
+	struct owned *o = r->owned;
 	while (o && o->file != file)
 		o = o->next;
 	return o;
 }
 
-void owner_apply(const struct place *place, struct stat *st)
+static struct timespec now(void)
 {
-	WANTS_LOCK();
-	const struct owned *o = find(remembered_find(place->group), place->file);
-	if (!o)
-		return;
-	st->st_uid = o->uid;
-	st->st_gid = o->gid;
-	st->st_mode = (st->st_mode & S_IFMT) | o->mode;
+	struct timespec t;
+	clock_gettime(CLOCK_REALTIME, &t);
+	return t;
 }
 
-int owner_set(const struct place *place, const struct stat *st)
+void owner_begin(struct remembered *r, const struct shown *maker)
 {
 	WANTS_LOCK();
-	struct remembered *r = remembered_make(place->group);
-	struct owned *o = find(r, place->file);
-	if (!o) {
-		o = calloc(1, sizeof *o);
-		if (!r || !o) {
-			free(o);
-			remembered_tidy(r);
-			return -ENOMEM;
-		}
-		o->file = place->file;
-		o->next = r->owned;
-		r->owned = o;
-	}
-	o->uid = st->st_uid;
-	o->gid = st->st_gid;
-	o->mode = st->st_mode & 07777;
+	r->itself = maker ? *maker : (struct shown){ .mode = 0755, .uid = look.uid, .gid = look.gid };
+	r->itself.accessed = r->itself.modified = r->itself.changed = now();
+	r->at_first = r->itself;
+}
+
+static struct shown of_file(const struct remembered *r, const struct file *file)
+{
+	const struct owned *o = find(r, file);
+	struct shown shown = o ? o->shown : r->at_first;
+	if (!o)
+		shown.mode = file_mode(file);
+	return shown;
+}
+
+static struct shown of_control(const struct node *node)
+{
+	return (struct shown){ nodes_mode(node) & 07777, look.uid, look.gid, look.born, look.born, look.born };
+}
+
+void owner_apply(const struct node *node, struct stat *st)
+{
+	WANTS_LOCK();
+	const struct shown s = !node->group ? of_control(node) : node->file ? of_file(node->group, node->file) : node->group->itself;
+	st->st_mode = (nodes_mode(node) & S_IFMT) | s.mode;
+	st->st_uid = s.uid;
+	st->st_gid = s.gid;
+	st->st_atim = s.accessed;
+	st->st_mtim = s.modified;
+	st->st_ctim = s.changed;
+}
+
+/* Where it is stored; NULL: out of memory. */
+static struct shown *stored(const struct node *node)
+{
+	struct remembered *r = node->group;
+	struct owned *o = node->file ? find(r, node->file) : NULL;
+	if (!node->file)
+		return &r->itself;
+	if (o)
+		return &o->shown;
+	o = calloc(1, sizeof *o);
+	if (!o)
+		return NULL;
+	o->file = node->file;
+	o->shown = of_file(r, node->file);
+	o->next = r->owned;
+	r->owned = o;
+	return &o->shown;
+}
+
+int owner_set(const struct node *node, const struct stat *st, int fields)
+{
+	WANTS_LOCK();
+	struct shown *s = stored(node);
+	if (!s)
+		return -ENOMEM;
+	s->changed = now();
+	if (fields & FUSE_SET_ATTR_MODE)
+		s->mode = st->st_mode & 07777;
+	if (fields & FUSE_SET_ATTR_UID)
+		s->uid = st->st_uid;
+	if (fields & FUSE_SET_ATTR_GID)
+		s->gid = st->st_gid;
+	if (fields & FUSE_SET_ATTR_ATIME)
+		s->accessed = fields & FUSE_SET_ATTR_ATIME_NOW ? s->changed : st->st_atim;
+	if (fields & FUSE_SET_ATTR_MTIME)
+		s->modified = fields & FUSE_SET_ATTR_MTIME_NOW ? s->changed : st->st_mtim;
 	return 0;
+}
+
+void owner_touch(struct remembered *r)
+{
+	WANTS_LOCK();
+	r->itself.modified = r->itself.changed = now();
 }
 
 void owner_forget(struct remembered *r)

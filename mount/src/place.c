@@ -44,19 +44,6 @@ void seen_from(const char *root, const char *group, char out[PATH_MAX_SAID])
 	snprintf(out + n, PATH_MAX_SAID - n, "%s", n == 0 && !group[common] ? "/" : group + common);
 }
 
-int place_of(const char *path, struct place *place)
-{
-	size_t n = strlen(path);
-	if (n >= sizeof place->group)
-		return -ENAMETOOLONG;
-	memcpy(place->group, path, n + 1);
-	const char *name = strrchr(path, '/') + 1;
-	place->file = *name ? file_named(name, name == path + 1) : NULL;
-	if (place->file)
-		go_up(place->group);
-	return 0;
-}
-
 int path_fault(const char *path)
 {
 	int count = 0;

@@ -1,18 +1,11 @@
-/* What a path of the mount names: a group, a file of a group, or something of the control directory. */
+/* Paths of groups. */
 #ifndef PLACE_H
 #define PLACE_H
 
-#include "files.h"
+#include <stdbool.h>
 
 enum { PATH_MAX_SAID = 4096 };
 
-struct place {
-	char group[PATH_MAX_SAID];
-	const struct file *file; /* NULL: the group itself */
-};
-
-/* 0, or the negated errno for a path that no group or file can have. */
-int place_of(const char *path, struct place *place);
 /* 0 if the trace language can express every name of a group's path; else the kernel's errno that fits best. */
 int path_fault(const char *path);
 /* The group above; the root's is the root. */

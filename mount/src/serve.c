@@ -12,13 +12,13 @@
 #include "machine.h"
 #include "operations.h"
 #include "real.h"
+#include "remembered.h"
 #include "watch.h"
 #include <errno.h>
 #include <fcntl.h>
 #include <fuse3/fuse_log.h>
 #include <fuse3/fuse_lowlevel.h>
 #include <limits.h>
-#include <linux/fuse.h>
 #include <signal.h>
 #include <stdarg.h>
 #include <stdatomic.h>
@@ -60,6 +60,14 @@ static bool open_kept(const struct wishes *wishes)
 	return false;
 }
 
+static bool make_root(void)
+{
+	engine_lock();
+	bool made = remembered_make("/") != NULL;
+	engine_unlock();
+	return made;
+}
+
 bool serve_prepare(const struct wishes *wishes)
 {
 	if (wishes->keep && !controllers_keep(wishes->keep)) {
@@ -84,23 +92,26 @@ bool serve_prepare(const struct wishes *wishes)
 	}
 	look = (struct look){ .history = wishes->control, .uid = getuid(), .gid = getgid() };
 	clock_gettime(CLOCK_REALTIME, &look.born);
+	if (!make_root()) {
+		say("out of memory");
+		return false;
+	}
 	signal(SIGPIPE, SIG_IGN);
 	signal(SIGXFSZ, SIG_IGN);
 	return true;
 }
 
-static struct fuse *make_session(void)
+static struct fuse_session *make_session(void)
 {
 	char *words[] = { "makhloeum", "-o", "fsname=makhloeum,subtype=cgroup2,nosuid,nodev,noexec", NULL };
 	struct fuse_args args = FUSE_ARGS_INIT(3, words);
-	struct fuse *fuse = fuse_new(&args, &operations, sizeof operations, NULL);
+	struct fuse_session *session = fuse_session_new(&args, &operations, sizeof operations, NULL);
 	fuse_opt_free_args(&args);
-	return fuse;
+	return session;
 }
 
-/* What differs from libfuse. A read from an unmounted connection fails with ENODEV, or with ECONNABORTED if a request was
-   still pending. At ENODEV libfuse ends its loop quietly; at any other errno it prints a message and returns an error. For
-   a removed node libfuse answers ESTALE by itself; a removed group has to be ENOENT. */
+/* A read from an unmounted connection fails with ENODEV, or with ECONNABORTED if a request was still pending. At ENODEV
+   libfuse ends its loop quietly; at any other errno it prints a message and returns an error. */
 #if FUSE_VERSION >= FUSE_MAKE_VERSION(3, 14)
 static ssize_t read_request(int from, void *request, size_t size, void *unused)
 {
@@ -113,14 +124,8 @@ static ssize_t read_request(int from, void *request, size_t size, void *unused)
 
 static ssize_t write_reply(int to, struct iovec *reply, int parts, void *unused)
 {
-	struct fuse_out_header head;
 	(void)unused;
-	if (parts != 1 || reply->iov_len != sizeof head)
-		return writev(to, reply, parts);
-	memcpy(&head, reply->iov_base, sizeof head);
-	if (head.error == -ESTALE)
-		head.error = -ENOENT;
-	return write(to, &head, sizeof head);
+	return writev(to, reply, parts);
 }
 
 static bool use_own_io(struct fuse_session *session)
@@ -147,35 +152,34 @@ static void say_for_fuse(enum fuse_log_level level, const char *format, va_list 
 }
 
 /* Answers until it is unmounted, or cannot begin to. */
-static int answer(struct fuse *fuse, void (*ready)(void))
+static int answer(struct fuse_session *session, void (*ready)(void))
 {
-	struct fuse_session *session = fuse_get_session(fuse);
 	fuse_set_log_func(say_for_fuse);
 	if (!use_own_io(session) || fuse_set_signal_handlers(session)) {
 		say("the file system cannot be served: %s", strerror(errno));
 		return -EIO;
 	}
 	ready();
-	int ended = fuse_loop_mt(fuse, 0);
+	int ended = fuse_session_loop_mt(session, 0);
 	fuse_remove_signal_handlers(session);
 	return ended;
 }
 
 int serve(const char *where, void (*ready)(void))
 {
-	struct fuse *fuse = make_session();
-	if (!fuse || fuse_mount(fuse, where)) {
-		if (fuse)
-			fuse_destroy(fuse);
+	struct fuse_session *session = make_session();
+	if (!session || fuse_session_mount(session, where)) {
+		if (session)
+			fuse_session_destroy(session);
 		say("no file system can be mounted on %s: /dev/fuse, fusermount3 or the directory does not allow it", where);
 		return REFUSED;
 	}
 	if (!look.marked)
 		watch_mounted(where);
-	int ended = answer(fuse, ready);
+	int ended = answer(session, ready);
 	watch_stop();
-	fuse_unmount(fuse);
-	fuse_destroy(fuse);
+	fuse_session_unmount(session);
+	fuse_session_destroy(session);
 	engine_end();
 	return ended < 0 && ended != -ECONNABORTED ? 1 : 0;
 }

@@ -1,27 +1,18 @@
 #include "control.h"
 #include "controllers.h"
 #include "engine.h"
-#include "opened.h"
 #include "operations.h"
+#include "owner.h"
 #include "real.h"
 #include "reported.h"
 #include "texts.h"
 #include "watch.h"
 #include <errno.h>
-#include <stdio.h>
 #include <string.h>
 
 struct look look;
 
-static void set_stat(struct stat *st, mode_t mode, nlink_t links)
-{
-	memset(st, 0, sizeof *st);
-	st->st_mode = mode;
-	st->st_nlink = links;
-	st->st_uid = look.uid;
-	st->st_gid = look.gid;
-	st->st_atim = st->st_mtim = st->st_ctim = look.born;
-}
+/* ---------------------------------------------------------------- what a stat shows */
 
 static int count_bytes(void *to, const char *text, size_t size)
 {
@@ -30,226 +21,241 @@ static int count_bytes(void *to, const char *text, size_t size)
 	return 0;
 }
 
-static int control_getattr(const char *path, struct stat *st)
+static int control_stat(const struct node *node, struct stat *st)
 {
-	long file = control_find(path);
-	if (file == -ENOENT)
-		return -ENOENT;
-	if (file == CONTROL_ITSELF) {
-		set_stat(st, S_IFDIR | 0755, 2);
-		return 0;
-	}
-	set_stat(st, S_IFREG | control_mode(file), 1);
-	int fault = control_read(file, count_bytes, st);
+	int fault = nodes_is_directory(node) ? 0 : control_read(node->control, count_bytes, st);
 	return fault == -ENOMEM ? fault : 0;
 }
 
-/* The group that this thread has just made, or "". libfuse looks it up before it answers the mkdir, which must not fail then. */
-static _Thread_local char made[PATH_MAX_SAID];
-
-static int group_getattr(const char *path, struct stat *st)
+static int group_stat(const struct remembered *group, struct stat *st)
 {
 	const char *names;
 	size_t count = 0;
-	int fault = strcmp(path, made) == 0 ? 0 : engine_children(path, &names, &count);
-	made[0] = 0;
-	if (fault)
-		return fault;
-	set_stat(st, S_IFDIR | 0755, (nlink_t)(2 + count));
-	return 0;
+	int fault = group->gone ? 0 : engine_children(group->path, &names, &count);
+	st->st_nlink = (nlink_t)(2 + count);
+	return fault;
 }
 
 /* The size of a file is the length of its text: sendfile and splice transfer no more than that from a FUSE file. */
-static int text_size(const struct place *place, off_t *bytes)
+static int file_stat(const struct node *node, struct stat *st)
 {
 	const char *text;
 	size_t size = 0;
+	if (node->group->gone || !controllers_have(node->group->path, node->file))
+		return 0;
 	int fault = real_sweep();
-	if (fault == 0 && place->file->readable)
-		fault = texts_read(place->group, place->file, false, &text, &size);
-	*bytes = (off_t)size;
+	if (fault == 0 && node->file->readable)
+		fault = texts_read(node->group->path, node->file, false, &text, &size);
+	st->st_size = (off_t)size;
 	return fault;
 }
 
-static int file_getattr(const struct place *place, struct stat *st)
+static int stat_of(const struct node *node, struct stat *st)
 {
-	int fault = engine_has_group(place->group);
-	if (fault)
-		return fault;
-	if (!controllers_have(place->group, place->file))
-		return -ENOENT;
-	set_stat(st, S_IFREG | file_mode(place->file), 1);
-	fault = text_size(place, &st->st_size);
-	return fault == 0 && place->file->notified ? watch_seen(place->group, place->file) : fault;
+	memset(st, 0, sizeof *st);
+	st->st_ino = nodes_number(node);
+	st->st_nlink = nodes_is_directory(node) ? 2 : 1;
+	owner_apply(node, st);
+	if (!node->group)
+		return control_stat(node, st);
+	return node->file ? file_stat(node, st) : group_stat(node->group, st);
 }
 
-static int getattr(const char *path, struct place *place, struct stat *st)
+static void reply_stat(fuse_req_t req, int fault, const struct stat *st)
 {
-	int fault = place_of(path, place);
 	if (fault)
-		return fault;
-	fault = place->file ? file_getattr(place, st) : group_getattr(place->group, st);
-	if (fault == 0)
-		owner_apply(place, st);
-	return fault;
-}
-
-/* libfuse gives no path for an open file. NULL: its group was removed. */
-static const char *path_of(const char *path, const struct fuse_file_info *fi, char *out, size_t size)
-{
-	const struct opened *o = path ? NULL : (const struct opened *)(uintptr_t)(fi ? fi->fh : 0);
-	if (!o)
-		return path;
-	if (opened_is_gone(o))
-		return NULL;
-	if (o->file)
-		snprintf(out, size, "%s/%s", is_root(o->group) ? "" : o->group, o->file->name);
-	else if (o->control >= CONTROL_WHERE)
-		snprintf(out, size, "/%s.%ld.%ld", control_directory, (o->control - CONTROL_WHERE) % CONTROL_PIDS,
-		         (o->control - CONTROL_WHERE) / CONTROL_PIDS);
-	else if (o->control >= 0)
-		snprintf(out, size, "/%s/%s", control_directory, control_name(o->control));
+		fuse_reply_err(req, -fault);
 	else
-		snprintf(out, size, "%s", o->group);
-	return out;
+		fuse_reply_attr(req, st, 0);
 }
 
-int tree_getattr(const char *path, struct stat *st, struct fuse_file_info *fi)
+void tree_getattr(fuse_req_t req, fuse_ino_t number, struct fuse_file_info *fi)
 {
-	char of_open[PATH_MAX_SAID + 32];
-	struct place place;
-	int fault = -ENOENT;
+	struct node node;
+	struct stat st;
+	(void)fi;
 	engine_lock();
-	path = path_of(path, fi, of_open, sizeof of_open);
-	if (path)
-		fault = control_has(path) ? control_getattr(path, st) : getattr(path, &place, st);
+	int fault = nodes_find(number, &node);
+	if (fault == 0)
+		fault = stat_of(&node, &st);
 	engine_unlock();
-	return fault;
+	reply_stat(req, fault, &st);
 }
 
-/* With all offsets 0, libfuse refuses a name only if it has no memory. 0 or -ENOMEM */
-static int put(void *out, fuse_fill_dir_t fill, const char *name)
+/* ---------------------------------------------------------------- what a program sets */
+
+enum { OWNS = FUSE_SET_ATTR_MODE | FUSE_SET_ATTR_UID | FUSE_SET_ATTR_GID, TIMES = FUSE_SET_ATTR_ATIME | FUSE_SET_ATTR_MTIME };
+
+static bool is_mark(const struct stat *st, int fields)
 {
-	return fill(out, name, NULL, 0, 0) ? -ENOMEM : 0;
+	return (fields & TIMES) == FUSE_SET_ATTR_MTIME && st->st_mtim.tv_sec == -MARK;
 }
 
-static int list_control(void *out, fuse_fill_dir_t fill)
+/* A truncation changes nothing. By an open file it is allowed, by a path only if the file may be written. */
+static int set(const struct node *node, const struct stat *st, int fields, bool is_open, uid_t uid)
 {
-	int fault = 0;
-	for (int i = 0; i < CONTROL_FILES && fault == 0; i++)
-		if (control_is_there(i))
-			fault = put(out, fill, control_name(i));
-	return fault;
+	if ((fields & FUSE_SET_ATTR_SIZE) && !is_open && uid != 0 && !(nodes_mode(node) & 0222))
+		return -EACCES;
+	if (!node->group)
+		return fields & OWNS ? -EPERM : 0;
+	return (fields & (OWNS | TIMES)) && !is_mark(st, fields) ? owner_set(node, st, fields) : 0;
 }
 
-/* The files of a group, and the groups below it. */
-static int list_group(const char *path, void *out, fuse_fill_dir_t fill)
+void tree_setattr(fuse_req_t req, fuse_ino_t number, struct stat *st, int fields, struct fuse_file_info *fi)
 {
-	const struct file *file;
-	const char *names;
-	size_t count;
-	int fault = engine_children(path, &names, &count);
-	for (size_t i = 0; fault == 0 && (file = file_at(i)); i++)
-		if ((file->on_root || !is_root(path)) && controllers_have(path, file))
-			fault = put(out, fill, file->name);
-	if (fault == 0 && look.history && is_root(path))
-		fault = put(out, fill, control_directory);
-	for (; fault == 0 && count > 0; count--, names += strlen(names) + 1)
-		fault = put(out, fill, names);
-	return fault;
-}
-
-int tree_opendir(const char *path, struct fuse_file_info *fi)
-{
+	struct node node;
+	struct stat after;
 	engine_lock();
-	fi->fh = (uintptr_t)opened_new(path, NULL, A_DIRECTORY);
+	int fault = nodes_find(number, &node);
+	if (fault == 0)
+		fault = stat_of(&node, &after);
+	if (fault == 0)
+		fault = set(&node, st, fields, fi != NULL, fuse_req_ctx(req)->uid);
+	if (fault == 0)
+		owner_apply(&node, &after);
 	engine_unlock();
-	return fi->fh ? 0 : -ENOMEM;
+	reply_stat(req, fault, &after);
 }
 
-int tree_readdir(const char *unsaid, void *out, fuse_fill_dir_t fill, off_t at, struct fuse_file_info *fi,
-                 enum fuse_readdir_flags flags)
+/* ---------------------------------------------------------------- look-ups */
+
+/* The kernel forgets the look-up only if it has received the answer. */
+static void reply_entry(fuse_req_t req, int fault, const struct fuse_entry_param *entry)
 {
-	const struct opened *o = (const struct opened *)(uintptr_t)fi->fh;
-	const char *path = o->group;
-	(void)unsaid, (void)at, (void)flags;
-	if (put(out, fill, ".") || put(out, fill, ".."))
-		return -ENOMEM;
-	if (control_has(path))
-		return list_control(out, fill);
-	engine_lock();
-	int fault = opened_is_gone(o) ? -ENOENT : list_group(path, out, fill);
-	engine_unlock();
-	return fault;
+	if (fault) {
+		fuse_reply_err(req, -fault);
+	} else if (fuse_reply_entry(req, entry) == -ENOENT) {
+		engine_lock();
+		nodes_forget(entry->ino, 1);
+		engine_unlock();
+	}
 }
 
-int tree_mkdir(const char *path, mode_t mode)
+static int look_up(uint64_t parent, const char *name, struct fuse_entry_param *entry)
 {
-	struct place place;
-	(void)mode;
-	int fault = control_has(path) ? -EPERM : path_fault(path);
-	if (fault || (fault = place_of(path, &place)))
+	struct node directory, node;
+	int fault = nodes_find(parent, &directory);
+	if (fault == 0)
+		fault = nodes_find_below(&directory, name, &node);
+	if (fault == 0)
+		fault = stat_of(&node, &entry->attr);
+	if (fault == 0 && node.file && node.file->notified)
+		fault = watch_seen(node.group->path, node.file);
+	if (fault)
 		return fault;
-	if (place.file) /* of a controller that the group may get later */
-		return -EEXIST;
+	entry->ino = entry->attr.st_ino;
+	nodes_known(&node);
+	return 0;
+}
+
+void tree_lookup(fuse_req_t req, fuse_ino_t parent, const char *name)
+{
+	struct fuse_entry_param entry = { 0 };
 	engine_lock();
-	fault = engine_line("mkdir %s", path);
-	snprintf(made, sizeof made, "%s", fault ? "" : path);
+	int fault = look_up(parent, name, &entry);
 	engine_unlock();
+	reply_entry(req, fault, &entry);
+}
+
+void tree_forget(fuse_req_t req, fuse_ino_t number, uint64_t count)
+{
+	engine_lock();
+	nodes_forget(number, count);
+	engine_unlock();
+	fuse_reply_none(req);
+}
+
+void tree_forget_several(fuse_req_t req, size_t count, struct fuse_forget_data *forgets)
+{
+	engine_lock();
+	for (size_t i = 0; i < count; i++)
+		nodes_forget(forgets[i].ino, forgets[i].nlookup);
+	engine_unlock();
+	fuse_reply_none(req);
+}
+
+/* ---------------------------------------------------------------- groups are made and removed */
+
+/* The path of a name in a group that exists. 0 or -errno */
+static int path_in(uint64_t parent, const char *name, struct node *directory, char path[PATH_MAX_SAID])
+{
+	int fault = nodes_find(parent, directory);
+	if (fault == 0 && directory->group && directory->group->gone)
+		fault = -ENOENT;
+	if (fault == 0)
+		fault = nodes_path(directory, name, path);
+	return fault == 0 && (!directory->group || control_has(path)) ? -EPERM : fault;
+}
+
+/* All memory is taken before the engine makes the group. */
+static int make_group(const char *path, const struct shown *maker, struct node *out)
+{
+	bool was_there = remembered_find(path) != NULL;
+	*out = (struct node){ .group = remembered_make(path) };
+	if (!out->group)
+		return -ENOMEM;
+	int fault = engine_line("mkdir %s", path);
+	if (fault && !was_there)
+		remembered_lose(path);
+	if (fault == 0)
+		owner_begin(out->group, maker);
 	return fault;
 }
 
-int tree_rmdir(const char *path)
+static int make_below(uint64_t parent, const char *name, const struct shown *maker, struct node *out)
 {
-	if (control_has(path))
-		return -EPERM;
+	char path[PATH_MAX_SAID];
+	struct node directory;
+	int fault = path_in(parent, name, &directory, path);
+	if (fault == 0)
+		fault = path_fault(path);
+	if (fault == 0 && file_named(name, is_root(directory.group->path)))
+		fault = -EEXIST; /* perhaps of a controller that the group may get later */
+	if (fault == 0)
+		fault = make_group(path, maker, out);
+	if (fault == 0)
+		owner_touch(directory.group);
+	return fault;
+}
+
+void tree_mkdir(fuse_req_t req, fuse_ino_t parent, const char *name, mode_t mode)
+{
+	const struct fuse_ctx *by = fuse_req_ctx(req);
+	struct fuse_entry_param entry = { .attr.st_nlink = 2 };
+	struct node made;
 	engine_lock();
-	int fault = real_sweep();
+	int fault = make_below(parent, name, &(struct shown){ .mode = mode & 01777, .uid = by->uid, .gid = by->gid }, &made);
+	if (fault == 0) {
+		entry.ino = entry.attr.st_ino = nodes_number(&made);
+		owner_apply(&made, &entry.attr);
+		nodes_known(&made);
+	}
+	engine_unlock();
+	reply_entry(req, fault, &entry);
+}
+
+static int remove_below(uint64_t parent, const char *name)
+{
+	char path[PATH_MAX_SAID];
+	struct node directory;
+	int fault = path_in(parent, name, &directory, path);
+	if (fault == 0)
+		fault = real_sweep();
 	if (fault == 0)
 		fault = reported_leave(path);
 	if (fault == 0)
 		fault = engine_line("rmdir %s", path);
-	if (fault == 0)
-		remembered_lose(path);
-	engine_unlock();
-	return fault;
+	if (fault)
+		return fault;
+	remembered_lose(path);
+	owner_touch(directory.group);
+	return 0;
 }
 
-static void apply(struct stat *st, mode_t mode, uid_t uid, gid_t gid)
+void tree_rmdir(fuse_req_t req, fuse_ino_t parent, const char *name)
 {
-	if (mode != (mode_t)-1)
-		st->st_mode = mode;
-	if (uid != (uid_t)-1)
-		st->st_uid = uid;
-	if (gid != (gid_t)-1)
-		st->st_gid = gid;
-}
-
-/* Stores a mode and an owner; a value with all bits set leaves the old one. */
-static int set_owner(const char *path, mode_t mode, uid_t uid, gid_t gid, struct fuse_file_info *fi)
-{
-	struct stat st;
-	struct place place;
-	char of_open[PATH_MAX_SAID + 32];
-	int fault = -ENOENT;
 	engine_lock();
-	path = path_of(path, fi, of_open, sizeof of_open);
-	if (path)
-		fault = control_has(path) ? -EPERM : getattr(path, &place, &st);
-	if (fault == 0) {
-		apply(&st, mode, uid, gid);
-		fault = owner_set(&place, &st);
-	}
+	int fault = remove_below(parent, name);
 	engine_unlock();
-	return fault;
-}
-
-int tree_chmod(const char *path, mode_t mode, struct fuse_file_info *fi)
-{
-	return set_owner(path, mode, (uid_t)-1, (gid_t)-1, fi);
-}
-
-int tree_chown(const char *path, uid_t uid, gid_t gid, struct fuse_file_info *fi)
-{
-	return set_owner(path, (mode_t)-1, uid, gid, fi);
+	fuse_reply_err(req, -fault);
 }

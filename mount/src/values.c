@@ -103,10 +103,8 @@ int values_keep(const char *group, const char *name, const char *text)
 	size_t size = strlen(text) + 1;
 	struct remembered *r = remembered_make(group);
 	struct kept_value *v = r ? malloc(sizeof *v + size) : NULL;
-	if (!v) {
-		remembered_tidy(r);
+	if (!v)
 		return -ENOMEM;
-	}
 	struct kept_value **at = find(r, file);
 	if (*at)
 		drop(at);

@@ -54,10 +54,8 @@ int watch_seen(const char *group, const struct file *file)
 	if (w)
 		return 0;
 	w = r ? calloc(1, sizeof *w) : NULL;
-	if (!w) {
-		remembered_tidy(r);
+	if (!w)
 		return -ENOMEM;
-	}
 	w->of = r;
 	w->file = file;
 	read_text(w, w->text);

@@ -133,6 +133,8 @@ def numbers():
     each("an attribute of no name", lambda: os.getxattr(b, "user.x"))
     each("an attribute", lambda: os.setxattr(b, "user.y", b"1"), lambda: outcome(lambda: os.getxattr(b, "user.y")), lambda: outcome(lambda: os.removexattr(b, "user.y")))
     each("a mkdir", lambda: os.mkdir(m.path("c")), state, lambda: outcome(lambda: os.rmdir(m.path("c"))))
+    long = m.path("c" * 200)
+    each("a mkdir of a long name", lambda: os.mkdir(long), state, lambda: outcome(lambda: os.rmdir(long)))
     each("a rmdir", lambda: os.rmdir(m.path("c")), state, lambda: outcome(lambda: os.mkdir(m.path("c"))))
     os.rmdir(m.path("c"))
     each("a rmdir of a group with processes", lambda: os.rmdir(b), state)

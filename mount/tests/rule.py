@@ -22,7 +22,7 @@ registers_set_call registers_set_ticket registers_set_result""".split()
 
 SUPERVISOR = "tracer births halts threads registers stops strict restarts clones signals own".split()
 # Files whose functions run with the engine's lock. `kept` writes the trace; `real` reads /proc for --adopt.
-SERVER = """engine tree control attributes owner remembered opened texts controllers values values_cpu values_io values_memory values_cpuset freezer
+SERVER = """engine nodes tree listing control attributes owner remembered opened texts controllers values values_cpu values_io values_memory values_cpuset freezer
 listed reported zombies place number scan lists files""".split()
 # What may stay, with the reason.
 ALLOWED = {

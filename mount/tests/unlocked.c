@@ -5,6 +5,7 @@
 #include "operations.h"
 #include "listed.h"
 #include "opened.h"
+#include "owner.h"
 #include "remembered.h"
 #include "spaces.h"
 #include "watch.h"
@@ -15,9 +16,9 @@
 #include <sys/wait.h>
 #include <unistd.h>
 
-static struct place place = { .group = "/" };
 static struct stat st;
 static struct remembered remembered = { .path = "/" };
+static struct node node = { .group = &remembered }, found;
 static struct opened opened;
 static size_t size;
 static const char *text;
@@ -35,8 +36,17 @@ static void history(void) { engine_history(0, &text, &size); }
 static void find(void) { remembered_find("/"); }
 static void make(void) { remembered_make("/"); }
 static void lose(void) { remembered_lose("/"); }
-static void apply(void) { owner_apply(&place, &st); }
-static void set(void) { owner_set(&place, &st); }
+static void numbered(void) { remembered_numbered(1); }
+static void tidy(void) { remembered_tidy(&remembered); }
+static void node_find(void) { nodes_find(1, &node); }
+static void node_below(void) { nodes_find_below(&node, "x", &found); }
+static void node_above(void) { nodes_find_above(&node, &found); }
+static void node_known(void) { nodes_known(&node); }
+static void node_forget(void) { nodes_forget(1, 1); }
+static void begin(void) { owner_begin(&remembered, NULL); }
+static void apply(void) { owner_apply(&node, &st); }
+static void set(void) { owner_set(&node, &st, 0); }
+static void touch(void) { owner_touch(&remembered); }
 static void forget_owner(void) { owner_forget(&remembered); }
 static void forget_attributes(void) { attributes_forget(&remembered); }
 static void seen(void) { watch_seen("/", file_named("cgroup.events", false)); }
@@ -50,7 +60,9 @@ static void visit_each(void) { remembered_each("/", visit); }
 static void prepare(void) { spaces_prepare(1, 1); }
 static void zombies_room(void) { zombies_make_room(1); }
 static void forget_watch(void) { watch_forget(&remembered); }
-static void new_open(void) { opened_new("/", NULL, A_DIRECTORY); }
+static void new_open(void) { opened_new(&remembered, NULL, A_DIRECTORY); }
+static void has(void) { opened_has(&opened, 1, 0); }
+static void read_open(void) { opened_read(&opened, group, 0, 0); }
 static void is_gone(void) { opened_is_gone(&opened); }
 static void wake(void) { opened_wake(&remembered, NULL); }
 static void lose_open(void) { opened_lose(&remembered); }
@@ -75,8 +87,8 @@ static int ends_by(void (*call)(void), bool locked)
 int main(void)
 {
 	void (*const calls[])(void) = { line, look_at, take_text, where, has_group, children, groups, depth, history, find, make,
-		lose, apply, set, forget_owner, forget_attributes, seen, above, below, process, listed, visit_each, prepare,
-		zombies_room, forget_watch, new_open, is_gone, wake, lose_open, control };
+		lose, numbered, tidy, node_find, node_below, node_above, node_known, node_forget, begin, apply, set, touch, forget_owner, forget_attributes, seen, above, below, process, listed, visit_each, prepare,
+		zombies_room, forget_watch, new_open, has, read_open, is_gone, wake, lose_open, control };
 	static struct kept none = { .fd = -1 };
 	size_t wrong = 0, count = sizeof calls / sizeof *calls;
 	if (!engine_start(&none, &none, true))

@@ -43,6 +43,7 @@ def inside(outside):
     same("a setuid program is the superuser", said(*as_other, tool, "-u"), (0, "0\n", ""))
     shutil.rmtree(at)
     same("another user is in the hierarchy", said(*as_other, "cat", "/proc/self/cgroup"), (0, "0::/\n", ""))
+    same("who owns the group that it makes", said(*as_other, "sh", "-c", "cd /sys/fs/cgroup && mkdir o && stat -c %u:%g o o/pids.max"), (0, "%d:%d\n" % (OTHER, OTHER) * 2, ""))
     supervisor = os.getppid()
     for name in ("mem", "ns/user", "fd/0"):
         same("the supervisor's %s" % name, error_of(os.open, "/proc/%d/%s" % (supervisor, name), os.O_RDONLY), "EACCES")

@@ -1,0 +1,132 @@
+#include "nodes.h"
+#include "control.h"
+#include "controllers.h"
+#include "engine.h"
+#include <errno.h>
+#include <stdio.h>
+#include <string.h>
+#include <sys/stat.h>
+
+/* Beyond the numbers of any group. What is in the control directory has one number after the directory's. */
+static const uint64_t number_control = (uint64_t)1 << 62;
+
+int nodes_find(uint64_t number, struct node *out)
+{
+	WANTS_LOCK();
+	*out = (struct node){ .control = CONTROL_ITSELF };
+	if (number >= number_control) {
+		out->control = CONTROL_ITSELF + (long)(number - number_control);
+		return 0;
+	}
+	uint64_t within = (number - NUMBER_ROOT) % NUMBERS_OF_GROUP;
+	out->group = remembered_numbered(number - within);
+	out->file = within ? file_in_place(within - 1) : NULL;
+	return out->group && (out->file || !within) ? 0 : -ENOENT;
+}
+
+uint64_t nodes_number(const struct node *node)
+{
+	if (!node->group)
+		return number_control + (uint64_t)(node->control - CONTROL_ITSELF);
+	return node->group->number + (node->file ? 1 + file_place(node->file) : 0);
+}
+
+bool nodes_is_directory(const struct node *node)
+{
+	return node->group ? !node->file : node->control == CONTROL_ITSELF;
+}
+
+mode_t nodes_mode(const struct node *node)
+{
+	if (nodes_is_directory(node))
+		return S_IFDIR | 0755;
+	return S_IFREG | (node->group ? file_mode(node->file) : control_mode(node->control));
+}
+
+int nodes_path(const struct node *directory, const char *name, char out[PATH_MAX_SAID])
+{
+	const char *above = directory->group ? directory->group->path : control_directory;
+	const char *from_root = directory->group ? "" : "/";
+	int n = snprintf(out, PATH_MAX_SAID, "%s%s/%s", from_root, is_root(above) ? "" : above, name);
+	return n < PATH_MAX_SAID ? 0 : -ENAMETOOLONG;
+}
+
+static int find_control(const char *path, struct node *out)
+{
+	long control = control_find(path);
+	if (control == -ENOENT)
+		return -ENOENT;
+	*out = (struct node){ .control = control };
+	return 0;
+}
+
+static int find_group(const char *path, struct node *out)
+{
+	struct remembered *r = remembered_find(path);
+	int fault = r ? 0 : engine_has_group(path);
+	if (fault)
+		return fault;
+	*out = (struct node){ .group = r ? r : remembered_make(path) };
+	return out->group ? 0 : -ENOMEM;
+}
+
+int nodes_find_above(const struct node *node, struct node *out)
+{
+	char path[PATH_MAX_SAID] = "/";
+	WANTS_LOCK();
+	*out = (struct node){ .control = CONTROL_ITSELF };
+	if (!node->group && !nodes_is_directory(node))
+		return 0;
+	if (node->group)
+		snprintf(path, sizeof path, "%s", node->group->path);
+	if (!node->file)
+		go_up(path);
+	out->group = remembered_make(path);
+	return out->group ? 0 : -ENOMEM;
+}
+
+static int find_relative(const struct node *node, bool above, struct node *out)
+{
+	if (above)
+		return nodes_find_above(node, out);
+	*out = *node;
+	return 0;
+}
+
+int nodes_find_below(const struct node *directory, const char *name, struct node *out)
+{
+	char path[PATH_MAX_SAID];
+	bool above = strcmp(name, "..") == 0;
+	WANTS_LOCK();
+	if (directory->group && directory->group->gone)
+		return -ENOENT;
+	if (above || strcmp(name, ".") == 0)
+		return find_relative(directory, above, out);
+	int fault = nodes_path(directory, name, path);
+	if (fault)
+		return fault;
+	if (!directory->group || control_has(path))
+		return find_control(path, out);
+	const struct file *file = file_named(name, is_root(directory->group->path));
+	if (!file)
+		return find_group(path, out);
+	*out = (struct node){ .group = directory->group, .file = file };
+	return controllers_have(directory->group->path, file) ? 0 : -ENOENT;
+}
+
+void nodes_known(const struct node *node)
+{
+	WANTS_LOCK();
+	if (node->group)
+		node->group->known++;
+}
+
+void nodes_forget(uint64_t number, uint64_t count)
+{
+	struct node node;
+	WANTS_LOCK();
+	if (nodes_find(number, &node) || !node.group)
+		return;
+	node.group->known -= count;
+	remembered_tidy(node.group);
+}

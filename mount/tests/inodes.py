@@ -1,0 +1,249 @@
+"""What a stat and a listing show of groups and files: types, inode numbers, modes, owners and times; and what an open group still
+answers once it was removed. `inodes.py` tries it on a mount, `inodes.py kernel` on the cgroup2 of this machine."""
+import ctypes
+import errno
+import os
+import stat
+import sys
+import time
+
+from on_kernel import new_group
+from support import Mount, error_of, finish, libc, same, step, write
+
+DIRECTORY, FILE = 4, 8  # DT_DIR, DT_REG
+libc.opendir.restype = libc.readdir.restype = ctypes.c_void_p
+
+
+class Entry(ctypes.Structure):
+    _fields_ = [("number", ctypes.c_uint64), ("offset", ctypes.c_int64), ("length", ctypes.c_uint16), ("type", ctypes.c_ubyte),
+                ("name", ctypes.c_char * 256)]
+
+
+def entries(path):
+    """Of a listing: the inode number and the type for each name."""
+    stream = ctypes.c_void_p(libc.opendir(path.encode()))
+    found = {}
+    while at := libc.readdir(stream):
+        e = Entry.from_address(at)
+        found[e.name.decode()] = e.number, e.type
+    libc.closedir(stream)
+    return found
+
+
+def shown(path):
+    st = os.lstat(path)
+    return st.st_ino, stat.S_IFMT(st.st_mode) >> 12
+
+
+def listed(at):
+    """A listing has the type and the number of each name that a stat has."""
+    os.makedirs(at + "/l/below")
+    for where in (at + "/l", at + "/l/below"):
+        found = entries(where)
+        same("%s: numbers and types" % os.path.basename(where), found, {name: shown(where + "/" + name) for name in found})
+    same("types of a group and of a file", (entries(at + "/l")["below"][1], entries(at + "/l")["cgroup.stat"][1]), (DIRECTORY, FILE))
+    numbers = [number for where in (at + "/l", at + "/l/below") for name, (number, _) in entries(where).items() if name not in (".", "..")]
+    same("no number comes twice", len(set(numbers)), len(numbers))
+    os.rmdir(at + "/l/below")
+    os.rmdir(at + "/l")
+
+
+def numbered(at):
+    """A number stays as long as the group does."""
+    group, file = at + "/n", at + "/n/cgroup.procs"
+    os.mkdir(group)
+    before = os.stat(group).st_ino, os.stat(file).st_ino
+    fds = [os.open(path, os.O_RDONLY) for path in (group, file)]
+    for i in range(9):
+        os.mkdir("%s/%d" % (group, i))
+    same("after other groups were made", (os.stat(group).st_ino, os.stat(file).st_ino), before)
+    same("by descriptors", tuple(os.fstat(fd).st_ino for fd in fds), before)
+    for i in range(9):
+        os.rmdir("%s/%d" % (group, i))
+    os.rmdir(group)
+    os.mkdir(group)
+    step("a new group has another number", os.stat(group).st_ino != before[0] and os.stat(file).st_ino != before[1])
+    same("the removed one keeps its own", tuple(os.fstat(fd).st_ino for fd in fds), before)
+    for fd in fds:
+        os.close(fd)
+    os.rmdir(group)
+
+
+def modes(at):
+    for umask, mode, wanted in ((0o022, 0o777, 0o755), (0o027, 0o777, 0o750), (0, 0o700, 0o700), (0o077, 0o1777, 0o1700), (0o022, 0o2711, 0o711)):
+        before = os.umask(umask)
+        os.mkdir(at + "/m", mode)
+        os.umask(before)
+        same("mode %o less %o" % (mode, umask), stat.S_IMODE(os.stat(at + "/m").st_mode), wanted)
+        same("its files have their own", stat.S_IMODE(os.stat(at + "/m/cgroup.procs").st_mode), 0o644)
+        os.rmdir(at + "/m")
+
+
+def owner(st):
+    return st.st_uid, st.st_gid
+
+
+def owned(at):
+    maker = os.geteuid(), os.getegid()
+    os.mkdir(at + "/o")
+    same("its maker owns a group and its files", (owner(os.stat(at + "/o")), owner(os.stat(at + "/o/cgroup.procs"))), (maker, maker))
+    os.rmdir(at + "/o")
+
+
+def times_of(path):
+    st = os.stat(path)
+    return st.st_atime, st.st_mtime
+
+
+def timed(at):
+    group, file = at + "/t", at + "/t/cgroup.procs"
+    time.sleep(0.05)  # so that the time is not that of the mount
+    before = time.time() - 0.02  # the kernel's clock for files has ticks
+    os.mkdir(group)
+    made = [*times_of(group), *times_of(file), os.stat(group).st_ctime]
+    step("the times of a new group", all(before <= t <= time.time() for t in made), (before, made))
+    for path in (group, file):
+        os.utime(path, (7, 9.5))
+        same("times that were set", times_of(path), (7, 9.5))
+        step("the time of the change is now", before <= os.stat(path).st_ctime <= time.time(), os.stat(path).st_ctime)
+        os.chmod(path, 0o700)
+        same("a mode changes no other time", times_of(path), (7, 9.5))
+        os.utime(path, ns=(10**9 + 1, 2 * 10**9 + 2))
+        same("in nanoseconds", (os.stat(path).st_atime_ns, os.stat(path).st_mtime_ns), (10**9 + 1, 2 * 10**9 + 2))
+        os.utime(path, None)
+        step("now", all(before <= t <= time.time() for t in times_of(path)), times_of(path))
+    for what, call in (("made", os.mkdir), ("removed", os.rmdir)):
+        os.utime(group, (7, 9))
+        call(group + "/below")
+        step("a group is %s in it" % what, os.stat(group).st_atime == 7 and before <= os.stat(group).st_mtime <= time.time(), times_of(group))
+    os.rmdir(group)
+
+
+def removed(at):
+    """A group and a file that are open when the group is removed."""
+    group = at + "/r"
+    os.mkdir(group, 0o711)
+    os.setxattr(group, "user.x", b"1")
+    os.chmod(group + "/cgroup.procs", 0o600)
+    d, f = os.open(group, os.O_RDONLY), os.open(group + "/cgroup.procs", os.O_RDWR)
+    before = os.fstat(d), os.fstat(f)
+    os.chdir(group)
+    os.rmdir(group)
+    for name, st, was in (("group", os.fstat(d), before[0]), ("file", os.fstat(f), before[1]), ("working directory", os.stat("."), before[0])):
+        same("stat of the %s" % name, (st.st_ino, st.st_mode, st.st_nlink, owner(st)), (was.st_ino, was.st_mode, was.st_nlink, owner(was)))
+    same("an attribute", os.getxattr(d, "user.x"), b"1")
+    os.setxattr(d, "user.y", b"2")
+    same("a new one", sorted(os.listxattr(d)), ["user.x", "user.y"])
+    os.fchmod(d, 0o700)
+    os.utime(d, (5, 6))
+    same("a mode and times", (stat.S_IMODE(os.fstat(d).st_mode), os.fstat(d).st_atime, os.fstat(d).st_mtime), (0o700, 5, 6))
+    same("a listing of it is empty", os.listdir(d), [])
+    same("its group above", os.stat("..").st_ino, os.stat(at).st_ino)
+    for name, call, wanted in (
+            ("read", lambda: os.pread(f, 9, 0), "ENODEV"), ("write", lambda: os.write(f, b"1"), "ENODEV"), ("ftruncate", lambda: os.ftruncate(f, 0), "ok"),
+            ("an open of the file again", lambda: os.open("/proc/self/fd/%d" % f, os.O_RDONLY), "ENODEV"),
+            ("an open of the group again", lambda: os.close(os.open("/proc/self/fd/%d" % d, os.O_RDONLY)), "ok"),
+            ("an open of .", lambda: os.close(os.open(".", os.O_RDONLY)), "ok"), ("access of .", lambda: os.access(".", os.W_OK) or 1 / 0, "ok"),
+            ("an open in it", lambda: os.open("cgroup.procs", os.O_RDONLY), "ENOENT"), ("a stat in it", lambda: os.stat("cgroup.procs"), "ENOENT"),
+            ("mkdir in it", lambda: os.mkdir("x"), "ENOENT"), ("rmdir of .", lambda: os.rmdir("."), "EINVAL"), ("its name", os.getcwd, "ENOENT"),
+            ("stat by its path", lambda: os.stat(group), "ENOENT")):
+        same("%s of a removed group" % name, error_of(call), wanted)
+    os.mkdir(group)
+    same("a group of that name is another", (os.listxattr(group), stat.S_IMODE(os.stat(group + "/cgroup.procs").st_mode)), ([], 0o644))
+    same("the open one is not of it", (os.fstat(d).st_ino, error_of(os.pread, f, 9, 0), error_of(os.stat, "cgroup.procs")), (before[0].st_ino, "ENODEV", "ENOENT"))
+    os.chdir("/")
+    for fd in (d, f):
+        os.close(fd)
+    os.rmdir(group)
+
+
+def continued(at):
+    """A listing in many pieces; its offsets; and a seek to any."""
+    group = at + "/c"
+    os.mkdir(group)
+    names = ["%s-%d" % ("x" * (1 + i), i) for i in range(100)]  # more than a page
+    for name in names:
+        os.mkdir(group + "/" + name)
+    found = entries(group)
+    same("all names, once", sorted(n for n in found if "-" in n), sorted(names))
+    stream = ctypes.c_void_p(libc.opendir(group.encode()))
+    libc.telldir.restype = ctypes.c_long
+    order, offsets = [], []
+    while True:
+        offsets.append(libc.telldir(stream))
+        at_entry = libc.readdir(stream)
+        if not at_entry:
+            break
+        order.append(Entry.from_address(at_entry).name)
+    for i in (0, 1, 50, 99, len(order) - 1):
+        libc.seekdir(stream, ctypes.c_long(offsets[i]))
+        same("after a seek to entry %d" % i, Entry.from_address(libc.readdir(stream)).name, order[i])
+    libc.rewinddir(stream)
+    same("from the start", Entry.from_address(libc.readdir(stream)).name, order[0])
+    libc.closedir(stream)
+    for name in names:
+        os.rmdir(group + "/" + name)
+    os.rmdir(group)
+
+
+def handled(at):
+    """A file handle is of the group as long as that exists. Only the superuser of the machine may open one."""
+    group = at + "/h"
+    os.mkdir(group)
+    above = os.open(at, os.O_RDONLY)
+    for path in (group, group + "/cgroup.procs"):
+        handle, mount_id = ctypes.create_string_buffer(136), ctypes.c_int()
+        ctypes.memmove(handle, ctypes.byref(ctypes.c_uint(128)), 4)
+        same("a handle", libc.name_to_handle_at(-100, path.encode(), handle, ctypes.byref(mount_id), 0), 0)
+        fd = libc.open_by_handle_at(above, handle, os.O_RDONLY)
+        if fd < 0 and ctypes.get_errno() == errno.EPERM:
+            continue
+        same("what it is of", os.fstat(fd).st_ino if fd >= 0 else errno.errorcode[ctypes.get_errno()], os.stat(path).st_ino)
+        os.close(fd)
+    os.close(above)
+    os.rmdir(group)
+
+
+def undone():
+    """A group whose mkdir is undone is gone like one that was removed, and one whose rmdir is undone is another group."""
+    m = Mount()
+    os.mkdir(m.path("u"))
+    d = os.open(m.path("u"), os.O_RDONLY)
+    number = os.fstat(d).st_ino
+    write(m.control("undo"), b"1\n")
+    same("a stat of the open group", os.fstat(d).st_ino, number)
+    same("a name in it", error_of(lambda: os.open("cgroup.procs", os.O_RDONLY, dir_fd=d)), "ENOENT")
+    same("a new group in it", error_of(lambda: os.mkdir("x", dir_fd=d)), "ENOENT")
+    same("a listing", os.listdir(d), [])
+    os.mkdir(m.path("u"))
+    os.rmdir(m.path("u"))
+    write(m.control("undo"), b"1\n")
+    step("it has another number", os.stat(m.path("u")).st_ino != number)
+    same("it is owned by the mount's user", owner(os.stat(m.path("u"))), (os.geteuid(), os.getegid()))
+    os.close(d)
+    m.end()
+
+
+def control():
+    """The control directory has numbers and types too."""
+    m = Mount()
+    found = entries(m.path(".makhloeum"))
+    same("numbers and types", found, {name: shown(m.path(".makhloeum", name)) for name in found})
+    same("of the directory", entries(m.at)[".makhloeum"], shown(m.path(".makhloeum")))
+    same("the root's number", (os.stat(m.at).st_ino, entries(m.at)["."][0]), (1, 1))
+    m.end()
+
+
+ON_BOTH = (listed, numbered, modes, owned, timed, removed, continued, handled)
+if sys.argv[1:] == ["kernel"]:
+    with new_group() as group:
+        for test in ON_BOTH if group else ():
+            test(group)
+else:
+    m = Mount("--extra")
+    for test in ON_BOTH:
+        test(m.at)
+    m.end()
+    undone()
+    control()
+finish()
