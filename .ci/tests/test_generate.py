@@ -31,7 +31,9 @@ class Generate(unittest.TestCase):
             it.write(text.replace(old, new))
 
     def run_generate(self, *words):
-        ran = subprocess.run([sys.executable, os.path.join(self.top, "bindings/generate"), *words], capture_output=True, text=True, check=False)
+        ran = subprocess.run(
+            [sys.executable, os.path.join(self.top, "bindings/generate"), *words], capture_output=True, text=True, check=False
+        )
         return ran.returncode, (ran.stdout + ran.stderr).strip()
 
     def test_current(self):
