@@ -26,15 +26,16 @@ fn arguments(command: &Command<Global>) -> &'static str {
 fn meaning(command: &Command<Global>) -> &'static str {
     match command {
         Command::MakeGroup(_) => "make a group",
-        Command::RemoveGroup(_) => "remove a group",
-        Command::Fork { .. } => "the process PARENT forks CHILD",
+        Command::RemoveGroup(_) => "remove a group without groups below it and without processes",
+        Command::Fork { .. } => "the process PARENT forks CHILD, which starts in its group",
         Command::Exit(_) => "the process exits and is reaped",
         Command::Move { .. } => "move a process to the group",
-        Command::SetLimit { .. } => "set the limit that the file holds",
+        Command::SetLimit { .. } => "set the limit that the file holds: a number or `max`",
         Command::Kill(_) => "kill all processes of the group and below it",
         Command::Show { .. } => "show a file",
         Command::Locate(_) => "show `/proc/PID/cgroup`",
-        Command::Undo => "undo the newest recorded command",
+        Command::Undo =>
+            "undo the newest recorded command: one that was accepted, or a fork that `pids.max` refused",
     }
 }
 
