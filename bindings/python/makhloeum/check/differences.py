@@ -12,7 +12,7 @@ CONTRADICTION = "CONTRADICTION"
 _GROUP_MISSING = ("ENOENT", "ENODEV")
 _GREATEST_PIDS_LIMIT = 1 << 63
 # The greatest number that a kernel accepts in each file with a limit.
-_GREATEST = {"pids-limit": PIDS_LIMIT_MAX, "groups-limit": GROUPS_LIMIT_MAX}
+_GREATEST: dict[Optional[str], int] = {"pids-limit": PIDS_LIMIT_MAX, "groups-limit": GROUPS_LIMIT_MAX}
 _GREATEST_ACCEPTED = {file.name: _GREATEST[file.written] for file in FILES if file.written in _GREATEST}
 
 
