@@ -18,15 +18,12 @@ from typing import Any, Callable, TextIO
 
 from . import __version__
 from ._interrupts import ended_by_interrupt
+from ._table import FILES
 from .errors import NothingToUndo, Refused
 from .hierarchy import Hierarchy
 from .look.tree import drawn_for, of_hierarchy
 
 COMMANDS = {"view": "makhloeum.look.view", "tree": "makhloeum.look.tree", "check": "makhloeum.check"}
-FILES = (
-    *("cgroup.procs", "cgroup.events", "cgroup.stat", "cgroup.max.depth", "cgroup.max.descendants", "cgroup.kill"),
-    *("pids.max", "pids.current", "pids.peak", "pids.events", "pids.events.local"),
-)
 
 
 class Shell(cmd.Cmd):
@@ -157,7 +154,7 @@ class Shell(cmd.Cmd):
     def do_ls(self, words: str) -> None:
         """ls [PATH]: the groups below a group, and its files"""
         path = words or "/"
-        files = [file for file in FILES if path != "/" or file in ("cgroup.procs", "cgroup.stat", *FILES[3:5])]
+        files = [file.name for file in FILES if path != "/" or file.on_root]
         self._try(lambda: "".join(f"{name}\n" for name in [child + "/" for child in self.h.children(path)] + files))
 
     def do_tree(self, words: str) -> None:
@@ -198,7 +195,7 @@ class Shell(cmd.Cmd):
         if len(words) == 2:
             return self._paths(words[1], begin, line)
         if len(words) == 3 and words[0] in ("cat", "write"):
-            return [file for file in FILES if file.startswith(text)]
+            return [file.name for file in FILES if file.name.startswith(text)]
         return []
 
     def _paths(self, word: str, begin: int, line: str) -> list[str]:

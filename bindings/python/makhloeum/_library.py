@@ -13,8 +13,10 @@ import ctypes
 import os
 from typing import Any, Iterator
 
+from ._table import PID_MAX
+
 DONE, REFUSED, FAULT, TOO_SMALL, OUT_OF_MEMORY, SKIPPED, CLOSED, BUSY, TIMED_OUT, FAILED = range(10)
-ANSWER_MAX = 32 + 10 * 4194303  # MK_ANSWER_MAX
+ANSWER_MAX = 32 + 10 * PID_MAX  # MK_ANSWER_MAX
 NO_LIMIT = (1 << 64) - 1  # MK_NO_LIMIT
 WOULD_BLOCK = 64
 

@@ -18,7 +18,6 @@ from ._library import DONE, REFUSED, TOO_SMALL, Info, patient
 if TYPE_CHECKING:
     from .hierarchy import Hierarchy
 
-NOTIFIED = ("cgroup.events", "pids.events", "pids.events.local")
 _TEXT_BYTES = 256
 _SLICE = 0.05  # seconds after which the thread looks whether it should end
 

@@ -14,7 +14,8 @@ import zlib
 from typing import Any, Iterator
 
 from ._library import DONE, FAILED, FAULT, REFUSED, Info, library
-from ._notify import NOTIFIED, Poller, Watch
+from ._notify import Poller, Watch
+from ._table import NOTIFIED
 from ._words import _raise
 from .errors import BadPath, NameTooLong, NoGroup, PathTooLong
 from .hierarchy import Hierarchy

@@ -21,6 +21,7 @@ from __future__ import annotations
 from hypothesis import strategies as st
 from hypothesis.stateful import RuleBasedStateMachine, rule
 
+from ._table import DEPTH_MAX, NAME_MAX, PID_MAX, PIDS_LIMIT_MAX
 from .errors import Refused
 from .hierarchy import Hierarchy
 
@@ -31,7 +32,7 @@ _RESERVED = ("cgroup.", "pids.")
 def names(max_size: int = 12) -> st.SearchStrategy[str]:
     """Names of groups, of at most `max_size` characters: printable ASCII without a slash, and not reserved."""
     letters = st.characters(min_codepoint=0x21, max_codepoint=0x7E, blacklist_characters="/")
-    texts = st.text(letters, min_size=1, max_size=min(max_size, 255))
+    texts = st.text(letters, min_size=1, max_size=min(max_size, NAME_MAX))
     return texts.filter(_is_name)
 
 
@@ -41,15 +42,15 @@ def _is_name(name: str) -> bool:
 
 def paths(max_names: int = 4, name: st.SearchStrategy[str] | None = None) -> st.SearchStrategy[str]:
     """Paths of groups, including the root's, of at most `max_names` names, each drawn from `name` if it is given."""
-    return st.lists(names() if name is None else name, max_size=min(max_names, 32)).map(lambda parts: "/" + "/".join(parts))
+    return st.lists(names() if name is None else name, max_size=min(max_names, DEPTH_MAX)).map(lambda parts: "/" + "/".join(parts))
 
 
-def pids(most: int = 4194303) -> st.SearchStrategy[int]:
+def pids(most: int = PID_MAX) -> st.SearchStrategy[int]:
     """Process numbers from 1 to `most`."""
     return st.integers(1, most)
 
 
-def limits(most: int = 4194304) -> st.SearchStrategy[str]:
+def limits(most: int = PIDS_LIMIT_MAX) -> st.SearchStrategy[str]:
     """What can be written to pids.max: 'max', or a number of processes up to `most`."""
     return st.one_of(st.just("max"), st.integers(0, most).map(str))
 

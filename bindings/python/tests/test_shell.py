@@ -42,7 +42,7 @@ def test_standard_input_and_scripts(tmp_path):
 
 def test_undo_and_forget():
     ran = run(text="mkdir /a\nmkdir /b\nundo 3\nundo x\nundo -1\nundo 2\nls\nundo\nmkdir /c\nforget x\nforget\nundo\nls\n")
-    files = "cgroup.procs\ncgroup.stat\ncgroup.max.depth\ncgroup.max.descendants\n"
+    files = "cgroup.procs\ncgroup.stat\ncgroup.max.descendants\ncgroup.max.depth\n"
     syntax = "Invalid argument (syntax: an unknown command, a wrong number of words, or a line that is too long)"
     assert ran.stdout == (
         "undo 3: No data available (nothing)\nundo x: not a number of commands\nundo -1: not a number of commands\n"

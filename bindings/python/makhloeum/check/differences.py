@@ -5,13 +5,15 @@ from __future__ import annotations
 from typing import Optional
 
 from . import known
+from .._table import FILES, GROUPS_LIMIT_MAX, PIDS_LIMIT_MAX
 from .engine import Answer, Engine, Words
 
 CONTRADICTION = "CONTRADICTION"
 _GROUP_MISSING = ("ENOENT", "ENODEV")
 _GREATEST_PIDS_LIMIT = 1 << 63
 # The greatest number that a kernel accepts in each file with a limit.
-_GREATEST_ACCEPTED = {"pids.max": 4194304, "cgroup.max.descendants": (1 << 31) - 1, "cgroup.max.depth": (1 << 31) - 1}
+_GREATEST: dict[Optional[str], int] = {"pids-limit": PIDS_LIMIT_MAX, "groups-limit": GROUPS_LIMIT_MAX}
+_GREATEST_ACCEPTED = {file.name: _GREATEST[file.written] for file in FILES if file.written in _GREATEST}
 
 
 def difference(words: Words, ours: Answer, theirs: Answer, engine: Engine, directory: dict[str, object]) -> Optional[str]:

@@ -18,12 +18,13 @@ import socket
 import time
 from typing import Callable
 
+from .._table import PID_MAX
 from .engine import FILES, listing
 from .processes import Process, is_alive, wait_for_end
 from .watching import Watch
 
 CGROUP2_MAGIC, FUSE_MAGIC = 0x63677270, 0x65735546
-NO_PID = 4194303
+NO_PID = PID_MAX
 
 
 def file_read(path: str) -> str:

@@ -5,15 +5,13 @@ from __future__ import annotations
 import errno
 from typing import List, NamedTuple, Optional
 
+from .. import _table
 from ..errors import Refused
 from ..hierarchy import Hierarchy
 from .known import LIMITS, Followed, kernel_number
 
-FILES = (
-    *("cgroup.procs", "cgroup.events", "cgroup.stat", "cgroup.max.descendants", "cgroup.max.depth"),
-    *("pids.max", "pids.current", "pids.peak", "pids.events", "pids.events.local"),
-)
-ON_ROOT = ("cgroup.procs", "cgroup.stat", "cgroup.max.descendants", "cgroup.max.depth")
+FILES = tuple(file.name for file in _table.FILES if file.readable)
+ON_ROOT = tuple(file.name for file in _table.FILES if file.readable and file.on_root)
 MOST_PROCESSES = 48
 DEEPEST, LONGEST = 24, 3000  # names and bytes of a path: the directory's own path has some before it
 EVENTS = "cgroup.events"

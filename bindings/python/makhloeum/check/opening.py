@@ -8,15 +8,13 @@ import os
 import socket
 from typing import Any
 
+from .._table import FILES
 from .directory import CGROUP2_MAGIC, FUSE_MAGIC, file_read, file_write, remove_groups
 from .processes import Process
 
 # What a check needs in a new group, and what may be missing there.
-NEEDED = (
-    *("cgroup.procs", "cgroup.events", "cgroup.stat", "cgroup.max.depth", "cgroup.max.descendants", "cgroup.kill"),
-    *("pids.max", "pids.current", "pids.events"),
-)
 MAY_BE_MISSING = ("pids.peak", "pids.events.local")
+NEEDED = tuple(file.name for file in FILES if file.name not in MAY_BE_MISSING)
 ROOM = 64  # processes and groups that a sequence may have
 
 

@@ -7,6 +7,7 @@ import os
 import shlex
 from typing import Optional
 
+from .._table import PID_MAX
 from .engine import Answer, Words
 from .playing import NO_ANSWER, Difference
 
@@ -134,7 +135,7 @@ class _Script:
     def _write(self, words: Words) -> str:
         path, name, value = words[1:4]
         if name == "cgroup.procs" and value.isdecimal():
-            value = f"$p{value}" if value in self._group else "4194303"
+            value = f"$p{value}" if value in self._group else str(PID_MAX)
         else:
             value = shlex.quote(value)
         line = f"echo {value} >{self._file(path, name, writes=True)}"

@@ -7,6 +7,7 @@ import random
 import re
 from typing import Iterator, Optional
 
+from .._table import PIDS_LIMIT_MAX
 from .engine import Engine, FILES, LIMITS, Words
 
 HERE = os.path.dirname(os.path.abspath(__file__))
@@ -129,7 +130,7 @@ class Random:
     def _pids(self, engine: Engine) -> Words:
         group = self._group(engine, beside_root=True)
         near = engine.h.current(group) if group not in ("/", "/nope") else 0
-        value = self._choice.choice([near, near, near + 1, max(near - 1, 0), 0, 5, "max", "max", 4194304])
+        value = self._choice.choice([near, near, near + 1, max(near - 1, 0), 0, 5, "max", "max", PIDS_LIMIT_MAX])
         return ["write", group, "pids.max", str(value)]
 
     def _bound(self, engine: Engine) -> Words:

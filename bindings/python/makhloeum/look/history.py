@@ -12,6 +12,7 @@ import collections
 import re
 from typing import Dict, Iterator, List, Optional, Tuple
 
+from .._table import LINE_MAX
 from ..errors import PidsMax, Refused
 from ..hierarchy import Hierarchy
 
@@ -26,7 +27,6 @@ FIELDS = {"pids.max": LIMIT, "cgroup.max.depth": DEPTH, "cgroup.max.descendants"
 FILES = {field: file for file, field in FIELDS.items()}
 FILES |= {PEAK: "pids.peak", TOTAL: "pids.events", LOCAL: "pids.events.local", CURRENT: "pids.current"}
 LONG_ANSWER = 40
-LINE_MAX = 8192
 AUDIT_EACH = 20000
 
 _TIME = re.compile(rb"# at ([0-9]{1,12})(?:\.([0-9]{1,9}))?")

@@ -1,0 +1,101 @@
+"""What a line of the repository is: the part that it belongs to, the function that it is in, whether it defines a name."""
+
+import functools
+import re
+
+CLAUSE = re.compile(r"^\s*(requires|ensures|ghost)\b|[≡≢→×λ∀∃≤ℕ↔∷⊥]")
+NAME = r"(\w+)"
+FUNCTION = re.compile(r"^\s*(?:pub(?:\([a-z ]+\))? )?(?:const |unsafe |extern \"C\" )*fn " + NAME)
+IMPL = re.compile(r"^impl\b(?:<.*?>)? ?(?:[\w:<>, ]+ for )?(\w+)")
+TESTS = re.compile(
+    r"(^|/)tests?/|_test\.go$|^bindings/examples/|^evidence/|/bench|^crates/\w+_tests/|^crates/test_|/data/|/std(in|out)$"
+    r"|^\.ci/(tests|refused|shell|installed|must-not-compile)/|/fuzz/"
+)
+ENDINGS = {".md": "documents", ".svg": "documents", ".edit": "edits", ".mutant": "mutants"}
+
+
+def part_of(path, line):
+    """The part of the screen that a line belongs to."""
+    for ending, part in ENDINGS.items():
+        if path.endswith(ending):
+            return part
+    if path.startswith(("man/", "docs/")):
+        return "documents"
+    if TESTS.search(path) and not path.startswith("crates/word_tables/"):
+        return "tests"
+    if not path.startswith("crates/"):
+        return "code"
+    _, crate, folder, *_ = path.split("/")
+    if folder == "proofs":
+        return "proofs"
+    if crate.endswith("_laws") or path.endswith("/laws.rt"):
+        return "laws"
+    if folder == "specs":
+        return "specs"
+    return "clauses" if path.endswith(".rt") and CLAUSE.search(line) else "code"
+
+
+@functools.lru_cache(maxsize=None)
+def functions_of(text):
+    """For each line of a .rt file, counted from 1, the function that it is in, with the type of its impl."""
+    found, owner, inside = [None], None, None
+    for line in text.split("\n"):
+        if IMPL.match(line):
+            owner, inside = IMPL.match(line)[1], None
+        elif line == "}":
+            owner = inside = None
+        name = FUNCTION.match(line)
+        if name:
+            inside = f"{owner}::{name[1]}" if owner and line.startswith(" ") else name[1]
+        found.append(inside)
+    return found
+
+
+def definition_of(path, names):
+    """What a line of that file matches if it defines one of the names; None if the file can't define one."""
+    either, is_number = "|".join(map(re.escape, names)), names[0][0].isdigit()
+    if path.endswith(".antt") and "/specs/" in path:
+        return re.compile(rf"^\s*((abbrev|unfoldable|pub|record|data|rel) )+({either})\b|^  (pub )?({either}) : ")
+    if path.endswith(".rt"):
+        types = r"^\s*(pub(\(\w+\))? )?(struct|enum|trait|type|const|mod|static) "
+        items = rf"({FUNCTION.pattern.removesuffix(NAME)}|{types})({either})\b"
+        variants = rf"^    ({either})(\(.*\)| \{{)?,?$"
+        return re.compile(f"{items}|{variants}" + (rf"|\bconst \w+: .* = ({either})\b" if is_number else ""))
+    if path.endswith((".py", ".go", ".h", ".c", ".mjs")):
+        items = rf"^\s*(class|def|func|type|#define) ({either})\b|^\s*({either})\s.*= C\.|^\s*({either}) = \d"
+        return re.compile(items + (rf"|\b[A-Z_]+\b.* = ({either})\b" if is_number else ""))
+    return None
+
+
+def contract_of(lines, number):
+    """The clauses of the function whose definition is that line, counted from 1, and the words that they have."""
+    clauses = []
+    for line in map(str.strip, lines[number - 1 :]):
+        if line in ("{", "{ }") or line.endswith(";") or (line.endswith("{") and not CLAUSE.search(line)):
+            break
+        clauses += [line] if line.startswith(("requires", "ensures")) else []
+    cited = set(re.findall(r"\w+", " ".join(clauses)))
+    for place, items in re.findall(r"^ghost use Rattle\.(\w+\.specs\.\w+)\.\{(.*?)\};", "\n".join(lines), re.M):
+        names = [item for item in re.findall(r"\w+", items) if item in cited]
+        if names and not place.startswith("std."):
+            clauses.append(f"cites {', '.join(names)} of {place.replace('.', '/')}.antt")
+    return clauses
+
+
+def broken_by(path, texts):
+    """The functions whose bodies an edit changes, each with its file."""
+    found, file = [], None
+    for line in texts[path].split("\n"):
+        if line.startswith("file: "):
+            file = f"crates/{path.split('/')[1]}/{line.removeprefix('file: ').strip()}"
+        elif line.startswith("old: ") and file in texts:
+            before, old, _ = texts[file].partition(line.removeprefix("old: "))
+            if old:
+                found.append((file, functions_of(texts[file])[before.count("\n") + 1]))
+    return found
+
+
+def named_by(path, texts):
+    """What an edit breaks: what its line `# breaks:` says, else the functions that it changes."""
+    said = re.findall(r"^# breaks: (.+)$", texts[path], re.M)
+    return said or sorted({function for _, function in broken_by(path, texts) if function}) or ["no function"]

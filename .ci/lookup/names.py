@@ -1,0 +1,93 @@
+"""The names of one thing, as the table of words has them, and how they are found in a line."""
+
+import functools
+import re
+
+TABLE = "crates/word_tables/stdout"
+FILES = "crates/interface_files/src/file.rt"
+# The words of answers that mean nothing else in English.
+OWN_WORDS = ("nogroup", "noslot", "rootfixed", "haschildren", "hasprocesses", "noprocess", "pidinuse", "pidsmax", "nofile")
+
+
+def with_separators(number):
+    commas = f"{int(number):,}"
+    return [number, commas, commas.replace(",", "_")]
+
+
+def of_file(name, row, texts):
+    path, on_root, read, written, _, text = row
+    if name != path:
+        return [], ""
+    variants = re.findall(r'File::(\w+) => (?:\{\s*)?Row::new\(\s*b"([\w.]+)"', texts.get(FILES, ""))
+    said = ["on the root" if on_root == "yes" else "not on the root", "read" if read == "yes" else "not read"]
+    said.append("not written" if written == "-" else f"written: {written}")
+    return [variant for variant, of in variants if of == name], f"file: {', '.join(said)}" + (
+        f"; {text}" if text != "-" else ""
+    )
+
+
+def of_code(name, row):
+    """A refusal, or a fault of a line: an errno names all that have it, and has no other name."""
+    code, python, c, answer, errno, _, meaning = row
+    word = answer.split()[2]
+    if name not in (python, c, word, errno):
+        return [], ""
+    others = [] if name == errno else [python, c, word if word in OWN_WORDS else f"refused {word}"]
+    return others, f"code {code}: {python}, {c}, `{answer[2:]}`, {errno}: {meaning}"
+
+
+def of_path(name, row):
+    number, python, c, _, errno, _, meaning = row
+    if name not in (python, c, errno):
+        return [], ""
+    return [] if name == errno else [python, c], f"fault {number} of a path: {python}, {c}, {errno} of a mkdir: {meaning}"
+
+
+def of_number(name, row):
+    constant, value, meaning = row
+    if name.replace(",", "").replace("_", "") not in (constant, value) and name != constant:
+        return [], ""
+    return [constant, *with_separators(value)], f"number: {constant} is {int(value):,}: {meaning}"
+
+
+def of_command(name, row):
+    example, arguments, meaning = row
+    return [], f"command: {name} {arguments}: {meaning}" if name == example.split()[0] else ""
+
+
+def same_things(name, texts):
+    """The other names of the same thing, and what the table of words says of it."""
+    kinds = {"refusal": of_code, "fault": of_code, "path": of_path, "number": of_number, "command": of_command}
+    others = with_separators(name) if re.fullmatch(r"\d{4,}", name) else []
+    said = []
+    for kind, *row in (line.split("\t") for line in texts.get(TABLE, "").splitlines() if not line.startswith("#")):
+        more, sentence = of_file(name, row, texts) if kind == "file" else kinds[kind](name, row)
+        others += more
+        said += [sentence] if sentence else []
+    return sorted(set(others) - {name}), said
+
+
+def boundaries(name):
+    """A name of a file isn't part of a longer one, and a number not part of another."""
+    if name[0].isdigit():
+        return r"(?<![\d.,_])", r"(?![\d_]|[.,]\d)"
+    return (r"(?<![\w.])", r"(?!\w|\.\w)") if "." in name else (r"(?<!\w)", r"(?!\w)")
+
+
+def pattern_of(names):
+    """Finds one of the names as a word."""
+    return compiled(tuple(names))
+
+
+@functools.lru_cache(maxsize=None)
+def compiled(names):
+    longest_first = sorted(names, key=len, reverse=True)
+    return re.compile("|".join(re.escape(name).join(boundaries(name)) for name in longest_first))
+
+
+def longer_words(names, line):
+    """The words of a line that have one of the names in them, and are not one."""
+    names = [name for name in names if not name[0].isdigit()]
+    letters = r"[\w.]+" if any("." in name for name in names) else r"\w+"
+    found = {word.strip(".") for word in re.findall(letters, line)} if names else ()
+    return {word for word in found if any(name in word for name in names) and not pattern_of(names).search(word)}

@@ -1,0 +1,67 @@
+"""Tests of bindings/generate on a copy of the files that it writes."""
+import os
+import re
+import shutil
+import subprocess
+import sys
+import tempfile
+import unittest
+
+TOP = os.path.dirname(os.path.dirname(os.path.dirname(os.path.realpath(__file__))))
+HEADER = "bindings/c/makhloeum.h"
+
+
+class Generate(unittest.TestCase):
+    def setUp(self):
+        self.top = tempfile.mkdtemp()
+        self.addCleanup(shutil.rmtree, self.top)
+        named = re.search(r"TARGETS = \((.*?)\n\)", self.read("bindings/generate", TOP), re.S)[1]
+        for path in ("bindings/generate", "crates/word_tables/stdout", *re.findall(r'"(.+?)"', named)):
+            os.makedirs(os.path.dirname(os.path.join(self.top, path)), exist_ok=True)
+            shutil.copy(os.path.join(TOP, path), os.path.join(self.top, path))
+
+    def read(self, path, top=None):
+        with open(os.path.join(top or self.top, path), encoding="utf-8") as it:
+            return it.read()
+
+    def replace(self, path, old, new):
+        text = self.read(path)
+        self.assertIn(old, text)
+        with open(os.path.join(self.top, path), "w", encoding="utf-8") as it:
+            it.write(text.replace(old, new))
+
+    def run_generate(self, *words):
+        ran = subprocess.run(
+            [sys.executable, os.path.join(self.top, "bindings/generate"), *words], capture_output=True, text=True, check=False
+        )
+        return ran.returncode, (ran.stdout + ran.stderr).strip()
+
+    def test_current(self):
+        self.assertEqual(self.run_generate("--check"), (0, ""))
+        self.assertEqual(self.run_generate(), (0, ""))
+
+    def test_a_changed_part_is_reported_and_written_again(self):
+        whole = self.read(HEADER)
+        self.replace(HEADER, "    MK_EXISTS = 1,\n", "    MK_EXISTS = 7,\n")
+        self.assertEqual(self.run_generate("--check"), (1, f"{HEADER} is not what bindings/generate writes"))
+        self.assertEqual(self.run_generate(), (0, f"wrote {HEADER}"))
+        self.assertEqual(self.read(HEADER), whole)
+
+    def test_a_changed_table_reaches_the_header(self):
+        self.replace("crates/word_tables/stdout", "fault\t36\t", "fault\t40\t")
+        self.assertEqual(self.run_generate("--check")[0], 1)
+        self.run_generate()
+        self.assertIn("    MK_VALUE = 40\n", self.read(HEADER))
+
+    def test_what_is_written_by_hand_stays(self):
+        self.replace(HEADER, "#ifndef MAKHLOEUM_H", "/* by hand */\n#ifndef MAKHLOEUM_H")
+        self.assertEqual(self.run_generate("--check"), (0, ""))
+
+    def test_a_part_without_its_end_is_an_error(self):
+        self.replace(HEADER, "/* end of what is generated */", "")
+        status, said = self.run_generate()
+        self.assertEqual((status, said), (1, f"{HEADER}: a part without its end, or none"))
+
+
+if __name__ == "__main__":
+    unittest.main()

@@ -1,0 +1,158 @@
+"""Tests of ./where: on this repository that nothing is left out and all fits on a screen, on a made-up one what it says."""
+import contextlib
+import importlib.machinery
+import importlib.util
+import io
+import os
+import re
+import sys
+import unittest
+from unittest import mock
+
+TOP = os.path.dirname(os.path.dirname(os.path.dirname(os.path.realpath(__file__))))
+loader = importlib.machinery.SourceFileLoader("where", os.path.join(TOP, "where"))
+where = importlib.util.module_from_spec(importlib.util.spec_from_loader("where", loader))
+sys.dont_write_bytecode = True
+loader.exec_module(where)
+
+NAMES = (
+    "pids.peak",
+    "PidsMax",
+    "KeepsHistory",
+    "Engine::fork",
+    "1024",
+    "cgroup.kill",
+    "EAGAIN",
+    "Step.limit_met",
+    "mkdir",
+    "group",
+)
+
+
+def listed_in(screen):
+    """The files and the folders that a screen lists, with the folder crates/ left out."""
+    files, folders = set(), set()
+    for entry in (entry for line in screen for entry in line[where.LABEL :].split("; ")):
+        counted = re.fullmatch(r"(\S+)/ \d+ files", entry)
+        if counted:
+            folders.add(os.path.normpath(counted[1]))
+        elif re.match(r"\d+ files in ", entry):
+            folders.update(entry.split(" files in ")[1].split(", "))
+        elif "/ " in entry:
+            folder, names = entry.split("/ ", 1)
+            files.update(os.path.normpath(f"{folder}/{re.split('[:(]', name)[0]}") for name in names.split())
+        else:
+            files.add(re.split(r"[:( ]", entry)[0])
+    return files, folders
+
+
+def above(path):
+    """The folders that the file is in, as a screen may list them."""
+    short = path.removeprefix("crates/")
+    return {short.rsplit("/", depth)[0] for depth in range(1, short.count("/") + 1)} | {
+        path.split("/")[0] if "/" in path else "."
+    }
+
+
+class OfThisRepository(unittest.TestCase):
+    @classmethod
+    def setUpClass(cls):
+        cls.texts = where.repository()
+        cls.searches = {name: where.Search(name, cls.texts) for name in NAMES}
+
+    def test_every_file_with_the_name_is_listed(self):
+        for name, search in self.searches.items():
+            screen = search.screen()
+            (files, folders), whole = listed_in(screen), "\n".join(screen)
+            word = name.removeprefix("Step.")
+            pattern = where.pattern_of([word])
+            for path, text in self.texts.items():
+                if word not in text or not pattern.search(text):
+                    continue
+                short = path.removeprefix("crates/")
+                edit = f"{short.split('/')[0]}/{os.path.basename(path).removesuffix('.edit')} ("
+                with self.subTest(name, path=path):
+                    self.assertTrue(short in files or above(path) & folders or edit in whole, whole)
+
+    def test_longer_words_are_counted(self):
+        longer = self.searches["PidsMax"].longer
+        self.assertEqual(longer["OverPidsMax"], sum("OverPidsMax" in text for text in self.texts.values()))
+
+    def test_all_fits_on_a_screen(self):
+        for name, search in self.searches.items():
+            with self.subTest(name):
+                self.assertLessEqual(len(search.screen()), 50)
+                self.assertLessEqual(max(map(len, search.screen())), 150)
+
+    def test_a_file_and_its_variant(self):
+        screen = "\n".join(self.searches["pids.peak"].screen())
+        self.assertIn("pids.peak = PidsPeak\n  file: not on the root, read, not written; the number", screen)
+        self.assertRegex(screen, r"defined     flat_model/specs/File\.antt:\d+ PidsPeak : File\n")
+        self.assertRegex(screen, r"\nedits       undo_journal/peak_rendered_as_the_current_count \(Engine::render\)")
+
+    def test_an_errno_names_its_refusals(self):
+        said = self.searches["EAGAIN"].said
+        self.assertEqual(
+            [line.split(",")[0] for line in said],
+            ["code 3: Descendants", "code 4: Depth", "code 11: PidsMax", "fault 3 of a path: TooDeep"],
+        )
+
+    def test_a_number_with_separators(self):
+        self.assertEqual(self.searches["1024"].names, ["1024", "1,024", "1_024", "SLOTS"])
+
+    def test_a_function(self):
+        search = self.searches["Engine::fork"]
+        self.assertEqual([path for path, _, _ in search.defined], ["crates/undo_journal/src/fork.rt"])
+        self.assertIn("cites Answers of undo_journal/specs/Answer.antt", search.contract)
+
+
+class OfAMadeUpRepository(unittest.TestCase):
+    TEXTS = {
+        "crates/low/specs/Sum.antt": "-- A sum.\nabbrev pub Adds : Type 0\nAdds = IsFew\n",
+        "crates/low/src/sum.rt": "ghost use Rattle.low.specs.Sum.{Adds};\n\nimpl Sum {\n    pub fn add(self)\n"
+        "        ensures { Adds }\n    {\n        wrong\n    }\n\n    fn other(self) {\n        self.add()\n    }\n}\n",
+        "crates/low/must-fail-more/one.edit": "file: src/sum.rt\nold: wrong\nnew: right\n",
+        "crates/low/must-fail-more/two.edit": "# breaks: Adds.IsFew\nfile: src/sum.rt\nold: self.add()\nnew: self\n",
+        "crates/low_tests/data/sums.cases": "add 1 => 1\nadded\n",
+        "crates/low/proofs/sum/Sum/add/Answers.antt": "proof\n",
+    }
+
+    def screen(self, name):
+        return where.Search(name, self.TEXTS).screen()
+
+    def test_a_definition(self):
+        self.assertEqual(
+            self.screen("Adds"),
+            [
+                "Adds",
+                "defined     low/specs/Sum.antt:2 abbrev pub Adds : Type 0",
+                "clauses     low/src/sum.rt (add)",
+                "specs       low/specs/Sum.antt:2,3",
+                "edits       low/one (Sum::add); low/two (Adds.IsFew)",
+            ],
+        )
+
+    def test_a_function_with_its_calls_proofs_and_cases(self):
+        self.assertEqual(
+            self.screen("Sum::add"),
+            [
+                "Sum::add",
+                "defined     low/src/sum.rt:4 pub fn add(self)",
+                "contract    ensures { Adds }",
+                "            cites Adds of low/specs/Sum.antt",
+                "code        low/src/sum.rt:11",
+                "proofs      low/proofs/sum/Sum/add/Answers.antt:1",
+                "edits       low/one (Sum::add)",
+                "tests       low_tests/data/sums.cases:1",
+            ],
+        )
+
+    def test_a_name_that_is_nowhere(self):
+        said = io.StringIO()
+        with mock.patch.object(where, "repository", lambda: self.TEXTS), contextlib.redirect_stdout(said):
+            self.assertEqual(where.main(["absent"]), 1)
+        self.assertEqual(said.getvalue(), "absent: no file of the repository has it\n")
+
+
+if __name__ == "__main__":
+    unittest.main()
