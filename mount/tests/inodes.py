@@ -22,6 +22,8 @@ class Entry(ctypes.Structure):
 def entries(path):
     """Of a listing: the inode number and the type for each name."""
     stream = ctypes.c_void_p(libc.opendir(path.encode()))
+    if not stream:
+        raise OSError(ctypes.get_errno(), path)
     found = {}
     while at := libc.readdir(stream):
         e = Entry.from_address(at)
