@@ -107,13 +107,14 @@ static int begin_read(struct opened *o)
 void content_read(fuse_req_t req, fuse_ino_t number, size_t size, off_t at, struct fuse_file_info *fi)
 {
 	struct opened *o = opened_of(fi);
-	char few[TEXT_ROOM], *bytes = few;
-	cleanup_free char *many = NULL;
+	char few[TEXT_ROOM];
 	(void)number;
 	engine_lock();
 	int fault = opened_goes_on(o, at) ? 0 : begin_read(o);
 	size = opened_has(o, size, at);
-	if (fault == 0 && size > sizeof few && !(bytes = many = malloc(size)))
+	cleanup_free char *many = size > sizeof few ? malloc(size) : NULL;
+	char *bytes = many ? many : few;
+	if (fault == 0 && size > sizeof few && !many)
 		fault = -ENOMEM;
 	if (fault == 0)
 		opened_read(o, bytes, size, at);

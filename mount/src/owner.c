@@ -76,7 +76,7 @@ static struct shown *stored(const struct node *node)
 	o->shown = of_file(r, node->file);
 	o->next = r->owned;
 	r->owned = o;
-	return &o->shown;
+	return &r->owned->shown;
 }
 
 int owner_set(const struct node *node, const struct stat *st, int fields)

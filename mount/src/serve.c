@@ -60,14 +60,6 @@ static bool open_kept(const struct wishes *wishes)
 	return false;
 }
 
-static bool make_root(void)
-{
-	engine_lock();
-	bool made = remembered_make("/") != NULL;
-	engine_unlock();
-	return made;
-}
-
 bool serve_prepare(const struct wishes *wishes)
 {
 	if (wishes->keep && !controllers_keep(wishes->keep)) {
@@ -92,10 +84,6 @@ bool serve_prepare(const struct wishes *wishes)
 	}
 	look = (struct look){ .history = wishes->control, .uid = getuid(), .gid = getgid() };
 	clock_gettime(CLOCK_REALTIME, &look.born);
-	if (!make_root()) {
-		say("out of memory");
-		return false;
-	}
 	signal(SIGPIPE, SIG_IGN);
 	signal(SIGXFSZ, SIG_IGN);
 	return true;
@@ -165,8 +153,21 @@ static int answer(struct fuse_session *session, void (*ready)(void))
 	return ended;
 }
 
+/* Its owner is the user as whom this process serves: under `run` that of the program's namespace. */
+static bool make_root(void)
+{
+	engine_lock();
+	bool made = remembered_make("/") != NULL;
+	engine_unlock();
+	return made;
+}
+
 int serve(const char *where, void (*ready)(void))
 {
+	if (!make_root()) {
+		say("out of memory");
+		return REFUSED;
+	}
 	struct fuse_session *session = make_session();
 	if (!session || fuse_session_mount(session, where)) {
 		if (session)

@@ -133,7 +133,7 @@ static void reply_entry(fuse_req_t req, int fault, const struct fuse_entry_param
 
 static int look_up(uint64_t parent, const char *name, struct fuse_entry_param *entry)
 {
-	struct node directory, node;
+	struct node directory, node = { 0 };
 	int fault = nodes_find(parent, &directory);
 	if (fault == 0)
 		fault = nodes_find_below(&directory, name, &node);

@@ -22,6 +22,8 @@ class Entry(ctypes.Structure):
 def entries(path):
     """Of a listing: the inode number and the type for each name."""
     stream = ctypes.c_void_p(libc.opendir(path.encode()))
+    if not stream:
+        raise OSError(ctypes.get_errno(), path)
     found = {}
     while at := libc.readdir(stream):
         e = Entry.from_address(at)
@@ -180,6 +182,13 @@ def continued(at):
         same("after a seek to entry %d" % i, Entry.from_address(libc.readdir(stream)).name, order[i])
     libc.rewinddir(stream)
     same("from the start", Entry.from_address(libc.readdir(stream)).name, order[0])
+    os.mkdir(group + "/later")
+    libc.rewinddir(stream)
+    again = []
+    while found := libc.readdir(stream):
+        again.append(Entry.from_address(found).name)
+    same("the rest, with what was made meanwhile", sorted(again), sorted([*order, b"later"]))
+    os.rmdir(group + "/later")
     libc.closedir(stream)
     for name in names:
         os.rmdir(group + "/" + name)
@@ -224,6 +233,20 @@ def undone():
     m.end()
 
 
+def notified():
+    """A watcher is told, and no time that a stat shows has changed."""
+    m = Mount()
+    os.mkdir(m.path("e"))
+    before = times_of(m.path("e/cgroup.events"))
+    fd = libc.inotify_init()
+    libc.inotify_add_watch(fd, m.path("e/cgroup.events").encode(), 2)  # IN_MODIFY
+    write(m.path("e/cgroup.procs"), b"1\n")
+    same("it is told", os.read(fd, 100)[4:8], b"\2\0\0\0")
+    same("the times of the file", times_of(m.path("e/cgroup.events")), before)
+    os.close(fd)
+    m.end()
+
+
 def control():
     """The control directory has numbers and types too."""
     m = Mount()
@@ -245,5 +268,6 @@ else:
         test(m.at)
     m.end()
     undone()
+    notified()
     control()
 finish()
