@@ -35,7 +35,8 @@
 extern "C" {
 #endif
 
-/* The version of this header. No other file has it: what is built and packed takes it from here, by bindings/version.
+/* The version of this header. What is built and packed takes it from here, by bindings/version. Only cgshell has a copy, in
+   crates/shell_main; .ci/shell/run compares it.
 
    MAJOR is the number of the soname, libmakhloeum.so.1. It rises when a program that was built before could fail: a call or a
    constant is removed or renamed, a call has other parameters, a struct another layout, a status or code another meaning. MINOR
