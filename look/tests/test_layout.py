@@ -144,7 +144,7 @@ def test_a_list_that_is_cut_says_how_many_there_are(sized):
         b.size(width)
         assert b.until(lambda: b.run(fits)), width
         shown = row_of(b, "/a")[-1]
-        cut = re.fullmatch(r"(.*?) \.\. (\d+) more|(40) processes", shown)
+        cut = re.fullmatch(r"(.*?) \.\. (\d+) more|(40) in all", shown)
         assert cut and (cut.group(3) or b.run(pids) + int(cut.group(2)) == 40), (width, shown)
         assert row_of(b, "/b")[-1] == "7"
     assert b.until(lambda: b.run(pids) > 3), "a wide column has more of them"

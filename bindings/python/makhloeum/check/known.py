@@ -106,6 +106,7 @@ class Followed:
         self.home = {"1": "/"}
         self.events = Events()
         self.peaks = {way: Peaks(*way) for way in WAYS}
+        self._all: list[Events | Peaks] = [self.events, *self.peaks.values()]
 
     def peak_by_way(self, path: str) -> dict[tuple[bool, bool], int]:
         return {way: peaks.peak[path] for way, peaks in self.peaks.items()}
@@ -113,12 +114,12 @@ class Followed:
     def play(self, words: list[str], reply: str) -> None:
         said = reply.split(" ")
         if said[:2] == ["refused", "pidsmax"]:
-            for counts in (self.events, *self.peaks.values()):
+            for counts in self._all:
                 counts.refuse(self.home[words[1]], said[2])
         elif said != ["ok"]:
             return
         elif words[0] == "mkdir":
-            for counts in (self.events, *self.peaks.values()):
+            for counts in self._all:
                 counts.make(words[1])
         elif words[0] == "fork":
             self.home[words[2]] = self.home[words[1]]

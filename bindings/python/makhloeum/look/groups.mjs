@@ -78,7 +78,7 @@ export function processes(run, group, fresh, tag, room) {
 }
 
 function others(own, shown) {
-  return shown > 0 ? ` .. ${count(own - shown)} more` : `${count(own)} processes`;
+  return shown > 0 ? ` .. ${count(own - shown)} more` : `${count(own)} in all`;
 }
 
 // If not all of them have room, those that the last command brought come first.

@@ -277,5 +277,6 @@ at("summary").textContent = `${many(run.length, "command")}, ${count(those((inde
   `${many(those((index) => run.isKill(index)), "kill")}, ${many(run.paths.length - 1, "group")}`;
 at("slider").max = run.length;
 plotted = run.busiest(2);
+fitColumns();
 showPlots();
 begin();
