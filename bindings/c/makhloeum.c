@@ -102,12 +102,12 @@ uint32_t tell(mk_info *info, uint32_t status, const mk0_info *told) {
 
 /* ---- opening and closing */
 
-/* with the registry locked */
+/* with the registry locked; an engine in which another thread's call is running is open too */
 static bool is_open(const mk_handle *h) {
     struct slot *slot;
-    if (lock_open(h, &slot) != MK_DONE) return false;
-    pthread_mutex_unlock(&slot->lock);
-    return true;
+    uint32_t status = lock_open(h, &slot);
+    if (status == MK_DONE) pthread_mutex_unlock(&slot->lock);
+    return status != MK_CLOSED;
 }
 
 static bool init_condition(pthread_cond_t *condition) {

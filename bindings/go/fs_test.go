@@ -49,7 +49,7 @@ func TestFileSystemChanges(t *testing.T) {
 			t.Errorf("%v; not %v", row.err, row.want)
 		}
 	}
-	for _, name := range []string{"pids.max", "a/x", "x/cgroup.procs", "a/cgroup.kill", "cgroup.procs/a"} {
+	for _, name := range []string{"pids.max", "a/x", "x/cgroup.procs", "x/cgroup.type", "x/cpu.stat", "a/cgroup.kill", "cgroup.procs/a"} {
 		if _, err := f.Stat(name); !errors.Is(err, fs.ErrNotExist) {
 			t.Errorf("%s: %v", name, err)
 		}
@@ -96,9 +96,51 @@ func TestWritesAreThoseOfAMount(t *testing.T) {
 		{f.Mkdir("pids.x"), syscall.EINVAL}, {f.Mkdir("a b"), syscall.EINVAL}, {f.Mkdir(strings.Repeat("x", 256)), syscall.ENAMETOOLONG},
 		{f.Mkdir(deep[1:] + "/d"), syscall.EAGAIN}, {f.Mkdir("e/" + deep[1:]), syscall.ENOENT}, {f.Mkdir("a/pids.max"), syscall.EEXIST}, {f.Remove("a/pids.max"), syscall.EPERM},
 		{f.Remove("a b"), syscall.ENOENT}, {f.Remove("."), syscall.EBUSY}, {f.WriteFile("a/x\x00y", nil), syscall.ENOENT},
+		{f.WriteFile("a/pids.max\x00y", []byte("7")), syscall.ENOENT}, {f.Remove("x/pids.max"), syscall.ENOENT}, {f.Mkdir("x/pids.max"), syscall.ENOENT},
 	} {
 		if !errors.Is(row.err, row.want) {
 			t.Errorf("%v; not %v", row.err, row.want)
 		}
+	}
+}
+
+func TestNamesThatNoGroupHas(t *testing.T) {
+	f := open(t).FS()
+	long := strings.Repeat("x/", 2100) + "x"
+	for name, want := range map[string]error{long: syscall.ENAMETOOLONG, strings.Repeat("x", 256): syscall.ENAMETOOLONG, "a b": syscall.ENOENT, "pids.x": syscall.ENOENT} {
+		_, open := f.Open(name)
+		_, stat := f.Stat(name)
+		_, list := f.ReadDir(name)
+		for operation, err := range map[string]error{"open": open, "stat": stat, "list": list, "remove": f.Remove(name)} {
+			if !errors.Is(err, want) {
+				t.Errorf("%s %.20s: %v; not %v", operation, name, err, want)
+			}
+		}
+	}
+}
+
+// What the caller does with a part of a listing doesn't change the next one.
+func TestPartsOfAListingAreTheCallers(t *testing.T) {
+	h := open(t)
+	do(t, h, "mkdir /a")
+	opened, err := h.FS().Open("a")
+	if err != nil {
+		t.Fatal(err)
+	}
+	whole, err := h.FS().ReadDir("a")
+	if err != nil {
+		t.Fatal(err)
+	}
+	folder := opened.(fs.ReadDirFile)
+	var all []fs.DirEntry
+	for part, err := folder.ReadDir(2); err == nil; part, err = folder.ReadDir(2) {
+		all = append(all, part...)
+		_ = append(part, part[0])
+	}
+	if len(all) != len(whole) {
+		t.Fatal(len(all), len(whole))
+	}
+	for i, entry := range whole {
+		says(t, entry.Name(), all[i].Name(), nil)
 	}
 }

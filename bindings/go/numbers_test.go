@@ -37,6 +37,10 @@ func TestNumbers(t *testing.T) {
 	if _, ok, err := h.Limit("/a/b"); err != nil || ok {
 		t.Error(ok, err)
 	}
+	do(t, h, "write /a/b pids.max 0")
+	if limit, ok, err := h.Limit("/a/b"); err != nil || !ok || limit != 0 {
+		t.Error(limit, ok, err)
+	}
 	if populated, err := h.Populated("/a"); err != nil || !populated {
 		t.Error(populated, err)
 	}

@@ -67,6 +67,29 @@ func TestAWatchOfALongFile(t *testing.T) {
 	says(t, "closed", next(t, texts), nil)
 }
 
+// The memory of a text is as large as the calls are told that it is.
+func TestAWatchOfAFileThatGrows(t *testing.T) {
+	h := open(t)
+	do(t, h, "mkdir /a", "write /a cgroup.procs 1")
+	ctx, stop := context.WithCancel(context.Background())
+	texts := h.Watch(ctx, "/a", "cgroup.procs")
+	says(t, "1\n", next(t, texts), nil)
+	lines, text := 1, ""
+	for _, more := range []int{700, 700, 1400, 2800} {
+		for ; more > 0; more-- {
+			if err := h.Fork(1, 4000000+lines); err != nil {
+				t.Fatal(err)
+			}
+			lines++
+		}
+		for strings.Count(text, "\n") != lines {
+			text = next(t, texts)
+		}
+	}
+	stop()
+	says(t, "closed", next(t, texts), nil)
+}
+
 func TestAWatchEndsWithItsContextAndWithoutAFile(t *testing.T) {
 	h := open(t)
 	do(t, h, "mkdir /a")
@@ -83,7 +106,7 @@ func TestAWatchEndsWithItsContextAndWithoutAFile(t *testing.T) {
 	for text := next(t, unread); text != "closed"; text = next(t, unread) {
 		says(t, "populated 0\nfrozen 0\n", text, nil)
 	}
-	for _, row := range [][2]string{{"/none", "cgroup.events"}, {"a", "cgroup.events"}, {"/a", "none"}, {"/a", "cgroup.kill"}, {"/a\x00", "x\x00"}} {
+	for _, row := range [][2]string{{"/none", "cgroup.events"}, {"a", "cgroup.events"}, {"/a", "none"}, {"/a", "cgroup.kill"}, {"/a\x00", "x\x00"}, {"/a", "pids.max\x00x"}} {
 		says(t, "closed", next(t, h.Watch(context.Background(), row[0], row[1])), nil)
 	}
 	// a fault doesn't count a watch

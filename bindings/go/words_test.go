@@ -108,6 +108,12 @@ func TestArgumentsOutOfRange(t *testing.T) {
 	if left, err := h.ClearFaults(); err != nil || left != 0 {
 		t.Error(left, err)
 	}
+	_, where := h.Where(1<<32 + 1)
+	for _, err := range []error{h.Fork(1, 1<<32+5), h.Fork(1<<32+1, 5), h.Exit(1<<32 + 1), where, h.Exit(-1)} {
+		if codeOf(err) != BadValue {
+			t.Error(err)
+		}
+	}
 	if err := h.Fail("/a", 1, 1<<31-1); err != nil {
 		t.Error(err)
 	}

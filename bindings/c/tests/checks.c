@@ -216,6 +216,8 @@ static int faults_of_paths(void) {
     memset(text, 'a', sizeof text);
     text[0] = '/';
     CHECK(has_fault(text, 256, 0, 0) && has_fault(text, 257, MK_NAME_TOO_LONG, 1) && has_fault(text, 4096, MK_PATH_TOO_LONG, 4095));
+    text[300] = ' '; /* a bad byte comes before the length of its name */
+    CHECK(has_fault(text, 310, MK_BAD_BYTE, 300));
     for (size_t i = 0; i < 66; i += 2) memcpy(text + i, "/a", 2);
     CHECK(has_fault(text, 64, 0, 0) && has_fault(text, 66, MK_TOO_DEEP, 65) && has_fault(text, 65, MK_TOO_DEEP, 65));
     /* texts over few bytes: the engine and the check agree on which are paths */

@@ -213,6 +213,7 @@ static int failing(void) {
     CHECK(done(mk_fail(&h, "/a", 1, EIO, &info)) && failed(mk_subtree(&h, (const uint8_t *)"/a", 2, out, sizeof out, &info), EIO));
     CHECK(done(mk_fail(&h, "/a", 1, EIO, &info)) && failed(mk_has_group(&h, (const uint8_t *)"/a", 2, &info), EIO));
     CHECK(done(mk_fail(&h, "/a", 1, EIO, &info)) && failed(mk_line(&h, 1, (const uint8_t *)" mkdir\t/a", 9, out, sizeof out, &info), EIO));
+    CHECK(done(mk_fail(&h, "/a", 1, EIO, &info)) && failed(mk_line(&h, 1, (const uint8_t *)"\rcat\r/a\rpids.max\r", 18, out, sizeof out, &info), EIO));
     CHECK(done(mk_fail(&h, "/a", 1, EIO, &info)) && failed(mk_put(&h, "/a", "pids.max", "5", 1, 1, &info), EIO));
     CHECK(done(mk_fail(&h, "/a", 1, EIO, &info)) && failed(mk_words(&h, 1, "mkdir/a", (const size_t[]){5, 2}, 2, out, sizeof out, &info), EIO));
     CHECK(mk_depth(&h, &after) == MK_DONE && after == before && reads("/a", "pids.max", "max\n"));
@@ -230,6 +231,9 @@ static int failing(void) {
     CHECK(done(mk_fail(&h, "/a", 1, EIO, &info)) && done(mk_fail(&h, "/a", 1, ENOSPC, &info)) && done(mk_fail(&h, "/b", 7, EIO, &info)));
     CHECK(failed(mk_rmdir(&h, "/a", &info), ENOSPC) && mk_clear_faults(&h, &left) == MK_DONE && left == 1 && mk_clear_faults(&h, &left) == MK_DONE && left == 0);
     CHECK(mk_fail(&h, "a", 1, EIO, &info) == MK_FAULT && info.code == MK_PATH && mk_fail(&h, "/a", 0, EIO, &info) == MK_FAULT && info.code == MK_VALUE);
+    /* of two faults of the arguments the path's comes first */
+    CHECK(mk_fail(&h, "a", 0, EIO, &info) == MK_FAULT && info.code == MK_PATH && mk_fail(&h, "a b", 1, 0, &info) == MK_FAULT && info.code == MK_PATH);
+    CHECK(mk_vanish(&h, "/a/", 0, &info) == MK_FAULT && info.code == MK_PATH);
     CHECK(mk_fail(&h, "/a", 1, 0, &info) == MK_FAULT && info.code == MK_VALUE && mk_clear_faults(&h, &left) == MK_DONE && left == 0);
     return 0;
 }

@@ -56,6 +56,20 @@ static bool use(mk_handle *h) {
     return mk_copy(h, &copy) == MK_DONE && mk_close(h) == MK_DONE && mk_close(&copy) == MK_DONE;
 }
 
+/* Waits for a list that is longer than the library's own buffer, which changes and then doesn't. */
+static bool watch_a_long_file(mk_handle *h) {
+    enum { PROCESSES = 1500 };
+    static char text[PROCESSES * 8];
+    mk_info info;
+    if (mk_open(h) != MK_DONE) return false;
+    for (int pid = 2; pid < PROCESSES; pid++)
+        if (mk_fork(h, 1, pid, &info) != MK_DONE) return false;
+    bool good = mk_wait_file(h, "/", "cgroup.procs", "", 0, text, sizeof text, &info) == MK_DONE && info.len > 6000;
+    good = good && mk_wait_file(h, "/", "cgroup.procs", text, 1, text, sizeof text, &info) == MK_TIMED_OUT;
+    good = good && mk_wait_file(h, "/", "cgroup.procs", "", 0, text, 5, &info) == MK_TOO_SMALL;
+    return mk_close(h) == MK_DONE && good;
+}
+
 /* The resident memory of this process, in bytes; 0 if it cannot be read. */
 static long resident(void) {
     long pages = 0;
@@ -90,10 +104,10 @@ static long grown(void) {
 int main(void) {
     enum { ROUNDS = 100, ROOM = 2 * 1024 * 1024 };
     mk_handle first = {0}, second = {0};
-    if (!use(&first) || !use(&second)) return 2;
+    if (!use(&first) || !use(&second) || !watch_a_long_file(&first)) return 2;
     long before = live; /* the memory of two locks is kept: that of a hierarchy and that of its copy */
     for (int i = 0; i < ROUNDS; i++)
-        if (!use(&first) || !use(&second)) return 2;
+        if (!use(&first) || !use(&second) || (i < 3 && !watch_a_long_file(&first))) return 2;
     if (before > 2 || live != before) {
         fprintf(stderr, "leaks.c: %ld allocations are left, and %ld more after %d hierarchies\n", before, live - before, 2 * ROUNDS);
         return 1;

@@ -117,6 +117,9 @@ static void others(void) {
     CHECK(put("/", "cgroup.subtree_control", "+pids\n", 1) == 0 && put("/", "cgroup.subtree_control", "+memory", 1) == EOPNOTSUPP, "another");
     CHECK(put("/a", "cgroup.type", "domain", 1) == 0 && put("/a", "cgroup.type", "threaded", 1) == EOPNOTSUPP, "a third");
     CHECK(put("/a", "cgroup.procs", "0\n", 2) == 0 && mk_where(&h, 2, text, sizeof text, &info) == MK_DONE, "the caller's own process");
+    CHECK(mk_fork(&h, 1, 4194303, &info) == MK_DONE && put("/a", "cgroup.procs", "4194303", 1) == 0, "the greatest pid");
+    CHECK(put("/a", "cgroup.type", "domai", 1) == EOPNOTSUPP && put("/a", "cgroup.type", "domain ", 1) == 0, "a part of a constant");
+    CHECK(put("/a", "cgroup.type", "domainx", 1) == EOPNOTSUPP && put("/", "cgroup.subtree_control", "+", 1) == EOPNOTSUPP, "and more");
     CHECK(strcmp(text, "0::/a\n") == 0 && put("/a", "cgroup.procs", "0", 9) == ESRCH, "%s, and a caller that is no process", text);
     CHECK(mk_path_errno(0) == 0 && mk_path_errno(MK_NAME_TOO_LONG) == ENAMETOOLONG && mk_path_errno(MK_PATH_TOO_LONG) == ENAMETOOLONG, "long names");
     CHECK(mk_path_errno(MK_TOO_DEEP) == EAGAIN && mk_path_errno(MK_RESERVED) == EINVAL && mk_path_errno(MK_BAD_BYTE) == EINVAL, "names");

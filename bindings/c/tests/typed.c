@@ -84,6 +84,12 @@ static int long_texts(int first, int count) {
         CHECK(mk_read(&h, "/b", "cgroup.procs", text, sizes[i], &info) == MK_TOO_SMALL && info.needed == len + 1);
         CHECK(info.len == 0 && info.error == ERANGE && text[sizes[i]] == '#');
     }
+    /* the answer, with its first line and its marks, just fits or just doesn't */
+    size_t answer = strlen("0 ok\n") + len + 2 * (size_t)count;
+    for (size_t size = answer - 2; size < answer + 2; size++) {
+        memset(text, '#', sizeof text);
+        CHECK(done(mk_read(&h, "/b", "cgroup.procs", text, size, &info)) && info.len == len && strcmp(text, want) == 0 && text[size] == '#');
+    }
     for (size_t size = len + 1; size < sizeof text; size += 3001) {
         memset(text, '#', sizeof text);
         CHECK(done(mk_read(&h, "/b", "cgroup.procs", text, size, &info)) && info.len == len && strcmp(text, want) == 0);
@@ -103,6 +109,10 @@ static int numbers(void) {
     CHECK(done(mk_processes(&h, "/b", pids, MANY, &info)) && info.count == MANY && pids[0] == 10 && pids[MANY - 1] == 9 + MANY);
     for (int i = 1; i < MANY; i++) CHECK(pids[i] == pids[i - 1] + 1);
     CHECK(mk_processes(&h, "/b", pids, MANY - 1, &info) == MK_TOO_SMALL && info.needed == MANY && info.count == 0);
+    for (size_t room = 0; room < 4; room++) {
+        memset(pids, 0xff, sizeof pids);
+        CHECK(mk_processes(&h, "/b", pids, room, &info) == MK_TOO_SMALL && pids[room] == UINT32_MAX);
+    }
     CHECK(done(mk_processes(&h, "/", pids, 1, &info)) && info.count == 1 && pids[0] == 1);
     CHECK(done(mk_processes(&h, "/a", pids, 0, &info)) && info.count == 0);
     CHECK(long_texts(10, MANY) == 0);

@@ -9,7 +9,7 @@
 #include <time.h>
 #include <unistd.h>
 
-enum { PATIENCE_SECONDS = 60, TEXT_BYTES = 64 };
+enum { PATIENCE_SECONDS = 120, TEXT_BYTES = 64 };
 
 static mk_handle h;
 static mk_info info;
@@ -32,9 +32,17 @@ static void pause_for(double seconds) {
 
 /* ---- a thread that is cancelled while it waits */
 
+static int watching; /* threads that know the number of changes from which they wait */
+
+static void wait_for_watchers(int count) {
+    while (__atomic_load_n(&watching, __ATOMIC_ACQUIRE) < count) pause_for(0.001);
+    pause_for(0.03); /* so that they most likely wait already; if not, they see a change at once */
+}
+
 static void *wait_for_ever(void *unused) {
     uint64_t changes;
     mk_changes(&h, &changes);
+    __atomic_fetch_add(&watching, 1, __ATOMIC_ACQ_REL);
     return mk_wait(&h, changes, MK_FOREVER, &changes) == MK_DONE ? unused : NULL;
 }
 
@@ -111,8 +119,9 @@ static int in_the_child(void) {
     alarm(PATIENCE_SECONDS / 2);
     for (int round = 0; round < 4; round++) {
         if (mk_mkdir(&h, "/x", &info) != MK_DONE) return 1;
+        __atomic_store_n(&watching, 0, __ATOMIC_RELEASE);
         if (pthread_create(&thread, NULL, wait_for_ever, &h) != 0) return 2;
-        pause_for(0.03);
+        wait_for_watchers(1);
         if (mk_rmdir(&h, "/x", &info) != MK_DONE) return 3;
         if (pthread_join(thread, &good) != 0 || good == NULL) return 4;
     }
@@ -123,8 +132,9 @@ static int forked(void) {
     pthread_t threads[3];
     void *good;
     int child_status;
+    __atomic_store_n(&watching, 0, __ATOMIC_RELEASE);
     for (int i = 0; i < 3; i++) CHECK(pthread_create(&threads[i], NULL, wait_for_ever, &h) == 0);
-    pause_for(0.05);
+    wait_for_watchers(3);
     pid_t child = fork();
     CHECK(child >= 0);
     if (child == 0) _exit(in_the_child());
@@ -178,6 +188,8 @@ static int files(void) {
     /* faults don't count it */
     CHECK(done(mk_fail(&h, "/a", 1, EIO, &info)) && done(mk_wait_file(&h, "/a", "pids.events", "", 0, text, sizeof text, &info)));
     CHECK(mk_wait_file(&h, "/a", "pids.events", text, 0, text, sizeof text, &info) == MK_TIMED_OUT && mk_clear_faults(&h, &left) == MK_DONE && left == 1);
+    CHECK(done(mk_fail(&h, "/none", 1, EIO, &info)) && mk_wait_file(&h, "/none", "pids.max", "", 0, text, sizeof text, &info) == MK_REFUSED);
+    CHECK(mk_clear_faults(&h, &left) == MK_DONE && left == 1);
     return 0;
 }
 
@@ -224,6 +236,36 @@ static int nonblocking(void) {
     return 0;
 }
 
+/* An engine is open while a call of another thread runs in it: neither mk_open nor mk_copy takes the handle of mk_nonblocking. */
+static void *list_often(void *stop) {
+    static uint8_t lines[RECORDS * 32];
+    mk_info own;
+    while (!__atomic_load_n((bool *)stop, __ATOMIC_ACQUIRE))
+        if (mk_history(&h, 0, lines, sizeof lines, &own) != MK_DONE) return NULL;
+    return stop;
+}
+
+static int opened_twice(void) {
+    mk_handle quick, other = {0};
+    size_t depth;
+    pthread_t thread;
+    void *good;
+    static bool stop;
+    int blocked = 0;
+    CHECK(mk_open(&other) == MK_DONE);
+    mk_nonblocking(&h, &quick);
+    for (int i = 0; i < RECORDS; i++) CHECK(done(mk_write(&h, "/a", "pids.max", i % 2 == 0 ? "5" : "6", &info)));
+    CHECK(pthread_create(&thread, NULL, list_often, &stop) == 0);
+    while (blocked < 30) {
+        blocked += mk_depth(&quick, &depth) == MK_WOULD_BLOCK;
+        CHECK(mk_open(&quick) == MK_CLOSED && mk_copy(&other, &quick) == MK_CLOSED);
+    }
+    __atomic_store_n(&stop, true, __ATOMIC_RELEASE);
+    CHECK(pthread_join(thread, &good) == 0 && good != NULL);
+    CHECK(mk_depth(&quick, &depth) == MK_DONE && depth >= RECORDS && mk_close(&other) == MK_DONE && done(mk_write(&h, "/a", "pids.max", "max", &info)));
+    return 0;
+}
+
 static void *wait_for_a_closed_file(void *unused) {
     char text[TEXT_BYTES];
     mk_info own;
@@ -241,19 +283,59 @@ static int closed(void) {
     return 0;
 }
 
-/* A thread that is cancelled leaves frames behind that the address sanitizer takes for live ones. */
-#if defined(__SANITIZE_ADDRESS__)
-#define UNWINDS false
-#elif defined(__has_feature)
-#define UNWINDS (!__has_feature(address_sanitizer))
+/* ---- a handle that is closed and opened again at once: who waited for its first engine doesn't go on with the second */
+
+static mk_handle reopened;
+static int waiting;
+
+static void *wait_for_the_first(void *unused) {
+    uint64_t changes = 9;
+    char text[TEXT_BYTES] = "max\n";
+    mk_handle first = reopened;
+    mk_info own;
+    int number = __atomic_fetch_add(&waiting, 1, __ATOMIC_ACQ_REL);
+    uint32_t status = number == 0 ? mk_wait(&first, 1, MK_FOREVER, &changes)
+                                  : mk_wait_file(&first, "/a", "pids.max", text, MK_FOREVER, text, sizeof text, &own);
+    return status == MK_CLOSED && (number > 0 || changes == 0) ? unused : NULL;
+}
+
+static int closed_and_opened(void) {
+    for (int round = 0; round < 20; round++) {
+        pthread_t threads[2];
+        void *good;
+        CHECK(mk_open(&reopened) == MK_DONE && mk_mkdir(&reopened, "/a", &info) == MK_DONE);
+        __atomic_store_n(&waiting, 0, __ATOMIC_RELEASE);
+        for (int i = 0; i < 2; i++) CHECK(pthread_create(&threads[i], NULL, wait_for_the_first, &h) == 0);
+        while (__atomic_load_n(&waiting, __ATOMIC_ACQUIRE) < 2) pause_for(0.001);
+        pause_for(0.003);
+        CHECK(mk_close(&reopened) == MK_DONE && mk_open(&reopened) == MK_DONE && mk_mkdir(&reopened, "/a", &info) == MK_DONE);
+        for (int i = 0; i < 2; i++) CHECK(pthread_join(threads[i], &good) == 0 && good != NULL);
+        CHECK(mk_close(&reopened) == MK_DONE);
+    }
+    return 0;
+}
+
+/* A thread that is cancelled leaves frames behind that the address sanitizer takes for live ones. The thread sanitizer lets no child of
+   threads start a thread. */
+#if defined(__has_feature)
+#define HAS(sanitizer) __has_feature(sanitizer)
+#elif defined(__SANITIZE_ADDRESS__)
+#define HAS(sanitizer) HAS_##sanitizer
+#define HAS_address_sanitizer true
+#define HAS_thread_sanitizer false
+#elif defined(__SANITIZE_THREAD__)
+#define HAS(sanitizer) HAS_##sanitizer
+#define HAS_address_sanitizer false
+#define HAS_thread_sanitizer true
 #else
-#define UNWINDS true
+#define HAS(sanitizer) false
 #endif
 
-static int nobody_cancelled(void) { return UNWINDS ? cancelled() : 0; }
+static int cancelled_if_possible(void) { return HAS(address_sanitizer) ? 0 : cancelled(); }
+static int forked_if_possible(void) { return HAS(thread_sanitizer) ? 0 : forked(); }
 
 int main(void) {
-    int (*const parts[])(void) = {nobody_cancelled, full_seconds, forked, files, nonblocking, closed};
+    int (*const parts[])(void) = {cancelled_if_possible, full_seconds, forked_if_possible, files, nonblocking, opened_twice, closed, closed_and_opened};
     if (mk_open(&h) != MK_DONE || mk_mkdir(&h, "/a", &info) != MK_DONE) return 1;
     alarm(PATIENCE_SECONDS);
     for (size_t i = 0; i < sizeof parts / sizeof *parts; i++) {

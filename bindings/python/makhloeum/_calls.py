@@ -28,6 +28,7 @@ _REFUSED = {
     **dict.fromkeys(("getxattr", "setxattr", "listxattr", "removexattr"), errno.EOPNOTSUPP),
     **dict.fromkeys(("chdir", "fchdir", "chroot", "statvfs", "fstatvfs", "pathconf", "fpathconf"), errno.EOPNOTSUPP),
 }
+_MADE = ("mknod", "mkfifo")
 _TWO_PATHS = ("rename", "replace", "link", "symlink")
 _WITHOUT_EFFECT = ("chmod", "lchmod", "fchmod", "chown", "lchown", "fchown", "utime", "truncate", "ftruncate")
 
@@ -350,13 +351,16 @@ class Calls:
         def call(*words: Any, **more: Any) -> Any:
             one = more.get("dir_fd")
             fds = [more.get("src_dir_fd", one), more.get("dst_dir_fd", one)] if name in _TWO_PATHS else [one]
-            nodes = [self.node(word, fd) for word, fd in zip(words, fds)]
+            given = [*words, *(more[key] for key in ("path", "fd", "src", "dst") if key in more)]
+            nodes = [self.node(word, fd) for word, fd in zip(given, fds)]
             if not any(nodes):
                 return self.was[name](*words, **more)
-            if nodes[0] is not None:
+            if nodes[0] is not None and name in _MADE:
+                self._opened(nodes[0], False, False, True, True)
+            elif nodes[0] is not None:
                 nodes[0].check()
             if name in _REFUSED:
-                raise error(_REFUSED[name], str(words[0]) if isinstance(words[0], int) else os.fsdecode(words[0]))
+                raise error(_REFUSED[name], str(given[0]) if isinstance(given[0], int) else os.fsdecode(given[0]))
             return None
 
         return call

@@ -1,7 +1,8 @@
 """Descriptors that poll, select and epoll can wait on, for the files of which a mount tells that they have changed.
 
 Such a descriptor is one end of a pair of sockets, and a byte that is sent out of band to it is its POLLPRI. As on a mount it is
-ready before the first read, and then once the text differs from the one that was read last, or the group is gone.
+ready before the first read, and then once the text differs from the one that was read last, or the group is gone. It stays ready
+once nothing will change any more: the hierarchy is closed, or no longer mounted.
 """
 
 from __future__ import annotations
@@ -27,21 +28,31 @@ class Poller:
 
     def __init__(self, group: str, file: str) -> None:
         self._words = group.encode("utf-8", "surrogateescape"), file.encode()
-        self._lock = threading.Lock()
+        self._lock = threading.RLock()  # a signal handler may read the file too
         self._seen = b""
-        self._ready = True
+        self._ready, self._ended = True, False
         self._ends: tuple[socket.socket, socket.socket] | None = None
 
     def descriptor(self) -> int:
         """A new descriptor, which the caller closes. All of a file are ready together."""
         with self._lock:
             if self._ends is None:
-                self._ends = socket.socketpair()
-                for end in self._ends:
-                    end.setblocking(False)
-                if self._ready:
-                    self._tell()
+                self._ends = self._pair()
             return socket.dup(self._ends[0].fileno())
+
+    def _pair(self) -> tuple[socket.socket, socket.socket]:
+        near, far = socket.socketpair()
+        try:
+            near.shutdown(socket.SHUT_WR)  # nothing can be written to the number
+            for end in (near, far):
+                end.setblocking(False)
+            if self._ready:
+                far.send(b"!", socket.MSG_OOB)
+        except OSError:
+            near.close()
+            far.close()
+            raise
+        return near, far
 
     def _tell(self) -> None:
         if self._ends is not None:
@@ -50,10 +61,14 @@ class Poller:
     def take(self, text: bytes) -> None:
         """The file was read."""
         with self._lock:
+            if self._ended:
+                return
             self._seen = text
             if self._ready and self._ends is not None:
-                with contextlib.suppress(BlockingIOError):
-                    self._ends[0].recv(1, socket.MSG_OOB)
+                # before Linux 6.10 a byte that was taken fills the socket until the next recv; a signal handler may have taken it
+                for kind in (socket.MSG_OOB, 0):
+                    with contextlib.suppress(OSError):
+                        self._ends[0].recv(1, kind | socket.MSG_DONTWAIT)
             self._ready = False
 
     def look(self, h: Hierarchy) -> None:
@@ -68,6 +83,13 @@ class Poller:
                 self._ready = True
                 self._tell()
 
+    def end(self) -> None:
+        """Nothing will be told any more: who waits is woken."""
+        with self._lock:
+            if not self._ready:
+                self._tell()
+            self._ready = self._ended = True
+
     def close(self) -> None:
         with self._lock:
             if self._ends is not None:
@@ -81,22 +103,23 @@ class Watch:
 
     def __init__(self, h: Hierarchy) -> None:
         self._h = h
-        self._pollers: weakref.WeakSet[Poller] = weakref.WeakSet()
-        self._lock = threading.Lock()
+        self._pollers: set[weakref.ref[Poller]] = set()
+        self._lock = threading.RLock()
         self._thread: threading.Thread | None = None
         self._ended = False
 
     def add(self, poller: Poller) -> None:
         with self._lock:
-            self._pollers.add(poller)
+            self._pollers.add(weakref.ref(poller, self._pollers.discard))
             if self._thread is None and not self._ended:
                 self._thread = threading.Thread(target=self._follow, name="makhloeum-poll", daemon=True)
                 self._thread.start()
 
+    def _added(self) -> list[Poller]:
+        return [poller for it in list(self._pollers) if (poller := it()) is not None]
+
     def look(self) -> None:
-        with self._lock:
-            pollers = list(self._pollers)
-        for poller in pollers:
+        for poller in self._added():
             poller.look(self._h)
 
     def _follow(self) -> None:
@@ -109,7 +132,9 @@ class Watch:
             except TimeoutError:
                 continue
             except ValueError:  # the hierarchy is closed
-                return
+                break
+        for poller in self._added():
+            poller.end()
 
     def end(self) -> None:
         self._ended = True

@@ -109,8 +109,16 @@ class Tree:
 
     def __init__(self, h: Hierarchy, pid: int) -> None:
         self.h, self.pid = h, pid
-        self.opened: weakref.WeakSet[RawFile] = weakref.WeakSet()
+        self._opened: set[weakref.ref[RawFile]] = set()
         self.watch = Watch(h)
+
+    def add(self, file: RawFile) -> None:
+        """A file was opened."""
+        self._opened.add(weakref.ref(file, self._opened.discard))
+
+    def _opened_files(self) -> list[RawFile]:
+        """Other threads may open files meanwhile."""
+        return [file for it in list(self._opened) if (file := it()) is not None]
 
     def locate(self, group: str, shown: str) -> Node:
         """The group or file of that path, as "/a/pids.max", which may not be there."""
@@ -154,7 +162,7 @@ class Tree:
             raise error(errno.ENOTDIR, shown)
         with as_mount(shown):
             self.h.rmdir(group)
-        for file in list(self.opened):
+        for file in self._opened_files():
             file.gone = file.gone or file.node.group == group
         self.watch.look()
 
@@ -177,7 +185,7 @@ class RawFile(io.RawIOBase):
         self.name, self.mode = node.shown, ("rb+" if writes else "rb") if reads else "wb"
         self.gone = False
         self.poller = Poller(node.group, node.name) if node.name in NOTIFIED else None
-        node.tree.opened.add(self)
+        node.tree.add(self)
         if self.poller is not None:
             node.tree.watch.add(self.poller)
 
@@ -197,8 +205,9 @@ class RawFile(io.RawIOBase):
 
     def seek(self, offset: int, whence: int = os.SEEK_SET) -> int:
         end = len(self._text) if self._read_to >= 0 else 0
-        position = offset + {os.SEEK_SET: 0, os.SEEK_CUR: self._position, os.SEEK_END: end}[whence]
-        if position < 0:
+        bases = {os.SEEK_SET: 0, os.SEEK_CUR: self._position, os.SEEK_END: end}
+        position = offset + bases.get(whence, 0)
+        if position < 0 or whence not in bases:
             raise error(errno.EINVAL, self.name)
         self._position = position
         return position

@@ -54,7 +54,9 @@ def mounted_at(
     try:
         yield h
     finally:
-        CALLS.unmount(tree)
-        if hierarchy is None:
-            h.close()
-        tree.watch.end()
+        try:
+            if hierarchy is None:
+                h.close()
+            tree.watch.end()
+        finally:
+            CALLS.unmount(tree)

@@ -105,6 +105,30 @@ def test_blocks_in_threads():
     assert not failures and not any(thread.is_alive() for thread in threads)
 
 
+def test_files_are_closed_while_a_block_ends(hierarchy):
+    failures = []
+
+    def close_all(fds):
+        try:
+            for fd in fds:
+                os.close(fd)
+        except BaseException as failure:  # to be raised by the test
+            failures.append(failure)
+
+    before = sys.getswitchinterval()
+    sys.setswitchinterval(1e-6)  # so that one thread runs in the middle of what the other does
+    try:
+        for _ in range(20):
+            with mounted_at(AT, hierarchy):
+                fds = [os.open(f"{AT}/cgroup.procs", os.O_RDONLY) for _ in range(400)]
+                thread = threading.Thread(target=close_all, args=(fds,))
+                thread.start()
+            thread.join(60)
+    finally:
+        sys.setswitchinterval(before)
+    assert not failures and not thread.is_alive() and code(os.read, fds[0], 1) == "EBADF"
+
+
 def test_one_over_another_and_below_it(hierarchy):
     hierarchy.mkdir("/lower")
     with mounted_at(AT, hierarchy), mounted_at(AT) as upper:
@@ -299,6 +323,29 @@ def test_real_files_are_not_moved_into_a_mount(h, tmp_path):
     for call in (os.rename, os.replace, os.link, os.symlink):
         assert code(call, tmp_path / "f", f"{AT}/a/f") == "EPERM" and code(call, f"{AT}/a/pids.max", tmp_path / "g") == "EPERM"
     assert os.listdir(tmp_path) == ["f"] and (tmp_path / "f").read_text() == "real"
+
+
+def test_arguments_may_have_their_names(h, tmp_path):
+    (tmp_path / "f").write_text("real")
+    for call in (os.rename, os.replace, os.link, os.symlink):
+        assert code(call, src=tmp_path / "f", dst=f"{AT}/a/f") == code(call, tmp_path / "f", dst=f"{AT}/a/f") == "EPERM"
+        assert code(call, src=f"{AT}/a/pids.max", dst=tmp_path / "g") == "EPERM"
+    assert code(os.unlink, path=f"{AT}/a/pids.max") == "EPERM" and code(os.mkfifo, path=f"{AT}/a/f") == "EACCES"
+    assert code(os.statvfs, path=AT) == code(os.getxattr, path=AT, attribute="user.x") == code(os.chdir, path=AT) == "EOPNOTSUPP"
+    assert os.chmod(path=f"{AT}/a", mode=0o700) is None and code(os.chmod, path=f"{AT}/none", mode=0o700) == "ENOENT"
+    assert os.listdir(tmp_path) == ["f"]
+
+
+def test_no_other_kind_of_file_is_made(h):
+    for call in (os.mkfifo, os.mknod):
+        assert [code(call, f"{AT}/{path}") for path in ("a/f", "f", "a/pids.max", "a", "none/f")] == ["EACCES", "EACCES", "EEXIST", "EEXIST", "ENOENT"]
+
+
+def test_a_seek_from_elsewhere_is_refused(h):
+    fd = os.open(f"{AT}/a/pids.max", os.O_RDONLY)
+    assert code(os.lseek, fd, 0, os.SEEK_DATA) == code(os.lseek, fd, 0, 9) == code(os.lseek, fd, -1, os.SEEK_SET) == "EINVAL"
+    assert os.read(fd, 9) == b"max\n"
+    os.close(fd)
 
 
 def test_what_reaches_the_real_functions_raises(h, tmp_path):

@@ -1,9 +1,14 @@
 """poll, select and epoll wait for changes of files under mounted_at, as on a mount."""
 
+import faulthandler
 import os
 import select
+import shutil
+import signal
 import threading
 import time
+from os import read as early_read
+from os import write as early_write
 
 import pytest
 
@@ -11,6 +16,14 @@ from makhloeum import PidsMax, mounted_at
 
 AT = "/sys/fs/cgroup"
 PATIENCE = 20000  # milliseconds
+
+
+@pytest.fixture(autouse=True)
+def an_end():
+    """Whoever waits for a lock for ever ends the tests."""
+    faulthandler.dump_traceback_later(100, exit=True)
+    yield
+    faulthandler.cancel_dump_traceback_later()
 
 
 @pytest.fixture(params=["own", "given"])
@@ -153,3 +166,158 @@ def test_nothing_is_left_of_it(hierarchy):
             os.rmdir(f"{AT}/n")
         os.close(fd)
     assert len(os.listdir("/proc/self/fd")) == before and threading.active_count() == threads
+
+
+# ---- ends
+
+
+def test_a_wait_ends_with_the_hierarchy(hierarchy, ready):
+    with mounted_at(AT, hierarchy):
+        os.mkdir(f"{AT}/a")
+        fd = os.open(f"{AT}/a/cgroup.events", os.O_RDONLY)
+        os.read(fd, 99)
+        threading.Timer(0.05, hierarchy.close).start()
+        assert ready(fd, PATIENCE) and ready(fd, 0)
+        with pytest.raises(ValueError, match="closed"):
+            os.pread(fd, 99, 0)
+        assert ready(fd, 0)
+        os.close(fd)
+
+
+@pytest.mark.parametrize("own", [True, False])
+def test_a_wait_ends_with_the_block(hierarchy, ready, own):
+    block = mounted_at(AT, None if own else hierarchy)
+    block.__enter__()
+    os.mkdir(f"{AT}/a")
+    fd, file = os.open(f"{AT}/a/cgroup.events", os.O_RDONLY), open(f"{AT}/a/pids.events")
+    os.read(fd, 99)
+    file.read()
+    threading.Timer(0.05, block.__exit__, [None, None, None]).start()
+    assert ready(fd, PATIENCE) and ready(file, PATIENCE)
+    file.close()
+    os.close(fd)
+
+
+# ---- threads, handlers, and many changes
+
+
+def test_each_of_several_threads_sees_the_last_change(h, ready):
+    h.write("/a", "pids.max", 1)
+    h.write("/a", "cgroup.procs", 1)
+    first = os.open(f"{AT}/a/pids.events", os.O_RDONLY)
+    fds = [os.open(f"{AT}/a/pids.events", os.O_RDONLY) for _ in range(3)] + [first]
+    last, failures = b"max 40\n", []
+
+    def follow(fd):
+        try:
+            text = os.pread(fd, 99, 0)
+            while text != last:
+                assert ready(fd, PATIENCE), text
+                text = os.pread(fd, 99, 0)
+        except BaseException as failure:  # to be raised by the test
+            failures.append(failure)
+
+    threads = [threading.Thread(target=follow, args=(fd,)) for fd in fds]
+    for thread in threads:
+        thread.start()
+    for _ in range(40):
+        refused_fork(h)
+        os.close(os.dup(first))
+    for thread in threads:
+        thread.join(60)
+    assert not failures and not any(thread.is_alive() for thread in threads)
+    for fd in fds:
+        os.close(fd)
+
+
+def test_files_are_opened_while_groups_are_removed(h):
+    """The list of open files is read while it grows."""
+    stopped, failures = threading.Event(), []
+
+    def use():
+        try:
+            while not stopped.is_set():
+                files = [open(f"{AT}/a/cgroup.events") for _ in range(5)]
+                for file in files:
+                    file.close()
+        except BaseException as failure:  # to be raised by the test
+            failures.append(failure)
+
+    threads = [threading.Thread(target=use) for _ in range(2)]
+    for thread in threads:
+        thread.start()
+    try:
+        for _ in range(60):
+            os.mkdir(f"{AT}/n")
+            os.rmdir(f"{AT}/n")
+    finally:
+        stopped.set()
+        for thread in threads:
+            thread.join(60)
+    assert not failures
+
+
+def test_a_handler_may_read_the_file(h):
+    fd, told = os.open(f"{AT}/a/cgroup.events", os.O_RDONLY), []
+
+    def handler(number, frame):
+        told.append(os.pread(fd, 99, 0))
+
+    before = signal.signal(signal.SIGUSR1, handler)
+    stopped = threading.Event()
+
+    def interrupt():
+        while not stopped.is_set():
+            os.kill(os.getpid(), signal.SIGUSR1)
+            time.sleep(0.0002)
+
+    thread = threading.Thread(target=interrupt)
+    thread.start()
+    try:
+        for pid in range(2, 400):
+            h.fork(1, pid)
+            with open(f"{AT}/a/cgroup.procs", "w") as procs:
+                procs.write(str(pid))
+            assert os.pread(fd, 99, 0) == b"populated 1\nfrozen 0\n"
+            h.exit(pid)
+            assert os.pread(fd, 99, 0) == b"populated 0\nfrozen 0\n"
+    finally:
+        stopped.set()
+        thread.join()
+        signal.signal(signal.SIGUSR1, before)
+    assert set(told) <= {b"populated 0\nfrozen 0\n", b"populated 1\nfrozen 0\n"} and len(told) > 10
+    os.close(fd)
+
+
+def test_a_thousand_changes(h, ready):
+    """Bytes that were taken don't fill the socket."""
+    fd = os.open(f"{AT}/a/cgroup.events", os.O_RDONLY)
+    os.read(fd, 99)
+    for _ in range(500):
+        for file, value in (("cgroup.procs", "1"), ("cgroup.procs", None)):
+            if value is None:
+                h.undo()
+            else:
+                h.write("/a", file, value)
+            assert ready(fd, PATIENCE)
+            os.pread(fd, 99, 0)
+    os.close(fd)
+
+
+def test_a_number_that_can_be_waited_for_takes_nothing_else(h, tmp_path):
+    (tmp_path / "f").write_text("real")
+    fd, real = os.open(f"{AT}/a/cgroup.events", os.O_RDWR), os.open(tmp_path / "f", os.O_RDWR)
+    for call in (
+        lambda: early_read(fd, 9), lambda: early_write(fd, b"1"), lambda: os.sendfile(fd, real, 0, 4), lambda: os.sendfile(real, fd, None, 4),
+        lambda: os.splice(real, fd, 4), lambda: os.fsync(fd), lambda: os.copy_file_range(fd, real, 1), lambda: os.posix_fallocate(fd, 0, 1),
+    ):
+        with pytest.raises(OSError):
+            call()
+    os.set_blocking(fd, True)  # a read doesn't wait even so
+    assert os.read(fd, 99) == b"populated 0\nfrozen 0\n" and os.pread(fd, 99, 0) == b"populated 0\nfrozen 0\n"
+    for it in (fd, real):
+        os.close(it)
+    shutil.copyfile(f"{AT}/a/cgroup.events", tmp_path / "g")
+    assert (tmp_path / "g").read_text() == "populated 0\nfrozen 0\n"
+    with pytest.raises(OSError):
+        shutil.copyfile(tmp_path / "f", f"{AT}/a/cgroup.events")

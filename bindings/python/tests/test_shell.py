@@ -12,6 +12,7 @@ import sys
 import termios
 
 import makhloeum
+import pytest
 from makhloeum.__main__ import Shell
 from makhloeum.look.tree import draw, of_hierarchy
 
@@ -189,6 +190,22 @@ def test_a_script_that_reads_itself(tmp_path):
     ran = run(str(script))
     assert (ran.returncode, ran.stderr) == (1, "")
     assert ran.stdout == f"[Errno {errno.ELOOP}] the script reads itself: '{script}'\n0::/\n"
+
+
+def test_a_script_that_was_interrupted_can_be_read_again(hierarchy, tmp_path, monkeypatch):
+    (tmp_path / "script").write_text("mkdir /a\nmkdir /b\n")
+    out = io.StringIO()
+    shell = Shell(hierarchy, out)
+
+    def interrupted(line):
+        raise KeyboardInterrupt
+
+    with monkeypatch.context() as patched:
+        patched.setattr(shell, "onecmd", interrupted)
+        with pytest.raises(KeyboardInterrupt):
+            shell.answer_file(str(tmp_path / "script"))
+    shell.onecmd(f"source {tmp_path / 'script'}")
+    assert hierarchy.groups() == ["/", "/a", "/b"] and out.getvalue() == ""
 
 
 def test_an_interrupt_ends_a_script_without_a_traceback(tmp_path):
