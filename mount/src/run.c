@@ -10,7 +10,9 @@
 #include "link.h"
 #include "operations.h"
 #include "own.h"
+#include "owner.h"
 #include "real.h"
+#include "remembered.h"
 #include "signals.h"
 #include "space.h"
 #include "tracer.h"
@@ -311,6 +313,9 @@ int run_program(char **program, const struct wishes *asked)
 		return REFUSED_HERE;
 	look.uid = geteuid();
 	look.gid = getegid();
+	engine_lock();
+	owner_begin(remembered_find("/"), NULL); /* the root is of the program's user, by its number in the new namespace */
+	engine_unlock();
 	look.marked = true;
 	hide(true);
 	real_are_reported();
