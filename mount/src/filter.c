@@ -25,6 +25,11 @@
 #define SECCOMP_FILTER_FLAG_WAIT_KILLABLE_RECV (1UL << 5)
 #endif
 
+#ifndef __NR_statmount /* Linux 6.8; they show the machine's mounts, and programs that do not find them read mountinfo */
+#define __NR_statmount 457
+#define __NR_listmount 458
+#endif
+
 /* The bit that marks system call numbers of x32: other numbers for the same calls. */
 enum { X32 = 0x40000000 };
 
@@ -93,6 +98,8 @@ int filter_install(void)
 		SEEN_WITH(__NR_unshare, 0, CLONE_NEWCGROUP, STOPS),
 		SEEN_WITHOUT(__NR_mount, 3, other_mounts, SECCOMP_RET_USER_NOTIF),
 		SEEN(__NR_fsopen, SECCOMP_RET_USER_NOTIF),
+		SEEN(__NR_statmount, SECCOMP_RET_ERRNO | ENOSYS),
+		SEEN(__NR_listmount, SECCOMP_RET_ERRNO | ENOSYS),
 		SEEN(__NR_ptrace, SECCOMP_RET_USER_NOTIF),
 		SEEN_WITH(__NR_prlimit64, 0, UINT_MAX, SECCOMP_RET_USER_NOTIF),
 		SEEN_IF(__NR_prctl, 0, PR_SET_SECCOMP, STOPS),

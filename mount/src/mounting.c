@@ -20,16 +20,18 @@
 
 enum { READ_ONLY = 1, NAME = 16 }; /* MS_RDONLY; sys/mount.h conflicts with other names of linux/mount.h */
 
-static bool names_cgroup2(const struct seccomp_notif *call, int argument)
+/* The version of cgroups that an argument names; 0: another file system. */
+static int version_of(const struct seccomp_notif *call, int argument)
 {
 	char type[NAME] = "";
-	return call->data.args[argument] && memory_text((pid_t)call->pid, call->data.args[argument], type, sizeof type) &&
-	       strcmp(type, "cgroup2") == 0;
+	if (!call->data.args[argument] || !memory_text((pid_t)call->pid, call->data.args[argument], type, sizeof type))
+		return 0;
+	return strcmp(type, "cgroup2") == 0 ? 2 : strcmp(type, "cgroup") == 0;
 }
 
 bool mounting_opens(const struct seccomp_notif *call)
 {
-	return names_cgroup2(call, 0);
+	return version_of(call, 0) != 0;
 }
 
 int mounting_root(pid_t thread, char *out, size_t size)
@@ -138,8 +140,10 @@ static int mount_groups(int listener, const struct seccomp_notif *call)
 
 bool mounting_takes(int listener, const struct seccomp_notif *call, int *error)
 {
-	if (!names_cgroup2(call, 2))
-		return false;
-	*error = mount_groups(listener, call);
-	return true;
+	int version = version_of(call, 2);
+	if (version == 2)
+		*error = mount_groups(listener, call);
+	else if (version == 1) /* as where version 2 has all controllers */
+		*error = has_capability((pid_t)call->pid, CAP_SYS_ADMIN) ? EBUSY : EPERM;
+	return version != 0;
 }

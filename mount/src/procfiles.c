@@ -4,6 +4,7 @@
 #include "groups.h"
 #include "mounting.h"
 #include "opening.h"
+#include "place.h"
 #include "space.h"
 #include "spaces.h"
 #include <fcntl.h>
@@ -153,6 +154,46 @@ static int controllers_text(void)
 	return end_text(fd, out, 0);
 }
 
+/* ---------------------------------------------------------------- the cpuset of a process */
+
+/* A short file of the mount without its last line feed. */
+static bool read_short(const char *path, char *out, size_t size)
+{
+	cleanup_fd int fd = groups_open(path, O_RDONLY);
+	ssize_t n = fd < 0 ? -1 : read(fd, out, size - 1);
+	out[n > 0 ? n - 1 : 0] = 0;
+	return n > 0;
+}
+
+/* Its group, or the nearest above that has the controller. */
+static bool find_cpuset(pid_t pid, char group[PATH_MAX_SAID])
+{
+	char path[PATH_MAX_SAID + 32], text[PATH_MAX_SAID + 8];
+	snprintf(path, sizeof path, "/.makhloeum.%d.0", pid);
+	if (!read_short(path, text, sizeof text) || strncmp(text, "0::", 3) != 0)
+		return false;
+	snprintf(group, PATH_MAX_SAID, "%.*s", PATH_MAX_SAID - 1, text + 3);
+	for (; !is_root(group); go_up(group)) {
+		snprintf(path, sizeof path, "%s/cgroup.controllers", group);
+		if (read_short(path, text, sizeof text) && strncmp(text, "cpuset", 6) == 0)
+			break;
+	}
+	return true;
+}
+
+static int cpuset_text(pid_t reader, pid_t pid)
+{
+	char group[PATH_MAX_SAID] = "/", root[PATH_MAX_SAID], seen[PATH_MAX_SAID + 1];
+	int fault = mounting_root(reader, root, sizeof root);
+	if (fault == 0 && controllers_kept() & HAS_CPUSET && !find_cpuset(pid, group))
+		fault = errno ? -errno : -EIO;
+	if (fault)
+		return fault;
+	seen_from(root, group, seen);
+	strcat(seen, "\n");
+	return constant_text("cpuset", seen);
+}
+
 /* ---------------------------------------------------------------- which file it is */
 
 /* Cuts the last name off a path, and returns it. */
@@ -190,5 +231,5 @@ int procfiles_text(pid_t thread, int file)
 	pid_t pid = opening_seen_from(thread, (pid_t)strtol(who, NULL, 10));
 	if (pid <= 0)
 		return pid ? pid : -1;
-	return is_group ? cgroup_text(thread, pid) : is_cpuset ? constant_text(what, "/\n") : mounts_text(thread, pid, what);
+	return is_group ? cgroup_text(thread, pid) : is_cpuset ? cpuset_text(thread, pid) : mounts_text(thread, pid, what);
 }

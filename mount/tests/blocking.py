@@ -230,9 +230,14 @@ def stopping():
     step("nobody stays stopped", until(lambda: not any(stat_of(pid)[0] == b"T" for pid in others)))
 
 
-def timed(call, *args):
-    start = time.monotonic()
-    return call(*args), time.monotonic() - start
+def cost_of_clones(fd, others):
+    """What came of twenty children, and the processor time that makhloeum used for them."""
+    def used():
+        return sum(time.clock_gettime(~pid << 3 | 2) for pid in others)  # the clock of a process, as the kernel numbers it
+
+    before = used()
+    got = {clone_into(fd) for _ in range(20)}
+    return got, used() - before
 
 
 def elsewhere():
@@ -242,6 +247,7 @@ def elsewhere():
         for k in range(20):
             os.mkdir(AT + "/g%d/h%d" % (i, k))
     os.makedirs(AT + "/z/y")
+    others = [tracer(), *own(tracer())]
     r, w = os.pipe()
     pid = os.fork()
     if pid == 0:
@@ -250,15 +256,13 @@ def elsewhere():
         failed = libc.unshare(CLONE_NEWNS | CLONE_NEWCGROUP)
         mount("none", home, "cgroup2")
         fd = os.open(home + "/y", os.O_RDONLY)
-        got, took = zip(*(timed(clone_into, fd) for _ in range(20)))
-        os.write(w, repr((failed, set(got), min(took))).encode())
+        os.write(w, repr((failed, cost_of_clones(fd, others))).encode())
         os._exit(0)
     os.waitpid(pid, 0)
-    failed, got, took = ast.literal_eval(os.read(r, 200).decode())
+    failed, (got, cost) = ast.literal_eval(os.read(r, 200).decode())
     same("twenty children", (failed, got), (0, {0}))
-    fd = os.open(AT + "/z/y", os.O_RDONLY)
-    least = min(timed(clone_into, fd)[1] for _ in range(20))
-    step("the fastest takes at most ten times as long as one by a descriptor of the run's mount", took <= 10 * least, (took, least))
+    usual = cost_of_clones(os.open(AT + "/z/y", os.O_RDONLY), others)[1]
+    step("they take at most five times the processor time of others", cost <= 5 * usual, (cost, usual))
 
 
 def mounting():

@@ -25,7 +25,8 @@ VALUES = [
     ("pids.max", b"0x\n", "EINVAL", b"4194304\n"), ("pids.max", b"1 2\n", "EINVAL", b"4194304\n"),
     ("pids.max", b"9223372036854775808\n", "ERANGE", b"4194304\n"),
     ("pids.max", b"99999999999999999999x\n", "ERANGE", b"4194304\n"), ("pids.max", b"\n", "EINVAL", b"4194304\n"),
-    ("pids.max", b"1" * 5000, "E2BIG", b"4194304\n"), ("pids.max", b"3\0junk", "ok", b"3\n"),
+    ("pids.max", b"1" * 5000, "E2BIG", b"4194304\n"), ("pids.max", b"7".rjust(4096), "ok", b"7\n"), ("pids.max", b"7".rjust(4097), "E2BIG", b"7\n"),
+    ("pids.max", b"3\0junk", "ok", b"3\n"),
     ("cgroup.max.depth", b"2147483646\n", "ok", b"2147483646\n"), ("cgroup.max.depth", b"2147483647\n", "ok", b"max\n"),
     ("cgroup.max.depth", b"2147483648\n", "ERANGE", b"max\n"), ("cgroup.max.depth", b"-1\n", "ERANGE", b"max\n"),
     ("cgroup.max.depth", b"MAX\n", "EINVAL", b"max\n"), ("cgroup.max.descendants", b"3\n", "ok", b"3\n"),
@@ -184,7 +185,7 @@ def control():
     os.close(fd)
     same("nothing is left to undo", error_of(write, m.control("undo"), b"1\n"), "ENODATA")
     for name, words in (("undo", "x"), ("undo", "-1"), ("undo", "+1"), ("undo", "1 1"), ("fork", "1"), ("fork", "1 2 3"), ("fork", "1 -2"),
-                        ("fork", "1 4194304"), ("fork", "1 99999999999999999999"), ("fork", "0 2"), ("exit", ""), ("exit", "1 1"),
+                        ("fork", "1 4194304"), ("fork", "1 99999999999999999999"), ("fork", "1 18446744073709551618"), ("fork", "0 2"), ("exit", ""), ("exit", "1 1"),
                         ("exit", "0x1"), ("fork", "4294967297 2")):
         same("%s of %r" % (name, words), error_of(write, m.control(name), words.encode() + b"\n"), "EINVAL")
     same("as it was", read(m.control("depth")), b"0\n")

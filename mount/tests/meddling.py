@@ -267,23 +267,29 @@ def run(test, limits=()):
 
 def beginnings():
     """With few descriptors, processes or bytes it works, or says in one sentence why not."""
-    for which, values in ((resource.RLIMIT_NOFILE, (3, 4, 5, 6, 8, 10, 12, 14, 16, 20, 24, 32)), (resource.RLIMIT_FSIZE, (0, 1)), (resource.RLIMIT_NPROC, (1,)),
-                          (resource.RLIMIT_SIGPENDING, (0,)), (resource.RLIMIT_MEMLOCK, (0,)), (resource.RLIMIT_CORE, (0,))):
-        for value in values:
-            try:
-                ran = subprocess.run([PROGRAM, "run", "cat", "/proc/self/cgroup"], stdout=subprocess.PIPE, stderr=subprocess.PIPE, timeout=PATIENCE,
-                                     preexec_fn=lambda: resource.setrlimit(which, (value, value)))
-                got = (ran.returncode, ran.stdout, ran.stderr)
-            except (subprocess.TimeoutExpired, subprocess.SubprocessError) as e:
-                got = (type(e).__name__, b"", b"")
-            right = got == (0, b"0::/\n", b"") or (got[0] not in (0, "TimeoutExpired") and got[1] == b"" and got[2])
-            step("limit %d is %d" % (which, value), right, got)
+    def limited_to(limit):
+        which, value = limit
+        try:
+            ran = subprocess.run([PROGRAM, "run", "cat", "/proc/self/cgroup"], stdout=subprocess.PIPE, stderr=subprocess.PIPE, timeout=PATIENCE,
+                                 preexec_fn=lambda: resource.setrlimit(which, (value, value)))
+            got = (ran.returncode, ran.stdout, ran.stderr)
+        except (subprocess.TimeoutExpired, subprocess.SubprocessError) as e:
+            got = (type(e).__name__, b"", b"")
+        right = got == (0, b"0::/\n", b"") or (got[0] not in (0, "TimeoutExpired") and got[1] == b"" and got[2])
+        step("limit %d is %d" % (which, value), right, got)
+
+    limits = ((resource.RLIMIT_NOFILE, (3, 4, 5, 6, 8, 10, 12, 14, 16, 20, 24, 32)), (resource.RLIMIT_FSIZE, (0, 1)), (resource.RLIMIT_NPROC, (1,)),
+              (resource.RLIMIT_SIGPENDING, (0,)), (resource.RLIMIT_MEMLOCK, (0,)), (resource.RLIMIT_CORE, (0,)))
+    in_parallel(limited_to, [(which, value) for which, values in limits for value in values], lanes=4)
     words = [PROGRAM, "run", "sleep", "600.%d" % os.getpid()]
-    for i in range(60):
+
+    def killed_after(i):
         p = subprocess.Popen(words, stderr=subprocess.DEVNULL)
         time.sleep(i * 0.0005)
         p.kill()
         p.wait()
+
+    in_parallel(killed_after, range(60), lanes=4)
     line = b"".join(w.encode() + b"\0" for w in words)
     step("killed while it starts it leaves nothing behind", until(lambda: not all_of(line)), all_of(line))
     for pid in all_of(line):

@@ -95,6 +95,13 @@ def opens():
             ("E2BIG", cwd, "/proc/self/cgroup", {"size": 32, "tail": 1})):
         same("%s %s" % (path.replace(str(me), "PID"), more), opened(directory, path, **more), wanted)
     step("what is not known without a look-up", opened(cwd, "/proc/self/cgroup", resolve=CACHED) in ("EAGAIN", text))
+    write(AT + "/cgroup.subtree_control", b"+cpuset")
+    os.mkdir(AT + "/a/b")
+    write(AT + "/a/b/cgroup.procs", b"0")
+    same("/proc/self/cpuset is of the nearest group that has one", read("/proc/self/cpuset"), b"/a\n")
+    write(AT + "/a/cgroup.subtree_control", b"+cpuset")
+    write(AT + "/cgroup.procs", b"0")
+    same("of the root", read("/proc/self/cpuset"), b"/\n")
     same("/proc/cgroups", [x.split()[0] for x in open("/proc/cgroups")], ["#subsys_name", "cpuset", "cpu", "blkio", "memory", "pids"])
 
 

@@ -59,7 +59,8 @@ static int crowd(int count)
 	for (int i = 0; i < count; i++)
 		if (!threads || pthread_create(&threads[i], NULL, read_on, NULL))
 			return 1;
-	sleep(1);
+	for (double end = now() + 1; now() < end || !right;)
+		usleep(10000);
 	stop = true;
 	for (int i = 0; i < count; i++)
 		pthread_join(threads[i], NULL);
@@ -92,7 +93,7 @@ static int descriptors(void)
 			break;
 	for (int i = 0; i < 2; i++)
 		pthread_create(&threads[i], NULL, take_the_last, NULL);
-	for (double end = now() + 1; now() < end;)
+	for (double end = now() + 1; now() < end || !right;)
 		read_once(true);
 	stop = true;
 	for (int i = 0; i < 2; i++)

@@ -68,9 +68,14 @@ grep " %s " /proc/self/mountinfo | cut -d ' ' -f 4-5""" % (where, where, where)
     same("a place that is not there", error_of(mount, "/nowhere"), "ENOENT")
     same("a file", error_of(mount, "/etc/passwd"), "ENOTDIR")
     same("another type is the kernel's matter", shell("mount -t tmpfs none %s; stat -f -c %%T %s" % (where, where), "unshare", "-m"), (0, "tmpfs\n", ""))
+    for data in (b"none,name=x", b"pids"):
+        same("version 1, %s" % data.decode(), (libc.mount(b"none", where.encode(), b"cgroup", 0, data), ctypes.get_errno()), (-1, errno.EBUSY))
     os.rmdir(where)
     number = 430
-    same("fsopen of cgroup2", (libc.syscall(number, b"cgroup2", 0), ctypes.get_errno()), (-1, errno.ENOSYS))
+    for name in (b"cgroup2", b"cgroup"):
+        same("fsopen of %s" % name.decode(), (libc.syscall(number, name, 0), ctypes.get_errno()), (-1, errno.ENOSYS))
+    for call in ("statmount", "listmount"):
+        same(call, (libc.syscall(457 if call == "statmount" else 458, None, None, 0, 0), ctypes.get_errno()), (-1, errno.ENOSYS))
     step("of another", libc.syscall(number, b"tmpfs", 0) >= 0)
 
 

@@ -54,6 +54,7 @@ VALUES = [
     ("cpuset.cpus", b"0\n", "ok", "0"), ("cpuset.cpus", b" 0-0, 0 \n", "ok", "0"), ("cpuset.cpus", b"x\n", "EINVAL", "0"),
     ("cpuset.cpus", b"1-0\n", "EINVAL", "0"), ("cpuset.cpus", b"0-\n", "EINVAL", "0"), ("cpuset.cpus", b"0:1/2\n", "EINVAL", "0"),
     ("cpuset.cpus", b"-1\n", "EINVAL", "0"), ("cpuset.cpus", b"8192\n", "ERANGE", "0"), ("cpuset.cpus", b"0-0:0/0\n", "EINVAL", "0"),
+    ("cpuset.cpus", b"0-0:3/2\n", "EINVAL", "0"), ("cpuset.cpus", b"0-0:2/2\n", "ok", "0"),
     ("cpuset.cpus", b"99999999999\n", "EOVERFLOW", "0"), ("cpuset.cpus", b"\n", "ok", ""),
     ("cpuset.mems", b"0\n", "ok", "0"), ("cpuset.mems", b"1024\n", "ERANGE", "0"), ("cpuset.mems", b"1023\n", "EINVAL", "0"), ("cpuset.mems", b"\n", "ok", ""),
     ("cpuset.cpus.partition", b"other\n", "EINVAL", "member"),
