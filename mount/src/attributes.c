@@ -65,6 +65,9 @@ static struct attribute *make(const char *name, const char *value, size_t size)
 	return steal_pointer(&a);
 }
 
+/* The analyzer takes what is kept in the list of a group for lost, if it only knows the group by a local node. */
+#pragma GCC diagnostic push
+#pragma GCC diagnostic ignored "-Wanalyzer-malloc-leak"
 static int set_in(struct remembered *r, const struct file *file, const char *name, const char *value, size_t size, int flags)
 {
 	struct attribute **at = find(&r->attributes, file, name);
@@ -84,6 +87,7 @@ static int set_in(struct remembered *r, const struct file *file, const char *nam
 	r->attributes = a;
 	return 0;
 }
+#pragma GCC diagnostic pop
 
 static bool is_users(const char *name)
 {

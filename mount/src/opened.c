@@ -5,6 +5,35 @@
 #include <stdlib.h>
 #include <string.h>
 
+/* Those of the control directory, and those whose group was removed or has lost the file's controller. */
+static struct opened *alone;
+
+static struct opened **list_of(struct remembered *group)
+{
+	return group ? &group->opened : &alone;
+}
+
+static void enter(struct opened *o, struct remembered *group)
+{
+	struct opened **list = list_of(group);
+	o->of = group;
+	o->before = NULL;
+	o->next = *list;
+	if (o->next)
+		o->next->before = o;
+	*list = o;
+}
+
+static void leave(struct opened *o)
+{
+	if (o->next)
+		o->next->before = o->before;
+	if (o->before)
+		o->before->next = o->next;
+	else
+		*list_of(o->of) = o->next;
+}
+
 struct opened *opened_new(struct remembered *group, const struct file *file, long control)
 {
 	WANTS_LOCK();
@@ -14,13 +43,7 @@ struct opened *opened_new(struct remembered *group, const struct file *file, lon
 	o->file = file;
 	o->control = control;
 	o->changed = true;
-	o->of = group;
-	if (!group)
-		return o;
-	o->next = group->opened;
-	if (o->next)
-		o->next->before = o;
-	group->opened = o;
+	enter(o, group);
 	return o;
 }
 
@@ -57,19 +80,11 @@ static void wake(struct opened *o)
 	o->waiting = NULL;
 }
 
-/* Removes it from the list of its group. */
-static void leave(struct opened *o)
+static void lose(struct opened *o)
 {
-	if (!o->of)
-		return;
-	if (o->next)
-		o->next->before = o->before;
-	if (o->before)
-		o->before->next = o->next;
-	else
-		o->of->opened = o->next;
-	o->next = o->before = NULL;
-	o->of = NULL;
+	leave(o);
+	enter(o, NULL);
+	wake(o);
 }
 
 void opened_free(struct opened *o)
@@ -143,19 +158,14 @@ void opened_lose_files(struct remembered *r, unsigned controllers)
 	WANTS_LOCK();
 	for (struct opened *o = r->opened, *next; o; o = next) {
 		next = o->next;
-		if (o->file && o->file->controller & controllers) {
-			leave(o);
-			wake(o);
-		}
+		if (o->file && o->file->controller & controllers)
+			lose(o);
 	}
 }
 
 void opened_lose(struct remembered *r)
 {
 	WANTS_LOCK();
-	while (r->opened) {
-		struct opened *o = r->opened;
-		leave(o);
-		wake(o);
-	}
+	while (r->opened)
+		lose(r->opened);
 }

@@ -8,7 +8,7 @@
 enum { A_DIRECTORY = -1 }; /* as `control` */
 
 struct opened {
-	struct opened *next, *before; /* in the list of its group */
+	struct opened *next, *before; /* in the list of its group, or of those without one */
 	struct remembered *of;     /* NULL once the group was removed, or has lost the file's controller; and of the control directory */
 	const struct file *file;   /* NULL: a directory, or a file of the control directory */
 	long control;

@@ -60,6 +60,10 @@ void owner_apply(const struct node *node, struct stat *st)
 	st->st_ctim = s.changed;
 }
 
+/* The analyzer takes what is kept in the list of a group for lost, if it only knows the group by a local node. */
+#pragma GCC diagnostic push
+#pragma GCC diagnostic ignored "-Wanalyzer-malloc-leak"
+
 /* Where it is stored; NULL: out of memory. */
 static struct shown *stored(const struct node *node)
 {
@@ -78,6 +82,7 @@ static struct shown *stored(const struct node *node)
 	r->owned = o;
 	return &r->owned->shown;
 }
+#pragma GCC diagnostic pop
 
 int owner_set(const struct node *node, const struct stat *st, int fields)
 {

@@ -190,7 +190,8 @@ static int cpuset_text(pid_t reader, pid_t pid)
 	if (fault)
 		return fault;
 	seen_from(root, group, seen);
-	strcat(seen, "\n");
+	size_t size = strlen(seen);
+	snprintf(seen + size, sizeof seen - size, "\n");
 	return constant_text("cpuset", seen);
 }
 

@@ -148,7 +148,8 @@ static int answer(struct fuse_session *session, void (*ready)(void))
 		return -EIO;
 	}
 	ready();
-	int ended = fuse_session_loop_mt(session, 0);
+	struct fuse_loop_config config = { .max_idle_threads = 10 }; /* without one, libfuse 3.14 leaks its own */
+	int ended = fuse_session_loop_mt(session, &config);
 	fuse_remove_signal_handlers(session);
 	return ended;
 }
