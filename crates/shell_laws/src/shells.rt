@@ -71,7 +71,7 @@ pub fn a_strict_shell_is_a_shell()
 pub fn a_strict_shell_passes_no_fault()
     ensures { (history : Bool) (left before : List ℕ) (rest after : Option (List ℕ)) (read_failed write_failed flushed : Bool)
         → ShelledBy (record { is_strict = true; keeps_history = history }) (Some left) rest read_failed (Some before) after
-            write_failed flushed (Err fault.Write)
+        write_failed flushed (Err fault.Write)
         → (lines unread front unwritten : List ℕ) × (left ≡ lines ++ unread) × HasCommandsBeforeLast lines
         × (output_of history lines ≡ front ++ unwritten) × (after ≡ Some (before ++ front)) }
 {}
