@@ -5,6 +5,7 @@ ghost use Rattle.std.specs.Prelude.{
   ◌≤◌,
   ◌↔◌,
   ◌++◌,
+  ◌∷◌,
   ℕ,
   Bool,
   true,
@@ -19,6 +20,8 @@ ghost use Rattle.std.specs.Prelude.{
   codes,
   length,
 };
+ghost use Rattle.flat_model.specs.Replies.{is_fault};
+ghost use Rattle.flat_model.specs.Trace.{Line, read_trace};
 ghost use Rattle.trace_talk.specs.declared.summary.Summary.{Summary};
 ghost use Rattle.replay_main.specs.Replayed.{Replayed};
 ghost use Rattle.shell_main.specs.declared.fault.ShellFault.{ShellFault};
@@ -84,9 +87,10 @@ pub fn whole_lines()
     ensures unended { ends_line (codes "undo\nundo") ≡ false }
 {}
 
-/// Lines of which only the last may be no command, by example.
+/// No line and any one line have no fault before the last; two lines of which the first is a fault have one.
 pub fn commands_before_the_last()
     ensures none { HasCommandsBeforeLast [] }
-    ensures last { HasCommandsBeforeLast (codes "undo\nx\n") }
-    ensures first { HasCommandsBeforeLast (codes "x\nundo\n") → ⊥ }
+    ensures one { (text : List ℕ) (line : Line) → read_trace text ≡ line ∷ [] → HasCommandsBeforeLast text }
+    ensures two { (text : List ℕ) (first last : Line) → read_trace text ≡ first ∷ last ∷ [] → is_fault first ≡ true
+        → HasCommandsBeforeLast text → ⊥ }
 {}
