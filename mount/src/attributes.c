@@ -66,8 +66,10 @@ static struct attribute *make(const char *name, const char *value, size_t size)
 }
 
 /* The analyzer takes what is kept in the list of a group for lost, if it only knows the group by a local node. */
+#ifndef __clang__
 #pragma GCC diagnostic push
 #pragma GCC diagnostic ignored "-Wanalyzer-malloc-leak"
+#endif
 static int set_in(struct remembered *r, const struct file *file, const char *name, const char *value, size_t size, int flags)
 {
 	struct attribute **at = find(&r->attributes, file, name);
@@ -87,7 +89,9 @@ static int set_in(struct remembered *r, const struct file *file, const char *nam
 	r->attributes = a;
 	return 0;
 }
+#ifndef __clang__
 #pragma GCC diagnostic pop
+#endif
 
 static bool is_users(const char *name)
 {

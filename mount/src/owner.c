@@ -61,8 +61,10 @@ void owner_apply(const struct node *node, struct stat *st)
 }
 
 /* The analyzer takes what is kept in the list of a group for lost, if it only knows the group by a local node. */
+#ifndef __clang__
 #pragma GCC diagnostic push
 #pragma GCC diagnostic ignored "-Wanalyzer-malloc-leak"
+#endif
 
 /* Where it is stored; NULL: out of memory. */
 static struct shown *stored(const struct node *node)
@@ -82,7 +84,9 @@ static struct shown *stored(const struct node *node)
 	r->owned = o;
 	return &r->owned->shown;
 }
+#ifndef __clang__
 #pragma GCC diagnostic pop
+#endif
 
 int owner_set(const struct node *node, const struct stat *st, int fields)
 {
