@@ -56,7 +56,7 @@ def test_files_are_not_programs(h):
 def test_a_call_that_fails_leaves_the_position(h):
     fd = os.open(f"{AT}/a/pids.max", os.O_RDWR)
     assert os.read(fd, 2) == b"ma"
-    h.fail("/a", errno.EIO)
+    h.fail("/a", error=errno.EIO)
     assert code(os.pread, fd, 9, 0) == "EIO" and code(os.pwrite, fd, b"x", 0) == "EINVAL"
     assert os.lseek(fd, 0, os.SEEK_CUR) == 2
     os.close(fd)
