@@ -106,6 +106,7 @@ def test_the_state_before_this_line(shown):
     assert b.text("#moment").startswith("after 41") and row_of(b, "/batch")[3] == "7 / 8"
     b.press("home", "b")
     assert b.text("#moment").startswith("before 0") and row_of(b, "/") is not None
+    assert b.until(lambda: b.run("return location.hash") == "#before=0"), "the page has written its own link"
     b.run("location.hash = 'before=42'")
     assert b.until(lambda: b.text("#moment").startswith("before 42")) and row_of(b, "/batch")[3] == "7 / 8"
 
