@@ -63,7 +63,7 @@ fn send<'a>(board: &'a Board<1, 7, 4>, main: &mut Hand, leaf: u8) -> Visitor<'a>
     Visitor { board, hand, leaf }
 }
 
-// Arrives and departs so many times.
+// Arrives and departs this number of times.
 fn visit_rounds(board: &Board<1, 7, 4>, hand: &mut Hand, leaf: u8, rounds: u32)
     requires here { IsHandOf board.now hand.old }
     requires leaf { leaf < 4 }
@@ -85,7 +85,7 @@ fn visit(visitor: Visitor<'_>, rounds: u32) {
     visit_rounds(board, &mut hand, leaf, rounds);
 }
 
-// Adds and subtracts one on the word, so many times.
+// Adds and subtracts one on the word, this number of times.
 fn count_rounds(counter: &AtomicU64, rounds: u32) {
     for _ in 0..rounds {
         counter.fetch_add(1, Ordering::SeqCst);
@@ -93,7 +93,7 @@ fn count_rounds(counter: &AtomicU64, rounds: u32) {
     }
 }
 
-// Adds and subtracts one under the lock, so many times.
+// Adds and subtracts one under the lock, this number of times.
 fn lock_rounds<R: Wait>(rt: &R, number: &Mutex<u64>, rounds: u32) {
     for _ in 0..rounds {
         let mut more = number.lock(rt);

@@ -9,7 +9,7 @@ const TURNS: u32 = 100_000_000;
 /// The most parts of a settlement.
 const MOST: usize = 8;
 
-/// A barrier at which each of so many parts sets its flag and waits for the flags of all others, for a bounded time.
+/// A barrier at which each part sets its flag and waits for the flags of all others, for a bounded time.
 #[derive(Drop)]
 pub(crate) struct Barrier {
     flags: [AtomicBool; MOST],
@@ -18,7 +18,7 @@ pub(crate) struct Barrier {
 }
 
 impl Barrier {
-    /// A barrier for so many parts, none of which has arrived.
+    /// A barrier for `parts` parts, none of which has arrived.
     pub(crate) fn new(parts: usize) -> Barrier {
         Barrier {
             flags: [

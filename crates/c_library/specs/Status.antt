@@ -5,7 +5,8 @@ use Rattle.flat_model.specs.Path.{Path}
 use Rattle.flat_model.specs.PathText.{PathFault}
 use Rattle.flat_model.specs.State.{State}
 use Rattle.flat_model.specs.Trace.{Line}
-use Rattle.undo_journal.specs.Beginning.{forgotten}
+use Rattle.undo_journal.specs.Beginning.{forgets}
+use Rattle.undo_journal.specs.Timeline.{from_start}
 use Rattle.line_engine.specs.declared.answer.Answer.{Answer}
 use Rattle.line_engine.specs.declared.answer.Answer.TheVariants.{Skipped, Answered, TooSmall, OutOfMemory}
 use Rattle.line_engine.specs.declared.listing.Listing.{Listing}
@@ -18,13 +19,14 @@ use Rattle.line_engine.specs.Listings.{TellsChildren, TellsGroups, TellsSubtree,
 use Rattle.line_engine.specs.Numbers.{TellsNumber}
 use Rattle.line_engine.specs.declared.numbers.Number.{Number}
 use Rattle.line_engine.specs.declared.numbers.Number.TheVariants as number
+use Rattle.line_engine.specs.declared.path_faults.FaultAt.{FaultAt}
 use Rattle.c_library.specs.declared.info.Info.{Info}
 
 -- what a call returns besides its status
 abbrev pub told : ℕ → ℕ → ℕ → Info
 told len count code = record { len = len; count = count; needed = 0; code = code }
 
--- the buffer is too small for so many bytes
+-- the buffer is too small: this number of bytes is needed
 abbrev pub too_small : ℕ → Info
 too_small needed = record { len = 0; count = 0; needed = needed; code = 0 }
 
@@ -65,7 +67,7 @@ AnswersAt (Some e) n line out status info new = AnsweredAt e n line out status i
 abbrev pub IsOpened : Option LineEngine → ℕ → Option LineEngine → Type 0
 IsOpened (Some e) status new = (status ≡ 6) × (new ≡ Some e)
 IsOpened None status None = status ≡ 4
-IsOpened None status (Some e) = (status ≡ 0) × (e.engine ≡ new_machine)
+IsOpened None status (Some e) = (status ≡ 0) × (e.engine ≡ from_start new_machine)
 
 abbrev pub IsClosed : Option LineEngine → ℕ → Option LineEngine → Type 0
 IsClosed None status new = (status ≡ 6) × (new ≡ None)
@@ -73,12 +75,12 @@ IsClosed (Some e) status new = (status ≡ 0) × (new ≡ None)
 
 abbrev pub DepthAt : Option LineEngine → ℕ → ℕ → Option LineEngine → Type 0
 DepthAt None status depth new = (status ≡ 6) × (depth ≡ 0) × (new ≡ None)
-DepthAt (Some e) status depth new = (status ≡ 0) × (depth ≡ length e.engine.past) × (new ≡ Some e)
+DepthAt (Some e) status depth new = (status ≡ 0) × (depth ≡ length e.engine.machine.past) × (new ≡ Some e)
 
 -- the groups and processes stay, and nothing can be undone
 abbrev pub ForgetsAt : Option LineEngine → ℕ → Option LineEngine → Type 0
 ForgetsAt None status new = (status ≡ 6) × (new ≡ None)
-ForgetsAt (Some e) status new = (status ≡ 0) × (new ≡ Some (record { engine = forgotten e.engine }))
+ForgetsAt (Some e) status new = (status ≡ 0) × (new ≡ Some (record { engine = forgets e.engine }))
 
 -- a handle without an engine gets a copy of the other's, with the same groups, processes and journal, unless out of memory;
 -- the other keeps its engine
@@ -108,7 +110,7 @@ listing_info listing.OutOfMemory = told 0 0 0
 pub record ListedAt (tells : Machine → List ℕ → Listing → Type 0) (e : LineEngine) (out : List ℕ) (status : ℕ) (info : Info) (new : Option LineEngine) : Type 0 where
   pub answer : Listing
   pub new_is : new ≡ Some e
-  pub answer_is : tells e.engine out answer
+  pub answer_is : tells e.engine.machine out answer
   pub status_is : status ≡ listing_status answer
   pub info_is : info ≡ listing_info answer
 
@@ -144,7 +146,7 @@ found_info found.OutOfMemory = told 0 0 0
 pub record FoundAt (e : LineEngine) (path : Result Path PathFault) (status : ℕ) (info : Info) (new : Option LineEngine) : Type 0 where
   pub answer : Found
   pub new_is : new ≡ Some e
-  pub tells : TellsGroup e.engine.state path answer
+  pub tells : TellsGroup e.engine.machine.state path answer
   pub status_is : status ≡ found_status answer
   pub info_is : info ≡ found_info answer
 
@@ -179,7 +181,7 @@ number_value number.OutOfMemory = 0
 pub record ToldAt (e : LineEngine) (number_of : State → Path → ℕ) (path : Result Path PathFault) (status value : ℕ) (info : Info) (new : Option LineEngine) : Type 0 where
   pub answer : Number
   pub new_is : new ≡ Some e
-  pub tells : TellsNumber e.engine.state number_of path answer
+  pub tells : TellsNumber e.engine.machine.state number_of path answer
   pub status_is : status ≡ number_status answer
   pub value_is : value ≡ number_value answer
   pub info_is : info ≡ number_info answer
@@ -187,3 +189,10 @@ pub record ToldAt (e : LineEngine) (number_of : State → Path → ℕ) (path : 
 abbrev pub TellsAt : Option LineEngine → (State → Path → ℕ) → Result Path PathFault → ℕ → ℕ → Info → Option LineEngine → Type 0
 TellsAt None number_of path status value info new = (status ≡ 6) × (value ≡ 0) × (info ≡ told 0 0 0) × (new ≡ None)
 TellsAt (Some e) number_of path status value info new = ToldAt e number_of path status value info new
+
+-- ---- the fault of a text that is not a path
+
+-- its number and its place; two zeros for a path
+abbrev pub TellsFault : Option FaultAt → ℕ → ℕ → Type 0
+TellsFault None number at = (number ≡ 0) × (at ≡ 0)
+TellsFault (Some fault) number at = (number ≡ fault.number) × (at ≡ fault.at)

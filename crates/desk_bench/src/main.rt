@@ -1,6 +1,6 @@
 //! Several threads call one engine, at a desk or in a mutex. `evidence/bench/bench --desk` times it.
 //!
-//! `desk_bench WAY WORKLOAD THREADS CALLS` starts so many threads, each of which makes so many calls. It prints how many of
+//! `desk_bench WAY WORKLOAD THREADS CALLS` starts THREADS threads, each of which makes CALLS calls. It prints how many of
 //! them were answered by `Done`. A thread whose process cannot be made makes no calls.
 //!
 //! - WAY is `desk` (a session for each thread), `board` (an engine over a `BoardMeter` in a mutex) or `plain` (an engine

@@ -49,7 +49,7 @@ pub(crate) struct Worker {
 }
 
 impl Worker {
-    /// Forks a process or ends it, in turn, so many times. Returns how many calls were answered by `Done`.
+    /// Forks a process or ends it, in turn, `calls` times. Returns how many calls were answered by `Done`.
     pub(crate) fn work<R: Threads + Wait + Sync>(self, rt: &R, calls: u32) -> u32
         ensures { result ≤ calls }
     {

@@ -276,7 +276,7 @@ impl<E: Allocator + Clone, A: Allocator + Clone> Tested<E, A> {
         Ok(Outcome::Answered)
     }
 
-    /// Takes the memory but for so many blocks.
+    /// Takes the memory but for this number of blocks.
     fn fill(&mut self, room: u64) -> Result<Outcome, CaseFault> {
         for _ in 0..BLOCKS_MAX {
             match Vec::with_capacity(self.memory.clone()?, BLOCK_SIZE) {

@@ -113,7 +113,7 @@ pub(crate) fn forks_until_full<R: Threads + Wait + Sync>(
     Ok(Outcome::Answered)
 }
 
-/// The path of the groups `a` to `d`, down to this depth, each name of so many equal letters.
+/// The path of the groups `a` to `d`, down to this depth, each name of `letters` equal letters.
 fn path_of(alloc: Global, letters: usize, depth: usize) -> Result<Vec<u8>, AllocError> {
     let mut path = Vec::new(alloc);
     for letter in [b'a', b'b', b'c', b'd'].iter().take(depth) {
@@ -208,7 +208,7 @@ fn used_after_each(
     Ok(used)
 }
 
-/// How many texts of the longest path so many bytes are.
+/// How many texts of the longest path fit into this number of bytes.
 fn in_texts(bytes: usize) -> &'static str {
     match bytes {
         0 => "none",

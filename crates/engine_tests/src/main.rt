@@ -10,7 +10,7 @@
 //! - `rehearsed LINE` and the calls of `rehearsals`: replies of a rehearsal.
 //! - `copy LINE`, `text LINE`, `copy_reply` (of the last line), `render P FILE`, `home PID`: copies and texts in the memory of
 //!   the subject.
-//! - `fill BLOCKS`, `free`: all memory is taken but so many blocks of sixteen bytes, and freed.
+//! - `fill BLOCKS`, `free`: all memory is taken but BLOCKS blocks of sixteen bytes, and freed.
 //! - The calls of `values` and of `heaps`, which need no subject.
 //!
 //! Kinds of subjects: an engine that lives in the heap; `copies`, an engine elsewhere whose copies and texts are in the heap;

@@ -143,7 +143,7 @@ abbrev pub line_of : Result Command TextFault → Line
 line_of (Ok c) = Run c
 line_of (Err f) = Fault f
 
--- a line of so many bytes with these words
+-- a line with these words, which has this number of bytes
 abbrev pub line_with : ℕ → List Word → Line
 line_with len [] = Skip
 line_with len (first ∷ rest) =

@@ -13,8 +13,8 @@
 //!   output for a trace.
 //! - `Log`, `Audit`: the log of several sessions; receipts that are its entries, each once, and the first fault if they are
 //!   not.
-//! - `WellFormed`, `Limiting`, `Events`, `Peaks`: what holds in every state that commands reach, what the limits guarantee,
-//!   how refused forks are counted, and how peaks change.
+//! - `WellFormed`, `Limiting`, `EventTotals`, `RaisedPeaks`: what holds in every state that commands reach, what the limits
+//!   guarantee, how refused forks are counted, and how peaks change.
 //!
 //! Each bound is defined once: the names in a path and the bytes of a name and of a path in `PathText`, pids and limits in
 //! `Values`, a line and a trace in `Trace`. The number of slots is a parameter: there may be `slots` groups besides the

@@ -11,6 +11,7 @@ mod Inserted
 mod SetTo
 mod Removed
 mod Maps
+mod NameNumbers
 mod Closed
 mod Counted
 mod Descendants

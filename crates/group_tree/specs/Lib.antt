@@ -6,6 +6,7 @@ pub mod Along
 pub mod ChildNames
 pub mod Refusals
 pub mod PeaksAlong
+pub mod NameNumber
 pub mod Node
 pub mod Settings
 pub mod Sorted

@@ -11,7 +11,7 @@ use std::alloc::Allocator;
 use std::marker::Model;
 
 /// The attributes of the groups along a path, from the child of the root down to the path's own group. The iterator ends
-/// before the first group that is missing. Each step costs O(log children) comparisons of names and allocates nothing.
+/// before the first group that is missing. Each step costs O(log children) comparisons and allocates nothing.
 #[derive(Drop)]
 pub struct Along<'a, A: Allocator> {
     /// The group returned last, at first the group at which the path starts; None once a group was missing.

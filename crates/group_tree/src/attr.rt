@@ -37,7 +37,7 @@ pub struct Attr {
     pub limits: Limits,
     /// How many forks the group's own `pids.max` refused (`pids.events.local`).
     pub local: u64,
-    /// The same, plus the forks that the `pids.max` of a group below it refused (`pids.events`).
+    /// How many forks the group's own `pids.max` or that of a group below it refused (`pids.events`).
     pub total: u64,
     /// The most processes that were in the group and below it at once (`pids.peak`). The tree stores this number without
     /// interpreting it.
@@ -81,7 +81,7 @@ impl Attr {
         }
     }
 
-    /// The same attributes with another limit for this file. The other limits, the event totals, the peak and the slot stay.
+    /// These attributes with another limit for this file. The other limits, the event totals, the peak and the slot stay.
     pub fn with_limit(self, file: LimitFile, limit: Limit) -> Attr
         ensures group { group_of result ≡ with_limit (limit_file_of file) (limit_of limit) (group_of self) }
         ensures slot { result.slot ≡ self.slot }

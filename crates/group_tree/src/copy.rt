@@ -11,20 +11,22 @@ impl<A: Allocator> Node<A> {
     pub(crate) fn copy<B: Allocator + Clone + Drop>(&self, alloc: B) -> Result<Node<B>, AllocError>
         ensures { IfOk result (λ n. n ≡ self.now) }
     {
-        let name = InlineBytes::copy_of(alloc.clone()?, self.name.as_slice())?;
-        let mut children = Vec::new(alloc.clone()?);
         let source = &*self.inner;
+        let name = InlineBytes::copy_of(alloc.clone()?, source.name.as_slice())?;
+        let mut children = Vec::new(alloc.clone()?);
         for child in &source.children {
             children.push(child.copy(alloc.clone()?)?)?;
         }
         let inner = Box::new(
             alloc,
             Inner {
+                name,
                 attr: source.attr,
                 descendants: source.descendants,
                 children,
             },
         )?;
-        Ok(Node { name, inner })
+        let number = self.number;
+        Ok(Node { number, inner })
     }
 }

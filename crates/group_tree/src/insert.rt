@@ -7,6 +7,7 @@ ghost use Rattle.group_tree.specs.Node.{leaf_of, NodeInserts};
 use crate::attr::Attr;
 use crate::fault::TreeFault;
 use crate::node::{Inner, Node, place};
+use crate::number::number_of;
 use group_path::Names;
 use inline_bytes::InlineBytes;
 use std::alloc::{AllocError, Allocator};
@@ -17,16 +18,18 @@ impl<A: Allocator + Clone> Node<A> {
         ensures { IfOk result (λ n. n ≡ leaf_of name.now attr) }
     {
         let children = Vec::new(alloc.clone()?);
+        let number = number_of(name);
         let name = InlineBytes::copy_of(alloc.clone()?, name)?;
         let inner = Box::new(
             alloc,
             Inner {
+                name,
                 attr,
                 descendants: 0,
                 children,
             },
         )?;
-        Ok(Node { name, inner })
+        Ok(Node { number, inner })
     }
 
     /// Inserts a group at these names from here.

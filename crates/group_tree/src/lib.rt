@@ -6,10 +6,10 @@
 //!   memory runs out in the middle of an insert.
 //! - Refusals come in a fixed order, and each names its cause. Only `insert`, `copy`, `new`, and a `chain` of more than
 //!   eight groups allocate. Each group has a block of its own, a name of more than 23 bytes needs another, and the parent's
-//!   list of children grows. That list has the names and the pointers to the blocks.
-//! - A look-up descends once, in O(depth · log children) comparisons of names. Each group records how many groups are below
-//!   it, so limits on descendants, and on the number of all groups, are tested without a walk. `admits` tests everything
-//!   that can refuse a new group in one descent, including the limits of every group above it.
+//!   list of children grows. That list has the first eight bytes of the names, as numbers, and the pointers to the blocks.
+//! - A look-up descends once, in O(depth · log children) comparisons, most of them of numbers. Each group records how many
+//!   groups are below it, so limits on descendants, and on the number of all groups, are tested without a walk. `admits` tests
+//!   everything that can refuse a new group in one descent, including the limits of every group above it.
 //! - `along` returns the attributes of the groups along a path in one descent. `count_refusal` and `uncount_refusal` change
 //!   the event totals of these groups in one descent; `set_peaks` sets their peaks in one. None of these allocates.
 //! - `child_names` returns the names of a group's children in order. It allocates nothing.
@@ -36,6 +36,7 @@ mod fault;
 mod insert;
 mod limits;
 mod node;
+mod number;
 mod peaks;
 mod remove;
 mod set;

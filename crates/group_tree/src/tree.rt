@@ -165,7 +165,7 @@ impl<A: Allocator> GroupTree<A> {
         self.root.descendants(path.names())
     }
 
-    /// The same as `descendants`, for the group at the first `n` names of the path.
+    /// How many groups are strictly below the group at the first `n` names of the path, as `descendants` counts them.
     pub fn descendants_at<B: Allocator + Clone>(&self, path: &GroupPath<B>, n: usize) -> Option<u64>
         requires { n ≤ length path.now }
         ensures counted { MatchOption result (fin.get self.now (take n path.now) ≡ None)

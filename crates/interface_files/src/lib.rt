@@ -1,6 +1,6 @@
 //! The interface files of the groups: their names, the values that can be written to them, and their texts.
 //!
-//! - There are eleven files (`File`), each with its row in one table. Every group has `cgroup.procs`, `cgroup.stat`,
+//! - Each file (`File`) has its row in one table. Every group has `cgroup.procs`, `cgroup.stat`,
 //!   `cgroup.max.descendants` and `cgroup.max.depth`. Every group but the root has the others too. All but `cgroup.kill`
 //!   can be read. `cgroup.procs` takes a pid, `cgroup.kill` takes `1`, and the three files of limits take a limit.
 //! - A value is decimal digits without a leading zero. Blanks, tabs, line feeds and carriage returns at both ends are

@@ -30,7 +30,7 @@ pub(crate) fn limit_line<B: Allocator>(alloc: B, limit: Limit) -> Result<Vec<u8,
     }
 }
 
-// `pids.events` or `pids.events.local` of a group that refused so many forks.
+// `pids.events` or `pids.events.local` of a group that refused this number of forks.
 pub(crate) fn events_line<B: Allocator>(alloc: B, refused: u64) -> Result<Vec<u8, B>, AllocError>
     ensures { IfOk result (λ text. text.items ≡ line (codes "max " ++ decimal refused)) }
 {
@@ -42,7 +42,7 @@ pub(crate) fn events_line<B: Allocator>(alloc: B, refused: u64) -> Result<Vec<u8
     Ok(text)
 }
 
-// `cgroup.stat` of a group with so many groups below it. No group is ever dying, because a removed
+// `cgroup.stat` of a group with this number of groups below it. No group is ever dying, because a removed
 // group is gone at once.
 pub(crate) fn stat_text<B: Allocator>(alloc: B, below: u64) -> Result<Vec<u8, B>, AllocError>
     ensures { IfOk result (λ text. text.items ≡ line (codes "nr_descendants " ++ decimal below) ++ line (codes "nr_dying_descendants 0")) }

@@ -75,3 +75,8 @@ module _ (slots : ℕ) (rest : Past) where
 pub forgets_alike : (slots : ℕ) (m : Machine) (cs : List model.Command) → TakesBackItsOwn slots (length m.past) m cs
     → (replies slots (alone m.state []) cs ≡ replies slots m cs) × ((end_of slots (alone m.state []) cs).state ≡ (end_of slots m cs).state)
 forgets_alike slots m cs own = run_alike slots m.past cs m.state [] own
+
+-- a past without a length is empty
+pub empty : (past : Past) → length past ≡ 0 → past ≡ []
+empty [] z = refl
+empty (e ∷ past) z = absurd (omega (arith, z))

@@ -11,6 +11,7 @@ use Rattle.undo_journal.specs.Answer.{IsNewest, record_by, record_of, state_afte
 use Rattle.undo_journal.specs.Beginning.{first_state, beginning}
 use Rattle.undo_journal.specs.Headline.{IsReached, KeepsHistory}
 use Rattle.undo_journal.specs.History.{IsHistory}
+use Rattle.undo_journal.specs.Timeline.{Timeline, from_start}
 use Rattle.undo_journal.proofs.Beginnings.{tick_begins}
 use Rattle.undo_journal.proofs.Undone.{keeps_history}
 use Rattle.undo_journal.proofs.Histories.{taken_by}
@@ -31,22 +32,36 @@ module _ (slots : ℕ) where
   pub undone_is : (m : Machine) → end_of slots m (undos (length m.past)) ≡ beginning m
   undone_is m = all_undone m.state m.past
 
-  pub reached_is : (cs : List model.Command) → IsReached slots (after_all slots cs)
-  reached_is cs = record { well_formed = reached_well slots cs; all_undone = undone_is (after_all slots cs) }
-
   -- where the past begins
   pub run_begins : (m : Machine) (cs : List model.Command) → beginning (end_of slots m cs) ≡ beginning m
   run_begins m [] = refl
   run_begins m (c ∷ cs) = run_begins (tick slots m c).0 cs ∙ tick_begins slots m c
 
-  pub each_begins : (m : Machine) (steps : List (model.Command × Machine)) (last : Machine) → KeepsEach slots m steps last → beginning last ≡ beginning m
-  each_begins m [] last h = ap beginning h
-  each_begins m (e ∷ steps) last h = each_begins e.1 steps last h.1 ∙ h.0.begins
+  pub each_begins : (t : Timeline) (steps : List (model.Command × Timeline)) (last : Timeline) → KeepsEach slots t steps last
+      → (last.forgotten ≡ t.forgotten) × (beginning last.machine ≡ beginning t.machine)
+  each_begins t [] last h = (ap (λ (x : Timeline). x.forgotten) h, ap (λ (x : Timeline). beginning x.machine) h)
+  each_begins t (e ∷ steps) last h = let more = each_begins e.1 steps last h.1 in (more.0 ∙ h.0.forgotten, more.1 ∙ h.0.begins)
 
-  pub step_keeps : (cs : List model.Command) (c : model.Command) → KeepsHistory slots (after_all slots cs) c (tick slots (after_all slots cs) c).0
+  pub reached_is : (cs : List model.Command) → IsReached slots (from_start (after_all slots cs))
+  reached_is cs = record {
+    well_formed = reached_well slots cs;
+    all_undone = undone_is (after_all slots cs);
+    from_the_start = λ z. undone_is (after_all slots cs) ∙ run_begins new_machine cs;
+  }
+
+  pub step_keeps : (cs : List model.Command) (c : model.Command)
+      → KeepsHistory slots (from_start (after_all slots cs)) c (from_start (tick slots (after_all slots cs) c).0)
   step_keeps cs c =
-      keeps_history slots (after_all slots cs) c (tick slots (after_all slots cs) c).0 refl
-      (subst (IsReached slots) (end-push new_machine cs c) (reached_is (cs ++ c ∷ [])))
+      keeps_history slots (from_start (after_all slots cs)) c (from_start (tick slots (after_all slots cs) c).0) refl
+      (subst (λ (m : Machine). IsReached slots (from_start m)) (end-push new_machine cs c) (reached_is (cs ++ c ∷ [])))
+
+  -- a reached past begins at the start, if nothing was forgotten
+  pub starts : (t : Timeline) → IsReached slots t → t.forgotten ≡ 0 → beginning t.machine ≡ new_machine
+  starts t r z = sym (undone_is t.machine) ∙ r.from_the_start z
+
+  -- what a kept history says of it
+  pub kept_starts : (old new : Timeline) (c : model.Command) → KeepsHistory slots old c new → old.forgotten ≡ 0 → beginning new.machine ≡ new_machine
+  kept_starts old new c k z = sym (undone_is new.machine) ∙ k.from_the_start z
 
   -- ---- undos, one after another
 

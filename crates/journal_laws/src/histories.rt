@@ -73,21 +73,29 @@ ghost use Rattle.undo_journal.specs.Answer.{
   state_after,
   undoes_without_memory,
 };
-ghost use Rattle.undo_journal.specs.Beginning.{beginning, forgotten};
+ghost use Rattle.undo_journal.specs.Beginning.{beginning, forgets, forgotten};
 ghost use Rattle.undo_journal.specs.Headline.{IsReached, KeepsHistory, UndoesAll};
-ghost use Rattle.undo_journal.specs.History.{IsHistory, IsReady, machine_of, records};
+ghost use Rattle.undo_journal.specs.History.{
+  IsHistory,
+  IsReady,
+  machine_of,
+  records,
+  timeline_of,
+};
 ghost use Rattle.undo_journal.specs.CommandMeaning.{command_of, inverse_of, reply_of};
+ghost use Rattle.undo_journal.specs.Timeline.{Timeline, becomes, from_start};
 ghost use Rattle.journal_laws.specs.Runs.{KeepsEach};
 
-/// An answer is unique: the machine has one successor, and there is one reply, which is never out of memory.
+/// An answer is unique: the machine has one successor, there is one reply, which is never out of memory, and nothing is
+/// forgotten.
 pub fn answers_are_one()
-    ensures exactly { (slots : ℕ) (old new : Machine) (c : model.Command) (r : Reply Global)
-        → Answers slots old c r new ↔ ((new ≡ (tick slots old c).0)
-        × (reply_of r ≡ Some (tick slots old c).1)) }
-    ensures one { (slots : ℕ) (old new again : Machine) (c : model.Command) (r q : Reply Global)
+    ensures exactly { (slots : ℕ) (old new : Timeline) (c : model.Command) (r : Reply Global)
+        → Answers slots old c r new ↔ ((new.machine ≡ (tick slots old.machine c).0)
+        × (new.forgotten ≡ old.forgotten) × (reply_of r ≡ Some (tick slots old.machine c).1)) }
+    ensures one { (slots : ℕ) (old new again : Timeline) (c : model.Command) (r q : Reply Global)
         → Answers slots old c r new → Answers slots old c q again
         → (reply_of r ≡ reply_of q) × (new ≡ again) }
-    ensures answered { (slots : ℕ) (old new : Machine) (c : model.Command) (r : Reply Global)
+    ensures answered { (slots : ℕ) (old new : Timeline) (c : model.Command) (r : Reply Global)
         → Answers slots old c r new → reply_of r ≢ None }
 {}
 
@@ -95,57 +103,66 @@ pub fn answers_are_one()
 /// From any machine that commands reach, the machine's own step keeps its history.
 pub fn history_is_kept()
     ensures reached { (slots : ℕ) (cs : List model.Command) (c : model.Command)
-        → KeepsHistory slots (after_all slots cs) c (tick slots (after_all slots cs) c).0 }
-    ensures recorded { (slots : ℕ) (old new : Machine) (c : model.Command)
-        → KeepsHistory slots old c new → length old.past < length new.past
-        → new.past ≡ (c, old.state) ∷ old.past }
-    ensures undone { (slots : ℕ) (old new : Machine) (c : model.Command)
-        → KeepsHistory slots old c new → length old.past < length new.past
-        → tick slots new model.Undo ≡ (old, model.Undone c) }
-    ensures run { (slots : ℕ) (old new : Machine) (c : model.Command) (cs : List model.Command)
-        → KeepsHistory slots old c new → TakesBackItsOwn slots (length new.past) new cs
-        → end_of slots (end_of slots new cs) (undos (length (end_of slots new cs).past - length new.past))
-        ≡ new }
+        → KeepsHistory slots (from_start (after_all slots cs)) c (from_start (tick slots (after_all slots cs) c).0) }
+    ensures recorded { (slots : ℕ) (old new : Timeline) (c : model.Command)
+        → KeepsHistory slots old c new → length old.machine.past < length new.machine.past
+        → new.machine.past ≡ (c, old.machine.state) ∷ old.machine.past }
+    ensures undone { (slots : ℕ) (old new : Timeline) (c : model.Command)
+        → KeepsHistory slots old c new → length old.machine.past < length new.machine.past
+        → tick slots new.machine model.Undo ≡ (old.machine, model.Undone c) }
+    ensures run { (slots : ℕ) (old new : Timeline) (c : model.Command) (cs : List model.Command)
+        → KeepsHistory slots old c new → TakesBackItsOwn slots (length new.machine.past) new.machine cs
+        → end_of slots (end_of slots new.machine cs) (undos (length (end_of slots new.machine cs).past - length new.machine.past))
+        ≡ new.machine }
 {}
 
 /// The past begins with its oldest state; if there is no past, with the present state. No command moves that beginning, and
-/// undoing everything restores it.
+/// undoing everything restores it. If nothing was forgotten, it is the start: an engine that claims another is not reached.
 pub fn history_begins_where_it_began()
-    ensures oldest { (slots : ℕ) (old new : Machine) (c d : model.Command) (s : State) (past : List (model.Command × State))
-        → KeepsHistory slots old c new → new.past ≡ past ++ (d, s) ∷ [] → s ≡ (beginning old).state }
-    ensures nothing { (slots : ℕ) (old new : Machine) (c : model.Command)
-        → KeepsHistory slots old c new → new.past ≡ [] → new ≡ beginning old }
+    ensures oldest { (slots : ℕ) (old new : Timeline) (c d : model.Command) (s : State) (past : List (model.Command × State))
+        → KeepsHistory slots old c new → new.machine.past ≡ past ++ (d, s) ∷ [] → s ≡ (beginning old.machine).state }
+    ensures nothing { (slots : ℕ) (old new : Timeline) (c : model.Command)
+        → KeepsHistory slots old c new → new.machine.past ≡ [] → new.machine ≡ beginning old.machine }
     ensures run { (slots : ℕ) (m : Machine) (cs : List model.Command)
         → beginning (end_of slots m cs) ≡ beginning m }
     ensures all { (slots : ℕ) (m : Machine) → end_of slots m (undos (length m.past)) ≡ beginning m }
-    ensures reached { (slots : ℕ) (cs : List model.Command) → IsReached slots (after_all slots cs) }
-    ensures well_formed { (slots : ℕ) (m : Machine) → IsReached slots m → MachineWellFormed slots m }
-    ensures first { (slots : ℕ) (m : Machine) (d : model.Command) (s : State) (past : List (model.Command × State))
-        → IsReached slots m → m.past ≡ past ++ (d, s) ∷ [] → s ≡ (beginning m).state }
+    ensures reached { (slots : ℕ) (cs : List model.Command) → IsReached slots (from_start (after_all slots cs)) }
+    ensures well_formed { (slots : ℕ) (t : Timeline) → IsReached slots t → MachineWellFormed slots t.machine }
+    ensures first { (slots : ℕ) (t : Timeline) (d : model.Command) (s : State) (past : List (model.Command × State))
+        → IsReached slots t → t.machine.past ≡ past ++ (d, s) ∷ [] → s ≡ (beginning t.machine).state }
+    ensures unforgotten { (slots : ℕ) (m : Machine) → IsReached slots (from_start m) → beginning m ≡ new_machine }
+    ensures elsewhere { (slots : ℕ) (s : State) → s ≢ start
+        → IsReached slots (from_start (record { state = s; past = [] })) → ⊥ }
 {}
 
-/// For an engine that never forgets, the beginning is the start: a new engine begins there, and no answered command moves
-/// the beginning. Then undoing everything restores the start, and the oldest state in the past is the start. This holds
-/// after any run of answered commands from a new engine.
+/// For an engine that never forgets, the past begins at the start: a new engine's does, and no answered command forgets or
+/// moves the beginning. Then undoing everything restores the start, and the oldest state in the past is the start. This
+/// holds after any run of answered commands from a new engine.
 pub fn history_begins_at_the_start()
     ensures new { beginning new_machine ≡ new_machine }
-    ensures kept { (slots : ℕ) (old new : Machine) (c : model.Command)
-        → KeepsHistory slots old c new → beginning old ≡ new_machine → beginning new ≡ new_machine }
-    ensures undone { (slots : ℕ) (old new : Machine) (c : model.Command)
-        → KeepsHistory slots old c new → beginning old ≡ new_machine
-        → end_of slots new (undos (length new.past)) ≡ new_machine }
-    ensures oldest { (slots : ℕ) (old new : Machine) (c d : model.Command) (s : State) (past : List (model.Command × State))
-        → KeepsHistory slots old c new → beginning old ≡ new_machine → new.past ≡ past ++ (d, s) ∷ []
-        → s ≡ start }
-    ensures nothing { (slots : ℕ) (old new : Machine) (c : model.Command)
-        → KeepsHistory slots old c new → beginning old ≡ new_machine → new.past ≡ []
-        → new ≡ new_machine }
-    ensures run { (slots : ℕ) (steps : List (model.Command × Machine)) (last : Machine)
-        → KeepsEach slots new_machine steps last
-        → (beginning last ≡ new_machine) × (end_of slots last (undos (length last.past)) ≡ new_machine) }
+    ensures kept { (slots : ℕ) (old new : Timeline) (c : model.Command)
+        → KeepsHistory slots old c new → beginning old.machine ≡ new_machine → beginning new.machine ≡ new_machine }
+    ensures unforgotten { (slots : ℕ) (old new : Timeline) (c : model.Command)
+        → KeepsHistory slots old c new → new.forgotten ≡ old.forgotten }
+    ensures start { (slots : ℕ) (old new : Timeline) (c : model.Command)
+        → KeepsHistory slots old c new → old.forgotten ≡ 0 → (beginning new.machine ≡ new_machine)
+        × (end_of slots new.machine (undos (length new.machine.past)) ≡ new_machine) }
+    ensures undone { (slots : ℕ) (old new : Timeline) (c : model.Command)
+        → KeepsHistory slots old c new → beginning old.machine ≡ new_machine
+        → end_of slots new.machine (undos (length new.machine.past)) ≡ new_machine }
+    ensures oldest { (slots : ℕ) (old new : Timeline) (c d : model.Command) (s : State) (past : List (model.Command × State))
+        → KeepsHistory slots old c new → beginning old.machine ≡ new_machine
+        → new.machine.past ≡ past ++ (d, s) ∷ [] → s ≡ start }
+    ensures nothing { (slots : ℕ) (old new : Timeline) (c : model.Command)
+        → KeepsHistory slots old c new → beginning old.machine ≡ new_machine → new.machine.past ≡ []
+        → new.machine ≡ new_machine }
+    ensures run { (slots : ℕ) (steps : List (model.Command × Timeline)) (last : Timeline)
+        → KeepsEach slots (from_start new_machine) steps last
+        → (last.forgotten ≡ 0) × (beginning last.machine ≡ new_machine)
+        × (end_of slots last.machine (undos (length last.machine.past)) ≡ new_machine) }
     ensures reached { (slots : ℕ) (cs : List model.Command) → beginning (after_all slots cs) ≡ new_machine }
-    ensures all { (slots n : ℕ) (old new : Machine) → beginning old ≡ new_machine
-        → UndoesAll {E = AllocError} slots old (Ok n) new → new ≡ new_machine }
+    ensures all { (slots n : ℕ) (old new : Timeline) → beginning old.machine ≡ new_machine
+        → UndoesAll {E = AllocError} slots old (Ok n) new → new.machine ≡ new_machine }
 {}
 
 /// A machine that has forgotten has the same state and nothing to undo. It answers every command as if it had not forgotten,
@@ -164,46 +181,56 @@ pub fn forgetting_keeps_the_state()
     ensures after { (slots : ℕ) (m : Machine) (cs : List model.Command)
         → TakesBackItsOwn slots (length m.past) m cs
         → (end_of slots (forgotten m) cs).state ≡ (end_of slots m cs).state }
+    ensures counted { (t : Timeline) → t.forgotten + length t.machine.past < 2 ^ 64
+        → (forgets t).forgotten ≡ t.forgotten + length t.machine.past }
+    ensures never { (t : Timeline) → (forgets t).forgotten ≡ 0
+        → (t.forgotten ≡ 0) × (t.machine.past ≡ []) }
 {}
 
 /// Each group counts its own members and what its children count, and no other process. It is populated exactly if some
 /// process is in it or below it. No group but the root counts more than its peak.
 pub fn counts_are_kept()
-    ensures whole { (slots : ℕ) (old new : Machine) (c : model.Command) (g : Path)
+    ensures whole { (slots : ℕ) (old new : Timeline) (c : model.Command) (g : Path)
         → KeepsHistory slots old c new
-        → current new.state g
-        ≡ length (members new.state g) + sum_by (current new.state) (children new.state g) }
-    ensures leaf { (slots : ℕ) (old new : Machine) (c : model.Command) (g : Path)
-        → KeepsHistory slots old c new → children new.state g ≡ []
-        → current new.state g ≡ length (members new.state g) }
-    ensures populated { (slots : ℕ) (old new : Machine) (c : model.Command) (g : Path)
-        → KeepsHistory slots old c new → (populated new.state g ≡ true)
-        ↔ ((pid : ℕ) × (at : Path) × (get new.state.home pid ≡ Some at) × (at_or_below at g ≡ true)) }
-    ensures peak { (slots : ℕ) (old new : Machine) (c : model.Command) (g : Path) (x : Attr)
-        → KeepsHistory slots old c new → g ≢ [] → get new.state.groups g ≡ Some x
-        → current new.state g ≤ x.peak }
+        → current new.machine.state g
+        ≡ length (members new.machine.state g) + sum_by (current new.machine.state) (children new.machine.state g) }
+    ensures leaf { (slots : ℕ) (old new : Timeline) (c : model.Command) (g : Path)
+        → KeepsHistory slots old c new → children new.machine.state g ≡ []
+        → current new.machine.state g ≡ length (members new.machine.state g) }
+    ensures populated { (slots : ℕ) (old new : Timeline) (c : model.Command) (g : Path)
+        → KeepsHistory slots old c new → (populated new.machine.state g ≡ true)
+        ↔ ((pid : ℕ) × (at : Path) × (get new.machine.state.home pid ≡ Some at) × (at_or_below at g ≡ true)) }
+    ensures peak { (slots : ℕ) (old new : Timeline) (c : model.Command) (g : Path) (x : Attr)
+        → KeepsHistory slots old c new → g ≢ [] → get new.machine.state.groups g ≡ Some x
+        → current new.machine.state g ≤ x.peak }
 {}
 
-/// If everything was undone, the machine is at the beginning of its past, and the number returned is that of the recorded
-/// commands. When out of memory, fewer are undone; the others remain recorded, and the state is the one before the last
-/// command that was undone.
+/// If everything was undone, the machine is at the beginning of its past, nothing was forgotten, and the number returned is
+/// that of the recorded commands. An engine that has never forgotten is a new one again. When out of memory, fewer commands are
+/// undone; the others remain recorded, and the state is the one before the last command that was undone.
 pub fn everything_undone()
-    ensures all { (slots n : ℕ) (old new : Machine)
+    ensures all { (slots n : ℕ) (old new : Timeline)
         → UndoesAll {E = AllocError} slots old (Ok n) new
-        ↔ ((n ≡ length old.past) × (new.state ≡ (beginning old).state) × (new.past ≡ [])) }
-    ensures fewer { (slots n : ℕ) (e : AllocError) (old new : Machine)
-        → UndoesAll slots old (Err (n, e)) new → n < length old.past }
-    ensures rest { (slots n : ℕ) (e : AllocError) (old new : Machine)
-        → UndoesAll slots old (Err (n, e)) new → new.past ≡ drop n old.past }
-    ensures none { (slots : ℕ) (e : AllocError) (old new : Machine)
+        ↔ ((n ≡ length old.machine.past) × (new.machine.state ≡ (beginning old.machine).state)
+        × (new.machine.past ≡ []) × (new.forgotten ≡ old.forgotten)
+        × (old.forgotten ≡ 0 → new ≡ from_start new_machine)) }
+    ensures elsewhere { (slots n : ℕ) (old new : Timeline) → old.forgotten ≡ 0 → new ≢ from_start new_machine
+        → UndoesAll {E = AllocError} slots old (Ok n) new → ⊥ }
+    ensures fewer { (slots n : ℕ) (e : AllocError) (old new : Timeline)
+        → UndoesAll slots old (Err (n, e)) new → n < length old.machine.past }
+    ensures rest { (slots n : ℕ) (e : AllocError) (old new : Timeline)
+        → UndoesAll slots old (Err (n, e)) new → new.machine.past ≡ drop n old.machine.past }
+    ensures kept { (slots n : ℕ) (e : AllocError) (old new : Timeline)
+        → UndoesAll slots old (Err (n, e)) new → new.forgotten ≡ old.forgotten }
+    ensures none { (slots : ℕ) (e : AllocError) (old new : Timeline)
         → UndoesAll slots old (Err (0, e)) new → new ≡ old }
-    ensures state { (slots : ℕ) (e : AllocError) (old new : Machine) (d : model.Command) (s : State) (before past : List (model.Command × State))
-        → old.past ≡ before ++ (d, s) ∷ past
-        → UndoesAll slots old (Err (length before + 1, e)) new → new.state ≡ s }
-    ensures without_a_past { (slots n : ℕ) (e : AllocError) (old new : Machine) → old.past ≡ []
+    ensures state { (slots : ℕ) (e : AllocError) (old new : Timeline) (d : model.Command) (s : State) (before past : List (model.Command × State))
+        → old.machine.past ≡ before ++ (d, s) ∷ past
+        → UndoesAll slots old (Err (length before + 1, e)) new → new.machine.state ≡ s }
+    ensures without_a_past { (slots n : ℕ) (e : AllocError) (old new : Timeline) → old.machine.past ≡ []
         → UndoesAll slots old (Err (n, e)) new → ⊥ }
-    ensures any { (slots n : ℕ) (e : AllocError) (old : Machine) → n < length old.past
-        → UndoesAll slots old (Err (n, e)) (end_of slots old (undos n)) }
+    ensures any { (slots n : ℕ) (e : AllocError) (old : Timeline) → n < length old.machine.past
+        → UndoesAll slots old (Err (n, e)) (becomes old (end_of slots old.machine (undos n))) }
 {}
 
 /// The newest recorded command is the one that an undo says it has undone. There is none exactly if an undo says that there
@@ -256,7 +283,7 @@ pub fn journals_are_histories()
         ≡ (command_of e.command, back (inverse_of e.inverse) s)
         ∷ (machine_of (back (inverse_of e.inverse) s) journal).past }
     ensures reached { (slots gone : ℕ) (s : State) (journal : List (Entry Global))
-        → IsHistory slots gone s (records journal) → IsReached slots (machine_of s journal) }
+        → IsHistory slots gone s (records journal) → IsReached slots (timeline_of gone s journal) }
 {}
 
 /// What a record undoes could be done by a command: removing a group that was made, ending a process that was made, moving

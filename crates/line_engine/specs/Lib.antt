@@ -4,3 +4,4 @@ pub mod LineAnswers
 pub mod Ready
 pub mod Listings
 pub mod Numbers
+pub mod PathFaults

@@ -1,11 +1,12 @@
 -- What answering a line returns and leaves.
 use Rattle.std.specs.Prelude.{◌≡◌, ℕ, Bool, true, false, List}
 use Rattle.flat_model.specs.Command.{Command}
-use Rattle.flat_model.specs.Machine.{Machine, tick}
+use Rattle.flat_model.specs.Machine.{tick}
 use Rattle.flat_model.specs.Replies.{reply_bytes, fault_bytes}
 use Rattle.flat_model.specs.Trace.{TextFault, Line, Skip, Run, Fault}
 use Rattle.pids_charge.specs.declared.plain.TheConstants.{SLOTS}
 use Rattle.undo_journal.specs.Headline.{KeepsHistory}
+use Rattle.undo_journal.specs.Timeline.{Timeline, becomes}
 use Rattle.line_engine.specs.Buffer.{Holds, LacksRoom}
 use Rattle.line_engine.specs.FaultCodes.{reply_code, fault_code}
 use Rattle.line_engine.specs.declared.answer.Answer.{Answer}
@@ -29,21 +30,21 @@ AnswersFault n f out (TooSmall needed) = LacksRoom out needed (fault_bytes n f)
 AnswersFault n f out OutOfMemory = Unit {0}
 
 -- the machine has run the command as the n-th, the first len bytes of the buffer are its output, and this is its code
-pub record Ran (m : Machine) (n : ℕ) (c : Command) (out : List ℕ) (len code : ℕ) (next : Machine) : Type 0 where
-  pub goes : next ≡ (tick slots m c).0
-  pub answered : Holds out len (reply_bytes n (tick slots m c).1)
-  pub code_is : code ≡ reply_code (tick slots m c).1
+pub record Ran (old : Timeline) (n : ℕ) (c : Command) (out : List ℕ) (len code : ℕ) (next : Timeline) : Type 0 where
+  pub goes : next ≡ becomes old (tick slots old.machine c).0
+  pub answered : Holds out len (reply_bytes n (tick slots old.machine c).1)
+  pub code_is : code ≡ reply_code (tick slots old.machine c).1
   -- what was recorded can be undone, one command or a whole run, and the counts are exact
-  pub history : KeepsHistory slots m c next
+  pub history : KeepsHistory slots old c next
 
--- the command has run so; or the machine is unchanged, because the output is longer than the buffer or when out of memory
-abbrev pub AnswersRun : Machine → ℕ → Command → List ℕ → Answer → Machine → Type 0
-AnswersRun m n c out Skipped next = ⊥
-AnswersRun m n c out (Answered len code) next = Ran m n c out len code next
-AnswersRun m n c out (TooSmall needed) next = (next ≡ m) × LacksRoom out needed (reply_bytes n (tick slots m c).1)
-AnswersRun m n c out OutOfMemory next = next ≡ m
+-- the command has run so; or the engine is unchanged, because the output is longer than the buffer or when out of memory
+abbrev pub AnswersRun : Timeline → ℕ → Command → List ℕ → Answer → Timeline → Type 0
+AnswersRun old n c out Skipped next = ⊥
+AnswersRun old n c out (Answered len code) next = Ran old n c out len code next
+AnswersRun old n c out (TooSmall needed) next = (next ≡ old) × LacksRoom out needed (reply_bytes n (tick slots old.machine c).1)
+AnswersRun old n c out OutOfMemory next = next ≡ old
 
-abbrev pub AnswersLine : Machine → ℕ → Line → List ℕ → Answer → Machine → Type 0
-AnswersLine m n Skip out a next = (next ≡ m) × (a ≡ Skipped)
-AnswersLine m n (Fault f) out a next = (next ≡ m) × AnswersFault n f out a
-AnswersLine m n (Run c) out a next = AnswersRun m n c out a next
+abbrev pub AnswersLine : Timeline → ℕ → Line → List ℕ → Answer → Timeline → Type 0
+AnswersLine old n Skip out a next = (next ≡ old) × (a ≡ Skipped)
+AnswersLine old n (Fault f) out a next = (next ≡ old) × AnswersFault n f out a
+AnswersLine old n (Run c) out a next = AnswersRun old n c out a next

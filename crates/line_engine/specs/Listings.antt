@@ -26,7 +26,7 @@ names_bytes names = flat_map (λ name. name ++ 0 ∷ []) names
 abbrev pub names_below : State → Path → List Name
 names_below s p = map last_name (children s p)
 
--- p, then the groups below it, child by child in order, down to so many levels in all
+-- p, then the groups below it, child by child in order, at most this number of levels
 abbrev pub groups_from : State → ℕ → Path → List Path
 groups_from s zero p = []
 groups_from s (suc n) p = p ∷ flat_map (λ name. groups_from s n (p ++ name ∷ [])) (names_below s p)

@@ -4,7 +4,8 @@ ghost use Rattle.std.specs.Prelude.{◌≡◌, IfOk, length};
 ghost use Rattle.flat_model.specs.Machine.{new_machine};
 ghost use Rattle.flat_model.specs.Trace.{read_line};
 ghost use Rattle.trace_lines.specs.LineMeaning.{text_fault_of};
-ghost use Rattle.undo_journal.specs.Beginning.{forgotten};
+ghost use Rattle.undo_journal.specs.Beginning.{forgets};
+ghost use Rattle.undo_journal.specs.Timeline.{from_start};
 ghost use Rattle.line_engine.specs.LineAnswers.{AnswersFault, AnswersLine};
 
 use crate::answer::{Answer, code_of_fault};
@@ -47,7 +48,7 @@ impl LineEngine {
     ///
     /// `AllocError` when out of memory.
     pub fn new(alloc: Global) -> Result<LineEngine, AllocError>
-        ensures { IfOk result (λ e. e.engine ≡ new_machine) }
+        ensures { IfOk result (λ e. e.engine ≡ from_start new_machine) }
     {
         let meter = PlainMeter::new(alloc)?;
         let engine = Engine::new(alloc, meter)?;
@@ -69,7 +70,7 @@ impl LineEngine {
 
     /// How many recorded commands can be undone.
     pub fn depth(&self) -> usize
-        ensures { result ≡ length self.now.engine.past }
+        ensures { result ≡ length self.now.engine.machine.past }
     {
         self.engine.depth()
     }
@@ -90,7 +91,7 @@ impl LineEngine {
     /// Forgets the recorded commands: the groups and processes stay, and nothing earlier can be undone. The memory of the
     /// journal is freed. It takes no memory and cannot fail.
     pub fn forget(&mut self)
-        ensures { self.new.engine ≡ forgotten self.old.engine }
+        ensures { self.new.engine ≡ forgets self.old.engine }
     {
         self.engine.forget();
     }

@@ -13,7 +13,7 @@ use std::alloc::{AllocError, Global};
 /// A path has at most 32 names, so there are 33 levels of groups, including the root's.
 const LEVELS: u8 = 33;
 
-// Appends the path, and those of the groups below it down to so many levels, each followed by a zero byte. Returns how many
+// Appends the path, and those of the groups below it down to `levels` levels, each followed by a zero byte. Returns how many
 // there are. It also returns out of memory for 2^64 paths or more.
 fn gather_groups(
     alloc: Global,
@@ -49,7 +49,7 @@ fn gather_groups(
 
 impl LineEngine {
     fn subtree_from(&self, alloc: Global, path: &GroupPath<Global>, out: &mut [u8]) -> Listing
-        ensures { TellsAll (paths_bytes (subtree self.now.engine.state path.now)) (length (subtree self.now.engine.state path.now)) out.new result }
+        ensures { TellsAll (paths_bytes (subtree self.now.engine.machine.state path.now)) (length (subtree self.now.engine.machine.state path.now)) out.new result }
     {
         let mut bytes = Vec::new(alloc);
         let Ok(count) = gather_groups(alloc, self.engine.charges(), path, LEVELS, &mut bytes) else {
@@ -59,7 +59,7 @@ impl LineEngine {
     }
 
     fn subtree_at(&self, alloc: Global, path: &GroupPath<Global>, out: &mut [u8]) -> Listing
-        ensures { TellsSubtreeAt self.now.engine.state path.now out.new result }
+        ensures { TellsSubtreeAt self.now.engine.machine.state path.now out.new result }
     {
         if self.engine.charges().attr(path).is_none() {
             return Listing::NoGroup;
@@ -70,7 +70,7 @@ impl LineEngine {
     /// Puts the paths of all groups into the start of the buffer, each followed by a zero byte. The root comes first. After
     /// each group come the groups below it, child by child in the order of their names.
     pub fn groups(&self, alloc: Global, out: &mut [u8]) -> Listing
-        ensures { TellsGroups self.now.engine.state out.new result }
+        ensures { TellsGroups self.now.engine.machine.state out.new result }
     {
         let Ok(root) = GroupPath::root(alloc) else {
             return Listing::OutOfMemory;
@@ -81,7 +81,7 @@ impl LineEngine {
     /// Puts the paths of the group and of the groups below it into the start of the buffer, in the order of `groups`, each
     /// followed by a zero byte.
     pub fn subtree(&self, alloc: Global, path: &[u8], out: &mut [u8]) -> Listing
-        ensures { TellsSubtree self.now.engine.state (read_path path.now) out.new result }
+        ensures { TellsSubtree self.now.engine.machine.state (read_path path.now) out.new result }
     {
         match read(alloc, path) {
             Ok(path) => self.subtree_at(alloc, &path, out),

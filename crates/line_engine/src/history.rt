@@ -14,7 +14,7 @@ fn gather_lines(
     engine: &Engine<Global, PlainMeter<Global>>,
     from: usize,
 ) -> Result<Vec<u8>, AllocError>
-    ensures { IfOk result (λ bytes. bytes.items ≡ lines_bytes (history_from engine.now.past from)) }
+    ensures { IfOk result (λ bytes. bytes.items ≡ lines_bytes (history_from engine.now.machine.past from)) }
 {
     let mut bytes = Vec::new(alloc);
     for place in from..engine.depth() {
@@ -32,7 +32,7 @@ impl LineEngine {
     /// Puts the recorded commands from this place on, where the oldest has place 0, into the start of the buffer, oldest
     /// first. Each is a line as `undo` shows it, with its line feed.
     pub fn history(&self, alloc: Global, from: usize, out: &mut [u8]) -> Listing
-        ensures { TellsHistory self.now.engine.past from out.new result }
+        ensures { TellsHistory self.now.engine.machine.past from out.new result }
     {
         let Ok(bytes) = gather_lines(alloc, &self.engine, from) else {
             return Listing::OutOfMemory;

@@ -11,14 +11,16 @@
 //!   group exists. `groups` puts the paths of all groups, `subtree` those of a group and the groups below it. `history` puts
 //!   the recorded commands from a place on as lines. All of these only read.
 //! - `current`, `populated`, `peak` and `limit` return a number of a group without a text, and change nothing.
+//! - `path_fault` says which fault a text has that is not a path, and where it is. A refused allocation changes nothing of that.
 //! - `forget` drops the journal and keeps groups and processes. `copy` makes an engine of its own with the same groups,
 //!   processes and journal.
 //!
 //! Not promised: what the buffer holds if there is no output.
 //!
 //! `specs/LineAnswers.antt` says what answering a line returns and leaves, `specs/FaultCodes.antt` lists the codes,
-//! `specs/Listings.antt` says what a listing of groups holds, `specs/Numbers.antt` what the numbers of a group are, and
-//! `specs/Buffer.antt` what a buffer holds and when it is too small.
+//! `specs/Listings.antt` says what a listing of groups holds, `specs/Numbers.antt` what the numbers of a group are,
+//! `specs/PathFaults.antt` where the fault of a text is, and `specs/Buffer.antt` what a buffer holds and when it is too
+//! small.
 #![tactic(auto)]
 
 mod answer;
@@ -27,6 +29,7 @@ mod groups;
 mod history;
 mod listing;
 mod numbers;
+mod path_faults;
 mod running;
 mod writing;
 
@@ -34,3 +37,4 @@ pub use answer::Answer;
 pub use engine::LineEngine;
 pub use listing::{Found, Listing};
 pub use numbers::Number;
+pub use path_faults::{FaultAt, path_fault};

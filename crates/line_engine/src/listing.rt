@@ -92,7 +92,7 @@ fn gather(alloc: Global, names: ChildNames<'_, Global>) -> Result<(Vec<u8>, usiz
     Ok((bytes, count))
 }
 
-/// Puts bytes with so many entries into the start of the buffer.
+/// Puts bytes with `count` entries into the start of the buffer.
 pub(crate) fn put_listing(out: &mut [u8], bytes: &[u8], count: usize) -> Listing
     ensures { TellsAll bytes.now count out.new result }
 {
@@ -106,7 +106,7 @@ pub(crate) fn put_listing(out: &mut [u8], bytes: &[u8], count: usize) -> Listing
 
 impl LineEngine {
     fn children_at(&self, alloc: Global, path: &GroupPath<Global>, out: &mut [u8]) -> Listing
-        ensures { TellsChildrenAt self.now.engine.state path.now out.new result }
+        ensures { TellsChildrenAt self.now.engine.machine.state path.now out.new result }
     {
         let Some(names) = self.engine.charges().child_names(path) else {
             return Listing::NoGroup;
@@ -125,7 +125,7 @@ impl LineEngine {
     /// Puts the names of the children of the group at the path into the start of the buffer, in the order of their bytes,
     /// each followed by a zero byte.
     pub fn children(&self, alloc: Global, path: &[u8], out: &mut [u8]) -> Listing
-        ensures { TellsChildren self.now.engine.state (read_path path.now) out.new result }
+        ensures { TellsChildren self.now.engine.machine.state (read_path path.now) out.new result }
     {
         match read(alloc, path) {
             Ok(path) => self.children_at(alloc, &path, out),
@@ -136,7 +136,7 @@ impl LineEngine {
 
     /// Whether the group exists.
     pub fn has_group(&self, alloc: Global, path: &[u8]) -> Found
-        ensures { TellsGroup self.now.engine.state (read_path path.now) result }
+        ensures { TellsGroup self.now.engine.machine.state (read_path path.now) result }
     {
         match read(alloc, path) {
             Ok(path) => {

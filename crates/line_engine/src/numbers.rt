@@ -49,7 +49,7 @@ fn number_of_limit(limit: Limit) -> u64
 
 impl LineEngine {
     fn current_at(&mut self, path: &GroupPath<Global>) -> Number
-        ensures told { TellsNumberAt self.old.engine.state path.now (current self.old.engine.state path.now) result }
+        ensures told { TellsNumberAt self.old.engine.machine.state path.now (current self.old.engine.machine.state path.now) result }
         ensures kept { self.new.engine ≡ self.old.engine }
     {
         if path.depth() == 0 {
@@ -62,7 +62,7 @@ impl LineEngine {
     }
 
     fn populated_at(&mut self, path: &GroupPath<Global>) -> Number
-        ensures told { TellsNumberAt self.old.engine.state path.now (populated_number self.old.engine.state path.now) result }
+        ensures told { TellsNumberAt self.old.engine.machine.state path.now (populated_number self.old.engine.machine.state path.now) result }
         ensures kept { self.new.engine ≡ self.old.engine }
     {
         if path.depth() == 0 {
@@ -76,7 +76,7 @@ impl LineEngine {
     }
 
     fn peak_at(&self, path: &GroupPath<Global>) -> Number
-        ensures { TellsNumberAt self.now.engine.state path.now (peak_number self.now.engine.state path.now) result }
+        ensures { TellsNumberAt self.now.engine.machine.state path.now (peak_number self.now.engine.machine.state path.now) result }
     {
         if path.depth() == 0 {
             return Number::NoFile;
@@ -88,7 +88,7 @@ impl LineEngine {
     }
 
     fn limit_at(&self, path: &GroupPath<Global>) -> Number
-        ensures { TellsNumberAt self.now.engine.state path.now (pids_limit self.now.engine.state path.now) result }
+        ensures { TellsNumberAt self.now.engine.machine.state path.now (pids_limit self.now.engine.machine.state path.now) result }
     {
         if path.depth() == 0 {
             return Number::NoFile;
@@ -101,7 +101,7 @@ impl LineEngine {
 
     /// `pids.current`: how many processes are in the group or below it.
     pub fn current(&mut self, alloc: Global, path: &[u8]) -> Number
-        ensures told { TellsNumber self.old.engine.state current (read_path path.now) result }
+        ensures told { TellsNumber self.old.engine.machine.state current (read_path path.now) result }
         ensures kept { self.new.engine ≡ self.old.engine }
     {
         match read(alloc, path) {
@@ -112,7 +112,7 @@ impl LineEngine {
 
     /// Whether a process is in the group or below it: 1 or 0.
     pub fn populated(&mut self, alloc: Global, path: &[u8]) -> Number
-        ensures told { TellsNumber self.old.engine.state populated_number (read_path path.now) result }
+        ensures told { TellsNumber self.old.engine.machine.state populated_number (read_path path.now) result }
         ensures kept { self.new.engine ≡ self.old.engine }
     {
         match read(alloc, path) {
@@ -123,7 +123,7 @@ impl LineEngine {
 
     /// `pids.peak`: the most processes that were in the group and below it at once.
     pub fn peak(&self, alloc: Global, path: &[u8]) -> Number
-        ensures { TellsNumber self.now.engine.state peak_number (read_path path.now) result }
+        ensures { TellsNumber self.now.engine.machine.state peak_number (read_path path.now) result }
     {
         match read(alloc, path) {
             Ok(path) => self.peak_at(&path),
@@ -133,7 +133,7 @@ impl LineEngine {
 
     /// `pids.max`; the greatest u64 means no limit.
     pub fn limit(&self, alloc: Global, path: &[u8]) -> Number
-        ensures { TellsNumber self.now.engine.state pids_limit (read_path path.now) result }
+        ensures { TellsNumber self.now.engine.machine.state pids_limit (read_path path.now) result }
     {
         match read(alloc, path) {
             Ok(path) => self.limit_at(&path),

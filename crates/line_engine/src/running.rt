@@ -6,6 +6,7 @@ ghost use Rattle.flat_model.specs.Machine.{tick};
 ghost use Rattle.flat_model.specs.Replies.{reply_bytes};
 ghost use Rattle.undo_journal.specs.Answer.{undoes_without_memory};
 ghost use Rattle.undo_journal.specs.CommandMeaning.{command_of, reply_of};
+ghost use Rattle.undo_journal.specs.Timeline.{becomes};
 ghost use Rattle.line_engine.specs.LineAnswers.{slots, AnswersRun, is_told};
 ghost use Rattle.line_engine.specs.Ready.{AnswersReply, ready_reply, is_loud, is_counted_reply};
 
@@ -98,7 +99,7 @@ impl LineEngine {
         alloc: Global,
         command: &Command<Global>,
     ) -> Result<Reply<Global>, AllocError>
-        ensures { IfOk result (λ reply. reply_of reply ≡ Some (ready_reply self.now.engine (command_of command.now))) }
+        ensures { IfOk result (λ reply. reply_of reply ≡ Some (ready_reply self.now.engine.machine (command_of command.now))) }
     {
         match command {
             Command::Undo => match self.engine.newest_command() {
@@ -119,7 +120,7 @@ impl LineEngine {
         number: u64,
         command: &Command<Global>,
     ) -> Result<Vec<u8>, AllocError>
-        ensures { IfOk result (λ bytes. bytes.items ≡ reply_bytes number (ready_reply self.now.engine (command_of command.now))) }
+        ensures { IfOk result (λ bytes. bytes.items ≡ reply_bytes number (ready_reply self.now.engine.machine (command_of command.now))) }
     {
         let reply = self.expected(alloc, command)?;
         bytes_of(alloc, number, &reply)
@@ -127,7 +128,7 @@ impl LineEngine {
 
     /// Whether the command changes the engine and is not refused.
     fn is_changed_by(&mut self, command: &Command<Global>) -> bool
-        ensures told { result ≡ is_loud (tick slots self.old.engine (command_of command.now)).1 }
+        ensures told { result ≡ is_loud (tick slots self.old.engine.machine (command_of command.now)).1 }
         ensures kept { self.new.engine ≡ self.old.engine }
     {
         match command {
@@ -140,7 +141,7 @@ impl LineEngine {
     /// Whether the command changes the engine and is not refused, and its output of `needed` bytes is longer than the
     /// buffer.
     fn lacks_room(&mut self, command: &Command<Global>, needed: usize, room: usize) -> bool
-        ensures told { result ≡ (ltb room needed && is_loud (tick slots self.old.engine (command_of command.now)).1) }
+        ensures told { result ≡ (ltb room needed && is_loud (tick slots self.old.engine.machine (command_of command.now)).1) }
         ensures kept { self.new.engine ≡ self.old.engine }
     {
         if room >= needed {
@@ -151,8 +152,8 @@ impl LineEngine {
 
     /// Undoes a counted refusal whose output doesn't fit. Allocates nothing.
     fn take_untold_back(&mut self, reply: &Reply<Global>, answer: Answer)
-        requires { IfSome (reply_of reply.now) (λ r. is_counted_reply r ≡ true → undoes_without_memory slots self.old.engine.past ≡ true) }
-        ensures { IfSome (reply_of reply.now) (λ r. self.new.engine ≡ cond (is_counted_reply r && not (is_told answer)) (tick slots self.old.engine model.Undo).0 self.old.engine) }
+        requires { IfSome (reply_of reply.now) (λ r. is_counted_reply r ≡ true → undoes_without_memory slots self.old.engine.machine.past ≡ true) }
+        ensures { IfSome (reply_of reply.now) (λ r. self.new.engine ≡ cond (is_counted_reply r && not (is_told answer)) (becomes self.old.engine (tick slots self.old.engine.machine model.Undo).0) self.old.engine) }
     {
         if !is_counted(reply) {
             return;

@@ -65,7 +65,7 @@ fn push_answers(alloc: Global, said: &mut String, text: &[u8]) -> Result<(), All
     Ok(())
 }
 
-/// The text, then so many times this byte.
+/// The text, then this byte repeated.
 fn with_more(alloc: Global, text: &[u8], byte: u8, times: u64) -> Result<Vec<u8>, AllocError> {
     let mut more = Vec::from_slice(alloc, text)?;
     for _ in 0..times {
@@ -94,7 +94,7 @@ fn push_each_byte(alloc: Global, said: &mut String, case: &Case) -> Result<(), C
     Ok(())
 }
 
-/// Appends the answers to the text and so many letters.
+/// Appends the answers to the text followed by letters.
 fn push_long(alloc: Global, said: &mut String, case: &Case) -> Result<(), CaseFault> {
     let letters = case.number(1)?;
     let text = text_of(alloc, case, 2)?;

@@ -1,14 +1,14 @@
 //! Cases of lines: cut from a trace, answered into a buffer, and what a buffer that is too small leaves. The calls of the case
 //! files in `data/`, and their answers:
 //!
-//! - `answer SIZE LINE`: the line, in a buffer of so many bytes, as the first, second .. that has output. The answer is the code
+//! - `answer SIZE LINE`: the line, in a buffer of SIZE bytes, as the first, second .. that has output. The answer is the code
 //!   and the output, `needs N`, or `skipped`.
 //! - `children SIZE P`, `groups SIZE`, `subtree SIZE P`, `history SIZE FROM`: how many entries there are, and the entries.
 //! - `has P`, `current P`, `populated P`, `peak P`, `limit P`: what is at the path.
 //! - `records`, `forget`; `copy`, after which the copy is called, and `exchange`, after which the other one is.
 //! - `trace TEXT`: the answers of a new engine to the lines of a text.
 //! - `each_byte FIRST LAST TEXT`: the answers to the text and each of these bytes, which are alike. `long LETTERS TEXT`: those to
-//!   the text and so many letters.
+//!   the text and the letters.
 //! - `one_line LINE`: the line is answered, or is out of memory and leaves no record. So the program can be run with each
 //!   allocation refused.
 #![tactic(auto)]

@@ -8,7 +8,7 @@ mod Listed
 mod Charged
 mod ChildrenTold
 mod Copied
-mod Downward
+mod OneMore
 mod Upward
 mod Gathers
 mod Asked
@@ -17,6 +17,9 @@ mod Counted
 mod Freed
 mod Starts
 mod Changes
+mod InRows
+mod RowsRead
+mod RowsUp
 mod Read
 mod Limited
 mod Exited

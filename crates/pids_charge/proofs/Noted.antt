@@ -1,10 +1,11 @@
--- The notes of a walk along a path: one group more each time, and what they say of charges and peaks.
-use Rattle.std.proofs.Common.{◌≡◌, ℕ, zero, suc, ◌+◌, ◌-◌, ◌<◌, true, List, [], ◌∷◌, length, get_or, take, sum_by, Option, Some, None, IsSome, refl, sym, ap, ◌∙◌, subst, arith}
+-- The notes of a walk up from a path: one group more each time, and what they say of charges and peaks.
+use Rattle.std.proofs.Common.{◌≡◌, ℕ, zero, suc, ◌+◌, ◌-◌, ◌<◌, inl, inr, true, List, [], ◌∷◌, ◌++◌, length, length-append, get_or, take, sum_by, Option, Some, None, IsSome, refl, sym, ap, ◌∙◌, subst, arith}
 use Rattle.std.specs.Prelude.{max}
 use Rattle.std.specs.List.{All}
 use Rattle.std.proofs.lemmas.List.Elements.{All-from_get_or}
 use Rattle.std.proofs.lemmas.List.Sums.{sum_by-cons}
-use Rattle.std.proofs.lemmas.List.{length-take-le}
+use Rattle.std.proofs.lemmas.Bool.{cases_lt}
+use Rattle.std.proofs.lemmas.List.{length-take-le, get_or_append_left}
 use Rattle.std.specs.FinMap as fin
 use Rattle.flat_model.specs.Path.{Path, at_or_below}
 use Rattle.flat_model.proofs.PathLaws.{take_above}
@@ -22,23 +23,34 @@ pub record AreNoted (f : Option Attr → ℕ) (tree : Groups) (p : Path) (n : �
   pub many : length ns ≡ n
   pub each : (k : ℕ) → k < n → get_or ns k 0 ≡ f (fin.get tree (take (n - k) p))
 
+-- f applied to the first k groups from p upward
+pub record AreUpTo (f : Option Attr → ℕ) (tree : Groups) (p : Path) (k : ℕ) (ns : List ℕ) : Type 0 where
+  pub many : length ns ≡ k
+  pub each : (j : ℕ) → j < k → get_or ns j 0 ≡ f (fin.get tree (take (length p - j) p))
+
+read_last : (ns : List ℕ) (x k : ℕ) → k ≡ length ns → get_or (ns ++ x ∷ []) k 0 ≡ x
+read_last [] x k e = ap (λ (j : ℕ). get_or (x ∷ []) j 0) e
+read_last (n ∷ ns) x zero e = absurd (omega (arith, e))
+read_last (n ∷ ns) x (suc k) e = read_last ns x k (omega (arith, e))
+
 module _ (f : Option Attr → ℕ) (tree : Groups) (p : Path) where
-  pub none_noted : AreNoted f tree p 0 []
-  none_noted = record { many = refl; each = λ k h. absurd (omega (arith, h)) }
+  pub none_up : AreUpTo f tree p 0 []
+  none_up = record { many = refl; each = λ j h. absurd (omega (arith, h)) }
 
-  -- the next group down the path
-  pub one_noted : (n x : ℕ) (ns : List ℕ) (a : Attr) → fin.get tree (take (n + 1) p) ≡ Some a → x ≡ f (Some a) → AreNoted f tree p n ns → AreNoted f tree p (n + 1) (x ∷ ns)
-  one_noted n x ns a here is h = record { many = let l = h.many in omega (arith, l); each = each }
+  -- the next group upward
+  pub one_up : (k x : ℕ) (ns : List ℕ) (a : Attr) → Some a ≡ fin.get tree (take (length p - k) p) → x ≡ f (Some a) → AreUpTo f tree p k ns → AreUpTo f tree p (k + 1) (ns ++ x ∷ [])
+  one_up k x ns a here is h = record { many = let l = h.many in omega (arith, l, length-append ns (x ∷ [])); each = each }
     where
-      each : (k : ℕ) → k < n + 1 → get_or (x ∷ ns) k 0 ≡ f (fin.get tree (take (n + 1 - k) p))
-      each zero below = is ∙ ap f (sym here) ∙ ap (λ (m : ℕ). f (fin.get tree (take m p))) (omega arith)
-      each (suc k) below = h.each k (omega (arith, below)) ∙ ap (λ (m : ℕ). f (fin.get tree (take m p))) (omega arith)
+      each : (j : ℕ) → j < k + 1 → get_or (ns ++ x ∷ []) j 0 ≡ f (fin.get tree (take (length p - j) p))
+      each j below = elim (cases_lt j k) [
+        | inl lt ↦ get_or_append_left ns (x ∷ []) 0 j (let l = h.many in omega (arith, l, lt)) ∙ h.each j lt
+        | inr le ↦
+            let last : j ≡ k = omega (arith, le, below) in
+            read_last ns x j (let l = h.many in omega (arith, l, last)) ∙ is ∙ ap f here ∙ ap (λ (i : ℕ). f (fin.get tree (take (length p - i) p))) (sym last)
+      ]
 
-  pub all_noted : (n : ℕ) (ns : List ℕ) → n ≡ length p → AreNoted f tree p n ns → AreUpward f tree p ns
-  all_noted n ns e h = record {
-    many = h.many ∙ e;
-    each = λ k below. h.each k (omega (arith, below, e)) ∙ ap (λ (m : ℕ). f (fin.get tree (take (m - k) p))) e;
-  }
+  pub all_up : (k : ℕ) (ns : List ℕ) → k ≡ length p → AreUpTo f tree p k ns → AreUpward f tree p ns
+  all_up k ns e h = record { many = h.many ∙ e; each = λ j below. h.each j (omega (arith, below, e)) }
 
 -- one charge at each slot that was noted
 chain_noted : (tree : Groups) (p : Path) (leaf s j n : ℕ) (ns : List ℕ) → AreNoted slot_of tree p n ns → sum_by (λ slot. one_at slot leaf s j) ns ≡ chain_at tree p n leaf s j

@@ -9,6 +9,7 @@ use Rattle.flat_model.specs.Path.{Path, parent, at_or_below}
 use Rattle.flat_model.proofs.PathLaws.{take_above}
 use Rattle.group_tree.specs.Groups.{Groups}
 use Rattle.snzi_tokens.specs.Listed.{one_at}
+use Rattle.pids_charge.specs.GroupRows.{IsOfGroup}
 use Rattle.pids_charge.specs.Lists.{slot_at, table_slot}
 use Rattle.pids_charge.specs.Recount.{chain_at, HasParents, SlotsBelow}
 
@@ -23,7 +24,8 @@ parent_take p n l =
     let k : length (take (suc n) p) - 1 ≡ n = omega (arith, len) in
     ap (λ (m : ℕ). take m (take (suc n) p)) k ∙ take_short n p
 
-own_slot : (tree : Groups) (q : Path) → 0 < length q → table_slot tree q ≡ suc (slot_at tree q)
+-- below the root
+pub own_slot : (tree : Groups) (q : Path) → 0 < length q → table_slot tree q ≡ suc (slot_at tree q)
 own_slot tree [] pos = absurd (omega (arith, pos))
 own_slot tree (n ∷ q) pos = refl
 
@@ -41,6 +43,21 @@ root_alone tree (n ∷ q) e = absurd (omega (arith, e))
 pub at_root : (tree : Groups) (p : Path) (at n : ℕ) → n ≤ length p → at ≡ table_slot tree (take n p) → at ≡ 0 → n ≡ 0
 at_root tree p at n few here e = omega (arith, root_alone tree (take n p) (sym here ∙ e), length-take-le n p few)
 
+-- the group at the first n names of the path
+pub of_group : (tree : Groups) (p : Path) → IsSome (fin.get tree p) → ((p q : Path) → IsSome (fin.get tree p) → at_or_below p q ≡ true → IsSome (fin.get tree q))
+    → (at n : ℕ) → at ≡ table_slot tree (take n p) → IsOfGroup tree at
+of_group tree p home prefixes at n here = record { path = take n p; there = prefixes p (take n p) home (take_above n p); here = here }
+
+-- its slot of the meter
+pub own_below : (slots : ℕ) (tree : Groups) → SlotsBelow slots tree → (p : Path) → IsSome (fin.get tree p)
+    → ((p q : Path) → IsSome (fin.get tree p) → at_or_below p q ≡ true → IsSome (fin.get tree q))
+    → (at n : ℕ) → n ≤ length p → at ≡ table_slot tree (take n p) → 0 < at → slot_at tree (take n p) < slots
+own_below slots tree below p home prefixes at n few here pos =
+    elim (cases_lt 0 n) [
+      | inl lt ↦ below (take n p) (omega (arith, lt, few, length-take-le n p few)) (prefixes p (take n p) home (take_above n p))
+      | inr le ↦ let top : n ≡ 0 = omega (arith, le) in absurd (omega (arith, pos, here, ap (λ (k : ℕ). table_slot tree (take k p)) top))
+    ]
+
 -- from the group at the first n names of the path, whose processes are in slot `at` of their table, to that at the first m
 pub record IsStepUp (slots : ℕ) (tree : Groups) (parents : List ℕ) (p : Path) (at n m : ℕ) : Type 0 where
   pub more : n ≡ suc m
@@ -50,7 +67,8 @@ pub record IsStepUp (slots : ℕ) (tree : Groups) (parents : List ℕ) (p : Path
 
 module _ (slots : ℕ) (tree : Groups) (parents : List ℕ) (has : HasParents slots tree parents) (below : SlotsBelow slots tree) (p : Path) (home : IsSome (fin.get tree p))
     (prefixes : (p q : Path) → IsSome (fin.get tree p) → at_or_below p q ≡ true → IsSome (fin.get tree q)) where
-  step_by : (at n m : ℕ) → n ≤ length p → at ≡ table_slot tree (take n p) → n ≡ suc m → IsStepUp slots tree parents p at n m
+  -- from a group other than the root
+  pub step_by : (at n m : ℕ) → n ≤ length p → at ≡ table_slot tree (take n p) → n ≡ suc m → IsStepUp slots tree parents p at n m
   step_by at n m few here e =
       let own : Path = take (suc m) p in
       let there = prefixes p own home (take_above (suc m) p) in

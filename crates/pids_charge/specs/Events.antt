@@ -1,5 +1,5 @@
 -- Forks that limits refuse: which group refuses, and which event totals count it.
-use Rattle.std.specs.Prelude.{ℕ, zero, suc, ◌+◌, ◌-◌, ◌^◌, ◌<◌, ◌≡◌, Bool, true, false, cond, Option, Some, None, take, IsSome}
+use Rattle.std.specs.Prelude.{ℕ, zero, suc, min, ◌+◌, ◌-◌, ◌^◌, ◌<◌, ◌≡◌, Bool, true, false, cond, Option, Some, None, take, IsSome}
 use Rattle.std.specs.FinMap as fin
 use Rattle.std.specs.Ordering.{nat_cmp}
 use Rattle.flat_model.specs.Path.{Path}
@@ -12,6 +12,8 @@ use Rattle.group_tree.specs.Groups.{Groups}
 use Rattle.group_tree.specs.Flat.{group_of, limit_of}
 use Rattle.group_tree.specs.declared.attr.Attr.{Attr}
 use Rattle.snzi_tokens.specs.Listed.{over_leaves}
+use Rattle.pids_charge.specs.declared.above.Change.{Change}
+use Rattle.pids_charge.specs.declared.above.Change.TheVariants.{Raise, Lower}
 use Rattle.pids_charge.specs.Content.{Content}
 
 -- by the meter's content, one more process would exceed the group's `pids.max`
@@ -23,6 +25,11 @@ full_by leaves content (Some attr) = exceeds (over_leaves leaves (content attr.s
 abbrev pub longest : (Path → Bool) → Path → ℕ → Option ℕ
 longest test p zero = None
 longest test p (suc n) = cond (test (take (suc n) p)) (Some (suc n)) (longest test p n)
+
+-- an event total after a change; the greatest u64 and 0 stay
+abbrev pub stepped : Change → ℕ → ℕ
+stepped Raise n = min (n + 1) (2 ^ 64 - 1)
+stepped Lower n = n - 1
 
 -- the flat state of these groups and homes
 abbrev pub flat_of : Groups → fin.FinMap nat_cmp Path → State

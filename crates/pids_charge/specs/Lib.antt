@@ -2,6 +2,7 @@ pub mod Content
 pub mod Parts
 pub mod Table
 pub mod Lists
+pub mod GroupRows
 pub mod Recount
 pub mod Events
 pub mod PeakStorage

@@ -6,12 +6,13 @@ ghost use Rattle.flat_model.specs.State.{start};
 ghost use Rattle.pids_charge.specs.Content.{IsEmpty};
 ghost use Rattle.pids_charge.specs.Recount.{AreAllFree};
 
+use crate::groups::GroupTable;
 use crate::meter::Meter;
 use crate::parents::Parents;
 use crate::pid::Pid;
 use crate::rows::put_row;
 use group_path::GroupPath;
-use group_tree::{Attr, GroupTree};
+use group_tree::Attr;
 use process_table::{Process, ProcessTable};
 use std::alloc::{AllocError, Allocator};
 use std::marker::Model;
@@ -20,7 +21,7 @@ use std::marker::Model;
 /// the flat state.
 #[derive(Drop)]
 pub struct Charges<A: Allocator + Clone, M: Meter> {
-    pub(crate) tree: GroupTree<A>,
+    pub(crate) tree: GroupTable<A>,
     pub(crate) parents: Parents<A>,
     pub(crate) processes: ProcessTable<A>,
     pub(crate) free: Vec<u16, A>,
@@ -69,7 +70,8 @@ impl<A: Allocator + Clone, M: Meter + Drop> Charges<A, M> {
         ensures { IfOk result (λ c. c ≡ start) }
     {
         let home = GroupPath::root(alloc.clone()?)?;
-        let tree = GroupTree::new(alloc.clone()?, Attr::new(0))?;
+        let tree = GroupTable::new(alloc.clone()?, Attr::new(0))?;
+        tree.known();
         let parents = Parents::new(alloc.clone()?, M::SLOTS)?;
         let mut processes = ProcessTable::new(alloc.clone()?)?;
         let first = Process {

@@ -12,13 +12,13 @@ ghost use Rattle.pids_charge.specs.Lists.{at_leaf_below, row_below, table_slot};
 ghost use Rattle.pids_charge.specs.Recount.{charges_at, HasParents, SlotsBelow};
 
 use crate::charges::Charges;
+use crate::groups::GroupTable;
 use crate::meter::{HELD_MAX, Meter};
 use crate::parents::Parents;
 use crate::plain::PlainMeter;
 use crate::rows::home_in;
 use crate::walk::charge_up;
 use group_path::GroupPath;
-use group_tree::GroupTree;
 use process_table::{Process, ProcessTable};
 use std::alloc::{AllocError, Allocator};
 
@@ -38,7 +38,7 @@ fn copy_slots<A: Allocator, B: Allocator>(
 
 // Inserts one process into a table, charged along its path at its leaf modulo the leaves of the meter.
 fn copy_one<T: Allocator, M: Meter, A: Allocator + Clone, B: Allocator + Clone>(
-    tree: &GroupTree<T>,
+    tree: &GroupTable<T>,
     parents: &Parents<T>,
     table: &mut ProcessTable<B>,
     meter: &mut M,
@@ -65,7 +65,7 @@ fn copy_one<T: Allocator, M: Meter, A: Allocator + Clone, B: Allocator + Clone>(
 
 // Inserts all processes into a table, each charged so.
 fn copy_each<T: Allocator, M: Meter, A: Allocator + Clone, B: Allocator + Clone>(
-    tree: &GroupTree<T>,
+    tree: &GroupTable<T>,
     parents: &Parents<T>,
     processes: &ProcessTable<A>,
     meter: &mut M,

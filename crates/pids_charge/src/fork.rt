@@ -16,18 +16,21 @@ ghost use Rattle.flat_model.specs.Step.{refusal, after, after_refusal, home_of, 
 ghost use Rattle.group_tree.specs.Refusals.{HasRoomForRefusals};
 ghost use Rattle.pids_charge.specs.Answers.{Does, refusal_of_fault, names_in};
 ghost use Rattle.pids_charge.specs.Events.{flat_of, HasRoomForEvents, HasEvents};
-ghost use Rattle.pids_charge.specs.Lists.{process_in};
-ghost use Rattle.pids_charge.specs.Recount.{SameSlots};
+ghost use Rattle.pids_charge.specs.Lists.{process_in, table_slot};
+ghost use Rattle.pids_charge.specs.Recount.{HasParents, SameSlots, SlotsBelow};
 
+use crate::above::{Change, change_totals, slot_up};
 use crate::charges::Charges;
 use crate::fault::ChargeFault;
+use crate::groups::GroupTable;
 use crate::meter::Meter;
-use crate::notes::{Notes, look_along};
+use crate::notes::{nearest_full, note_up};
+use crate::parents::Parents;
 use crate::peaks::{Peaks, charge_noted};
 use crate::pid::Pid;
 use crate::rows::{find_row, has_row, put_beside};
+use crate::slot::slot_in;
 use group_path::GroupPath;
-use group_tree::GroupTree;
 use process_table::ProcessTable;
 use std::alloc::{AllocError, Allocator};
 
@@ -55,39 +58,51 @@ fn admit<A: Allocator + Clone>(
     Ok(list)
 }
 
-// Counts a fork that the group at the first `n` names of the path refused.
-fn count_refusal<T: Allocator, A: Allocator + Clone>(
-    tree: &mut GroupTree<T>,
+// Counts a fork that the group at the first `n` names of the path refused. `slot` is where the processes of the path's group
+// are in their table.
+fn count_refusal<M: Meter, T: Allocator, A: Allocator + Clone>(
+    tree: &mut GroupTable<T>,
+    parents: &Parents<T>,
     path: &GroupPath<A>,
     n: usize,
+    slot: u16,
 )
-    requires below_root { 0 < n }
     requires at { n ≤ length path.now }
+    requires home { IsSome (fin.get tree.old path.now) }
+    requires slot { slot ≡ table_slot tree.old path.now }
+    requires slots { SlotsBelow M.SLOTS tree.old }
+    requires parents { HasParents M.SLOTS tree.old parents.now }
     requires room { HasRoomForRefusals tree.old }
     ensures counted { (home : fin.FinMap nat_cmp Path) → flat_of tree.new home ≡ at_each (count_up (take n path.now)) (flat_of tree.old home) }
     ensures slots { SameSlots tree.old tree.new }
 {
-    tree.count_refusal(path, n);
+    tree.known();
+    let at = slot_up::<M, _, _>(tree, parents, path, n, slot);
+    change_totals::<M, _, _>(tree, parents, path, n, at, Change::Raise);
     tree.known();
 }
 
-// Undoes the count of a fork that the group at the first `n` names of the path refused.
-fn uncount_refusal<T: Allocator, A: Allocator + Clone>(
-    tree: &mut GroupTree<T>,
+// Undoes the count of a fork that the group at the path refused. Descends the tree once.
+fn uncount_refusal<M: Meter, T: Allocator, A: Allocator + Clone>(
+    tree: &mut GroupTable<T>,
+    parents: &Parents<T>,
     path: &GroupPath<A>,
-    n: usize,
 )
-    requires at { n ≤ length path.now }
-    ensures counted { (home : fin.FinMap nat_cmp Path) → flat_of tree.new home ≡ at_each (count_down (take n path.now)) (flat_of tree.old home) }
+    requires group { IsSome (fin.get tree.old path.now) }
+    requires slots { SlotsBelow M.SLOTS tree.old }
+    requires parents { HasParents M.SLOTS tree.old parents.now }
+    ensures counted { (home : fin.FinMap nat_cmp Path) → flat_of tree.new home ≡ at_each (count_down path.now) (flat_of tree.old home) }
     ensures slots { SameSlots tree.old tree.new }
 {
-    tree.uncount_refusal(path, n);
+    let at = slot_in::<M, _, _>(tree, path);
+    change_totals::<M, _, _>(tree, parents, path, path.depth(), at, Change::Lower);
     tree.known();
 }
 
 impl<A: Allocator + Clone, M: Meter> Charges<A, M> {
     /// The refusal that `fork` would return, apart from memory: `NoProcess` of the parent, `PidInUse` of the child, or
-    /// `PidsMax`. Counts nothing and changes nothing. Costs one descent of the tree, which tests all limits up to the root.
+    /// `PidsMax`. Counts nothing and changes nothing. Costs a step for each group
+    /// from the parent's upward, and no descent of the tree.
     pub fn refuses_fork(&mut self, parent: Pid, child: Pid) -> Option<ChargeFault>
         ensures first { MatchOption result (refusal M.SLOTS self.old (Fork parent child) ≡ None) (λ f. refusal M.SLOTS self.old (Fork parent child) ≡ refusal_of_fault (home_of self.old parent) f) }
         ensures ready { result ≡ None → (has_process self.old parent ≡ true) × (has_process self.old child ≡ false) }
@@ -103,8 +118,13 @@ impl<A: Allocator + Clone, M: Meter> Charges<A, M> {
             return Some(ChargeFault::PidInUse(child));
         }
         self.tree.known();
-        let mut notes = Notes::new();
-        if let Some(n) = look_along(&self.tree, &mut self.meter, &process.home, &mut notes) {
+        if let Some(n) = nearest_full(
+            &self.tree,
+            &self.parents,
+            &mut self.meter,
+            &process.home,
+            process.slot,
+        ) {
             return Some(ChargeFault::PidsMax(n));
         }
         None
@@ -112,7 +132,7 @@ impl<A: Allocator + Clone, M: Meter> Charges<A, M> {
 
     /// Makes a process in the group of its parent, charged at the leaf of `who`, unless a limit refuses it. Raises the peaks
     /// of that group and of those above it other than the root. Returns their old peaks, from the group upward. Counts no
-    /// refusal. Costs one descent of the tree, and a second if a peak rises.
+    /// refusal. Costs some steps for each of these groups, and no descent of the tree.
     ///
     /// # Errors
     ///
@@ -131,10 +151,17 @@ impl<A: Allocator + Clone, M: Meter> Charges<A, M> {
         let Some(from) = find_row(&self.processes, parent) else {
             unreachable!()
         };
-        let mut notes = Notes::new();
-        if let Some(n) = look_along(&self.tree, &mut self.meter, &from.home, &mut notes) {
+        let slot = from.slot;
+        if let Some(n) = nearest_full(
+            &self.tree,
+            &self.parents,
+            &mut self.meter,
+            &from.home,
+            slot,
+        ) {
             return Err(ChargeFault::PidsMax(n));
         }
+        let notes = note_up::<M, _, _>(&self.tree, &self.parents, &from.home, slot);
         let leaf = who % M::LEAVES;
         let Ok(peaks) = admit(
             &mut self.processes,
@@ -149,13 +176,21 @@ impl<A: Allocator + Clone, M: Meter> Charges<A, M> {
         let Some(process) = find_row(&self.processes, child) else {
             unreachable!()
         };
-        charge_noted(&mut self.tree, &mut self.meter, &process.home, leaf, &notes);
+        charge_noted(
+            &mut self.tree,
+            &self.parents,
+            &mut self.meter,
+            &process.home,
+            slot,
+            leaf,
+            &notes,
+        );
         Ok(peaks)
     }
 
     /// Makes a process that `fork` would not refuse, in the group of its parent, charged at the leaf of `who`. Raises the
     /// peaks of that group and of those above it other than the root. Returns their old peaks, from the group upward. Costs
-    /// one descent of the tree, and a second if a peak rises.
+    /// some steps for each of these groups, and no descent of the tree.
     ///
     /// # Errors
     ///
@@ -179,8 +214,8 @@ impl<A: Allocator + Clone, M: Meter> Charges<A, M> {
     }
 
     /// Counts a fork that the group at the first `n` names of the parent's path refuses. Adds one to the local total of that
-    /// group, and one to the totals of that group and of the groups above it other than the root. Allocates nothing. Costs
-    /// one descent of the tree.
+    /// group, and one to the totals of that group and of the groups above it other than the root. Allocates nothing. Does not
+    /// descend the tree.
     pub fn count_fork(&mut self, parent: Pid, n: usize)
         requires parent { has_process self.old parent ≡ true }
         requires below_root { 0 < n }
@@ -191,12 +226,18 @@ impl<A: Allocator + Clone, M: Meter> Charges<A, M> {
         let Some(process) = find_row(&self.processes, parent) else {
             unreachable!()
         };
-        count_refusal(&mut self.tree, &process.home, n);
+        count_refusal::<M, _, _>(
+            &mut self.tree,
+            &self.parents,
+            &process.home,
+            n,
+            process.slot,
+        );
     }
 
     /// Makes a process in the group of its parent, charged at the leaf of `who`. Raises the peaks of that group and of those
-    /// above it other than the root. Returns their old peaks, from the group upward. Costs one descent of the tree, and a
-    /// second if a peak rises. A refusal by a limit costs two: the second counts it.
+    /// above it other than the root. Returns their old peaks, from the group upward. Costs some steps for each of these
+    /// groups, and no descent of the tree, whether a limit refuses it or not.
     ///
     /// # Errors
     ///
@@ -235,6 +276,6 @@ impl<A: Allocator + Clone, M: Meter> Charges<A, M> {
         requires { HasEvents self.old path.now }
         ensures { self.new ≡ back (Counted path.now) self.old }
     {
-        uncount_refusal(&mut self.tree, path, path.depth());
+        uncount_refusal::<M, _, _>(&mut self.tree, &self.parents, path);
     }
 }

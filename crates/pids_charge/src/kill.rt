@@ -19,6 +19,7 @@ ghost use Rattle.pids_charge.specs.Recount.{charges_of, HasParents, IsPlaced, Sl
 use crate::charges::Charges;
 use crate::fault::ChargeFault;
 use crate::gate::Gate;
+use crate::groups::GroupTable;
 use crate::lost::{Lost, LostList};
 use crate::meter::Meter;
 use crate::parents::Parents;
@@ -26,7 +27,6 @@ use crate::pid::Pid;
 use crate::settler::{Settler, with_threads};
 use crate::walk::push_charges;
 use group_path::GroupPath;
-use group_tree::GroupTree;
 use process_table::ProcessTable;
 use snzi_tokens::Token;
 use std::alloc::{AllocError, Allocator};
@@ -44,7 +44,7 @@ struct Gathered<A: Allocator + Clone> {
 
 // The pids at or below the path, ascending, and the charges of their processes.
 fn gather<M: Meter, T: Allocator, A: Allocator + Clone, B: Allocator + Clone>(
-    tree: &GroupTree<T>,
+    tree: &GroupTable<T>,
     parents: &Parents<T>,
     processes: &ProcessTable<A>,
     alloc: &A,

@@ -19,10 +19,12 @@
 //!   `count_fork` only do what was decided. `try_process` is a fork that counts no refusal. They are for a caller that
 //!   allocates something of its own in between.
 //! - `exit`, `set_peaks`, `count_fork`, `uncount`, `rmdir`, `set_limit`, the readers and the calls that only decide allocate
-//!   nothing. `new` allocates the table of free slots and that of parents.
-//! - A walk down a path descends the tree once, so a fork and a move cost O(depth · log children) comparisons. A walk up goes
-//!   from the slot of a group to that of its parent, so an exit costs O(depth) steps and no comparison of names. A process is
-//!   found in constant time. A path has at most 32 names.
+//!   nothing. `new` allocates the table of free slots and that of parents. Rows are allocated as groups are
+//!   made.
+//! - The tree has the names of the groups, and a row for each has its attributes. A process knows the row of its group. A walk
+//!   up goes from the row of a group to that of its parent, so a fork, a refused fork and an exit cost O(depth) steps and
+//!   compare no names. Who is given a path descends the tree once, as a move does, by O(depth · log children) comparisons. A
+//!   process is found in constant time. A path has at most 32 names.
 //! - The processes of a group share the text of a long path. A child takes it from its parent; a process that is moved, put
 //!   back or copied takes it from one that is in the group, if there is one, and else gets a copy.
 //! - `kill_by` and `place_all_by` are `kill` and `place_all` by a `Settler`: `Alone` settles on the calling thread and needs
@@ -35,11 +37,12 @@
 //!
 //! Not promised: which slot a group gets, and in which stripe of a meter an amount is stored.
 //!
-//! `specs/Recount.antt` says how meter, tree and table agree. `specs/Answers.antt` says what a call that is a command
+//! `specs/Recount.antt` says how meter, tree and table agree, `specs/GroupRows.antt` how tree and rows do. `specs/Answers.antt` says what a call that is a command
 //! returns and leaves. `specs/Events.antt` defines what a limit refuses and what is counted, `specs/Peaks.antt` to what
 //! peaks rise, and `specs/Parts.antt` what a settlement leaves in so many parts.
 #![tactic(auto)]
 
+mod above;
 mod charges;
 mod children;
 mod copy;
@@ -47,6 +50,7 @@ mod exit;
 mod fault;
 mod fork;
 mod gate;
+mod groups;
 mod kill;
 mod limit;
 mod lost;

@@ -28,7 +28,7 @@ fn is_missing<B: Allocator + Clone>(path: &GroupPath<B>, file: LimitFile) -> boo
 
 impl<A: Allocator + Clone, M: Meter> Charges<A, M> {
     /// Sets a limit of a group, and returns the old one. A limit may be below the present count. Allocates nothing. Costs
-    /// one descent of the tree.
+    /// two descents of the tree.
     ///
     /// # Errors
     ///

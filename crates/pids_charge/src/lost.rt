@@ -46,7 +46,7 @@ impl<A: Allocator + Clone> Lost<A> {
     }
 }
 
-// The same in the same order.
+// A copy of the list in another allocator, in the same order.
 fn copy_all<A: Allocator + Clone, B: Allocator + Clone>(
     list: &[Lost<A>],
     alloc: B,

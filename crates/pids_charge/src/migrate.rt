@@ -29,8 +29,7 @@ pub struct Shifted<A: Allocator + Clone> {
 impl<A: Allocator + Clone, M: Meter> Charges<A, M> {
     /// Moves a process to the group, where it is charged at the leaf of `who`, and then raises the peaks of the group and of
     /// those above it other than the root. Returns its old group, by the path that the table had, and the old peaks of the
-    /// groups along the new path. Tests no limit. Costs two descents of the tree: one finds the group, and one adds the
-    /// charges along the new path and reads the peaks. A third follows if a peak rises.
+    /// groups along the new path. Tests no limit. Costs one descent of the tree.
     ///
     /// # Errors
     ///
@@ -67,7 +66,15 @@ impl<A: Allocator + Clone, M: Meter> Charges<A, M> {
         uncharge_up(&self.tree, &self.parents, &mut self.meter, &before, leaf);
         let mut table = [0; 32];
         let earlier = &mut table[..path.depth()];
-        charge_and_raise(&mut self.tree, &mut self.meter, path, leaf, earlier);
+        charge_and_raise(
+            &mut self.tree,
+            &self.parents,
+            &mut self.meter,
+            path,
+            slot,
+            leaf,
+            earlier,
+        );
         peaks.fill(earlier);
         Ok(Shifted {
             path: before.home,

@@ -1,74 +1,76 @@
-//! What one walk along a path notes: the slots and the peaks of its groups, and the nearest full group.
+//! What walks up from a group note: the nearest full group, and the slots and the peaks of the group and those above it.
 
-ghost use Rattle.std.specs.Prelude.{◌≡◌, ◌<◌, ◌≤◌, ◌∷◌, [], length, IfSome, IsSome, Some};
+ghost use Rattle.std.specs.Prelude.{◌≡◌, ◌<◌, ◌≤◌, ◌++◌, ◌∷◌, [], length, IfSome, IsSome, Some};
 ghost use Rattle.std.specs.FinMap as fin;
 ghost use Rattle.pids_charge.specs.Events.{full_by, longest};
+ghost use Rattle.pids_charge.specs.Lists.{table_slot};
 ghost use Rattle.pids_charge.specs.Peaks.{IsNoted, Noted};
-ghost use Rattle.pids_charge.specs.Recount.{SlotsBelow};
+ghost use Rattle.pids_charge.specs.Recount.{HasParents, SlotsBelow};
 
+use crate::groups::GroupTable;
 use crate::meter::Meter;
+use crate::parents::Parents;
 use group_path::GroupPath;
-use group_tree::{Attr, GroupTree, Limit};
+use group_tree::{Attr, Limit};
 use std::alloc::Allocator;
 use std::marker::Model;
 
 // The most names of a path.
 pub(crate) const DEPTH_MAX: usize = 32;
 
-// The slots and the peaks of groups along a path, from the path's own group upward, without the root. The lists fill their
-// arrays from the end, since a walk meets the topmost group first.
+// The slots and the peaks of groups, from a group upward, without the root.
 #[derive(Drop)]
 pub(crate) struct Notes {
     slots: [u16; DEPTH_MAX],
     peaks: [u64; DEPTH_MAX],
-    from: usize,
+    len: usize,
 }
 
 impl Model for Notes {
-    ghost use Rattle.std.specs.Prelude.{◌≤◌, drop};
+    ghost use Rattle.std.specs.Prelude.{◌≤◌, take};
     ghost use Rattle.pids_charge.specs.Peaks.{Noted};
 
     ghost Value = { Noted };
 
-    ghost view = { λ n. record { slots = drop n.from n.slots; peaks = drop n.from n.peaks } };
+    ghost view = { λ n. record { slots = take n.len n.slots; peaks = take n.len n.peaks } };
 
-    ghost invariant = { λ n. n.from ≤ 32 };
+    ghost invariant = { λ n. n.len ≤ 32 };
 }
 
 impl Notes {
     // No groups.
-    pub(crate) fn new() -> Notes
+    fn new() -> Notes
         ensures { result ≡ record { slots = []; peaks = [] } }
     {
         Notes {
             slots: [0; DEPTH_MAX],
             peaks: [0; DEPTH_MAX],
-            from: DEPTH_MAX,
+            len: 0,
         }
     }
 
-    // Notes the next group down the path.
+    // Notes the next group upward.
     fn push(&mut self, slot: u16, peak: u64)
         requires { length self.old.slots < 32 }
-        ensures { self.new ≡ record { slots = slot ∷ self.old.slots; peaks = peak ∷ self.old.peaks } }
+        ensures { self.new ≡ record { slots = self.old.slots ++ slot ∷ []; peaks = self.old.peaks ++ peak ∷ [] } }
     {
-        self.from -= 1;
-        self.slots[self.from] = slot;
-        self.peaks[self.from] = peak;
+        self.slots[self.len] = slot;
+        self.peaks[self.len] = peak;
+        self.len += 1;
     }
 
     // The slots, from the path's own group upward.
     pub(crate) fn slots(&self) -> &[u16]
         ensures { result.now ≡ self.now.slots }
     {
-        &self.slots[self.from..]
+        &self.slots[..self.len]
     }
 
     // The peaks, from the path's own group upward.
     pub(crate) fn peaks(&self) -> &[u64]
         ensures { result.now ≡ self.now.peaks }
     {
-        &self.peaks[self.from..]
+        &self.peaks[..self.len]
     }
 }
 
@@ -85,33 +87,63 @@ fn is_full<M: Meter>(meter: &mut M, attr: &Attr) -> bool
     }
 }
 
-// Descends once, and notes each group along the path. Returns the nearest group, from the path's upward, whose `pids.max` one
-// more process would exceed, as its number of names. It is the last such group on the way down.
-pub(crate) fn look_along<T: Allocator, M: Meter, A: Allocator + Clone>(
-    tree: &GroupTree<T>,
+// The nearest group, from the path's upward, whose `pids.max` one more process would exceed, as its number of names. `slot`
+// is where the processes of the path's group are in their table. Does not descend the tree.
+pub(crate) fn nearest_full<T: Allocator, M: Meter, A: Allocator + Clone>(
+    tree: &GroupTable<T>,
+    parents: &Parents<T>,
     meter: &mut M,
     path: &GroupPath<A>,
-    notes: &mut Notes,
+    slot: u16,
 ) -> Option<usize>
     requires home { IsSome (fin.get tree.now path.now) }
+    requires slot { slot ≡ table_slot tree.now path.now }
     requires slots { SlotsBelow M.SLOTS tree.now }
-    requires empty { notes.old ≡ record { slots = []; peaks = [] } }
+    requires parents { HasParents M.SLOTS tree.now parents.now }
     ensures answer { result ≡ longest (λ a. full_by M.LEAVES (M.content meter.old) (fin.get tree.now a)) path.now (length path.now) }
     ensures inside { IfSome result (λ n. (0 < n) × (n ≤ length path.now)) }
-    ensures noted { IsNoted tree.now path.now notes.new }
     ensures content { M.content meter.new ≡ M.content meter.old }
     ensures held { M.held meter.new ≡ M.held meter.old }
 {
     tree.known();
     path.known();
-    let mut nearest = None;
-    let mut n = 0;
-    for attr in tree.along(path) {
-        n += 1;
-        notes.push(attr.slot, attr.peak);
-        if is_full(meter, attr) {
-            nearest = Some(n);
+    let mut at = slot;
+    for up in 0..DEPTH_MAX {
+        if at == 0 {
+            break;
         }
+        if is_full(meter, tree.row(at)) {
+            return Some(path.depth() - up);
+        }
+        at = parents.up(at - 1);
     }
-    nearest
+    None
+}
+
+// Notes the group of a path and those above it, without the root. Does not descend the tree.
+pub(crate) fn note_up<M: Meter, T: Allocator, A: Allocator + Clone>(
+    tree: &GroupTable<T>,
+    parents: &Parents<T>,
+    path: &GroupPath<A>,
+    slot: u16,
+) -> Notes
+    requires home { IsSome (fin.get tree.now path.now) }
+    requires slot { slot ≡ table_slot tree.now path.now }
+    requires slots { SlotsBelow M.SLOTS tree.now }
+    requires parents { HasParents M.SLOTS tree.now parents.now }
+    ensures { IsNoted tree.now path.now result }
+{
+    tree.known();
+    path.known();
+    let mut notes = Notes::new();
+    let mut at = slot;
+    for _up in 0..DEPTH_MAX {
+        if at == 0 {
+            break;
+        }
+        let attr = tree.row(at);
+        notes.push(attr.slot, attr.peak);
+        at = parents.up(at - 1);
+    }
+    notes
 }

@@ -1,6 +1,6 @@
 //! The peaks of groups: raised along a path when a process enters, and set again by an undo.
 
-ghost use Rattle.std.specs.Prelude.{◌≡◌, ℕ, ◌+◌, ◌<◌, ◌≤◌, max, length, get_or, IfOk, IsOk, IsSome, option_map};
+ghost use Rattle.std.specs.Prelude.{◌≡◌, ℕ, ◌+◌, ◌<◌, ◌≤◌, max, length, get_or, take, None, IfOk, IsOk, IsSome, option_map};
 ghost use Rattle.std.specs.List.{All, sum_by};
 ghost use Rattle.std.specs.FinMap as fin;
 ghost use Rattle.std.specs.Ordering.{nat_cmp};
@@ -10,13 +10,17 @@ ghost use Rattle.pids_charge.specs.Events.{flat_of};
 ghost use Rattle.group_tree.specs.PeaksAlong.{SetsPeaks};
 ghost use Rattle.snzi_tokens.specs.Listed.{one_at, over_leaves};
 ghost use Rattle.pids_charge.specs.Peaks.{peak_of, raised_by, AreUpward, IsNoted};
-ghost use Rattle.pids_charge.specs.Recount.{SlotsBelow, SameSlots, with_charges};
+ghost use Rattle.pids_charge.specs.Lists.{table_slot};
+ghost use Rattle.pids_charge.specs.Recount.{HasParents, SlotsBelow, SameSlots, with_charges};
 
+use crate::above::set_peaks_up;
 use crate::charges::Charges;
+use crate::groups::GroupTable;
 use crate::meter::{HELD_MAX, Meter};
-use crate::notes::{DEPTH_MAX, Notes, look_along};
+use crate::notes::{DEPTH_MAX, Notes, note_up};
+use crate::parents::Parents;
 use group_path::GroupPath;
-use group_tree::{Attr, GroupTree};
+use group_tree::Attr;
 use std::alloc::{AllocError, Allocator, Global};
 use std::marker::Model;
 use std::mem::size_of;
@@ -173,12 +177,18 @@ fn reach<M: Meter>(meter: &mut M, slots: &[u16], peaks: &[u64], reached: &mut [u
 }
 
 // Sets the peaks of the groups from the path's own upward, unless they are these already. `peaks` has those that they are.
-fn raise_along<T: Allocator, A: Allocator + Clone>(
-    tree: &mut GroupTree<T>,
+fn raise_along<M: Meter, T: Allocator, A: Allocator + Clone>(
+    tree: &mut GroupTable<T>,
+    parents: &Parents<T>,
     path: &GroupPath<A>,
+    slot: u16,
     peaks: &[u64],
     reached: &[u64],
 )
+    requires home { IsSome (fin.get tree.old path.now) }
+    requires slot { slot ≡ table_slot tree.old path.now }
+    requires slots { SlotsBelow M.SLOTS tree.old }
+    requires parents { HasParents M.SLOTS tree.old parents.now }
     requires noted { AreUpward peak_of tree.old path.now peaks.now }
     requires many { length reached.now ≡ length path.now }
     ensures set { SetsPeaks tree.old tree.new path.now reached.now }
@@ -188,22 +198,26 @@ fn raise_along<T: Allocator, A: Allocator + Clone>(
     if *reached == *peaks {
         return;
     }
-    tree.set_peaks(path, reached);
+    set_peaks_up::<M, _, _>(tree, parents, path, slot, reached);
     tree.known();
 }
 
-// Adds one charge at each group along the path, by their slots, and raises peaks that are lower than their counts. Descends
-// the tree only if a peak rises.
+// Adds one charge at each group along the path, by their slots, and raises peaks that are lower than their counts. Does not
+// descend the tree.
 pub(crate) fn charge_noted<T: Allocator, M: Meter, A: Allocator + Clone>(
-    tree: &mut GroupTree<T>,
+    tree: &mut GroupTable<T>,
+    parents: &Parents<T>,
     meter: &mut M,
     path: &GroupPath<A>,
+    slot: u16,
     leaf: u8,
     notes: &Notes,
 )
     requires leaf_below { leaf < M.LEAVES }
     requires home { IsSome (fin.get tree.old path.now) }
+    requires slot { slot ≡ table_slot tree.old path.now }
     requires slots { SlotsBelow M.SLOTS tree.old }
+    requires parents { HasParents M.SLOTS tree.old parents.now }
     requires room { M.held meter.old + length path.now ≤ HELD_MAX }
     requires noted { IsNoted tree.old path.now notes.now }
     ensures content { (s j : ℕ) → M.content meter.new s j ≡ with_charges tree.old path.now leaf (M.content meter.old) s j }
@@ -219,20 +233,24 @@ pub(crate) fn charge_noted<T: Allocator, M: Meter, A: Allocator + Clone>(
     let mut table = [0; DEPTH_MAX];
     let reached = &mut table[..peaks.len()];
     reach(meter, slots, peaks, reached);
-    raise_along(tree, path, peaks, reached);
+    raise_along::<M, _, _>(tree, parents, path, slot, peaks, reached);
 }
 
-// The same, and notes the old peaks. Descends once, and a second time if a peak rises.
+// Charges and raises as `charge_noted` does, and notes the old peaks.
 pub(crate) fn charge_and_raise<T: Allocator, M: Meter, A: Allocator + Clone>(
-    tree: &mut GroupTree<T>,
+    tree: &mut GroupTable<T>,
+    parents: &Parents<T>,
     meter: &mut M,
     path: &GroupPath<A>,
+    slot: u16,
     leaf: u8,
     earlier: &mut [u64],
 )
     requires leaf_below { leaf < M.LEAVES }
     requires home { IsSome (fin.get tree.old path.now) }
+    requires slot { slot ≡ table_slot tree.old path.now }
     requires slots { SlotsBelow M.SLOTS tree.old }
+    requires parents { HasParents M.SLOTS tree.old parents.now }
     requires room { M.held meter.old + length path.now ≤ HELD_MAX }
     requires many { length earlier.old ≡ length path.now }
     ensures content { (s j : ℕ) → M.content meter.new s j ≡ with_charges tree.old path.now leaf (M.content meter.old) s j }
@@ -241,23 +259,47 @@ pub(crate) fn charge_and_raise<T: Allocator, M: Meter, A: Allocator + Clone>(
     ensures earlier { AreUpward peak_of tree.old path.now earlier.new }
     ensures slots { SameSlots tree.old tree.new }
 {
-    let mut notes = Notes::new();
-    let _ = look_along(tree, meter, path, &mut notes);
-    charge_noted(tree, meter, path, leaf, &notes);
+    let notes = note_up::<M, _, _>(tree, parents, path, slot);
+    charge_noted(tree, parents, meter, path, slot, leaf, &notes);
     earlier.copy_from_slice(notes.peaks());
 }
 
-// Sets the peaks of the groups from the path's own upward.
-fn set_along<T: Allocator, A: Allocator + Clone>(
-    tree: &mut GroupTree<T>,
+// How many first names of the path are a group, at most all of them, and where its processes are in their table.
+fn find_longest<T: Allocator, A: Allocator + Clone>(
+    tree: &GroupTable<T>,
+    path: &GroupPath<A>,
+) -> (usize, u16)
+    ensures inside { result.0 ≤ length path.now }
+    ensures group { IsSome (fin.get tree.now (take result.0 path.now)) }
+    ensures slot { result.1 ≡ table_slot tree.now (take result.0 path.now) }
+    ensures missing { (n : ℕ) → result.0 < n → n ≤ length path.now → fin.get tree.now (take n path.now) ≡ None }
+{
+    tree.known();
+    let mut n = path.depth();
+    while n > 0 {
+        if let Some(slot) = tree.find_row_at(path, n) {
+            return (n, slot);
+        }
+        n -= 1;
+    }
+    (0, 0)
+}
+
+// Sets the peaks of the groups from the path's own upward. A missing group is skipped.
+fn set_along<M: Meter, T: Allocator, A: Allocator + Clone>(
+    tree: &mut GroupTable<T>,
+    parents: &Parents<T>,
     path: &GroupPath<A>,
     peaks: &[u64],
 )
-    requires { length peaks.now ≡ length path.now }
+    requires many { length peaks.now ≡ length path.now }
+    requires slots { SlotsBelow M.SLOTS tree.old }
+    requires parents { HasParents M.SLOTS tree.old parents.now }
     ensures set { (home : fin.FinMap nat_cmp Path) → flat_of tree.new home ≡ flat.set_peaks path.now peaks.now (flat_of tree.old home) }
     ensures slots { SameSlots tree.old tree.new }
 {
-    tree.set_peaks(path, peaks);
+    let (n, slot) = find_longest(tree, path);
+    set_peaks_up::<M, _, _>(tree, parents, path, slot, &peaks[peaks.len() - n..]);
     tree.known();
 }
 
@@ -269,6 +311,6 @@ impl<A: Allocator + Clone, M: Meter> Charges<A, M> {
         requires { length peaks.now ≡ length path.now }
         ensures { self.new ≡ flat.set_peaks path.now peaks.now self.old }
     {
-        set_along(&mut self.tree, path, peaks);
+        set_along::<M, _, _>(&mut self.tree, &self.parents, path, peaks);
     }
 }

@@ -10,18 +10,19 @@ ghost use Rattle.flat_model.specs.CommandText.{IsPid};
 ghost use Rattle.flat_model.specs.Inverse.{back, Killed};
 ghost use Rattle.snzi_tokens.specs.Listed.{IsWithin, listed_at};
 ghost use Rattle.pids_charge.specs.Lists.{with_lost, without, placed_at, rows_of};
-ghost use Rattle.pids_charge.specs.Recount.{charges_at, SlotsBelow};
+ghost use Rattle.pids_charge.specs.Recount.{charges_at, HasParents, SlotsBelow};
 
 use crate::charges::Charges;
 use crate::fault::ChargeFault;
 use crate::gate::Gate;
+use crate::groups::GroupTable;
 use crate::lost::Lost;
 use crate::meter::Meter;
+use crate::parents::Parents;
 use crate::rows::{put_copy, take_row};
 use crate::settler::{Settler, with_threads};
 use crate::slot::slot_in;
 use crate::walk::push_tokens;
-use group_tree::GroupTree;
 use process_table::ProcessTable;
 use snzi_tokens::Token;
 use std::alloc::{AllocError, Allocator};
@@ -30,7 +31,8 @@ use std::thread::Threads;
 
 // A token for each charge of the listed processes.
 fn tokens_of<M: Meter, T: Allocator, A: Allocator + Clone, B: Allocator + Clone>(
-    tree: &GroupTree<T>,
+    tree: &GroupTable<T>,
+    parents: &Parents<T>,
     alloc: A,
     list: &[Lost<B>],
     leaf: u8,
@@ -38,20 +40,21 @@ fn tokens_of<M: Meter, T: Allocator, A: Allocator + Clone, B: Allocator + Clone>
     requires leaf_below { leaf < M.LEAVES }
     requires homes { All (λ l. IsSome (fin.get tree.now l.path)) list.now }
     requires slots { SlotsBelow M.SLOTS tree.now }
+    requires parents { HasParents M.SLOTS tree.now parents.now }
     ensures counted { IfOk result (λ t. (s j : ℕ) → listed_at t.items s j ≡ sum_by (λ l. charges_at tree.now l.path leaf s j) list.now) }
     ensures many { IfOk result (λ t. length t.items ≡ sum_by (λ l. length l.path) list.now) }
     ensures within { IfOk result (λ t. IsWithin M.SLOTS M.LEAVES t.items) }
 {
     let mut tokens = Vec::new(alloc);
     for lost in list {
-        push_tokens::<M, _, _, _>(tree, &lost.path, leaf, &mut tokens)?;
+        push_tokens::<M, _, _, _>(tree, parents, &lost.path, leaf, &mut tokens)?;
     }
     Ok(tokens)
 }
 
 // Inserts one listed process with a copy of its path.
 fn place_one<M: Meter, T: Allocator, A: Allocator + Clone, B: Allocator + Clone>(
-    tree: &GroupTree<T>,
+    tree: &GroupTable<T>,
     processes: &mut ProcessTable<A>,
     alloc: &A,
     lost: &Lost<B>,
@@ -70,7 +73,7 @@ fn place_one<M: Meter, T: Allocator, A: Allocator + Clone, B: Allocator + Clone>
 
 // Inserts as many of the list's last processes as memory allows. Returns the index of the first of them.
 fn place_last<M: Meter, T: Allocator, A: Allocator + Clone, B: Allocator + Clone>(
-    tree: &GroupTree<T>,
+    tree: &GroupTable<T>,
     processes: &mut ProcessTable<A>,
     alloc: &A,
     list: &[Lost<B>],
@@ -108,7 +111,7 @@ fn take_out<A: Allocator + Clone, B: Allocator + Clone>(
 
 // Inserts all of them, or none.
 fn place_each<M: Meter, T: Allocator, A: Allocator + Clone, B: Allocator + Clone>(
-    tree: &GroupTree<T>,
+    tree: &GroupTable<T>,
     processes: &mut ProcessTable<A>,
     alloc: &A,
     list: &[Lost<B>],
@@ -179,7 +182,7 @@ impl<A: Allocator + Clone, M: Meter> Charges<A, M> {
         }
     }
 
-    // The same with the error of an allocator.
+    // Places the processes of the list. Its error is an allocator's, not yet a fault of charges.
     fn place_listed<S: Settler, B: Allocator + Clone>(
         &mut self,
         settler: &S,
@@ -194,7 +197,13 @@ impl<A: Allocator + Clone, M: Meter> Charges<A, M> {
     {
         self.tree.known();
         let leaf = who % M::LEAVES;
-        let tokens = tokens_of::<M, _, _, _>(&self.tree, self.alloc.clone()?, list, leaf)?;
+        let tokens = tokens_of::<M, _, _, _>(
+            &self.tree,
+            &self.parents,
+            self.alloc.clone()?,
+            list,
+            leaf,
+        )?;
         place_each::<M, _, _, _>(&self.tree, &mut self.processes, &self.alloc, list, leaf)?;
         settler.settle(&mut self.meter, leaf, &[], tokens.as_slice());
         Ok(())

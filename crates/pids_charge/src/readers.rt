@@ -33,7 +33,7 @@ fn pids_of<B: Allocator>(numbers: &[u32], alloc: B) -> Result<Vec<Pid, B>, Alloc
     Ok(pids)
 }
 
-// The same, ascending.
+// The pids with these numbers, ascending.
 fn ascending<B: Allocator>(numbers: &[u32], alloc: B) -> Result<Vec<Pid, B>, AllocError>
     requires { All IsPid numbers.now }
     ensures moved { IfOk result (λ pids. IsPermutation numbers.now pids.items) }

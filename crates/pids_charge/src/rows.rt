@@ -83,7 +83,7 @@ pub(crate) fn home_in<A: Allocator + Clone, B: Allocator + Clone>(
     path.copy(alloc.clone()?)
 }
 
-// The same with a path from another allocator.
+// Inserts a process whose path is copied from another allocator; returns the one that had this pid, if any.
 pub(crate) fn put_copy<A: Allocator + Clone, B: Allocator + Clone>(
     processes: &mut ProcessTable<A>,
     alloc: &A,

@@ -1,4 +1,4 @@
-//! Walks along a path, over the parts of a `Charges`: down the tree, or up by the slots of parents.
+//! Walks from a group up to the root, by the slots of parents: what they charge and uncharge.
 
 ghost use Rattle.std.specs.Prelude.{◌≡◌, ℕ, ◌+◌, ◌<◌, ◌≤◌, length, IsSome, OnOk};
 ghost use Rattle.std.specs.FinMap as fin;
@@ -6,11 +6,12 @@ ghost use Rattle.snzi_tokens.specs.Listed.{IsWithin, listed_at};
 ghost use Rattle.pids_charge.specs.Lists.{table_slot};
 ghost use Rattle.pids_charge.specs.Recount.{charges_at, charges_of, HasParents, IsPlaced, SlotsBelow};
 
+use crate::groups::GroupTable;
 use crate::meter::{HELD_MAX, Meter};
 use crate::notes::DEPTH_MAX;
 use crate::parents::Parents;
+use crate::slot::slot_in;
 use group_path::GroupPath;
-use group_tree::GroupTree;
 use process_table::Process;
 use snzi_tokens::Token;
 use std::alloc::{AllocError, Allocator};
@@ -18,7 +19,7 @@ use std::alloc::{AllocError, Allocator};
 // Adds one charge at the group of a path and at each group above it other than the root. `slot` is where the processes of the
 // group are in their table. Does not descend the tree.
 pub(crate) fn charge_up<T: Allocator, M: Meter, A: Allocator + Clone>(
-    tree: &GroupTree<T>,
+    tree: &GroupTable<T>,
     parents: &Parents<T>,
     meter: &mut M,
     path: &GroupPath<A>,
@@ -49,7 +50,7 @@ pub(crate) fn charge_up<T: Allocator, M: Meter, A: Allocator + Clone>(
 
 // Removes the charges of a process, from its own group upward. Does not descend the tree.
 pub(crate) fn uncharge_up<T: Allocator, M: Meter, A: Allocator + Clone>(
-    tree: &GroupTree<T>,
+    tree: &GroupTable<T>,
     parents: &Parents<T>,
     meter: &mut M,
     process: &Process<A>,
@@ -76,9 +77,43 @@ pub(crate) fn uncharge_up<T: Allocator, M: Meter, A: Allocator + Clone>(
     }
 }
 
-// Appends a token for each group along the path. Descends the tree once.
+// Appends a token for the group of a path and for each group above it other than the root. Does not descend the tree.
+fn push_up<M: Meter, T: Allocator, A: Allocator + Clone, B: Allocator>(
+    tree: &GroupTable<T>,
+    parents: &Parents<T>,
+    path: &GroupPath<A>,
+    slot: u16,
+    leaf: u8,
+    tokens: &mut Vec<Token, B>,
+) -> Result<(), AllocError>
+    requires leaf_below { leaf < M.LEAVES }
+    requires home { IsSome (fin.get tree.now path.now) }
+    requires slot { slot ≡ table_slot tree.now path.now }
+    requires slots { SlotsBelow M.SLOTS tree.now }
+    requires parents { HasParents M.SLOTS tree.now parents.now }
+    requires within { IsWithin M.SLOTS M.LEAVES tokens.old.items }
+    ensures counted { OnOk result ((s j : ℕ) → listed_at tokens.new.items s j ≡ listed_at tokens.old.items s j + charges_at tree.now path.now leaf s j) }
+    ensures many { OnOk result (length tokens.new.items ≡ length tokens.old.items + length path.now) }
+    ensures within { IsWithin M.SLOTS M.LEAVES tokens.new.items }
+{
+    tree.known();
+    path.known();
+    let mut at = slot;
+    for _up in 0..DEPTH_MAX {
+        if at == 0 {
+            break;
+        }
+        let slot = at - 1;
+        tokens.push(Token { slot, leaf })?;
+        at = parents.up(slot);
+    }
+    Ok(())
+}
+
+// The same for a path alone. Descends the tree once.
 pub(crate) fn push_tokens<M: Meter, T: Allocator, A: Allocator + Clone, B: Allocator>(
-    tree: &GroupTree<T>,
+    tree: &GroupTable<T>,
+    parents: &Parents<T>,
     path: &GroupPath<A>,
     leaf: u8,
     tokens: &mut Vec<Token, B>,
@@ -86,22 +121,19 @@ pub(crate) fn push_tokens<M: Meter, T: Allocator, A: Allocator + Clone, B: Alloc
     requires leaf_below { leaf < M.LEAVES }
     requires home { IsSome (fin.get tree.now path.now) }
     requires slots { SlotsBelow M.SLOTS tree.now }
+    requires parents { HasParents M.SLOTS tree.now parents.now }
     requires within { IsWithin M.SLOTS M.LEAVES tokens.old.items }
     ensures counted { OnOk result ((s j : ℕ) → listed_at tokens.new.items s j ≡ listed_at tokens.old.items s j + charges_at tree.now path.now leaf s j) }
     ensures many { OnOk result (length tokens.new.items ≡ length tokens.old.items + length path.now) }
     ensures within { IsWithin M.SLOTS M.LEAVES tokens.new.items }
 {
-    tree.known();
-    for attr in tree.along(path) {
-        let slot = attr.slot;
-        tokens.push(Token { slot, leaf })?;
-    }
-    Ok(())
+    let slot = slot_in::<M, _, _>(tree, path);
+    push_up::<M, _, _, _>(tree, parents, path, slot, leaf, tokens)
 }
 
 // Appends a token for each charge of a process, from its own group upward. Does not descend the tree.
 pub(crate) fn push_charges<M: Meter, T: Allocator, A: Allocator + Clone, B: Allocator>(
-    tree: &GroupTree<T>,
+    tree: &GroupTable<T>,
     parents: &Parents<T>,
     process: &Process<A>,
     tokens: &mut Vec<Token, B>,
@@ -114,17 +146,12 @@ pub(crate) fn push_charges<M: Meter, T: Allocator, A: Allocator + Clone, B: Allo
     ensures many { OnOk result (length tokens.new.items ≡ length tokens.old.items + length process.now.home) }
     ensures within { IsWithin M.SLOTS M.LEAVES tokens.new.items }
 {
-    tree.known();
-    process.home.known();
-    let leaf = process.leaf;
-    let mut at = process.slot;
-    for _up in 0..DEPTH_MAX {
-        if at == 0 {
-            break;
-        }
-        let slot = at - 1;
-        tokens.push(Token { slot, leaf })?;
-        at = parents.up(slot);
-    }
-    Ok(())
+    push_up::<M, _, _, _>(
+        tree,
+        parents,
+        &process.home,
+        process.slot,
+        process.leaf,
+        tokens,
+    )
 }

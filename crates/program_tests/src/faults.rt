@@ -111,7 +111,7 @@ pub(crate) fn limits(case: &Case, at: usize) -> Result<Limits, CaseFault> {
 }
 
 /// `over WAY PIECE READ ROOM FLUSHES TRACE`: a read gives at most PIECE bytes and fails after READ bytes, and the sink has so
-/// much room and so many flushes. `full` is the same with a sink that takes no bytes where it has no room.
+/// much room and this number of flushes. `full` is the same with a sink that takes no bytes where it has no room.
 pub(crate) fn play_over<R: Threads + Wait + Sync>(
     rt: &R,
     alloc: Global,
@@ -133,7 +133,7 @@ pub(crate) fn play_over<R: Threads + Wait + Sync>(
     put_answer(said, answer, sink.bytes())
 }
 
-/// `long WAY BYTES`: a comment of so many bytes, or endless. A trace that is too long is read no further than the read that
+/// `long WAY BYTES`: a comment of BYTES bytes, or endless. A trace that is too long is read no further than the read that
 /// exceeds the limit.
 pub(crate) fn play_long<R: Threads + Wait + Sync>(
     rt: &R,

@@ -122,7 +122,7 @@ pub(crate) struct Devices {
     pub(crate) limits: Limits,
 }
 
-/// Devices without faults, for reads and writes of at most so many bytes.
+/// Devices without faults, for reads and writes of at most this number of bytes.
 pub(crate) const fn sound(piece: usize, size: usize) -> Devices {
     Devices {
         piece,

@@ -110,8 +110,8 @@ fn serve<R: Threads + Wait + Sync, G: Gate>(
         .collect(alloc)
 }
 
-/// Worker 0 is the calling thread, which also does the work of each worker whose thread can't be
-/// started.
+/// Starts a thread for each worker but the first. The calling thread does the work of the first, and
+/// of each worker whose thread can't be started.
 fn serve_all<R: Threads + Wait + Sync, G: Gate>(
     rt: &R,
     gate: &G,
@@ -142,7 +142,7 @@ fn serve_all<R: Threads + Wait + Sync, G: Gate>(
     );
 }
 
-/// Marks this worker alone.
+/// Flags of the workers, of which only this worker's is set.
 fn only(worker: usize) -> [bool; 8]
     requires { worker < 8 }
     ensures { result ≡ set (replicate 8 false) worker true }

@@ -29,11 +29,11 @@ ghost use Rattle.flat_model.specs.Audit.{AreEntries};
 ghost use Rattle.flat_model_laws.specs.AuditExamples.{Exchange, entry, receipt, session, three};
 ghost use Rattle.flat_model.specs.Command as model;
 ghost use Rattle.flat_model.specs.Log.{Entry, Receipt, Session};
-ghost use Rattle.flat_model.specs.Machine.{Machine};
 ghost use Rattle.undo_journal.specs.Answer.{Answers};
 ghost use Rattle.undo_journal.specs.declared.reply.Reply.{Reply};
 ghost use Rattle.undo_journal.specs.declared.reply.Reply.TheVariants as reply;
 ghost use Rattle.undo_journal.specs.CommandMeaning.{reply_of};
+ghost use Rattle.undo_journal.specs.Timeline.{Timeline};
 ghost use Rattle.pids_charge.specs.declared.plain.TheConstants.{SLOTS};
 ghost use Rattle.sessions.specs.declared.book.Book.{Book};
 ghost use Rattle.sessions.specs.declared.hall.Hall.{Hall};
@@ -157,9 +157,9 @@ pub fn answers_that_are_kept()
 
 /// The reply in the log and the reply in the receipt are both the machine's, so they are equal.
 pub fn answers_for_log_and_receipt()
-    ensures both { (old new : Machine) (c : model.Command) (r q : Reply Global)
+    ensures both { (old new : Timeline) (c : model.Command) (r q : Reply Global)
         → AnswersTwice old c r q new ↔ (Answers slots old c r new × Answers slots old c q new) }
-    ensures same { (old new : Machine) (c : model.Command) (r q : Reply Global)
+    ensures same { (old new : Timeline) (c : model.Command) (r q : Reply Global)
         → AnswersTwice old c r q new → reply_of r ≡ reply_of q }
 {}
 

@@ -194,7 +194,7 @@ pub(crate) fn close<R: Wait>(
     }
 }
 
-/// Audits the log of the closed desk, as one of so many sessions, with the receipts of the sessions in these places.
+/// Audits the log of the closed desk, with the number of its sessions, and with the receipts of the sessions in these places.
 pub(crate) fn audit_log(
     alloc: Global,
     place: &mut Place,

@@ -72,7 +72,7 @@ fn raced<R: Threads + Wait + Sync>(
     }
 }
 
-/// `race TIMES SESSIONS ENTRIES JOBS`: at so many new desks, the sessions do these jobs. Each time the log has an entry for
+/// `race TIMES SESSIONS ENTRIES JOBS`: at TIMES new desks, the sessions do these jobs. Each time the log has an entry for
 /// each command that ran, and as many as ENTRIES says, which may be `any`. Round by round, `early` is shorter and `late`
 /// longer.
 pub(crate) fn race<R: Threads + Wait + Sync>(
@@ -148,7 +148,7 @@ fn is_closed_beside<R: Threads + Wait + Sync>(
     Ok(is_before_or_after(rt, alloc, desk, handed, session, job, pace))
 }
 
-/// `close_beside TIMES PAUSES JOB`: so many new desks of three sessions are closed while the last session does this job. The
+/// `close_beside TIMES PAUSES JOB`: TIMES new desks of three sessions are closed while the last session does this job. The
 /// close comes before it or after it. Round by round, it comes PAUSES later, and `early` is shorter.
 pub(crate) fn close_beside<R: Threads + Wait + Sync>(
     rt: &R,

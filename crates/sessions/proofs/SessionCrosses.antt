@@ -45,7 +45,7 @@ book_send = search (
   sendable,
   crosses,
   maps.crosses,
-) depth 20
+) depth 24
 
 hall_send : IsSend Hall.the_row
 hall_send = search (book_send, sendable, crosses) depth 20

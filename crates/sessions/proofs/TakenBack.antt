@@ -8,6 +8,7 @@ use Rattle.flat_model.specs.Command.{OverPidsMax, NoFile, NotReadable, Reply, Do
 use Rattle.flat_model.specs.Step.{refusal, after, after_refusal}
 use Rattle.flat_model.specs.Machine.{Machine, tick, outcome, recorded}
 use Rattle.undo_journal.specs.Answer.{record_by, needs_no_memory, undoes_without_memory}
+use Rattle.undo_journal.specs.Timeline.{Timeline, becomes}
 
 -- ---- no record more: the machine is as it was
 
@@ -67,21 +68,23 @@ certain slots m c no_undo =
 
 -- ---- both, of an answer that may be out of memory
 
-pub left : (slots : ℕ) (old new : Machine) (c : Command) (answer : Option Reply) → is_undo c ≡ false
-    → (answer ≡ None → new ≡ old) → (answer ≢ None → new ≡ (tick slots old c).0) → length new.past ≤ length old.past → new ≡ old
+pub left : (slots : ℕ) (old new : Timeline) (c : Command) (answer : Option Reply) → is_undo c ≡ false
+    → (answer ≡ None → new ≡ old) → (answer ≢ None → new ≡ becomes old (tick slots old.machine c).0) → length new.machine.past ≤ length old.machine.past → new ≡ old
 left slots old new c None no_undo refused goes le = refused refl
 left slots old new c (Some r) no_undo refused goes le =
-    let g : new ≡ (tick slots old c).0 = goes (λ e. none-some r (sym e)) in
-    let P : Machine → Type 0 = λ x. length x.past ≤ length old.past in
-    g ∙ same slots old c no_undo (subst P g le)
+    let g : new ≡ becomes old (tick slots old.machine c).0 = goes (λ e. none-some r (sym e)) in
+    let P : Timeline → Type 0 = λ x. length x.machine.past ≤ length old.machine.past in
+    g ∙ ap (becomes old) (same slots old.machine c no_undo (subst P g le))
 
-pub answered : (old new : Machine) (answer : Option Reply) → (answer ≡ None → new ≡ old) → length old.past < length new.past → answer ≢ None
-answered old new answer refused more none = let e : length new.past ≡ length old.past = ap (λ (m : Machine). length m.past) (refused none) in omega (arith, e, more)
+pub answered : (old new : Timeline) (answer : Option Reply) → (answer ≡ None → new ≡ old) → length old.machine.past < length new.machine.past → answer ≢ None
+answered old new answer refused more none =
+    let e : length new.machine.past ≡ length old.machine.past = ap (λ (t : Timeline). length t.machine.past) (refused none) in
+    omega (arith, e, more)
 
-pub certain_at : (slots : ℕ) (old new : Machine) (c : Command) (answer : Option Reply) → is_undo c ≡ false
-    → new ≡ (tick slots old c).0 → answer ≡ Some (tick slots old c).1 → answer ≢ Some Done → length old.past < length new.past
-    → undoes_without_memory slots new.past ≡ true
+pub certain_at : (slots : ℕ) (old new : Timeline) (c : Command) (answer : Option Reply) → is_undo c ≡ false
+    → new ≡ becomes old (tick slots old.machine c).0 → answer ≡ Some (tick slots old.machine c).1 → answer ≢ Some Done → length old.machine.past < length new.machine.past
+    → undoes_without_memory slots new.machine.past ≡ true
 certain_at slots old new c answer no_undo goes is other more =
-    let P : Machine → Type 0 = λ x. length old.past < length x.past in
-    let Q : Machine → Type 0 = λ x. undoes_without_memory slots x.past ≡ true in
-    subst Q (sym goes) (certain slots old c no_undo (λ done. other (is ∙ ap (λ (r : Reply). Some r) done)) (subst P goes more))
+    let P : Timeline → Type 0 = λ x. length old.machine.past < length x.machine.past in
+    let Q : Timeline → Type 0 = λ x. undoes_without_memory slots x.machine.past ≡ true in
+    subst Q (sym goes) (certain slots old.machine c no_undo (λ done. other (is ∙ ap (λ (r : Reply). Some r) done)) (subst P goes more))

@@ -1,21 +1,22 @@
 -- What one call of a session does under the lock.
 use Rattle.std.specs.Prelude.{◌≡◌, ℕ, ◌<◌, List, [], ◌∷◌, ◌++◌, Bool, false, Option, Some, None, Result, Ok, Err, vec_len}
 use Rattle.flat_model.specs.Command as model
-use Rattle.flat_model.specs.Machine.{Machine, tick}
+use Rattle.flat_model.specs.Machine.{tick}
 use Rattle.flat_model.specs.Log.{Entry, Receipt, entry_of}
 use Rattle.undo_journal.specs.declared.reply.Reply.{Reply}
 use Rattle.undo_journal.specs.CommandMeaning.{reply_of}
+use Rattle.undo_journal.specs.Timeline.{Timeline, becomes}
 use Rattle.sessions.specs.declared.fault.RunFault.{RunFault}
 use Rattle.sessions.specs.declared.fault.RunFault.TheVariants.{OutOfMemory, TurnPassed, Halted}
 use Rattle.sessions.specs.declared.book.Book.{Book}
 use Rattle.sessions.specs.declared.hall.Hall.{Hall}
 use Rattle.sessions.specs.SessionMeaning.{slots}
 
--- on this command the machine goes from old to new, and both replies are its reply
-pub record AnswersTwice {A : Type 0} (old : Machine) (c : model.Command) (reply again : Reply A) (new : Machine) : Type 0 where
-  pub state : new ≡ (tick slots old c).0
-  pub reply_is : reply_of reply ≡ Some (tick slots old c).1
-  pub again_is : reply_of again ≡ Some (tick slots old c).1
+-- on this command the machine makes its step, both replies are its reply, and nothing is forgotten
+pub record AnswersTwice {A : Type 0} (old : Timeline) (c : model.Command) (reply again : Reply A) (new : Timeline) : Type 0 where
+  pub state : new ≡ becomes old (tick slots old.machine c).0
+  pub reply_is : reply_of reply ≡ Some (tick slots old.machine c).1
+  pub again_is : reply_of again ≡ Some (tick slots old.machine c).1
 
 -- one more receipt, of this command
 abbrev pub Appends : model.Command → List Receipt → List Receipt → Type 0
@@ -57,7 +58,7 @@ IsEarly h turn = IsEarlyFor h.book h.is_halted turn
 
 -- the state of a book's engine, and its log
 pub record Pages : Type 0 where
-  pub engine : Machine
+  pub engine : Timeline
   pub log : List Entry
 
 abbrev pub pages_of : Option Book → Option Pages

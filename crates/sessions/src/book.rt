@@ -3,6 +3,7 @@
 ghost use Rattle.std.specs.Prelude.{◌≡◌, ◌++◌, ◌∷◌, [], IfOk, OnErr, vec_len};
 ghost use Rattle.flat_model.specs.Log.{IsLegal, log_end, entry_of};
 ghost use Rattle.undo_journal.specs.CommandMeaning.{command_of};
+ghost use Rattle.undo_journal.specs.Timeline.{from_start};
 ghost use Rattle.sessions.specs.SessionMeaning.{slots};
 
 use crate::step::answer_twice;
@@ -16,14 +17,14 @@ use undo_journal::{Command, Engine};
 /// The engine of a desk. It counts on a board of atomic words.
 pub type DeskEngine = Engine<Global, BoardMeter>;
 
-/// The log is legal, and the engine is in the state at its end.
+/// The log is legal, and the engine is in the state at its end. It has never forgotten a command.
 #[derive(Drop)]
 pub(crate) struct Book {
     pub(crate) alloc: Global,
     pub(crate) engine: DeskEngine,
     pub(crate) log: Vec<Entry>,
     ghost legal: { IsLegal slots log.items },
-    ghost at_end: { engine ≡ log_end slots log.items },
+    ghost at_end: { engine ≡ from_start (log_end slots log.items) },
 }
 
 impl Book {

@@ -3,6 +3,7 @@
 ghost use Rattle.std.specs.Prelude.{◌≡◌, IfOk, IfErr};
 ghost use Rattle.flat_model.specs.Log.{IsLegal, log_end};
 ghost use Rattle.flat_model.specs.Audit.{AreEntries};
+ghost use Rattle.undo_journal.specs.Timeline.{from_start};
 ghost use Rattle.sessions.specs.Faults.{IsRefused};
 ghost use Rattle.sessions.specs.SessionMeaning.{slots};
 
@@ -17,7 +18,7 @@ use std::sync::Wait;
 /// What a closed desk returns: its engine, its log and the sessions passed to `close`.
 #[derive(Drop)]
 pub struct Closed {
-    /// The engine, in the state at the log's end.
+    /// The engine, in the state at the log's end. It has never forgotten a command.
     pub engine: DeskEngine,
     /// The log.
     pub log: Vec<Entry>,
@@ -40,7 +41,7 @@ impl Desk {
         sessions: Vec<Session>,
     ) -> Result<Closed, (Desk, Vec<Session>, CloseFault)>
         ensures legal { IfOk result (λ c. IsLegal slots c.log.items) }
-        ensures at_end { IfOk result (λ c. c.engine ≡ log_end slots c.log.items) }
+        ensures at_end { IfOk result (λ c. c.engine ≡ from_start (log_end slots c.log.items)) }
         ensures receipts { IfOk result (λ c. AreEntries self.sessions c.log.items sessions.items) }
         ensures sessions { IfOk result (λ c. c.sessions.items ≡ sessions.items) }
         ensures refused { IfErr result (λ e. (e.0 ≡ self) × (e.1.items ≡ sessions.items)) }

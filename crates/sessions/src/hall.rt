@@ -70,7 +70,7 @@ impl Hall {
         }
     }
 
-    /// Returns which sessions' sleepers have to wake, and forgets their turns.
+    /// The sessions whose waiting threads have to be woken, because their turns have come. Drops the notes of these turns.
     pub(crate) fn take_due(&mut self) -> [bool; 8]
         ensures same { IsBut self.old self.new }
         ensures due { AreDue (reached_of self.old) self.old.waits result }

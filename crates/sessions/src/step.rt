@@ -6,6 +6,7 @@ ghost use Rattle.flat_model.specs.Command.{is_undo};
 ghost use Rattle.flat_model.specs.Machine.{tick};
 ghost use Rattle.undo_journal.specs.CommandMeaning.{command_of, reply_of};
 ghost use Rattle.undo_journal.specs.Answer.{undoes_without_memory};
+ghost use Rattle.undo_journal.specs.Timeline.{becomes};
 ghost use Rattle.sessions.specs.SessionMeaning.{slots};
 ghost use Rattle.sessions.specs.Served.{AnswersTwice};
 
@@ -60,8 +61,8 @@ fn apply_twice<R: Threads + Wait + Sync, B: Allocator + Clone>(
 
 /// Undoes the newest recorded command, of a kind whose undo allocates nothing.
 fn undo_newest<R: Threads + Wait + Sync>(rt: &R, engine: &mut DeskEngine, who: u8)
-    requires { undoes_without_memory slots engine.old.past ≡ true }
-    ensures { engine.new ≡ (tick slots engine.old model.Undo).0 }
+    requires { undoes_without_memory slots engine.old.machine.past ≡ true }
+    ensures { engine.new ≡ becomes engine.old (tick slots engine.old.machine model.Undo).0 }
 {
     drop(engine.undo(rt, who));
 }
@@ -98,7 +99,7 @@ fn undo_twice<R: Threads + Wait + Sync>(
 
 /// The reply that an undo will give.
 fn answer_to_undo(alloc: Global, engine: &DeskEngine) -> Result<Reply<Global>, AllocError>
-    ensures { IfOk result (λ r. reply_of r ≡ Some (tick slots engine.now model.Undo).1) }
+    ensures { IfOk result (λ r. reply_of r ≡ Some (tick slots engine.now.machine model.Undo).1) }
 {
     match engine.newest_command() {
         Some(newest) => Ok(Reply::Undone(newest.copy(alloc)?)),

@@ -97,7 +97,7 @@ Shelled history left rest read_failed before after write_failed flushed (Err Inp
 Shelled history left rest read_failed before after write_failed flushed (Err OutOfMemory) = (lines : List ℕ) × IsStopped history left before after read_failed write_failed flushed lines
 Shelled history left rest read_failed before after write_failed flushed (Err NotACommand) = ⊥
 
--- The same by its options: a strict shell stops after the first line that is not a command, so there is none in what it answered before. If a write fails, such a line may be the last that was answered.
+-- What a shell with these options leaves. A strict shell stops after the first line that is not a command, so there is none in what it answered before. If a write fails, such a line may be the last that was answered.
 abbrev pub ShelledBy : Options → Option (List ℕ) → Option (List ℕ) → Bool → Option (List ℕ) → Option (List ℕ) → Bool → Bool → Result Summary ShellFault → Type 0
 ShelledBy how left rest read_failed before after write_failed flushed (Ok summary) =
     (served : IsServed how.keeps_history left before after read_failed write_failed flushed summary) × IsClean how.is_strict served.trace

@@ -11,7 +11,7 @@ use crate::machine::Core;
 use std::alloc::Allocator;
 
 impl<A: Allocator + Clone> Core<A> {
-    // One more at a word, and a token there.
+    // An arrival: the word rises by one, and the hand gets a token there.
     pub(crate) fn arrive(&mut self, hand: u32, word: usize)
         requires place { word < length self.old.words }
         requires live { is_live self.old hand ≡ true }
@@ -23,7 +23,7 @@ impl<A: Allocator + Clone> Core<A> {
         self.hands[hand as usize].gain(word);
     }
 
-    // One more at a word, and a token there instead of the one at the parent.
+    // The word rises by one, and the hand's token moves there from the parent.
     pub(crate) fn descend(&mut self, hand: u32, parent: usize, word: usize)
         requires place { (parent < length self.old.words) × (word < length self.old.words) × (parent ≢ word) }
         requires live { is_live self.old hand ≡ true }
@@ -36,7 +36,7 @@ impl<A: Allocator + Clone> Core<A> {
         self.hands[hand as usize].descend(parent, word);
     }
 
-    // One less at a word, and one token less there.
+    // A departure: the word falls by one, and the hand loses a token there.
     pub(crate) fn depart(&mut self, hand: u32, word: usize)
         requires place { word < length self.old.words }
         requires live { is_live self.old hand ≡ true }

@@ -22,7 +22,7 @@
 //!
 //! The definitions are in `specs/`: the shape of a slot (`Shape`), what a hand holds and how it
 //! changes (`Holding`, `Changes`), the caps (`Caps`), the balance and presence (`Balance`), the
-//! state that contracts see (`State`), the refusals (`Lawful`) and the effects (`Effect`). The laws
+//! state that contracts see (`CoreState`), the refusals (`Lawful`) and the effects (`Effect`). The laws
 //! that other rules over words can use are the contracts of the module `laws` (`specs/Laws`).
 #![tactic(auto)]
 

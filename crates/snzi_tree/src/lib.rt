@@ -22,7 +22,7 @@
 //! is a snapshot; time. A helper that is dropped instead of joined stays out.
 //!
 //! The definitions are in `specs/`: the rule and what a hand's seat knows (`View`), what each kind of step says (`Tell`),
-//! that a step is an event (`Events`), that the board has a run of as many events as its hands count (`Tallies`), what is
+//! that a step is an event (`BoardEvents`), that the board has a run of as many events as its hands count (`Tallies`), what is
 //! left at the end (`Ended`), what contracts say about a hand (`Hands`), by slots, leaves and stripes (`Contents`), and the
 //! bounds (`Depths`). Balance, caps and presence are those of `snzi_core`.
 //!

@@ -18,7 +18,7 @@ pub struct Limits {
     pub takes_none: bool,
 }
 
-/// So many bytes are taken without an allocation.
+/// This number of bytes is taken without an allocation.
 const RESERVED: usize = 4096;
 
 /// Takes a few bytes at a time, up to its limits.

@@ -4,7 +4,7 @@ ghost use Rattle.std.specs.Prelude.{◌≡◌, None, false};
 
 use replay_main::{DeviceFault, Source};
 
-/// Gives a text in pieces of at most so many bytes, then ends or fails.
+/// Gives a text in pieces of at most `size` bytes, then ends or fails.
 #[derive(Drop)]
 pub struct Pieces<'a> {
     rest: &'a [u8],

@@ -4,7 +4,7 @@ ghost use Rattle.std.specs.Prelude.{◌≡◌, None, false};
 
 use replay_main::{DeviceFault, Source};
 
-/// Gives one byte so many times, or endlessly, and fills each buffer as far as it can. It never fails.
+/// Gives one byte a number of times, or endlessly, and fills each buffer as far as it can. It never fails.
 #[derive(Drop)]
 pub struct Repeated {
     byte: u8,
@@ -14,7 +14,7 @@ pub struct Repeated {
 }
 
 impl Repeated {
-    /// Gives this byte so many times, or endlessly.
+    /// Gives this byte until `left` are given, or endlessly.
     pub fn new(byte: u8, left: Option<usize>) -> Repeated
         ensures { ⟦<Repeated as Source>⟧.is_failed result ≡ false }
     {

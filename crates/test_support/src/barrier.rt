@@ -18,7 +18,7 @@ pub struct Barrier {
 }
 
 impl Barrier {
-    /// A barrier for so many parts, at most nine, in groups of so many. None has arrived.
+    /// A barrier for `parts` parts, at most nine, in groups of `size`. None has arrived.
     pub fn new(parts: usize, size: usize) -> Barrier {
         Barrier {
             flags: [

@@ -34,7 +34,7 @@ impl Model for Talk {
 
     ghost coded = { Prim.hlevel (codes, state_code) };
 
-    ghost view = { λ t. record { machine = t.engine; commands = t.summary.commands; refused = t.summary.refused } };
+    ghost view = { λ t. record { machine = t.engine.machine; commands = t.summary.commands; refused = t.summary.refused } };
 
     ghost invariant = { λ t. t.summary.refused ≤ t.summary.commands };
 }

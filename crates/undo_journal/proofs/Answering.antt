@@ -8,7 +8,7 @@ use Rattle.flat_model.specs.Counts.{has_process, blocked_fork}
 use Rattle.flat_model.specs.Command as model
 use Rattle.flat_model.specs.Refuse.{refuse}
 use Rattle.flat_model.specs.Step.{refusal, home_of}
-use Rattle.flat_model.specs.Machine.{Machine, recorded, outcome, undone, tick}
+use Rattle.flat_model.specs.Machine.{recorded, outcome, undone, tick}
 use Rattle.flat_model.proofs.Limits.{fork_refused}
 use Rattle.pids_charge.specs.declared.fault.ChargeFault.{ChargeFault}
 use Rattle.pids_charge.specs.declared.fault.ChargeFault.TheVariants.{Exists, NoGroup, Descendants, Depth, NoSlot, RootFixed, HasChildren}
@@ -19,6 +19,7 @@ use Rattle.undo_journal.specs.declared.reply.Reply.{Reply}
 use Rattle.undo_journal.specs.declared.reply.Reply.TheVariants.{Refused}
 use Rattle.undo_journal.specs.CommandMeaning.{refusal_of, reply_of}
 use Rattle.undo_journal.specs.Answer.{Answers, state_by}
+use Rattle.undo_journal.specs.Timeline.{Timeline, becomes}
 
 abbrev pub is_fork : model.Command → Bool
 is_fork (model.Fork from child) = true
@@ -50,15 +51,16 @@ module _ (slots : ℕ) where
   uncounted s c model.NotReadable e n = refl
 
   -- the machine stays where a command but a fork or an undo is refused
-  pub refused_answers : {A : Type 0} (m : Machine) (c : model.Command) (r : Refusal A) → model.is_undo c ≡ false → is_fork c ≡ false
-      → refusal slots m.state c ≡ Some (refusal_of r) → Answers {A = A} slots m c (Refused r) m
-  refused_answers m c r u n e =
+  pub refused_answers : {A : Type 0} (t : Timeline) (c : model.Command) (r : Refusal A) → model.is_undo c ≡ false → is_fork c ≡ false
+      → refusal slots t.machine.state c ≡ Some (refusal_of r) → Answers {A = A} slots t c (Refused r) t
+  refused_answers t c r u n e =
+      let m = t.machine in
       let is : tick slots m c ≡ (m, model.Refused (refusal_of r)) =
       ap (λ b. cond b (undone m.state m.past) (outcome m c (refusal slots m.state c))) u
       ∙ ap (outcome m c) e
       ∙ ap (λ b. (cond b (recorded m c (state_by m.state c (Some (refusal_of r)))) m, model.Refused (refusal_of r))) (uncounted m.state c (refusal_of r) e n) in
       record {
-        state = sym (ap (λ x. x.0) is);
+        state = ap (becomes t) (sym (ap (λ x. x.0) is));
         reply_is = ap (λ x. Some x.1) (sym is);
       }
 
@@ -119,11 +121,12 @@ module _ (slots : ℕ) where
       other_fault p f (ap may_fork (sym e) ∙ may_refuse from child (not (has_process s from)) (has_process s child) (blocked_fork s (home_of s from)))
 
   -- what the machine answers to a command whose first refusal is known
-  pub answers_by : {A : Type 0} (m : Machine) (c : model.Command) (o : Option model.Refusal) (reply : Reply A) (new : Machine) → model.is_undo c ≡ false → refusal slots m.state c ≡ o →
-      new ≡ (outcome m c o).0 → reply_of reply ≡ Some (outcome m c o).1 → Answers slots m c reply new
-  answers_by m c o reply new u e new_is reply_is =
+  pub answers_by : {A : Type 0} (t : Timeline) (c : model.Command) (o : Option model.Refusal) (reply : Reply A) (new : Timeline) → model.is_undo c ≡ false → refusal slots t.machine.state c ≡ o →
+      new ≡ becomes t (outcome t.machine c o).0 → reply_of reply ≡ Some (outcome t.machine c o).1 → Answers slots t c reply new
+  answers_by t c o reply new u e new_is reply_is =
+      let m = t.machine in
       let is : tick slots m c ≡ outcome m c o = ap (λ b. cond b (undone m.state m.past) (outcome m c (refusal slots m.state c))) u ∙ ap (outcome m c) e in
       record {
-        state = new_is ∙ sym (ap (λ x. x.0) is);
+        state = new_is ∙ ap (becomes t) (sym (ap (λ x. x.0) is));
         reply_is = reply_is ∙ sym (ap (λ x. Some x.1) is);
       }

@@ -1,11 +1,11 @@
 -- What a journal says of the states before: each step kept, each state well formed, all of it undone; and a journal that is forgotten.
 use Rattle.std.proofs.Common.{◌≡◌, ℕ, suc, List, [], ◌∷◌, ◌++◌, map, reverse, length, Option, Some, None, refl, sym, ap, subst, ◌∙◌}
 use Rattle.std.proofs.lemmas.List.{map-append, reverse-append, length-reverse, length-map}
-use Rattle.flat_model.specs.State.{State}
+use Rattle.flat_model.specs.State.{State, start}
 use Rattle.flat_model.specs.Command as model
 use Rattle.flat_model.specs.Inverse.{Inverse, back, inverse, past_of}
 use Rattle.flat_model.specs.Step.{refusal, after}
-use Rattle.flat_model.specs.Machine.{Machine, recorded, end_of, undos}
+use Rattle.flat_model.specs.Machine.{recorded, end_of, undos}
 use Rattle.flat_model.specs.WellFormed.{WellFormed, PastWellFormed}
 use Rattle.flat_model.proofs.TakenBack.{back_accepted, back_refused}
 use Rattle.flat_model.proofs.Kept.{kept}
@@ -14,7 +14,8 @@ use Rattle.undo_journal.specs.declared.journal.Entry.{Entry}
 use Rattle.undo_journal.specs.Answer.{record_of, record_by, state_after, state_by}
 use Rattle.undo_journal.specs.Beginning.{first_state}
 use Rattle.undo_journal.specs.Headline.{IsReached}
-use Rattle.undo_journal.specs.History.{journal_entry, records, machine_of, IsStep, IsHistory}
+use Rattle.undo_journal.specs.History.{journal_entry, records, machine_of, timeline_of, IsStep, IsHistory}
+use Rattle.undo_journal.specs.Timeline.{Timeline, becomes}
 
 module _ (slots : ℕ) where
   -- a record gives back the state before its command, accepted or refused
@@ -52,10 +53,16 @@ module _ (slots : ℕ) where
   all_undone s [] = refl
   all_undone s (e ∷ es) = all_undone (back e.1 s) es
 
-  pub reached : {A : Type 0} (forgotten : ℕ) (s : State) (journal : List (Entry A)) → IsHistory slots forgotten s (records journal) → IsReached slots (machine_of s journal)
+  -- which is the start, if nothing was forgotten
+  first_is_start : (forgotten : ℕ) (s : State) (es : List (model.Command × Inverse)) → IsHistory slots forgotten s es → forgotten ≡ 0 → first_state s (past_of s es) ≡ start
+  first_is_start forgotten s [] h z = h.unforgotten z
+  first_is_start forgotten s (e ∷ es) h z = first_is_start forgotten (back e.1 s) es h.1 z
+
+  pub reached : {A : Type 0} (forgotten : ℕ) (s : State) (journal : List (Entry A)) → IsHistory slots forgotten s (records journal) → IsReached slots (timeline_of forgotten s journal)
   reached forgotten s journal h = record {
     well_formed = (history_well forgotten s (records journal) h, past_well forgotten s (records journal) h);
     all_undone = all_undone s (records journal);
+    from_the_start = λ z. all_undone s (records journal) ∙ (λ k. record { state = first_is_start forgotten s (records journal) h z k; past = [] });
   }
 
 -- ---- a record put in front
@@ -85,20 +92,22 @@ module _ {A : Type 0} (slots : ℕ) (s new : State) (journal : List (Entry A)) (
       (step_by slots s c i o first i_is, subst (λ (t : State). IsHistory slots forgotten t (records journal)) (sym taken) h))
 
 -- an entry is pushed behind the journal for a command that is accepted: the history goes on, and the machine has recorded the command
-pub record HasRecorded {A : Type 0} (slots forgotten : ℕ) (m : Machine) (new : State) (items : List (Entry A)) (c : model.Command) : Type 0 where
+pub record HasRecorded {A : Type 0} (slots forgotten : ℕ) (t : Timeline) (new : State) (items : List (Entry A)) (c : model.Command) : Type 0 where
   pub history : IsHistory slots forgotten new (records items)
-  pub machine : machine_of new items ≡ recorded m c (after m.state c)
+  pub timeline : timeline_of forgotten new items ≡ becomes t (recorded t.machine c (after t.machine.state c))
 
-pub has_recorded : {A : Type 0} {room : List (Entry A)} (slots forgotten : ℕ) (m : Machine) (s new : State) (journal items : List (Entry A)) (e : Entry A) (c : model.Command) (i : Inverse)
-    → machine_of s journal ≡ m → IsHistory slots forgotten s (records journal) → room ≡ journal → items ≡ room ++ e ∷ []
-    → ◌≡◌ {A = model.Command × Inverse} (journal_entry e) (c, i) → refusal slots m.state c ≡ None → inverse s c ≡ Some i → new ≡ after s c
-    → HasRecorded slots forgotten m new items c
-has_recorded slots forgotten m s new journal items e c i view history reserved put e_is accepted i_is new_is =
-    let none : refusal slots s c ≡ None = subst (λ (n : Machine). refusal slots n.state c ≡ None) (sym view) accepted in
+pub has_recorded : {A : Type 0} {room : List (Entry A)} (slots forgotten : ℕ) (t : Timeline) (s new : State) (journal items : List (Entry A)) (e : Entry A) (c : model.Command) (i : Inverse)
+    → timeline_of forgotten s journal ≡ t → IsHistory slots forgotten s (records journal) → room ≡ journal → items ≡ room ++ e ∷ []
+    → ◌≡◌ {A = model.Command × Inverse} (journal_entry e) (c, i) → refusal slots t.machine.state c ≡ None → inverse s c ≡ Some i → new ≡ after s c
+    → HasRecorded slots forgotten t new items c
+has_recorded slots forgotten t s new journal items e c i view history reserved put e_is accepted i_is new_is =
+    let none : refusal slots s c ≡ None = subst (λ (n : Timeline). refusal slots n.machine.state c ≡ None) (sym view) accepted in
     let items_are : items ≡ journal ++ e ∷ [] = put ∙ ap (λ js. js ++ e ∷ []) reserved in
     record {
       history = subst (λ js. IsHistory slots forgotten new (records js)) (sym items_are) (recorded_history slots s new journal e c i None e_is none i_is new_is forgotten history);
-      machine = (λ k. machine_of new (items_are k)) ∙ recorded_is slots s new journal e c i None e_is none i_is new_is ∙ ap (λ (n : Machine). recorded n c (after n.state c)) view;
+      timeline = (λ k. timeline_of forgotten new (items_are k))
+          ∙ (λ k. record { machine = recorded_is slots s new journal e c i None e_is none i_is new_is k; forgotten = forgotten })
+          ∙ ap (λ (n : Timeline). becomes n (recorded n.machine c (after n.machine.state c))) view;
     }
 
 -- ---- how long the past is

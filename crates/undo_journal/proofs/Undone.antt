@@ -13,6 +13,7 @@ use Rattle.undo_journal.specs.CommandMeaning.{reply_of}
 use Rattle.undo_journal.specs.Answer.{Answers}
 use Rattle.undo_journal.specs.Beginning.{beginning}
 use Rattle.undo_journal.specs.Headline.{IsReached, KeepsHistory}
+use Rattle.undo_journal.specs.Timeline.{Timeline, becomes}
 use Rattle.undo_journal.proofs.Beginnings.{tick_begins}
 
 module _ (slots : ℕ) where
@@ -47,28 +48,32 @@ module _ (slots : ℕ) where
 
   -- ---- the headline
 
-  pub keeps_history : (old : Machine) (c : model.Command) (new : Machine) → new ≡ (tick slots old c).0 → IsReached slots new → KeepsHistory slots old c new
+  pub keeps_history : (old : Timeline) (c : model.Command) (new : Timeline) → new ≡ becomes old (tick slots old.machine c).0 → IsReached slots new → KeepsHistory slots old c new
   keeps_history old c new is h =
-      let begins : beginning new ≡ beginning old = ap beginning is ∙ tick_begins slots old c in
+      let machine_is : new.machine ≡ (tick slots old.machine c).0 = ap (λ (t : Timeline). t.machine) is in
+      let begins : beginning new.machine ≡ beginning old.machine = ap beginning machine_is ∙ tick_begins slots old.machine c in
+      let forgotten : new.forgotten ≡ old.forgotten = ap (λ (t : Timeline). t.forgotten) is in
       record {
-        command_undone = subst (λ (m : Machine). length old.past < length m.past → tick slots m model.Undo ≡ (old, model.Undone c)) (sym is) (tick_undone old c);
-        run_undone = run_undone slots new;
+        command_undone = subst (λ (m : Machine). length old.machine.past < length m.past → tick slots m model.Undo ≡ (old.machine, model.Undone c)) (sym machine_is) (tick_undone old.machine c);
+        run_undone = run_undone slots new.machine;
         begins = begins;
+        forgotten = forgotten;
         all_undone = h.all_undone ∙ begins;
-        counts = current_is slots new.state h.well_formed.0;
-        populations = populated_is new.state;
+        from_the_start = λ z. h.from_the_start (forgotten ∙ z);
+        counts = current_is slots new.machine.state h.well_formed.0;
+        populations = populated_is new.machine.state;
         peaks = h.well_formed.0.peaks;
       }
 
   -- ---- an answer, or out of memory
 
-  pub answered_by : {A E : Type 0} (old new : Machine) (c : model.Command) (r : Result (Reply A) E) (reply : Reply A)
+  pub answered_by : {A E : Type 0} (old new : Timeline) (c : model.Command) (r : Result (Reply A) E) (reply : Reply A)
       → IfOk r (λ x. reply ≡ x) → OnErr r (reply_of reply ≡ None) → IfOk r (λ x. Answers slots old c x new) → reply_of reply ≢ None
       → Answers slots old c reply new
   answered_by old new c (Ok x) reply is err h n = subst (λ y. Answers slots old c y new) (sym is) h
   answered_by old new c (Err e) reply is err h n = absurd (n err)
 
-  pub certain_by : {A E : Type 0} (old new : Machine) (c : model.Command) (r : Result (Reply A) E) (reply : Reply A)
+  pub certain_by : {A E : Type 0} (old new : Timeline) (c : model.Command) (r : Result (Reply A) E) (reply : Reply A)
       → IfOk r (λ x. reply ≡ x) → IfOk r (λ x. Answers slots old c x new) → IsOk r → reply_of reply ≢ None
-  certain_by old new c (Ok x) reply is h k n = let f : Some (tick slots old c).1 ≡ None = sym h.reply_is ∙ sym (ap reply_of is) ∙ n in cc
+  certain_by old new c (Ok x) reply is h k n = let f : Some (tick slots old.machine c).1 ≡ None = sym h.reply_is ∙ sym (ap reply_of is) ∙ n in cc
   certain_by old new c (Err e) reply is h k n = cc

@@ -10,7 +10,8 @@ use Rattle.flat_model.specs.Machine.{undone, tick}
 use Rattle.undo_journal.specs.declared.journal.Entry.{Entry}
 use Rattle.undo_journal.specs.Answer.{Answers, needs_no_memory, undoes_without_memory}
 use Rattle.undo_journal.specs.declared.reply.Reply.TheVariants.{NothingToUndo}
-use Rattle.undo_journal.specs.History.{journal_entry, records, machine_of, IsHistory, IsReady}
+use Rattle.undo_journal.specs.History.{journal_entry, records, machine_of, timeline_of, IsHistory, IsReady}
+use Rattle.undo_journal.specs.Timeline.{becomes}
 use Rattle.undo_journal.proofs.Histories.{records_push, history_well}
 use Rattle.undo_journal.proofs.Ready.{step_ready}
 
@@ -59,9 +60,10 @@ empty_of xs (y ∷ ys) same e = absurd (let h : None ≡ Some (get_or (y ∷ ys)
 -- ---- the machine behind
 
 -- where nothing is recorded there is nothing to undo
-pub nothing_undone : {A : Type 0} (slots : ℕ) (s : State) (journal : List (Entry A)) → journal ≡ [] → Answers {A = A} slots (machine_of s journal) model.Undo NothingToUndo (machine_of s journal)
-nothing_undone {A} slots s journal e =
-    subst (λ (js : List (Entry A)). Answers {A = A} slots (machine_of s js) model.Undo NothingToUndo (machine_of s js)) (sym e)
+pub nothing_undone : {A : Type 0} (slots forgotten : ℕ) (s : State) (journal : List (Entry A)) → journal ≡ []
+    → Answers {A = A} slots (timeline_of forgotten s journal) model.Undo NothingToUndo (timeline_of forgotten s journal)
+nothing_undone {A} slots forgotten s journal e =
+    subst (λ (js : List (Entry A)). Answers {A = A} slots (timeline_of forgotten s js) model.Undo NothingToUndo (timeline_of forgotten s js)) (sym e)
     (record { state = refl; reply_is = refl })
 
 module _ {A : Type 0} (slots : ℕ) (s : State) (journal rest : List (Entry A)) (e : Entry A) (is : journal ≡ rest ++ e ∷ []) where
@@ -82,10 +84,10 @@ module _ {A : Type 0} (slots : ℕ) (s : State) (journal rest : List (Entry A)) 
       ap needs_no_memory (sym k.0.record_is) ∙ subst (λ (es : List (model.Command × Inverse)). undoes_without_memory slots (past_of s es) ≡ true) records_are u
 
   module _ (new : State) (new_is : new ≡ back (journal_entry e).1 s) where
-    pub undone_is : machine_of new rest ≡ (tick slots (machine_of s journal) model.Undo).0
-    undone_is =
-        (λ k. record { state = new_is k; past = past_of (new_is k) (records rest) })
-        ∙ sym (λ k. (undone s (past_of s (records_are k))).0)
+    pub undone_is : (forgotten : ℕ) → timeline_of forgotten new rest ≡ becomes (timeline_of forgotten s journal) (tick slots (machine_of s journal) model.Undo).0
+    undone_is forgotten =
+        (λ k. record { machine = record { state = new_is k; past = past_of (new_is k) (records rest) }; forgotten = forgotten })
+        ∙ sym (λ k. record { machine = (undone s (past_of s (records_are k))).0; forgotten = forgotten })
 
     pub reply_is : (tick slots (machine_of s journal) model.Undo).1 ≡ model.Undone (journal_entry e).0
     reply_is = λ k. (undone s (past_of s (records_are k))).1

@@ -5,14 +5,15 @@ use Rattle.flat_model.specs.Command as model
 use Rattle.flat_model.specs.Step.{refusal, after, after_refusal}
 use Rattle.flat_model.specs.Inverse as model_inverse
 use Rattle.flat_model.specs.Inverse.{back, inverse, inverse_of_refusal}
-use Rattle.flat_model.specs.Machine.{Machine, tick}
+use Rattle.flat_model.specs.Machine.{tick}
 use Rattle.undo_journal.specs.declared.reply.Reply.{Reply}
 use Rattle.undo_journal.specs.CommandMeaning.{reply_of}
+use Rattle.undo_journal.specs.Timeline.{Timeline, becomes}
 
--- on this command the machine with so many slots goes from old to new, and this is its reply
-pub record Answers {A : Type 0} (slots : ℕ) (old : Machine) (c : model.Command) (reply : Reply A) (new : Machine) : Type 0 where
-  pub state : new ≡ (tick slots old c).0
-  pub reply_is : reply_of reply ≡ Some (tick slots old c).1
+-- on this command the machine with so many slots makes its step, this is its reply, and nothing is forgotten
+pub record Answers {A : Type 0} (slots : ℕ) (old : Timeline) (c : model.Command) (reply : Reply A) (new : Timeline) : Type 0 where
+  pub state : new ≡ becomes old (tick slots old.machine c).0
+  pub reply_is : reply_of reply ≡ Some (tick slots old.machine c).1
 
 -- ---- records
 

@@ -15,6 +15,7 @@ use Rattle.pids_charge.specs.Events.{HasEvents}
 use Rattle.undo_journal.specs.declared.journal.Entry.{Entry}
 use Rattle.undo_journal.specs.CommandMeaning.{command_of, inverse_of}
 use Rattle.undo_journal.specs.Answer.{record_of, state_after}
+use Rattle.undo_journal.specs.Timeline.{Timeline}
 
 -- ---- the journal
 
@@ -27,6 +28,9 @@ records journal = reverse (map journal_entry journal)
 
 abbrev pub machine_of : {A : Type 0} → State → List (Entry A) → Machine
 machine_of s journal = record { state = s; past = past_of s (records journal) }
+
+abbrev pub timeline_of : {A : Type 0} → ℕ → State → List (Entry A) → Timeline
+timeline_of forgotten s journal = record { machine = machine_of s journal; forgotten = forgotten }
 
 -- the command c led to the state s and left the record i, which restores the state before it
 pub record IsStep (slots : ℕ) (s : State) (c : model.Command) (i : model_inverse.Inverse) : Type 0 where

@@ -4,3 +4,4 @@ pub mod Beginning
 pub mod Headline
 pub mod History
 pub mod Slots
+pub mod Timeline

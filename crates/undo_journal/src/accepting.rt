@@ -17,27 +17,27 @@ use std::alloc::Allocator;
 
 impl<A: Allocator + Clone, M: Meter> Engine<A, M> {
     fn accepts_mkdir<B: Allocator + Clone>(&self, path: &GroupPath<B>) -> bool
-        ensures { result ≡ is_none (refusal M.SLOTS self.now.state (model.MakeGroup path.now)) }
+        ensures { result ≡ is_none (refusal M.SLOTS self.now.machine.state (model.MakeGroup path.now)) }
     {
         self.charges.refuses_mkdir(path).is_none()
     }
 
     fn accepts_rmdir<B: Allocator + Clone>(&mut self, path: &GroupPath<B>) -> bool
-        ensures told { result ≡ is_none (refusal M.SLOTS self.old.state (model.RemoveGroup path.now)) }
+        ensures told { result ≡ is_none (refusal M.SLOTS self.old.machine.state (model.RemoveGroup path.now)) }
         ensures kept { self.new ≡ self.old }
     {
         self.charges.refuses_rmdir(path).is_none()
     }
 
     fn accepts_fork(&mut self, parent: Pid, child: Pid) -> bool
-        ensures told { result ≡ is_none (refusal M.SLOTS self.old.state (model.Fork parent child)) }
+        ensures told { result ≡ is_none (refusal M.SLOTS self.old.machine.state (model.Fork parent child)) }
         ensures kept { self.new ≡ self.old }
     {
         self.charges.refuses_fork(parent, child).is_none()
     }
 
     fn accepts_move<B: Allocator + Clone>(&self, path: &GroupPath<B>, pid: Pid) -> bool
-        ensures { result ≡ is_none (refusal M.SLOTS self.now.state (model.Move path.now pid)) }
+        ensures { result ≡ is_none (refusal M.SLOTS self.now.machine.state (model.Move path.now pid)) }
     {
         if !self.has_group(path) {
             return false;
@@ -51,7 +51,7 @@ impl<A: Allocator + Clone, M: Meter> Engine<A, M> {
         file: LimitFile,
         value: Limit,
     ) -> bool
-        ensures { result ≡ is_none (refusal M.SLOTS self.now.state (model.SetLimit path.now (limit_file_of file) (limit_of value))) }
+        ensures { result ≡ is_none (refusal M.SLOTS self.now.machine.state (model.SetLimit path.now (limit_file_of file) (limit_of value))) }
     {
         if path.depth() == 0 && file == LimitFile::PidsMax {
             return false;
@@ -61,7 +61,7 @@ impl<A: Allocator + Clone, M: Meter> Engine<A, M> {
     }
 
     fn accepts_kill<B: Allocator + Clone>(&self, path: &GroupPath<B>) -> bool
-        ensures { result ≡ is_none (refusal M.SLOTS self.now.state (model.Kill path.now)) }
+        ensures { result ≡ is_none (refusal M.SLOTS self.now.machine.state (model.Kill path.now)) }
     {
         if path.depth() == 0 {
             return false;
@@ -70,7 +70,7 @@ impl<A: Allocator + Clone, M: Meter> Engine<A, M> {
     }
 
     fn accepts_show<B: Allocator + Clone>(&self, path: &GroupPath<B>, file: File) -> bool
-        ensures { result ≡ is_none (refusal M.SLOTS self.now.state (model.Show path.now (file_of file))) }
+        ensures { result ≡ is_none (refusal M.SLOTS self.now.machine.state (model.Show path.now (file_of file))) }
     {
         if !file.readable() {
             return false;
@@ -84,7 +84,7 @@ impl<A: Allocator + Clone, M: Meter> Engine<A, M> {
     /// Whether the command would be accepted if memory suffices. An undo always is, even if there is nothing to undo.
     /// Costs as much as the command's refusals, and allocates nothing.
     pub fn accepts<B: Allocator + Clone>(&mut self, cmd: &Command<B>) -> bool
-        ensures told { result ≡ is_none (refusal M.SLOTS self.old.state (command_of cmd.now)) }
+        ensures told { result ≡ is_none (refusal M.SLOTS self.old.machine.state (command_of cmd.now)) }
         ensures kept { self.new ≡ self.old }
     {
         match cmd {

@@ -8,6 +8,7 @@ ghost use Rattle.pids_charge.specs.Content.{IsEmpty};
 ghost use Rattle.undo_journal.specs.CommandMeaning.{command_of, inverse_of, reply_of};
 ghost use Rattle.undo_journal.specs.Answer.{Answers, IsNewest, newest_command, undoes_without_memory};
 ghost use Rattle.undo_journal.specs.Headline.{KeepsHistory, IsReached};
+ghost use Rattle.undo_journal.specs.Timeline.{from_start};
 
 use crate::command::Command;
 use crate::inverse::Inverse;
@@ -33,15 +34,15 @@ pub struct Engine<A: Allocator + Clone, M: Meter> {
 impl<A: Allocator + Clone, M: Meter> Model for Engine<A, M> {
     ghost use Rattle.std.specs.Coded.{codes};
     ghost use Rattle.flat_model.specs.StateCodes.{state_code};
-    ghost use Rattle.flat_model.specs.Machine.{Machine};
+    ghost use Rattle.undo_journal.specs.Timeline.{Timeline};
 
-    ghost Value = { Machine };
+    ghost Value = { Timeline };
 
     ghost coded = { Prim.hlevel (codes, state_code) };
 
-    ghost use Rattle.undo_journal.specs.History.{machine_of, records, IsHistory};
+    ghost use Rattle.undo_journal.specs.History.{timeline_of, records, IsHistory};
 
-    ghost view = { λ e. machine_of e.charges e.journal.items };
+    ghost view = { λ e. timeline_of e.forgotten e.charges e.journal.items };
 
     ghost invariant = { λ e. IsHistory M.SLOTS e.forgotten e.charges (records e.journal.items) };
 }
@@ -68,7 +69,7 @@ impl<A: Allocator + Clone, M: Meter + Drop> Engine<A, M> {
     /// `AllocError` when out of memory. The meter is dropped then.
     pub fn new(alloc: A, meter: M) -> Result<Engine<A, M>, AllocError>
         requires { IsEmpty (M.content meter) (M.held meter) }
-        ensures { IfOk result (λ e. e ≡ new_machine) }
+        ensures { IfOk result (λ e. e ≡ from_start new_machine) }
     {
         let charges = Charges::new(alloc.clone()?, meter)?;
         let journal = Vec::new(alloc.clone()?);
@@ -105,7 +106,7 @@ impl<A: Allocator + Clone, M: Meter> Engine<A, M> {
         ensures refused { reply_of result ≡ None → self.new ≡ self.old }
 
         // Undoing a new group, a new process, a limit or a counted fork allocates nothing.
-        ensures certain { command_of cmd.now ≡ model.Undo → undoes_without_memory M.SLOTS self.old.past ≡ true → reply_of result ≢ None }
+        ensures certain { command_of cmd.now ≡ model.Undo → undoes_without_memory M.SLOTS self.old.machine.past ≡ true → reply_of result ≢ None }
     {
         self.apply_gated(rt, &OpenGate, who, cmd)
     }
@@ -122,7 +123,7 @@ impl<A: Allocator + Clone, M: Meter> Engine<A, M> {
         ensures answered { reply_of result ≢ None → Answers M.SLOTS self.old (command_of cmd.now) result self.new }
         ensures headline { reply_of result ≢ None → KeepsHistory M.SLOTS self.old (command_of cmd.now) self.new }
         ensures refused { reply_of result ≡ None → self.new ≡ self.old }
-        ensures certain { command_of cmd.now ≡ model.Undo → undoes_without_memory M.SLOTS self.old.past ≡ true → reply_of result ≢ None }
+        ensures certain { command_of cmd.now ≡ model.Undo → undoes_without_memory M.SLOTS self.old.machine.past ≡ true → reply_of result ≢ None }
     {
         let reply = self.answer(&with_threads(rt, gate), who, cmd);
         self.known();
@@ -134,7 +135,7 @@ impl<A: Allocator + Clone, M: Meter> Engine<A, M> {
         ensures answered { reply_of result ≢ None → Answers M.SLOTS self.old (command_of cmd.now) result self.new }
         ensures headline { reply_of result ≢ None → KeepsHistory M.SLOTS self.old (command_of cmd.now) self.new }
         ensures refused { reply_of result ≡ None → self.new ≡ self.old }
-        ensures certain { command_of cmd.now ≡ model.Undo → undoes_without_memory M.SLOTS self.old.past ≡ true → reply_of result ≢ None }
+        ensures certain { command_of cmd.now ≡ model.Undo → undoes_without_memory M.SLOTS self.old.machine.past ≡ true → reply_of result ≢ None }
     {
         let reply = self.answer(&Alone, who, cmd);
         self.known();
@@ -149,7 +150,7 @@ impl<A: Allocator + Clone, M: Meter> Engine<A, M> {
         ensures refused { reply_of result ≡ None → self.new ≡ self.old }
 
         // Undoing a new group, a new process, a limit or a counted fork allocates nothing.
-        ensures certain { undoes_without_memory M.SLOTS self.old.past ≡ true → reply_of result ≢ None }
+        ensures certain { undoes_without_memory M.SLOTS self.old.machine.past ≡ true → reply_of result ≢ None }
     {
         let reply = or_out_of_memory(self.take_newest_back(&with_threads(rt, &OpenGate), who));
         self.known();
@@ -161,7 +162,7 @@ impl<A: Allocator + Clone, M: Meter> Engine<A, M> {
         ensures answered { reply_of result ≢ None → Answers M.SLOTS self.old model.Undo result self.new }
         ensures headline { reply_of result ≢ None → KeepsHistory M.SLOTS self.old model.Undo self.new }
         ensures refused { reply_of result ≡ None → self.new ≡ self.old }
-        ensures certain { undoes_without_memory M.SLOTS self.old.past ≡ true → reply_of result ≢ None }
+        ensures certain { undoes_without_memory M.SLOTS self.old.machine.past ≡ true → reply_of result ≢ None }
     {
         let reply = or_out_of_memory(self.take_newest_back(&Alone, who));
         self.known();
@@ -170,7 +171,7 @@ impl<A: Allocator + Clone, M: Meter> Engine<A, M> {
 
     /// The record of the newest recorded command.
     pub fn newest(&self) -> Option<&Inverse<A>>
-        ensures { MatchOption result (self.now.past ≡ []) (λ inverse. IsNewest M.SLOTS self.now.state self.now.past (inverse_of inverse.now)) }
+        ensures { MatchOption result (self.now.machine.past ≡ []) (λ inverse. IsNewest M.SLOTS self.now.machine.state self.now.machine.past (inverse_of inverse.now)) }
     {
         match self.journal.last() {
             Some(entry) => Some(&entry.inverse),
@@ -180,7 +181,7 @@ impl<A: Allocator + Clone, M: Meter> Engine<A, M> {
 
     /// The newest recorded command, which `undo` would undo.
     pub fn newest_command(&self) -> Option<&Command<A>>
-        ensures { option_map (λ command. command_of command.now) result ≡ newest_command self.now.past }
+        ensures { option_map (λ command. command_of command.now) result ≡ newest_command self.now.machine.past }
     {
         match self.journal.last() {
             Some(entry) => Some(&entry.command),
@@ -190,14 +191,14 @@ impl<A: Allocator + Clone, M: Meter> Engine<A, M> {
 
     /// How many recorded commands can be undone.
     pub fn depth(&self) -> usize
-        ensures { result ≡ length self.now.past }
+        ensures { result ≡ length self.now.machine.past }
     {
         self.journal.len()
     }
 
     /// The groups and processes, for reading.
     pub fn charges(&self) -> &Charges<A, M>
-        ensures { result.now ≡ self.now.state }
+        ensures { result.now ≡ self.now.machine.state }
     {
         &self.charges
     }
@@ -210,7 +211,7 @@ impl<A: Allocator + Clone, M: Meter> Engine<A, M> {
     ) -> Reply<A>
         ensures answered { reply_of result ≢ None → Answers M.SLOTS self.old (command_of cmd.now) result self.new }
         ensures refused { reply_of result ≡ None → self.new ≡ self.old }
-        ensures certain { command_of cmd.now ≡ model.Undo → undoes_without_memory M.SLOTS self.old.past ≡ true → reply_of result ≢ None }
+        ensures certain { command_of cmd.now ≡ model.Undo → undoes_without_memory M.SLOTS self.old.machine.past ≡ true → reply_of result ≢ None }
     {
         match cmd {
             Command::MakeGroup(path) => or_out_of_memory(self.make_group(path)),
@@ -230,19 +231,19 @@ impl<A: Allocator + Clone, M: Meter> Engine<A, M> {
 
     /// Whether the group exists.
     pub(crate) fn has_group<B: Allocator + Clone>(&self, path: &GroupPath<B>) -> bool
-        ensures { result ≡ is_group self.now.state path.now }
+        ensures { result ≡ is_group self.now.machine.state path.now }
     {
         self.charges.attr(path).is_some()
     }
 
     /// Whether the process exists.
     pub(crate) fn has_process(&self, pid: Pid) -> bool
-        ensures { result ≡ has_process self.now.state pid }
+        ensures { result ≡ has_process self.now.machine.state pid }
     {
         self.charges.home(pid).is_some()
     }
 
-    /// Gives the invariant of every engine to `apply`, `undo` and `undo_all`. It is proof only.
+    /// Makes the invariant of the engine visible to the prover. It is proof only.
     pub(crate) fn known(&self)
         ensures { IsReached M.SLOTS self.now }
     {

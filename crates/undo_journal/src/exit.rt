@@ -8,6 +8,7 @@ ghost use Rattle.flat_model.specs.Machine.{recorded};
 ghost use Rattle.flat_model.specs.Command as model;
 ghost use Rattle.undo_journal.specs.Answer.{Answers};
 ghost use Rattle.undo_journal.specs.History.{IsReady};
+ghost use Rattle.undo_journal.specs.Timeline.{becomes};
 
 use crate::command::Command;
 use crate::engine::Engine;
@@ -22,8 +23,8 @@ use std::alloc::{AllocError, Allocator};
 impl<A: Allocator + Clone, M: Meter> Engine<A, M> {
     /// Removes a process that exists, and records its group.
     fn take_process(&mut self, who: u8, pid: Pid) -> Result<(), AllocError>
-        requires { refusal M.SLOTS self.old.state (model.Exit pid) ≡ None }
-        ensures ok { OnOk result (self.new ≡ recorded self.old (model.Exit pid) (after self.old.state (model.Exit pid))) }
+        requires { refusal M.SLOTS self.old.machine.state (model.Exit pid) ≡ None }
+        ensures ok { OnOk result (self.new ≡ becomes self.old (recorded self.old.machine (model.Exit pid) (after self.old.machine.state (model.Exit pid)))) }
         ensures err { OnErr result (self.new ≡ self.old) }
     {
         self.journal.reserve(1)?;

@@ -1,7 +1,7 @@
 //! `forget`: keeps the state, and makes everything earlier impossible to undo.
 
 ghost use Rattle.std.specs.Prelude.{◌≡◌};
-ghost use Rattle.undo_journal.specs.Beginning.{forgotten};
+ghost use Rattle.undo_journal.specs.Beginning.{forgets};
 
 use crate::engine::Engine;
 use crate::journal::drop_entries;
@@ -15,7 +15,7 @@ impl<A: Allocator + Clone, M: Meter> Engine<A, M> {
     /// The engine counts its recorded commands, forgotten ones included. After 2^64 - 1 of them, an engine that has
     /// forgotten counts no more refused forks: a fork that a `pids.max` refuses is then out of memory.
     pub fn forget(&mut self)
-        ensures { self.new ≡ forgotten self.old }
+        ensures { self.new ≡ forgets self.old }
     {
         let dropped = self.journal.len() as u64;
         self.forgotten = self.forgotten.saturating_add(dropped);

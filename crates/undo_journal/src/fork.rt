@@ -22,8 +22,8 @@ use std::alloc::{AllocError, Allocator};
 impl<A: Allocator + Clone, M: Meter> Engine<A, M> {
     /// The path of the first `n` names of the group that a process belongs to.
     fn front_of_home(&self, pid: Pid, n: usize) -> Result<GroupPath<A>, AllocError>
-        requires { has_process self.now.state pid ≡ true }
-        ensures { IfOk result (λ front. front ≡ take n (home_of self.now.state pid)) }
+        requires { has_process self.now.machine.state pid ≡ true }
+        ensures { IfOk result (λ front. front ≡ take n (home_of self.now.machine.state pid)) }
     {
         let Some(home) = self.charges.home(pid) else {
             unreachable!()
@@ -33,9 +33,9 @@ impl<A: Allocator + Clone, M: Meter> Engine<A, M> {
 
     /// Counts and records a refused fork. The group that refuses it has the first `n` names of the parent's group.
     fn count_fork(&mut self, parent: Pid, child: Pid, n: usize) -> Result<Reply<A>, AllocError>
-        requires refused { refusal M.SLOTS self.old.state (model.Fork parent child) ≡ Some (model.OverPidsMax (take n (home_of self.old.state parent))) }
+        requires refused { refusal M.SLOTS self.old.machine.state (model.Fork parent child) ≡ Some (model.OverPidsMax (take n (home_of self.old.machine.state parent))) }
         requires below_root { 0 < n }
-        requires inside { n ≤ length (home_of self.old.state parent) }
+        requires inside { n ≤ length (home_of self.old.machine.state parent) }
         ensures ok { IfOk result (λ reply. Answers M.SLOTS self.old (model.Fork parent child) reply self.new) }
         ensures err { OnErr result (self.new ≡ self.old) }
     {
@@ -56,8 +56,8 @@ impl<A: Allocator + Clone, M: Meter> Engine<A, M> {
     /// Makes a process in its parent's group, and records it with the peaks of that group and its ancestors as they were
     /// before. If a limit refuses it, counts and records that instead.
     fn try_process(&mut self, who: u8, parent: Pid, child: Pid) -> Result<Reply<A>, AllocError>
-        requires parent { has_process self.old.state parent ≡ true }
-        requires child { has_process self.old.state child ≡ false }
+        requires parent { has_process self.old.machine.state parent ≡ true }
+        requires child { has_process self.old.machine.state child ≡ false }
         ensures ok { IfOk result (λ reply. Answers M.SLOTS self.old (model.Fork parent child) reply self.new) }
         ensures err { OnErr result (self.new ≡ self.old) }
     {

@@ -13,7 +13,7 @@ use std::alloc::Allocator;
 impl<A: Allocator + Clone, M: Meter> Engine<A, M> {
     /// The recorded command at this place, where the oldest has place 0. None if there are not so many.
     pub fn command_at(&self, place: usize) -> Option<&Command<A>>
-        ensures { option_map (λ command. command_of command.now) result ≡ slice_get (recorded_commands self.now.past) place }
+        ensures { option_map (λ command. command_of command.now) result ≡ slice_get (recorded_commands self.now.machine.past) place }
     {
         match self.journal.get(place) {
             Some(entry) => Some(&entry.command),

@@ -9,6 +9,7 @@ ghost use Rattle.flat_model.specs.Command as model;
 ghost use Rattle.undo_journal.specs.CommandMeaning.{refusal_of};
 ghost use Rattle.undo_journal.specs.Answer.{Answers};
 ghost use Rattle.undo_journal.specs.History.{IsReady};
+ghost use Rattle.undo_journal.specs.Timeline.{becomes};
 
 use crate::command::Command;
 use crate::engine::Engine;
@@ -26,7 +27,7 @@ impl<A: Allocator + Clone, M: Meter> Engine<A, M> {
         &self,
         path: &GroupPath<B>,
     ) -> Result<Option<Refusal<A>>, AllocError>
-        ensures { IfOk result (λ r. option_map refusal_of r ≡ refusal M.SLOTS self.now.state (model.Kill path.now)) }
+        ensures { IfOk result (λ r. option_map refusal_of r ≡ refusal M.SLOTS self.now.machine.state (model.Kill path.now)) }
     {
         if path.depth() == 0 {
             return Ok(Some(Refusal::NoFile));
@@ -44,8 +45,8 @@ impl<A: Allocator + Clone, M: Meter> Engine<A, M> {
         who: u8,
         path: &GroupPath<B>,
     ) -> Result<(), AllocError>
-        requires { refusal M.SLOTS self.old.state (model.Kill path.now) ≡ None }
-        ensures ok { OnOk result (self.new ≡ recorded self.old (model.Kill path.now) (after self.old.state (model.Kill path.now))) }
+        requires { refusal M.SLOTS self.old.machine.state (model.Kill path.now) ≡ None }
+        ensures ok { OnOk result (self.new ≡ becomes self.old (recorded self.old.machine (model.Kill path.now) (after self.old.machine.state (model.Kill path.now)))) }
         ensures err { OnErr result (self.new ≡ self.old) }
     {
         let named = path.copy(self.alloc.clone()?)?;

@@ -2,9 +2,10 @@
 //!
 //! An `Engine` is the machine of `flat_model`: the current state, and for each recorded command, newest first, the
 //! command and the state before it. `apply` gives the machine's reply to a command and makes the machine's step. A
-//! recorded command followed by `undo` restores the engine. Undoing everything leaves the start: the root, with process
-//! 1 in it. All this holds after any commands and undos, over every `Meter`. `forget` is the exception: undoing
-//! everything then leaves the state at which it was called.
+//! recorded command followed by `undo` restores the engine. Undoing everything leaves a new engine: the root, with
+//! process 1 in it. All this holds after any commands and undos, over every `Meter`. `forget` is the exception: undoing
+//! everything then leaves the state at which it was called. So contracts also see how many recorded commands an engine
+//! has forgotten.
 //!
 //! - The journal records each accepted command that changes the state. It also records a fork that a `pids.max`
 //!   refused, because that raises event totals. It records no other refused command, no command that only reads, and no
@@ -32,11 +33,11 @@
 //! - `rehearse` returns the replies that a list of commands would get, undos included. It runs them on a copy of the
 //!   engine in the caller's arena, and only reads the engine.
 //!
-//! Each command has its own file, with its refusals, its change, its record and its undo. `specs/CommandMeaning.antt`
-//! says what commands, replies and records mean. `specs/Answer.antt` says that a reply is the machine's.
-//! `specs/Headline.antt` says what each answered command promises about undo and counts, and what undoing everything
-//! leaves. `specs/History.antt` says what a journal knows of the earlier states. `journal_laws` states the laws that
-//! follow from these definitions.
+//! Each command has its own file, with its refusals, its change, its record and its undo. `specs/Timeline.antt` says what
+//! contracts see of an engine. `specs/CommandMeaning.antt` says what commands, replies and records mean.
+//! `specs/Answer.antt` says that a reply is the machine's. `specs/Headline.antt` says what each answered command promises
+//! about undo and counts, and what undoing everything leaves. `specs/History.antt` says what a journal knows of the earlier
+//! states. `journal_laws` states the laws that follow from these definitions.
 #![tactic(auto)]
 
 mod accepting;

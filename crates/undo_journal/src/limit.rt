@@ -10,6 +10,7 @@ ghost use Rattle.group_tree.specs.Flat.{limit_of, limit_file_of};
 ghost use Rattle.undo_journal.specs.CommandMeaning.{refusal_of};
 ghost use Rattle.undo_journal.specs.Answer.{Answers};
 ghost use Rattle.undo_journal.specs.History.{IsReady};
+ghost use Rattle.undo_journal.specs.Timeline.{becomes};
 
 use crate::command::Command;
 use crate::engine::Engine;
@@ -29,7 +30,7 @@ impl<A: Allocator + Clone, M: Meter> Engine<A, M> {
         file: LimitFile,
         value: Limit,
     ) -> Result<Option<Refusal<A>>, AllocError>
-        ensures { IfOk result (λ r. option_map refusal_of r ≡ refusal M.SLOTS self.now.state (model.SetLimit path.now (limit_file_of file) (limit_of value))) }
+        ensures { IfOk result (λ r. option_map refusal_of r ≡ refusal M.SLOTS self.now.machine.state (model.SetLimit path.now (limit_file_of file) (limit_of value))) }
     {
         if path.depth() == 0 && file == LimitFile::PidsMax {
             return Ok(Some(Refusal::NoFile));
@@ -47,10 +48,10 @@ impl<A: Allocator + Clone, M: Meter> Engine<A, M> {
         file: LimitFile,
         value: Limit,
     ) -> Result<(), AllocError>
-        requires { refusal M.SLOTS self.old.state (model.SetLimit path.now (limit_file_of file) (limit_of value)) ≡ None }
-        ensures ok { OnOk result (self.new ≡ recorded self.old
+        requires { refusal M.SLOTS self.old.machine.state (model.SetLimit path.now (limit_file_of file) (limit_of value)) ≡ None }
+        ensures ok { OnOk result (self.new ≡ becomes self.old (recorded self.old.machine
             (model.SetLimit path.now (limit_file_of file) (limit_of value))
-            (after self.old.state (model.SetLimit path.now (limit_file_of file) (limit_of value)))) }
+            (after self.old.machine.state (model.SetLimit path.now (limit_file_of file) (limit_of value))))) }
         ensures err { OnErr result (self.new ≡ self.old) }
     {
         let named = path.copy(self.alloc.clone()?)?;

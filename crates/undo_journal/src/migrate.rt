@@ -9,6 +9,7 @@ ghost use Rattle.flat_model.specs.Command as model;
 ghost use Rattle.undo_journal.specs.CommandMeaning.{refusal_of};
 ghost use Rattle.undo_journal.specs.Answer.{Answers};
 ghost use Rattle.undo_journal.specs.History.{IsReady};
+ghost use Rattle.undo_journal.specs.Timeline.{becomes};
 
 use crate::command::Command;
 use crate::engine::Engine;
@@ -27,7 +28,7 @@ impl<A: Allocator + Clone, M: Meter> Engine<A, M> {
         path: &GroupPath<B>,
         pid: Pid,
     ) -> Result<Option<Refusal<A>>, AllocError>
-        ensures { IfOk result (λ r. option_map refusal_of r ≡ refusal M.SLOTS self.now.state (model.Move path.now pid)) }
+        ensures { IfOk result (λ r. option_map refusal_of r ≡ refusal M.SLOTS self.now.machine.state (model.Move path.now pid)) }
     {
         if !self.has_group(path) {
             return Ok(Some(Refusal::NoGroup(path.copy(self.alloc.clone()?)?)));
@@ -45,8 +46,8 @@ impl<A: Allocator + Clone, M: Meter> Engine<A, M> {
         path: &GroupPath<B>,
         pid: Pid,
     ) -> Result<(), AllocError>
-        requires { refusal M.SLOTS self.old.state (model.Move path.now pid) ≡ None }
-        ensures ok { OnOk result (self.new ≡ recorded self.old (model.Move path.now pid) (after self.old.state (model.Move path.now pid))) }
+        requires { refusal M.SLOTS self.old.machine.state (model.Move path.now pid) ≡ None }
+        ensures ok { OnOk result (self.new ≡ becomes self.old (recorded self.old.machine (model.Move path.now pid) (after self.old.machine.state (model.Move path.now pid)))) }
         ensures err { OnErr result (self.new ≡ self.old) }
     {
         let named = path.copy(self.alloc.clone()?)?;

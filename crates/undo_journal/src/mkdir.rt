@@ -8,6 +8,7 @@ ghost use Rattle.flat_model.specs.Machine.{recorded};
 ghost use Rattle.flat_model.specs.Command as model;
 ghost use Rattle.undo_journal.specs.Answer.{Answers};
 ghost use Rattle.undo_journal.specs.History.{IsReady};
+ghost use Rattle.undo_journal.specs.Timeline.{becomes};
 
 use crate::command::Command;
 use crate::engine::Engine;
@@ -22,8 +23,8 @@ use std::alloc::{AllocError, Allocator};
 impl<A: Allocator + Clone, M: Meter> Engine<A, M> {
     /// Makes a group that may be made, and records it.
     fn add_group<B: Allocator + Clone>(&mut self, path: &GroupPath<B>) -> Result<(), AllocError>
-        requires { refusal M.SLOTS self.old.state (model.MakeGroup path.now) ≡ None }
-        ensures ok { OnOk result (self.new ≡ recorded self.old (model.MakeGroup path.now) (after self.old.state (model.MakeGroup path.now))) }
+        requires { refusal M.SLOTS self.old.machine.state (model.MakeGroup path.now) ≡ None }
+        ensures ok { OnOk result (self.new ≡ becomes self.old (recorded self.old.machine (model.MakeGroup path.now) (after self.old.machine.state (model.MakeGroup path.now)))) }
         ensures err { OnErr result (self.new ≡ self.old) }
     {
         let named = path.copy(self.alloc.clone()?)?;

@@ -18,8 +18,8 @@ impl<A: Allocator + Clone, M: Meter> Engine<A, M> {
     /// How many processes are at or below a group. None for the root, and if the group doesn't exist. Costs one descent
     /// of the tree, and allocates nothing.
     pub fn current<B: Allocator + Clone>(&mut self, path: &GroupPath<B>) -> Option<u64>
-        ensures some { is_some result ≡ (not (is_root path.now) && is_group self.old.state path.now) }
-        ensures count { IfSome result (λ n. n ≡ flat.current self.old.state path.now) }
+        ensures some { is_some result ≡ (not (is_root path.now) && is_group self.old.machine.state path.now) }
+        ensures count { IfSome result (λ n. n ≡ flat.current self.old.machine.state path.now) }
         ensures kept { self.new ≡ self.old }
     {
         self.charges.current(path)
@@ -28,8 +28,8 @@ impl<A: Allocator + Clone, M: Meter> Engine<A, M> {
     /// Whether a process is at or below a group. None for the root, and if the group doesn't exist. Costs one descent
     /// of the tree, and allocates nothing.
     pub fn populated<B: Allocator + Clone>(&mut self, path: &GroupPath<B>) -> Option<bool>
-        ensures some { is_some result ≡ (not (is_root path.now) && is_group self.old.state path.now) }
-        ensures told { IfSome result (λ b. b ≡ flat.populated self.old.state path.now) }
+        ensures some { is_some result ≡ (not (is_root path.now) && is_group self.old.machine.state path.now) }
+        ensures told { IfSome result (λ b. b ≡ flat.populated self.old.machine.state path.now) }
         ensures kept { self.new ≡ self.old }
     {
         self.charges.populated(path)
@@ -48,7 +48,7 @@ impl<A: Allocator + Clone, M: Meter> Engine<A, M> {
         path: &GroupPath<P>,
         file: File,
     ) -> Result<Vec<u8, B>, ShowFault>
-        ensures shown { Shows M.SLOTS self.old.state path.now (file_of file) result }
+        ensures shown { Shows M.SLOTS self.old.machine.state path.now (file_of file) result }
         ensures kept { self.new ≡ self.old }
     {
         render(alloc, &mut self.charges, path, file)

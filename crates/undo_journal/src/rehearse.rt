@@ -96,7 +96,7 @@ impl<A: Allocator + Clone, M: Meter> Engine<A, M> {
         cmds: &[Command<A>],
     ) -> Result<Vec<Reply<Global>>, AllocError>
         requires { M.SLOTS ≡ ⟦<PlainMeter<B> as Meter>⟧.SLOTS }
-        ensures { IfOk result (λ said. map reply_of said.items ≡ map Some (replies M.SLOTS self.now (map command_of cmds.now))) }
+        ensures { IfOk result (λ said. map reply_of said.items ≡ map Some (replies M.SLOTS self.now.machine (map command_of cmds.now))) }
     {
         let mut copy = self.copy(arena)?;
         let mut said = Vec::new(out);

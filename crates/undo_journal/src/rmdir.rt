@@ -9,6 +9,7 @@ ghost use Rattle.flat_model.specs.Command as model;
 ghost use Rattle.group_tree.specs.Flat.{group_of};
 ghost use Rattle.undo_journal.specs.Answer.{Answers};
 ghost use Rattle.undo_journal.specs.History.{IsReady};
+ghost use Rattle.undo_journal.specs.Timeline.{becomes};
 
 use crate::command::Command;
 use crate::engine::Engine;
@@ -24,8 +25,8 @@ use std::alloc::{AllocError, Allocator};
 impl<A: Allocator + Clone, M: Meter> Engine<A, M> {
     /// Removes a group that may be removed, and records it with its attributes.
     fn take_group<B: Allocator + Clone>(&mut self, path: &GroupPath<B>) -> Result<(), AllocError>
-        requires { refusal M.SLOTS self.old.state (model.RemoveGroup path.now) ≡ None }
-        ensures ok { OnOk result (self.new ≡ recorded self.old (model.RemoveGroup path.now) (after self.old.state (model.RemoveGroup path.now))) }
+        requires { refusal M.SLOTS self.old.machine.state (model.RemoveGroup path.now) ≡ None }
+        ensures ok { OnOk result (self.new ≡ becomes self.old (recorded self.old.machine (model.RemoveGroup path.now) (after self.old.machine.state (model.RemoveGroup path.now)))) }
         ensures err { OnErr result (self.new ≡ self.old) }
     {
         let named = path.copy(self.alloc.clone()?)?;

@@ -8,6 +8,7 @@ ghost use Rattle.undo_journal.specs.CommandMeaning.{inverse_of};
 ghost use Rattle.undo_journal.specs.Answer.{Answers, needs_no_memory, undoes_without_memory};
 ghost use Rattle.undo_journal.specs.Headline.{UndoesAll};
 ghost use Rattle.undo_journal.specs.History.{IsReady};
+ghost use Rattle.undo_journal.specs.Timeline.{becomes};
 
 use crate::engine::Engine;
 use crate::exit::undo_exit;
@@ -68,7 +69,7 @@ impl<A: Allocator + Clone, M: Meter> Engine<A, M> {
     ) -> Result<Reply<A>, AllocError>
         ensures ok { IfOk result (λ reply. Answers M.SLOTS self.old model.Undo reply self.new) }
         ensures err { OnErr result (self.new ≡ self.old) }
-        ensures certain { undoes_without_memory M.SLOTS self.old.past ≡ true → IsOk result }
+        ensures certain { undoes_without_memory M.SLOTS self.old.machine.past ≡ true → IsOk result }
     {
         let Some(entry) = self.journal.last() else {
             return Ok(Reply::NothingToUndo);
@@ -82,7 +83,7 @@ impl<A: Allocator + Clone, M: Meter> Engine<A, M> {
 
     /// Undoes the newest recorded command, if there is one.
     fn undo_one<S: Settler>(&mut self, settler: &S, who: u8) -> Result<(), AllocError>
-        ensures ok { OnOk result (self.new ≡ (tick M.SLOTS self.old model.Undo).0) }
+        ensures ok { OnOk result (self.new ≡ becomes self.old (tick M.SLOTS self.old.machine model.Undo).0) }
         ensures err { OnErr result (self.new ≡ self.old) }
     {
         let _undone = self.take_newest_back(settler, who)?;

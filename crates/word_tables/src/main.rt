@@ -1,4 +1,4 @@
-//! Prints the table of Makhloeum's words: files, commands, refusals, faults and numbers.
+//! Prints the table of Makhloeum's words: files, commands, refusals, faults, statuses and numbers.
 //!
 //! - Each line is a row: the name of its table, and its columns, with one tab between them. Lines that begin with `#` explain
 //!   the tables. `-` is an empty column.
@@ -17,6 +17,7 @@ mod files;
 mod numbers;
 mod paths;
 mod refusals;
+mod statuses;
 
 use std::alloc::Global;
 
@@ -33,5 +34,6 @@ fn main(rt: HostRuntime) -> anyhow::Result<()> {
     refusals::print(&rt, alloc)?;
     faults::print(&rt, alloc)?;
     paths::print(&rt)?;
+    statuses::print(&rt)?;
     numbers::print(&rt)
 }

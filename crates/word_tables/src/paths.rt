@@ -1,5 +1,8 @@
 //! The table of faults of a path.
 
+ghost use Rattle.std.specs.Prelude.{◌≡◌};
+ghost use Rattle.line_engine.specs.PathFaults.{number_of};
+
 use group_path::PathFault;
 use std::io::Print;
 
@@ -16,7 +19,9 @@ const FAULTS: [PathFault; 8] = [
 ];
 
 // The library's number; 0 for out of memory, which is not a fault of the text.
-fn number(fault: PathFault) -> u32 {
+fn number(fault: PathFault) -> u32
+    ensures { result ≡ number_of fault }
+{
     match fault {
         PathFault::OutOfMemory => 0,
         PathFault::NotRooted => 1,

@@ -40,7 +40,7 @@ ghost use Rattle.flat_model.specs.Command.{Move, SetLimit, Kill, Show, NotReadab
 ghost use Rattle.flat_model.specs.Step.{refusal};
 ghost use Rattle.flat_model.specs.Trace.{read_line, Run, Fault, BadDirection};
 
-/// The eleven files: the name, whether the root has it, whether it can be read, whether it can be
+/// The table of files: the name, whether the root has it, whether it can be read, whether it can be
 /// written.
 pub fn table_of_files()
     ensures { map {B = List ℕ × Bool × Bool × Bool}

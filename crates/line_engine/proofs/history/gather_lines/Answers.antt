@@ -6,9 +6,9 @@ use Rattle.line_engine.proofs.history.gather_lines.Goals as goal
 
 pub loop-place-preserved : goal.loop-place-preserved
 loop-place-preserved c =
-    line_more c.args.engine.now.past c.loop-place.place (command_of c.in-Some.command.now) c.loop-place.bytes.items c.extend_from_slice.new.self.items c.push.new.self.items c.as_slice.result.now
-    (lines_bytes (history_from c.args.engine.now.past c.args.from)) c.in-Some.ensures (c.as_slice.ensures.value ∙ c.in_ok-text.ensures) (search rules) c.in_ok-push.ensures.items c.loop-place.invariant
+    line_more c.args.engine.now.machine.past c.loop-place.place (command_of c.in-Some.command.now) c.loop-place.bytes.items c.extend_from_slice.new.self.items c.push.new.self.items c.as_slice.result.now
+    (lines_bytes (history_from c.args.engine.now.machine.past c.args.from)) c.in-Some.ensures (c.as_slice.ensures.value ∙ c.in_ok-text.ensures) (search rules) c.in_ok-push.ensures.items c.loop-place.invariant
 
 pub returns : goal.returns
 returns c =
-    lines_all c.args.engine.now.past c.loop-place.place c.loop-place.bytes.items (lines_bytes (history_from c.args.engine.now.past c.args.from)) (search rules) c.loop-place.invariant
+    lines_all c.args.engine.now.machine.past c.loop-place.place c.loop-place.bytes.items (lines_bytes (history_from c.args.engine.now.machine.past c.args.from)) (search rules) c.loop-place.invariant

@@ -1,4 +1,4 @@
-use Rattle.std.proofs.Common.{◌≡◌, ℕ, ◌+◌, length, sum_by, ap, ◌∙◌, arith}
+use Rattle.std.proofs.Common.{◌≡◌, ℕ, length, sum_by, ap, ◌∙◌, arith}
 use Rattle.snzi_tokens.specs.Listed.{one_at}
 use Rattle.pids_charge.specs.Content.{Content}
 use Rattle.pids_charge.specs.Recount.{with_charges}

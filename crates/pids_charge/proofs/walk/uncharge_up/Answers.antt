@@ -1,7 +1,7 @@
 use Rattle.std.proofs.Common.{◌≡◌, ℕ, ◌+◌, ◌-◌, length, ap, arith, sym, ◌∙◌}
 use Rattle.flat_model.specs.Path.{Path}
 use Rattle.pids_charge.specs.Recount.{chain_at}
-use Rattle.pids_charge.proofs.Downward.{one_at-here}
+use Rattle.pids_charge.proofs.OneMore.{one_at-here}
 use Rattle.pids_charge.proofs.Upward.{step_up, at_own}
 use Rattle.pids_charge.proofs.walk.uncharge_up.Goals as goal
 

@@ -8,27 +8,27 @@ use Rattle.group_tree.proofs.node.Node.+push_chain.Goals as goal
 
 pub push_chain-requires : goal.push_chain-requires
 push_chain-requires g t c κs within =
-    let node = opened _ _ _ _ c.deref-inner.ensures c.self.view_is c.self.invariant in
+    let node = opened _ _ _ _ c.deref-inner.ensures c.self.view_is c.self.invariant.0 in
     let smaller = child_at_smaller _ _ _ _ _ _ _ node.view_is node.invariant.ascending c.deref.ensures.value c.index-child.ensures c.in-Ok.ensures.bound in
     (falls_child _ _ _ c.decreases smaller, search (rules, within))
 
 pub returns-in-None-clause-chain : goal.returns-in-None-clause-chain
-returns-in-None-clause-chain g t c = chain_here _ _ _ _ _ _ c.self.view_is c.self.invariant.ascending c.in-None.ensures.steps.0
+returns-in-None-clause-chain g t c = chain_here _ _ _ _ _ _ c.self.view_is c.self.invariant.0.ascending c.in-None.ensures.steps.0
 
 pub returns-then-not-branch-clause-chain : goal.returns-then-not-branch-clause-chain
 returns-then-not-branch-clause-chain g t c =
-    let node = opened _ _ _ _ c.deref-inner.ensures c.self.view_is c.self.invariant in
+    let node = opened _ _ _ _ c.deref-inner.ensures c.self.view_is c.self.invariant.0 in
     sym (find_down _ _ _ _ _ _ _ _ _ _ node.view_is node.invariant.ascending c.in-Some.ensures.steps c.in-Ok.ensures.value
     c.deref.ensures.value c.index-child.ensures) ∙ at_false _ _ _ c.if-not-branch.true c.in_ok-push_chain-in-Ok.ensures.chain
 
 pub returns-in-Err-clause-chain : goal.returns-in-Err-clause-chain
 returns-in-Err-clause-chain g t c =
-    let node = opened _ _ _ _ c.deref-inner.ensures c.self.view_is c.self.invariant in
+    let node = opened _ _ _ _ c.deref-inner.ensures c.self.view_is c.self.invariant.0 in
     sym (find_none _ _ _ _ _ _ _ _ _ node.view_is node.invariant.ascending c.in-Some.ensures.steps c.in-Err.ensures.value c.deref.ensures.value)
 
 pub returns-in_ok-push-in-Ok-clause-chain : goal.returns-in_ok-push-in-Ok-clause-chain
 returns-in_ok-push-in-Ok-clause-chain g t c =
-    let node = opened _ _ _ _ c.deref-inner.ensures c.self.view_is c.self.invariant in
+    let node = opened _ _ _ _ c.deref-inner.ensures c.self.view_is c.self.invariant.0 in
     chain_step _ _ _ _ _ _ _ _ _ _ _ _ _ _ node.view_is node.invariant.ascending c.in-Some.ensures.steps c.in-Ok.ensures.value
     c.deref.ensures.value c.index-child.ensures c.attr-attr.ensures
     (at_true _ _ _ c.if-not-branch.false c.in_ok-push_chain-in-Ok.ensures.chain) c.in_ok-push-in-Ok.ensures.ok
@@ -57,12 +57,12 @@ returns-in_ok-push-in-Ok-clause-absent g t c = λ none. not_both _ _ (returns-in
 
 pub returns-in_err-push_chain-in-Ok-clause-absent : goal.returns-in_err-push_chain-in-Ok-clause-absent
 returns-in_err-push_chain-in-Ok-clause-absent g t c =
-    let node = opened _ _ _ _ c.deref-inner.ensures c.self.view_is c.self.invariant in
+    let node = opened _ _ _ _ c.deref-inner.ensures c.self.view_is c.self.invariant.0 in
     λ none. let e = c.in_err-push_chain-in-Ok.ensures.absent (find_down _ _ _ _ _ _ _ _ _ _ node.view_is node.invariant.ascending
     c.in-Some.ensures.steps c.in-Ok.ensures.value c.deref.ensures.value c.index-child.ensures ∙ none) in cc
 
 pub returns-in_err-push-in-Ok-clause-absent : goal.returns-in_err-push-in-Ok-clause-absent
 returns-in_err-push-in-Ok-clause-absent g t c =
-    let node = opened _ _ _ _ c.deref-inner.ensures c.self.view_is c.self.invariant in
+    let node = opened _ _ _ _ c.deref-inner.ensures c.self.view_is c.self.invariant.0 in
     λ none. not_both _ _ (at_true _ _ _ c.if-not-branch.false c.in_ok-push_chain-in-Ok.ensures.chain).0
     (find_down _ _ _ _ _ _ _ _ _ _ node.view_is node.invariant.ascending c.in-Some.ensures.steps c.in-Ok.ensures.value c.deref.ensures.value c.index-child.ensures ∙ none)

@@ -5,6 +5,6 @@ use Rattle.line_engine.proofs.engine.LineEngine.groups.Goals as goal
 
 pub returns : goal.returns
 returns c =
-    let s = c.args.self.now.engine.state in
+    let s = c.args.self.now.engine.machine.state in
     let root : c.in-Ok.root ≡ [] = search rules in
     subst (λ (p : Path). TellsAll (paths_bytes (subtree s p)) (length (subtree s p)) c.subtree_from.new.out c.subtree_from.result) root c.subtree_from.ensures

@@ -6,8 +6,8 @@ use Rattle.line_engine.proofs.engine.LineEngine.history.Goals as goal
 
 pub returns : goal.returns
 returns c =
-    let told = history_from c.args.self.now.engine.past c.args.from in
+    let told = history_from c.args.self.now.engine.machine.past c.args.from in
     told_all (lines_bytes told) c.as_slice.result.now c.put_listing.new.out (length told) c.saturating_sub-count.result c.put_listing.result
     (c.as_slice.ensures.value ∙ c.in-Ok.ensures)
-    (c.saturating_sub-count.ensures ∙ ap (λ n. n - c.args.from) c.depth.ensures ∙ length-history c.args.self.now.engine.past c.args.from)
+    (c.saturating_sub-count.ensures ∙ ap (λ n. n - c.args.from) c.depth.ensures ∙ length-history c.args.self.now.engine.machine.past c.args.from)
     c.put_listing.ensures

@@ -7,6 +7,7 @@ use Rattle.group_tree.specs.Flat.{group_of}
 use Rattle.pids_charge.specs.Recount.{state_of}
 use Rattle.pids_charge.proofs.Asked.{group-at, process-is}
 use Rattle.pids_charge.proofs.Changes.{parents_stay, slots_stay, charges_stay}
+use Rattle.pids_charge.proofs.Charged.{found_placed}
 use Rattle.pids_charge.proofs.Forked.{home_at}
 use Rattle.pids_charge.proofs.charges.Charges.count_fork.Goals as goal
 
@@ -20,6 +21,12 @@ pub count_refusal-requires-clause-at : goal.count_refusal-requires-clause-at
 count_refusal-requires-clause-at g c =
     let at_home = home_at _ _ _ _ _ c.self.invariant.recounted c.args.self.now c.self.view_is c.args.parent c.in-Some.process.now (sym c.find_row.ensures ∙ ap option_copied c.in-Some.is) in
     subst (λ (q : Path). c.args.n ≤ length q) at_home c.requires.at
+
+pub count_refusal-requires-clause-home : goal.count_refusal-requires-clause-home
+count_refusal-requires-clause-home g c = (found_placed _ _ _ _ _ c.self.invariant.recounted c.args.parent c.in-Some.process.now (sym c.find_row.ensures ∙ ap option_copied c.in-Some.is)).home
+
+pub count_refusal-requires-clause-slot : goal.count_refusal-requires-clause-slot
+count_refusal-requires-clause-slot g c = (found_placed _ _ _ _ _ c.self.invariant.recounted c.args.parent c.in-Some.process.now (sym c.find_row.ensures ∙ ap option_copied c.in-Some.is)).slot
 
 pub count_refusal-requires-clause-room : goal.count_refusal-requires-clause-room
 count_refusal-requires-clause-room g c = λ q a e. c.requires.room q (group_of a) (group-at c.args.self.now c.self.inside.tree c.self.inside.processes c.self.view_is q a e)

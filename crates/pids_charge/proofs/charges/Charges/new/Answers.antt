@@ -19,7 +19,7 @@ invariant_of-result g c =
     (vec_capacity c.in_ok-free.free) (g.M.Meter.content c.args.meter) (g.M.Meter.held c.args.meter)) (sym es)
     (started c.new.result c.in_ok-tree.tree c.in_ok-tree.ensures x c.in_ok-home.ensures g.M.Meter.SLOTS g.M.Meter.LEAVES
     (vec_capacity c.in_ok-free.free) c.in_ok-free.free.items c.in_ok-parents.parents (g.M.Meter.content c.args.meter) (g.M.Meter.held c.args.meter)
-    (rw (← c.tree.view_is) c.tree.invariant)
+    c.known.ensures.closed
     (ap length c.in_ok-parents.ensures ∙ length-replicate c.SLOTS.result 0 ∙ c.SLOTS.ensures)
     (subst (λ n. AreAllFree n c.in_ok-free.free.items) c.SLOTS-2.ensures c.in_ok-free.ensures.free) (omega (
       arith,

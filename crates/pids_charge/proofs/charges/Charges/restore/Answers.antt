@@ -5,9 +5,11 @@ use Rattle.flat_model.specs.Path.{parent}
 use Rattle.group_tree.specs.declared.attr.Attr.{Attr}
 use Rattle.group_tree.specs.Groups.{Groups, IsClosed}
 use Rattle.pids_charge.specs.Recount.{HasParents, HasSlots}
-use Rattle.pids_charge.proofs.Slots.{has_slots, has_parents, was_free, last-is, kept}
+use Rattle.group_tree.specs.Flat.{group_of}
+use Rattle.pids_charge.proofs.InRows.{in_that_case}
+use Rattle.pids_charge.proofs.Slots.{has_names, has_slots, has_parents, not_mapped, not_used, was_free, last-is, kept}
 use Rattle.pids_charge.proofs.Charged.{grown_tree}
-use Rattle.pids_charge.proofs.Asked.{len-is, inserted, there-is}
+use Rattle.pids_charge.proofs.Asked.{group-get, len-is, there-is}
 use Rattle.pids_charge.proofs.Limited.{written-is}
 use Rattle.pids_charge.proofs.charges.Charges.restore.Goals as goal
 
@@ -21,6 +23,45 @@ index-slot-requires g c =
 
 pub slot_above-above-requires-clause-parent : goal.slot_above-above-requires-clause-parent
 slot_above-above-requires-clause-parent g c = there-is c.args.self.now c.self.inside.tree c.self.inside.processes c.self.view_is (parent c.args.path.now) c.requires.parent
+
+pub slot_above-above-requires-clause-below_root : goal.slot_above-above-requires-clause-below_root
+slot_above-above-requires-clause-below_root g c = has_names c.self.inside.tree c.self.invariant.has_slots.closed c.args.path.now
+    (not_mapped group_of (fin.get c.self.inside.tree c.args.path.now) (group-get c.args.self.now c.self.inside.tree c.self.inside.processes c.self.view_is c.args.path.now ∙ c.requires.new))
+
+pub insert-made-requires-clause-few : goal.insert-made-requires-clause-few
+insert-made-requires-clause-few g c =
+    let h = c.self.invariant.has_slots in
+    let free : List ℕ = c.self.inside.free.items in
+    let pos : 0 < length free = omega (arith, h.whole, len-is c.self.inside.tree c.self.inside.processes c.args.self.now c.self.view_is, c.requires.slot) in
+    let many : c.len-last.result ≡ length free = omega (arith, c.len-last.ensures) in
+    let now : ℕ = c.index-slot.result.now in
+    let split : free ≡ take (length free - 1) free ++ now ∷ [] =
+    last-is free now now pos (sym (c.index-slot.ensures ∙ ap (λ n. get_or free (n - 1) now) many)) in
+    omega (arith, was_free g.M.Meter.SLOTS c.self.inside.tree free h now (take (length free - 1) free) split, h.few)
+
+pub insert-made-requires-clause-below_root : goal.insert-made-requires-clause-below_root
+insert-made-requires-clause-below_root g c = has_names c.self.inside.tree c.self.invariant.has_slots.closed c.args.path.now
+    (not_mapped group_of (fin.get c.self.inside.tree c.args.path.now) (group-get c.args.self.now c.self.inside.tree c.self.inside.processes c.self.view_is c.args.path.now ∙ c.requires.new))
+
+pub insert-made-requires-clause-absent : goal.insert-made-requires-clause-absent
+insert-made-requires-clause-absent g c =
+    not_mapped group_of (fin.get c.self.inside.tree c.args.path.now) (group-get c.args.self.now c.self.inside.tree c.self.inside.processes c.self.view_is c.args.path.now ∙ c.requires.new)
+
+pub insert-made-requires-clause-parent : goal.insert-made-requires-clause-parent
+insert-made-requires-clause-parent g c = there-is c.args.self.now c.self.inside.tree c.self.inside.processes c.self.view_is (parent c.args.path.now) c.requires.parent
+
+pub insert-made-requires-clause-free : goal.insert-made-requires-clause-free
+insert-made-requires-clause-free g c =
+    let h = c.self.invariant.has_slots in
+    let free : List ℕ = c.self.inside.free.items in
+    let pos : 0 < length free = omega (arith, h.whole, len-is c.self.inside.tree c.self.inside.processes c.args.self.now c.self.view_is, c.requires.slot) in
+    let many : c.len-last.result ≡ length free = omega (arith, c.len-last.ensures) in
+    let now : ℕ = c.index-slot.result.now in
+    let split : free ≡ take (length free - 1) free ++ now ∷ [] =
+    last-is free now now pos (sym (c.index-slot.ensures ∙ ap (λ n. get_or free (n - 1) now) many)) in
+    let x : Attr = record { limits = c.args.attr.limits; local = c.args.attr.local; total = c.args.attr.total; peak = c.args.attr.peak; slot = c.index-slot.result.now } in
+    let gone = not_mapped group_of (fin.get c.self.inside.tree c.args.path.now) (group-get c.args.self.now c.self.inside.tree c.self.inside.processes c.self.view_is c.args.path.now ∙ c.requires.new) in
+    λ q named there. not_used g.M.Meter.SLOTS c.self.inside.tree free h c.args.path.now x (take (length free - 1) free) split gone q named there
 
 pub set-requires : goal.set-requires
 set-requires g c =
@@ -38,7 +79,8 @@ invariant_of-self-2 g c =
     let h = c.self.invariant.has_slots in
     let free : List ℕ = c.self.inside.free.items in
     let x : Attr = record { limits = c.args.attr.limits; local = c.args.attr.local; total = c.args.attr.total; peak = c.args.attr.peak; slot = c.index-slot.result.now } in
-    let done = inserted c.self.inside.tree c.insert-made.new.self c.args.path.now x c.insert-made.result c.insert-made.ensures (sym c.is_err.ensures.value ∙ c.if-is_err.false) in
+    let absent = not_mapped group_of (fin.get c.self.inside.tree c.args.path.now) (group-get c.args.self.now c.self.inside.tree c.self.inside.processes c.self.view_is c.args.path.now ∙ c.requires.new) in
+    let grown = in_that_case c.insert-made.result (sym c.is_err.ensures.value ∙ c.if-is_err.false) c.insert-made.ensures.made in
     let pos : 0 < length free = omega (arith, h.whole, len-is c.self.inside.tree c.self.inside.processes c.args.self.now c.self.view_is, c.requires.slot) in
     let many : c.len-last.result ≡ length free = omega (arith, c.len-last.ensures) in
     let now : ℕ = c.index-slot.result.now in
@@ -46,23 +88,24 @@ invariant_of-self-2 g c =
     last-is free now now pos (sym (c.index-slot.ensures ∙ ap (λ n. get_or free (n - 1) now) many)) in
     let gone : c.truncate.new.self.items ≡ take (length free - 1) free = c.truncate.ensures.items ∙ ap (λ n. take (n - 1) free) many in
     let made : HasSlots g.M.Meter.SLOTS (fin.insert c.self.inside.tree c.args.path.now x) (take (length free - 1) free) =
-    has_slots g.M.Meter.SLOTS c.self.inside.tree free h c.args.path.now x (take (length free - 1) free) split done.0 (subst IsClosed done.1 c.known-3.ensures.closed) c.known.ensures.shallow in
+    has_slots g.M.Meter.SLOTS c.self.inside.tree free h c.args.path.now x (take (length free - 1) free) split absent (subst IsClosed grown c.known-3.ensures.closed) c.known.ensures.shallow in
     record {
-      has_slots = subst (λ (t : Groups). HasSlots g.M.Meter.SLOTS t c.truncate.new.self.items) (sym done.1)
+      has_slots = subst (λ (t : Groups). HasSlots g.M.Meter.SLOTS t c.truncate.new.self.items) (sym grown)
           (subst (λ (f : List ℕ). HasSlots g.M.Meter.SLOTS (fin.insert c.self.inside.tree c.args.path.now x) f) (sym gone) made);
       has_parents = subst (HasParents g.M.Meter.SLOTS c.insert-made.new.self) (sym c.set.ensures)
-          (subst (λ (t : Groups). HasParents g.M.Meter.SLOTS t (slice_set c.self.inside.parents x.slot c.slot_above-above.result)) (sym done.1)
-          (has_parents g.M.Meter.SLOTS c.self.inside.tree free h c.args.path.now x (take (length free - 1) free) split done.0 h.closed
+          (subst (λ (t : Groups). HasParents g.M.Meter.SLOTS t (slice_set c.self.inside.parents x.slot c.slot_above-above.result)) (sym grown)
+          (has_parents g.M.Meter.SLOTS c.self.inside.tree free h c.args.path.now x (take (length free - 1) free) split absent h.closed
           (there-is c.args.self.now c.self.inside.tree c.self.inside.processes c.self.view_is (parent c.args.path.now) c.requires.parent)
           c.self.inside.parents c.slot_above-above.result c.slot_above-above.ensures c.self.invariant.has_parents));
       room = omega (arith, c.self.invariant.room, c.truncate.ensures.capacity);
       recounted = grown_tree g.M.Meter.LEAVES c.self.inside.tree c.self.inside.processes (g.M.Meter.content c.self.inside.meter)
           (g.M.Meter.held c.self.inside.meter) c.self.invariant.recounted c.insert-made.new.self
-          (λ q i. ap (λ (t : Groups). fin.get t q) done.1 ∙ kept c.self.inside.tree c.args.path.now x done.0 q i) c.known-2.ensures.prefixes;
+          (λ q i. ap (λ (t : Groups). fin.get t q) grown ∙ kept c.self.inside.tree c.args.path.now x absent q i) c.known-2.ensures.prefixes;
     }
 
 pub returns-clause-restored : goal.returns-clause-restored
 returns-clause-restored g c =
     let x : Attr = record { limits = c.args.attr.limits; local = c.args.attr.local; total = c.args.attr.total; peak = c.args.attr.peak; slot = c.index-slot.result.now } in
-    let done = inserted c.self.inside.tree c.insert-made.new.self c.args.path.now x c.insert-made.result c.insert-made.ensures (sym c.is_err.ensures.value ∙ c.if-is_err.false) in
-    written-is c.args.self.now c.self.inside.tree c.self.inside.processes c.self.view_is c.insert-made.new.self c.args.path.now x done.1
+    let absent = not_mapped group_of (fin.get c.self.inside.tree c.args.path.now) (group-get c.args.self.now c.self.inside.tree c.self.inside.processes c.self.view_is c.args.path.now ∙ c.requires.new) in
+    let grown = in_that_case c.insert-made.result (sym c.is_err.ensures.value ∙ c.if-is_err.false) c.insert-made.ensures.made in
+    written-is c.args.self.now c.self.inside.tree c.self.inside.processes c.self.view_is c.insert-made.new.self c.args.path.now x grown

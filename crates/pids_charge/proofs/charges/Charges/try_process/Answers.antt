@@ -1,9 +1,9 @@
-use Rattle.std.proofs.Common.{◌≡◌, ℕ, ◌+◌, ◌%◌, ◌≤◌, ◌<◌, [], Some, None, Option, List, IsSome, is_some, option_copied, option_map, unwrap_or, length, arith, sym, ap, ◌∙◌, subst}
+use Rattle.std.proofs.Common.{◌≡◌, ℕ, ◌%◌, ◌≤◌, ◌<◌, [], Some, None, Option, List, IsSome, is_some, option_copied, option_map, unwrap_or, length, arith, sym, ap, ◌∙◌, subst}
 use Rattle.std.proofs.lemmas.Bool.{false≢true}
 use Rattle.std.specs.FinMap as fin
 use Rattle.flat_model.specs.Path.{Path}
 use Rattle.flat_model.specs.Step.{home_of, peaks_upward}
-use Rattle.pids_charge.specs.Lists.{Row}
+use Rattle.pids_charge.specs.Lists.{Row, table_slot}
 use Rattle.pids_charge.specs.Peaks.{IsNoted, raised_by}
 use Rattle.pids_charge.specs.Recount.{Recounted, with_charges}
 use Rattle.process_table.specs.declared.process.Process.{Process}
@@ -20,24 +20,33 @@ unreachable-requires g c =
     c.args.parent ∙ ap is_some (sym c.find_row.ensures ∙ ap option_copied c.in_default.is) in
     absurd (false≢true (sym gone ∙ c.requires.parent))
 
-pub look_along-requires-clause-home : goal.look_along-requires-clause-home
-look_along-requires-clause-home g c = (found_placed _ _ _ _ _ c.self.invariant.recounted c.args.parent c.in-Some.from.now (sym c.find_row.ensures ∙ ap option_copied c.in-Some.is)).home
+pub nearest_full-requires-clause-home : goal.nearest_full-requires-clause-home
+nearest_full-requires-clause-home g c = (found_placed _ _ _ _ _ c.self.invariant.recounted c.args.parent c.in-Some.from.now (sym c.find_row.ensures ∙ ap option_copied c.in-Some.is)).home
 
-pub returns-in-Some-look_along-clause-first : goal.returns-in-Some-look_along-clause-first
-returns-in-Some-look_along-clause-first g c =
+pub nearest_full-requires-clause-slot : goal.nearest_full-requires-clause-slot
+nearest_full-requires-clause-slot g c = (found_placed _ _ _ _ _ c.self.invariant.recounted c.args.parent c.in-Some.from.now (sym c.find_row.ensures ∙ ap option_copied c.in-Some.is)).slot
+
+pub note_up-notes-requires-clause-home : goal.note_up-notes-requires-clause-home
+note_up-notes-requires-clause-home g c = (found_placed _ _ _ _ _ c.self.invariant.recounted c.args.parent c.in-Some.from.now (sym c.find_row.ensures ∙ ap option_copied c.in-Some.is)).home
+
+pub note_up-notes-requires-clause-slot : goal.note_up-notes-requires-clause-slot
+note_up-notes-requires-clause-slot g c = (found_placed _ _ _ _ _ c.self.invariant.recounted c.args.parent c.in-Some.from.now (sym c.find_row.ensures ∙ ap option_copied c.in-Some.is)).slot
+
+pub returns-in-Some-nearest_full-clause-first : goal.returns-in-Some-nearest_full-clause-first
+returns-in-Some-nearest_full-clause-first g c =
     let found = sym c.find_row.ensures ∙ ap option_copied c.in-Some.is in
     fork_asks g.M.Meter.SLOTS g.M.Meter.LEAVES c.self.inside.tree c.self.inside.processes (g.M.Meter.content c.self.inside.meter)
     (g.M.Meter.held c.self.inside.meter) c.self.invariant.recounted c.self.inside.free.items c.self.invariant.has_slots
     c.known.ensures.prefixes c.args.self.now c.self.view_is c.args.parent c.in-Some.from.now found c.args.child c.requires.child
-    (Some c.in-Some-look_along.n) (sym c.in-Some-look_along.is ∙ c.look_along.ensures.answer)
+    (Some c.in-Some-nearest_full.n) (sym c.in-Some-nearest_full.is ∙ c.nearest_full.ensures.answer)
 
-pub returns-in-Some-look_along-clause-limit : goal.returns-in-Some-look_along-clause-limit
-returns-in-Some-look_along-clause-limit g c = λ n e.
+pub returns-in-Some-nearest_full-clause-limit : goal.returns-in-Some-nearest_full-clause-limit
+returns-in-Some-nearest_full-clause-limit g c = λ n e.
     let found = sym c.find_row.ensures ∙ ap option_copied c.in-Some.is in
     let at_home = home_at _ _ _ _ _ c.self.invariant.recounted c.args.self.now c.self.view_is c.args.parent c.in-Some.from.now found in
-    let same : c.in-Some-look_along.n ≡ n = cc in
-    let inside = rw c.in-Some-look_along.is at c.look_along.ensures.inside in
-    subst (λ (m : ℕ). (0 < m) × (m ≤ length (home_of c.args.self.now c.args.parent))) same (inside.0, subst (λ (q : Path). c.in-Some-look_along.n ≤ length q) (sym at_home) inside.1)
+    let same : c.in-Some-nearest_full.n ≡ n = cc in
+    let inside = rw c.in-Some-nearest_full.is at c.nearest_full.ensures.inside in
+    subst (λ (m : ℕ). (0 < m) × (m ≤ length (home_of c.args.self.now c.args.parent))) same (inside.0, subst (λ (q : Path). c.in-Some-nearest_full.n ≤ length q) (sym at_home) inside.1)
 
 pub returns-in_default-admit-clause-first : goal.returns-in_default-admit-clause-first
 returns-in_default-admit-clause-first g c =
@@ -45,7 +54,7 @@ returns-in_default-admit-clause-first g c =
     fork_asks g.M.Meter.SLOTS g.M.Meter.LEAVES c.self.inside.tree c.self.inside.processes (g.M.Meter.content c.self.inside.meter)
     (g.M.Meter.held c.self.inside.meter) c.self.invariant.recounted c.self.inside.free.items c.self.invariant.has_slots
     c.known.ensures.prefixes c.args.self.now c.self.view_is c.args.parent c.in-Some.from.now found c.args.child c.requires.child None
-    (sym c.in_default-look_along.is ∙ c.look_along.ensures.answer)
+    (sym c.in_default-nearest_full.is ∙ c.nearest_full.ensures.answer)
 
 pub invariant_of-self-in_default-admit : goal.invariant_of-self-in_default-admit
 invariant_of-self-in_default-admit g c = record {
@@ -53,8 +62,8 @@ invariant_of-self-in_default-admit g c = record {
   has_parents = c.self.invariant.has_parents;
   room = c.self.invariant.room;
   recounted = subst (λ (rows : List (Row g.row.A.Denot)). Recounted g.M.Meter.LEAVES c.self.inside.tree rows
-      (g.M.Meter.content c.look_along.new.meter) (g.M.Meter.held c.look_along.new.meter)) (sym c.in_default-admit.ensures.kept)
-      (same_meter _ _ _ _ _ c.self.invariant.recounted (g.M.Meter.content c.look_along.new.meter) (g.M.Meter.held c.look_along.new.meter) c.look_along.ensures.content c.look_along.ensures.held);
+      (g.M.Meter.content c.nearest_full.new.meter) (g.M.Meter.held c.nearest_full.new.meter)) (sym c.in_default-admit.ensures.kept)
+      (same_meter _ _ _ _ _ c.self.invariant.recounted (g.M.Meter.content c.nearest_full.new.meter) (g.M.Meter.held c.nearest_full.new.meter) c.nearest_full.ensures.content c.nearest_full.ensures.held);
 }
 
 pub unreachable-requires-in_default-find_row : goal.unreachable-requires-in_default-find_row
@@ -74,15 +83,17 @@ charge_noted-requires g c =
     record {
       leaf_below = omega (arith, c.LEAVES.ensures, g.met.M.Meter.leaves_positive);
       home = subst (λ (q : Path). IsSome (fin.get tree q)) (sym same) placed.home;
+      slot = placed.slot ∙ ap (table_slot tree) (sym same);
       slots = c.self.invariant.has_slots.below;
+      parents = c.self.invariant.has_parents;
       room = omega (
         arith,
         ap length same,
         held_small _ _ _ _ _ c.self.invariant.recounted c.self.invariant.has_slots.shallow,
         c.self.invariant.has_slots.shallow from.home placed.home,
-        c.look_along.ensures.held,
+        c.nearest_full.ensures.held,
       );
-      noted = subst (λ (q : Path). IsNoted tree q c.look_along.new.notes) (sym same) c.look_along.ensures.noted;
+      noted = subst (λ (q : Path). IsNoted tree q c.note_up-notes.result) (sym same) c.note_up-notes.ensures;
     }
 
 pub invariant_of-self-2 : goal.invariant_of-self-2
@@ -91,8 +102,8 @@ invariant_of-self-2 g c =
     let es = c.self.inside.processes in
     let from = c.in-Some.from.now in
     let leaf = c.args.who % c.LEAVES.result in
-    let content = g.M.Meter.content c.look_along.new.meter in
-    let held = g.M.Meter.held c.look_along.new.meter in
+    let content = g.M.Meter.content c.nearest_full.new.meter in
+    let held = g.M.Meter.held c.nearest_full.new.meter in
     let found = sym c.find_row.ensures ∙ ap option_copied c.in-Some.is in
     let same : c.in-Some-find_row.process.now.home ≡ from.home =
     ap (λ (o : Option (Process g.row.A.Denot)). unwrap_or (option_map (λ p. p.home) o) []) (sym (ap option_copied c.in-Some-find_row.is)
@@ -103,7 +114,7 @@ invariant_of-self-2 g c =
       room = c.self.invariant.room;
       recounted = made_recounted g.M.Meter.SLOTS g.M.Meter.LEAVES tree c.charge_noted.new.tree es c.admit.new.processes content
           (g.M.Meter.content c.charge_noted.new.meter) held (g.M.Meter.held c.charge_noted.new.meter)
-          (same_meter _ _ _ _ _ c.self.invariant.recounted content held c.look_along.ensures.content c.look_along.ensures.held)
+          (same_meter _ _ _ _ _ c.self.invariant.recounted content held c.nearest_full.ensures.content c.nearest_full.ensures.held)
           c.self.inside.free.items c.self.invariant.has_slots c.charge_noted.ensures.slots
           c.args.child leaf from (found_placed _ _ _ _ _ c.self.invariant.recounted c.args.parent from found)
           (not_there c.args.self.now tree es c.self.view_is c.self.invariant.recounted.ordered c.args.child c.requires.child)
@@ -117,18 +128,18 @@ returns-clause-made g c =
     let es = c.self.inside.processes in
     let from = c.in-Some.from.now in
     let leaf = c.args.who % c.LEAVES.result in
-    let content = g.M.Meter.content c.look_along.new.meter in
-    let held = g.M.Meter.held c.look_along.new.meter in
+    let content = g.M.Meter.content c.nearest_full.new.meter in
+    let held = g.M.Meter.held c.nearest_full.new.meter in
     let found = sym c.find_row.ensures ∙ ap option_copied c.in-Some.is in
     let same : c.in-Some-find_row.process.now.home ≡ from.home =
     ap (λ (o : Option (Process g.row.A.Denot)). unwrap_or (option_map (λ p. p.home) o) []) (sym (ap option_copied c.in-Some-find_row.is)
     ∙ c.find_row-2.ensures ∙ c.in-Ok.ensures.found from found) in (
       fork_asks g.M.Meter.SLOTS g.M.Meter.LEAVES tree es (g.M.Meter.content c.self.inside.meter) (g.M.Meter.held c.self.inside.meter)
           c.self.invariant.recounted c.self.inside.free.items c.self.invariant.has_slots c.known.ensures.prefixes
-          c.args.self.now c.self.view_is c.args.parent from found c.args.child c.requires.child None (sym c.in_default-look_along.is ∙ c.look_along.ensures.answer),
+          c.args.self.now c.self.view_is c.args.parent from found c.args.child c.requires.child None (sym c.in_default-nearest_full.is ∙ c.nearest_full.ensures.answer),
       made_state g.M.Meter.SLOTS g.M.Meter.LEAVES tree c.charge_noted.new.tree es c.admit.new.processes content
           (g.M.Meter.content c.charge_noted.new.meter) held (g.M.Meter.held c.charge_noted.new.meter)
-          (same_meter _ _ _ _ _ c.self.invariant.recounted content held c.look_along.ensures.content c.look_along.ensures.held)
+          (same_meter _ _ _ _ _ c.self.invariant.recounted content held c.nearest_full.ensures.content c.nearest_full.ensures.held)
           c.self.inside.free.items c.self.invariant.has_slots c.charge_noted.ensures.slots
           c.args.child leaf from (found_placed _ _ _ _ _ c.self.invariant.recounted c.args.parent from found)
           (not_there c.args.self.now tree es c.self.view_is c.self.invariant.recounted.ordered c.args.child c.requires.child)
@@ -147,4 +158,4 @@ returns-clause-peaks g c =
     let at_home = home_at _ _ _ _ _ c.self.invariant.recounted c.args.self.now c.self.view_is c.args.parent c.in-Some.from.now found in
     c.in-Ok.ensures.peaks ∙ c.peaks.ensures
     ∙ noted c.self.inside.tree c.self.inside.processes c.args.self.now c.self.view_is c.in-Some.from.now.home
-    c.look_along.new.notes.peaks c.look_along.ensures.noted.peaks ∙ ap (peaks_upward c.args.self.now) (sym at_home)
+    c.note_up-notes.result.peaks c.note_up-notes.ensures.peaks ∙ ap (peaks_upward c.args.self.now) (sym at_home)

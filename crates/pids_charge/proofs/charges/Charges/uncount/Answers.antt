@@ -1,9 +1,8 @@
-use Rattle.std.proofs.Common.{◌≡◌, take, ap, ◌∙◌}
-use Rattle.std.proofs.Math.Seq.{take-length}
+use Rattle.std.proofs.Common.{ap, ◌∙◌}
 use Rattle.flat_model.specs.State.{State}
 use Rattle.flat_model.specs.Inverse.{back, Counted}
-use Rattle.flat_model.specs.Step.{at_each, count_down}
 use Rattle.pids_charge.specs.Recount.{state_of}
+use Rattle.pids_charge.proofs.Asked.{there-is}
 use Rattle.pids_charge.proofs.Changes.{parents_stay, slots_stay, charges_stay}
 use Rattle.pids_charge.proofs.charges.Charges.uncount.Goals as goal
 
@@ -16,8 +15,10 @@ invariant_of-self g c = record {
       c.self.inside.processes (g.M.Meter.content c.self.inside.meter) (g.M.Meter.held c.self.inside.meter) c.self.invariant.recounted;
 }
 
+pub uncount_refusal-requires-clause-group : goal.uncount_refusal-requires-clause-group
+uncount_refusal-requires-clause-group g c = there-is c.args.self.now c.self.inside.tree c.self.inside.processes c.self.view_is c.args.path.now c.requires.there
+
 pub returns : goal.returns
 returns g c =
-    let whole : take c.depth.result c.args.path.now ≡ c.args.path.now = ap (λ n. take n c.args.path.now) c.depth.ensures ∙ take-length c.args.path.now in
     let s : State = state_of c.self.inside.tree c.self.inside.processes in
-    c.uncount_refusal.ensures.counted s.home ∙ ap (λ p. at_each (count_down p) s) whole ∙ ap (λ (t : State). back (Counted c.args.path.now) t) c.self.view_is
+    c.uncount_refusal.ensures.counted s.home ∙ ap (λ (t : State). back (Counted c.args.path.now) t) c.self.view_is

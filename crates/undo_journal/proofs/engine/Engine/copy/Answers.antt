@@ -1,6 +1,6 @@
 use Rattle.std.proofs.Common.{◌≡◌, ℕ, map, ◌∙◌, subst}
 use Rattle.undo_journal.specs.History.{journal_entry, records, IsHistory}
-use Rattle.undo_journal.proofs.Copies.{same_machine, same_history}
+use Rattle.undo_journal.proofs.Copies.{same_timeline, same_history}
 use Rattle.pids_charge.specs.declared.plain.TheConstants.{SLOTS}
 use Rattle.undo_journal.proofs.engine.Engine.copy.Goals as goal
 
@@ -14,4 +14,4 @@ invariant_of-result g c =
 
 pub returns : goal.returns
 returns g c =
-    same_machine c.self.inside.charges c.in_ok-charges.charges c.self.inside.journal.items c.in_ok-journal.journal.items c.in_ok-charges.ensures (entries g c) ∙ c.self.view_is
+    same_timeline c.self.inside.charges c.in_ok-charges.charges c.self.inside.journal.items c.in_ok-journal.journal.items c.in_ok-charges.ensures (entries g c) c.self.inside.forgotten ∙ c.self.view_is

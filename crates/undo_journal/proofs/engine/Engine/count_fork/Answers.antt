@@ -3,10 +3,10 @@ use Rattle.flat_model.specs.Path.{Path}
 use Rattle.flat_model.specs.Command as model
 use Rattle.flat_model.specs.Counts.{has_process}
 use Rattle.flat_model.specs.Inverse as model_inverse
-use Rattle.flat_model.specs.Machine.{Machine}
 use Rattle.flat_model.specs.Step.{refusal, home_of}
 use Rattle.undo_journal.specs.Answer.{Answers}
-use Rattle.undo_journal.specs.History.{machine_of, journal_entry, records}
+use Rattle.undo_journal.specs.History.{timeline_of, journal_entry, records}
+use Rattle.undo_journal.specs.Timeline.{Timeline}
 use Rattle.undo_journal.specs.declared.journal.Entry.{Entry}
 use Rattle.undo_journal.specs.declared.command.Command.TheVariants.{Fork}
 use Rattle.undo_journal.specs.declared.inverse.Inverse.TheVariants.{Counted}
@@ -19,15 +19,15 @@ use Rattle.undo_journal.proofs.engine.Engine.count_fork.Goals as goal
 use Rattle.undo_journal.proofs.engine.Engine.count_fork.Goals.{In_ok-push}
 
 pub front_of_home-requires : goal.front_of_home-requires
-front_of_home-requires g c = parent_there g.M.Meter.SLOTS c.args.self.now.state c.args.parent c.args.child _ c.requires.refused
+front_of_home-requires g c = parent_there g.M.Meter.SLOTS c.args.self.now.machine.state c.args.parent c.args.child _ c.requires.refused
 
 pub count_fork-requires-clause-parent : goal.count_fork-requires-clause-parent
 count_fork-requires-clause-parent g c =
-    subst (λ (m : Machine). has_process m.state c.args.parent
-    ≡ true) (sym c.self.view_is) (parent_there g.M.Meter.SLOTS c.args.self.now.state c.args.parent c.args.child _ c.requires.refused)
+    subst (λ (t : Timeline). has_process t.machine.state c.args.parent
+    ≡ true) (sym c.self.view_is) (parent_there g.M.Meter.SLOTS c.args.self.now.machine.state c.args.parent c.args.child _ c.requires.refused)
 
 pub count_fork-requires-clause-at : goal.count_fork-requires-clause-at
-count_fork-requires-clause-at g c = subst (λ (m : Machine). c.args.n ≤ length (home_of m.state c.args.parent)) (sym c.self.view_is) c.requires.inside
+count_fork-requires-clause-at g c = subst (λ (t : Timeline). c.args.n ≤ length (home_of t.machine.state c.args.parent)) (sym c.self.view_is) c.requires.inside
 
 pub count_fork-requires-clause-room : goal.count_fork-requires-clause-room
 count_fork-requires-clause-room g c =
@@ -41,11 +41,11 @@ abbrev limiting : (g : _) (c : In_ok-push g) → Path
 limiting g c = take c.args.n (home_of c.self.inside.charges c.args.parent)
 
 refused : (g : _) (c : In_ok-push g) → refusal g.M.Meter.SLOTS c.self.inside.charges (model.Fork c.args.parent c.args.child) ≡ Some (model.OverPidsMax (limiting g c))
-refused g c = subst (λ (m : Machine). refusal g.M.Meter.SLOTS m.state (model.Fork c.args.parent c.args.child)
-    ≡ Some (model.OverPidsMax (take c.args.n (home_of m.state c.args.parent)))) (sym c.self.view_is) c.requires.refused
+refused g c = subst (λ (t : Timeline). refusal g.M.Meter.SLOTS t.machine.state (model.Fork c.args.parent c.args.child)
+    ≡ Some (model.OverPidsMax (take c.args.n (home_of t.machine.state c.args.parent)))) (sym c.self.view_is) c.requires.refused
 
 limiting_is : (g : _) (c : In_ok-push g) → c.in_ok-limiting.limiting ≡ limiting g c
-limiting_is g c = c.in_ok-limiting.ensures ∙ ap (λ (m : Machine). take c.args.n (home_of m.state c.args.parent)) (sym c.self.view_is)
+limiting_is g c = c.in_ok-limiting.ensures ∙ ap (λ (t : Timeline). take c.args.n (home_of t.machine.state c.args.parent)) (sym c.self.view_is)
 
 abbrev entry : (g : _) (c : In_ok-push g) → Entry g.row.A.Denot
 entry g c = record { command = Fork c.args.parent c.args.child; inverse = Counted c.in_ok-counted.counted }
@@ -68,10 +68,13 @@ returns-clause-ok g c =
     let s = c.self.inside.charges in
     let command = model.Fork c.args.parent c.args.child in
     let over = Some (model.OverPidsMax (limiting g c)) in
-    subst (λ (m : Machine). Answers {A = g.row.A.Denot} g.M.Meter.SLOTS m command (Refused (PidsMax c.in_ok-limiting.limiting)) (machine_of c.count_fork.new.self c.push.new.self.items)) c.self.view_is
-    (answers_by g.M.Meter.SLOTS (machine_of s c.self.inside.journal.items) command over (Refused (PidsMax c.in_ok-limiting.limiting))
-    (machine_of c.count_fork.new.self c.push.new.self.items) refl (refused g c)
-    ((λ i. machine_of c.count_fork.new.self (journal_is g c i))
-    ∙ recorded_is g.M.Meter.SLOTS s c.count_fork.new.self c.self.inside.journal.items (entry g c) command
-    (model_inverse.Counted (limiting g c)) over (entry_is g c) (refused g c) refl c.count_fork.ensures)
+    subst (λ (t : Timeline). Answers {A = g.row.A.Denot} g.M.Meter.SLOTS t command (Refused (PidsMax c.in_ok-limiting.limiting)) (timeline_of c.self.inside.forgotten c.count_fork.new.self c.push.new.self.items)) c.self.view_is
+    (answers_by g.M.Meter.SLOTS (timeline_of c.self.inside.forgotten s c.self.inside.journal.items) command over (Refused (PidsMax c.in_ok-limiting.limiting))
+    (timeline_of c.self.inside.forgotten c.count_fork.new.self c.push.new.self.items) refl (refused g c)
+    ((λ i. timeline_of c.self.inside.forgotten c.count_fork.new.self (journal_is g c i))
+    ∙ (λ i. record {
+      machine = recorded_is g.M.Meter.SLOTS s c.count_fork.new.self c.self.inside.journal.items (entry g c) command
+          (model_inverse.Counted (limiting g c)) over (entry_is g c) (refused g c) refl c.count_fork.ensures i;
+      forgotten = c.self.inside.forgotten;
+    }))
     (λ i. Some (model.Refused (model.OverPidsMax (limiting_is g c i)))))

@@ -24,4 +24,4 @@ pub invariant_of-self-in-Ok : goal.invariant_of-self-in-Ok
 invariant_of-self-in-Ok g c = (made g c).history
 
 pub returns-in_ok-push-in-Ok-clause-ok : goal.returns-in_ok-push-in-Ok-clause-ok
-returns-in_ok-push-in-Ok-clause-ok g c = (made g c).machine
+returns-in_ok-push-in-Ok-clause-ok g c = (made g c).timeline

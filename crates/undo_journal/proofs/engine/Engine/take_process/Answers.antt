@@ -24,4 +24,4 @@ pub invariant_of-self-2 : goal.invariant_of-self-2
 invariant_of-self-2 g c = (made g c).history
 
 pub returns-clause-ok : goal.returns-clause-ok
-returns-clause-ok g c = (made g c).machine
+returns-clause-ok g c = (made g c).timeline

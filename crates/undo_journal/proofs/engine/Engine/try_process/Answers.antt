@@ -1,10 +1,10 @@
 use Rattle.std.proofs.Common.{subst, refl, None}
 use Rattle.flat_model.specs.Command as model
 use Rattle.flat_model.specs.Inverse as model_inverse
-use Rattle.flat_model.specs.Machine.{Machine}
 use Rattle.flat_model.specs.Step.{home_of, peaks_upward}
 use Rattle.undo_journal.specs.Answer.{Answers}
-use Rattle.undo_journal.specs.History.{machine_of}
+use Rattle.undo_journal.specs.History.{timeline_of}
+use Rattle.undo_journal.specs.Timeline.{Timeline}
 use Rattle.undo_journal.specs.declared.command.Command.TheVariants.{Fork}
 use Rattle.undo_journal.specs.declared.inverse.Inverse.TheVariants.{Forked}
 use Rattle.undo_journal.specs.declared.reply.Reply.TheVariants.{Done}
@@ -14,9 +14,9 @@ use Rattle.undo_journal.proofs.engine.Engine.try_process.Goals as goal
 
 -- what was pushed is the record of the command
 made : (g : _) (c : goal.In_ok-push-in-Ok g)
-    → HasRecorded g.M.Meter.SLOTS c.self.inside.forgotten (machine_of c.self.inside.charges c.self.inside.journal.items) c.try_process.new.self c.push.new.self.items (model.Fork c.args.parent c.args.child)
+    → HasRecorded g.M.Meter.SLOTS c.self.inside.forgotten (timeline_of c.self.inside.forgotten c.self.inside.charges c.self.inside.journal.items) c.try_process.new.self c.push.new.self.items (model.Fork c.args.parent c.args.child)
 made g c =
-    has_recorded g.M.Meter.SLOTS c.self.inside.forgotten (machine_of c.self.inside.charges c.self.inside.journal.items)
+    has_recorded g.M.Meter.SLOTS c.self.inside.forgotten (timeline_of c.self.inside.forgotten c.self.inside.charges c.self.inside.journal.items)
     c.self.inside.charges c.try_process.new.self c.self.inside.journal.items c.push.new.self.items
     (record { command = Fork c.args.parent c.args.child; inverse = Forked c.args.child c.in-Ok.peaks })
     (model.Fork c.args.parent c.args.child)
@@ -30,7 +30,7 @@ invariant_of-self-in-Ok g c = (made g c).history
 
 pub returns-in_ok-push-in-Ok-clause-ok : goal.returns-in_ok-push-in-Ok-clause-ok
 returns-in_ok-push-in-Ok-clause-ok g c =
-    let new = machine_of c.try_process.new.self c.push.new.self.items in
+    let new = timeline_of c.self.inside.forgotten c.try_process.new.self c.push.new.self.items in
     let command = model.Fork c.args.parent c.args.child in
-    subst (λ (m : Machine). Answers {A = g.row.A.Denot} g.M.Meter.SLOTS m command Done new) c.self.view_is
-    (answers_by g.M.Meter.SLOTS (machine_of c.self.inside.charges c.self.inside.journal.items) command None Done new refl ((rw c.in-Ok.is at c.try_process.ensures.made).0) (made g c).machine refl)
+    subst (λ (t : Timeline). Answers {A = g.row.A.Denot} g.M.Meter.SLOTS t command Done new) c.self.view_is
+    (answers_by g.M.Meter.SLOTS (timeline_of c.self.inside.forgotten c.self.inside.charges c.self.inside.journal.items) command None Done new refl ((rw c.in-Ok.is at c.try_process.ensures.made).0) (made g c).timeline refl)

@@ -1,0 +1,69 @@
+use Rattle.std.proofs.Common.{◌≡◌, ℕ, ◌-◌, ◌<◌, length, take, get_or, option_map, arith, refl, ap, ◌∙◌}
+use Rattle.std.proofs.lemmas.List.{length-take-le}
+use Rattle.std.specs.FinMap as fin
+use Rattle.flat_model.specs.Path.{Path}
+use Rattle.group_tree.specs.declared.attr.Attr.{Attr}
+use Rattle.pids_charge.proofs.InRows.{read_inside}
+use Rattle.pids_charge.proofs.RowsUp.{begun, further, peak_by, peaks_set, step_at, up_by}
+use Rattle.pids_charge.proofs.Upward.{at_own}
+use Rattle.pids_charge.proofs.above.set_peaks_up.Goals as goal
+
+pub loop-i-init : goal.loop-i-init
+loop-i-init g c =
+    let p : Path = take (length c.args.peaks.now) c.args.path.now in
+    record {
+      at = at_own c.args.tree.now p _ c.requires.slot;
+      changed = begun p (peak_by c.args.peaks.now) c.args.tree.now;
+    }
+
+pub row-attr-requires : goal.row-attr-requires
+row-attr-requires g c =
+    let p : Path = take (length c.args.peaks.now) c.args.path.now in
+    let step = step_at g.M.Meter.SLOTS c.args.tree.now c.args.parents.now c.requires.parents c.requires.slots p c.requires.group c.known.ensures.prefixes (peak_by c.args.peaks.now) (λ k a. refl)
+    c.loop-i.i (omega (arith, length-take-le (length c.args.peaks.now) c.args.path.now c.requires.at)) c.loop-i.tree c.loop-i.invariant.changed c.loop-i.at c.loop-i.invariant.at in
+    record { path = take (length p - c.loop-i.i) p; there = step.there; here = step.here }
+
+pub put-requires-clause-group : goal.put-requires-clause-group
+put-requires-clause-group g c =
+    let p : Path = take (length c.args.peaks.now) c.args.path.now in
+    let step = step_at g.M.Meter.SLOTS c.args.tree.now c.args.parents.now c.requires.parents c.requires.slots p c.requires.group c.known.ensures.prefixes (peak_by c.args.peaks.now) (λ k a. refl)
+    c.loop-i.i (omega (arith, length-take-le (length c.args.peaks.now) c.args.path.now c.requires.at)) c.loop-i.tree c.loop-i.invariant.changed c.loop-i.at c.loop-i.invariant.at in
+    record { path = take (length p - c.loop-i.i) p; there = step.there; here = step.here }
+
+pub overflow_sub-at : goal.overflow_sub-at
+overflow_sub-at g c =
+    let p : Path = take (length c.args.peaks.now) c.args.path.now in
+    let step = step_at g.M.Meter.SLOTS c.args.tree.now c.args.parents.now c.requires.parents c.requires.slots p c.requires.group c.known.ensures.prefixes (peak_by c.args.peaks.now) (λ k a. refl)
+    c.loop-i.i (omega (arith, length-take-le (length c.args.peaks.now) c.args.path.now c.requires.at)) c.loop-i.tree c.loop-i.invariant.changed c.loop-i.at c.loop-i.invariant.at in
+    step.positive
+
+pub up-at-requires : goal.up-at-requires
+up-at-requires g c =
+    let p : Path = take (length c.args.peaks.now) c.args.path.now in
+    let step = step_at g.M.Meter.SLOTS c.args.tree.now c.args.parents.now c.requires.parents c.requires.slots p c.requires.group c.known.ensures.prefixes (peak_by c.args.peaks.now) (λ k a. refl)
+    c.loop-i.i (omega (arith, length-take-le (length c.args.peaks.now) c.args.path.now c.requires.at)) c.loop-i.tree c.loop-i.invariant.changed c.loop-i.at c.loop-i.invariant.at in
+    omega (arith, step.below, c.requires.parents.many)
+
+pub loop-i-preserved : goal.loop-i-preserved
+loop-i-preserved g c =
+    let peaks = c.args.peaks.now in
+    let p : Path = take (length peaks) c.args.path.now in
+    let row : Attr = c.row-attr.result.now in
+    let l : c.loop-i.i < length p = omega (arith, length-take-le (length peaks) c.args.path.now c.requires.at) in
+    let step = step_at g.M.Meter.SLOTS c.args.tree.now c.args.parents.now c.requires.parents c.requires.slots p c.requires.group c.known.ensures.prefixes (peak_by peaks) (λ k a. refl)
+    c.loop-i.i l c.loop-i.tree c.loop-i.invariant.changed c.loop-i.at c.loop-i.invariant.at in
+    let own : Path = take (length p - c.loop-i.i) p in
+    let peak : get_or peaks c.loop-i.i 0 ≡ get_or peaks c.loop-i.i row.peak = read_inside peaks c.loop-i.i 0 row.peak (omega arith) in
+    let put = c.put.ensures own step.there step.here ∙ ap (λ (n : ℕ). fin.insert c.loop-i.tree own (record row { peak = n })) peak in
+    record {
+      at = c.up-at.ensures ∙ step.next;
+      changed = λ q. further p (peak_by peaks) c.loop-i.i l c.args.tree.now c.loop-i.tree c.put.new.self row c.loop-i.invariant.changed (c.row-attr.ensures own step.there step.here) put q
+          ∙ ap (λ (n : ℕ). option_map (up_by p (peak_by peaks) n q) (fin.get c.args.tree.now q)) (omega arith);
+    }
+
+pub returns : goal.returns
+returns g c = λ q.
+    let peaks = c.args.peaks.now in
+    let p : Path = take (length peaks) c.args.path.now in
+    let whole : c.loop-i.i ≡ length p = omega (arith, length-take-le (length peaks) c.args.path.now c.requires.at) in
+    peaks_set p peaks c.args.tree.now c.loop-i.tree (λ r. c.loop-i.invariant.changed r ∙ ap (λ (n : ℕ). option_map (up_by p (peak_by peaks) n r) (fin.get c.args.tree.now r)) whole) q

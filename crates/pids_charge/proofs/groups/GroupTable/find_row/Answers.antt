@@ -1,0 +1,9 @@
+use Rattle.std.proofs.Common.{option_copied, sym, ap, ◌∙◌}
+use Rattle.pids_charge.proofs.InRows.{number_is, absent_is}
+use Rattle.pids_charge.proofs.groups.GroupTable.find_row.Goals as goal
+
+pub returns-in-Some : goal.returns-in-Some
+returns-in-Some g c = number_is c.self.inside.tree c.self.inside.rows.items c.self.invariant c.args.self.now c.self.view_is c.args.path.now c.in-Some.found.now (sym c.find.ensures ∙ ap option_copied c.in-Some.is)
+
+pub returns-in-None : goal.returns-in-None
+returns-in-None g c = absent_is c.self.inside.tree c.self.inside.rows.items c.self.invariant c.args.self.now c.self.view_is c.args.path.now (sym c.find.ensures ∙ ap option_copied c.in-None.is)

@@ -1,0 +1,84 @@
+use Rattle.std.proofs.Common.{◌≡◌, ℕ, ◌+◌, ◌-◌, length, take, Bool, Some, arith, refl, sym, ap, ◌∙◌}
+use Rattle.std.specs.FinMap as fin
+use Rattle.flat_model.specs.Path.{Path}
+use Rattle.flat_model.proofs.PathLaws.{take_above}
+use Rattle.group_tree.specs.Groups.{Groups, slot_of}
+use Rattle.group_tree.specs.declared.attr.Attr.{Attr}
+use Rattle.pids_charge.specs.Content.{Content}
+use Rattle.pids_charge.specs.Events.{full_by, longest}
+use Rattle.pids_charge.proofs.Upward.{of_group, own_below, step_up, at_own}
+use Rattle.pids_charge.proofs.Walked.{longest-yes, longest-no}
+use Rattle.pids_charge.proofs.notes.nearest_full.Goals as goal
+
+pub loop-up-init : goal.loop-up-init
+loop-up-init g c =
+    let p : Path = c.args.path.now in
+    let whole : length p ≡ length p - 0 = omega arith in
+    record {
+      bound = omega arith;
+      at = at_own c.args.tree.now p _ c.requires.slot;
+      answer = ap (longest (λ a. full_by g.M.Meter.LEAVES (g.M.Meter.content c.args.meter.now) (fin.get c.args.tree.now a)) p) whole;
+      same = refl;
+      held = refl;
+    }
+
+pub row-requires : goal.row-requires
+row-requires g c = of_group c.args.tree.now c.args.path.now c.requires.home c.known.ensures.prefixes c.loop-up.at (length c.args.path.now - c.loop-up.up) c.loop-up.invariant.at
+
+pub is_full-requires : goal.is_full-requires
+is_full-requires g c =
+    let p : Path = c.args.path.now in
+    let tree = c.args.tree.now in
+    let n : ℕ = length p - c.loop-up.up in
+    let low = own_below g.M.Meter.SLOTS tree c.requires.slots p c.requires.home c.known.ensures.prefixes c.loop-up.at n (omega arith) c.loop-up.invariant.at (omega (arith, c.if-at-eq0.false)) in
+    let here = c.row.ensures (take n p) (c.known.ensures.prefixes p (take n p) c.requires.home (take_above n p)) c.loop-up.invariant.at in
+    record { slot = omega (arith, low, ap slot_of here) }
+
+-- what the test answered
+told : (leaves : ℕ) (tree : Groups) (before now : Content) (p : Path) (n : ℕ) (row : Attr) (b : Bool) → Some row ≡ fin.get tree (take n p) → now ≡ before → b ≡ full_by leaves now (Some row)
+    → full_by leaves before (fin.get tree (take n p)) ≡ b
+told leaves tree before now p n row b here same answer = ap (full_by leaves before) (sym here) ∙ ap (λ (x : Content). full_by leaves x (Some row)) (sym same) ∙ sym answer
+
+pub up-at-requires : goal.up-at-requires
+up-at-requires g c =
+    let p : Path = c.args.path.now in
+    let up = step_up g.M.Meter.SLOTS c.args.tree.now c.args.parents.now c.requires.parents c.requires.slots p c.requires.home c.known.ensures.prefixes
+    c.loop-up.at (length p - c.loop-up.up) (length p - (c.loop-up.up + 1)) (omega arith) c.loop-up.invariant.at (omega (arith, c.if-at-eq0.false)) (omega arith) in
+    omega (arith, c.requires.parents.many, up.below)
+
+pub loop-up-preserved : goal.loop-up-preserved
+loop-up-preserved g c =
+    let i = c.loop-up.invariant in
+    let p : Path = c.args.path.now in
+    let tree = c.args.tree.now in
+    let n : ℕ = length p - c.loop-up.up in
+    let m : ℕ = length p - (c.loop-up.up + 1) in
+    let full = λ (q : Path). full_by g.M.Meter.LEAVES (g.M.Meter.content c.args.meter.now) (fin.get tree q) in
+    let up = step_up g.M.Meter.SLOTS tree c.args.parents.now c.requires.parents c.requires.slots p c.requires.home c.known.ensures.prefixes
+    c.loop-up.at n m (omega arith) i.at (omega (arith, c.if-at-eq0.false)) (omega arith) in
+    let here = c.row.ensures (take n p) (c.known.ensures.prefixes p (take n p) c.requires.home (take_above n p)) i.at in
+    let next : n ≡ m + 1 = omega (arith, up.more) in
+    let no = told g.M.Meter.LEAVES tree (g.M.Meter.content c.args.meter.now) (g.M.Meter.content c.loop-up.meter) p n c.row.result.now c.is_full.result here i.same c.is_full.ensures.answer in
+    record {
+      bound = omega arith;
+      at = c.up-at.ensures ∙ up.next;
+      answer = i.answer ∙ ap (longest full p) next ∙ longest-no full p m (ap (λ (k : ℕ). full (take k p)) (sym next) ∙ no ∙ c.if-is_full.false);
+      same = c.is_full.ensures.content ∙ i.same;
+      held = c.is_full.ensures.held ∙ i.held;
+    }
+
+pub returns-then-is_full-clause-answer : goal.returns-then-is_full-clause-answer
+returns-then-is_full-clause-answer g c =
+    let i = c.loop-up.invariant in
+    let p : Path = c.args.path.now in
+    let tree = c.args.tree.now in
+    let n : ℕ = length p - c.loop-up.up in
+    let m : ℕ = length p - (c.loop-up.up + 1) in
+    let full = λ (q : Path). full_by g.M.Meter.LEAVES (g.M.Meter.content c.args.meter.now) (fin.get tree q) in
+    let up = step_up g.M.Meter.SLOTS tree c.args.parents.now c.requires.parents c.requires.slots p c.requires.home c.known.ensures.prefixes
+    c.loop-up.at n m (omega arith) i.at (omega (arith, c.if-at-eq0.false)) (omega arith) in
+    let here = c.row.ensures (take n p) (c.known.ensures.prefixes p (take n p) c.requires.home (take_above n p)) i.at in
+    let next : n ≡ m + 1 = omega (arith, up.more) in
+    let yes = told g.M.Meter.LEAVES tree (g.M.Meter.content c.args.meter.now) (g.M.Meter.content c.loop-up.meter) p n c.row.result.now c.is_full.result here i.same c.is_full.ensures.answer in
+    let last : c.depth.result - c.loop-up.up ≡ m + 1 = omega (arith, c.depth.ensures, next) in
+    ap (λ (k : ℕ). Some k) last ∙ sym (longest-yes full p m (ap (λ (k : ℕ). full (take k p)) (sym next) ∙ yes ∙ c.if-is_full.true)) ∙ ap (longest full p) (sym next) ∙ sym i.answer

@@ -1,0 +1,115 @@
+//! Changes of a group and of the groups above it, from row to row.
+
+ghost use Rattle.std.specs.Prelude.{◌≡◌, ◌≤◌, length, take, IsSome};
+ghost use Rattle.std.specs.FinMap as fin;
+ghost use Rattle.group_tree.specs.PeaksAlong.{SetsPeaks};
+ghost use Rattle.group_tree.specs.Refusals.{Counts};
+ghost use Rattle.pids_charge.specs.Events.{stepped};
+ghost use Rattle.pids_charge.specs.Lists.{table_slot};
+ghost use Rattle.pids_charge.specs.Recount.{HasParents, SlotsBelow};
+
+use crate::groups::GroupTable;
+use crate::meter::Meter;
+use crate::parents::Parents;
+use group_path::GroupPath;
+use group_tree::Attr;
+use std::alloc::Allocator;
+
+// Sets the peaks of the group at the first names of the path, as many as there are peaks, and of those above it without the
+// root, from that group upward. `slot` is where its processes are in their table.
+pub(crate) fn set_peaks_up<M: Meter, T: Allocator, A: Allocator + Clone>(
+    tree: &mut GroupTable<T>,
+    parents: &Parents<T>,
+    path: &GroupPath<A>,
+    slot: u16,
+    peaks: &[u64],
+)
+    requires at { length peaks.now ≤ length path.now }
+    requires group { IsSome (fin.get tree.old (take (length peaks.now) path.now)) }
+    requires slot { slot ≡ table_slot tree.old (take (length peaks.now) path.now) }
+    requires slots { SlotsBelow M.SLOTS tree.old }
+    requires parents { HasParents M.SLOTS tree.old parents.now }
+    ensures { SetsPeaks tree.old tree.new (take (length peaks.now) path.now) peaks.now }
+{
+    tree.known();
+    let mut at = slot;
+    for i in 0..peaks.len() {
+        let attr = *tree.row(at);
+        let peak = peaks[i];
+        tree.put(at, Attr { peak, ..attr });
+        at = parents.up(at - 1);
+    }
+}
+
+// What a refused fork, or its undo, does to an event total.
+#[derive(Clone, Copy)]
+pub(crate) enum Change {
+    Raise,
+    Lower,
+}
+
+impl Change {
+    // The greatest total and 0 stay.
+    fn of(self, total: u64) -> u64
+        ensures { result ≡ stepped self total }
+    {
+        match self {
+            Change::Raise => total.saturating_add(1),
+            Change::Lower => total.saturating_sub(1),
+        }
+    }
+}
+
+// Changes the local total of the group at the first `n` names of the path, and the totals of it and of the groups above it
+// other than the root. `slot` is where its processes are in their table.
+pub(crate) fn change_totals<M: Meter, T: Allocator, A: Allocator + Clone>(
+    tree: &mut GroupTable<T>,
+    parents: &Parents<T>,
+    path: &GroupPath<A>,
+    n: usize,
+    slot: u16,
+    change: Change,
+)
+    requires at { n ≤ length path.now }
+    requires group { IsSome (fin.get tree.old (take n path.now)) }
+    requires slot { slot ≡ table_slot tree.old (take n path.now) }
+    requires slots { SlotsBelow M.SLOTS tree.old }
+    requires parents { HasParents M.SLOTS tree.old parents.now }
+    ensures { Counts (stepped change) tree.old tree.new (take n path.now) }
+{
+    tree.known();
+    let mut at = slot;
+    for _up in 0..n {
+        let attr = *tree.row(at);
+        let total = change.of(attr.total);
+        tree.put(at, Attr { total, ..attr });
+        at = parents.up(at - 1);
+    }
+    let own = *tree.row(slot);
+    let local = change.of(own.local);
+    tree.put(slot, Attr { local, ..own });
+}
+
+// Where the processes of the group at the first `n` names of a path are in their table. `slot` is where those of the path's
+// group are.
+pub(crate) fn slot_up<M: Meter, T: Allocator, A: Allocator + Clone>(
+    tree: &GroupTable<T>,
+    parents: &Parents<T>,
+    path: &GroupPath<A>,
+    n: usize,
+    slot: u16,
+) -> u16
+    requires at { n ≤ length path.now }
+    requires home { IsSome (fin.get tree.now path.now) }
+    requires slot { slot ≡ table_slot tree.now path.now }
+    requires slots { SlotsBelow M.SLOTS tree.now }
+    requires parents { HasParents M.SLOTS tree.now parents.now }
+    ensures { result ≡ table_slot tree.now (take n path.now) }
+{
+    tree.known();
+    let mut at = slot;
+    for _up in n..path.depth() {
+        at = parents.up(at - 1);
+    }
+    at
+}

@@ -1,0 +1,260 @@
+//! The groups: their names in a tree, and their attributes in rows.
+
+ghost use Rattle.std.specs.Prelude.{◌≡◌, ◌≢◌, ◌<◌, ◌≤◌, ◌+◌, ◌%◌, ◌^◌, ℕ, true, length, take, get_or, None, Some, MatchOption, IfOk, IfSome, OnOk, OnErr, IsSome, option_map};
+ghost use Rattle.std.specs.Option.{option_copied};
+ghost use Rattle.std.specs.FinMap as fin;
+ghost use Rattle.flat_model.specs.Path.{Path, parent, at_or_below};
+ghost use Rattle.group_tree.specs.Admission.{Admits};
+ghost use Rattle.group_tree.specs.ChildNames.{NamesChildren};
+ghost use Rattle.group_tree.specs.Flat.{CountsAsFlat};
+ghost use Rattle.group_tree.specs.Groups.{IsClosed, Removes, only_root, descendant_count};
+ghost use Rattle.group_tree.specs.Settings.{ReplacesLimit};
+ghost use Rattle.group_tree.specs.declared.attr.Attr.{Attr};
+ghost use Rattle.pids_charge.specs.GroupRows.{IsOfGroup};
+ghost use Rattle.pids_charge.specs.Lists.{slot_at, table_slot};
+
+use group_path::GroupPath;
+use group_tree::{Admission, Attr, ChildNames, GroupTree, Limit, LimitFile, TreeFault};
+use std::alloc::{AllocError, Allocator};
+use std::marker::Model;
+
+// Adds rows up to this one. It doesn't matter what is in them.
+fn lengthen<A: Allocator>(rows: &mut Vec<Attr, A>, row: u16) -> Result<(), AllocError>
+    ensures long { OnOk result (row < length rows.new.items) }
+    ensures kept { (k : ℕ) (d : Attr) → k < length rows.old.items → get_or rows.new.items k d ≡ get_or rows.old.items k d }
+    ensures no_fewer { length rows.old.items ≤ length rows.new.items }
+{
+    while rows.len() <= usize::from(row) {
+        rows.push(Attr::new(0))?;
+    }
+    Ok(())
+}
+
+// The groups, seen as a finite map from paths to attributes, as a `GroupTree` is. The attributes are in rows. The number of
+// a group's row is the slot of its processes in their table: 0 for the root, and one more than its slot in the meter for
+// any other group. The tree has that number in place of the slot, and a copy of the limits, which `admits` tests. So
+// whoever knows a group's row reads and changes it without a descent. There are as many rows as the greatest number needs.
+#[derive(Drop)]
+pub(crate) struct GroupTable<A: Allocator> {
+    tree: GroupTree<A>,
+    rows: Vec<Attr, A>,
+}
+
+impl<A: Allocator> Model for GroupTable<A> {
+    ghost use Rattle.group_tree.specs.Groups.{Groups};
+    ghost use Rattle.group_tree.specs.TreeCodes.{groups_code};
+    ghost use Rattle.pids_charge.specs.GroupRows.{HasRows, with_rows};
+
+    ghost Value = { Groups };
+
+    ghost coded = { groups_code };
+
+    ghost view = { λ g. with_rows g.tree g.rows.items };
+
+    ghost invariant = { λ g. HasRows g.tree g.rows.items };
+}
+
+impl<A: Allocator> GroupTable<A> {
+    // Gives callers what `GroupTree::known` gives of a tree. It is proof only.
+    pub(crate) fn known(&self)
+        ensures closed { IsClosed self.now }
+        ensures prefixes { (p q : Path) → IsSome (fin.get self.now p) → at_or_below p q ≡ true → IsSome (fin.get self.now q) }
+        ensures flat { CountsAsFlat self.now }
+    {
+        self.tree.known();
+        let _ = &self.rows;
+    }
+
+    // The attributes of the group at the path. Costs one descent.
+    pub(crate) fn find<B: Allocator + Clone>(&self, path: &GroupPath<B>) -> Option<&Attr>
+        ensures { option_copied result ≡ fin.get self.now path.now }
+    {
+        match self.tree.find(path) {
+            Some(found) => Some(&self.rows[usize::from(found.slot)]),
+            None => None,
+        }
+    }
+
+    // The row of the group at the path. Costs one descent.
+    pub(crate) fn find_row<B: Allocator + Clone>(&self, path: &GroupPath<B>) -> Option<u16>
+        ensures { MatchOption result (fin.get self.now path.now ≡ None) (λ at. IsSome (fin.get self.now path.now) × (at ≡ table_slot self.now path.now)) }
+    {
+        let _ = &self.rows;
+        match self.tree.find(path) {
+            Some(found) => Some(found.slot),
+            None => None,
+        }
+    }
+
+    // The same for the group at the first `n` names of the path.
+    pub(crate) fn find_row_at<B: Allocator + Clone>(
+        &self,
+        path: &GroupPath<B>,
+        n: usize,
+    ) -> Option<u16>
+        requires { n ≤ length path.now }
+        ensures { MatchOption result (fin.get self.now (take n path.now) ≡ None) (λ at. IsSome (fin.get self.now (take n path.now)) × (at ≡ table_slot self.now (take n path.now))) }
+    {
+        let _ = &self.rows;
+        match self.tree.find_at(path, n) {
+            Some(found) => Some(found.slot),
+            None => None,
+        }
+    }
+
+    // The attributes in a row.
+    pub(crate) fn row(&self, at: u16) -> &Attr
+        requires { IsOfGroup self.now at }
+        ensures { (p : Path) → IsSome (fin.get self.now p) → at ≡ table_slot self.now p → Some result.now ≡ fin.get self.now p }
+    {
+        let _ = &self.tree;
+        &self.rows[usize::from(at)]
+    }
+
+    // Replaces the attributes in a row by others with the same slot and limits.
+    pub(crate) fn put(&mut self, at: u16, attr: Attr)
+        requires group { IsOfGroup self.old at }
+        requires same { (p : Path) (a : Attr) → fin.get self.old p ≡ Some a → at ≡ table_slot self.old p → (attr.limits ≡ a.limits) × (attr.slot ≡ a.slot) }
+        ensures { (p : Path) → IsSome (fin.get self.old p) → at ≡ table_slot self.old p → self.new ≡ fin.insert self.old p attr }
+    {
+        let _ = &self.tree;
+        self.rows[usize::from(at)] = attr;
+    }
+
+    // Sets a limit of the group at the path and returns the old limit, as `GroupTree::replace_limit` does. Costs two
+    // descents.
+    pub(crate) fn replace_limit<B: Allocator + Clone>(
+        &mut self,
+        path: &GroupPath<B>,
+        file: LimitFile,
+        limit: Limit,
+    ) -> Option<Limit>
+        ensures { ReplacesLimit self.old self.new path.now file limit result }
+    {
+        let _ = &self.rows;
+        let Some(found) = self.tree.find(path) else {
+            return None;
+        };
+        let row = usize::from(found.slot);
+        let attr = self.rows[row];
+        let Some(_) = self.tree.replace_limit(path, file, limit) else {
+            unreachable!()
+        };
+        self.tree.known();
+        self.rows[row] = attr.with_limit(file, limit);
+        Some(attr.limit(file))
+    }
+
+    // The names of a group's children, as `GroupTree::child_names` returns them.
+    pub(crate) fn child_names<B: Allocator + Clone>(
+        &self,
+        path: &GroupPath<B>,
+    ) -> Option<ChildNames<'_, A>>
+        ensures { NamesChildren self.now path.now result }
+    {
+        let _ = &self.rows;
+        self.tree.child_names(path)
+    }
+
+    // How many groups are strictly below the group at the path. Costs one descent.
+    pub(crate) fn descendants<B: Allocator + Clone>(&self, path: &GroupPath<B>) -> Option<u64>
+        ensures counted { MatchOption result (fin.get self.now path.now ≡ None) (λ n. IsSome (fin.get self.now path.now) × (n ≡ descendant_count self.now path.now % 2 ^ 64)) }
+        ensures exact { fin.len self.now < 2 ^ 64 → IfSome result (λ n. n ≡ descendant_count self.now path.now) }
+    {
+        let _ = &self.rows;
+        self.tree.descendants(path)
+    }
+
+    // The attributes of the group at the path, and how many groups are strictly below it. Costs one descent.
+    pub(crate) fn find_with_descendants<B: Allocator + Clone>(
+        &self,
+        path: &GroupPath<B>,
+    ) -> Option<(&Attr, u64)>
+        ensures found { option_map (λ f. f.0.now) result ≡ fin.get self.now path.now }
+        ensures counted { IfSome result (λ f. f.1 ≡ descendant_count self.now path.now % 2 ^ 64) }
+        ensures exact { fin.len self.now < 2 ^ 64 → IfSome result (λ f. f.1 ≡ descendant_count self.now path.now) }
+    {
+        match self.tree.find_with_descendants(path) {
+            Some((found, below)) => Some((&self.rows[usize::from(found.slot)], below)),
+            None => None,
+        }
+    }
+
+    // Whether a new group can be made at the path, as `GroupTree::admits` says.
+    pub(crate) fn admits<B: Allocator + Clone>(&self, path: &GroupPath<B>) -> Admission
+        ensures { Admits self.now path.now result }
+    {
+        let _ = &self.rows;
+        self.tree.admits(path)
+    }
+
+    // Removes a group that has no groups below it, and returns its attributes, as `GroupTree::remove` does. The row stays,
+    // and says nothing.
+    pub(crate) fn remove<B: Allocator + Clone>(
+        &mut self,
+        path: &GroupPath<B>,
+    ) -> Result<Attr, TreeFault>
+        ensures { Removes self.old self.new path.now result }
+    {
+        let _ = &self.rows;
+        match self.tree.remove(path) {
+            Ok(removed) => {
+                self.tree.known();
+                Ok(self.rows[usize::from(removed.slot)])
+            }
+            Err(fault) => Err(fault),
+        }
+    }
+
+    // Copies the groups into another allocator.
+    pub(crate) fn copy<B: Allocator + Clone + Drop>(
+        &self,
+        alloc: B,
+    ) -> Result<GroupTable<B>, AllocError>
+        ensures { IfOk result (λ g. g ≡ self.now) }
+    {
+        let rows = Vec::from_slice(alloc.clone()?, self.rows.as_slice())?;
+        let tree = self.tree.copy(alloc)?;
+        Ok(GroupTable { tree, rows })
+    }
+}
+
+impl<A: Allocator + Clone> GroupTable<A> {
+    // The root alone, with these attributes.
+    pub(crate) fn new(alloc: A, root: Attr) -> Result<GroupTable<A>, AllocError>
+        requires { root.slot ≡ 0 }
+        ensures { IfOk result (λ g. g ≡ only_root root) }
+    {
+        let tree = GroupTree::new(alloc.clone()?, root)?;
+        tree.known();
+        let mut rows = Vec::new(alloc);
+        rows.push(root)?;
+        Ok(GroupTable { tree, rows })
+    }
+
+    // Makes a group that there isn't, under one that there is, on a slot that no group has. Costs one descent.
+    pub(crate) fn insert<B: Allocator + Clone>(
+        &mut self,
+        path: &GroupPath<B>,
+        attr: Attr,
+    ) -> Result<(), AllocError>
+        requires few { attr.slot + 1 < 2 ^ 16 }
+        requires below_root { 0 < length path.now }
+        requires absent { fin.get self.old path.now ≡ None }
+        requires parent { IsSome (fin.get self.old (parent path.now)) }
+        requires free { (q : Path) → 0 < length q → IsSome (fin.get self.old q) → slot_at self.old q ≢ attr.slot }
+        ensures made { OnOk result (self.new ≡ fin.insert self.old path.now attr) }
+        ensures kept { OnErr result (self.new ≡ self.old) }
+    {
+        let _ = &self.tree;
+        let row = attr.slot + 1;
+        lengthen(&mut self.rows, row)?;
+        let numbered = Attr { slot: row, ..attr };
+        if self.tree.insert(path, numbered).is_err() {
+            return Err(AllocError);
+        }
+        self.tree.known();
+        self.rows[usize::from(row)] = attr;
+        Ok(())
+    }
+}
