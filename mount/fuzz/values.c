@@ -1,8 +1,8 @@
 /* The values of kept controllers: what was taken is taken again as it is read, and then reads the same. */
+#include "values.h"
 #include "controllers.h"
 #include "engine.h"
 #include "machine.h"
-#include "values.h"
 #include <stdint.h>
 #include <stdlib.h>
 #include <string.h>
@@ -17,7 +17,7 @@ static void require(bool right)
 static bool reads_as_written(const char *name)
 {
 	return strcmp(name, "io.max") != 0 && strcmp(name, "io.weight") != 0 && strcmp(name, "cpu.weight.nice") != 0 &&
-	       strcmp(name, "cpuset.cpus.partition") != 0;
+		strcmp(name, "cpuset.cpus.partition") != 0;
 }
 
 static void read_text(const struct file *file, char out[TEXT_ROOM])

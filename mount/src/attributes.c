@@ -70,7 +70,8 @@ static struct attribute *make(const char *name, const char *value, size_t size)
 #pragma GCC diagnostic push
 #pragma GCC diagnostic ignored "-Wanalyzer-malloc-leak"
 #endif
-static int set_in(struct remembered *r, const struct file *file, const char *name, const char *value, size_t size, int flags)
+static int set_in(struct remembered *r, const struct file *file, const char *name, const char *value, size_t size,
+	int flags)
 {
 	struct attribute **at = find(&r->attributes, file, name);
 	if (*at && (flags & XATTR_CREATE))

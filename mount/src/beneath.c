@@ -9,7 +9,7 @@
 int beneath_open(int root, const char *path, int flags)
 {
 	struct open_how how = { .flags = (uint64_t)(unsigned)(flags | O_CLOEXEC),
-		                .resolve = RESOLVE_NO_XDEV | RESOLVE_NO_SYMLINKS | RESOLVE_BENEATH };
+		.resolve = RESOLVE_NO_XDEV | RESOLVE_NO_SYMLINKS | RESOLVE_BENEATH };
 	return (int)syscall(SYS_openat2, root, path[1] ? path + 1 : ".", &how, sizeof how);
 }
 

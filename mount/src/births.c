@@ -1,4 +1,5 @@
 #include "births.h"
+#include "advance.h"
 #include "clones.h"
 #include "link.h"
 #include "place.h"
@@ -20,11 +21,11 @@ enum { SLOTS = 65536, GRACE = 1000 };
 
 struct birth {
 	unsigned long ticket;
-	struct thread *creator;  /* NULL: gone */
+	struct thread *creator; /* NULL: gone */
 	pid_t process, child;
 	bool is_thread, reads, reserved, told, runs; /* runs: the call is being made */
-	bool makes_space;        /* a cgroup namespace that the server does not know yet */
-	int fault;               /* if told: the errno that the call returns instead of a child */
+	bool makes_space; /* a cgroup namespace that the server does not know yet */
+	int fault; /* if told: the errno that the call returns instead of a child */
 	unsigned reservation;
 	long long given_up_at;
 	struct registers before; /* the creator's, at the stop */
@@ -34,6 +35,7 @@ static struct birth *slots[SLOTS];
 static unsigned long last_ticket;
 static size_t lost; /* births without a creator whose child has not come yet */
 static long long next_look;
+static bool counts_threads;
 
 static long long now(void)
 {
@@ -87,11 +89,16 @@ static void end_if_over(struct birth *b)
 		end(b);
 }
 
+void births_count_threads(bool count)
+{
+	counts_threads = count;
+}
+
 bool births_first(pid_t program)
 {
 	unsigned reservation;
 	struct thread *t = threads_add(program, program);
-	if (!t || link_reserve(0, NULL, &reservation) || link_born(reservation, program, &t->frozen))
+	if (!t || link_reserve(0, NULL, false, &reservation) || link_born(reservation, program, &t->frozen))
 		return false;
 	t->started = t->counted = true;
 	return true;
@@ -127,8 +134,12 @@ static void make(struct thread *t, struct birth *b, long number, struct clone_re
 {
 	bool goes_on;
 	b->is_thread = args->flags & CLONE_THREAD;
-	int fault = b->is_thread ? 0 : link_reserve(b->process, group, &b->reservation);
-	b->reserved = !b->is_thread && fault == 0;
+	bool counts = !b->is_thread || counts_threads;
+	int fault = !counts && group ? -EOPNOTSUPP : 0;
+	b->reservation = counts && b->is_thread && !group ? advance_take(b->process) : 0;
+	if (counts && !b->reservation)
+		fault = link_reserve(b->process, group, b->is_thread, &b->reservation);
+	b->reserved = counts && fault == 0;
 	if (fault == 0 && args->flags & CLONE_NEWCGROUP) {
 		fault = link_prepare((unsigned)b->ticket, b->process);
 		b->makes_space = fault == 0;
@@ -195,9 +206,7 @@ void births_arguments(const struct memory_reply *reply)
 	int fault = reply->fault ? reply->fault : clones_fit(said, &args);
 	b->reads = false;
 	bool elsewhere = fault == 0 && (said->flags & CLONE_INTO_CGROUP);
-	if (elsewhere && (said->flags & CLONE_THREAD))
-		fault = -EOPNOTSUPP;
-	else if (elsewhere)
+	if (elsewhere)
 		fault = reply->group_fault;
 	if (fault)
 		refuse(t, -fault);
@@ -233,11 +242,15 @@ static struct thread *settle(struct birth *b, pid_t child)
 	else if (!b->is_thread) {
 		fault = link_born(b->reservation, child, &frozen);
 		b->reserved = false;
+	} else if (t && b->reserved) {
+		link_thread_born(b->reservation, child);
+		t->counted = true;
+		b->reserved = false;
 	}
 	if (t) {
 		t->made_by = b;
 		t->frozen |= frozen;
-		t->counted = !b->is_thread && fault == 0;
+		t->counted |= !b->is_thread && fault == 0;
 		if (b->makes_space && fault == 0) {
 			link_space(spaces_of(child), (unsigned)b->ticket);
 			b->makes_space = false;

@@ -10,6 +10,8 @@
 #include <stdbool.h>
 #include <sys/types.h>
 
+/* Before the first process: whether threads count. */
+void births_count_threads(bool count);
 /* The first process; false if it cannot be recorded. */
 bool births_first(pid_t program);
 bool births_is_fork(long number);

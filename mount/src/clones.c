@@ -42,7 +42,8 @@ int clones_fit(const struct clone_args *a, struct clone_registers *out)
 	if (!is_valid(a))
 		return -EINVAL;
 	/* `clone` has one argument for two of the numbers that it writes */
-	if (a->flags & beyond || a->set_tid_size || a->set_tid || ((a->flags & CLONE_PIDFD) && (a->flags & CLONE_PARENT_SETTID)))
+	if (a->flags & beyond || a->set_tid_size || a->set_tid ||
+		((a->flags & CLONE_PIDFD) && (a->flags & CLONE_PARENT_SETTID)))
 		return -ENOSYS;
 	*out = (struct clone_registers){
 		.flags = (a->flags & ~CLONE_INTO_CGROUP) | a->exit_signal,

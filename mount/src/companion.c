@@ -19,7 +19,7 @@ enum { TRIES = 100, TOLD_MAX = 2 * PATH_MAX_SAID };
 
 struct mounted {
 	const char *at;
-	int root;           /* of a run; -1: it is looked up */
+	int root; /* of a run; -1: it is looked up */
 	bool is_known;
 	struct mount_id is;
 };

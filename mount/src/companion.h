@@ -7,7 +7,7 @@
 #include <sys/types.h>
 
 struct companion {
-	int to;        /* the socket on which it receives paths; -1: there is none */
+	int to; /* the socket on which it receives paths; -1: there is none */
 	pid_t process; /* of a run: a child of the supervisor */
 };
 

@@ -8,6 +8,8 @@
 #include "opened.h"
 #include "operations.h"
 #include "real.h"
+#include "tables.h"
+#include "tasks.h"
 #include "texts.h"
 #include "watch.h"
 #include <errno.h>
@@ -57,6 +59,11 @@ void content_access(fuse_req_t req, fuse_ino_t number, int mask)
 	fuse_reply_err(req, -fault);
 }
 
+static bool is_table(long control)
+{
+	return control >= CONTROL_TABLE;
+}
+
 /* A file of a removed group can be found by a descriptor of it. */
 static int open_node(const struct node *node, int flags, uid_t uid, struct opened **out)
 {
@@ -66,7 +73,11 @@ static int open_node(const struct node *node, int flags, uid_t uid, struct opene
 		return fault;
 	if (node->group && (node->group->gone || !controllers_have(node->group->path, node->file)))
 		return -ENODEV;
+	if (is_table(node->control) && (fault = tables_open(node->control - CONTROL_TABLE)))
+		return fault;
 	*out = opened_new(of, node->file, node->control);
+	if (!*out && is_table(node->control))
+		tables_close(node->control - CONTROL_TABLE);
 	return *out ? 0 : -ENOMEM;
 }
 
@@ -133,7 +144,10 @@ static int move_to(const struct opened *o, const char *said)
 	bool was_there = fault == 0;
 	if (fault == -ENOMEM || (was_there && (fault = controllers_may_enter(o->of->path))))
 		return fault;
-	fault = engine_line("write %s %s %s", o->of->path, o->file->name, said);
+	if (tasks_next((pid_t)pid))
+		fault = tasks_move((pid_t)pid, o->of->path);
+	else
+		fault = engine_line("write %s %s %s", o->of->path, o->file->name, said);
 	if (fault == 0 && was_there) {
 		freezer_moved((pid_t)pid, o->of->path);
 		watch_above(from);
@@ -148,7 +162,9 @@ static int move(const struct opened *o, char said[SAID_MAX], pid_t writer)
 	bool is_new;
 	if (strcmp(said, "0") == 0)
 		snprintf(said, SAID_MAX, "%d", writer);
-	pid_t pid = (pid_t)strtol(said, NULL, 10);
+	pid_t number = (pid_t)strtol(said, NULL, 10), pid = tasks_process(number);
+	if (pid != number) /* a thread: all of its process moves */
+		snprintf(said, SAID_MAX, "%d", pid);
 	int fault = real_sweep();
 	if (fault == 0)
 		fault = real_adopt(pid, &is_new);
@@ -195,7 +211,8 @@ static int write_file(struct opened *o, const char *data, size_t size, pid_t wri
 	return engine_line("write %s %s %s", o->of->path, o->file->name, said);
 }
 
-void content_write(fuse_req_t req, fuse_ino_t number, const char *data, size_t size, off_t at, struct fuse_file_info *fi)
+void content_write(fuse_req_t req, fuse_ino_t number, const char *data, size_t size, off_t at,
+	struct fuse_file_info *fi)
 {
 	struct opened *o = opened_of(fi);
 	char said[SAID_MAX];
@@ -220,6 +237,8 @@ void content_poll(fuse_req_t req, fuse_ino_t number, struct fuse_file_info *fi, 
 	engine_lock();
 	int fault = o->file && o->file->notified && !opened_is_gone(o) ? watch_seen(o->of->path, o->file) : 0;
 	unsigned told = opened_poll(o, waiter);
+	if (is_table(o->control))
+		fault = tables_poll(o->control - CONTROL_TABLE, &told);
 	engine_unlock();
 	if (fault)
 		fuse_reply_err(req, -fault);

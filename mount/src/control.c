@@ -1,9 +1,12 @@
 #include "control.h"
+#include "bounds.h"
 #include "engine.h"
 #include "freezer.h"
+#include "joined.h"
 #include "number.h"
 #include "operations.h"
 #include "spaces.h"
+#include "tables.h"
 #include "watch.h"
 #include <errno.h>
 #include <limits.h>
@@ -20,8 +23,12 @@ static const struct {
 	mode_t mode;
 	bool of_history;
 } files[CONTROL_FILES] = {
-	[UNDO] = { "undo", 0200, true },     [FORGET] = { "forget", 0200, true }, [DEPTH] = { "depth", 0444, true },
-	[NEWEST] = { "newest", 0444, true }, [TRACE] = { "trace", 0444, true },   [FORK] = { "fork", 0200, false },
+	[UNDO] = { "undo", 0200, true },
+	[FORGET] = { "forget", 0200, true },
+	[DEPTH] = { "depth", 0444, true },
+	[NEWEST] = { "newest", 0444, true },
+	[TRACE] = { "trace", 0444, true },
+	[FORK] = { "fork", 0200, false },
 	[EXIT] = { "exit", 0200, false },
 };
 
@@ -39,13 +46,21 @@ static long where_of(const char *path)
 	unsigned long pid = strtoul(path + n + 2, &end, 10), space = 0;
 	if (*end == '.' && end[1] && strchr(digits, end[1]))
 		space = strtoul(end + 1, &end, 10);
-	return *end == 0 && pid < CONTROL_PIDS && space <= UINT_MAX ? (long)(space * CONTROL_PIDS + pid) : -1;
+	return *end == 0 && pid < PIDS && space <= UINT_MAX ? (long)(space * PIDS + pid) : -1;
+}
+
+/* The number of a mount table; -1. */
+static long table_of(const char *path)
+{
+	long number;
+	int end = 0;
+	return look.marked && sscanf(path, "/.makhloeum.t.%18ld%n", &number, &end) == 1 && !path[end] ? number : -1;
 }
 
 bool control_has(const char *path)
 {
 	size_t n = sizeof control_directory - 1;
-	if (where_of(path) >= 0)
+	if (where_of(path) >= 0 || table_of(path) >= 0)
 		return true;
 	if (look.marked && !look.history)
 		return false;
@@ -55,6 +70,11 @@ bool control_has(const char *path)
 long control_find(const char *path)
 {
 	const char *name = path + sizeof control_directory;
+	long table = table_of(path);
+	if (table >= 0) {
+		int fault = tables_find(table);
+		return fault ? fault : CONTROL_TABLE + table;
+	}
 	if (where_of(path) >= 0)
 		return CONTROL_WHERE + where_of(path);
 	if (*name == 0)
@@ -84,8 +104,8 @@ mode_t control_mode(long file)
 static int read_where(long which, int (*keep)(void *, const char *, size_t), void *to)
 {
 	char group[PATH_MAX_SAID] = "/", seen[PATH_MAX_SAID], text[PATH_MAX_SAID + 8];
-	long pid = which % CONTROL_PIDS;
-	const char *root = spaces_root((unsigned)(which / CONTROL_PIDS));
+	long pid = which % PIDS;
+	const char *root = spaces_root((unsigned)(which / PIDS));
 	int fault = pid ? engine_where(pid, group, sizeof group) : 0;
 	if (fault == -ENOMEM)
 		return fault;
@@ -108,15 +128,17 @@ int control_read(long file, int (*keep)(void *, const char *, size_t), void *to)
 	char text[32];
 	size_t depth;
 	WANTS_LOCK();
+	if (file >= CONTROL_TABLE)
+		return tables_read(file - CONTROL_TABLE, keep, to);
 	if (file >= CONTROL_WHERE)
 		return read_where(file - CONTROL_WHERE, keep, to);
 	depth = engine_depth();
 	switch (file) {
 	case DEPTH:
-		snprintf(text, sizeof text, "%zu\n", depth);
+		snprintf(text, sizeof text, "%zu\n", joined_count(depth));
 		return keep(to, text, strlen(text));
 	case NEWEST:
-		return depth ? read_history(depth - 1, keep, to) : keep(to, "", 0);
+		return depth ? read_history(joined_newest(depth), keep, to) : keep(to, "", 0);
 	case TRACE:
 		return read_history(0, keep, to);
 	default:
@@ -143,21 +165,30 @@ static void tell_undone(const char *command, size_t size)
 		watch_process((pid_t)pid);
 }
 
-/* Undoes the newest `count` commands. If there are fewer, it undoes none. */
+/* Undoes the newest operation. If a line of it fails, what is left of it is the newest from now on. */
+static int undo_newest(void)
+{
+	int fault = 0;
+	for (size_t size, until = joined_newest(engine_depth()); fault == 0 && engine_depth() > until;) {
+		fault = engine_line("undo");
+		const char *command = engine_text(&size);
+		if (fault == 0)
+			tell_undone(command, size);
+	}
+	joined_cut(engine_depth());
+	freezer_undone();
+	return fault;
+}
+
+/* Undoes the newest `count` operations. If there are fewer, it undoes none. */
 static int undo(unsigned long count)
 {
-	if (count > engine_depth())
+	int fault = 0;
+	if (count > joined_count(engine_depth()))
 		return -ENODATA;
-	while (count--) {
-		size_t size;
-		int fault = engine_line("undo");
-		if (fault)
-			return fault;
-		const char *command = engine_text(&size);
-		tell_undone(command, size);
-		freezer_undone();
-	}
-	return 0;
+	while (count-- && fault == 0)
+		fault = undo_newest();
+	return fault;
 }
 
 static int control_fork(unsigned long parent, unsigned long child)

@@ -12,10 +12,14 @@ extern const char control_directory[]; /* its name, without a slash */
 /* Whether a path is the directory or below it. */
 bool control_has(const char *path);
 enum { CONTROL_ITSELF = -1 };
-/* The number of the file at such a path; CONTROL_ITSELF for the directory; -ENOENT. */
+/* The number of the file at such a path; CONTROL_ITSELF for the directory; -ENOENT, and of a mount table -ENFILE or -ENOMEM. */
 long control_find(const char *path);
-enum { CONTROL_FILES = 7, CONTROL_PIDS = 4194304 };
-enum { CONTROL_WHERE = CONTROL_FILES }; /* or the number of a process and of a cgroup namespace: /.makhloeum.PID.SPACE, under `run` */
+enum { CONTROL_FILES = 7 };
+enum {
+	CONTROL_WHERE = CONTROL_FILES
+}; /* or the number of a process and of a cgroup namespace: /.makhloeum.PID.SPACE, under `run` */
+static const long CONTROL_TABLE =
+	1L << 56; /* or the number of a mount table (tables.h): /.makhloeum.t.NUMBER, under `run` */
 const char *control_name(long file);
 bool control_is_there(long file);
 mode_t control_mode(long file);

@@ -1,14 +1,12 @@
 #include "controllers.h"
 #include "engine.h"
 #include "opened.h"
-#include "reported.h"
 #include "scan.h"
+#include "shown.h"
 #include "values.h"
 #include <errno.h>
-#include <inttypes.h>
 #include <makhloeum.h>
 #include <stdio.h>
-#include <stdlib.h>
 #include <string.h>
 
 /* Threads of one process could be in different groups of these controllers: a group with processes may enable them for its
@@ -18,7 +16,8 @@ enum { ALL = HAS_CPUSET | HAS_CPU | HAS_IO | HAS_MEMORY | HAS_PIDS, FOR_THREADS 
 static const struct {
 	const char *name;
 	unsigned bit;
-} names[] = { { "cpuset", HAS_CPUSET }, { "cpu", HAS_CPU }, { "io", HAS_IO }, { "memory", HAS_MEMORY }, { "pids", HAS_PIDS } };
+} names[] = { { "cpuset", HAS_CPUSET }, { "cpu", HAS_CPU }, { "io", HAS_IO }, { "memory", HAS_MEMORY },
+	{ "pids", HAS_PIDS } };
 enum { NAMES = sizeof names / sizeof *names };
 
 static unsigned kept;
@@ -79,7 +78,7 @@ static int text_of(const char *group, const char *name, const char **text, size_
 	if (fault)
 		return fault;
 	*text = engine_text(size);
-	return reported_text(group, file_named(name, is_root(group)), text, size);
+	return shown_text(group, file_named(name, is_root(group)), text, size);
 }
 
 /* These questions, and those below, are answered by 1, 0 or -errno. */
@@ -100,7 +99,8 @@ static int is_populated(const char *group)
 }
 
 /* Calls `ask` for each of these children, until one returns something other than 0. */
-static int each_of(const char *group, const char *children, size_t count, int (*ask)(const char *child, unsigned which), unsigned which)
+static int each_of(const char *group, const char *children, size_t count, int (*ask)(const char *child, unsigned which),
+	unsigned which)
 {
 	char child[PATH_MAX_SAID];
 	int answer = 0;
@@ -243,55 +243,19 @@ static int forget_in(const char *child, unsigned which)
 	return 0;
 }
 
-/* The limits that the children have before they lose pids, in the order of their names; `at` is the place of the next. */
-static struct {
-	uint64_t *all;
-	size_t count, room, at;
-} limits;
-
-static int note_limit(const char *child, unsigned unused)
-{
-	(void)unused;
-	if (limits.count == limits.room) {
-		size_t room = limits.room ? 2 * limits.room : 64;
-		uint64_t *more = realloc(limits.all, room * sizeof *more);
-		if (!more)
-			return -ENOMEM;
-		limits.all = more;
-		limits.room = room;
-	}
-	return engine_limit(child, &limits.all[limits.count++]);
-}
-
 static int lift_limit(const char *child, unsigned unused)
 {
+	uint64_t limit;
 	(void)unused;
-	uint64_t limit = limits.all[limits.at++];
-	return limit == MK_NO_LIMIT ? 0 : engine_line("write %s pids.max max", child);
+	int fault = engine_limit(child, &limit);
+	return fault || limit == MK_NO_LIMIT ? fault : engine_line("write %s pids.max max", child);
 }
 
-static int restore_limit(const char *child, unsigned lifted)
-{
-	if (limits.at == lifted)
-		return 1;
-	uint64_t limit = limits.all[limits.at++];
-	if (limit != MK_NO_LIMIT)
-		engine_line("write %s pids.max %" PRIu64, child, limit);
-	return 0;
-}
-
-/* The engine's limits of all children become `max`, or none does. If the old ones cannot be set again for lack of memory,
-   or since the trace is full, they stay `max`. */
+/* The engine's limits of all children become `max`, or none does. */
 static int lift_limits(const char *group, const char *children, size_t count)
 {
-	limits.count = limits.at = 0;
-	int fault = each_of(group, children, count, note_limit, 0);
-	if (fault || (fault = each_of(group, children, count, lift_limit, 0)) == 0)
-		return fault;
-	unsigned lifted = (unsigned)limits.at - 1; /* the last one failed */
-	limits.at = 0;
-	each_of(group, children, count, restore_limit, lifted);
-	return fault;
+	int fault = engine_begin();
+	return fault ? fault : engine_finish(each_of(group, children, count, lift_limit, 0));
 }
 
 /* All that can fail comes first. */

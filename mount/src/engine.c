@@ -1,4 +1,7 @@
 #include "engine.h"
+#include "bounds.h"
+#include "buffer.h"
+#include "joined.h"
 #include "serve.h"
 #include <errno.h>
 #include <makhloeum.h>
@@ -11,7 +14,7 @@
 #include <time.h>
 #include <unistd.h>
 
-enum { LINE_MAX = 8192, TIME_MAX = 48, FIRST_ANSWER = 16384, FORGET_AT = 1024, REPLAYED_MAX = 16777216 };
+enum { TIME_MAX = 48, FIRST_ANSWER = 16384, FORGET_AT = 1024 };
 
 static pthread_mutex_t lock = PTHREAD_MUTEX_INITIALIZER;
 static mk_handle engine;
@@ -19,31 +22,18 @@ static struct kept *trace, *answers;
 static bool has_history, told_long;
 static _Thread_local bool holds_lock;
 static uint64_t number = 1; /* of the next line that is kept */
-static char line[LINE_MAX];
+static char line[LINE_BYTES];
 static size_t line_size;
 static struct timespec started;
+/* where several lines that are one operation began */
+static struct {
+	bool are_open;
+	size_t depth;
+	uint64_t number;
+	off_t trace, answers;
+} several;
 
-/* a buffer that grows */
-struct buffer {
-	char *at;
-	size_t size, room;
-};
 static struct buffer answer, text, names, paths, past;
-
-static bool make_room(struct buffer *b, size_t room)
-{
-	if (room <= b->room)
-		return true;
-	size_t want = b->room ? b->room : 4096;
-	while (want < room)
-		want *= 2;
-	char *at = realloc(b->at, want);
-	if (!at)
-		return false;
-	b->at = at;
-	b->room = want;
-	return true;
-}
 
 bool engine_start(struct kept *trace_to, struct kept *answers_to, bool history)
 {
@@ -51,8 +41,9 @@ bool engine_start(struct kept *trace_to, struct kept *answers_to, bool history)
 	answers = answers_to;
 	has_history = history;
 	clock_gettime(CLOCK_MONOTONIC, &started);
-	return make_room(&answer, FIRST_ANSWER) && make_room(&text, FIRST_ANSWER) && make_room(&paths, FIRST_ANSWER) &&
-	       make_room(&past, FIRST_ANSWER) && make_room(&names, MK_CHILDREN_MAX) && mk_open(&engine) == MK_DONE;
+	return buffer_make_room(&answer, FIRST_ANSWER) && buffer_make_room(&text, FIRST_ANSWER) &&
+		buffer_make_room(&paths, FIRST_ANSWER) && buffer_make_room(&past, FIRST_ANSWER) &&
+		buffer_make_room(&names, MK_CHILDREN_MAX) && mk_open(&engine) == MK_DONE;
 }
 
 void engine_end(void)
@@ -67,10 +58,19 @@ void engine_end(void)
 	kept_close(answers);
 }
 
+static void (*calls_first)(void);
+
+void engine_lock_calls(void (*first)(void))
+{
+	calls_first = first;
+}
+
 void engine_lock(void)
 {
 	pthread_mutex_lock(&lock);
 	holds_lock = true;
+	if (calls_first)
+		calls_first();
 }
 
 void engine_unlock(void)
@@ -110,8 +110,10 @@ static uint32_t ask(uint64_t as, uint32_t *code)
 {
 	mk_info info;
 	for (;;) {
-		uint32_t status = mk_line(&engine, as, (const uint8_t *)line, line_size, (uint8_t *)answer.at, answer.room, &info);
-		if (status == MK_TOO_SMALL && make_room(&text, 2 * answer.room) && make_room(&answer, 2 * answer.room))
+		uint32_t status = mk_line(&engine, as, (const uint8_t *)line, line_size, (uint8_t *)answer.at, answer.room,
+			&info);
+		if (status == MK_TOO_SMALL && buffer_make_room(&text, 2 * answer.room) &&
+			buffer_make_room(&answer, 2 * answer.room))
 			continue;
 		answer.size = info.len;
 		*code = info.code;
@@ -164,14 +166,15 @@ static bool step_back(enum effect effect)
 	return (status == MK_DONE || status == MK_REFUSED) && effect_since(depth) == (effect == UNDONE ? RECORDED : UNDONE);
 }
 
-/* A longer trace than cgreplay reads is said once, and marked in the trace by a comment. */
+/* Prints a warning, once, if the trace is longer than cgreplay reads, and marks the place in the trace by a comment. */
 static void tell_long(void)
 {
 	static const char mark[] = "# This trace is longer than 16,777,216 bytes: use cgshell, not cgreplay.\n";
-	if (told_long || trace->fd < 0 || trace->size <= REPLAYED_MAX)
+	if (told_long || trace->fd < 0 || trace->size <= TRACE_BYTES)
 		return;
 	told_long = true;
-	say("%s is longer than 16,777,216 bytes, which cgreplay refuses: replay it by cgshell < %s", trace->name, trace->name);
+	say("%s is longer than 16,777,216 bytes, which cgreplay refuses: replay it by cgshell < %s", trace->name,
+		trace->name);
 	kept_add(trace, mark, sizeof mark - 1);
 }
 
@@ -179,7 +182,7 @@ static void tell_long(void)
    of both. 0 or -errno */
 static int keep_line(size_t *size)
 {
-	static char both[TIME_MAX + LINE_MAX];
+	static char both[TIME_MAX + LINE_BYTES];
 	struct timespec now;
 	clock_gettime(CLOCK_MONOTONIC, &now);
 	long long passed = (now.tv_sec - started.tv_sec) * 1000000LL + (now.tv_nsec - started.tv_nsec) / 1000;
@@ -197,7 +200,7 @@ static int ask_and_keep(void)
 	size_t size = line_size + 1;
 	line[line_size] = '\n';
 	line[size] = 0;
-	if (!has_history && engine_depth() >= FORGET_AT)
+	if (!has_history && !several.are_open && engine_depth() >= FORGET_AT)
 		mk_forget(&engine);
 	size_t depth = engine_depth();
 	if (trace->fd >= 0 && (fault = keep_line(&size)))
@@ -207,7 +210,8 @@ static int ask_and_keep(void)
 	if (status != MK_DONE && status != MK_REFUSED && status != MK_FAULT)
 		fault = -ENOMEM; /* nothing has changed: so the line was never there */
 	else if (answers->fd >= 0 && (fault = kept_add(answers, answer.at, answer.size)) && !step_back(effect))
-		trace->broken = answers->broken = EIO; /* out of memory: the state is ahead of the answers, and goes no further */
+		trace->broken = answers->broken =
+			EIO; /* out of memory: the state is ahead of the answers, and goes no further */
 	if (fault) {
 		if (trace->fd >= 0)
 			kept_take_back(trace, size);
@@ -216,6 +220,40 @@ static int ask_and_keep(void)
 	number++;
 	tell_long();
 	return error_of(status, code);
+}
+
+int engine_begin(void)
+{
+	WANTS_LOCK();
+	int fault = has_history ? joined_make_room() : 0;
+	several.are_open = fault == 0;
+	several.depth = engine_depth();
+	several.number = number;
+	several.trace = trace->size;
+	several.answers = answers->size;
+	return fault;
+}
+
+/* If there is no memory to undo them, they stay, and the state goes no further than what was kept of it. */
+int engine_finish(int fault)
+{
+	bool are_undone = true;
+	WANTS_LOCK();
+	several.are_open = false;
+	if (fault == 0 && has_history)
+		joined_add(several.depth, engine_depth());
+	if (fault == 0 || engine_depth() == several.depth)
+		return fault;
+	while (are_undone && engine_depth() > several.depth)
+		are_undone = step_back(RECORDED);
+	if (!are_undone) {
+		trace->broken = answers->broken = EIO;
+		return fault;
+	}
+	kept_take_back(trace, (size_t)(trace->size - several.trace));
+	kept_take_back(answers, (size_t)(answers->size - several.answers));
+	number = several.number;
+	return fault;
 }
 
 __attribute__((format(printf, 1, 0))) static bool set_line(const char *format, va_list words)
@@ -305,7 +343,7 @@ int engine_groups(const char *top, const char **found, size_t *count)
 	WANTS_LOCK();
 	do
 		status = mk_subtree(&engine, (const uint8_t *)top, strlen(top), (uint8_t *)paths.at, paths.room, &info);
-	while (status == MK_TOO_SMALL && make_room(&paths, info.needed));
+	while (status == MK_TOO_SMALL && buffer_make_room(&paths, info.needed));
 	*found = paths.at;
 	*count = info.count;
 	return fault_of(status);
@@ -319,7 +357,8 @@ size_t engine_depth(void)
 	return depth;
 }
 
-static int number_of(uint32_t (*call)(mk_handle *, const char *, uint64_t *, mk_info *), const char *group, uint64_t *value)
+static int number_of(uint32_t (*call)(mk_handle *, const char *, uint64_t *, mk_info *), const char *group,
+	uint64_t *value)
 {
 	mk_info info;
 	return fault_of(call(&engine, group, value, &info));
@@ -340,7 +379,10 @@ int engine_limit(const char *group, uint64_t *limit)
 int engine_forget(void)
 {
 	WANTS_LOCK();
-	return mk_forget(&engine) == MK_DONE ? 0 : -ENOMEM;
+	if (mk_forget(&engine) != MK_DONE)
+		return -ENOMEM;
+	joined_cut(0);
+	return 0;
 }
 
 int engine_history(size_t from, const char **lines, size_t *size)
@@ -350,7 +392,7 @@ int engine_history(size_t from, const char **lines, size_t *size)
 	WANTS_LOCK();
 	do
 		status = mk_history(&engine, from, (uint8_t *)past.at, past.room, &info);
-	while (status == MK_TOO_SMALL && make_room(&past, info.needed));
+	while (status == MK_TOO_SMALL && buffer_make_room(&past, info.needed));
 	*lines = past.at;
 	*size = info.len;
 	return status == MK_DONE ? 0 : -ENOMEM;

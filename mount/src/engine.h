@@ -17,6 +17,8 @@ void engine_end(void);
    where a function that wants it is called without it. */
 void engine_lock(void);
 void engine_unlock(void);
+/* Whoever gets the lock first calls this, with the lock. */
+void engine_lock_calls(void (*first)(void));
 #ifdef CHECK_LOCK
 void engine_check_lock(const char *function);
 #define WANTS_LOCK() engine_check_lock(__func__)
@@ -27,6 +29,10 @@ void engine_check_lock(const char *function);
 /* Asks one line and keeps it. 0, or the negated errno of its refusal; or that of a device that could not keep the line or
    its answer, and then nothing has changed. */
 int engine_line(const char *format, ...) __attribute__((format(printf, 1, 2)));
+/* Before several lines that are one operation of the program: 0 or -ENOMEM. After them, with 0 or the fault of one: they are
+   undone together from now on; or at a fault those that changed something were never there. Returns that fault. */
+int engine_begin(void);
+int engine_finish(int fault);
 /* Asks a line that changes nothing, and keeps nothing of it. */
 int engine_look(const char *format, ...) __attribute__((format(printf, 1, 2)));
 /* The text that the last answer carried, without its marks: of cat and where the file's bytes, of undo the command. */

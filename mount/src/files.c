@@ -20,10 +20,21 @@ static const struct file files[] = {
 	/* end of what is generated */
 	/* The files that the engine does not have. */
 	{ .name = "cgroup.controllers", .on_root = true, .readable = true, .extra = true, .show = controllers_show },
-	{ .name = "cgroup.subtree_control", .on_root = true, .readable = true, .extra = true, .value = WRITES, .show = subtree_show,
-	  .write = subtree_write },
+	{ .name = "cgroup.subtree_control",
+		.on_root = true,
+		.readable = true,
+		.extra = true,
+		.value = WRITES,
+		.show = subtree_show,
+		.write = subtree_write },
+	{ .name = "cgroup.threads", .on_root = true, .readable = true, .extra = true, .made_of = "cgroup.procs" },
 	{ .name = "cgroup.type", .readable = true, .extra = true, .value = WRITES, .show = type_show, .write = type_write },
-	{ .name = "cgroup.freeze", .readable = true, .extra = true, .value = WRITES, .show = freezer_show, .write = freezer_write },
+	{ .name = "cgroup.freeze",
+		.readable = true,
+		.extra = true,
+		.value = WRITES,
+		.show = freezer_show,
+		.write = freezer_write },
 	{ .name = "cpu.stat", .on_root = true, .readable = true, .extra = true, .show = cpu_stat_show },
 };
 

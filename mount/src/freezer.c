@@ -1,4 +1,5 @@
 #include "freezer.h"
+#include "bounds.h"
 #include "engine.h"
 #include "listed.h"
 #include "number.h"
@@ -11,18 +12,16 @@
 #include <sys/eventfd.h>
 #include <unistd.h>
 
-enum { PIDS_MAX = 4194304 };
-
 /* What is known of each process: whether it has to stop, whether it has stopped, and whether an order about it waits. */
 enum { WANTED = 1, STOPPED = 2, ORDERED = 4 };
-static unsigned char state[PIDS_MAX];
+static unsigned char state[PIDS];
 
 static size_t freezing; /* groups in which 1 was written */
-static size_t wanted;   /* processes that have to stop */
+static size_t wanted; /* processes that have to stop */
 static int supervisor = -1;
 
 /* A process has at most one order. So the list of all needs no memory, and an order is never lost for lack of it. */
-static pid_t next_order[PIDS_MAX], first_order, last_order;
+static pid_t next_order[PIDS], first_order, last_order;
 
 static bool overdue; /* an undo could not be followed */
 
@@ -35,7 +34,7 @@ bool freezer_begin(int *wake)
 
 static bool in_range(pid_t pid)
 {
-	return pid > 0 && pid < PIDS_MAX;
+	return pid > 0 && pid < PIDS;
 }
 
 /* ---------------------------------------------------------------- groups */
@@ -147,7 +146,7 @@ bool freezer_order(pid_t *pid, bool *stop)
 static struct change {
 	pid_t pid;
 	bool to_freeze;
-} *changes;
+} * changes;
 static size_t changes_count, changes_room;
 
 static int note(pid_t pid, const char *group)

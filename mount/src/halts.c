@@ -12,7 +12,7 @@
 #include <time.h>
 #include <unistd.h>
 
-/* At most so many orders are handled before anything else, since the program decides how many there are. */
+/* At most ORDERS are handled before anything else, since the program decides how many there are. */
 enum { ORDERS = 32, AGAIN = 5 };
 
 static int wake = -1;

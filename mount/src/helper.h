@@ -18,8 +18,9 @@ struct memory_reply {
 	char group[PATH_MAX_SAID];
 };
 
-/* Starts it. It answers the notifications of `listener`. Returns its descriptor to poll, or -1 with errno. */
-int helper_start(int listener);
+/* Starts it, before the program runs. It answers the notifications of `listener`. Returns its descriptor to poll, or -1 with
+   errno. */
+int helper_start(int listener, pid_t program);
 /* Nobody waits for it: a file system of the program may block it. */
 void helper_end(void);
 /* Requests the arguments of a clone3. False if too many are being read. */

@@ -37,7 +37,8 @@ bool kept_open(struct kept *k, const char *name)
 
 bool kept_is_same(const struct kept *a, const struct kept *b)
 {
-	return a->fd >= 0 && b->fd >= 0 && S_ISREG(a->is.st_mode) && a->is.st_dev == b->is.st_dev && a->is.st_ino == b->is.st_ino;
+	return a->fd >= 0 && b->fd >= 0 && S_ISREG(a->is.st_mode) && a->is.st_dev == b->is.st_dev &&
+		a->is.st_ino == b->is.st_ino;
 }
 
 bool kept_begin(struct kept *k)
@@ -81,7 +82,7 @@ int kept_add(struct kept *k, const char *bytes, size_t size)
 	for (size_t done = 0; done < size;) {
 		errno = 0;
 		ssize_t n = regular ? pwrite(k->fd, bytes + done, size - done, k->size + (off_t)done)
-		                    : write(k->fd, bytes + done, size - done);
+							: write(k->fd, bytes + done, size - done);
 		if (n < 0 && errno == EINTR)
 			continue;
 		if (n <= 0)

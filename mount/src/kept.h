@@ -7,12 +7,12 @@
 #include <sys/stat.h>
 
 struct kept {
-	int fd;          /* -1: nothing is kept */
+	int fd; /* -1: nothing is kept */
 	struct stat is;
-	off_t size;      /* of a regular file, how much of it counts: the rest is a part that a full device left */
-	bool has_rest;   /* there is such a rest */
+	off_t size; /* of a regular file, how much of it counts: the rest is a part that a full device left */
+	bool has_rest; /* there is such a rest */
 	bool was_made;
-	int broken;      /* of another file, the errno after which it ends within a text */
+	int broken; /* of another file, the errno after which it ends within a text */
 	const char *name;
 };
 

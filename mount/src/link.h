@@ -12,13 +12,18 @@ bool link_make(int ends[2]);
 bool link_answer(int end);
 /* The supervisor's side; `process` is the server. */
 void link_use(int end, pid_t process);
-/* 0 and a reservation, or the negated errno if the process may not fork (into a group, if that is not NULL). If the server
-   has died, nothing may fork. */
-int link_reserve(pid_t parent, const char *group, unsigned *reservation);
+/* 0 and a reservation, or the negated errno if the process may not make a child (in a group, if that is not NULL), or a thread.
+   If the server has died, nothing may be made. */
+int link_reserve(pid_t parent, const char *group, bool is_thread, unsigned *reservation);
 /* 0, or a negated errno if the child may not run. The reservation has ended. `frozen`: it stays at its first stop. */
 int link_born(unsigned reservation, pid_t child, bool *frozen);
 void link_cancel(unsigned reservation);
 void link_exited(pid_t pid);
+/* A new thread exists; a thread has ended. The server is not waited for: whatever anyone asks it later, it knows this first. */
+void link_thread_born(unsigned reservation, pid_t thread);
+void link_thread_ended(pid_t thread);
+/* Wakes the server if it has news for a while. Returns how long until the next call is needed: in milliseconds, -1 for never. */
+int link_wake_late(void);
 /* All threads of a frozen process rest, or no longer do. */
 void link_stopped(pid_t pid, bool stopped);
 /* A call of the process is about to make a cgroup namespace: 0, or the negated errno if it may not. `call` is a number by

@@ -1,6 +1,7 @@
 #include "listed.h"
 #include "engine.h"
-#include "reported.h"
+#include "shown.h"
+#include "tasks.h"
 #include <stdlib.h>
 #include <string.h>
 
@@ -11,10 +12,11 @@ static int each_in(const char *group, bool zombies, int (*take)(pid_t pid, const
 	if (fault)
 		return fault;
 	const char *text = engine_text(&size);
-	if (!zombies && (fault = reported_text(group, file_named("cgroup.procs", true), &text, &size)))
+	if (!zombies && (fault = shown_text(group, file_named("cgroup.procs", true), &text, &size)))
 		return fault;
 	for (const char *end = text + size; text < end && fault == 0;) {
-		fault = take((pid_t)strtol(text, NULL, 10), group);
+		pid_t pid = (pid_t)strtol(text, NULL, 10);
+		fault = tasks_is_thread(pid) ? 0 : take(pid, group);
 		text = (const char *)memchr(text, '\n', (size_t)(end - text)) + 1;
 	}
 	return fault;

@@ -116,7 +116,7 @@ bool list_write(const struct list *l, char *out, size_t size)
 		while (has(l, n + 1))
 			n++;
 		int added = n == first ? snprintf(out + at, size - at, "%s%u", at ? "," : "", n)
-		                       : snprintf(out + at, size - at, "%s%u-%u", at ? "," : "", first, n);
+							   : snprintf(out + at, size - at, "%s%u-%u", at ? "," : "", first, n);
 		at += (size_t)added;
 		if (at + 1 >= size)
 			return false;

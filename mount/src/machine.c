@@ -16,7 +16,7 @@ static struct list lists[MACHINE_LISTS];
 
 static struct disk {
 	unsigned major, minor;
-} *disks;
+} * disks;
 static size_t disk_count;
 
 static void read_list(const char *path, struct list *out)

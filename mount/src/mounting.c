@@ -3,35 +3,40 @@
 #include "groups.h"
 #include "memory.h"
 #include "opening.h"
-#include "own.h"
+#include "passing.h"
 #include "spaces.h"
-#include "status.h"
+#include "stand_in.h"
 #include <fcntl.h>
 #include <limits.h>
 #include <linux/capability.h>
 #include <linux/mount.h>
-#include <sched.h>
-#include <signal.h>
+#include <linux/nsfs.h>
 #include <string.h>
 #include <sys/ioctl.h>
+#include <sys/socket.h>
 #include <sys/stat.h>
 #include <sys/syscall.h>
-#include <sys/wait.h>
 
-enum { READ_ONLY = 1, NAME = 16 }; /* MS_RDONLY; sys/mount.h conflicts with other names of linux/mount.h */
+enum { NAME = 16, PAGE = 4096 };
 
-/* The version of cgroups that an argument names; 0: another file system. */
-static int version_of(const struct seccomp_notif *call, int argument)
+/* The C library's header for mount conflicts with linux/mount.h. */
+extern int mount(const char *source, const char *target, const char *type, unsigned long flags, const void *data);
+
+/* The version of cgroups that a type names; 0: another file system. */
+static int version_of(const char *type)
 {
-	char type[NAME] = "";
-	if (!call->data.args[argument] || !memory_text((pid_t)call->pid, call->data.args[argument], type, sizeof type))
-		return 0;
 	return strcmp(type, "cgroup2") == 0 ? 2 : strcmp(type, "cgroup") == 0;
 }
 
-bool mounting_opens(const struct seccomp_notif *call)
+/* Whether the kernel would let the thread mount the machine's cgroups: only a superuser of the namespace of users to which its
+   cgroup namespace belongs. That of this process belongs to one above the program's. */
+static bool may_mount_groups(pid_t thread)
 {
-	return version_of(call, 0) != 0;
+	bool is_superuser = stand_in_may(thread, CAP_SYS_ADMIN);
+	cleanup_fd int space = is_superuser ? stand_in_open_space(thread, "cgroup") : -1;
+	cleanup_fd int owner = space < 0 ? -1 : ioctl(space, NS_GET_USERNS);
+	bool is_above = owner < 0 ? space >= 0 && errno == EPERM : stand_in_is_own(owner, "user");
+	return is_superuser && !is_above;
 }
 
 int mounting_root(pid_t thread, char *out, size_t size)
@@ -46,59 +51,7 @@ int mounting_root(pid_t thread, char *out, size_t size)
 	return n >= 5 && snprintf(out, size, "%s", text + 3) < (int)size ? 0 : -EIO;
 }
 
-/* The thread's capabilities in its own user namespace. */
-static bool has_capability(pid_t thread, int which)
-{
-	char line[64];
-	return status_line(thread, "CapEff:", line, sizeof line) && strtoull(line, NULL, 16) >> which & 1;
-}
-
-static int open_space(pid_t thread, const char *which)
-{
-	char path[48];
-	snprintf(path, sizeof path, "%d/ns/%s", thread, which);
-	return open(path, O_RDONLY | O_CLOEXEC);
-}
-
-static bool is_own(int space, const char *which)
-{
-	char path[48];
-	struct stat st, own;
-	snprintf(path, sizeof path, "self/ns/%s", which);
-	return fstat(space, &st) == 0 && stat(path, &own) == 0 && st.st_ino == own.st_ino;
-}
-
-/* The status of a child, which the program may stop. */
-static int end_of(pid_t child)
-{
-	int status;
-	for (;;) {
-		pid_t n = waitpid(child, &status, WUNTRACED);
-		if (n < 0 && errno != EINTR)
-			return EIO;
-		if (n == child && !WIFSTOPPED(status))
-			return WIFEXITED(status) ? WEXITSTATUS(status) : EIO;
-		if (n == child)
-			kill(child, SIGCONT); /* it cannot fail: it was not waited for */
-	}
-}
-
-/* In a separate process, since only a process without other threads can enter a namespace. It may make only calls that are
-   allowed after a fork of a process with threads. */
-static int attach(int tree, int target, int users, int mounts)
-{
-	bool enters = !is_own(users, "user");
-	pid_t self = getpid(), pid = fork();
-	if (pid == 0) {
-		if (!own_dies_with(self))
-			_exit(EIO);
-		if ((enters && setns(users, CLONE_NEWUSER)) || setns(mounts, CLONE_NEWNS) ||
-		    syscall(SYS_move_mount, tree, "", target, "", MOVE_MOUNT_F_EMPTY_PATH | MOVE_MOUNT_T_EMPTY_PATH))
-			_exit(errno);
-		_exit(0);
-	}
-	return pid < 0 ? errno : end_of(pid);
-}
+/* ---------------------------------------------------------------- a mount of cgroup2 */
 
 /* A copy of the mount, starting at the root of the caller's namespace: a descriptor or -errno. */
 static int copy_of_mount(pid_t thread, bool read_only)
@@ -109,41 +62,195 @@ static int copy_of_mount(pid_t thread, bool read_only)
 	if (fault)
 		return fault;
 	cleanup_fd int root = groups_open(group, O_PATH | O_DIRECTORY);
-	cleanup_fd int tree = root < 0 ? -1 : (int)syscall(SYS_open_tree, root, "", OPEN_TREE_CLONE | OPEN_TREE_CLOEXEC | AT_EMPTY_PATH);
+	cleanup_fd int tree = root < 0
+		? -1
+		: (int)syscall(SYS_open_tree, root, "", OPEN_TREE_CLONE | OPEN_TREE_CLOEXEC | AT_EMPTY_PATH);
 	if (tree < 0 || (read_only && syscall(SYS_mount_setattr, tree, "", AT_EMPTY_PATH, &attributes, sizeof attributes)))
 		return -errno;
 	return steal_fd(&tree);
 }
 
-static int mount_groups(int listener, const struct seccomp_notif *call)
+struct bind {
+	int tree, target;
+};
+
+static int bind_there(const void *argument)
 {
-	char path[PATH_MAX];
+	const struct bind *b = argument;
+	const unsigned how = MOVE_MOUNT_F_EMPTY_PATH | MOVE_MOUNT_T_EMPTY_PATH;
+	return syscall(SYS_move_mount, b->tree, "", b->target, "", how) ? errno : 0;
+}
+
+static bool is_there(int listener, const struct seccomp_notif *call)
+{
+	return ioctl(listener, SECCOMP_IOCTL_NOTIF_ID_VALID, &call->id) == 0;
+}
+
+/* The place of a mount, or -errno. */
+static int find_target(pid_t thread, const char *path)
+{
+	int target = opening_find(thread, AT_FDCWD, path, true, 0);
+	return target >= 0 ? target : errno == ENOMEM ? -ENOMEM : -ENOENT;
+}
+
+static int mount_groups(int listener, const struct seccomp_notif *call, const char *path)
+{
 	pid_t thread = (pid_t)call->pid;
-	if (!memory_text(thread, call->data.args[1], path, sizeof path))
-		return EFAULT;
-	if (!has_capability(thread, CAP_SYS_ADMIN))
-		return EPERM;
 	struct statx st;
-	cleanup_fd int target = opening_find(thread, AT_FDCWD, path, true, 0);
+	if (!stand_in_may(thread, CAP_SYS_ADMIN))
+		return EPERM;
+	cleanup_fd int target = find_target(thread, path);
 	if (target < 0)
-		return errno == ENOMEM ? ENOMEM : ENOENT;
-	cleanup_fd int users = open_space(thread, "user"), mounts = open_space(thread, "mnt");
-	if (statx(target, "", AT_EMPTY_PATH | AT_STATX_DONT_SYNC | AT_NO_AUTOMOUNT, STATX_TYPE, &st) || !S_ISDIR(st.stx_mode))
+		return -target;
+	if (statx(target, "", AT_EMPTY_PATH | AT_STATX_DONT_SYNC | AT_NO_AUTOMOUNT, STATX_TYPE, &st) ||
+		!S_ISDIR(st.stx_mode))
 		return ENOTDIR;
-	cleanup_fd int tree = users < 0 || mounts < 0 ? -1 : copy_of_mount(thread, call->data.args[3] & READ_ONLY);
+	cleanup_fd int tree = copy_of_mount(thread, call->data.args[3] & MS_RDONLY);
 	if (tree == -ENOMEM)
 		return ENOMEM;
-	if (tree < 0 || ioctl(listener, SECCOMP_IOCTL_NOTIF_ID_VALID, &call->id))
+	if (tree < 0 || !is_there(listener, call))
 		return EPERM;
-	return attach(tree, target, users, mounts);
+	return stand_in_call(thread, bind_there, &(struct bind){ tree, target });
+}
+
+/* ---------------------------------------------------------------- a mount of another file system */
+
+/* The arguments of a mount. */
+struct wanted {
+	char type[PATH_MAX], source[PATH_MAX], path[PATH_MAX], data[PAGE];
+	bool has_source, has_data;
+	unsigned long flags;
+	int target; /* -1: the path is looked up again, since relative paths in `data` begin at the working directory */
+	int device, device_as; /* of FUSE: a descriptor of the caller, and its number there */
+};
+
+/* As the kernel reads it: a page, or as much as there is. */
+static bool read_data(pid_t thread, unsigned long at, char data[PAGE])
+{
+	memset(data, 0, PAGE);
+	if (!memory_read(thread, at, data, PAGE) && !memory_read(thread, at, data, PAGE - at % PAGE))
+		return false;
+	data[PAGE - 1] = 0;
+	return true;
+}
+
+static int read_wanted(const struct seccomp_notif *call, struct wanted *w)
+{
+	const __u64 *a = call->data.args;
+	pid_t thread = (pid_t)call->pid;
+	w->flags = a[3] & ((a[3] & MS_MGC_MSK) == MS_MGC_VAL ? 0xffffUL : ~0UL);
+	w->has_source = a[0] != 0;
+	w->has_data = a[4] != 0;
+	w->target = w->device = w->device_as = -1;
+	if (!a[2])
+		return EINVAL;
+	if (!memory_text(thread, a[2], w->type, sizeof w->type) || !memory_text(thread, a[1], w->path, sizeof w->path) ||
+		(w->has_source && !memory_text(thread, a[0], w->source, sizeof w->source)) ||
+		(w->has_data && !read_data(thread, a[4], w->data)))
+		return EFAULT;
+	return 0;
+}
+
+/* FUSE gets its connection as a descriptor of the caller: fd=N among its options. */
+static void take_device(pid_t thread, struct wanted *w)
+{
+	const char *at = w->data;
+	if (!w->has_data || (strcmp(w->type, "fuse") != 0 && strncmp(w->type, "fuse.", 5) != 0))
+		return;
+	while (at && strncmp(at, "fd=", 3) != 0)
+		at = (at = strchr(at, ',')) ? at + 1 : NULL;
+	if (!at)
+		return;
+	cleanup_fd int process = (int)syscall(SYS_pidfd_open, opening_process_of(thread), 0);
+	w->device_as = (int)strtol(at + 3, NULL, 10);
+	w->device = process < 0 ? -1 : (int)syscall(SYS_pidfd_getfd, process, w->device_as, 0);
+}
+
+static int mount_there(const void *argument)
+{
+	const struct wanted *w = argument;
+	if (w->target >= 0 && fchdir(w->target))
+		return errno;
+	if (w->device >= 0 && dup2(w->device, w->device_as) < 0)
+		return EINVAL;
+	return mount(w->has_source ? w->source : NULL, w->target >= 0 ? "." : w->path, w->type, w->flags,
+			   w->has_data ? w->data : NULL)
+		? errno
+		: 0;
+}
+
+static int mount_other(int listener, const struct seccomp_notif *call, struct wanted *w)
+{
+	pid_t thread = (pid_t)call->pid;
+	cleanup_fd int target = strcmp(w->type, "overlay") == 0 ? -1 : find_target(thread, w->path);
+	if (target < 0 && strcmp(w->type, "overlay") != 0)
+		return -target;
+	w->target = target;
+	take_device(thread, w);
+	cleanup_fd int device = w->device;
+	(void)device;
+	return is_there(listener, call) ? stand_in_call(thread, mount_there, w) : EPERM;
 }
 
 bool mounting_takes(int listener, const struct seccomp_notif *call, int *error)
 {
-	int version = version_of(call, 2);
+	struct wanted w;
+	pid_t thread = (pid_t)call->pid;
+	int fault = read_wanted(call, &w);
+	if (w.flags & (MS_REMOUNT | MS_BIND | MS_MOVE | MS_SHARED | MS_PRIVATE | MS_SLAVE | MS_UNBINDABLE))
+		return false; /* no new file system, and only the arguments' registers say so */
+	int version = fault ? 0 : version_of(w.type);
 	if (version == 2)
-		*error = mount_groups(listener, call);
+		*error = mount_groups(listener, call, w.path);
 	else if (version == 1) /* as where version 2 has all controllers */
-		*error = has_capability((pid_t)call->pid, CAP_SYS_ADMIN) ? EBUSY : EPERM;
-	return version != 0;
+		*error = stand_in_may(thread, CAP_SYS_ADMIN) ? EBUSY : EPERM;
+	else if (!may_mount_groups(thread))
+		return false;
+	else
+		*error = fault ? fault : mount_other(listener, call, &w);
+	return true;
+}
+
+/* ---------------------------------------------------------------- fsopen */
+
+struct opening {
+	char type[PATH_MAX];
+	unsigned flags;
+	int to; /* a socket */
+};
+
+static int open_there(const void *argument)
+{
+	const struct opening *o = argument;
+	int fd = (int)syscall(SYS_fsopen, o->type, o->flags);
+	return fd >= 0 && passing_send(o->to, "", 1, &fd, 1) ? 0 : errno;
+}
+
+/* The descriptor, or -errno. */
+static int open_other(pid_t thread, struct opening *o)
+{
+	int ends[2], fd;
+	char byte = 0;
+	if (socketpair(AF_UNIX, SOCK_SEQPACKET | SOCK_CLOEXEC, 0, ends))
+		return -ENOMEM;
+	cleanup_fd int from = ends[0], to = ends[1];
+	o->to = to;
+	int fault = stand_in_call(thread, open_there, o);
+	if (fault == 0 && !passing_take(from, &byte, 1, &fd, 1, MSG_DONTWAIT))
+		fault = ENOMEM;
+	return fault ? -fault : fd;
+}
+
+bool mounting_opens(int listener, const struct seccomp_notif *call, int *opened)
+{
+	struct opening o = { .flags = (unsigned)call->data.args[1] };
+	pid_t thread = (pid_t)call->pid;
+	bool is_read = memory_text(thread, call->data.args[0], o.type, sizeof o.type);
+	if (is_read && version_of(o.type))
+		*opened = -ENOSYS;
+	else if (!may_mount_groups(thread))
+		return false;
+	else
+		*opened = !is_read ? -EFAULT : is_there(listener, call) ? open_other(thread, &o) : -EPERM;
+	return true;
 }

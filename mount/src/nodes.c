@@ -54,8 +54,8 @@ int nodes_path(const struct node *directory, const char *name, char out[PATH_MAX
 static int find_control(const char *path, struct node *out)
 {
 	long control = control_find(path);
-	if (control == -ENOENT)
-		return -ENOENT;
+	if (control < CONTROL_ITSELF)
+		return (int)control;
 	*out = (struct node){ .control = control };
 	return 0;
 }

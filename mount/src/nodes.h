@@ -7,8 +7,8 @@
 
 struct node {
 	struct remembered *group; /* NULL: the control directory, or something in it */
-	const struct file *file;  /* NULL: the group itself */
-	long control;             /* of what is in the control directory (control.h) */
+	const struct file *file; /* NULL: the group itself */
+	long control; /* of what is in the control directory (control.h) */
 };
 
 /* All require the engine's lock. 0; -ENOENT: the kernel has no such number from here. */

@@ -9,6 +9,7 @@
 #include <fcntl.h>
 #include <limits.h>
 #include <linux/magic.h>
+#include <linux/mount.h>
 #include <linux/openat2.h>
 #include <poll.h>
 #include <stdatomic.h>
@@ -48,6 +49,18 @@ static void let_through(int listener, const struct seccomp_notif *call)
 	respond(listener, call, 0, SECCOMP_USER_NOTIF_FLAG_CONTINUE);
 }
 
+/* The call returns a copy of a descriptor. If the caller can't have another, the call fails: the kernel may find one when it
+   looks, and the caller would see what is the machine's. */
+static void respond_with(int listener, const struct seccomp_notif *call, int fd, int flags)
+{
+	struct seccomp_notif_addfd add = { .id = call->id,
+		.flags = SECCOMP_ADDFD_FLAG_SEND,
+		.srcfd = (__u32)fd,
+		.newfd_flags = (__u32)flags };
+	if (ioctl(listener, SECCOMP_IOCTL_NOTIF_ADDFD, &add) < 0)
+		respond(listener, call, errno, 0);
+}
+
 /* If memory did not suffice to know what the call asks for, it fails. To let it through could show the machine's own. */
 static bool answer_no_memory(int listener, const struct seccomp_notif *call)
 {
@@ -61,13 +74,14 @@ static bool answer_no_memory(int listener, const struct seccomp_notif *call)
 
 /* The caller keeps its number until the call ends. Its memory is opened before that is checked, so the write reaches no
    other process. The read may block, and then only this call waits. */
-static bool write_answer(int listener, const struct seccomp_notif *call, unsigned long at, const void *bytes, size_t size)
+static bool write_answer(int listener, const struct seccomp_notif *call, unsigned long at, const void *bytes,
+	size_t size)
 {
 	char path[40];
 	snprintf(path, sizeof path, "%d/mem", (int)call->pid);
 	cleanup_fd int memory = open(path, O_RDWR | O_CLOEXEC);
 	return memory >= 0 && ioctl(listener, SECCOMP_IOCTL_NOTIF_ID_VALID, &call->id) == 0 &&
-	       pwrite(memory, bytes, size, (off_t)at) == (ssize_t)size;
+		pwrite(memory, bytes, size, (off_t)at) == (ssize_t)size;
 }
 
 /* True if the mount was asked for and the answer has been given. */
@@ -79,7 +93,8 @@ static bool answer_statfs(int listener, const struct seccomp_notif *call)
 	bool by_path = call->data.nr == __NR_statfs;
 	if (by_path && !memory_text(thread, call->data.args[0], path, sizeof path))
 		return false;
-	cleanup_fd int file = by_path ? opening_find(thread, AT_FDCWD, path, true, 0) : opening_of_descriptor(thread, (int)call->data.args[0]);
+	cleanup_fd int file = by_path ? opening_find(thread, AT_FDCWD, path, true, 0)
+								  : opening_of_descriptor(thread, (int)call->data.args[0]);
 	if (file >= 0 && !groups_have(file))
 		return false;
 	if (file < 0 || fstatfs(file, &st))
@@ -99,10 +114,10 @@ struct open_call {
 };
 
 /* The flags that openat2 knows. O_LARGEFILE is 0 in the C library, as every file is one. */
-static const uint64_t known_flags = O_ACCMODE | O_CREAT | O_EXCL | O_NOCTTY | O_TRUNC | O_APPEND | O_NONBLOCK | O_SYNC | O_ASYNC |
-                                    O_DIRECT | O_DIRECTORY | O_NOFOLLOW | O_NOATIME | O_CLOEXEC | O_PATH | O_TMPFILE | 0100000;
-static const uint64_t known_rules = RESOLVE_NO_XDEV | RESOLVE_NO_MAGICLINKS | RESOLVE_NO_SYMLINKS | RESOLVE_BENEATH | RESOLVE_IN_ROOT |
-                                    RESOLVE_CACHED;
+static const uint64_t known_flags = O_ACCMODE | O_CREAT | O_EXCL | O_NOCTTY | O_TRUNC | O_APPEND | O_NONBLOCK | O_SYNC |
+	O_ASYNC | O_DIRECT | O_DIRECTORY | O_NOFOLLOW | O_NOATIME | O_CLOEXEC | O_PATH | O_TMPFILE | 0100000;
+static const uint64_t known_rules = RESOLVE_NO_XDEV | RESOLVE_NO_MAGICLINKS | RESOLVE_NO_SYMLINKS | RESOLVE_BENEATH |
+	RESOLVE_IN_ROOT | RESOLVE_CACHED;
 
 /* The argument of an openat2 that the kernel would not refuse at once. A longer one has zeros at its end. */
 static bool read_how(pid_t thread, unsigned long at, size_t size, struct open_how *how)
@@ -154,7 +169,6 @@ static bool read_open(const struct seccomp_notif *call, struct open_call *out)
 static bool answer_open(int listener, const struct seccomp_notif *call)
 {
 	struct open_call asked;
-	char again[48];
 	pid_t thread = (pid_t)call->pid;
 	if (!read_open(call, &asked))
 		return false;
@@ -176,29 +190,30 @@ static bool answer_open(int listener, const struct seccomp_notif *call)
 		respond(listener, call, EACCES, 0);
 		return true;
 	}
-	snprintf(again, sizeof again, "self/fd/%d", text);
-	cleanup_fd int readable = open(again, O_RDONLY | O_CLOEXEC);
-	if (readable < 0) {
-		respond(listener, call, errno, 0);
-		return true;
-	}
-	struct seccomp_notif_addfd add = { .id = call->id, .flags = SECCOMP_ADDFD_FLAG_SEND, .srcfd = (__u32)readable,
-		.newfd_flags = (__u32)(asked.flags & O_CLOEXEC) };
-	if (ioctl(listener, SECCOMP_IOCTL_NOTIF_ADDFD, &add) >= 0)
-		return true;
-	/* the caller may have a descriptor again when the kernel looks, and could read the machine's text through it */
-	respond(listener, call, errno, 0);
+	respond_with(listener, call, text, asked.flags & O_CLOEXEC);
 	return true;
 }
 
-/* A caller that knows only the new calls gets ENOSYS, as on an older kernel, and then uses mount. */
 static bool answer_mount(int listener, const struct seccomp_notif *call)
 {
-	int error = ENOSYS;
-	bool answered = call->data.nr == __NR_mount ? mounting_takes(listener, call, &error) : mounting_opens(call);
+	int error;
+	bool answered = mounting_takes(listener, call, &error);
 	if (answered)
 		respond(listener, call, error, 0);
 	return answered;
+}
+
+/* A caller that knows only the new calls gets ENOSYS for cgroup2, as on an older kernel, and then uses mount. */
+static bool answer_fsopen(int listener, const struct seccomp_notif *call)
+{
+	cleanup_fd int opened = -1;
+	if (!mounting_opens(listener, call, &opened))
+		return false;
+	if (opened >= 0)
+		respond_with(listener, call, opened, call->data.args[1] & FSOPEN_CLOEXEC ? O_CLOEXEC : 0);
+	else
+		respond(listener, call, -opened, 0);
+	return true;
 }
 
 /* A process has one tracer, and here that is the supervisor. The kernel refuses these calls too, but does not say why. */
@@ -218,7 +233,8 @@ static bool answer_trace(int listener, const struct seccomp_notif *call)
    open. */
 static bool limits_us(const struct seccomp_notif *call)
 {
-	return call->data.nr == __NR_prlimit64 && call->data.args[2] && opening_is_own((pid_t)call->pid, (pid_t)call->data.args[0]);
+	return call->data.nr == __NR_prlimit64 && call->data.args[2] &&
+		opening_is_own((pid_t)call->pid, (pid_t)call->data.args[0]);
 }
 
 static bool answer_limit(int listener, const struct seccomp_notif *call)
@@ -236,8 +252,9 @@ static bool answer(int listener, const struct seccomp_notif *call)
 	case __NR_fstatfs:
 		return answer_statfs(listener, call);
 	case __NR_mount:
-	case __NR_fsopen:
 		return answer_mount(listener, call);
+	case __NR_fsopen:
+		return answer_fsopen(listener, call);
 	case __NR_ptrace:
 		return answer_trace(listener, call);
 	case __NR_prlimit64:

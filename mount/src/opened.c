@@ -1,5 +1,7 @@
 #include "opened.h"
+#include "control.h"
 #include "engine.h"
+#include "tables.h"
 #include <errno.h>
 #include <poll.h>
 #include <stdlib.h>
@@ -92,6 +94,8 @@ void opened_free(struct opened *o)
 	WANTS_LOCK();
 	if (o->waiting)
 		fuse_pollhandle_destroy(o->waiting);
+	if (!o->file && o->control >= CONTROL_TABLE)
+		tables_close(o->control - CONTROL_TABLE);
 	leave(o);
 	free(o->text);
 	free(o);
@@ -150,6 +154,14 @@ void opened_wake(const struct remembered *r, const struct file *file)
 	WANTS_LOCK();
 	for (struct opened *o = r->opened; o; o = o->next)
 		if (o->file == file)
+			wake(o);
+}
+
+void opened_wake_control(long control)
+{
+	const struct remembered *root = remembered_find("/");
+	for (struct opened *o = root ? root->opened : NULL; o; o = o->next)
+		if (!o->file && o->control == control)
 			wake(o);
 }
 

@@ -9,13 +9,14 @@ enum { A_DIRECTORY = -1 }; /* as `control` */
 
 struct opened {
 	struct opened *next, *before; /* in the list of its group, or of those without one */
-	struct remembered *of;     /* NULL once the group was removed, or has lost the file's controller; and of the control directory */
-	const struct file *file;   /* NULL: a directory, or a file of the control directory */
+	struct remembered
+		*of; /* NULL once the group was removed, or has lost the file's controller; and of the control directory */
+	const struct file *file; /* NULL: a directory, or a file of the control directory */
 	long control;
-	char *text;                /* of the last read that did not continue an earlier one */
+	char *text; /* of the last read that did not continue an earlier one */
 	size_t size;
-	off_t read_to;             /* where the last read ended */
-	bool changed;              /* since its last read; true at first */
+	off_t read_to; /* where the last read ended */
+	bool changed; /* since its last read; true at first */
 	struct fuse_pollhandle *waiting;
 };
 
@@ -35,8 +36,9 @@ void opened_read(struct opened *o, char *out, size_t size, off_t at);
 /* A poll: returns what it reports, and notes whom to wake at the next change. */
 unsigned opened_poll(struct opened *o, struct fuse_pollhandle *waiter);
 bool opened_is_gone(const struct opened *o);
-/* The text of a file has changed. */
+/* The text of a file has changed; or of one of the control directory. */
 void opened_wake(const struct remembered *r, const struct file *file);
+void opened_wake_control(long control);
 /* The group has lost these controllers: files that are open stay without one, also if it gets them again. */
 void opened_lose_files(struct remembered *r, unsigned controllers);
 /* The group was removed. */

@@ -37,7 +37,8 @@ bool opening_is_own(pid_t thread, pid_t number)
 {
 	if (!opening_same_numbers(thread, getpid()))
 		return false;
-	return opening_process_of(number) == getppid() || (status_number(number, "PPid:") == getppid() && status_number(number, "TracerPid:") == 0);
+	return opening_process_of(number) == getppid() ||
+		(status_number(number, "PPid:") == getppid() && status_number(number, "TracerPid:") == 0);
 }
 
 pid_t opening_seen_from(pid_t thread, pid_t number)
@@ -52,6 +53,24 @@ pid_t opening_seen_from(pid_t thread, pid_t number)
 		pid_t pid = (pid_t)strtol(entry->d_name, NULL, 10);
 		if (pid > 0 && status_number(pid, "NStgid:") == number && opening_same_numbers(pid, thread))
 			return pid;
+	}
+	return -1;
+}
+
+pid_t opening_thread_seen_from(pid_t thread, pid_t process, pid_t number)
+{
+	char path[40];
+	struct dirent *entry;
+	if (opening_same_numbers(thread, getpid()))
+		return number;
+	snprintf(path, sizeof path, "%d/task", process);
+	cleanup_directory DIR *all = opendir(path);
+	if (!all)
+		return -errno;
+	while ((entry = readdir(all))) {
+		pid_t id = (pid_t)strtol(entry->d_name, NULL, 10);
+		if (id > 0 && status_number(id, "NSpid:") == number)
+			return id;
 	}
 	return -1;
 }
@@ -85,16 +104,18 @@ static bool is_same(int a, int b)
 {
 	struct statx one, other;
 	int how = AT_EMPTY_PATH | AT_STATX_DONT_SYNC | AT_NO_AUTOMOUNT;
-	return statx(a, "", how, STATX_INO | STATX_MNT_ID, &one) == 0 && statx(b, "", how, STATX_INO | STATX_MNT_ID, &other) == 0 &&
-	       one.stx_ino == other.stx_ino && one.stx_mnt_id == other.stx_mnt_id && one.stx_dev_minor == other.stx_dev_minor &&
-	       one.stx_dev_major == other.stx_dev_major;
+	return statx(a, "", how, STATX_INO | STATX_MNT_ID, &one) == 0 &&
+		statx(b, "", how, STATX_INO | STATX_MNT_ID, &other) == 0 && one.stx_ino == other.stx_ino &&
+		one.stx_mnt_id == other.stx_mnt_id && one.stx_dev_minor == other.stx_dev_minor &&
+		one.stx_dev_major == other.stx_dev_major;
 }
 
 static bool is_same_mount(int a, int b)
 {
 	struct statx one, other;
 	int how = AT_EMPTY_PATH | AT_STATX_DONT_SYNC | AT_NO_AUTOMOUNT;
-	return statx(a, "", how, STATX_MNT_ID, &one) == 0 && statx(b, "", how, STATX_MNT_ID, &other) == 0 && one.stx_mnt_id == other.stx_mnt_id;
+	return statx(a, "", how, STATX_MNT_ID, &one) == 0 && statx(b, "", how, STATX_MNT_ID, &other) == 0 &&
+		one.stx_mnt_id == other.stx_mnt_id;
 }
 
 static bool is_link(int fd)
@@ -112,7 +133,8 @@ static bool is_proc(int fd)
 static bool is_proc_root(int fd)
 {
 	struct statx st;
-	return is_proc(fd) && statx(fd, "", AT_EMPTY_PATH | AT_STATX_DONT_SYNC, STATX_INO, &st) == 0 && st.stx_ino == PROC_ROOT;
+	return is_proc(fd) && statx(fd, "", AT_EMPTY_PATH | AT_STATX_DONT_SYNC, STATX_INO, &st) == 0 &&
+		st.stx_ino == PROC_ROOT;
 }
 
 static void go(struct walk *w, int to)
@@ -144,8 +166,8 @@ static bool is_own_proc(int fd)
 {
 	struct statx st, own;
 	return statx(fd, "", AT_EMPTY_PATH | AT_STATX_DONT_SYNC, STATX_INO, &st) == 0 &&
-	       statx(AT_FDCWD, ".", AT_STATX_DONT_SYNC, STATX_INO, &own) == 0 && st.stx_dev_major == own.stx_dev_major &&
-	       st.stx_dev_minor == own.stx_dev_minor;
+		statx(AT_FDCWD, ".", AT_STATX_DONT_SYNC, STATX_INO, &own) == 0 && st.stx_dev_major == own.stx_dev_major &&
+		st.stx_dev_minor == own.stx_dev_minor;
 }
 
 /* /proc/self and /proc/thread-self mean the thread as it is numbered where that /proc was mounted. */
@@ -281,7 +303,8 @@ int opening_find(pid_t thread, int directory, const char *path, bool follows, ui
 		root = top;
 	}
 	if (is_same(root, own) && resolve == 0) {
-		struct open_how how = { .flags = (uint64_t)(O_PATH | O_CLOEXEC | (follows ? 0 : O_NOFOLLOW)), .resolve = RESOLVE_NO_MAGICLINKS };
+		struct open_how how = { .flags = (uint64_t)(O_PATH | O_CLOEXEC | (follows ? 0 : O_NOFOLLOW)),
+			.resolve = RESOLVE_NO_MAGICLINKS };
 		cleanup_fd int found = (int)syscall(SYS_openat2, from, path, &how, sizeof how);
 		if (found >= 0 && !is_proc(found) && !is_proc(from))
 			return steal_fd(&found);

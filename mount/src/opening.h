@@ -22,5 +22,7 @@ bool opening_is_own(pid_t thread, pid_t number);
 /* The process that has this number, or a thread with it, in the numbers of the asking thread. -1: there is none; another
    -errno if it can't be known. */
 pid_t opening_seen_from(pid_t thread, pid_t number);
+/* The same for a thread of this process. */
+pid_t opening_thread_seen_from(pid_t thread, pid_t process, pid_t number);
 
 #endif

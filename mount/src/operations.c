@@ -1,6 +1,7 @@
 /* The table for libfuse, and the operations that a cgroup file system refuses. */
 #include "operations.h"
 #include "attributes.h"
+#include "bounds.h"
 #include "watch.h"
 #include <errno.h>
 #include <stdint.h>
@@ -15,7 +16,10 @@ static void start(void *unused, struct fuse_conn_info *connection)
 
 static void statfs_group(fuse_req_t req, fuse_ino_t number)
 {
-	struct statvfs st = { .f_bsize = 4096, .f_frsize = 4096, .f_namemax = 255, .f_ffree = look.marked ? MARK : 0 };
+	struct statvfs st = { .f_bsize = 4096,
+		.f_frsize = 4096,
+		.f_namemax = NAME_BYTES,
+		.f_ffree = look.marked ? MARK : 0 };
 	(void)number;
 	fuse_reply_statfs(req, &st);
 }
@@ -51,7 +55,8 @@ static void no_link(fuse_req_t req, fuse_ino_t number, fuse_ino_t parent, const 
 	fuse_reply_err(req, EPERM);
 }
 
-static void no_rename(fuse_req_t req, fuse_ino_t parent, const char *name, fuse_ino_t to, const char *to_name, unsigned flags)
+static void no_rename(fuse_req_t req, fuse_ino_t parent, const char *name, fuse_ino_t to, const char *to_name,
+	unsigned flags)
 {
 	(void)parent, (void)name, (void)to, (void)to_name;
 	fuse_reply_err(req, flags ? EINVAL : EPERM);

@@ -9,8 +9,8 @@
 
 /* The options of the mount. */
 struct look {
-	bool history;      /* the control directory is listed, and has the files of a history */
-	bool marked;       /* statfs carries a mark by which the supervisor knows this file system */
+	bool history; /* the control directory is listed, and has the files of a history */
+	bool marked; /* statfs carries a mark by which the supervisor knows this file system */
 	uid_t uid;
 	gid_t gid;
 	struct timespec born; /* at each notification */
@@ -40,7 +40,8 @@ void listing_release(fuse_req_t req, fuse_ino_t number, struct fuse_file_info *f
 void content_access(fuse_req_t req, fuse_ino_t number, int mask);
 void content_open(fuse_req_t req, fuse_ino_t number, struct fuse_file_info *fi);
 void content_read(fuse_req_t req, fuse_ino_t number, size_t size, off_t at, struct fuse_file_info *fi);
-void content_write(fuse_req_t req, fuse_ino_t number, const char *data, size_t size, off_t at, struct fuse_file_info *fi);
+void content_write(fuse_req_t req, fuse_ino_t number, const char *data, size_t size, off_t at,
+	struct fuse_file_info *fi);
 void content_poll(fuse_req_t req, fuse_ino_t number, struct fuse_file_info *fi, struct fuse_pollhandle *waiter);
 void content_release(fuse_req_t req, fuse_ino_t number, struct fuse_file_info *fi);
 

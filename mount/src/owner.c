@@ -51,7 +51,9 @@ static struct shown of_control(const struct node *node)
 void owner_apply(const struct node *node, struct stat *st)
 {
 	WANTS_LOCK();
-	const struct shown s = !node->group ? of_control(node) : node->file ? of_file(node->group, node->file) : node->group->itself;
+	const struct shown s = !node->group ? of_control(node)
+		: node->file                    ? of_file(node->group, node->file)
+										: node->group->itself;
 	st->st_mode = (nodes_mode(node) & S_IFMT) | s.mode;
 	st->st_uid = s.uid;
 	st->st_gid = s.gid;

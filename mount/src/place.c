@@ -1,9 +1,7 @@
 #include "place.h"
-#include <errno.h>
+#include <makhloeum.h>
 #include <stdio.h>
 #include <string.h>
-
-enum { NAMES_MAX = 32, NAME_BYTES = 255 };
 
 bool is_root(const char *group)
 {
@@ -46,20 +44,6 @@ void seen_from(const char *root, const char *group, char out[PATH_MAX_SAID])
 
 int path_fault(const char *path)
 {
-	int count = 0;
-	if (is_root(path))
-		return 0;
-	while (*path) {
-		const char *name = ++path;
-		for (; *path && *path != '/'; path++)
-			if (*path < 0x21 || *path > 0x7e)
-				return -EINVAL;
-		if (path - name > NAME_BYTES)
-			return -ENAMETOOLONG;
-		if (strncmp(name, "cgroup.", 7) == 0 || strncmp(name, "pids.", 5) == 0)
-			return -EINVAL;
-		if (++count > NAMES_MAX)
-			return -EAGAIN;
-	}
-	return 0;
+	size_t position;
+	return -mk_path_errno(mk_path_fault((const uint8_t *)path, strlen(path), &position));
 }

@@ -2,11 +2,12 @@
 #ifndef PLACE_H
 #define PLACE_H
 
+#include "bounds.h"
 #include <stdbool.h>
 
-enum { PATH_MAX_SAID = 4096 };
+enum { PATH_MAX_SAID = PATH_BYTES + 1 };
 
-/* 0 if the trace language can express every name of a group's path; else the kernel's errno that fits best. */
+/* 0 if it is a path of the trace language; else the errno of a mkdir with this fault of a path, negative. */
 int path_fault(const char *path);
 /* The group above; the root's is the root. */
 void go_up(char *group);

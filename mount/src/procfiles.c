@@ -4,11 +4,14 @@
 #include "groups.h"
 #include "mounting.h"
 #include "opening.h"
+#include "passing.h"
 #include "place.h"
 #include "space.h"
 #include "spaces.h"
+#include "tables.h"
 #include <fcntl.h>
 #include <linux/magic.h>
+#include <stdatomic.h>
 #include <stdbool.h>
 #include <string.h>
 #include <sys/mman.h>
@@ -29,15 +32,16 @@ static int new_text(const char *name, FILE **out)
 	return steal_fd(&fd);
 }
 
-/* The text is complete, or not shown. */
-static int end_text(int fd, FILE *out, int fault)
+/* The text is complete, or not shown. Who gets it can only read it. */
+static int end_text(int fd, FILE *out)
 {
+	char again[48];
+	cleanup_fd int written = fd;
 	bool incomplete = ferror(out);
 	incomplete |= fclose(out) != 0;
-	if (fault == 0 && !incomplete)
-		return fd;
-	close(fd);
-	return fault ? fault : -ENOMEM;
+	snprintf(again, sizeof again, "self/fd/%d", written);
+	int readable = incomplete ? -1 : open(again, O_RDONLY | O_CLOEXEC);
+	return incomplete ? -ENOMEM : readable < 0 ? -errno : readable;
 }
 
 /* A file of the mount, so that it shows the current group even if it stays open. */
@@ -49,81 +53,24 @@ static int cgroup_text(pid_t reader, pid_t pid)
 	return fd < 0 ? -errno : fd;
 }
 
-/* A word of a line, counted from 0. */
-static bool take_word(const char *line, int which, char *out, size_t size)
-{
-	line += strspn(line, " ");
-	for (; which > 0; which--) {
-		line += strcspn(line, " \n");
-		line += strspn(line, " ");
-	}
-	size_t n = strcspn(line, " \n");
-	if (n == 0 || n >= size)
-		return false;
-	memcpy(out, line, n);
-	out[n] = 0;
-	return true;
-}
-
-/* A line of mountinfo without its end. The mount's root is shown relative to the root of the reader's namespace. */
-static void put_info(FILE *out, const char *line, const char *root)
-{
-	char group[LONG], seen[LONG];
-	size_t before = 0;
-	for (int i = 0; i < 3; i++)
-		before += strcspn(line + before, " ") + 1;
-	if (!take_word(line, 3, group, sizeof group))
-		return;
-	seen_from(root, group, seen);
-	fprintf(out, "%.*s%s%s - cgroup2 cgroup2 rw\n", (int)before, line, seen, line + before + strlen(group));
-}
-
-/* One line of a table: the mount as the kernel would show a cgroup2 mount; the machine's own are left out. */
-static void put_mount(FILE *out, char *line, const char *what, const char *root)
-{
-	char place[LONG], type[64], source[64];
-	bool is_info = strcmp(what, "mountinfo") == 0, is_stats = strcmp(what, "mountstats") == 0;
-	char *tail = is_info ? strstr(line, " - ") : line;
-	if (!tail || !take_word(line, is_info || is_stats ? 4 : 1, place, sizeof place) ||
-	    !take_word(tail, is_info ? 1 : is_stats ? 7 : 2, type, sizeof type) ||
-	    !take_word(tail, is_info ? 2 : is_stats ? 1 : 0, source, sizeof source)) {
-		fputs(line, out);
-		return;
-	}
-	if (strcmp(type, "cgroup") == 0 || strcmp(type, "cgroup2") == 0)
-		return;
-	if (strcmp(type, "tmpfs") == 0 && strcmp(place, cgroup_mount) == 0)
-		return;
-	if (strcmp(type, "fuse.cgroup2") != 0 || strcmp(source, cgroup_source) != 0)
-		fputs(line, out);
-	else if (is_info) {
-		*tail = 0;
-		put_info(out, line, root);
-	} else if (is_stats)
-		fprintf(out, "device cgroup2 mounted on %s with fstype cgroup2\n", place);
-	else
-		fprintf(out, "cgroup2 %s cgroup2 rw,nosuid,nodev,noexec,relatime 0 0\n", place);
-}
-
+/* A file of the mount too: it shows what is mounted when it is read. */
 static int mounts_text(pid_t reader, pid_t pid, const char *what)
 {
-	char path[48], root[LONG];
-	cleanup_free char *line = NULL;
-	size_t room = 0;
-	FILE *out;
+	static atomic_long last;
+	char path[48];
+	struct given_table given = { .number = atomic_fetch_add(&last, 1) + 1, .space = spaces_of(reader) };
+	snprintf(given.what, sizeof given.what, "%s", what);
 	snprintf(path, sizeof path, "%d/%s", pid, what);
-	int fault = mounting_root(reader, root, sizeof root);
-	if (fault)
-		return fault;
-	cleanup_stream FILE *in = fopen(path, "re");
-	if (!in)
-		return errno == ENOMEM ? -ENOMEM : -1;
-	int fd = new_text(what, &out);
-	if (fd < 0)
-		return fd; /* cppcheck-suppress resourceLeak ; the cleanup attribute closes it */
-	while (getline(&line, &room, in) > 0)
-		put_mount(out, line, what, root);
-	return end_text(fd, out, feof(in) ? 0 : errno == ENOMEM ? -ENOMEM : -1);
+	cleanup_fd int table = open(path, O_RDONLY | O_CLOEXEC), bell = open(path, O_RDONLY | O_CLOEXEC);
+	if (table < 0 || bell < 0)
+		return errno == ENOMEM ? -ENOMEM : -1; /* cppcheck-suppress resourceLeak ; the cleanup attribute closes them */
+	if (!passing_send(tables_socket(), &given, sizeof given, (int[]){ table, bell }, 2))
+		return -errno;
+	snprintf(path, sizeof path, "/.makhloeum.t.%ld", given.number);
+	int fd = groups_open(path, O_RDONLY);
+	return fd >= 0        ? fd
+		: errno == ENOENT ? -ENFILE
+						  : -errno; /* the server had no room for this one, or for very many */
 }
 
 static int constant_text(const char *name, const char *text)
@@ -133,7 +80,7 @@ static int constant_text(const char *name, const char *text)
 	if (fd < 0)
 		return fd;
 	fputs(text, out);
-	return end_text(fd, out, 0);
+	return end_text(fd, out);
 }
 
 /* /proc/cgroups: the controllers that this run has, in the kernel's order and by its names of version 1. */
@@ -142,7 +89,8 @@ static int controllers_text(void)
 	static const struct {
 		unsigned which;
 		const char *name;
-	} all[] = { { HAS_CPUSET, "cpuset" }, { HAS_CPU, "cpu" }, { HAS_IO, "blkio" }, { HAS_MEMORY, "memory" }, { HAS_PIDS, "pids" } };
+	} all[] = { { HAS_CPUSET, "cpuset" }, { HAS_CPU, "cpu" }, { HAS_IO, "blkio" }, { HAS_MEMORY, "memory" },
+		{ HAS_PIDS, "pids" } };
 	FILE *out;
 	int fd = new_text("cgroups", &out);
 	if (fd < 0)
@@ -151,7 +99,7 @@ static int controllers_text(void)
 	for (size_t i = 0; i < sizeof all / sizeof *all; i++)
 		if (all[i].which & (controllers_kept() | HAS_PIDS))
 			fprintf(out, "%s\t0\t1\t1\n", all[i].name);
-	return end_text(fd, out, 0);
+	return end_text(fd, out);
 }
 
 /* ---------------------------------------------------------------- the cpuset of a process */
@@ -224,13 +172,20 @@ int procfiles_text(pid_t thread, int file)
 		return -1;
 	path[n] = 0;
 	const char *what = cut_name(path), *who = cut_name(path);
-	if (!is_number(who))
+	bool is_thread = strcmp(cut_name(path), "task") == 0;
+	const char *process = is_thread ? cut_name(path) : who;
+	if (!is_number(who) || !is_number(process))
 		return strcmp(what, "cgroups") == 0 ? controllers_text() : -1;
 	bool is_group = strcmp(what, "cgroup") == 0, is_cpuset = strcmp(what, "cpuset") == 0;
-	if (!is_group && !is_cpuset && strcmp(what, "mounts") != 0 && strcmp(what, "mountinfo") != 0 && strcmp(what, "mountstats") != 0)
+	if (!is_group && !is_cpuset && strcmp(what, "mounts") != 0 && strcmp(what, "mountinfo") != 0 &&
+		strcmp(what, "mountstats") != 0)
 		return -1;
-	pid_t pid = opening_seen_from(thread, (pid_t)strtol(who, NULL, 10));
+	pid_t pid = opening_seen_from(thread, (pid_t)strtol(process, NULL, 10));
 	if (pid <= 0)
 		return pid ? pid : -1;
-	return is_group ? cgroup_text(thread, pid) : is_cpuset ? cpuset_text(thread, pid) : mounts_text(thread, pid, what);
+	if (is_group || is_cpuset)
+		return is_group ? cgroup_text(thread, pid) : cpuset_text(thread, pid);
+	/* a thread may be in another mount namespace than its process */
+	pid_t id = is_thread ? opening_thread_seen_from(thread, pid, (pid_t)strtol(who, NULL, 10)) : pid;
+	return id > 0 ? mounts_text(thread, id, what) : id;
 }

@@ -5,6 +5,7 @@
 #include "own.h"
 #include "place.h"
 #include "reported.h"
+#include "reserved.h"
 #include "status.h"
 #include "watch.h"
 #include <dirent.h>
@@ -20,7 +21,7 @@
 #include <sys/syscall.h>
 #include <unistd.h>
 
-enum { PIDS = 4194304, PROCESS_ONE = 1 };
+enum { PROCESS_ONE = 1 };
 
 /* What is known of each number. A process that a kill in the hierarchy reached is dying: it may fork no more. One that is
    disowned leaves the hierarchy at the next look. */
@@ -31,7 +32,7 @@ static enum { NUMBERS, ADOPTED, REPORTED } way;
 static struct adopted {
 	pid_t pid;
 	int fd;
-} *adopted;
+} * adopted;
 static size_t adopted_count, adopted_room;
 static int deaths = -1; /* an epoll set of their pidfds */
 
@@ -307,5 +308,5 @@ void real_kill_noted(void)
 	for (size_t i = 0; i < noted_count; i++)
 		slay(noted[i]);
 	if (noted_group[0])
-		reported_kill_reserved(noted_group);
+		reserved_kill(noted_group);
 }

@@ -6,7 +6,7 @@
 #include <stdbool.h>
 #include <sys/types.h>
 
-bool real_adopt_all(void);  /* for mount --adopt */
+bool real_adopt_all(void); /* for mount --adopt */
 void real_are_reported(void); /* for run */
 
 /* The rest requires the engine's lock. */

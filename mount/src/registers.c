@@ -58,7 +58,7 @@ bool registers_restore(pid_t thread, const struct registers *before)
 		return false;
 	struct user_regs_struct *k = &now.kernel;
 	if (k->rdi == b->rdi && k->rsi == b->rsi && k->rdx == b->rdx && k->r10 == b->r10 && k->r8 == b->r8 &&
-	    k->orig_rax == b->orig_rax)
+		k->orig_rax == b->orig_rax)
 		return registers_set_ticket(thread, before, b->r9);
 	k->orig_rax = b->orig_rax;
 	k->rdi = b->rdi;

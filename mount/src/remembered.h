@@ -25,18 +25,18 @@ struct shown {
 
 struct remembered {
 	const char *path;
-	uint64_t number;          /* of the group's inode; those of its files follow (nodes.h) */
-	uint64_t known;           /* look-ups of the group and its files that the kernel has not forgotten */
-	bool gone;                /* it was removed: a group that has its path now is another one */
+	uint64_t number; /* of the group's inode; those of its files follow (nodes.h) */
+	uint64_t known; /* look-ups of the group and its files that the kernel has not forgotten */
+	bool gone; /* it was removed: a group that has its path now is another one */
 	struct shown itself;
-	struct shown at_first;    /* its files have the owner and the times that it had when it was made */
+	struct shown at_first; /* its files have the owner and the times that it had when it was made */
 	struct opened *opened;
 	struct watched *watched;
 	struct owned *owned;
 	struct attribute *attributes;
-	struct kept_value *values;     /* of kept controllers */
-	unsigned subtree;         /* the controllers of its children */
-	bool freezes;             /* the value of cgroup.freeze */
+	struct kept_value *values; /* of kept controllers */
+	unsigned subtree; /* the controllers of its children */
+	bool freezes; /* the value of cgroup.freeze */
 	char bytes[]; /* of the path */
 };
 

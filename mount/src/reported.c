@@ -1,10 +1,13 @@
 #include "reported.h"
+#include "advance.h"
 #include "cleanup.h"
 #include "controllers.h"
 #include "engine.h"
 #include "freezer.h"
 #include "listed.h"
 #include "place.h"
+#include "reserved.h"
+#include "tasks.h"
 #include "watch.h"
 #include "zombies.h"
 #include <errno.h>
@@ -13,78 +16,21 @@
 #include <stdlib.h>
 #include <string.h>
 
-enum { PIDS = 4194304, PROCESS_ONE = 1 };
+enum { PROCESS_ONE = 1 };
 
 /* A process that a kill in the hierarchy reached is dying: it may fork no more. */
 enum { UNKNOWN, LIVE, DYING };
 static unsigned char known[PIDS];
 static size_t known_count;
 
-/* A fork that was allowed and is not made yet. It counts against every limit at or above its group. */
-struct reservation {
-	struct reservation *next;
-	unsigned number;
-	pid_t parent;
-	bool elsewhere, killed;
-	char group[];
-};
-static struct reservation *reserved;
-static size_t reserved_count;
+static unsigned long operations; /* of the file system: each may change what was allowed */
 
 static bool in_range(pid_t pid)
 {
 	return pid > PROCESS_ONE && pid < PIDS;
 }
 
-/* ---------------------------------------------------------------- reservations */
-
-static int reserve(const char *group, pid_t parent, bool elsewhere, unsigned *out)
-{
-	static unsigned last;
-	size_t size = strlen(group) + 1;
-	struct reservation *r = malloc(sizeof *r + size);
-	if (!r)
-		return -ENOMEM;
-	memcpy(r->group, group, size);
-	r->number = ++last;
-	r->parent = parent;
-	r->elsewhere = elsewhere;
-	r->killed = false;
-	r->next = reserved;
-	reserved = r;
-	reserved_count++;
-	*out = r->number;
-	return 0;
-}
-
-static struct reservation *find_reserved(unsigned number)
-{
-	struct reservation *r = reserved;
-	while (r && r->number != number)
-		r = r->next;
-	return r;
-}
-
-void reported_cancel(unsigned reservation)
-{
-	struct reservation **at = &reserved;
-	while (*at && (*at)->number != reservation)
-		at = &(*at)->next;
-	if (!*at)
-		return;
-	struct reservation *r = *at;
-	*at = r->next;
-	reserved_count--;
-	free(r);
-}
-
-static long reserved_below(const char *top)
-{
-	long count = 0;
-	for (const struct reservation *r = reserved; r; r = r->next)
-		count += is_at_or_below(r->group, top);
-	return count;
-}
+/* ---------------------------------------------------------------- before a birth */
 
 /* 1 if one more than `coming` does not fit into this group; 0 if it does; -errno if it can't be known, and then nothing may
    be made. */
@@ -125,14 +71,17 @@ static pid_t free_number(pid_t below)
 static int refuse(pid_t parent, const char *group)
 {
 	pid_t lowest = PIDS;
-	int fault = 0;
-	for (size_t left = reserved_count + 1; left > 0 && fault == 0; left--) {
+	int fault = engine_begin();
+	if (fault)
+		return fault;
+	for (size_t left = reserved_count() + 1; left > 0 && fault == 0; left--) {
 		lowest = free_number(lowest);
 		fault = lowest < 0 ? lowest : engine_line("fork %d %d", parent, lowest);
 		if (fault == 0)
 			zombies_add_gone(lowest);
 	}
 	zombies_sweep(false);
+	engine_finish(0);
 	if (fault == -EAGAIN)
 		watch_above(group);
 	return fault == -ENOMEM ? -ENOMEM : -EAGAIN;
@@ -164,11 +113,33 @@ static int find_place(pid_t parent, const char *group, char at[PATH_MAX_SAID])
 	return fault == -ESRCH ? 0 : fault; /* if there is none, its own fork was undone */
 }
 
-int reported_reserve(pid_t parent, const char *group, unsigned *reservation)
+static void allow_none(void)
+{
+	for (unsigned unused = advance_take_any(); unused; unused = advance_take_any())
+		reserved_drop(unused);
+}
+
+void reported_operation(void)
+{
+	operations++;
+	allow_none();
+}
+
+/* A process in this group has made a thread: it may make some more without a question, if the limits allow that now. */
+static void allow_next(pid_t process, const char *group)
+{
+	const struct reservation like = { .parent = process, .is_thread = true, .allowed_in = operations };
+	unsigned next;
+	while (advance_wants(process) && zombies_make_room(known_count + 2 * reserved_count() + 2) == 0 &&
+		is_any_full(group, true) == 0 && reserved_add(&like, group, &next) == 0)
+		reserved_drop(advance_give(process, next));
+}
+
+int reported_reserve(pid_t parent, const char *group, bool is_thread, unsigned *reservation)
 {
 	char at[PATH_MAX_SAID];
 	/* `refuse` makes as many processes as there are reservations, and one more */
-	int fault = zombies_make_room(known_count + 2 * reserved_count + 2);
+	int fault = zombies_make_room(known_count + 2 * reserved_count() + 2);
 	if (fault || (fault = zombies_sweep(false)))
 		return fault;
 	if (!in_range(parent) && parent != 0)
@@ -177,9 +148,15 @@ int reported_reserve(pid_t parent, const char *group, unsigned *reservation)
 		return -EAGAIN;
 	if (!has_room(parent))
 		return -EAGAIN;
-	if ((fault = find_place(parent, group, at)))
+	if ((fault = find_place(parent, is_thread ? NULL : group, at)))
 		return fault;
+	if (is_thread && group && strcmp(group, at) != 0)
+		return -EOPNOTSUPP;
 	int full = is_any_full(at, true);
+	if (full > 0) { /* perhaps by threads that were allowed in advance */
+		allow_none();
+		full = is_any_full(at, true);
+	}
 	if (full > 0 && zombies_count() > 0) { /* some may have been waited for */
 		if ((fault = zombies_sweep(true)))
 			return fault;
@@ -188,8 +165,12 @@ int reported_reserve(pid_t parent, const char *group, unsigned *reservation)
 	if (full < 0)
 		return full;
 	if (full) /* a child for another group is refused in that group, where nobody forks: no event is counted */
-		return group ? -EAGAIN : refuse(parent, at);
-	return reserve(at, parent, group != NULL, reservation);
+		return group && !is_thread ? -EAGAIN : refuse(parent, at);
+	const struct reservation like = { .parent = parent,
+		.elsewhere = group && !is_thread,
+		.is_thread = is_thread,
+		.allowed_in = operations };
+	return reserved_add(&like, at, reservation);
 }
 
 /* ---------------------------------------------------------------- births and deaths */
@@ -197,55 +178,83 @@ int reported_reserve(pid_t parent, const char *group, unsigned *reservation)
 /* A move checks no limit, and process 1 is in the root, which has none: the child was allowed already. */
 static int place(pid_t child, const char *group)
 {
-	int fault = engine_line("fork %d %d", PROCESS_ONE, child);
-	if (fault || is_root(group))
+	int fault = engine_begin();
+	if (fault)
 		return fault;
-	fault = engine_line("write %s cgroup.procs %d", group, child);
-	if (fault) {
-		zombies_add_gone(child);
-		zombies_sweep(false);
-	}
-	return fault;
+	fault = engine_line("fork %d %d", PROCESS_ONE, child);
+	if (fault == 0 && !is_root(group))
+		fault = engine_line("write %s cgroup.procs %d", group, child);
+	return engine_finish(fault);
+}
+
+/* Brings a child that was allowed into the hierarchy, and says into which group, and whether its parent is there. */
+static int put(const struct reservation *r, pid_t child, char at[PATH_MAX_SAID], bool *has_parent)
+{
+	int fault;
+	snprintf(at, PATH_MAX_SAID, "%s", r->group);
+	*has_parent = r->is_thread && r->allowed_in == operations;
+	/* what allowed it is as it was; unless an undo has left its process without a number */
+	if (*has_parent && (fault = engine_line("fork %d %d", r->parent, child)) != -ESRCH)
+		return fault;
+	fault = r->elsewhere || !r->parent ? -ESRCH : engine_where(r->parent, at, PATH_MAX_SAID);
+	*has_parent = fault == 0;
+	if (fault == -ENOMEM || (fault = engine_has_group(at)))
+		return fault;
+	/* the child was allowed already: if a group is full now, or that can't be known, it is placed past the limits */
+	if (*has_parent && is_any_full(at, false) == 0)
+		return engine_line("fork %d %d", r->parent, child);
+	return place(child, at);
 }
 
 static int tell(const struct reservation *r, pid_t child, bool *frozen)
 {
 	char at[PATH_MAX_SAID];
+	bool has_parent;
 	if (!in_range(child) || !zombies_settle(child))
 		return -EAGAIN;
 	if (r->killed || known[r->parent] == DYING)
 		return -ESRCH;
-	int fault = r->elsewhere || !r->parent ? -ESRCH : engine_where(r->parent, at, sizeof at);
-	bool has_parent = fault == 0;
-	if (fault == -ENOMEM)
-		return fault;
-	if (!has_parent)
-		snprintf(at, sizeof at, "%s", r->group);
-	if ((fault = engine_has_group(at)))
-		return fault;
-	/* the child was allowed already: if a group is full now, or that can't be known, it is placed past the limits */
-	fault = has_parent && is_any_full(at, false) == 0 ? engine_line("fork %d %d", r->parent, child) : place(child, at);
+	int fault = put(r, child, at, &has_parent);
 	if (fault)
 		return fault;
 	known_count += known[child] == UNKNOWN;
 	known[child] = LIVE;
 	if (!has_parent)
 		watch_above(at);
-	*frozen = freezer_born(child, at);
+	if (r->is_thread)
+		tasks_add(child, r->parent);
+	else
+		tasks_begin_process(child);
+	*frozen = !r->is_thread && freezer_born(child, at);
+	if (r->is_thread && has_parent)
+		allow_next(r->parent, at);
 	return 0;
 }
 
 int reported_born(unsigned reservation, pid_t child, bool *frozen)
 {
-	const struct reservation *r = find_reserved(reservation);
+	const struct reservation *r = reserved_find(reservation);
 	if (!r)
 		return -EAGAIN;
 	int fault = tell(r, child, frozen);
-	reported_cancel(reservation);
+	reserved_drop(reservation);
 	if (fault == 0 || fault == -ESRCH || fault == -ENOENT || fault == -ENOMEM)
 		return fault;
 	trace_may_be_full = true;
+	allow_none();
 	return -EAGAIN;
+}
+
+/* Nobody waits for a thread. */
+static void thread_ended(pid_t thread)
+{
+	bool is_dying = known[thread] == DYING;
+	known[thread] = UNKNOWN;
+	known_count--;
+	tasks_drop(thread);
+	int fault = is_dying ? 0 : engine_line("exit %d", thread);
+	if (fault && fault != -ESRCH) /* an undo may have taken its number */
+		zombies_add_gone(thread);
 }
 
 void reported_exited(pid_t pid)
@@ -253,10 +262,16 @@ void reported_exited(pid_t pid)
 	char group[PATH_MAX_SAID];
 	if (!in_range(pid) || known[pid] == UNKNOWN)
 		return;
+	if (tasks_is_thread(pid)) {
+		thread_ended(pid);
+		return;
+	}
 	bool stands = known[pid] == LIVE && engine_where(pid, group, sizeof group) != -ESRCH;
 	known[pid] = UNKNOWN;
 	known_count--;
 	freezer_gone(pid);
+	for (unsigned unused = advance_take(pid); unused; unused = advance_take(pid))
+		reserved_drop(unused);
 	if (!stands)
 		return;
 	zombies_add(pid);
@@ -325,66 +340,7 @@ bool reported_kill(pid_t pid)
 {
 	if (!in_range(pid) || zombies_forget(pid) || known[pid] == UNKNOWN)
 		return false;
-	known[pid] = DYING;
+	for (pid_t t = pid; t; t = tasks_next(t))
+		known[t] = DYING;
 	return true;
-}
-
-void reported_kill_reserved(const char *group)
-{
-	for (struct reservation *r = reserved; r; r = r->next)
-		r->killed |= is_at_or_below(r->group, group);
-}
-
-/* ---------------------------------------------------------------- texts */
-
-/* Leaves out the zombies. */
-static size_t shorten(char *procs)
-{
-	char *to = procs;
-	for (char *at = procs, *end; *at; at = end) {
-		pid_t pid = (pid_t)strtol(at, &end, 10);
-		end += *end == '\n';
-		size_t n = (size_t)(end - at);
-		if (zombies_has(pid))
-			continue;
-		memmove(to, at, n);
-		to += n;
-	}
-	return (size_t)(to - procs);
-}
-
-/* 1 if there is nobody but zombies; 0; -errno */
-static int are_all_zombies(const char *group)
-{
-	uint64_t count, dead;
-	int fault = engine_current(group, &count);
-	if (fault == 0)
-		fault = zombies_below(group, &dead);
-	return fault ? fault : count == dead;
-}
-
-int reported_text(const char *group, const struct file *file, const char **text, size_t *size)
-{
-	static char *own;
-	if (zombies_count() == 0 || *size == 0)
-		return 0;
-	bool procs = strcmp(file->name, "cgroup.procs") == 0, events = strcmp(file->name, "cgroup.events") == 0;
-	if (!procs && !events)
-		return 0;
-	char *copy = realloc(own, *size + 1);
-	if (!copy)
-		return -ENOMEM;
-	own = copy;
-	memcpy(own, *text, *size);
-	own[*size] = 0;
-	*text = own;
-	if (procs)
-		*size = shorten(own);
-	else if (strncmp(own, "populated 1", 11) == 0) {
-		int dead = are_all_zombies(group);
-		if (dead < 0)
-			return dead;
-		own[10] = dead ? '0' : '1';
-	}
-	return 0;
 }

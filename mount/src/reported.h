@@ -4,20 +4,19 @@
 #ifndef REPORTED_H
 #define REPORTED_H
 
-#include "files.h"
 #include <stdbool.h>
 #include <stddef.h>
 #include <sys/types.h>
 
-/* 0 and a reservation, or -errno. `group` is NULL, or the group of a child that is born in another group than its parent's.
-    */
-int reported_reserve(pid_t parent, const char *group, unsigned *reservation);
+/* 0 and a reservation, or -errno. `group` is NULL, or the group of a child that is born in another group than its parent's. A
+   thread is born in its process's. */
+int reported_reserve(pid_t parent, const char *group, bool is_thread, unsigned *reservation);
 /* The child exists and has not run: 0, or -errno if the hierarchy cannot take it (-ESRCH: a kill in the hierarchy reached
    it). The reservation ends. `frozen`: it starts in a frozen group. */
 int reported_born(unsigned reservation, pid_t child, bool *frozen);
-/* No child was made. */
-void reported_cancel(unsigned reservation);
-/* It is a zombie: it counts until its parent waits for it, and is no longer listed. */
+/* An operation of the file system begins: no thread that was not made yet is allowed in advance (advance.h). */
+void reported_operation(void);
+/* A process is a zombie: it counts until its parent waits for it, and is no longer listed. A thread is gone. */
 void reported_exited(pid_t pid);
 
 /* Zombies that were waited for exit, and an exit whose line could not be kept is tried again. 0 or -ENOMEM */
@@ -28,8 +27,5 @@ int reported_move(pid_t pid);
 int reported_leave(const char *group);
 /* A kill in the hierarchy reached it. True if the real process has to be killed. */
 bool reported_kill(pid_t pid);
-void reported_kill_reserved(const char *group);
-/* The text of a file as the kernel shows it if a group has zombies: the engine's, or another one. 0 or -errno */
-int reported_text(const char *group, const struct file *file, const char **text, size_t *size);
 
 #endif

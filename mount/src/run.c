@@ -1,4 +1,5 @@
 #include "run.h"
+#include "advance.h"
 #include "births.h"
 #include "cleanup.h"
 #include "engine.h"
@@ -8,11 +9,14 @@
 #include "halts.h"
 #include "helper.h"
 #include "link.h"
+#include "news.h"
 #include "operations.h"
 #include "own.h"
+#include "passing.h"
 #include "real.h"
 #include "signals.h"
 #include "space.h"
+#include "tables.h"
 #include "tracer.h"
 #include "watch.h"
 #include <errno.h>
@@ -71,6 +75,7 @@ static pid_t start_server(int connection, const int ends[2])
 		return pid;
 	close(ends[0]);
 	groups_end();
+	tables_be(TABLES_SERVER);
 	setsid(); /* it fails only for the leader of a group, which a child is not */
 	snprintf(where, sizeof where, "/dev/fd/%d", connection);
 	if (!own_dies_with(self) || !space_stand_in_proc() || !link_answer(ends[1]))
@@ -80,29 +85,6 @@ static pid_t start_server(int connection, const int ends[2])
 }
 
 /* ---------------------------------------------------------------- the program */
-
-static bool send_listener(int to, int fd)
-{
-	char byte = 0, room[CMSG_SPACE(sizeof fd)] = { 0 };
-	struct iovec bytes = { &byte, 1 };
-	struct msghdr message = { .msg_iov = &bytes, .msg_iovlen = 1, .msg_control = room, .msg_controllen = sizeof room };
-	struct cmsghdr *head = CMSG_FIRSTHDR(&message);
-	*head = (struct cmsghdr){ .cmsg_level = SOL_SOCKET, .cmsg_type = SCM_RIGHTS, .cmsg_len = CMSG_LEN(sizeof fd) };
-	memcpy(CMSG_DATA(head), &fd, sizeof fd);
-	return sendmsg(to, &message, 0) == 1;
-}
-
-static int receive_listener(int from)
-{
-	int fd = -1;
-	char byte, room[CMSG_SPACE(sizeof fd)];
-	struct iovec bytes = { &byte, 1 };
-	struct msghdr message = { .msg_iov = &bytes, .msg_iovlen = 1, .msg_control = room, .msg_controllen = sizeof room };
-	if (recvmsg(from, &message, MSG_CMSG_CLOEXEC) <= 0 || !CMSG_FIRSTHDR(&message))
-		return -1;
-	memcpy(&fd, CMSG_DATA(CMSG_FIRSTHDR(&message)), sizeof fd);
-	return fd;
-}
 
 /* With --root the program has every capability over what is in its namespace. What is not dumpable belongs to the namespace
    in which makhloeum was started, so the program reaches no uncounted process by ptrace or by its memory. (A sanitizer
@@ -115,15 +97,17 @@ static void hide(bool hidden)
 	(void)hidden;
 }
 
-/* Waits until it is traced, installs the filter, and becomes the program. */
-static void become(char **program, int control)
+/* Enters its namespaces, waits until it is traced, installs the filter, and becomes the program. */
+static void become(char **program, int control, const struct wishes *wishes)
 {
 	char go;
 	hide(false);
+	if (!space_enter_below(wishes))
+		_exit(REFUSED_HERE);
 	if (write(control, "", 1) != 1 || read(control, &go, 1) != 1)
 		_exit(1);
 	int listener = filter_install();
-	if (listener < 0 || !send_listener(control, listener))
+	if (listener < 0 || !passing_send(control, "", 1, &listener, 1))
 		_exit(1);
 	close(listener);
 	if (read(control, &go, 1) != 1)
@@ -159,8 +143,8 @@ static int sooner(int one, int other)
 static int watch_over(const struct ears *ears, pid_t program)
 {
 	int status = 0;
-	struct pollfd from[] = { { .fd = ears->signals, .events = POLLIN }, { .fd = ears->link }, { .fd = ears->helper, .events = POLLIN },
-		                 { .fd = ears->freezer, .events = POLLIN } };
+	struct pollfd from[] = { { .fd = ears->signals, .events = POLLIN }, { .fd = ears->link },
+		{ .fd = ears->helper, .events = POLLIN }, { .fd = ears->freezer, .events = POLLIN } };
 	for (;;) {
 		int next = signals_pass_on(ears->signals, program);
 		bool more = tracer_look();
@@ -168,7 +152,7 @@ static int watch_over(const struct ears *ears, pid_t program)
 			break;
 		hear_helper();
 		more |= tracer_obey();
-		next = sooner(sooner(next, births_give_up()), halts_look_again());
+		next = sooner(sooner(sooner(next, births_give_up()), halts_look_again()), link_wake_late());
 		if (poll(from, sizeof from / sizeof *from, more ? 0 : next) < 0 && errno != EINTR)
 			break;
 		for (int i = 1; i < 3; i++)
@@ -188,14 +172,15 @@ static int watch_over(const struct ears *ears, pid_t program)
 static int give_up(pid_t program, const char *why)
 {
 	int status;
-	say("%s", why);
+	if (why)
+		say("%s", why);
 	kill(program, SIGKILL); /* it cannot fail: it was not waited for */
 	while (waitpid(program, &status, __WALL) < 0 && errno == EINTR)
 		;
 	return REFUSED_HERE;
 }
 
-static int supervise(char **program, int signals, int link, int freezer)
+static int supervise(char **program, const struct wishes *wishes, int signals, int link, int freezer)
 {
 	int control[2];
 	char why[160];
@@ -208,19 +193,23 @@ static int supervise(char **program, int signals, int link, int freezer)
 	pid_t pid = fork();
 	if (pid == 0) {
 		close(control[0]); /* else it would wait forever if the supervisor is killed */
-		become(program, control[1]);
+		become(program, control[1], wishes);
 	}
 	close(control[1]);
 	char there;
-	if (!space_stand_in_proc() || pid < 0 || read(control[0], &there, 1) != 1 || !tracer_hold(pid)) {
-		snprintf(why, sizeof why, "this machine does not allow a process %s: %s", pid < 0 ? "more" : "to be traced", strerror(errno));
+	if (pid >= 0 && read(control[0], &there, 1) != 1)
+		return give_up(pid, NULL); /* it has said why */
+	if (!space_stand_in_proc() || pid < 0 || !tracer_hold(pid)) {
+		snprintf(why, sizeof why, "this machine does not allow a process %s: %s", pid < 0 ? "more" : "to be traced",
+			strerror(errno));
 		if (pid >= 0)
 			return give_up(pid, why);
 		say("%s", why);
 		return REFUSED_HERE;
 	}
-	int listener = write(control[0], "", 1) == 1 ? receive_listener(control[0]) : -1;
-	int helper = listener < 0 ? -1 : helper_start(listener);
+	int listener;
+	bool is_there = write(control[0], "", 1) == 1 && passing_take(control[0], &there, 1, &listener, 1, 0);
+	int helper = is_there ? helper_start(listener, pid) : -1;
 	if (helper < 0 || write(control[0], "", 1) != 1)
 		return give_up(pid, "this machine does not allow seccomp notification");
 	close(listener);
@@ -233,7 +222,7 @@ static int supervise(char **program, int signals, int link, int freezer)
 static void end_server(pid_t server, int end)
 {
 	int status;
-	umount2(cgroup_mount, MNT_DETACH); /* it fails if the program has unmounted it; the closed link ends the server too */
+	umount2(cgroup_mount, MNT_DETACH); /* it cannot fail: the program is in this namespace only if it may not unmount */
 	close(end);
 	for (int i = 0; i < PATIENCE; i++) {
 		if (waitpid(server, &status, WNOHANG))
@@ -262,8 +251,12 @@ static bool is_traced(void)
    and of the engine ends here. */
 static pid_t start_mount(int ends[2], int *freezer, pid_t *companion)
 {
-	if (!link_make(ends) || !freezer_begin(freezer)) {
+	if (!link_make(ends) || !freezer_begin(freezer) || !tables_begin()) {
 		say("this machine does not allow another descriptor: %s", strerror(errno));
+		return -1;
+	}
+	if (!advance_begin() || !news_begin()) {
+		say("out of memory");
 		return -1;
 	}
 	int connection = space_mount();
@@ -284,6 +277,7 @@ static pid_t start_mount(int ends[2], int *freezer, pid_t *companion)
 	int fault = errno;
 	close(connection);
 	close(ends[1]);
+	tables_be(TABLES_HELPER);
 	*companion = watch_leave();
 	own_add(*companion);
 	engine_end();
@@ -318,6 +312,7 @@ int run_program(char **program, const struct wishes *asked)
 	if (server < 0)
 		return REFUSED_HERE;
 	link_use(ends[0], server);
+	births_count_threads(!wishes.no_threads);
 	int status = 1, signals = signals_receive();
 	/* until its first request, the kernel thinks that nobody owns the mount's root, and nothing can be made there */
 	if (stat(cgroup_mount, &(struct stat){ 0 }))
@@ -325,7 +320,7 @@ int run_program(char **program, const struct wishes *asked)
 	else if (signals < 0)
 		say("this machine does not allow another descriptor: %s", strerror(errno));
 	else
-		status = supervise(program, signals, ends[0], freezer);
+		status = supervise(program, &wishes, signals, ends[0], freezer);
 	groups_end();
 	own_kill(companion); /* its descriptor would keep the mount in use */
 	end_server(server, ends[0]);

@@ -2,7 +2,8 @@
 
    A thread of the server waits for its next request, for the engine's lock, and for a write to the files of --trace and
    --answers. Whoever holds the lock waits for these writes and for nothing else: it looks up no path (what the machine has is
-   read before: machine.c), and makes no request to its own mount, which only these threads answer. A look-up that a request
+   read before: machine.c; the helper opens mount tables: tables.h), and makes no request to its own mount, which only these
+   threads answer. A look-up that a request
    needs comes before the lock. (With --adopt, where no supervisor waits for the server, the lock is held while /proc is read.)
    The thread that tells the companion about changes waits for it, without the lock, and ends when the server ends.
    For the processes of a run see tracer.c. */
@@ -13,6 +14,7 @@
 #include "operations.h"
 #include "real.h"
 #include "remembered.h"
+#include "tables.h"
 #include "watch.h"
 #include <errno.h>
 #include <fcntl.h>
@@ -180,6 +182,7 @@ int serve(const char *where, void (*ready)(void))
 		watch_mounted(where);
 	int ended = answer(session, ready);
 	watch_stop();
+	tables_end();
 	fuse_session_unmount(session);
 	fuse_session_destroy(session);
 	engine_end();

@@ -7,8 +7,8 @@
 /* The options of the command line. */
 struct wishes {
 	const char *trace, *answers; /* files that are written from their start, or NULL */
-	const char *keep;            /* the controllers whose files are kept, or NULL */
-	bool extra, adopt, control, foreground, as_root, users;
+	const char *keep; /* the controllers whose files are kept, or NULL */
+	bool extra, adopt, control, foreground, as_root, users, no_threads;
 };
 
 /* Opens the files to keep, and makes the engine. False after an error message. */

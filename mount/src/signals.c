@@ -5,7 +5,7 @@
 #include <time.h>
 #include <unistd.h>
 
-/* AT_ONCE: so many are taken in a turn, since the program may send them too. */
+/* AT_ONCE is how many are taken in a turn, since the program may send them too. */
 enum { AT_ONCE = 16, PAUSE = 100 };
 
 int signals_receive(void)
@@ -25,7 +25,8 @@ int signals_receive(void)
 /* The terminal sends SIGINT to the program too. */
 static bool is_passed_on(const struct signalfd_siginfo *one)
 {
-	return one->ssi_signo == SIGTERM || one->ssi_signo == SIGHUP || (one->ssi_signo == SIGINT && one->ssi_code != SI_KERNEL);
+	return one->ssi_signo == SIGTERM || one->ssi_signo == SIGHUP ||
+		(one->ssi_signo == SIGINT && one->ssi_code != SI_KERNEL);
 }
 
 static long long now(void)

@@ -35,8 +35,8 @@ static bool enter_alone(bool as_root)
 	char users[64], groups[64];
 	snprintf(users, sizeof users, "%u %u 1\n", as_root ? 0 : geteuid(), geteuid());
 	snprintf(groups, sizeof groups, "%u %u 1\n", as_root ? 0 : getegid(), getegid());
-	return unshare(CLONE_NEWUSER | CLONE_NEWNS) == 0 && put("/proc/self/setgroups", "deny") && put("/proc/self/uid_map", users) &&
-	       put("/proc/self/gid_map", groups);
+	return unshare(CLONE_NEWUSER | CLONE_NEWNS) == 0 && put("/proc/self/setgroups", "deny") &&
+		put("/proc/self/uid_map", users) && put("/proc/self/gid_map", groups);
 }
 
 /* Gives a process the user numbers that this one has, each mapped to itself. 0 has its own line: programs take a map of one
@@ -93,8 +93,17 @@ bool space_enter(const struct wishes *wishes)
 		return false;
 	}
 	bool entered = wishes->users ? enter_with_all() : enter_alone(wishes->as_root);
-	if (!entered || mount("none", "/", NULL, MS_REC | MS_PRIVATE, NULL)) {
-		say("this machine does not allow user namespaces: %s", strerror(errno));
+	if (entered && mount("none", "/", NULL, MS_REC | MS_PRIVATE, NULL) == 0)
+		return true;
+	say("this machine does not allow user namespaces: %s", strerror(errno));
+	return false;
+}
+
+bool space_enter_below(const struct wishes *wishes)
+{
+	bool is_superuser = wishes->users || wishes->as_root;
+	if (is_superuser && !(wishes->users ? enter_with_all() : enter_alone(true))) {
+		say("this machine does not allow a user namespace in another: %s", strerror(errno));
 		return false;
 	}
 	/* then a file that is read past the supervisor has no path of the machine's; without such a namespace it has */
@@ -126,6 +135,7 @@ int space_copy_mount(void)
 
 bool space_stand_in_proc(void)
 {
-	cleanup_fd int proc = (int)syscall(SYS_open_tree, AT_FDCWD, "/proc", OPEN_TREE_CLONE | OPEN_TREE_CLOEXEC | AT_RECURSIVE);
+	cleanup_fd int proc = (int)syscall(SYS_open_tree, AT_FDCWD, "/proc",
+		OPEN_TREE_CLONE | OPEN_TREE_CLOEXEC | AT_RECURSIVE);
 	return proc < 0 ? chdir("/proc") == 0 : fchdir(proc) == 0;
 }

@@ -14,6 +14,10 @@ struct wishes;
 /* Enters both namespaces. The user keeps its number, or becomes the superuser there, either as the only user or with all
    users that it had. False after an error message. */
 bool space_enter(const struct wishes *wishes);
+/* In the process that becomes the program, once the mount was made: a superuser gets namespaces of its own below these. Mounts
+   that come from above can't be unmounted or moved there, so what the mount covers stays covered. False after an error
+   message. */
+bool space_enter_below(const struct wishes *wishes);
 /* Mounts, and returns the connection; -1 after an error message. */
 int space_mount(void);
 /* A copy of the mount, in which nobody can mount anything: a descriptor of its root, or -1 with errno. */

@@ -24,7 +24,7 @@ static struct space {
 	struct space *next;
 	unsigned number; /* or that of the call that is about to make it */
 	char root[];
-} *all, *coming;
+} * all, *coming;
 
 /* Takes an entry out of a list; NULL: it has none. */
 static struct space *take(struct space **at, unsigned number)

@@ -1,7 +1,7 @@
 #include "texts.h"
 #include "engine.h"
 #include "freezer.h"
-#include "reported.h"
+#include "shown.h"
 #include "values.h"
 #include <string.h>
 
@@ -17,10 +17,13 @@ int texts_read(const char *group, const struct file *file, bool keeps, const cha
 		*size = strlen(*text);
 		return 0;
 	}
-	fault = keeps ? engine_line("cat %s %s", group, file->name) : engine_look("cat %s %s", group, file->name);
+	if (file->made_of)
+		fault = engine_look("cat %s %s", group, file->made_of);
+	else
+		fault = keeps ? engine_line("cat %s %s", group, file->name) : engine_look("cat %s %s", group, file->name);
 	if (fault)
 		return fault;
 	*text = engine_text(size);
-	fault = reported_text(group, file, text, size);
+	fault = shown_text(group, file, text, size);
 	return fault ? fault : freezer_text(group, file, text, *size);
 }

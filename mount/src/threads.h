@@ -15,14 +15,14 @@ enum rest { RUNS, PARKED, BEFORE_CALL, LISTENS, VFORKS };
 struct thread {
 	struct thread *next, *before;
 	pid_t id, process;
-	bool started;         /* it has left its first stop */
-	bool counted;         /* a process that the hierarchy knows */
-	struct birth *makes;  /* the call by which it is making a child */
+	bool started; /* it has left its first stop */
+	bool counted; /* a process or thread that the hierarchy knows */
+	struct birth *makes; /* the call by which it is making a child */
 	struct birth *made_by; /* until it has left its first stop */
-	bool frozen;           /* it stays at its next stop */
-	bool unshares;         /* it asks for a cgroup namespace */
-	bool strict;           /* it has entered the strict mode of seccomp */
-	bool was_stopped;      /* a signal has stopped it, and no SIGCONT was delivered since */
+	bool frozen; /* it stays at its next stop */
+	bool unshares; /* it asks for a cgroup namespace */
+	bool strict; /* it has entered the strict mode of seccomp */
+	bool was_stopped; /* a signal has stopped it, and no SIGCONT was delivered since */
 	enum rest rest;
 	pid_t vforked_by;
 	/* of the first thread of a process: how many threads there are, how many of them rest, and whether the server knows

@@ -30,7 +30,7 @@
 #include <sys/wait.h>
 #include <unistd.h>
 
-/* At most so many stops are taken at once, before any of them is answered: no thread is handled twice while another waits.
+/* At most STOPS are taken at once, before any of them is answered: no thread is handled twice while another waits.
     */
 enum { STOPS = 1024, PATIENCE = 2000 };
 
@@ -39,7 +39,7 @@ static int program_status;
 static bool program_ended;
 
 static const long wanted = PTRACE_O_TRACEFORK | PTRACE_O_TRACEVFORK | PTRACE_O_TRACECLONE | PTRACE_O_TRACEEXEC |
-                           PTRACE_O_TRACESECCOMP | PTRACE_O_TRACESYSGOOD | PTRACE_O_EXITKILL;
+	PTRACE_O_TRACESECCOMP | PTRACE_O_TRACESYSGOOD | PTRACE_O_EXITKILL;
 
 bool tracer_hold(pid_t pid)
 {
@@ -121,6 +121,15 @@ static void on_birth(struct thread *t, bool waits)
 		halts_vforks(t, child);
 }
 
+/* Its number does. */
+static void leaves(const struct thread *t)
+{
+	if (t->counted && t->id == t->process)
+		link_exited(t->id);
+	else if (t->counted)
+		link_thread_ended(t->id);
+}
+
 /* All other threads of the process have been killed. If the caller of execve was not the first thread, it has the first
    one's number from now on. The first thread, whatever it was doing, no longer exists, and its death is not reported. */
 static void on_exec(struct thread *t)
@@ -132,6 +141,7 @@ static void on_exec(struct thread *t)
 	if (other) {
 		births_abandon(other);
 		halts_forget(other);
+		leaves(other);
 		threads_drop(other);
 	}
 	stops_run(t->id, 0);
@@ -234,8 +244,7 @@ static void on_end(pid_t id)
 	if (!t)
 		return;
 	pid_t process = t->process;
-	if (t->counted)
-		link_exited(id);
+	leaves(t);
 	if (t->unshares)
 		link_space(0, unshare_of(t));
 	births_abandon(t);

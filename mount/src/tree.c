@@ -84,7 +84,10 @@ void tree_getattr(fuse_req_t req, fuse_ino_t number, struct fuse_file_info *fi)
 
 /* ---------------------------------------------------------------- what a program sets */
 
-enum { OWNS = FUSE_SET_ATTR_MODE | FUSE_SET_ATTR_UID | FUSE_SET_ATTR_GID, TIMES = FUSE_SET_ATTR_ATIME | FUSE_SET_ATTR_MTIME };
+enum {
+	OWNS = FUSE_SET_ATTR_MODE | FUSE_SET_ATTR_UID | FUSE_SET_ATTR_GID,
+	TIMES = FUSE_SET_ATTR_ATIME | FUSE_SET_ATTR_MTIME
+};
 
 static bool is_mark(const struct stat *st, int fields)
 {
@@ -224,7 +227,8 @@ void tree_mkdir(fuse_req_t req, fuse_ino_t parent, const char *name, mode_t mode
 	struct fuse_entry_param entry = { .attr.st_nlink = 2 };
 	struct node made;
 	engine_lock();
-	int fault = make_below(parent, name, &(struct shown){ .mode = mode & 01777, .uid = by->uid, .gid = by->gid }, &made);
+	int fault = make_below(parent, name, &(struct shown){ .mode = mode & 01777, .uid = by->uid, .gid = by->gid },
+		&made);
 	if (fault == 0) {
 		entry.ino = entry.attr.st_ino = nodes_number(&made);
 		owner_apply(&made, &entry.attr);
@@ -242,9 +246,11 @@ static int remove_below(uint64_t parent, const char *name)
 	if (fault == 0)
 		fault = real_sweep();
 	if (fault == 0)
+		fault = engine_begin();
+	if (fault == 0) {
 		fault = reported_leave(path);
-	if (fault == 0)
-		fault = engine_line("rmdir %s", path);
+		fault = engine_finish(fault ? fault : engine_line("rmdir %s", path));
+	}
 	if (fault)
 		return fault;
 	remembered_lose(path);

@@ -13,35 +13,57 @@ struct kept_value {
 
 static const char memory_events[] = "low 0\nhigh 0\nmax 0\noom 0\noom_kill 0\noom_group_kill 0\n";
 static const char memory_stat[] =
-	"anon 0\nfile 0\nkernel 0\nkernel_stack 0\npagetables 0\nsec_pagetables 0\npercpu 0\nsock 0\nvmalloc 0\nshmem 0\nzswap 0\n"
+	"anon 0\nfile 0\nkernel 0\nkernel_stack 0\npagetables 0\nsec_pagetables 0\npercpu 0\nsock 0\nvmalloc 0\nshmem "
+	"0\nzswap 0\n"
 	"zswapped 0\nfile_mapped 0\nfile_dirty 0\nfile_writeback 0\nswapcached 0\nanon_thp 0\nfile_thp 0\nshmem_thp 0\n"
 	"inactive_anon 0\nactive_anon 0\ninactive_file 0\nactive_file 0\nunevictable 0\nslab_reclaimable 0\n"
 	"slab_unreclaimable 0\nslab 0\nworkingset_refault_anon 0\nworkingset_refault_file 0\nworkingset_activate_anon 0\n"
 	"workingset_activate_file 0\nworkingset_restore_anon 0\nworkingset_restore_file 0\nworkingset_nodereclaim 0\n"
-	"pgscan 0\npgsteal 0\npgscan_kswapd 0\npgscan_direct 0\npgsteal_kswapd 0\npgsteal_direct 0\npgfault 0\npgmajfault 0\n"
+	"pgscan 0\npgsteal 0\npgscan_kswapd 0\npgscan_direct 0\npgsteal_kswapd 0\npgsteal_direct 0\npgfault 0\npgmajfault "
+	"0\n"
 	"pgrefill 0\npgactivate 0\npgdeactivate 0\npglazyfree 0\npglazyfreed 0\nthp_fault_alloc 0\nthp_collapse_alloc 0\n";
 
 /* A file that accepts values: its parser returns the normal form or an errno. `normal` is the value in a new group. */
-#define TAKES(file_name, whose, normal, parser) \
-	{ .name = (file_name), .readable = true, .value = WRITES, .write = values_write, .controller = (whose), .constant = (normal), \
-	  .take = (parser) }
+#define TAKES(file_name, whose, normal, parser)                                                               \
+	{                                                                                                         \
+		.name = (file_name), .readable = true, .value = WRITES, .write = values_write, .controller = (whose), \
+		.constant = (normal), .take = (parser)                                                                \
+	}
 /* A file whose text is made from other values. */
-#define SHOWN(file_name, whose, normal, parser, shower) \
-	{ .name = (file_name), .readable = true, .value = WRITES, .write = values_write, .controller = (whose), .constant = (normal), \
-	  .take = (parser), .show = (shower) }
+#define SHOWN(file_name, whose, normal, parser, shower)                                                       \
+	{                                                                                                         \
+		.name = (file_name), .readable = true, .value = WRITES, .write = values_write, .controller = (whose), \
+		.constant = (normal), .take = (parser), .show = (shower)                                              \
+	}
 /* A counter that stays 0. `root`: the root has it too. */
-#define COUNTS(file_name, whose, root, text) \
-	{ .name = (file_name), .on_root = (root), .readable = true, .controller = (whose), .constant = (text) }
+#define COUNTS(file_name, whose, root, text)                                                                \
+	{                                                                                                       \
+		.name = (file_name), .on_root = (root), .readable = true, .controller = (whose), .constant = (text) \
+	}
 
 const struct file values_files[] = {
 	TAKES("cpuset.cpus", HAS_CPUSET, "\n", cpuset_take_list),
 	TAKES("cpuset.mems", HAS_CPUSET, "\n", cpuset_take_list),
-	{ .name = "cpuset.cpus.effective", .on_root = true, .readable = true, .controller = HAS_CPUSET, .show = cpuset_show_effective },
-	{ .name = "cpuset.mems.effective", .on_root = true, .readable = true, .controller = HAS_CPUSET, .show = cpuset_show_effective },
+	{ .name = "cpuset.cpus.effective",
+		.on_root = true,
+		.readable = true,
+		.controller = HAS_CPUSET,
+		.show = cpuset_show_effective },
+	{ .name = "cpuset.mems.effective",
+		.on_root = true,
+		.readable = true,
+		.controller = HAS_CPUSET,
+		.show = cpuset_show_effective },
 	SHOWN("cpuset.cpus.partition", HAS_CPUSET, "member\n", cpuset_take_partition, cpuset_show_partition),
 	SHOWN("cpu.weight", HAS_CPU, "1024", cpu_take_weight, cpu_show_weight),
-	{ .name = "cpu.weight.nice", .readable = true, .value = WRITES, .write = values_write, .controller = HAS_CPU, .take = cpu_take_nice,
-	  .show = cpu_show_nice, .form_of = "cpu.weight" },
+	{ .name = "cpu.weight.nice",
+		.readable = true,
+		.value = WRITES,
+		.write = values_write,
+		.controller = HAS_CPU,
+		.take = cpu_take_nice,
+		.show = cpu_show_nice,
+		.form_of = "cpu.weight" },
 	TAKES("cpu.idle", HAS_CPU, "0\n", cpu_take_idle),
 	TAKES("cpu.max", HAS_CPU, "max 100000\n", cpu_take_max),
 	TAKES("cpu.max.burst", HAS_CPU, "0\n", cpu_take_burst),

@@ -14,9 +14,46 @@ static const unsigned long long shortest = 1000, longest_period = 1000000, most_
 
 /* The kernel's weight of each nice value, from -20 to 19. */
 static const int of_nice[NICE_COUNT] = {
-	88761, 71755, 56483, 46273, 36291, 29154, 23254, 18705, 14949, 11916, 9548, 7620, 6100, 4904,
-	3906, 3121, 2501, 1991, 1586, 1277, 1024, 820, 655, 526, 423, 335, 272, 215,
-	172, 137, 110, 87, 70, 56, 45, 36, 29, 23, 18, 15,
+	88761,
+	71755,
+	56483,
+	46273,
+	36291,
+	29154,
+	23254,
+	18705,
+	14949,
+	11916,
+	9548,
+	7620,
+	6100,
+	4904,
+	3906,
+	3121,
+	2501,
+	1991,
+	1586,
+	1277,
+	1024,
+	820,
+	655,
+	526,
+	423,
+	335,
+	272,
+	215,
+	172,
+	137,
+	110,
+	87,
+	70,
+	56,
+	45,
+	36,
+	29,
+	23,
+	18,
+	15,
 };
 
 static unsigned long long divided(unsigned long long n, unsigned long long by)
@@ -177,6 +214,6 @@ int cpu_stat_show(const char *group, const struct file *file, char out[TEXT_ROOM
 	(void)file;
 	bool has_more = controllers_kept() & HAS_CPU && controllers_have(group, &of_controller);
 	snprintf(out, TEXT_ROOM, "usage_usec 0\nuser_usec 0\nsystem_usec 0\n%s",
-	         has_more ? "nr_periods 0\nnr_throttled 0\nthrottled_usec 0\nnr_bursts 0\nburst_usec 0\n" : "");
+		has_more ? "nr_periods 0\nnr_throttled 0\nthrottled_usec 0\nnr_bursts 0\nburst_usec 0\n" : "");
 	return 0;
 }

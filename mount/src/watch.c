@@ -15,8 +15,8 @@
 enum { TEXT_MAX = 40 };
 
 struct watched {
-	struct watched *next;      /* among those of the group */
-	struct watched *to_tell;   /* next in the queue of files that the companion is told about */
+	struct watched *next; /* among those of the group */
+	struct watched *to_tell; /* next in the queue of files that the companion is told about */
 	const struct file *file;
 	char text[TEXT_MAX];
 	bool queued;

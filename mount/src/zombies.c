@@ -11,13 +11,13 @@
 #include <sys/utsname.h>
 #include <unistd.h>
 
-enum { PIDS = 4194304, SCANNED = 16, TAKEN = 64, SPARED = 64 };
+enum { SCANNED = 16, TAKEN = 64, SPARED = 64 };
 
 static struct zombie {
 	pid_t pid;
 	int fd; /* -1: it could not be opened */
 	bool gone;
-} *all;
+} * all;
 static size_t count, room, gone_count, unnamed_count, next_scanned;
 static unsigned place[PIDS]; /* its place in the list of all, from 1; 0: it is not a zombie */
 

@@ -8,7 +8,7 @@
 #include <stdint.h>
 #include <sys/types.h>
 
-/* Before a process is made: room for its end, for that of all others, and for so many that are only numbers. Then there is
+/* Before a process is made: room for its end, for that of all others, and for a number of others, which have no process yet. Then there is
    room when one ends, which must not fail. 0 or -ENOMEM */
 int zombies_make_room(size_t more);
 /* It has ended, and nobody could have waited for it yet. */

@@ -62,9 +62,10 @@ static int sleeps_and_ends(void *unused)
 /* Flags of clone in any mixture; what the kernel refuses changes nothing. */
 static void flags(void)
 {
-	static const unsigned all[] = { CLONE_VM, CLONE_FS, CLONE_FILES, CLONE_SIGHAND, CLONE_PTRACE, CLONE_VFORK, CLONE_PARENT, CLONE_THREAD,
-		CLONE_NEWNS, CLONE_SYSVSEM, CLONE_PARENT_SETTID, CLONE_CHILD_CLEARTID, CLONE_UNTRACED, CLONE_CHILD_SETTID, CLONE_NEWCGROUP,
-		CLONE_NEWUTS, CLONE_NEWIPC, CLONE_NEWUSER, CLONE_NEWPID, CLONE_IO, CLONE_PIDFD };
+	static const unsigned all[] = { CLONE_VM, CLONE_FS, CLONE_FILES, CLONE_SIGHAND, CLONE_PTRACE, CLONE_VFORK,
+		CLONE_PARENT, CLONE_THREAD, CLONE_NEWNS, CLONE_SYSVSEM, CLONE_PARENT_SETTID, CLONE_CHILD_CLEARTID,
+		CLONE_UNTRACED, CLONE_CHILD_SETTID, CLONE_NEWCGROUP, CLONE_NEWUTS, CLONE_NEWIPC, CLONE_NEWUSER, CLONE_NEWPID,
+		CLONE_IO, CLONE_PIDFD };
 	static char *stacks;
 	static unsigned next;
 	static int numbers[2];
@@ -201,9 +202,12 @@ static void filter(unsigned answer)
 {
 	struct sock_filter code[] = {
 		BPF_STMT(BPF_LD | BPF_W | BPF_ABS, offsetof(struct seccomp_data, nr)),
-		BPF_JUMP(BPF_JMP | BPF_JEQ | BPF_K, SYS_clone, 5, 0),   BPF_JUMP(BPF_JMP | BPF_JEQ | BPF_K, SYS_clone3, 4, 0),
-		BPF_JUMP(BPF_JMP | BPF_JEQ | BPF_K, SYS_fork, 3, 0),    BPF_JUMP(BPF_JMP | BPF_JEQ | BPF_K, SYS_unshare, 2, 0),
-		BPF_JUMP(BPF_JMP | BPF_JEQ | BPF_K, SYS_getppid, 1, 0), BPF_STMT(BPF_RET | BPF_K, SECCOMP_RET_ALLOW),
+		BPF_JUMP(BPF_JMP | BPF_JEQ | BPF_K, SYS_clone, 5, 0),
+		BPF_JUMP(BPF_JMP | BPF_JEQ | BPF_K, SYS_clone3, 4, 0),
+		BPF_JUMP(BPF_JMP | BPF_JEQ | BPF_K, SYS_fork, 3, 0),
+		BPF_JUMP(BPF_JMP | BPF_JEQ | BPF_K, SYS_unshare, 2, 0),
+		BPF_JUMP(BPF_JMP | BPF_JEQ | BPF_K, SYS_getppid, 1, 0),
+		BPF_STMT(BPF_RET | BPF_K, SECCOMP_RET_ALLOW),
 		BPF_STMT(BPF_RET | BPF_K, answer),
 	};
 	struct sock_fprog program = { sizeof code / sizeof *code, code };
@@ -214,8 +218,9 @@ static void filter(unsigned answer)
 /* The calls that the supervisor stops are answered by a filter of the program. */
 static void filters(void)
 {
-	static const unsigned answers[] = { SECCOMP_RET_TRACE, SECCOMP_RET_TRACE | 7, SECCOMP_RET_USER_NOTIF, SECCOMP_RET_KILL_THREAD,
-		SECCOMP_RET_KILL_PROCESS, SECCOMP_RET_ERRNO | EAGAIN, SECCOMP_RET_LOG, SECCOMP_RET_TRAP };
+	static const unsigned answers[] = { SECCOMP_RET_TRACE, SECCOMP_RET_TRACE | 7, SECCOMP_RET_USER_NOTIF,
+		SECCOMP_RET_KILL_THREAD, SECCOMP_RET_KILL_PROCESS, SECCOMP_RET_ERRNO | EAGAIN, SECCOMP_RET_LOG,
+		SECCOMP_RET_TRAP };
 	pid_t pid = fork();
 	if (pid == 0) {
 		filter(answers[dice(sizeof answers / sizeof *answers)]);
@@ -252,7 +257,8 @@ static void tracers(void)
 /* No descriptor, no file, no process more: and then it forks. */
 static void limits(void)
 {
-	static const int which[] = { RLIMIT_NPROC, RLIMIT_NOFILE, RLIMIT_FSIZE, RLIMIT_CORE, RLIMIT_STACK, RLIMIT_SIGPENDING };
+	static const int which[] = { RLIMIT_NPROC, RLIMIT_NOFILE, RLIMIT_FSIZE, RLIMIT_CORE, RLIMIT_STACK,
+		RLIMIT_SIGPENDING };
 	pid_t pid = fork();
 	if (pid == 0) {
 		struct rlimit none = { dice(4), 16 };
@@ -267,8 +273,9 @@ static void limits(void)
 
 int main(int argc, char **argv)
 {
-	static const struct way ways[] = { { "vforks", vforks }, { "flags", flags }, { "daemons", daemons }, { "namespaces", namespaces },
-		{ "execs", execs }, { "memories", memories }, { "filters", filters }, { "tracers", tracers }, { "limits", limits } };
+	static const struct way ways[] = { { "vforks", vforks }, { "flags", flags }, { "daemons", daemons },
+		{ "namespaces", namespaces }, { "execs", execs }, { "memories", memories }, { "filters", filters },
+		{ "tracers", tracers }, { "limits", limits } };
 	const char *what = argc > 1 ? argv[1] : "";
 	mark = argc > 2 ? argv[2] : "";
 	if (strcmp(what, "exec-race") == 0)

@@ -14,8 +14,10 @@ from support import CGREPLAY, PATIENCE, PROGRAM, finish, in_parallel, read, same
 AT = "/sys/fs/cgroup"
 ME = os.path.realpath(__file__)
 BUILT = os.environ.get("HOSTILE") or os.path.join(os.path.dirname(PROGRAM), "..", "hostile")
-ABUSE, MEDDLE = ([os.path.join(BUILT, "abuse"), n] for n in ("vforks", "flags", "daemons", "namespaces", "execs", "memories", "filters", "tracers", "limits")), \
-    ([os.path.join(BUILT, "meddle"), n] for n in ("stops", "intos", "kills", "mixes", "toggles"))
+ABUSE, MEDDLE = (
+    [os.path.join(BUILT, "abuse"), n]
+    for n in ("vforks", "flags", "daemons", "namespaces", "execs", "memories", "filters", "tracers", "limits")
+), ([os.path.join(BUILT, "meddle"), n] for n in ("stops", "intos", "kills", "mixes", "toggles"))
 WAYS = {words[1]: words for words in (*ABUSE, *MEDDLE)}
 SECONDS = float(os.environ.get("ABUSE_SECONDS") or 0.5)
 
@@ -37,7 +39,9 @@ def real():
     for name in os.listdir("/proc"):
         status = status_of(name) if name.isdigit() else {}
         # of a process whose first thread has ended, that thread is no longer traced
-        if status.get("TracerPid") == tracer or any(status_of(name + "/task/" + t).get("TracerPid") == tracer for t in tasks(name)):
+        if status.get("TracerPid") == tracer or any(
+            status_of(name + "/task/" + t).get("TracerPid") == tracer for t in tasks(name)
+        ):
             found.add(int(name))
     return found
 
@@ -72,6 +76,7 @@ def into(group):
 
 # ---------------------------------------------------------------- inside
 
+
 def others_go_on(name):
     """Another process forks and reads, forty times each, and each ends in time."""
     wrong, times, end = [], 0, time.monotonic() + PATIENCE
@@ -96,7 +101,11 @@ def quiet(name):
         reap()
         return read(AT + "/abuse/pids.current") == b"0\n" and real() == told()
 
-    step("%s: the counts are those of the real processes" % name, until(gone), (read(AT + "/abuse/pids.current"), real() ^ told()))
+    step(
+        "%s: the counts are those of the real processes" % name,
+        until(gone),
+        (read(AT + "/abuse/pids.current"), real() ^ told()),
+    )
     below = groups(AT + "/abuse")[1:]
     step("%s: its groups can be removed" % name, all(not os.rmdir(g) for g in reversed(below)))
     same("%s: nobody is below" % name, read(AT + "/abuse/cgroup.events").split()[1], b"0")
@@ -116,12 +125,17 @@ def way(name):
 
 # ---------------------------------------------------------------- outside
 
+
 def left(mark):
     """The processes that have the mark in their arguments."""
     found = []
     for name in os.listdir("/proc"):
         try:
-            if name.isdigit() and mark in open("/proc/%s/cmdline" % name, "rb").read() and status_of(name).get("State", "Z")[0] not in "ZX":
+            if (
+                name.isdigit()
+                and mark in open("/proc/%s/cmdline" % name, "rb").read()
+                and status_of(name).get("State", "Z")[0] not in "ZX"
+            ):
                 found.append(int(name))
         except OSError:
             pass
@@ -140,7 +154,9 @@ def ends(name, how):
     """The run gets a signal in the middle of it."""
     mark = uuid.uuid4().hex
     script = 'mkdir %s/abuse && echo 0 > %s/abuse/cgroup.procs && exec "$@"' % (AT, AT)
-    p = subprocess.Popen([PROGRAM, "run", "sh", "-c", script, "sh", *WAYS[name], mark], start_new_session=True, stdout=subprocess.DEVNULL)
+    p = subprocess.Popen(
+        [PROGRAM, "run", "sh", "-c", script, "sh", *WAYS[name], mark], start_new_session=True, stdout=subprocess.DEVNULL
+    )
     until(lambda: any(line[0] == WAYS[name][0].encode() for line in map(line_of, left(mark.encode()))))
     time.sleep(0.1)
     p.send_signal(how)
@@ -157,11 +173,17 @@ def ends(name, how):
 def run(name):
     home = tempfile.mkdtemp()
     trace, answers = os.path.join(home, "trace"), os.path.join(home, "answers")
-    p = subprocess.Popen([PROGRAM, "run", "--trace", trace, "--answers", answers, sys.executable, ME, "inside", name], start_new_session=True)
+    p = subprocess.Popen(
+        [PROGRAM, "run", "--trace", trace, "--answers", answers, sys.executable, ME, "inside", name],
+        start_new_session=True,
+    )
     same("%s: its status" % name, status_within(p, 6 * PATIENCE), 0)
     with open(trace) as lines, open(answers, "rb") as wanted:
         if os.path.getsize(trace) < 16 << 20:
-            step("%s: cgreplay gives the same answers" % name, subprocess.run(CGREPLAY, stdin=lines, stdout=subprocess.PIPE).stdout == wanted.read())
+            step(
+                "%s: cgreplay gives the same answers" % name,
+                subprocess.run(CGREPLAY, stdin=lines, stdout=subprocess.PIPE).stdout == wanted.read(),
+            )
     for how in (signal.SIGTERM, signal.SIGKILL):
         ends(name, how)
 

@@ -7,7 +7,6 @@ import sys
 from support import PATIENCE, Mount, error_of, finish, read, same, step, until, write
 
 
-
 def is_alive(pid):
     try:
         return open("/proc/%d/stat" % pid).read().rpartition(")")[2].split()[0] not in "ZX"
@@ -33,11 +32,17 @@ same("rmdir then", error_of(os.rmdir, m.path("a")), "ok")
 os.mkdir(m.path("b"))
 write(m.path("b", "cgroup.procs"), b"0\n")
 same("0 is the writer", read(m.path("b", "cgroup.procs")), b"%d\n" % os.getpid())
+write(m.path("b", "pids.max"), b"1\n")
+child = subprocess.Popen(["sleep", "600"])
+same("a child beyond the limit is counted once", [read(m.path("b", "pids.events")) for _ in range(3)], [b"max 1\n"] * 3)
+child.kill()
+child.wait()
 m.end()
 
 # a list of children that is longer than a page, so a read ends within a number
 CHILDREN = 2000
-FORKS = """import ctypes, os, signal
+FORKS = (
+    """import ctypes, os, signal
 libc = ctypes.CDLL(None)
 for _ in range(%d):
     if os.fork() == 0:
@@ -45,7 +50,9 @@ for _ in range(%d):
         signal.pause()
 print(flush=True)
 signal.pause()
-""" % CHILDREN
+"""
+    % CHILDREN
+)
 m = Mount("--adopt")
 os.mkdir(m.path("many"))
 parent = subprocess.Popen([sys.executable, "-c", FORKS], close_fds=True, stdout=subprocess.PIPE)

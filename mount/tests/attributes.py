@@ -1,8 +1,10 @@
 """Extended attributes of the user's are kept with a group and its files; and what is left of a group that was removed."""
+import ctypes
+import errno
 import os
 import stat
 
-from support import Mount, error_of, finish, same, step, write
+from support import Mount, error_of, finish, libc, same, step, write
 
 
 def kept():
@@ -33,6 +35,14 @@ def kept():
     m.end()
 
 
+def sized(what, wanted, call):
+    """A call into a buffer of the right size, and into one that is a byte too small."""
+    room = ctypes.create_string_buffer(wanted)
+    same("%s: its size" % what, call(None, 0), wanted)
+    same("into so many bytes", call(room, wanted), wanted)
+    same("into one byte fewer", (call(room, wanted - 1), ctypes.get_errno()), (-1, errno.ERANGE))
+
+
 def bounds():
     """The kernel's: 128 attributes and 128 KiB of values for a group or file."""
     m = Mount()
@@ -40,12 +50,18 @@ def bounds():
     same("65,536 bytes", error_of(os.setxattr, m.path("a"), "user.large", b"x" * 65536), "ok")
     same("another 65,536", error_of(os.setxattr, m.path("a"), "user.large2", b"x" * 65536), "ok")
     same("one byte more", error_of(os.setxattr, m.path("a"), "user.more", b"x"), "ENOSPC")
+    same("one in place of another", error_of(os.setxattr, m.path("a"), "user.large", b"y" * 65536), "ok")
     os.removexattr(m.path("a"), "user.large")
     same("after one is removed", error_of(os.setxattr, m.path("a"), "user.more", b"x"), "ok")
     os.mkdir(m.path("b"))
     got = [error_of(os.setxattr, m.path("b"), "user.n%d" % i, b"v") for i in range(129)]
     same("128 names", (got[:128], got[128]), (["ok"] * 128, "ENOSPC"))
     same("they are listed", len(os.listxattr(m.path("b"))), 128)
+    same("one of 128 gets another value", error_of(os.setxattr, m.path("b"), "user.n0", b"w"), "ok")
+    sized("a value", 65536, lambda to, size: libc.getxattr(m.path("a").encode(), b"user.large2", to, size))
+    os.mkdir(m.path("c"))
+    os.setxattr(m.path("c"), "user.x", b"1")
+    sized("a list", len("user.x") + 1, lambda to, size: libc.listxattr(m.path("c").encode(), to, size))
     m.end()
 
 
@@ -59,10 +75,18 @@ def removed():
     directory = os.open(m.path("a"), os.O_RDONLY)
     os.rmdir(m.path("a"))
     os.mkdir(m.path("a"))
-    same("a group of that name is another: attributes", (os.listxattr(m.path("a")), os.listxattr(m.path("a", "pids.max"))), ([], []))
+    same(
+        "a group of that name is another: attributes",
+        (os.listxattr(m.path("a")), os.listxattr(m.path("a", "pids.max"))),
+        ([], []),
+    )
     same("its modes", stat.S_IMODE(os.stat(m.path("a", "pids.max")).st_mode), 0o644)
     os.setxattr(directory, "user.z", b"1")
-    same("the open directory is not of it", (os.listxattr(directory), os.listxattr(m.path("a"))), (["user.z", "user.x"], []))
+    same(
+        "the open directory is not of it",
+        (os.listxattr(directory), os.listxattr(m.path("a"))),
+        (["user.z", "user.x"], []),
+    )
     os.setxattr(m.path("a"), "user.y", b"1")
     write(m.control("undo"), b"1\n")
     same("a group whose mkdir was undone", error_of(os.stat, m.path("a")), "ENOENT")

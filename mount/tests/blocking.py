@@ -5,7 +5,6 @@ import ctypes
 import errno
 import glob
 import os
-import select
 import shutil
 import signal
 import subprocess
@@ -13,9 +12,27 @@ import sys
 import tempfile
 import time
 
-from support import PATIENCE, PROGRAM, Beside, Mount, error_of, finish, in_parallel, libc, read, same, status_within, step, until, write
+from support import (
+    AT,
+    PATIENCE,
+    PROGRAM,
+    Beside,
+    Mount,
+    error_of,
+    finish,
+    in_parallel,
+    into,
+    libc,
+    line_of,
+    read,
+    same,
+    status_within,
+    step,
+    tracer,
+    until,
+    write,
+)
 
-AT = "/sys/fs/cgroup"
 ME = os.path.realpath(__file__)
 BUILT = os.environ.get("HOSTILE") or os.path.join(os.path.dirname(PROGRAM), "..", "hostile")
 BLOCKING, STALLED = os.path.join(BUILT, "blocking"), os.path.join(BUILT, "stalled")
@@ -25,10 +42,6 @@ PF_EXITING = 4
 CLONE_INTO_CGROUP, CLONE_NEWNS, CLONE_NEWCGROUP, MS_BIND = 0x200000000, 0x20000, 0x2000000, 4096
 
 
-def into(group):
-    write(AT + group + "/cgroup.procs", b"0\n")
-
-
 def mount(source, target, kind, flags=0):
     if libc.mount(source.encode(), target.encode(), kind.encode() if kind else None, flags, None):
         raise OSError(ctypes.get_errno(), "mount on " + target)
@@ -36,6 +49,7 @@ def mount(source, target, kind, flags=0):
 
 def forks(times=20):
     """Whether this number of forks ends in time."""
+
     def all_of():
         for _ in range(times):
             pid = os.fork()
@@ -54,17 +68,6 @@ def clone_into(fd):
     if pid == 0:
         libc._exit(0)
     return os.waitpid(pid, 0)[1] if pid > 0 else errno.errorcode[ctypes.get_errno()]
-
-
-def tracer():
-    return int(next(x for x in open("/proc/self/status") if x.startswith("TracerPid:")).split()[1])
-
-
-def line_of(pid):
-    try:
-        return open("/proc/%d/cmdline" % pid, "rb").read()
-    except OSError:
-        return b""
 
 
 def stat_of(pid):
@@ -86,6 +89,7 @@ def holder(*words):
 
 
 # ---------------------------------------------------------------- inside: files of the user
+
 
 def covered():
     """A file that covers one of the mount keeps its content, and a watch of the file below is told all the same."""
@@ -134,6 +138,7 @@ def machine():
 
 # ---------------------------------------------------------------- inside: locks and memory
 
+
 def listing():
     """A listing into memory that is held back, a mkdir behind it, and a clone3 into a removed group."""
     os.mkdir(AT + "/gone")
@@ -158,8 +163,10 @@ def spaces():
     p.kill()
 
 
-LEADERLESS = "import ctypes, threading, time\nthreading.Thread(target=time.sleep, args=(600,)).start()\nctypes.CDLL(None).syscall(%d, 0)" % (
-    60 if os.uname().machine == "x86_64" else 93)
+LEADERLESS = (
+    "import ctypes, threading, time\nthreading.Thread(target=time.sleep, args=(600,)).start()\nctypes.CDLL(None).syscall(%d, 0)"
+    % (60 if os.uname().machine == "x86_64" else 93)
+)
 
 
 def leaderless():
@@ -179,8 +186,12 @@ def leaderless():
 def ending():
     """The first thread of a process is just ending when the process is frozen."""
     os.mkdir(AT + "/a")
-    p = subprocess.Popen([BLOCKING, "leader", os.path.dirname(PAGE) + "/slow"], stdin=subprocess.PIPE, stdout=subprocess.PIPE,
-                         preexec_fn=lambda: into("/a"))
+    p = subprocess.Popen(
+        [BLOCKING, "leader", os.path.dirname(PAGE) + "/slow"],
+        stdin=subprocess.PIPE,
+        stdout=subprocess.PIPE,
+        preexec_fn=lambda: into("/a"),
+    )
     p.stdout.read(1)
     p.stdin.write(b"x")
     p.stdin.flush()
@@ -194,7 +205,11 @@ def ending():
 
 def waiting():
     """More clone3 calls wait for memory than the helper has threads at first."""
-    same("another clone3", subprocess.run([BLOCKING, "sixteen", PAGE], stdout=subprocess.PIPE, timeout=PATIENCE).stdout, b"1\n")
+    same(
+        "another clone3",
+        subprocess.run([BLOCKING, "sixteen", PAGE], stdout=subprocess.PIPE, timeout=PATIENCE).stdout,
+        b"1\n",
+    )
     step("others still run", forks())
 
 
@@ -205,7 +220,9 @@ def stopped():
     for _ in range(100):
         for pid in others:
             os.kill(pid, signal.SIGSTOP)
-        got = Beside(clone_into, fd).result()
+        got = clone_into(
+            fd
+        )  # not beside: a child that is made while another thread has the lock of Python waits for it
         if got != 0:
             wrong.append(got)
             break
@@ -223,7 +240,9 @@ def stopping():
             for pid in others:
                 os.kill(pid, signal.SIGSTOP)
             time.sleep(pause)
-        got = Beside(clone_into, fd).result()
+        got = clone_into(
+            fd
+        )  # not beside: a child that is made while another thread has the lock of Python waits for it
         if got != 0:
             step("a child is made", False, (i, got))
             os.kill(supervisor, signal.SIGKILL)  # else each open waits for one that is stopped
@@ -232,8 +251,11 @@ def stopping():
 
 def cost_of_clones(fd, others):
     """What came of twenty children, and the processor time that makhloeum used for them."""
+
     def used():
-        return sum(time.clock_gettime(~pid << 3 | 2) for pid in others)  # the clock of a process, as the kernel numbers it
+        return sum(
+            time.clock_gettime(~pid << 3 | 2) for pid in others
+        )  # the clock of a process, as the kernel numbers it
 
     before = used()
     got = {clone_into(fd) for _ in range(20)}
@@ -294,8 +316,19 @@ def mounting():
     os.waitpid(pid, 0)
 
 
-INSIDE = {covered: ["--root"], machine: ["--root", "--keep", "cpuset,io"], listing: [], spaces: ["--root"], leaderless: [], ending: [], waiting: [], stopped: [], stopping: [],
-          elsewhere: ["--root"], mounting: ["--root"]}
+INSIDE = {
+    covered: ["--root"],
+    machine: ["--root", "--keep", "cpuset,io"],
+    listing: [],
+    spaces: ["--root"],
+    leaderless: [],
+    ending: [],
+    waiting: [],
+    stopped: [],
+    stopping: [],
+    elsewhere: ["--root"],
+    mounting: ["--root"],
+}
 if sys.argv[1:2] == ["inside"]:
     {t.__name__: t for t in INSIDE}[sys.argv[2]]()
     sys.stdout.flush()
@@ -305,6 +338,7 @@ if sys.argv[1:2] == ["inside"]:
 
 # ---------------------------------------------------------------- outside
 
+
 def run(test):
     """The file system of a run that hangs goes first: until then a process that waits for it cannot be killed."""
     home = tempfile.mkdtemp()
@@ -313,8 +347,11 @@ def run(test):
         step("%s: a file system that does not answer can be mounted" % test.__name__, False)
         return
     slow = {"LD_PRELOAD": SLOW_KILL} if test is stopping and os.path.exists(SLOW_KILL) else {}
-    p = subprocess.Popen([PROGRAM, "run", *INSIDE[test], sys.executable, ME, "inside", test.__name__], start_new_session=True,
-                         env=dict(os.environ, PAGE=home + "/page", **slow))
+    p = subprocess.Popen(
+        [PROGRAM, "run", *INSIDE[test], sys.executable, ME, "inside", test.__name__],
+        start_new_session=True,
+        env=dict(os.environ, PAGE=home + "/page", **slow),
+    )
     try:
         status = p.wait(6 * PATIENCE)
     except subprocess.TimeoutExpired:
@@ -382,19 +419,32 @@ def killed():
 
 def callers():
     """A caller that ignores SIGCHLD or blocks every signal; and what the program inherits."""
-    ways = (("ignores SIGCHLD", lambda: signal.signal(signal.SIGCHLD, signal.SIG_IGN)),
-            ("blocks all signals", lambda: signal.pthread_sigmask(signal.SIG_BLOCK, signal.valid_signals())))
+    ways = (
+        ("ignores SIGCHLD", lambda: signal.signal(signal.SIGCHLD, signal.SIG_IGN)),
+        ("blocks all signals", lambda: signal.pthread_sigmask(signal.SIG_BLOCK, signal.valid_signals())),
+    )
     for name, way in ways:
         p = subprocess.Popen([PROGRAM, "run", "sh", "-c", "/bin/true; exit 7"], preexec_fn=way)
         same("its caller " + name, status_within(p), 7)
     for names in (("SIGCHLD", "SIGPIPE", "SIGQUIT", "SIGXFSZ"), ("SIGUSR1",), ()):
+
         def ignore():
             for n in names:
                 signal.signal(getattr(signal, n), signal.SIG_IGN)
             signal.pthread_sigmask(signal.SIG_BLOCK, [signal.SIGUSR2])
+
         wanted = sum(1 << (getattr(signal, n) - 1) for n in names)
-        said = subprocess.run([PROGRAM, "run", "grep", "^Sig[IB]", "/proc/self/status"], stdout=subprocess.PIPE, preexec_fn=ignore, timeout=PATIENCE).stdout
-        same("ignored and blocked: %s" % (names,), [int(x.split()[1], 16) for x in said.splitlines()], [1 << (signal.SIGUSR2 - 1), wanted])
+        said = subprocess.run(
+            [PROGRAM, "run", "grep", "^Sig[IB]", "/proc/self/status"],
+            stdout=subprocess.PIPE,
+            preexec_fn=ignore,
+            timeout=PATIENCE,
+        ).stdout
+        same(
+            "ignored and blocked: %s" % (names,),
+            [int(x.split()[1], 16) for x in said.splitlines()],
+            [1 << (signal.SIGUSR2 - 1), wanted],
+        )
 
 
 OUTSIDE = (unmounted, stuck, killed, callers)

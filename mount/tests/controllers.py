@@ -25,14 +25,28 @@ def enabling():
     same("nor is one listed", [n for n in os.listdir(m.path("a")) if not n.startswith("cgroup.")], ["cpu.stat"])
     same("cpu.stat without cpu", text_of(m, "a", "cpu.stat"), "usage_usec 0\nuser_usec 0\nsystem_usec 0")
     tries = [
-        (".", "+pids -memory", "ok", "pids"), (".", "+memory", "ok", "memory pids"), (".", "", "ok", "memory pids"),
-        (".", "+cpu -cpu", "ok", "memory pids"), (".", "-cpu +cpu", "ok", "cpu memory pids"), (".", "  +io   +cpuset ", "ok", "cpuset cpu io memory pids"),
-        (".", "memory", "EINVAL", "cpuset cpu io memory pids"), (".", "+hugetlb", "EINVAL", "cpuset cpu io memory pids"),
-        (".", "+", "EINVAL", "cpuset cpu io memory pids"), (".", "*memory", "EINVAL", "cpuset cpu io memory pids"),
-        (".", "-io +rdma", "EINVAL", "cpuset cpu io memory pids"), (".", "-io -cpuset", "ok", "cpu memory pids"),
-        ("a", "+io", "ENOENT", ""), ("a", "+memory +io", "ENOENT", ""), ("a", "-io", "ok", ""), ("a", "+memory", "ok", "memory"),
-        (".", "-memory", "EBUSY", "cpu memory pids"), (".", "-memory -pids", "EBUSY", "cpu memory pids"), (".", "-pids", "ok", "cpu memory"),
-        ("a", "-memory", "ok", ""), (".", "-memory", "ok", "cpu"), (".", "-cpu", "ok", ""),
+        (".", "+pids -memory", "ok", "pids"),
+        (".", "+memory", "ok", "memory pids"),
+        (".", "", "ok", "memory pids"),
+        (".", "+cpu -cpu", "ok", "memory pids"),
+        (".", "-cpu +cpu", "ok", "cpu memory pids"),
+        (".", "  +io   +cpuset ", "ok", "cpuset cpu io memory pids"),
+        (".", "memory", "EINVAL", "cpuset cpu io memory pids"),
+        (".", "+hugetlb", "EINVAL", "cpuset cpu io memory pids"),
+        (".", "+", "EINVAL", "cpuset cpu io memory pids"),
+        (".", "*memory", "EINVAL", "cpuset cpu io memory pids"),
+        (".", "-io +rdma", "EINVAL", "cpuset cpu io memory pids"),
+        (".", "-io -cpuset", "ok", "cpu memory pids"),
+        ("a", "+io", "ENOENT", ""),
+        ("a", "+memory +io", "ENOENT", ""),
+        ("a", "-io", "ok", ""),
+        ("a", "+memory", "ok", "memory"),
+        (".", "-memory", "EBUSY", "cpu memory pids"),
+        (".", "-memory -pids", "EBUSY", "cpu memory pids"),
+        (".", "-pids", "ok", "cpu memory"),
+        ("a", "-memory", "ok", ""),
+        (".", "-memory", "ok", "cpu"),
+        (".", "-cpu", "ok", ""),
     ]
     for group, words, error, text in tries:
         same("%s: %r" % (group, words), change(m, group, words), error)
@@ -58,6 +72,15 @@ def lost_pids():
     same("no limit", error_of(write, m.control("fork"), b"1 2\n"), "ok")
     change(m, ".", "+pids")
     same("the new one", text_of(m, "a", "pids.max"), "max")
+    os.mkdir(m.path("b"))
+    write(m.path("a", "pids.max"), b"3\n")
+    write(m.path("b", "pids.max"), b"4\n")
+    depth = text_of(m, ".makhloeum", "depth")
+    change(m, ".", "-pids")
+    same("two limits are one operation", text_of(m, ".makhloeum", "depth"), str(int(depth) + 1))
+    write(m.control("undo"), b"\n")
+    change(m, ".", "+pids")
+    same("one undo sets both again", (text_of(m, "a", "pids.max"), text_of(m, "b", "pids.max")), ("3", "4"))
     same("a directory of a file's name", error_of(os.mkdir, m.path("a", "memory.max")), "EEXIST")
     m.end()
 
@@ -94,12 +117,20 @@ def threaded():
     write(m.control("fork"), b"1 2\n")
     write(m.path("a", "cgroup.procs"), b"2\n")
     same("pids in a group with a process", change(m, "a", "+pids"), "ok")
-    same("the type", (text_of(m, "a", "cgroup.type"), text_of(m, "a", "b", "cgroup.type")), ("domain threaded", "domain invalid"))
+    same(
+        "the type",
+        (text_of(m, "a", "cgroup.type"), text_of(m, "a", "b", "cgroup.type")),
+        ("domain threaded", "domain invalid"),
+    )
     same("memory in the same group", change(m, "a", "+memory"), "ENOTSUP")
     same("a move below", error_of(write, m.path("a", "b", "cgroup.procs"), b"2\n"), "ENOTSUP")
     same("enabling below", change(m, "a/b", "+pids"), "ENOTSUP")
     write(m.path("cgroup.procs"), b"2\n")
-    same("without processes they are domains", (text_of(m, "a", "cgroup.type"), text_of(m, "a", "b", "cgroup.type")), ("domain", "domain"))
+    same(
+        "without processes they are domains",
+        (text_of(m, "a", "cgroup.type"), text_of(m, "a", "b", "cgroup.type")),
+        ("domain", "domain"),
+    )
     same("a move below", error_of(write, m.path("a", "b", "cgroup.procs"), b"2\n"), "ok")
     same("below a group with processes", error_of(write, m.path("a", "cgroup.procs"), b"2\n"), "EBUSY")
     same("to be threaded", error_of(write, m.path("a", "cgroup.type"), b"threaded\n"), "ENOTSUP")
@@ -111,7 +142,11 @@ def without():
     """Without --keep none of this exists."""
     m = Mount("--extra")
     os.mkdir(m.path("a"))
-    same("controllers", (text_of(m, "a", "cgroup.controllers"), text_of(m, "a", "cgroup.subtree_control")), ("pids", "pids"))
+    same(
+        "controllers",
+        (text_of(m, "a", "cgroup.controllers"), text_of(m, "a", "cgroup.subtree_control")),
+        ("pids", "pids"),
+    )
     write(m.path("a", "cgroup.procs"), b"1\n")
     os.mkdir(m.path("a", "b"))
     same("a group with a process has children with pids", text_of(m, "a", "b", "pids.max"), "max")
@@ -120,6 +155,9 @@ def without():
 
 
 def refused():
+    m = Mount("--keep", "cpu")
+    same("a controller that is not kept", change(m, ".", "+memory"), "EINVAL")
+    m.end()
     for words in ("", "pids", "memory,", "memory,hugetlb", "memory cpu"):
         ran = subprocess.run([PROGRAM, "mount", "/tmp", "--keep", words], stderr=subprocess.PIPE)
         same("--keep %r" % words, (ran.returncode, ran.stderr.count(b"\n")), (2, 1))
@@ -139,7 +177,12 @@ if echo 0 > a/cgroup.procs; then echo in; else echo refused; fi
 echo 0 > a/b/cgroup.procs
 cat /proc/self/cgroup
 """
-    ran = subprocess.run([PROGRAM, "run", "--keep", "memory", "--", "sh", "-c", script], stdout=subprocess.PIPE, stderr=subprocess.PIPE, timeout=PATIENCE)
+    ran = subprocess.run(
+        [PROGRAM, "run", "--keep", "memory", "--", "sh", "-c", script],
+        stdout=subprocess.PIPE,
+        stderr=subprocess.PIPE,
+        timeout=PATIENCE,
+    )
     same("under run", ran.stdout, b"1048576\nmemory pids\nrefused\n0::/a/b\n")
 
 

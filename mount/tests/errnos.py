@@ -2,7 +2,6 @@
 privileges. `errnos.py` tries the table on a mount and under `run --root`, `errnos.py kernel` on the cgroup2 of this machine, in
 groups that it makes and removes."""
 import ctypes
-import errno
 import fcntl
 import json
 import mmap
@@ -46,6 +45,7 @@ def opened(path, flags, then=lambda fd: None):
 
 def maps(flags):
     """By libc, since Python's mmap looks at the size first."""
+
     def call(fd):
         at = libc.mmap(None, ctypes.c_size_t(4096), mmap.PROT_READ, flags, fd, ctypes.c_long(0))
         raises(-1 if at == ctypes.c_void_p(-1).value else 0)
@@ -128,9 +128,19 @@ CALLS = [
     ("rename of a file to a group", lambda g: os.rename(g + "/" + RW, g + "/in"), "EISDIR", "EISDIR"),
     ("rename of a group into itself", lambda g: os.rename(g + "/in", g + "/in/deep/new"), "EINVAL", "EINVAL"),
     ("renameat2, RENAME_NOREPLACE", lambda g: renameat2(g + "/" + RW, g + "/new", NOREPLACE), "EINVAL", "EINVAL"),
-    ("renameat2, RENAME_NOREPLACE to a name that is there", lambda g: renameat2(g + "/" + RW, g + "/" + RO, NOREPLACE), "EEXIST", "EEXIST"),
+    (
+        "renameat2, RENAME_NOREPLACE to a name that is there",
+        lambda g: renameat2(g + "/" + RW, g + "/" + RO, NOREPLACE),
+        "EEXIST",
+        "EEXIST",
+    ),
     ("renameat2, RENAME_EXCHANGE", lambda g: renameat2(g + "/" + RW, g + "/" + RO, EXCHANGE), "EINVAL", "EINVAL"),
-    ("renameat2, RENAME_EXCHANGE with nothing", lambda g: renameat2(g + "/" + RW, g + "/new", EXCHANGE), "ENOENT", "ENOENT"),
+    (
+        "renameat2, RENAME_EXCHANGE with nothing",
+        lambda g: renameat2(g + "/" + RW, g + "/new", EXCHANGE),
+        "ENOENT",
+        "ENOENT",
+    ),
     ("renameat2, RENAME_WHITEOUT", lambda g: renameat2(g + "/" + RW, g + "/new", WHITEOUT), "EINVAL", "EINVAL"),
     ("open to write, of a file that is read", lambda g: opened(g + "/" + RO, WR), "ok", "EACCES"),
     ("open with O_TRUNC, of a file that is read", lambda g: opened(g + "/" + RO, RD | os.O_TRUNC), "ok", "EACCES"),
@@ -139,8 +149,18 @@ CALLS = [
     ("open with O_DIRECT, of a group", lambda g: opened(g, RD | os.O_DIRECT), "EINVAL", "EINVAL"),
     ("open to write, of a group", lambda g: opened(g, WR), "EISDIR", "EISDIR"),
     ("open with O_DIRECTORY, of a file", lambda g: opened(g + "/" + RW, RD | os.O_DIRECTORY), "ENOTDIR", "ENOTDIR"),
-    ("write to a file that is read", lambda g: opened(g + "/" + RO, WR, lambda fd: os.write(fd, b"1")), "EINVAL", "EACCES"),
-    ("read of a file that is written", lambda g: opened(g + "/" + WO, RD, lambda fd: os.read(fd, 9)), "EINVAL", "EACCES"),
+    (
+        "write to a file that is read",
+        lambda g: opened(g + "/" + RO, WR, lambda fd: os.write(fd, b"1")),
+        "EINVAL",
+        "EACCES",
+    ),
+    (
+        "read of a file that is written",
+        lambda g: opened(g + "/" + WO, RD, lambda fd: os.read(fd, 9)),
+        "EINVAL",
+        "EACCES",
+    ),
     ("read of a group", lambda g: opened(g, RD, lambda fd: os.read(fd, 9)), "EISDIR", "EISDIR"),
     ("preadv2, RWF_NOWAIT", lambda g: opened(g + "/" + RW, RD, nowait), "EOPNOTSUPP", "EOPNOTSUPP"),
     ("truncate", lambda g: os.truncate(g + "/" + RW, 0), "ok", "ok"),
@@ -148,11 +168,28 @@ CALLS = [
     ("truncate of a file that is read", lambda g: os.truncate(g + "/" + RO, 0), "ok", "EACCES"),
     ("truncate of a group", lambda g: os.truncate(g, 0), "EISDIR", "EISDIR"),
     ("ftruncate", lambda g: opened(g + "/" + RW, WR, lambda fd: os.ftruncate(fd, 0)), "ok", "ok"),
-    ("ftruncate of a file that is open to be read", lambda g: opened(g + "/" + RW, RD, lambda fd: os.ftruncate(fd, 0)), "EINVAL", "EINVAL"),
-    ("fallocate", lambda g: opened(g + "/" + RW, WR, lambda fd: raises(libc.fallocate(fd, 0, ctypes.c_long(0), ctypes.c_long(9)))), "EOPNOTSUPP", "EOPNOTSUPP"),
+    (
+        "ftruncate of a file that is open to be read",
+        lambda g: opened(g + "/" + RW, RD, lambda fd: os.ftruncate(fd, 0)),
+        "EINVAL",
+        "EINVAL",
+    ),
+    (
+        "fallocate",
+        lambda g: opened(
+            g + "/" + RW, WR, lambda fd: raises(libc.fallocate(fd, 0, ctypes.c_long(0), ctypes.c_long(9)))
+        ),
+        "EOPNOTSUPP",
+        "EOPNOTSUPP",
+    ),
     ("mmap, MAP_SHARED", lambda g: opened(g + "/" + RW, RD, maps(mmap.MAP_SHARED)), "ENODEV", "ENODEV"),
     ("mmap, MAP_PRIVATE", lambda g: opened(g + "/" + RW, RD, maps(mmap.MAP_PRIVATE)), "ENODEV", "ENODEV"),
-    ("mmap of a file that is open to be written", lambda g: opened(g + "/" + RW, WR, maps(mmap.MAP_SHARED)), "EACCES", "EACCES"),
+    (
+        "mmap of a file that is open to be written",
+        lambda g: opened(g + "/" + RW, WR, maps(mmap.MAP_SHARED)),
+        "EACCES",
+        "EACCES",
+    ),
     ("fsync", lambda g: opened(g + "/" + RW, RD, os.fsync), "ok", "ok"),
     ("fsync of a group", lambda g: opened(g, RD, os.fsync), "EINVAL", "EINVAL"),
     ("ioctl", lambda g: opened(g + "/" + RW, RD, lambda fd: fcntl.ioctl(fd, 0x1234)), "ENOTTY", "ENOTTY"),
@@ -244,7 +281,9 @@ def inside():
 
 
 def of_run():
-    ran = subprocess.run([PROGRAM, "run", "--root", "--", sys.executable, os.path.realpath(__file__), "inside"], stdout=subprocess.PIPE)
+    ran = subprocess.run(
+        [PROGRAM, "run", "--root", "--", sys.executable, os.path.realpath(__file__), "inside"], stdout=subprocess.PIPE
+    )
     same("a program under run ends", ran.returncode, 0)
     compare("run --root", json.loads(ran.stdout), 2, OTHERWISE)
 

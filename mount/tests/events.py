@@ -3,7 +3,7 @@ import os
 import select
 import struct
 
-from support import PATIENCE, Mount, error_of, finish, libc, read, same, step, until, write
+from support import PATIENCE, Beside, Mount, error_of, finish, libc, read, same, step, until, write
 
 IN_MODIFY = 0x2
 
@@ -32,12 +32,15 @@ class Watch:
                 self.modified.add(self.names[number])
             if number != self.mark and mask & ~IN_MODIFY:
                 self.others.add(hex(mask))
-            data = data[16 + size:]
+            data = data[16 + size :]
 
     def take(self):
         """What came since the last time."""
         self.modified, self.others, self.marked = set(), set(), 0
-        write(m.path("cgroup.procs") if b"9" in read(m.path("mark", "cgroup.procs")) else m.path("mark", "cgroup.procs"), b"9\n")
+        write(
+            m.path("cgroup.procs") if b"9" in read(m.path("mark", "cgroup.procs")) else m.path("mark", "cgroup.procs"),
+            b"9\n",
+        )
 
         def came():
             self.read()
@@ -95,6 +98,11 @@ write(m.path("a", "b", "cgroup.procs"), b"4\n")
 tells("it moves below", watch, b)
 write(m.path("cgroup.procs"), b"4\n")
 tells("it leaves", watch, a, b)
+write(m.path("a", "b", "cgroup.procs"), b"4\n")
+watch.take()
+write(m.path("a", "cgroup.kill"), b"1\n")
+tells("a kill above kills it", watch, a, b)
+write(m.control("fork"), b"1 4\n")
 write(m.path("a", "cgroup.procs"), b"4\n")
 watch.take()
 write(m.path("a", "pids.max"), b"1\n")
@@ -106,6 +114,16 @@ for _ in range(200):
     write(m.path("a", "b", "cgroup.procs"), b"4\n")
     write(m.path("a", "cgroup.procs"), b"4\n")
 step("after four hundred changes the mount answers", until(lambda: read(b) == b"populated 0\nfrozen 0\n"))
+os.mkdir(m.path("r"))
+fd = os.open(m.path("r", "cgroup.events"), os.O_RDONLY)
+poller = select.poll()
+poller.register(fd, select.POLLPRI)
+os.pread(fd, 100, 0)
+same("before a removal", [mask for _, mask in poller.poll(0)], [])
+waiting = Beside(told, poller)
+os.rmdir(m.path("r"))
+same("who waits is told of a removal", waiting.result(), [select.POLLPRI | select.POLLERR])
+os.close(fd)
 for w in (watch, events):
     os.close(w.fd)
 m.end()

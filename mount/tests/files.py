@@ -6,34 +6,69 @@ import subprocess
 from support import Mount, error_of, finish, read, same, step, write
 
 ROOT = ["cgroup.max.depth", "cgroup.max.descendants", "cgroup.procs", "cgroup.stat"]
-GROUP = sorted(ROOT + ["cgroup.events", "cgroup.kill", "pids.max", "pids.current", "pids.peak", "pids.events",
-                       "pids.events.local"])
-CONSTANTS = {"cgroup.controllers": b"pids\n", "cgroup.subtree_control": b"pids\n", "cgroup.type": b"domain\n",
-             "cgroup.freeze": b"0\n", "cpu.stat": b"usage_usec 0\nuser_usec 0\nsystem_usec 0\n"}
-FRESH = {"cgroup.procs": b"", "cgroup.events": b"populated 0\nfrozen 0\n",
-         "cgroup.stat": b"nr_descendants 0\nnr_dying_descendants 0\n", "cgroup.max.descendants": b"max\n",
-         "cgroup.max.depth": b"max\n", "pids.max": b"max\n", "pids.current": b"0\n", "pids.events": b"max 0\n",
-         "pids.events.local": b"max 0\n", "pids.peak": b"0\n"}
+GROUP = sorted(
+    ROOT + ["cgroup.events", "cgroup.kill", "pids.max", "pids.current", "pids.peak", "pids.events", "pids.events.local"]
+)
+CONSTANTS = {
+    "cgroup.controllers": b"pids\n",
+    "cgroup.subtree_control": b"pids\n",
+    "cgroup.type": b"domain\n",
+    "cgroup.freeze": b"0\n",
+    "cpu.stat": b"usage_usec 0\nuser_usec 0\nsystem_usec 0\n",
+}
+FRESH = {
+    "cgroup.procs": b"",
+    "cgroup.events": b"populated 0\nfrozen 0\n",
+    "cgroup.stat": b"nr_descendants 0\nnr_dying_descendants 0\n",
+    "cgroup.max.descendants": b"max\n",
+    "cgroup.max.depth": b"max\n",
+    "pids.max": b"max\n",
+    "pids.current": b"0\n",
+    "pids.events": b"max 0\n",
+    "pids.events.local": b"max 0\n",
+    "pids.peak": b"0\n",
+}
 
 # What is written to which file, the errno, and what is read then.
 VALUES = [
-    ("pids.max", b"5\n", "ok", b"5\n"), ("pids.max", b"5", "ok", b"5\n"), ("pids.max", b"  7\t\n", "ok", b"7\n"),
-    ("pids.max", b"max\n", "ok", b"max\n"), ("pids.max", b"0x10\n", "ok", b"16\n"), ("pids.max", b"010\n", "ok", b"8\n"),
-    ("pids.max", b"+5\n", "ok", b"5\n"), ("pids.max", b"-0\n", "ok", b"0\n"), ("pids.max", b"4194304\n", "ok", b"4194304\n"),
-    ("pids.max", b"4194305\n", "EINVAL", b"4194304\n"), ("pids.max", b"-1\n", "EINVAL", b"4194304\n"),
-    ("pids.max", b"x\n", "EINVAL", b"4194304\n"), ("pids.max", b"08\n", "EINVAL", b"4194304\n"),
-    ("pids.max", b"0x\n", "EINVAL", b"4194304\n"), ("pids.max", b"1 2\n", "EINVAL", b"4194304\n"),
+    ("pids.max", b"5\n", "ok", b"5\n"),
+    ("pids.max", b"5", "ok", b"5\n"),
+    ("pids.max", b"  7\t\n", "ok", b"7\n"),
+    ("pids.max", b"max\n", "ok", b"max\n"),
+    ("pids.max", b"0x10\n", "ok", b"16\n"),
+    ("pids.max", b"010\n", "ok", b"8\n"),
+    ("pids.max", b"+5\n", "ok", b"5\n"),
+    ("pids.max", b"-0\n", "ok", b"0\n"),
+    ("pids.max", b"4194304\n", "ok", b"4194304\n"),
+    ("pids.max", b"4194305\n", "EINVAL", b"4194304\n"),
+    ("pids.max", b"-1\n", "EINVAL", b"4194304\n"),
+    ("pids.max", b"x\n", "EINVAL", b"4194304\n"),
+    ("pids.max", b"08\n", "EINVAL", b"4194304\n"),
+    ("pids.max", b"0x\n", "EINVAL", b"4194304\n"),
+    ("pids.max", b"1 2\n", "EINVAL", b"4194304\n"),
     ("pids.max", b"9223372036854775808\n", "ERANGE", b"4194304\n"),
-    ("pids.max", b"99999999999999999999x\n", "ERANGE", b"4194304\n"), ("pids.max", b"\n", "EINVAL", b"4194304\n"),
-    ("pids.max", b"1" * 5000, "E2BIG", b"4194304\n"), ("pids.max", b"7".rjust(4096), "ok", b"7\n"), ("pids.max", b"7".rjust(4097), "E2BIG", b"7\n"),
+    ("pids.max", b"99999999999999999999x\n", "ERANGE", b"4194304\n"),
+    ("pids.max", b"\n", "EINVAL", b"4194304\n"),
+    ("pids.max", b"1" * 5000, "E2BIG", b"4194304\n"),
+    ("pids.max", b"7".rjust(4096), "ok", b"7\n"),
+    ("pids.max", b"7".rjust(4097), "E2BIG", b"7\n"),
     ("pids.max", b"3\0junk", "ok", b"3\n"),
-    ("cgroup.max.depth", b"2147483646\n", "ok", b"2147483646\n"), ("cgroup.max.depth", b"2147483647\n", "ok", b"max\n"),
-    ("cgroup.max.depth", b"2147483648\n", "ERANGE", b"max\n"), ("cgroup.max.depth", b"-1\n", "ERANGE", b"max\n"),
-    ("cgroup.max.depth", b"MAX\n", "EINVAL", b"max\n"), ("cgroup.max.descendants", b"3\n", "ok", b"3\n"),
-    ("cgroup.max.descendants", b"1.0\n", "EINVAL", b"3\n"), ("cgroup.max.descendants", b"max\n", "ok", b"max\n"),
-    ("cgroup.procs", b"x\n", "EINVAL", b""), ("cgroup.procs", b"-1\n", "EINVAL", b""), ("cgroup.procs", b"9\n", "ESRCH", b""),
-    ("cgroup.procs", b"4194304\n", "ESRCH", b""), ("cgroup.procs", b"99999999999\n", "EINVAL", b""),
-    ("cgroup.kill", b"0\n", "ERANGE", None), ("cgroup.kill", b"2\n", "ERANGE", None), ("cgroup.kill", b"x\n", "EINVAL", None),
+    ("cgroup.max.depth", b"2147483646\n", "ok", b"2147483646\n"),
+    ("cgroup.max.depth", b"2147483647\n", "ok", b"max\n"),
+    ("cgroup.max.depth", b"2147483648\n", "ERANGE", b"max\n"),
+    ("cgroup.max.depth", b"-1\n", "ERANGE", b"max\n"),
+    ("cgroup.max.depth", b"MAX\n", "EINVAL", b"max\n"),
+    ("cgroup.max.descendants", b"3\n", "ok", b"3\n"),
+    ("cgroup.max.descendants", b"1.0\n", "EINVAL", b"3\n"),
+    ("cgroup.max.descendants", b"max\n", "ok", b"max\n"),
+    ("cgroup.procs", b"x\n", "EINVAL", b""),
+    ("cgroup.procs", b"-1\n", "EINVAL", b""),
+    ("cgroup.procs", b"9\n", "ESRCH", b""),
+    ("cgroup.procs", b"4194304\n", "ESRCH", b""),
+    ("cgroup.procs", b"99999999999\n", "EINVAL", b""),
+    ("cgroup.kill", b"0\n", "ERANGE", None),
+    ("cgroup.kill", b"2\n", "ERANGE", None),
+    ("cgroup.kill", b"x\n", "EINVAL", None),
     ("cgroup.kill", b"1\n", "ok", None),
 ]
 
@@ -114,7 +149,9 @@ def opened():
     os.chown(m.path("a"), os.getuid(), os.getgid())
     same("a mode is kept", stat.S_IMODE(os.stat(m.path("a")).st_mode), 0o700)
     if os.getuid():
-        same("open a file that is read, to write", error_of(os.open, m.path("a", "pids.current"), os.O_WRONLY), "EACCES")
+        same(
+            "open a file that is read, to write", error_of(os.open, m.path("a", "pids.current"), os.O_WRONLY), "EACCES"
+        )
     m.end()
 
 
@@ -122,8 +159,12 @@ def sent():
     """sendfile, by which some clients read."""
     m = Mount()
     os.mkdir(m.path("a"))
-    for name, text in (("a/pids.max", b"max\n"), ("cgroup.procs", b"1\n"), ("cgroup.stat", b"nr_descendants 1\nnr_dying_descendants 0\n"),
-                       (".makhloeum/newest", b"mkdir /a\n")):
+    for name, text in (
+        ("a/pids.max", b"max\n"),
+        ("cgroup.procs", b"1\n"),
+        ("cgroup.stat", b"nr_descendants 1\nnr_dying_descendants 0\n"),
+        (".makhloeum/newest", b"mkdir /a\n"),
+    ):
         same("the size of " + name, os.stat(m.path(name)).st_size, len(text))
         file, (out, into) = os.open(m.path(name), os.O_RDONLY), os.pipe()
         same("sendfile of " + name, (os.sendfile(into, file, None, 1 << 20), os.read(out, 100)), (len(text), text))
@@ -152,7 +193,11 @@ def extra():
     same("what is so already", error_of(write, m.path("a", "cgroup.subtree_control"), b"+pids\n"), "ok")
     same("what is not", error_of(write, m.path("a", "cgroup.subtree_control"), b"-pids\n"), "ENOTSUP")
     same("a freeze", error_of(write, m.path("a", "cgroup.freeze"), b"1\n"), "ok")
-    same("it is there", (read(m.path("a", "cgroup.freeze")), read(m.path("a", "cgroup.events"))), (b"1\n", b"populated 0\nfrozen 1\n"))
+    same(
+        "it is there",
+        (read(m.path("a", "cgroup.freeze")), read(m.path("a", "cgroup.events"))),
+        (b"1\n", b"populated 0\nfrozen 1\n"),
+    )
     same("a thaw", error_of(write, m.path("a", "cgroup.freeze"), b"0\n"), "ok")
     same("it is gone", read(m.path("a", "cgroup.events")), b"populated 0\nfrozen 0\n")
     m.end()
@@ -169,8 +214,11 @@ def control():
     same("is counted", read(m.path("a", "pids.events")), b"max 1\n")
     same("depth", read(m.control("depth")), b"5\n")
     same("newest", read(m.control("newest")), b"fork 2 3\n")
-    same("trace", read(m.control("trace")),
-         b"mkdir /a\nfork 1 2\nwrite /a cgroup.procs 2\nwrite /a pids.max 1\nfork 2 3\n")
+    same(
+        "trace",
+        read(m.control("trace")),
+        b"mkdir /a\nfork 1 2\nwrite /a cgroup.procs 2\nwrite /a pids.max 1\nfork 2 3\n",
+    )
     write(m.control("undo"), b"\n")
     same("one undo", read(m.path("a", "pids.events")), b"max 0\n")
     for count in (b"5\n", b"1000000\n", b"18446744073709551615\n", b"99999999999999999999999999\n"):
@@ -184,17 +232,39 @@ def control():
     same("an open file of a group whose mkdir was undone", error_of(os.read, fd, 9), "ENODEV")
     os.close(fd)
     same("nothing is left to undo", error_of(write, m.control("undo"), b"1\n"), "ENODATA")
-    for name, words in (("undo", "x"), ("undo", "-1"), ("undo", "+1"), ("undo", "1 1"), ("fork", "1"), ("fork", "1 2 3"), ("fork", "1 -2"),
-                        ("fork", "1 4194304"), ("fork", "1 99999999999999999999"), ("fork", "1 18446744073709551618"), ("fork", "0 2"), ("exit", ""), ("exit", "1 1"),
-                        ("exit", "0x1"), ("fork", "4294967297 2")):
+    for name, words in (
+        ("undo", "x"),
+        ("undo", "-1"),
+        ("undo", "+1"),
+        ("undo", "1 1"),
+        ("fork", "1"),
+        ("fork", "1 2 3"),
+        ("fork", "1 -2"),
+        ("fork", "1 4194304"),
+        ("fork", "1 99999999999999999999"),
+        ("fork", "1 18446744073709551618"),
+        ("fork", "0 2"),
+        ("exit", ""),
+        ("exit", "1 1"),
+        ("exit", "0x1"),
+        ("fork", "4294967297 2"),
+    ):
         same("%s of %r" % (name, words), error_of(write, m.control(name), words.encode() + b"\n"), "EINVAL")
     same("as it was", read(m.control("depth")), b"0\n")
     same("an exit of nobody", error_of(write, m.control("exit"), b"2\n"), "ESRCH")
     os.mkdir(m.path("a"))
     write(m.path("a", "cgroup.procs"), b"1\n")
-    same("forget with a word", (error_of(write, m.control("forget"), b"1\n"), read(m.control("depth"))), ("EINVAL", b"2\n"))
+    same(
+        "forget with a word",
+        (error_of(write, m.control("forget"), b"1\n"), read(m.control("depth"))),
+        ("EINVAL", b"2\n"),
+    )
     write(m.control("forget"), b"\n")
-    same("nothing can be undone", (read(m.control("depth")), read(m.control("newest")), read(m.control("trace"))), (b"0\n", b"", b""))
+    same(
+        "nothing can be undone",
+        (read(m.control("depth")), read(m.control("newest")), read(m.control("trace"))),
+        (b"0\n", b"", b""),
+    )
     same("an undo of what is forgotten", error_of(write, m.control("undo"), b"1\n"), "ENODATA")
     same("the state has stayed", read(m.path("a", "cgroup.procs")), b"1\n")
     write(m.control("fork"), b"1 2\n")

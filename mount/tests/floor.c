@@ -61,7 +61,12 @@ static void *start(struct fuse_conn_info *connection, struct fuse_config *config
 }
 
 static const struct fuse_operations operations = {
-	.init = start, .getattr = look, .open = open_it, .read = read_it, .write = write_it, .truncate = cut_it,
+	.init = start,
+	.getattr = look,
+	.open = open_it,
+	.read = read_it,
+	.write = write_it,
+	.truncate = cut_it,
 };
 
 int main(int argc, char **argv)

@@ -6,8 +6,6 @@ import select
 import signal
 import subprocess
 import sys
-import threading
-import time
 
 from support import PATIENCE, PROGRAM, Mount, error_of, finish, in_parallel, libc, read, same, step, until, write
 
@@ -22,6 +20,7 @@ def frozen(group):
 
 # ---------------------------------------------------------------- a mount of numbers
 
+
 def numbers():
     m = Mount("--extra")
     os.makedirs(m.path("a", "b"))
@@ -29,8 +28,15 @@ def numbers():
     a, b, c = m.path("a"), m.path("a", "b"), m.path("c")
     same("thawed at first", (frozen(a), read(a + "/cgroup.freeze")), (THAWED, b"0\n"))
     same("the root has no such file", error_of(read, m.path("cgroup.freeze")), "ENOENT")
-    for value, error in ((b"2\n", "ERANGE"), (b"-1\n", "ERANGE"), (b"x\n", "EINVAL"), (b"\n", "EINVAL"), (b"99999999999999999999\n", "ERANGE"),
-                         (b" 0x0 \n", "ok"), (b"1" * 5000, "E2BIG")):
+    for value, error in (
+        (b"2\n", "ERANGE"),
+        (b"-1\n", "ERANGE"),
+        (b"x\n", "EINVAL"),
+        (b"\n", "EINVAL"),
+        (b"99999999999999999999\n", "ERANGE"),
+        (b" 0x0 \n", "ok"),
+        (b"1" * 5000, "E2BIG"),
+    ):
         same("writing %r" % value[:9], error_of(write, a + "/cgroup.freeze", value), error)
         same("it is as it was", read(a + "/cgroup.freeze"), b"0\n")
     write(a + "/cgroup.freeze", b"1\n")
@@ -233,7 +239,12 @@ ctypes.CDLL(None).syscall(60 if os.uname().machine == "x86_64" else 93, 0)
 
 def kinds():
     """Processes that fork, make threads, vfork, and have lost their first thread."""
-    for name, program, rounds in (("forks", FORKS, 40), ("threads", THREADS, 10), ("vforks", VFORKS, 10), ("no first thread", LEADERLESS, 10)):
+    for name, program, rounds in (
+        ("forks", FORKS, 40),
+        ("threads", THREADS, 10),
+        ("vforks", VFORKS, 10),
+        ("no first thread", LEADERLESS, 10),
+    ):
         group = "/" + name.split()[0]
         os.mkdir(AT + group)
         one = Counter(group, program)
@@ -287,7 +298,10 @@ def signals():
 def itself():
     """A process that freezes its own group stops soon after the write; another lets it go."""
     os.mkdir(AT + "/a")
-    one = subprocess.Popen(["sh", "-c", "echo 0 > %s/a/cgroup.procs; echo 1 > %s/a/cgroup.freeze; read x; exit 5" % (AT, AT)], stdin=subprocess.PIPE)
+    one = subprocess.Popen(
+        ["sh", "-c", "echo 0 > %s/a/cgroup.procs; echo 1 > %s/a/cgroup.freeze; read x; exit 5" % (AT, AT)],
+        stdin=subprocess.PIPE,
+    )
     becomes("it stops", "/a", FROZEN)
     one.stdin.write(b"\n")
     one.stdin.close()
@@ -306,7 +320,11 @@ def told():
     poller.register(fd, select.POLLPRI)
     for value, text in ((1, FROZEN), (0, THAWED)) * 3:
         freeze("/a", value)
-        same("freeze %d wakes" % value, [mask & select.POLLPRI for _, mask in poller.poll(1000 * PATIENCE)], [select.POLLPRI])
+        same(
+            "freeze %d wakes" % value,
+            [mask & select.POLLPRI for _, mask in poller.poll(1000 * PATIENCE)],
+            [select.POLLPRI],
+        )
         same("it reads", os.pread(fd, 100, 0), b"populated 1\n" + text)
     one.end()
     os.close(fd)
@@ -339,12 +357,22 @@ notified()
 
 
 def run(test):
-    ran = subprocess.run([PROGRAM, "run", sys.executable, ME, "inside", test], timeout=6 * PATIENCE, stderr=subprocess.PIPE)
+    ran = subprocess.run(
+        [PROGRAM, "run", sys.executable, ME, "inside", test], timeout=6 * PATIENCE, stderr=subprocess.PIPE
+    )
     same("the status of %s" % test, (ran.returncode, ran.stderr), (0, b""))
 
 
 in_parallel(run, [t.__name__ for t in INSIDE], lanes=len(INSIDE))
-left = subprocess.run([PROGRAM, "run", "sh", "-c", "mkdir %s/a; sleep 666 & echo $! > %s/a/cgroup.procs; echo 1 > %s/a/cgroup.freeze" % (AT, AT, AT)],
-                      timeout=6 * PATIENCE).returncode
+left = subprocess.run(
+    [
+        PROGRAM,
+        "run",
+        "sh",
+        "-c",
+        "mkdir %s/a; sleep 666 & echo $! > %s/a/cgroup.procs; echo 1 > %s/a/cgroup.freeze" % (AT, AT, AT),
+    ],
+    timeout=6 * PATIENCE,
+).returncode
 same("a run ends with what it left frozen", left, 0)
 finish()

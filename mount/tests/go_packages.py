@@ -15,8 +15,19 @@ from support import PATIENCE, finish, same, status_within, step, until, write
 SOURCES = "/usr/share/gocode/src/"
 RUNC = "github.com/opencontainers/runc/libcontainer/cgroups"
 CONTAINERD = "github.com/containerd/cgroups/v2"
-PACKAGES = (RUNC, RUNC + "/fs2", RUNC + "/fscommon", RUNC + "/manager", RUNC + "/devices", RUNC + "/systemd", CONTAINERD)
-SKIPPED_BY_DEBIAN = ('t.Skip("need to mount cgroupfs")', 't.Skip("cgroupv2 support in LXC container on ci.debian.net is broken")')
+PACKAGES = (
+    RUNC,
+    RUNC + "/fs2",
+    RUNC + "/fscommon",
+    RUNC + "/manager",
+    RUNC + "/devices",
+    RUNC + "/systemd",
+    CONTAINERD,
+)
+SKIPPED_BY_DEBIAN = (
+    't.Skip("need to mount cgroupfs")',
+    't.Skip("cgroupv2 support in LXC container on ci.debian.net is broken")',
+)
 # What does not pass here, and why.
 KNOWN = {
     "TestSkipDevicesTrue": ("FAIL", "the mount has no limits for devices, which the kernel has in BPF"),
@@ -42,7 +53,7 @@ def overlay(folder):
                 lines = f.readlines()
             kept = [x for x in lines if not any(s in x for s in SKIPPED_BY_DEBIAN)]
             if kept != lines:
-                replaced[path] = program(folder, path[len(SOURCES):])
+                replaced[path] = program(folder, path[len(SOURCES) :])
                 with open(replaced[path], "w") as f:
                     f.writelines(kept)
     with open(os.path.join(folder, "overlay.json"), "w") as f:
@@ -54,11 +65,19 @@ def build(folder):
     wanted = PACKAGES + ("github.com/stretchr/testify/assert",)
     if any(not os.path.isdir(SOURCES + p) for p in wanted):
         return 3
-    how = dict(os.environ, GO111MODULE="off", GOPATH=SOURCES[:-len("/src/")], GOCACHE=os.path.join(folder, "cache"), GOFLAGS="-trimpath")
+    how = dict(
+        os.environ,
+        GO111MODULE="off",
+        GOPATH=SOURCES[: -len("/src/")],
+        GOCACHE=os.path.join(folder, "cache"),
+        GOFLAGS="-trimpath",
+    )
     how.setdefault("HOME", folder)
     changed = overlay(folder)
     for package in PACKAGES:
-        if subprocess.run(["go", "test", "-overlay", changed, "-c", "-o", program(folder, package), package], env=how).returncode:
+        if subprocess.run(
+            ["go", "test", "-overlay", changed, "-c", "-o", program(folder, package), package], env=how
+        ).returncode:
             return 1
     return 0
 
@@ -78,13 +97,21 @@ def start_manager():
     manager = subprocess.Popen(["/usr/lib/systemd/systemd", "--user", "--unit=basic.target"], stdout=log, stderr=log)
     os.symlink(os.path.join(home, "systemd/private"), "/run/systemd/private")
     runs = ["systemctl", "--user", "is-system-running"]
-    step("systemd runs", until(lambda: subprocess.run(runs, stdout=subprocess.PIPE, stderr=subprocess.DEVNULL).stdout == b"running\n"))
+    step(
+        "systemd runs",
+        until(lambda: subprocess.run(runs, stdout=subprocess.PIPE, stderr=subprocess.DEVNULL).stdout == b"running\n"),
+    )
     return manager
 
 
 def run_package(folder, package):
-    ran = subprocess.run([program(folder, package), "-test.v"], cwd=SOURCES + package, stdout=subprocess.PIPE, stderr=subprocess.STDOUT,
-                         timeout=6 * PATIENCE)
+    ran = subprocess.run(
+        [program(folder, package), "-test.v"],
+        cwd=SOURCES + package,
+        stdout=subprocess.PIPE,
+        stderr=subprocess.STDOUT,
+        timeout=6 * PATIENCE,
+    )
     text = ran.stdout.decode(errors="replace")
     became = re.findall(r"^--- (PASS|FAIL|SKIP): (\w+) ", text, re.M)
     for how, name in became:
@@ -96,7 +123,7 @@ def run_package(folder, package):
     same("each test of %s ended" % package, [name for _, name in became], started)
     passed = sum(how == "PASS" for how, _ in became)
     step("some passed", passed > 0, text[-2000:])
-    print("  %-58s %d of %d tests pass" % (package[len("github.com/"):], passed, len(started)), flush=True)
+    print("  %-58s %d of %d tests pass" % (package[len("github.com/") :], passed, len(started)), flush=True)
 
 
 def run(folder):

@@ -22,7 +22,9 @@ def into(group):
 
 
 def started(*words, group="/", program=HOSTILE):
-    return subprocess.Popen([program, *words], stdin=subprocess.PIPE, stdout=subprocess.PIPE, preexec_fn=lambda: into(group))
+    return subprocess.Popen(
+        [program, *words], stdin=subprocess.PIPE, stdout=subprocess.PIPE, preexec_fn=lambda: into(group)
+    )
 
 
 def said(*words, seconds=4 * PATIENCE, program=HOSTILE):
@@ -45,14 +47,21 @@ def processes(group):
 
 # ---------------------------------------------------------------- inside: nothing escapes
 
+
 def forks():
     os.mkdir(AT + "/a")
     write(AT + "/a/pids.max", b"5\n")
-    for way in ("clone", "clone3", "parent", "no-signal") + (("int80", "x32") if os.uname().machine == "x86_64" else ()):
+    for way in ("clone", "clone3", "parent", "no-signal") + (
+        ("int80", "x32") if os.uname().machine == "x86_64" else ()
+    ):
         p = started("forks", way, group="/a")
         made = int(p.stdout.readline())
         expected = 0 if way in ("int80", "x32") else 4
-        same("forty forks by %s under pids.max 5" % way, (made, count("/a"), len(processes("/a"))), (expected, expected + 1, expected + 1))
+        same(
+            "forty forks by %s under pids.max 5" % way,
+            (made, count("/a"), len(processes("/a"))),
+            (expected, expected + 1, expected + 1),
+        )
         write(AT + "/a/cgroup.kill", b"1\n")
         p.wait()
         same("then none is left", (count("/a"), read(AT + "/a/cgroup.procs")), (0, b""))
@@ -74,7 +83,11 @@ def arguments():
     wrong = said("rewritten")
     step("arguments that are rewritten: each child is in one group", wrong[0] == "0" and int(wrong[1]) > 50, wrong)
     same("arguments that threads share, in constant memory", said("shared"), ["0"])
-    same("a clone3 into what is not a group", said("into"), ["ENOENT", "ENOENT", "EBADF", "EBADF", "EBADF", "EBADF", "ok"])
+    same(
+        "a clone3 into what is not a group",
+        said("into"),
+        ["ENOENT", "ENOENT", "EBADF", "EBADF", "EBADF", "EBADF", "ok"],
+    )
     same("nobody is left", (read(AT + "/one/cgroup.procs"), read(AT + "/two/cgroup.procs")), (b"", b""))
 
 
@@ -84,6 +97,7 @@ def falling():
 
 
 # ---------------------------------------------------------------- inside: nothing hangs
+
 
 def races():
     os.mkdir(AT + "/one")
@@ -130,6 +144,7 @@ def zombies():
 
 # ---------------------------------------------------------------- inside: what is read
 
+
 def texts():
     os.mkdir(AT + "/a")
     into("/a")
@@ -139,9 +154,19 @@ def texts():
     os.symlink("/proc", home + "/proc")
     me = os.getpid()
     held = os.open("/proc/self/cgroup", os.O_PATH)
-    names = ["/proc/self/cgroup", "/proc//self/./cgroup", "/proc/self/root/proc/self/cgroup", "/proc/self/../self/cgroup",
-             "/proc/%d/task/%d/cgroup" % (me, me), home + "/link", home + "/proc/self/cgroup", "/proc/self/fd/%d" % held,
-             "/dev/fd/%d" % held, "/proc/thread-self/cgroup", "/proc/self/cwd/../../../../../../../../proc/self/cgroup"]
+    names = [
+        "/proc/self/cgroup",
+        "/proc//self/./cgroup",
+        "/proc/self/root/proc/self/cgroup",
+        "/proc/self/../self/cgroup",
+        "/proc/%d/task/%d/cgroup" % (me, me),
+        home + "/link",
+        home + "/proc/self/cgroup",
+        "/proc/self/fd/%d" % held,
+        "/dev/fd/%d" % held,
+        "/proc/thread-self/cgroup",
+        "/proc/self/cwd/../../../../../../../../proc/self/cgroup",
+    ]
     for name in names:
         same(name.replace(home, "HOME"), error_text(name), "0::/a\n")
     stays = os.open("/proc/self/cgroup", os.O_RDONLY)
@@ -149,17 +174,31 @@ def texts():
     into("/")
     same("shows the group of now", os.pread(stays, 99, 0), b"0::/\n")
     into("/a")
-    same("it ends where its text ends", (os.lseek(stays, 0, 0), os.read(stays, 99), os.read(stays, 99)), (0, b"0::/a\n", b""))
+    same(
+        "it ends where its text ends",
+        (os.lseek(stays, 0, 0), os.read(stays, 99), os.read(stays, 99)),
+        (0, b"0::/a\n", b""),
+    )
     same("opened as if to create it", os.read(os.open("/proc/self/cgroup", os.O_RDONLY | os.O_CREAT), 99), b"0::/a\n")
     same("opened to write too", error_of(os.open, "/proc/self/cgroup", os.O_RDWR), "EACCES")
     os.chdir("/proc/self")
     same("from /proc/self", error_text("cgroup"), "0::/a\n")
     os.chdir("/")
-    for name in ("/etc/mtab", "/proc/mounts", "/proc/self/mountinfo", "/proc/self/mountstats", "/proc/self/root/proc/mounts"):
+    for name in (
+        "/etc/mtab",
+        "/proc/mounts",
+        "/proc/self/mountinfo",
+        "/proc/self/mountstats",
+        "/proc/self/root/proc/mounts",
+    ):
         lines = [x for x in error_text(name).splitlines() if AT in x.split()]
         step("%s shows one mount there, of type cgroup2" % name, len(lines) == 1 and "fuse" not in lines[0], lines)
     same("/proc/cgroups", [x.split()[0] for x in error_text("/proc/cgroups").splitlines()], ["#subsys_name", "pids"])
-    same("no io_uring, which opens unseen", (libc.syscall(425, 1, ctypes.create_string_buffer(120)), ctypes.get_errno()), (-1, errno.EPERM))
+    same(
+        "no io_uring, which opens unseen",
+        (libc.syscall(425, 1, ctypes.create_string_buffer(120)), ctypes.get_errno()),
+        (-1, errno.EPERM),
+    )
     same("/proc/self/cpuset", error_text("/proc/self/cpuset"), "/\n")
 
 
@@ -172,14 +211,21 @@ def error_text(name):
 
 # ---------------------------------------------------------------- outside
 
+
 def full_trace():
     """The trace can't be written any more: no fork is made that is not in it."""
     trace = os.path.join(tempfile.mkdtemp(), "trace")
-    code = ("import os\nmade = 0\nfor i in range(200):\n try: pid = os.fork()\n except OSError: continue\n"
-            " if pid == 0: os._exit(0)\n made += 1\n os.waitpid(pid, 0)\nstrangers = 0\n"
-            "try:\n while os.waitpid(-1, 0): strangers += 1\nexcept ChildProcessError: print(made, strangers)")
-    ran = subprocess.run([PROGRAM, "run", "--trace", trace, sys.executable, "-c", code], stdout=subprocess.PIPE, timeout=4 * PATIENCE,
-                         preexec_fn=lambda: resource.setrlimit(resource.RLIMIT_FSIZE, (900, 900)))
+    code = (
+        "import os\nmade = 0\nfor i in range(200):\n try: pid = os.fork()\n except OSError: continue\n"
+        " if pid == 0: os._exit(0)\n made += 1\n os.waitpid(pid, 0)\nstrangers = 0\n"
+        "try:\n while os.waitpid(-1, 0): strangers += 1\nexcept ChildProcessError: print(made, strangers)"
+    )
+    ran = subprocess.run(
+        [PROGRAM, "run", "--trace", trace, sys.executable, "-c", code],
+        stdout=subprocess.PIPE,
+        timeout=4 * PATIENCE,
+        preexec_fn=lambda: resource.setrlimit(resource.RLIMIT_FSIZE, (900, 900)),
+    )
     told = len(re.findall(r"^fork ", open(trace).read(), re.M)) - 1
     made, strangers = map(int, ran.stdout.split())
     step("of 200 forks as many are made as the trace has room for", 5 < made <= told < 100, (made, told))
@@ -205,8 +251,14 @@ def taken_hold():
     """With --root the program has every capability in its namespace, and none over those who count it."""
     if b"__asan_init" in open(PROGRAM, "rb").read():
         return  # a sanitizer needs ptrace
-    ran = subprocess.run([PROGRAM, "run", "--root", sys.executable, "-c", HOLD], stdout=subprocess.PIPE, timeout=PATIENCE)
-    same("neither supervisor, server, helper nor companion is taken hold of", ran.stdout.split(), [b"EPERM", b"EACCES"] * 4)
+    ran = subprocess.run(
+        [PROGRAM, "run", "--root", sys.executable, "-c", HOLD], stdout=subprocess.PIPE, timeout=PATIENCE
+    )
+    same(
+        "neither supervisor, server, helper nor companion is taken hold of",
+        ran.stdout.split(),
+        [b"EPERM", b"EACCES"] * 4,
+    )
 
 
 def stalled():
@@ -245,12 +297,17 @@ for test in INSIDE:
         continue
     home = tempfile.mkdtemp()
     trace, answers = os.path.join(home, "trace"), os.path.join(home, "answers")
-    p = subprocess.Popen([PROGRAM, "run", "--trace", trace, "--answers", answers, sys.executable, ME, "inside", test.__name__],
-                         start_new_session=True)
+    p = subprocess.Popen(
+        [PROGRAM, "run", "--trace", trace, "--answers", answers, sys.executable, ME, "inside", test.__name__],
+        start_new_session=True,
+    )
     same("%s: its status" % test.__name__, status_within(p, 8 * PATIENCE), 0)
     with open(trace) as lines, open(answers, "rb") as wanted:
         if os.path.getsize(trace) < 16 << 20:
-            step("cgreplay gives the same answers", subprocess.run(CGREPLAY, stdin=lines, stdout=subprocess.PIPE).stdout == wanted.read())
+            step(
+                "cgreplay gives the same answers",
+                subprocess.run(CGREPLAY, stdin=lines, stdout=subprocess.PIPE).stdout == wanted.read(),
+            )
 for test in (full_trace, taken_hold, stalled):
     if not sys.argv[1:] or test.__name__ in sys.argv[1:]:
         test()

@@ -8,15 +8,20 @@ import sys
 import time
 
 from on_kernel import new_group
-from support import Mount, error_of, finish, libc, same, step, write
+from support import Mount, error_of, finish, libc, same, step, write, until
 
 DIRECTORY, FILE = 4, 8  # DT_DIR, DT_REG
 libc.opendir.restype = libc.readdir.restype = ctypes.c_void_p
 
 
 class Entry(ctypes.Structure):
-    _fields_ = [("number", ctypes.c_uint64), ("offset", ctypes.c_int64), ("length", ctypes.c_uint16), ("type", ctypes.c_ubyte),
-                ("name", ctypes.c_char * 256)]
+    _fields_ = [
+        ("number", ctypes.c_uint64),
+        ("offset", ctypes.c_int64),
+        ("length", ctypes.c_uint16),
+        ("type", ctypes.c_ubyte),
+        ("name", ctypes.c_char * 256),
+    ]
 
 
 def entries(path):
@@ -42,9 +47,22 @@ def listed(at):
     os.makedirs(at + "/l/below")
     for where in (at + "/l", at + "/l/below"):
         found = entries(where)
-        same("%s: numbers and types" % os.path.basename(where), found, {name: shown(where + "/" + name) for name in found})
-    same("types of a group and of a file", (entries(at + "/l")["below"][1], entries(at + "/l")["cgroup.stat"][1]), (DIRECTORY, FILE))
-    numbers = [number for where in (at + "/l", at + "/l/below") for name, (number, _) in entries(where).items() if name not in (".", "..")]
+        same(
+            "%s: numbers and types" % os.path.basename(where),
+            found,
+            {name: shown(where + "/" + name) for name in found},
+        )
+    same(
+        "types of a group and of a file",
+        (entries(at + "/l")["below"][1], entries(at + "/l")["cgroup.stat"][1]),
+        (DIRECTORY, FILE),
+    )
+    numbers = [
+        number
+        for where in (at + "/l", at + "/l/below")
+        for name, (number, _) in entries(where).items()
+        if name not in (".", "..")
+    ]
     same("no number comes twice", len(set(numbers)), len(numbers))
     os.rmdir(at + "/l/below")
     os.rmdir(at + "/l")
@@ -72,7 +90,13 @@ def numbered(at):
 
 
 def modes(at):
-    for umask, mode, wanted in ((0o022, 0o777, 0o755), (0o027, 0o777, 0o750), (0, 0o700, 0o700), (0o077, 0o1777, 0o1700), (0o022, 0o2711, 0o711)):
+    for umask, mode, wanted in (
+        (0o022, 0o777, 0o755),
+        (0o027, 0o777, 0o750),
+        (0, 0o700, 0o700),
+        (0o077, 0o1777, 0o1700),
+        (0o022, 0o2711, 0o711),
+    ):
         before = os.umask(umask)
         os.mkdir(at + "/m", mode)
         os.umask(before)
@@ -88,7 +112,11 @@ def owner(st):
 def owned(at):
     maker = os.geteuid(), os.getegid()
     os.mkdir(at + "/o")
-    same("its maker owns a group and its files", (owner(os.stat(at + "/o")), owner(os.stat(at + "/o/cgroup.procs"))), (maker, maker))
+    same(
+        "its maker owns a group and its files",
+        (owner(os.stat(at + "/o")), owner(os.stat(at + "/o/cgroup.procs"))),
+        (maker, maker),
+    )
     os.rmdir(at + "/o")
 
 
@@ -108,8 +136,10 @@ def timed(at):
         os.utime(path, (7, 9.5))
         same("times that were set", times_of(path), (7, 9.5))
         step("the time of the change is now", before <= os.stat(path).st_ctime <= time.time(), os.stat(path).st_ctime)
+        changed = os.stat(path).st_ctime_ns
         os.chmod(path, 0o700)
         same("a mode changes no other time", times_of(path), (7, 9.5))
+        step("but that of the change", until(lambda: (os.chmod(path, 0o700), os.stat(path).st_ctime_ns)[1] > changed))
         os.utime(path, ns=(10**9 + 1, 2 * 10**9 + 2))
         same("in nanoseconds", (os.stat(path).st_atime_ns, os.stat(path).st_mtime_ns), (10**9 + 1, 2 * 10**9 + 2))
         os.utime(path, None)
@@ -117,7 +147,11 @@ def timed(at):
     for what, call in (("made", os.mkdir), ("removed", os.rmdir)):
         os.utime(group, (7, 9))
         call(group + "/below")
-        step("a group is %s in it" % what, os.stat(group).st_atime == 7 and before <= os.stat(group).st_mtime <= time.time(), times_of(group))
+        step(
+            "a group is %s in it" % what,
+            os.stat(group).st_atime == 7 and before <= os.stat(group).st_mtime <= time.time(),
+            times_of(group),
+        )
     os.rmdir(group)
 
 
@@ -131,28 +165,55 @@ def removed(at):
     before = os.fstat(d), os.fstat(f)
     os.chdir(group)
     os.rmdir(group)
-    for name, st, was in (("group", os.fstat(d), before[0]), ("file", os.fstat(f), before[1]), ("working directory", os.stat("."), before[0])):
-        same("stat of the %s" % name, (st.st_ino, st.st_mode, st.st_nlink, owner(st)), (was.st_ino, was.st_mode, was.st_nlink, owner(was)))
+    for name, st, was in (
+        ("group", os.fstat(d), before[0]),
+        ("file", os.fstat(f), before[1]),
+        ("working directory", os.stat("."), before[0]),
+    ):
+        same(
+            "stat of the %s" % name,
+            (st.st_ino, st.st_mode, st.st_nlink, owner(st)),
+            (was.st_ino, was.st_mode, was.st_nlink, owner(was)),
+        )
     same("an attribute", os.getxattr(d, "user.x"), b"1")
     os.setxattr(d, "user.y", b"2")
     same("a new one", sorted(os.listxattr(d)), ["user.x", "user.y"])
     os.fchmod(d, 0o700)
     os.utime(d, (5, 6))
-    same("a mode and times", (stat.S_IMODE(os.fstat(d).st_mode), os.fstat(d).st_atime, os.fstat(d).st_mtime), (0o700, 5, 6))
+    same(
+        "a mode and times",
+        (stat.S_IMODE(os.fstat(d).st_mode), os.fstat(d).st_atime, os.fstat(d).st_mtime),
+        (0o700, 5, 6),
+    )
     same("a listing of it is empty", os.listdir(d), [])
     same("its group above", os.stat("..").st_ino, os.stat(at).st_ino)
     for name, call, wanted in (
-            ("read", lambda: os.pread(f, 9, 0), "ENODEV"), ("write", lambda: os.write(f, b"1"), "ENODEV"), ("ftruncate", lambda: os.ftruncate(f, 0), "ok"),
-            ("an open of the file again", lambda: os.open("/proc/self/fd/%d" % f, os.O_RDONLY), "ENODEV"),
-            ("an open of the group again", lambda: os.close(os.open("/proc/self/fd/%d" % d, os.O_RDONLY)), "ok"),
-            ("an open of .", lambda: os.close(os.open(".", os.O_RDONLY)), "ok"), ("access of .", lambda: os.access(".", os.W_OK) or 1 / 0, "ok"),
-            ("an open in it", lambda: os.open("cgroup.procs", os.O_RDONLY), "ENOENT"), ("a stat in it", lambda: os.stat("cgroup.procs"), "ENOENT"),
-            ("mkdir in it", lambda: os.mkdir("x"), "ENOENT"), ("rmdir of .", lambda: os.rmdir("."), "EINVAL"), ("its name", os.getcwd, "ENOENT"),
-            ("stat by its path", lambda: os.stat(group), "ENOENT")):
+        ("read", lambda: os.pread(f, 9, 0), "ENODEV"),
+        ("write", lambda: os.write(f, b"1"), "ENODEV"),
+        ("ftruncate", lambda: os.ftruncate(f, 0), "ok"),
+        ("an open of the file again", lambda: os.open("/proc/self/fd/%d" % f, os.O_RDONLY), "ENODEV"),
+        ("an open of the group again", lambda: os.close(os.open("/proc/self/fd/%d" % d, os.O_RDONLY)), "ok"),
+        ("an open of .", lambda: os.close(os.open(".", os.O_RDONLY)), "ok"),
+        ("access of .", lambda: os.access(".", os.W_OK) or 1 / 0, "ok"),
+        ("an open in it", lambda: os.open("cgroup.procs", os.O_RDONLY), "ENOENT"),
+        ("a stat in it", lambda: os.stat("cgroup.procs"), "ENOENT"),
+        ("mkdir in it", lambda: os.mkdir("x"), "ENOENT"),
+        ("rmdir of .", lambda: os.rmdir("."), "EINVAL"),
+        ("its name", os.getcwd, "ENOENT"),
+        ("stat by its path", lambda: os.stat(group), "ENOENT"),
+    ):
         same("%s of a removed group" % name, error_of(call), wanted)
     os.mkdir(group)
-    same("a group of that name is another", (os.listxattr(group), stat.S_IMODE(os.stat(group + "/cgroup.procs").st_mode)), ([], 0o644))
-    same("the open one is not of it", (os.fstat(d).st_ino, error_of(os.pread, f, 9, 0), error_of(os.stat, "cgroup.procs")), (before[0].st_ino, "ENODEV", "ENOENT"))
+    same(
+        "a group of that name is another",
+        (os.listxattr(group), stat.S_IMODE(os.stat(group + "/cgroup.procs").st_mode)),
+        ([], 0o644),
+    )
+    same(
+        "the open one is not of it",
+        (os.fstat(d).st_ino, error_of(os.pread, f, 9, 0), error_of(os.stat, "cgroup.procs")),
+        (before[0].st_ino, "ENODEV", "ENOENT"),
+    )
     os.chdir("/")
     for fd in (d, f):
         os.close(fd)
@@ -207,7 +268,11 @@ def handled(at):
         fd = libc.open_by_handle_at(above, handle, os.O_RDONLY)
         if fd < 0 and ctypes.get_errno() == errno.EPERM:
             continue
-        same("what it is of", os.fstat(fd).st_ino if fd >= 0 else errno.errorcode[ctypes.get_errno()], os.stat(path).st_ino)
+        same(
+            "what it is of",
+            os.fstat(fd).st_ino if fd >= 0 else errno.errorcode[ctypes.get_errno()],
+            os.stat(path).st_ino,
+        )
         os.close(fd)
     os.close(above)
     os.rmdir(group)

@@ -18,7 +18,9 @@ TRACE_MAX = 16777216
 def refused(words):
     """What the program says and its status; and whether it mounted."""
     try:
-        ran = subprocess.run([PROGRAM, "mount", *words], stderr=subprocess.PIPE, stdin=subprocess.DEVNULL, timeout=PATIENCE)
+        ran = subprocess.run(
+            [PROGRAM, "mount", *words], stderr=subprocess.PIPE, stdin=subprocess.DEVNULL, timeout=PATIENCE
+        )
     except subprocess.TimeoutExpired:
         return "hangs", ""
     return ran.returncode, ran.stderr.decode()
@@ -76,7 +78,11 @@ def times():
     at = [re.fullmatch(r"# at ([0-9]+\.[0-9]{6})", line) for line in lines[:-1:2]]
     same("the lines between the comments", lines[1::2], ["mkdir /a", "fork 1 2"])
     step("each comment is a time", all(at), lines)
-    step("the times ascend with the clock", all(at) and 0 < float(at[0][1]) and 0.1 <= float(at[1][1]) - float(at[0][1]) < PATIENCE, lines)
+    step(
+        "the times ascend with the clock",
+        all(at) and 0 < float(at[0][1]) and 0.1 <= float(at[1][1]) - float(at[0][1]) < PATIENCE,
+        lines,
+    )
     m.end()
 
 
@@ -109,19 +115,33 @@ def recovers(what, m, stop, go_on):
         write(m.control("fork"), b"1 %d\n" % pid)
         write(m.path("a", "cgroup.procs"), b"%d\n" % pid)
     write(m.path("a", "pids.max"), b"3\n")
-    commands = [(os.mkdir, m.path("b")), (os.rmdir, m.path("gone")), (write, m.control("fork"), b"1 9\n"),
-                (write, m.control("exit"), b"4\n"), (write, m.path("cgroup.procs"), b"3\n"), (write, m.path("a", "pids.max"), b"max\n"),
-                (write, m.path("a", "cgroup.kill"), b"1\n"), (write, m.control("undo"), b"1\n"), (read, m.path("a", "pids.max"))]
+    commands = [
+        (os.mkdir, m.path("b")),
+        (os.rmdir, m.path("gone")),
+        (write, m.control("fork"), b"1 9\n"),
+        (write, m.control("exit"), b"4\n"),
+        (write, m.path("cgroup.procs"), b"3\n"),
+        (write, m.path("a", "pids.max"), b"max\n"),
+        (write, m.path("a", "cgroup.kill"), b"1\n"),
+        (write, m.control("undo"), b"1\n"),
+        (read, m.path("a", "pids.max")),
+    ]
     for command in commands:
         before = snapshot(m), open(m.trace).read(), os.path.getsize(m.answers)
         stop()
-        step("%s: %s of %s is refused" % (what, command[0].__name__, os.path.basename(command[1])),
-             error_of(*command) in ("ENOSPC", "EFBIG"), error_of(*command))
+        step(
+            "%s: %s of %s is refused" % (what, command[0].__name__, os.path.basename(command[1])),
+            error_of(*command) in ("ENOSPC", "EFBIG"),
+            error_of(*command),
+        )
         go_on()
         same("nothing has changed", (snapshot(m), open(m.trace).read(), os.path.getsize(m.answers)), before)
         same("then it is done", error_of(*command), "ok")
     stop()
-    step("a refused fork is refused, and not counted", error_of(write, m.control("fork"), b"1 2\n") in ("ENOSPC", "EFBIG"))
+    step(
+        "a refused fork is refused, and not counted",
+        error_of(write, m.control("fork"), b"1 2\n") in ("ENOSPC", "EFBIG"),
+    )
     go_on()
     m.end()
 
@@ -175,7 +195,11 @@ def small_device():
             break
     same("a full device is reported", errors[-1], "ENOSPC")
     made = errors.count("ok")
-    same("as many groups as answers", (sum(n.startswith("g") for n in os.listdir(m.at)), sum(1 for _ in open(m.answers))), (made, made))
+    same(
+        "as many groups as answers",
+        (sum(n.startswith("g") for n in os.listdir(m.at)), sum(1 for _ in open(m.answers))),
+        (made, made),
+    )
     same("a kill", error_of(write, m.control("fork"), b"1 2\n"), "ENOSPC")
     os.unlink(ballast)
     same("it recovers", error_of(os.mkdir, m.path("after")), "ok")
@@ -210,7 +234,10 @@ def long_trace():
         print("  no cgshell here: its answers to the long trace are left out")
         return
     with open(m.trace) as trace, open(m.answers, "rb") as answers:
-        step("cgshell gives the same answers", subprocess.run([CGSHELL], stdin=trace, stdout=subprocess.PIPE).stdout == answers.read())
+        step(
+            "cgshell gives the same answers",
+            subprocess.run([CGSHELL], stdin=trace, stdout=subprocess.PIPE).stdout == answers.read(),
+        )
 
 
 if sys.argv[1:] == ["small"]:

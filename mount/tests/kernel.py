@@ -9,9 +9,21 @@ from support import Mount, error_of, finish, read, same, step, write
 
 HERE = os.path.join(os.path.dirname(os.path.realpath(__file__)), "..", "..", "evidence", "linux")
 # What the record says, and the errno for it.
-ERRNO = {"ok": {"ok"}, "limit": {"EAGAIN"}, "busy": {"EBUSY"}, "exists": {"EEXIST"}, "nogroup": {"ENOENT"}, "noprocess": {"ESRCH"},
-         "pidinuse": {"EEXIST"}, "pidsmax": {"EAGAIN"}, "value": {"EINVAL", "ERANGE"}, "file": {"ENOENT"}, "nofile": {"ENOENT"},
-         "direction": {"EACCES", "EINVAL"}, "rootfixed": {"EBUSY"}}
+ERRNO = {
+    "ok": {"ok"},
+    "limit": {"EAGAIN"},
+    "busy": {"EBUSY"},
+    "exists": {"EEXIST"},
+    "nogroup": {"ENOENT"},
+    "noprocess": {"ESRCH"},
+    "pidinuse": {"EEXIST"},
+    "pidsmax": {"EAGAIN"},
+    "value": {"EINVAL", "ERANGE"},
+    "file": {"ENOENT"},
+    "nofile": {"ENOENT"},
+    "direction": {"EACCES", "EINVAL"},
+    "rootfixed": {"EBUSY"},
+}
 # Linux has no such bounds of names and groups.
 BOUNDS = {"EINVAL", "ENAMETOOLONG", "EAGAIN", "ENOENT", "ENOSPC"}
 

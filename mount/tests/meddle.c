@@ -162,6 +162,7 @@ static void toggles(void)
 
 int main(int argc, char **argv)
 {
-	static const struct way ways[] = { { "stops", stops }, { "intos", intos }, { "kills", kills }, { "mixes", mixes }, { "toggles", toggles } };
+	static const struct way ways[] = { { "stops", stops }, { "intos", intos }, { "kills", kills }, { "mixes", mixes },
+		{ "toggles", toggles } };
 	return go_on(argc > 1 ? argv[1] : "", ways, sizeof ways / sizeof *ways);
 }

@@ -12,17 +12,29 @@ import sys
 import threading
 import time
 
-from support import PATIENCE, PROGRAM, error_of, finish, in_parallel, libc, read, same, status_within, step, until, write
+from support import (
+    AT,
+    PATIENCE,
+    PROGRAM,
+    error_of,
+    finish,
+    in_parallel,
+    into,
+    libc,
+    line_of,
+    read,
+    same,
+    status_within,
+    step,
+    tracer,
+    until,
+    write,
+)
 
-AT = "/sys/fs/cgroup"
 ME = os.path.realpath(__file__)
 BUILT = os.environ.get("HOSTILE") or os.path.join(os.path.dirname(PROGRAM), "..", "hostile")
 READERS = os.path.join(BUILT, "readers")
 CLONE_NEWCGROUP = 0x02000000
-
-
-def into(group):
-    write(AT + group + "/cgroup.procs", b"0\n")
 
 
 def said(*words, program=READERS):
@@ -31,21 +43,14 @@ def said(*words, program=READERS):
     return [int(n) for n in ran.stdout.split()] or ran.returncode
 
 
-def tracer():
-    return int(next(x for x in open("/proc/self/status") if x.startswith("TracerPid:")).split()[1])
-
-
-def line_of(pid):
-    try:
-        return open("/proc/%d/cmdline" % pid, "rb").read()
-    except OSError:
-        return b""
-
-
 def own():
     """The processes of makhloeum besides its supervisor: the server, the helper, and the companion."""
     line = line_of(tracer())
-    return [int(p) for p in os.listdir("/proc") if p.isdigit() and int(p) not in (tracer(), os.getpid()) and line_of(int(p)) == line]
+    return [
+        int(p)
+        for p in os.listdir("/proc")
+        if p.isdigit() and int(p) not in (tracer(), os.getpid()) and line_of(int(p)) == line
+    ]
 
 
 def forks(times=20):
@@ -62,15 +67,37 @@ def forks(times=20):
 
 # ---------------------------------------------------------------- readers
 
+
 def unshares():
     """A namespace that is not made changes the root of none."""
     into("/a")
-    reader = subprocess.Popen(["sh", "-c", "read x; cat /proc/self/cgroup"], stdin=subprocess.PIPE, stdout=subprocess.PIPE)
+    reader = subprocess.Popen(
+        ["sh", "-c", "read x; cat /proc/self/cgroup"], stdin=subprocess.PIPE, stdout=subprocess.PIPE
+    )
     same("unshare without privileges", (libc.unshare(CLONE_NEWCGROUP), ctypes.get_errno()), (-1, errno.EPERM))
     same("another sees its group", reader.communicate(b"\n")[0], b"0::/a\n")
     # the program's own filter sends unshare(0) to a tracer, which the program does not have
-    code = ctypes.create_string_buffer(struct.pack("HBBI" * 4, 0x20, 0, 0, 0, 0x15, 0, 1, 272 if os.uname().machine == "x86_64" else 97,
-                                                   6, 0, 0, 0x7FF00000, 6, 0, 0, 0x7FFF0000))
+    code = ctypes.create_string_buffer(
+        struct.pack(
+            "HBBI" * 4,
+            0x20,
+            0,
+            0,
+            0,
+            0x15,
+            0,
+            1,
+            272 if os.uname().machine == "x86_64" else 97,
+            6,
+            0,
+            0,
+            0x7FF00000,
+            6,
+            0,
+            0,
+            0x7FFF0000,
+        )
+    )
     program = ctypes.create_string_buffer(struct.pack("HxxxxxxP", 4, ctypes.addressof(code)))
     libc.prctl(38, 1, 0, 0, 0)
     same("the program's own filter", libc.prctl(22, 2, program, 0, 0), 0)
@@ -95,8 +122,14 @@ def writers():
     thread.join()
     same("the process has moved", read(AT + "/a/cgroup.procs"), b"%d\n" % os.getpid())
     os.mkdir(AT + "/a/b")
-    left = subprocess.Popen([sys.executable, "-c", "import ctypes, threading, time\nthreading.Thread(target=time.sleep, args=(600,)).start()\n"
-                             "ctypes.CDLL(None).syscall(%d, 0)" % (60 if os.uname().machine == "x86_64" else 93)])
+    left = subprocess.Popen(
+        [
+            sys.executable,
+            "-c",
+            "import ctypes, threading, time\nthreading.Thread(target=time.sleep, args=(600,)).start()\n"
+            "ctypes.CDLL(None).syscall(%d, 0)" % (60 if os.uname().machine == "x86_64" else 93),
+        ]
+    )
     step("one whose first thread has ended", until(lambda: open("/proc/%d/stat" % left.pid).read().split()[2] == "Z"))
     same("is listed", b"%d\n" % left.pid in read(AT + "/a/cgroup.procs"), True)
     same("and moves", error_of(write, AT + "/a/b/cgroup.procs", b"%d\n" % left.pid), "ok")
@@ -106,6 +139,7 @@ def writers():
 
 
 # ---------------------------------------------------------------- the processes of makhloeum
+
 
 def stopped():
     """All but the supervisor are stopped, again and again."""
@@ -186,6 +220,7 @@ def untold():
 
 # ---------------------------------------------------------------- files
 
+
 def calls():
     """Calls that these files have no answer for: each fails, and changes nothing."""
     name = AT + "/a/pids.max"
@@ -196,28 +231,42 @@ def calls():
     same("in pieces", (os.writev(fd, [b"1", b"2", b"\n"]), os.pread(fd, 9, 0)), (3, b"12\n"))
     same("appended", (os.pwrite(fd, b"8\n", 1 << 40), os.pread(fd, 9, 0)), (2, b"8\n"))
     libc.mmap.restype = ctypes.c_void_p
-    same("a shared map", (libc.mmap(None, 4096, 3, 1, fd, 0), ctypes.get_errno()), (ctypes.c_void_p(-1).value, errno.ENODEV))
+    same(
+        "a shared map",
+        (libc.mmap(None, 4096, 3, 1, fd, 0), ctypes.get_errno()),
+        (ctypes.c_void_p(-1).value, errno.ENODEV),
+    )
     temp = os.open("/tmp", os.O_RDWR | os.O_TMPFILE) if hasattr(os, "O_TMPFILE") else os.memfd_create("x")
     same("sendfile", (os.sendfile(temp, fd, 0, 99), os.pread(temp, 99, 0)), (2, b"8\n"))
     step("copy_file_range", error_of(os.copy_file_range, fd, temp, 9, 0, 0) in ("ok", "EXDEV", "EOPNOTSUPP", "EINVAL"))
     for what, call, wanted in (
-            ("link", lambda: os.link(name, AT + "/a/x"), ("EPERM", "ENOSYS", "EOPNOTSUPP")),
-            ("symlink", lambda: os.symlink("x", AT + "/a/x"), ("EPERM", "ENOSYS", "EOPNOTSUPP")),
-            ("mknod", lambda: os.mkfifo(AT + "/a/x"), ("EPERM", "ENOSYS", "EACCES")),
-            ("create", lambda: os.open(AT + "/a/x", os.O_CREAT | os.O_RDWR), ("EPERM", "ENOSYS", "EOPNOTSUPP", "EACCES")),
-            ("rename", lambda: os.rename(name, AT + "/a/x"), ("EPERM", "ENOSYS", "EOPNOTSUPP")),
-            ("rename a group", lambda: os.rename(AT + "/a", AT + "/b"), ("EPERM", "ENOSYS", "EOPNOTSUPP")),
-            ("unlink", lambda: os.unlink(name), ("EPERM", "ENOSYS")),
-            ("fallocate", lambda: os.posix_fallocate(fd, 0, 99), ("EOPNOTSUPP", "ENOSYS", "EINVAL")),
-            ("a temporary file", lambda: os.open(AT + "/a", os.O_TMPFILE | os.O_RDWR), ("ENOTSUP", "EOPNOTSUPP", "EPERM", "ENOSYS")),
-            ("a name of 300", lambda: os.mkdir(AT + "/a/" + "n" * 300), ("ENAMETOOLONG",)),
-            ("a path of 5000", lambda: os.mkdir(AT + "/a" * 2500), ("ENAMETOOLONG",)),
-            ("a group of a process", lambda: os.mkdir(AT + "/.makhloeum.%d.1" % os.getpid()), ("EPERM", "EEXIST"))):
+        ("link", lambda: os.link(name, AT + "/a/x"), ("EPERM", "ENOSYS", "EOPNOTSUPP")),
+        ("symlink", lambda: os.symlink("x", AT + "/a/x"), ("EPERM", "ENOSYS", "EOPNOTSUPP")),
+        ("mknod", lambda: os.mkfifo(AT + "/a/x"), ("EPERM", "ENOSYS", "EACCES")),
+        ("create", lambda: os.open(AT + "/a/x", os.O_CREAT | os.O_RDWR), ("EPERM", "ENOSYS", "EOPNOTSUPP", "EACCES")),
+        ("rename", lambda: os.rename(name, AT + "/a/x"), ("EPERM", "ENOSYS", "EOPNOTSUPP")),
+        ("rename a group", lambda: os.rename(AT + "/a", AT + "/b"), ("EPERM", "ENOSYS", "EOPNOTSUPP")),
+        ("unlink", lambda: os.unlink(name), ("EPERM", "ENOSYS")),
+        ("fallocate", lambda: os.posix_fallocate(fd, 0, 99), ("EOPNOTSUPP", "ENOSYS", "EINVAL")),
+        (
+            "a temporary file",
+            lambda: os.open(AT + "/a", os.O_TMPFILE | os.O_RDWR),
+            ("ENOTSUP", "EOPNOTSUPP", "EPERM", "ENOSYS"),
+        ),
+        ("a name of 300", lambda: os.mkdir(AT + "/a/" + "n" * 300), ("ENAMETOOLONG",)),
+        ("a path of 5000", lambda: os.mkdir(AT + "/a" * 2500), ("ENAMETOOLONG",)),
+        ("a group of a process", lambda: os.mkdir(AT + "/.makhloeum.%d.1" % os.getpid()), ("EPERM", "EEXIST")),
+    ):
         got = error_of(call)
         step("%s: %s" % (what, got), got in wanted, got)
     import fcntl
+
     same("flock", error_of(fcntl.flock, fd, fcntl.LOCK_EX | fcntl.LOCK_NB), "ok")
-    same("all is as before", (os.pread(fd, 9, 0), sorted(n for n in os.listdir(AT + "/a") if os.path.isdir(AT + "/a/" + n))), (b"8\n", []))
+    same(
+        "all is as before",
+        (os.pread(fd, 9, 0), sorted(n for n in os.listdir(AT + "/a") if os.path.isdir(AT + "/a/" + n))),
+        (b"8\n", []),
+    )
     other = os.open(name, os.O_WRONLY)
     r, w = os.pipe()
     os.write(w, b"9\n")
@@ -244,7 +293,28 @@ def lists():
     same("lists that lack one, or have one twice", wrong[:3], [])
 
 
-INSIDE = (unshares, crowds, unread, writers, stopped, limited, flooded, passed_on, untold, calls, lists)
+def tables():
+    """More tables of mounts are open than the server has descriptors for."""
+    held, last = [], b""
+    for _ in range(4):
+        r, w = os.pipe()
+        pid = os.fork()
+        if pid == 0:
+            os.write(w, [error_of(os.open, "/proc/self/mounts", os.O_RDONLY) for _ in range(50)][-1].encode())
+            signal.pause()
+        held.append(pid)
+        last = os.read(r, 99)
+    same("too many are refused", last, b"ENFILE")
+    step("others still run", forks())
+    same("a group can be made", error_of(os.mkdir, AT + "/g"), "ok")
+    for pid in held:
+        os.kill(pid, signal.SIGKILL)
+        os.waitpid(pid, 0)
+    step("then there is room again", until(lambda: error_of(read, "/proc/self/mounts") == "ok"))
+
+
+INSIDE = (unshares, crowds, unread, writers, stopped, limited, flooded, passed_on, untold, calls, lists, tables)
+LIMITS = {tables: ((resource.RLIMIT_NOFILE, (256, 256)),)}
 if sys.argv[1:2] == ["inside"]:
     os.mkdir(AT + "/a")
     {t.__name__: t for t in INSIDE}[sys.argv[2]]()
@@ -255,9 +325,12 @@ def all_of(line):
     return [p for p in os.listdir("/proc") if p.isdigit() and line_of(int(p)) == line]
 
 
-def run(test, limits=()):
+def run(test):
+    limits = LIMITS.get(test, ())
     words = [PROGRAM, "run", sys.executable, ME, "inside", test.__name__]
-    p = subprocess.Popen(words, start_new_session=True, preexec_fn=lambda: [resource.setrlimit(*limit) for limit in limits])
+    p = subprocess.Popen(
+        words, start_new_session=True, preexec_fn=lambda: [resource.setrlimit(*limit) for limit in limits]
+    )
     same("%s: its status" % test.__name__, status_within(p, 6 * PATIENCE), 0)
     line = b"".join(w.encode() + b"\0" for w in words)
     step("%s: nothing is left behind" % test.__name__, until(lambda: not all_of(line)), all_of(line))
@@ -267,19 +340,31 @@ def run(test, limits=()):
 
 def beginnings():
     """With few descriptors, processes or bytes it works, or says in one sentence why not."""
+
     def limited_to(limit):
         which, value = limit
         try:
-            ran = subprocess.run([PROGRAM, "run", "cat", "/proc/self/cgroup"], stdout=subprocess.PIPE, stderr=subprocess.PIPE, timeout=PATIENCE,
-                                 preexec_fn=lambda: resource.setrlimit(which, (value, value)))
+            ran = subprocess.run(
+                [PROGRAM, "run", "cat", "/proc/self/cgroup"],
+                stdout=subprocess.PIPE,
+                stderr=subprocess.PIPE,
+                timeout=PATIENCE,
+                preexec_fn=lambda: resource.setrlimit(which, (value, value)),
+            )
             got = (ran.returncode, ran.stdout, ran.stderr)
         except (subprocess.TimeoutExpired, subprocess.SubprocessError) as e:
             got = (type(e).__name__, b"", b"")
         right = got == (0, b"0::/\n", b"") or (got[0] not in (0, "TimeoutExpired") and got[1] == b"" and got[2])
         step("limit %d is %d" % (which, value), right, got)
 
-    limits = ((resource.RLIMIT_NOFILE, (3, 4, 5, 6, 8, 10, 12, 14, 16, 20, 24, 32)), (resource.RLIMIT_FSIZE, (0, 1)), (resource.RLIMIT_NPROC, (1,)),
-              (resource.RLIMIT_SIGPENDING, (0,)), (resource.RLIMIT_MEMLOCK, (0,)), (resource.RLIMIT_CORE, (0,)))
+    limits = (
+        (resource.RLIMIT_NOFILE, (3, 4, 5, 6, 8, 10, 12, 14, 16, 20, 24, 32)),
+        (resource.RLIMIT_FSIZE, (0, 1)),
+        (resource.RLIMIT_NPROC, (1,)),
+        (resource.RLIMIT_SIGPENDING, (0,)),
+        (resource.RLIMIT_MEMLOCK, (0,)),
+        (resource.RLIMIT_CORE, (0,)),
+    )
     in_parallel(limited_to, [(which, value) for which, values in limits for value in values], lanes=4)
     words = [PROGRAM, "run", "sleep", "600.%d" % os.getpid()]
 

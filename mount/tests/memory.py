@@ -3,7 +3,7 @@ import os
 import subprocess
 import sys
 
-from support import PROGRAM, Mount, finish, in_parallel, same, status_within, step, write
+from support import PROGRAM, Mount, finish, in_parallel, same, status_within, step
 
 PAIRS, FORKS, CLIENTS = 16000, 5000, 20
 
@@ -47,11 +47,16 @@ def forks(n):
 for count in (%d, %d):
     print(forks(count), flush=True)
     sys.stdin.readline()
-""" % (FORKS // 4, FORKS)
+""" % (
+    FORKS // 4,
+    FORKS,
+)
 
 
 def of_run():
-    p = subprocess.Popen([PROGRAM, "run", sys.executable, "-c", PROGRAM_INSIDE], stdin=subprocess.PIPE, stdout=subprocess.PIPE, text=True)
+    p = subprocess.Popen(
+        [PROGRAM, "run", sys.executable, "-c", PROGRAM_INSIDE], stdin=subprocess.PIPE, stdout=subprocess.PIPE, text=True
+    )
     first = int(p.stdout.readline())
     children = open("/proc/%d/task/%d/children" % (p.pid, p.pid)).read().split()
     ours = [p.pid] + [int(c) for c in children if open("/proc/%s/comm" % c).read() == "makhloeum\n"]

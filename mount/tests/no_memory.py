@@ -79,7 +79,9 @@ def each(name, call, state=lambda: None, again=lambda: None, faults=GOOD, rests=
         right = got == wanted and now == after or refused and got in faults and now == before
         failed += got != wanted
         if not right:
-            wrong.append((nth, rest, got, now if now not in (before, after) else "before" if now == before else "after"))
+            wrong.append(
+                (nth, rest, got, now if now not in (before, after) else "before" if now == before else "after")
+            )
         if now != before or got == wanted:
             again()
         if not refused and not rest:
@@ -94,7 +96,16 @@ def texts(at, groups, files):
 
 # ---------------------------------------------------------------- a mount of numbers
 
-FILES = ("cgroup.procs", "cgroup.events", "cgroup.freeze", "cgroup.subtree_control", "cgroup.type", "pids.max", "pids.current", "pids.events")
+FILES = (
+    "cgroup.procs",
+    "cgroup.events",
+    "cgroup.freeze",
+    "cgroup.subtree_control",
+    "cgroup.type",
+    "pids.max",
+    "pids.current",
+    "pids.events",
+)
 
 
 def numbers():
@@ -113,9 +124,14 @@ def numbers():
     write(b + "/cpu.weight", b"200")
 
     def state():
-        return sorted(os.listdir(m.at)), texts(m.at, ("a", "a/b"), FILES[:5]), read(m.path("cgroup.procs")), outcome(lambda: texts(m.at, ("a/b",), FILES[5:])), \
-            outcome(lambda: read(m.path("a", "d", "pids.max"))), \
-            outcome(lambda: read(b + "/cpu.weight"))
+        return (
+            sorted(os.listdir(m.at)),
+            texts(m.at, ("a", "a/b"), FILES[:5]),
+            read(m.path("cgroup.procs")),
+            outcome(lambda: texts(m.at, ("a/b",), FILES[5:])),
+            outcome(lambda: read(m.path("a", "d", "pids.max"))),
+            outcome(lambda: read(b + "/cpu.weight")),
+        )
 
     def put(file, value):
         return lambda: write(file, value)
@@ -131,7 +147,12 @@ def numbers():
     each("a stat of a file", lambda: os.stat(b + "/cgroup.procs").st_size)
     each("a listing", lambda: sorted(os.listdir(b)))
     each("an attribute of no name", lambda: os.getxattr(b, "user.x"))
-    each("an attribute", lambda: os.setxattr(b, "user.y", b"1"), lambda: outcome(lambda: os.getxattr(b, "user.y")), lambda: outcome(lambda: os.removexattr(b, "user.y")))
+    each(
+        "an attribute",
+        lambda: os.setxattr(b, "user.y", b"1"),
+        lambda: outcome(lambda: os.getxattr(b, "user.y")),
+        lambda: outcome(lambda: os.removexattr(b, "user.y")),
+    )
     each("a mkdir", lambda: os.mkdir(m.path("c")), state, lambda: outcome(lambda: os.rmdir(m.path("c"))))
     long = m.path("c" * 200)
     each("a mkdir of a long name", lambda: os.mkdir(long), state, lambda: outcome(lambda: os.rmdir(long)))
@@ -142,7 +163,12 @@ def numbers():
     each("an exit", put(m.control("exit"), b"3"), state, back((m.control("fork"), b"2 3")))
     each("a move", put(b + "/cgroup.procs", b"4"), state, back((m.path("cgroup.procs"), b"4")))
     each("a move of none", put(b + "/cgroup.procs", b"77"), state)
-    each("a move that enabled controllers refuse", put(a + "/cgroup.procs", b"4"), state, back((m.path("cgroup.procs"), b"4")))
+    each(
+        "a move that enabled controllers refuse",
+        put(a + "/cgroup.procs", b"4"),
+        state,
+        back((m.path("cgroup.procs"), b"4")),
+    )
     each("a limit", put(b + "/pids.max", b"7"), state, back((b + "/pids.max", b"5")))
     each("a weight", put(b + "/cpu.weight.nice", b"3"), state, back((b + "/cpu.weight", b"200")))
     each("a freeze", put(b + "/cgroup.freeze", b"1"), state, back((b + "/cgroup.freeze", b"0")))
@@ -150,11 +176,35 @@ def numbers():
     # a populated child: then memory may not be enabled, and a group with processes is no inner group
     write(m.path("cgroup.subtree_control"), b"+memory")
     each("enabling with processes below", put(b + "/cgroup.subtree_control", b"+memory"), state)
-    each("enabling cpu in a group with processes", put(b + "/cgroup.subtree_control", b"+cpu"), state, back((b + "/cgroup.subtree_control", b"-cpu")))
-    each("disabling pids with a limit", put(a + "/cgroup.subtree_control", b"-pids -cpu"), state,
-         back((a + "/cgroup.subtree_control", b"+pids +cpu"), (b + "/pids.max", b"5"), (m.path("a", "d", "pids.max"), b"6"), (b + "/cpu.weight", b"200")), rests=(False,))
-    each("a kill", put(b + "/cgroup.kill", b"1"), state,
-         back((m.control("fork"), b"1 2"), (m.control("fork"), b"1 3"), (b + "/cgroup.procs", b"2"), (b + "/cgroup.procs", b"3")))
+    each(
+        "enabling cpu in a group with processes",
+        put(b + "/cgroup.subtree_control", b"+cpu"),
+        state,
+        back((b + "/cgroup.subtree_control", b"-cpu")),
+    )
+    each(
+        "disabling pids with a limit",
+        put(a + "/cgroup.subtree_control", b"-pids -cpu"),
+        state,
+        back(
+            (a + "/cgroup.subtree_control", b"+pids +cpu"),
+            (b + "/pids.max", b"5"),
+            (m.path("a", "d", "pids.max"), b"6"),
+            (b + "/cpu.weight", b"200"),
+        ),
+        rests=(False,),
+    )
+    each(
+        "a kill",
+        put(b + "/cgroup.kill", b"1"),
+        state,
+        back(
+            (m.control("fork"), b"1 2"),
+            (m.control("fork"), b"1 3"),
+            (b + "/cgroup.procs", b"2"),
+            (b + "/cgroup.procs", b"3"),
+        ),
+    )
     wakes(m, b)
     step("it is unmounted", m.unmounted())
     same("the process ends with the mount", m.ended(), 0)
@@ -246,7 +296,12 @@ def kills(name, group, faults=GOOD):
         refused = memory.refused()
         failed += got is not None
         wanted = (0, b"0\n") if got is None else (3, b"3\n")
-        if got is None and not until(lambda: family.alive() == 0) or (family.alive(), read(group + "/pids.current")) != wanted or got not in (None, *faults):
+        if (
+            got is None
+            and not until(lambda: family.alive() == 0)
+            or (family.alive(), read(group + "/pids.current")) != wanted
+            or got not in (None, *faults)
+        ):
             wrong.append((nth, got, family.alive(), read(group + "/pids.current")))
         family.end()
         until(lambda: read(group + "/pids.current") == b"0\n")
@@ -264,7 +319,10 @@ def adopted():
     family = Family()
 
     def state():
-        return b"%d" % family.process.pid in read(group + "/cgroup.procs").split(), b"%d" % family.process.pid in read(m.path("cgroup.procs")).split()
+        return (
+            b"%d" % family.process.pid in read(group + "/cgroup.procs").split(),
+            b"%d" % family.process.pid in read(m.path("cgroup.procs")).split(),
+        )
 
     def again():
         nonlocal family
@@ -292,6 +350,7 @@ def adopted():
 
 
 # ---------------------------------------------------------------- a run
+
 
 def statfs():
     about = (ctypes.c_long * 64)()
@@ -400,7 +459,11 @@ def inside_zombies():
         os.waitid(os.P_PID, pid, os.WEXITED | os.WNOWAIT)
 
     again()
-    same("a zombie", (read(AT + "/a/cgroup.procs"), read(AT + "/a/cgroup.events"), read(AT + "/a/pids.current")), (b"", b"populated 0\nfrozen 0\n", b"1\n"))
+    same(
+        "a zombie",
+        (read(AT + "/a/cgroup.procs"), read(AT + "/a/cgroup.events"), read(AT + "/a/pids.current")),
+        (b"", b"populated 0\nfrozen 0\n", b"1\n"),
+    )
     each("a read of cgroup.procs with a zombie", lambda: read(AT + "/a/cgroup.procs"))
     each("a read of cgroup.events with a zombie", lambda: read(AT + "/a/cgroup.events"))
     each("a rmdir with a zombie", lambda: os.rmdir(AT + "/a"), lambda: os.path.isdir(AT + "/a"), again)
@@ -483,10 +546,17 @@ if sys.argv[1:2] == ["inside"]:
 
 def part(name, *start, **words):
     own = Memory()
-    ran = subprocess.run([*start, sys.executable, ME, "inside", name], timeout=6 * PATIENCE, stdout=subprocess.PIPE, stderr=subprocess.PIPE,
-                         env=dict(os.environ, NO_MEMORY=own.file, **words))
+    ran = subprocess.run(
+        [*start, sys.executable, ME, "inside", name],
+        timeout=6 * PATIENCE,
+        stdout=subprocess.PIPE,
+        stderr=subprocess.PIPE,
+        env=dict(os.environ, NO_MEMORY=own.file, **words),
+    )
     os.unlink(own.file)
-    said = ran.stdout.decode() + "".join(line for line in ran.stderr.decode().splitlines(True) if not line.startswith("fuse: "))
+    said = ran.stdout.decode() + "".join(
+        line for line in ran.stderr.decode().splitlines(True) if not line.startswith("fuse: ")
+    )
     print(said.rstrip("\n"), flush=True)
     same("the status of %s" % name, ran.returncode, 0)
 

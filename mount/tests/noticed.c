@@ -3,10 +3,12 @@
 #include <fcntl.h>
 #include <linux/aio_abi.h>
 #include <linux/filter.h>
+#include <linux/sched.h>
 #include <linux/seccomp.h>
 #include <poll.h>
 #include <signal.h>
 #include <stdatomic.h>
+#include <stdbool.h>
 #include <stddef.h>
 #include <stdio.h>
 #include <stdlib.h>
@@ -149,11 +151,16 @@ static const struct {
 	long (*call)(void);
 	int fault; /* without a signal */
 } calls[] = {
-	{ "epoll_wait", in_epoll, 0 },         { "recv", in_recv, EAGAIN },
-	{ "read", in_read_of_socket, EAGAIN }, { "send", in_send, EAGAIN },
-	{ "accept", in_accept, EAGAIN },       { "semtimedop", in_semtimedop, EAGAIN },
-	{ "sigtimedwait", in_sigtimedwait, EAGAIN }, { "io_getevents", in_getevents, 0 },
-	{ "inotify", in_inotify, EINTR },      { "poll", in_poll, 0 },
+	{ "epoll_wait", in_epoll, 0 },
+	{ "recv", in_recv, EAGAIN },
+	{ "read", in_read_of_socket, EAGAIN },
+	{ "send", in_send, EAGAIN },
+	{ "accept", in_accept, EAGAIN },
+	{ "semtimedop", in_semtimedop, EAGAIN },
+	{ "sigtimedwait", in_sigtimedwait, EAGAIN },
+	{ "io_getevents", in_getevents, 0 },
+	{ "inotify", in_inotify, EINTR },
+	{ "poll", in_poll, 0 },
 	{ "nanosleep", in_nanosleep, 0 },
 };
 
@@ -222,14 +229,21 @@ static int stops(void)
 		int set = epoll_create1(0);
 		atomic_store(ready, 1);
 		long result = epoll_wait(set, &e, 1, 600000);
-		_exit(result < 0 ? errno : 0);
+		int first = result < 0 ? errno : 0;
+		atomic_store(ready, 2);
+		result = epoll_wait(set, &e, 1, 3000);
+		_exit((first == EINTR) | (result == 0) << 1);
 	}
 	until_it_sleeps(pid);
 	kill(pid, SIGSTOP);
 	waitpid(pid, &status, WUNTRACED);
 	kill(pid, SIGCONT);
+	while (atomic_load(ready) != 2)
+		usleep(1000);
+	until_it_sleeps(pid);
+	kill(pid, SIGWINCH);
 	waitpid(pid, &status, 0);
-	printf("%d\n", WEXITSTATUS(status) == EINTR);
+	printf("%d %d\n", WEXITSTATUS(status) & 1, WEXITSTATUS(status) >> 1);
 	return 0;
 }
 
@@ -247,7 +261,8 @@ static int pidfds(void)
 		siginfo_t info = { .si_pid = 0 };
 		int status = 0;
 		poll(&end, 1, -1);
-		if (i % 2 ? waitpid(pid, &status, WNOHANG) != pid : waitid(P_PIDFD, (id_t)end.fd, &info, WEXITED | WNOHANG) || info.si_pid != pid) {
+		if (i % 2 ? waitpid(pid, &status, WNOHANG) != pid
+				  : waitid(P_PIDFD, (id_t)end.fd, &info, WEXITED | WNOHANG) || info.si_pid != pid) {
 			missing[i % 2]++;
 			waitpid(pid, NULL, 0);
 		}
@@ -256,6 +271,56 @@ static int pidfds(void)
 	printf("%d %d\n", missing[0], missing[1]);
 	return 0;
 }
+
+#if defined(__x86_64__)
+/* A call, with the registers of its arguments before and after it. */
+static long call_with(long number, unsigned long regs[6])
+{
+	register unsigned long r10 __asm__("r10") = regs[3], r8 __asm__("r8") = regs[4], r9 __asm__("r9") = regs[5];
+	long result;
+	__asm__ volatile("syscall"
+					 : "=a"(result), "+D"(regs[0]), "+S"(regs[1]), "+d"(regs[2]), "+r"(r10), "+r"(r8), "+r"(r9)
+					 : "0"(number)
+					 : "rcx", "r11", "memory");
+	regs[3] = r10;
+	regs[4] = r8;
+	regs[5] = r9;
+	return result;
+}
+
+/* The registers of a creator and of its child after each call that makes a child. Prints the calls that change one. */
+static int registers(void)
+{
+	struct clone_args args = { .exit_signal = SIGCHLD };
+	const struct {
+		const char *name;
+		long number;
+		unsigned long regs[6];
+	} some[] = {
+		{ "fork", SYS_fork, { 11, 12, 13, 14, 15, 16 } },
+		{ "clone", SYS_clone, { SIGCHLD, 0, 23, 24, 25, 26 } },
+		{ "clone3", SYS_clone3, { (unsigned long)&args, sizeof args, 33, 34, 35, 36 } },
+	};
+	for (size_t i = 0; i < sizeof some / sizeof *some; i++) {
+		unsigned long regs[6];
+		int status = 0;
+		memcpy(regs, some[i].regs, sizeof regs);
+		long pid = call_with(some[i].number, regs);
+		bool differ = memcmp(regs, some[i].regs, sizeof regs) != 0;
+		if (pid == 0)
+			_exit(differ);
+		waitpid((pid_t)pid, &status, 0);
+		if (pid < 0 || differ || status)
+			printf("%s ", some[i].name);
+	}
+	return 0;
+}
+#else
+static int registers(void)
+{
+	return 0;
+}
+#endif
 
 /* The processes of makhloeum. */
 static char **ours;
@@ -266,7 +331,8 @@ static double used(void)
 	struct rusage children;
 	double sum = (double)clock() / CLOCKS_PER_SEC;
 	getrusage(RUSAGE_CHILDREN, &children);
-	sum += (double)(children.ru_utime.tv_sec + children.ru_stime.tv_sec) + (double)(children.ru_utime.tv_usec + children.ru_stime.tv_usec) / 1e6;
+	sum += (double)(children.ru_utime.tv_sec + children.ru_stime.tv_sec) +
+		(double)(children.ru_utime.tv_usec + children.ru_stime.tv_usec) / 1e6;
 	for (int i = 0; ours[i]; i++) {
 		struct timespec t = { 0, 0 };
 		clock_gettime(~atoi(ours[i]) * 8 + 2, &t); /* the clock of a process, as the kernel numbers it */
@@ -397,7 +463,8 @@ static int strict_end(int way, int does)
 		return -1;
 	pid_t pid = fork();
 	if (pid == 0) {
-		long result = way == 0 ? prctl(PR_SET_SECCOMP, SECCOMP_MODE_STRICT, 0, 0, 0) : syscall(SYS_seccomp, SECCOMP_SET_MODE_STRICT, 0, NULL);
+		long result = way == 0 ? prctl(PR_SET_SECCOMP, SECCOMP_MODE_STRICT, 0, 0, 0)
+							   : syscall(SYS_seccomp, SECCOMP_SET_MODE_STRICT, 0, NULL);
 		for (int i = 0; i < 100; i++)
 			if (result || write(to[1], "x", 1) != 1 || read(to[0], &byte, 1) != 1)
 				syscall(SYS_exit, 99);
@@ -440,6 +507,8 @@ int main(int argc, char **argv)
 		return stops();
 	if (strcmp(what, "pidfds") == 0)
 		return pidfds();
+	if (strcmp(what, "registers") == 0)
+		return registers();
 	if (strcmp(what, "zombies") == 0) {
 		ours = argv + 3;
 		return zombies(number);

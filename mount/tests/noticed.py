@@ -2,13 +2,16 @@
 (noticed.py inside NAME)."""
 import ctypes
 import errno
+import mmap
 import os
 import resource
+import select
 import signal
 import subprocess
 import sys
+import tempfile
 
-from support import PATIENCE, PROGRAM, Mount, error_of, finish, in_parallel, libc, read, same, step, write
+from support import PATIENCE, PROGRAM, Beside, Mount, error_of, finish, in_parallel, libc, read, same, step, write
 
 AT = "/sys/fs/cgroup"
 ME = os.path.realpath(__file__)
@@ -36,15 +39,17 @@ def line_of(pid):
 
 # ---------------------------------------------------------------- inside
 
+
 def interrupted():
     """A signal that a process ignores ends none of its calls, and one that it handles ends them."""
     for which in (signal.SIGUSR1, signal.SIGCHLD, signal.SIGWINCH):
         same("calls that an ignored %s ends" % which.name, said("ignored", int(which)), [])
     same("calls that a handled signal does not end", said("handled", int(signal.SIGUSR1)), [])
-    same("a stop ends epoll_wait", said("stops"), [b"1"])
+    same("a stop ends epoll_wait; then an ignored signal does not", said("stops"), [b"1", b"1"])
 
 
 def children():
+    same("calls that change a register of the creator or of the child", said("registers"), [])
     same("children without a status though their pidfd can be read", said("pidfds"), [b"0", b"0"])
 
 
@@ -58,7 +63,11 @@ def zombies():
 
 def filters():
     same("calls that a filter traces, and do not fail with ENOSYS", said("traces"), [])
-    same("strict mode: exit, then calls that it forbids", said("strict"), [b"5", b"1009", b"1009", b"1009", b"1009"] * 2 + [b"22"])
+    same(
+        "strict mode: exit, then calls that it forbids",
+        said("strict"),
+        [b"5", b"1009", b"1009", b"1009", b"1009"] * 2 + [b"22"],
+    )
 
 
 NO_XDEV, NO_MAGICLINKS, NO_SYMLINKS, BENEATH, IN_ROOT, CACHED = 1, 2, 4, 8, 16, 32
@@ -82,19 +91,38 @@ def opens():
     link = "/proc/self/fd/%d" % os.open("/proc/self/cgroup", os.O_PATH)
     text = "0::/a\n"
     for wanted, directory, path, more in (
-            (text, cwd, "/proc/self/cgroup", {}), (text, proc, "/self/cgroup", {"resolve": IN_ROOT}), (text, proc, "/../self/cgroup", {"resolve": IN_ROOT}),
-            ("ENOENT", here, "/self/cgroup", {"resolve": IN_ROOT}), (text, here, "/../cgroup", {"resolve": IN_ROOT}),
-            (text, proc, "self/cgroup", {"resolve": BENEATH}), ("EXDEV", proc, "/self/cgroup", {"resolve": BENEATH}),
-            ("EXDEV", here, "../self/cgroup", {"resolve": BENEATH}), (text, here, "task/../cgroup", {"resolve": BENEATH}),
-            ("ELOOP", cwd, "/proc/self/cgroup", {"resolve": NO_SYMLINKS}), (text, cwd, "/proc/%d/cgroup" % me, {"resolve": NO_SYMLINKS}),
-            ("EXDEV", cwd, "/proc/%d/cgroup" % me, {"resolve": NO_XDEV}), (text, proc, "%d/cgroup" % me, {"resolve": NO_XDEV}),
-            ("ELOOP", cwd, link, {"resolve": NO_MAGICLINKS}), (text, cwd, link, {}),
-            ("EINVAL", cwd, "/proc/self/cgroup", {"resolve": IN_ROOT | BENEATH}), ("EINVAL", cwd, "/proc/self/cgroup", {"resolve": 64}),
-            ("EINVAL", cwd, "/proc/self/cgroup", {"mode": 0o644}), ("EINVAL", cwd, "/proc/self/cgroup", {"flags": 1 << 40}),
-            ("EINVAL", cwd, "/proc/self/cgroup", {"size": 16}), (text, cwd, "/proc/self/cgroup", {"size": 32}),
-            ("E2BIG", cwd, "/proc/self/cgroup", {"size": 32, "tail": 1})):
+        (text, cwd, "/proc/self/cgroup", {}),
+        (text, proc, "/self/cgroup", {"resolve": IN_ROOT}),
+        (text, proc, "/../self/cgroup", {"resolve": IN_ROOT}),
+        ("ENOENT", here, "/self/cgroup", {"resolve": IN_ROOT}),
+        (text, here, "/../cgroup", {"resolve": IN_ROOT}),
+        (text, proc, "self/cgroup", {"resolve": BENEATH}),
+        ("EXDEV", proc, "/self/cgroup", {"resolve": BENEATH}),
+        ("EXDEV", here, "../self/cgroup", {"resolve": BENEATH}),
+        (text, here, "task/../cgroup", {"resolve": BENEATH}),
+        ("ELOOP", cwd, "/proc/self/cgroup", {"resolve": NO_SYMLINKS}),
+        (text, cwd, "/proc/%d/cgroup" % me, {"resolve": NO_SYMLINKS}),
+        ("EXDEV", cwd, "/proc/%d/cgroup" % me, {"resolve": NO_XDEV}),
+        (text, proc, "%d/cgroup" % me, {"resolve": NO_XDEV}),
+        ("ELOOP", cwd, link, {"resolve": NO_MAGICLINKS}),
+        (text, cwd, link, {}),
+        ("EINVAL", cwd, "/proc/self/cgroup", {"resolve": IN_ROOT | BENEATH}),
+        ("EINVAL", cwd, "/proc/self/cgroup", {"resolve": 64}),
+        ("EINVAL", cwd, "/proc/self/cgroup", {"mode": 0o644}),
+        ("EINVAL", cwd, "/proc/self/cgroup", {"flags": 1 << 40}),
+        ("EINVAL", cwd, "/proc/self/cgroup", {"size": 16}),
+        (text, cwd, "/proc/self/cgroup", {"size": 32}),
+        ("E2BIG", cwd, "/proc/self/cgroup", {"size": 32, "tail": 1}),
+    ):
         same("%s %s" % (path.replace(str(me), "PID"), more), opened(directory, path, **more), wanted)
     step("what is not known without a look-up", opened(cwd, "/proc/self/cgroup", resolve=CACHED) in ("EAGAIN", text))
+    edge = mmap.mmap(-1, 3 * mmap.PAGESIZE)
+    at = ctypes.addressof(ctypes.c_char.from_buffer(edge)) + 2 * mmap.PAGESIZE
+    libc.mprotect(ctypes.c_void_p(at), mmap.PAGESIZE, 0)
+    path = b"/proc/self/cgroup\0"
+    ctypes.memmove(at - len(path), path, len(path))
+    fd = libc.open(ctypes.c_void_p(at - len(path)), os.O_RDONLY)
+    same("a path at the end of what can be read", os.read(fd, 99).decode(), text)
     write(AT + "/cgroup.subtree_control", b"+cpuset")
     os.mkdir(AT + "/a/b")
     write(AT + "/a/b/cgroup.procs", b"0")
@@ -102,10 +130,60 @@ def opens():
     write(AT + "/a/cgroup.subtree_control", b"+cpuset")
     write(AT + "/cgroup.procs", b"0")
     same("of the root", read("/proc/self/cpuset"), b"/\n")
-    same("/proc/cgroups", [x.split()[0] for x in open("/proc/cgroups")], ["#subsys_name", "cpuset", "cpu", "blkio", "memory", "pids"])
+    same(
+        "/proc/cgroups",
+        [x.split()[0] for x in open("/proc/cgroups")],
+        ["#subsys_name", "cpuset", "cpu", "blkio", "memory", "pids"],
+    )
 
 
-INSIDE = (interrupted, children, zombies, filters, opens)
+CHANGED = select.EPOLLPRI | select.EPOLLERR
+DETACH = 2
+
+
+def tables():
+    """A table of mounts can be polled: it tells of each change once, and shows it when it is read again."""
+    home = tempfile.mkdtemp().encode()
+    for name in ("mounts", "mountinfo"):
+        fd = os.open("/proc/self/" + name, os.O_RDONLY)
+        by_link = os.open("/proc/self/fd/%d" % fd, os.O_RDONLY)
+
+        def text(of, at_once=1 << 20):
+            os.lseek(of, 0, os.SEEK_SET)
+            return b"".join(iter(lambda: os.read(of, at_once), b""))
+
+        same("%s: its size" % name, os.fstat(fd).st_size, len(text(fd)))
+        same("in small pieces", text(fd, 7), text(fd))
+        same("by a link to it", text(by_link), text(fd))
+        ready, also = select.epoll(), select.poll()
+        ready.register(fd, select.EPOLLPRI)
+        same("nothing has changed", ready.poll(0), [])
+        for change, args, is_seen in (
+            (libc.mount, (b"x", home, b"tmpfs", 0, None), True),
+            (libc.umount2, (home, DETACH), False),
+        ):
+            waiting = Beside(ready.poll, PATIENCE)
+            same("a change", change(*args), 0)
+            same("is told to who waits", waiting.result(), [(fd, CHANGED)])
+            same("once", ready.poll(0), [])
+            same("and seen", home in text(fd), is_seen)
+            same("by a link too", home in text(by_link), is_seen)
+        ready.unregister(fd)
+        also.register(fd, select.POLLPRI)
+        same("nothing more", also.poll(0), [])
+        libc.mount(b"x", home, b"tmpfs", 0, None)
+        same("it is told at once", also.poll(0), [(fd, CHANGED)])
+        same("once", also.poll(0), [])
+        libc.umount2(home, DETACH)
+        same("again", also.poll(0), [(fd, CHANGED)])
+        subprocess.run(["unshare", "-m", "mount", "-t", "tmpfs", "x", home], check=True)
+        same("not what happens in another namespace", also.poll(0), [])
+        os.close(fd)
+        same("the link is still open", text(by_link) != b"", True)
+        os.close(by_link)
+
+
+INSIDE = (interrupted, children, zombies, filters, opens, tables)
 if sys.argv[1:2] == ["inside"]:
     {t.__name__: t for t in INSIDE}[sys.argv[2]]()
     finish()
@@ -113,13 +191,16 @@ if sys.argv[1:2] == ["inside"]:
 
 # ---------------------------------------------------------------- outside
 
+
 def run(test):
     def limit():
         if test is zombies:
             resource.setrlimit(resource.RLIMIT_NOFILE, (1024, 1024))
 
-    keeps = ["--keep", "memory,cpu,io,cpuset"] if test is opens else []
-    ran = subprocess.run([PROGRAM, "run", *keeps, sys.executable, ME, "inside", test.__name__], timeout=6 * PATIENCE, preexec_fn=limit)
+    more = {opens: ["--keep", "memory,cpu,io,cpuset"], tables: ["--root"]}.get(test, [])
+    ran = subprocess.run(
+        [PROGRAM, "run", *more, sys.executable, ME, "inside", test.__name__], timeout=6 * PATIENCE, preexec_fn=limit
+    )
     same("%s: its status" % test.__name__, ran.returncode, 0)
 
 

@@ -18,7 +18,7 @@ for name in FILES:
     for at in (0, 1, 3, 5, len(text) - 1, len(text), len(text) + 9):
         for size in (1, 5, 4096):
             fd = os.open(path, os.O_RDONLY)
-            wanted = text[at:at + size]
+            wanted = text[at : at + size]
             if os.pread(fd, size, at) != wanted or os.pread(fd, size, at) != wanted:
                 wrong.append((at, size))
             os.close(fd)
@@ -41,7 +41,10 @@ lines = sum(1 for line in open(m.trace) if not line.startswith("#"))
 fd = os.open(m.path("a", "pids.max"), os.O_RDONLY)
 for _ in range(9):
     os.read(fd, 1)
-step("a text that is read in nine pieces is one line", sum(1 for line in open(m.trace) if not line.startswith("#")) == lines + 1)
+step(
+    "a text that is read in nine pieces is one line",
+    sum(1 for line in open(m.trace) if not line.startswith("#")) == lines + 1,
+)
 os.close(fd)
 m.end()
 finish()

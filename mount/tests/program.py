@@ -3,6 +3,7 @@ import ctypes
 import errno
 import os
 import re
+import select
 import shutil
 import signal
 import struct
@@ -34,6 +35,7 @@ def fork_error():
 
 
 # ---------------------------------------------------------------- inside
+
 
 def looks():
     buffer = ctypes.create_string_buffer(256)
@@ -76,8 +78,13 @@ def forks():
     same("and gone when wait returns", read(AT + "/a/cgroup.procs"), me)
     thread = threading.Thread(target=time.sleep, args=(0.2,))
     thread.start()
-    same("a thread is not a process", read(AT + "/a/pids.current"), b"1\n")
+    same(
+        "a thread counts, and is not a process",
+        (read(AT + "/a/pids.current"), read(AT + "/a/cgroup.procs")),
+        (b"2\n", me),
+    )
     thread.join()
+    step("until it has ended", until(lambda: read(AT + "/a/pids.current") == b"1\n"))
     write(AT + "/a/pids.max", b"1\n")
     same("fork beyond pids.max", fork_error(), "EAGAIN")
     same("spawn beyond pids.max", error_of(os.posix_spawn, "/bin/true", ["true"], {}), "EAGAIN")
@@ -93,17 +100,18 @@ def forks():
     os.mkdir(AT + "/a/b")
     write(AT + "/a/pids.max", b"max\n")
     into("/a/b")
-    write(AT + "/a/pids.max", b"8\n")
+    write(AT + "/a/pids.max", b"17\n")
     got = [fork_in_thread() for _ in range(3)]
-    same("threads that fork in parallel stay below the limit", [g for g in got if g > 8], [])
+    same("threads that fork in parallel reach the limit, and not more", got, [17] * 3)
 
 
 def fork_in_thread():
     """The greatest pids.current while twelve threads fork children that stay for a moment."""
-    most, lock = [0], threading.Lock()
+    most, lock, all_there = [0], threading.Lock(), threading.Barrier(12)
 
     def one():
         p = None
+        all_there.wait()
         try:
             p = subprocess.Popen(["sleep", "0.1"])
         except OSError:
@@ -118,6 +126,7 @@ def fork_in_thread():
         t.start()
     for t in threads:
         t.join()
+    until(lambda: read(AT + "/a/pids.current") == b"1\n")
     return most[0]
 
 
@@ -136,7 +145,11 @@ def kills():
     write(AT + "/a/cgroup.kill", b"1\n")
     same("a kill ends the parent", os.waitpid(child, 0)[1], signal.SIGKILL)
     step("and its %d children" % (len(pids) - 1), until(lambda: not any(alive(int(p)) for p in pids)))
-    same("nobody is left", (read(AT + "/a/pids.current"), read(AT + "/a/cgroup.events")), (b"0\n", b"populated 0\nfrozen 0\n"))
+    same(
+        "nobody is left",
+        (read(AT + "/a/pids.current"), read(AT + "/a/cgroup.events")),
+        (b"0\n", b"populated 0\nfrozen 0\n"),
+    )
     same("the groups can go", (error_of(os.rmdir, AT + "/a/b"), error_of(os.rmdir, AT + "/a")), ("ok", "ok"))
 
 
@@ -163,6 +176,71 @@ def clones():
     os.kill(pid, signal.SIGKILL)
     os.waitpid(pid, 0)
     same("the group is empty", read(AT + "/c/pids.current"), b"0\n")
+    numbers = (ctypes.c_int * 3)(-1, -1, -1)
+    at = [ctypes.addressof(numbers) + 4 * i for i in range(3)]
+    for name, flags, fields in (
+        ("a descriptor", 0x1000, {1: at[0]}),
+        ("its number, here and there", 0x01100000, {2: at[2], 3: at[1]}),
+    ):
+        args = (ctypes.c_uint64 * 11)(flags, 0, 0, 0, signal.SIGCHLD)
+        for field, value in fields.items():
+            args[field] = value
+        pid = libc.syscall(435, args, 88)
+        if pid == 0:
+            libc._exit(numbers[2] != -1 and numbers[2] == libc.getpid())
+        same(
+            "clone3 gives %s: what the child has" % name, os.waitstatus_to_exitcode(os.waitpid(pid, 0)[1]), flags >> 24
+        )
+        if flags & 0x1000:
+            line = next(x for x in open("/proc/self/fdinfo/%d" % numbers[0]) if x.startswith("Pid:"))
+            same("the descriptor is of the child, which has ended", line.split()[1], "-1")
+            os.close(numbers[0])
+        else:
+            same("the number here", numbers[1], pid)
+    args = (ctypes.c_uint64 * 11)(0, 0, 0, 0, signal.SIGCHLD)
+    for _ in range(600):  # more than may wait at once
+        pid = libc.syscall(435, args, 88)
+        if pid == 0:
+            libc._exit(0)
+        if pid < 0 or os.waitpid(pid, 0)[1]:
+            break
+    same("600 clone3 calls, one after the other", pid > 0, True)
+    for size, wanted in ((4097, errno.E2BIG), (56, errno.EINVAL), (64, 0)):
+        pid = libc.syscall(435, (ctypes.c_uint64 * 600)(0, 0, 0, 0, signal.SIGCHLD), size)
+        if pid == 0:
+            libc._exit(0)
+        same("clone3 with %d bytes" % size, (pid > 0, ctypes.get_errno() if pid < 0 else 0), (not wanted, wanted))
+        if pid > 0:
+            os.waitpid(pid, 0)
+
+
+def of_thread():
+    """A child of a thread is in the group of the thread's process."""
+    os.mkdir(AT + "/t")
+    into("/t")
+    seen = []
+
+    def fork():
+        pid = os.fork()
+        if pid == 0:
+            os._exit(read("/proc/self/cgroup") != b"0::/t\n")
+        seen.append(os.waitpid(pid, 0)[1])
+
+    thread = threading.Thread(target=fork)
+    thread.start()
+    thread.join()
+    same("a child of a thread is in its group", seen, [0])
+    into("")
+    child = subprocess.Popen(["sleep", "600"], preexec_fn=lambda: into("/t"))
+    fd = os.open(AT + "/t/cgroup.events", os.O_RDONLY)
+    poller = select.poll()
+    poller.register(fd, select.POLLPRI)
+    same("populated", os.pread(fd, 99, 0)[:11], b"populated 1")
+    child.kill()
+    same("a death is told", [event for _, event in poller.poll(1000 * PATIENCE)], [select.POLLPRI | select.POLLERR])
+    same("not populated", os.pread(fd, 99, 0)[:11], b"populated 0")
+    child.wait()
+    os.close(fd)
 
 
 def stops():
@@ -188,14 +266,26 @@ def taken_back():
             wrong.append(len(trace))
         write(AT + "/.makhloeum/undo", b"\n")
     same("each undo takes the newest back", wrong, [])
-    same("the start", (read(AT + "/cgroup.procs"), read(AT + "/.makhloeum/depth"), os.path.exists(AT + "/a")), (b"1\n", b"0\n", False))
+    same(
+        "the start",
+        (read(AT + "/cgroup.procs"), read(AT + "/.makhloeum/depth"), os.path.exists(AT + "/a")),
+        (b"1\n", b"0\n", False),
+    )
     same("a program still runs", fork_error(), 0)
 
 
 # ---------------------------------------------------------------- outside
 
+
 def run(*words, **more):
-    return subprocess.run([PROGRAM, "run", *words], stdout=subprocess.PIPE, stderr=subprocess.PIPE, timeout=5 * PATIENCE, close_fds=False, **more)
+    return subprocess.run(
+        [PROGRAM, "run", *words],
+        stdout=subprocess.PIPE,
+        stderr=subprocess.PIPE,
+        timeout=5 * PATIENCE,
+        close_fds=False,
+        **more
+    )
 
 
 def statuses():
@@ -212,7 +302,9 @@ def statuses():
     step("ends with it", not any(map(running, SLEEPS)))
 
 
-SLEEPS = ["sleep %d.%d" % (seconds, os.getpid()) for seconds in (601, 602, 603, 604, 605)]  # no other test has these, and none waits for their end
+SLEEPS = [
+    "sleep %d.%d" % (seconds, os.getpid()) for seconds in (601, 602, 603, 604, 605)
+]  # no other test has these, and none waits for their end
 
 
 def running(command):
@@ -222,7 +314,9 @@ def running(command):
 def beside():
     """A mount of another program is what it is, and no part of the run."""
     m = Mount()
-    lines = [x.split()[1:3] for x in run("cat", "/proc/mounts").stdout.decode().splitlines() if x.split()[1] in (AT, m.at)]
+    lines = [
+        x.split()[1:3] for x in run("cat", "/proc/mounts").stdout.decode().splitlines() if x.split()[1] in (AT, m.at)
+    ]
     same("two mounts", sorted(lines), sorted([[AT, "cgroup2"], [m.at, "fuse.cgroup2"]]))
     lines = run("cat", "/proc/self/mountinfo").stdout.decode().splitlines()
     same("one is of type cgroup2", [x.split()[4] for x in lines if " - cgroup2 " in x], [AT])
@@ -235,12 +329,19 @@ def ends():
         p = subprocess.Popen([PROGRAM, "run", "sh", "-c", "%s; %s" % (SLEEPS[2], SLEEPS[3])], stderr=subprocess.DEVNULL)
         until(lambda: running(SLEEPS[2]))
         # the first that has threads
-        pids = [p.pid] if which == "supervisor" else [c for c in children(p.pid) if name_of(c) == "makhloeum" and len(os.listdir("/proc/%d/task" % c)) > 1]
+        pids = (
+            [p.pid]
+            if which == "supervisor"
+            else [c for c in children(p.pid) if name_of(c) == "makhloeum" and len(os.listdir("/proc/%d/task" % c)) > 1]
+        )
         os.kill(pids[0], signal.SIGKILL)
         status = p.wait(PATIENCE)
         same("the %s is killed" % which, status, -9 if which == "supervisor" else 137)
         step("its program goes with it", until(lambda: not running(SLEEPS[2])))
-        step("and so does every other process", until(lambda: not running(re.escape(PROGRAM + " run sh -c " + SLEEPS[2]))))
+        step(
+            "and so does every other process",
+            until(lambda: not running(re.escape(PROGRAM + " run sh -c " + SLEEPS[2]))),
+        )
     p = subprocess.Popen([PROGRAM, "run", *SLEEPS[4].split()])
     until(lambda: running(SLEEPS[4]))
     p.terminate()
@@ -279,7 +380,11 @@ def refused_here():
         "FUSE": "mount --bind /dev/null /dev/fuse",
     }
     for what, how in deny.items():
-        ran = subprocess.run(["unshare", "-Urm", "sh", "-c", how + ' && exec "$0" run true', PROGRAM], stderr=subprocess.PIPE, timeout=PATIENCE)
+        ran = subprocess.run(
+            ["unshare", "-Urm", "sh", "-c", how + ' && exec "$0" run true', PROGRAM],
+            stderr=subprocess.PIPE,
+            timeout=PATIENCE,
+        )
         same("without %s" % what, (ran.returncode, ran.stderr.count(b"\n")), (2, 1))
         step("it is named", ("does not allow " + what).encode() in ran.stderr, ran.stderr)
     ran = run("true", preexec_fn=listen)
@@ -294,21 +399,42 @@ def refused_here():
     step("it is named", b"run traces every process itself" in ran.stderr, ran.stderr)
     if shutil.which("strace"):
         ran = run("strace", "true")
-        step("strace fails, and one sentence says why", ran.returncode != 0 and ran.stderr.count(b"run traces every process itself") == 1, ran.stderr)
+        step(
+            "strace fails, and one sentence says why",
+            ran.returncode != 0 and ran.stderr.count(b"run traces every process itself") == 1,
+            ran.stderr,
+        )
 
 
-INSIDE = (looks, forks, kills, clones, stops, taken_back)
+INSIDE = (looks, forks, of_thread, kills, clones, stops, taken_back)
 if sys.argv[1:2] == ["inside"]:
     {t.__name__: t for t in INSIDE}[sys.argv[2]]()
     finish()
 for test in INSIDE:
     trace, answers = (os.path.join(tempfile.mkdtemp(), n) for n in ("trace", "answers"))
-    ran = subprocess.run([PROGRAM, "run", "--control", "--trace", trace, "--answers", answers, sys.executable, ME, "inside", test.__name__],
-                         timeout=6 * PATIENCE, stderr=subprocess.PIPE)
+    ran = subprocess.run(
+        [
+            PROGRAM,
+            "run",
+            "--control",
+            "--trace",
+            trace,
+            "--answers",
+            answers,
+            sys.executable,
+            ME,
+            "inside",
+            test.__name__,
+        ],
+        timeout=6 * PATIENCE,
+        stderr=subprocess.PIPE,
+    )
     same("its status", (ran.returncode, ran.stderr), (0, b""))
     with open(trace) as lines, open(answers, "rb") as wanted:
-        step("cgreplay gives the same answers (%d lines)" % sum(1 for _ in open(trace)),
-             subprocess.run(CGREPLAY, stdin=lines, stdout=subprocess.PIPE).stdout == wanted.read())
+        step(
+            "cgreplay gives the same answers (%d lines)" % sum(1 for _ in open(trace)),
+            subprocess.run(CGREPLAY, stdin=lines, stdout=subprocess.PIPE).stdout == wanted.read(),
+        )
 for test in (statuses, beside, ends, refused_here):
     test()
 finish()

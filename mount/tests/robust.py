@@ -1,13 +1,15 @@
 """Clients that die, full devices, and mounts that go while they are used."""
 import os
 import random
+import shutil
 import signal
 import subprocess
 import sys
+import tempfile
 import threading
 import time
 
-from support import PATIENCE, PROGRAM, Mount, error_of, finish, read, same, step, until, write
+from support import PATIENCE, PROGRAM, Mount, error_of, finish, read, same, step, until
 
 CLIENT = """import os, sys
 at = sys.argv[1]
@@ -34,7 +36,10 @@ def dying_clients():
     for c in clients:
         c.kill()
         c.wait()
-    step("forty clients were killed, and the mount answers", read(m.path("a", "cgroup.stat")).startswith(b"nr_descendants 0\n"))
+    step(
+        "forty clients were killed, and the mount answers",
+        read(m.path("a", "cgroup.stat")).startswith(b"nr_descendants 0\n"),
+    )
     m.end()
 
 
@@ -81,7 +86,10 @@ def ended_while_open(how, name):
     fd = os.open(m.path("a", "pids.max"), os.O_RDWR)
     m.process.send_signal(how)
     m.ended()
-    step("%s ends it, and the mount is gone" % name, until(lambda: error_of(os.listdir, m.at) == "ok" and not os.path.ismount(m.at)))
+    step(
+        "%s ends it, and the mount is gone" % name,
+        until(lambda: error_of(os.listdir, m.at) == "ok" and not os.path.ismount(m.at)),
+    )
     step("an open file tells an error", error_of(os.pread, fd, 9, 0) in ("ENOTCONN", "ECONNABORTED"))
     error_of(os.close, fd)
 
@@ -111,10 +119,44 @@ def killed_under_load():
 
 
 def bad_lines():
-    for words in ([], ["mount"], ["run"], ["mount", "--bogus", "/tmp"], ["mount", "/nowhere/at/all"], ["mount", "/tmp", "x"], ["run", "--adopt", "true"]):
+    for words in (
+        [],
+        ["mount"],
+        ["run"],
+        ["mount", "--bogus", "/tmp"],
+        ["mount", "/nowhere/at/all"],
+        ["mount", "/tmp", "x"],
+        ["run", "--adopt", "true"],
+        ["run", "--foreground", "true"],
+        ["run", "--trace"],
+        ["run", "--root", "--keep"],
+        ["mount", "--users", "/tmp"],
+    ):
         ran = subprocess.run([PROGRAM, *words], stderr=subprocess.PIPE, timeout=PATIENCE)
         same("makhloeum %s" % " ".join(words), (ran.returncode, ran.stderr.count(b"\n")), (2, 1))
     same("--help", subprocess.run([PROGRAM, "--help"], stdout=subprocess.PIPE).returncode, 0)
+
+
+def subcommands():
+    """A program makhloeum-NAME is started with its words; what can't be such a name is no command."""
+    folder = tempfile.mkdtemp()
+    program = os.path.join(folder, "makhloeum-hello")
+    with open(program, "w") as f:
+        f.write('#!/bin/sh\necho "$0 $@"\nexit 7\n')
+    os.chmod(program, 0o755)
+    path = dict(os.environ, PATH="%s:%s" % (folder, os.environ["PATH"]))
+
+    def said(*words):
+        ran = subprocess.run([PROGRAM, *words], env=path, stdout=subprocess.PIPE, stderr=subprocess.PIPE)
+        return ran.returncode, ran.stdout.decode(), ran.stderr.decode()
+
+    same("one on PATH", said("hello", "a", "b c"), (7, program + " a b c\n", ""))
+    absent = "makhloeum: 'nosuch' is not a command, and there is no makhloeum-nosuch on PATH; makhloeum --help lists the commands\n"
+    same("one that is not there", said("nosuch"), (2, "", absent))
+    for word in ("hello/", "../hello", "Hello", "h" * 65, ""):
+        told = "makhloeum: '%s' is not a command; makhloeum --help lists them\n" % word
+        same("no name: %.9s" % word, said(word), (2, "", told))
+    shutil.rmtree(folder)
 
 
 def background(closed=""):
@@ -122,18 +164,34 @@ def background(closed=""):
     home = os.environ.get("TMPDIR", "/tmp")
     at = os.path.join(home, "background")
     os.makedirs(at, exist_ok=True)
-    ran = subprocess.run(["sh", "-c", '"$0" mount "$1" ' + closed, PROGRAM, at], stdout=subprocess.PIPE, timeout=PATIENCE)
+    ran = subprocess.run(
+        ["sh", "-c", '"$0" mount "$1" ' + closed, PROGRAM, at], stdout=subprocess.PIPE, timeout=PATIENCE
+    )
     same("mount %sreturns once it is there" % closed, (ran.returncode, os.path.ismount(at)), (0, True))
     os.mkdir(at + "/a")
     same("and stays", (read(at + "/a/pids.current"), os.path.ismount(at)), (b"0\n", True))
-    step("fusermount3 -u unmounts it", until(lambda: subprocess.run(["fusermount3", "-u", at], stderr=-3).returncode == 0))
+    step(
+        "fusermount3 -u unmounts it",
+        until(lambda: subprocess.run(["fusermount3", "-u", at], stderr=-3).returncode == 0),
+    )
     os.rmdir(at)
 
 
-for test, args in ((dying_clients, ()), (full_device, ()), (full_in_between, ()), (unmounted_while_open, ()),
-                   (ended_while_open, (signal.SIGTERM, "SIGTERM")), (ended_while_open, (signal.SIGKILL, "SIGKILL")),
-                   (killed_under_load, ()), (bad_lines, ()), (background, ()), (background, ("<&- ",)), (background, (">&- ",)),
-                   (background, ("<&- >&- 2>&- ",))):
+for test, args in (
+    (dying_clients, ()),
+    (full_device, ()),
+    (full_in_between, ()),
+    (unmounted_while_open, ()),
+    (ended_while_open, (signal.SIGTERM, "SIGTERM")),
+    (ended_while_open, (signal.SIGKILL, "SIGKILL")),
+    (killed_under_load, ()),
+    (bad_lines, ()),
+    (subcommands, ()),
+    (background, ()),
+    (background, ("<&- ",)),
+    (background, (">&- ",)),
+    (background, ("<&- >&- 2>&- ",)),
+):
     test(*args)
 # only with the plain build: the sanitizers' library has to be loaded first
 ABORTED = os.path.join(os.path.dirname(PROGRAM), "aborted.so")

@@ -20,10 +20,10 @@ CHECKED = """ptrace fill dup dup2 fcntl pipe pipe2 ioctl syscall epoll_ctl kill 
 recv sendmsg shutdown umount2 setsid pthread_create pthread_join sem_post registers_read registers_restore registers_return
 registers_set_call registers_set_ticket registers_set_result""".split()
 
-SUPERVISOR = "tracer births halts threads registers stops strict restarts clones signals own".split()
+SUPERVISOR = "tracer births advance news halts threads registers stops strict restarts clones signals own".split()
 # Files whose functions run with the engine's lock. `kept` writes the trace; `real` reads /proc for --adopt.
 SERVER = """engine nodes tree listing control attributes owner remembered opened texts controllers values values_cpu values_io values_memory values_cpuset freezer
-listed reported zombies place number scan lists files""".split()
+listed reported reserved tasks joined shown zombies place number scan lists files tables""".split()
 # What may stay, with the reason.
 ALLOWED = {
     ("halts", "status_text"): "only if the program's memory may not be looked at",
@@ -42,14 +42,18 @@ for name in sorted(os.listdir(sources)):
     for number, line in enumerate(lines):
         call = re.match(r"\s*(?:\(void\))?(%s)\(" % "|".join(CHECKED), line)
         goes_on = number > 0 and lines[number - 1].rstrip().endswith(("||", "&&"))
-        if call and not goes_on and not any("/*" in x for x in lines[max(0, number - 7):number + 1]):
-            wrong.append("%s:%d: the result of %s is not checked, and no comment says why" % (name, number + 1, call.group(1)))
+        if call and not goes_on and not any("/*" in x for x in lines[max(0, number - 7) : number + 1]):
+            wrong.append(
+                "%s:%d: the result of %s is not checked, and no comment says why" % (name, number + 1, call.group(1))
+            )
 for name in SUPERVISOR + SERVER:
     with open(os.path.join(sources, name + ".c")) as f:
         text = without_comments(f.read())
     for number, line in enumerate(text.splitlines(), 1):
         called = re.findall(r"(?<![\w.>])(\w+)\s*\(", line)
-        found = [c for c in called if c in CALLS] + [w for w in re.findall(r"\w+", line) if w in SYSCALLS.split() + PTRACES.split()]
+        found = [c for c in called if c in CALLS] + [
+            w for w in re.findall(r"\w+", line) if w in SYSCALLS.split() + PTRACES.split()
+        ]
         wrong += ["%s.c:%d: %s" % (name, number, c) for c in found if (name, c) not in ALLOWED]
 for line in wrong:
     print("  " + line)

@@ -6,7 +6,9 @@ from support import CGREPLAY, CGSHELL, PROGRAM, Mount, finish, same, step
 
 SECONDS = os.environ.get("SOAK") or "6"
 m = Mount(control=False)
-ran = subprocess.run([os.path.join(os.path.dirname(PROGRAM), "load"), m.at, "32", SECONDS], stdout=subprocess.PIPE, text=True)
+ran = subprocess.run(
+    [os.path.join(os.path.dirname(PROGRAM), "load"), m.at, "32", SECONDS], stdout=subprocess.PIPE, text=True
+)
 print("  " + ran.stdout.strip())
 same("each client finds its own group as it left it", ran.returncode, 0)
 step("it can be unmounted", m.unmounted())
@@ -16,7 +18,10 @@ by = CGREPLAY if size <= 16 << 20 else [CGSHELL]
 if os.path.exists(by[0]):
     with open(m.trace) as trace, open(m.answers, "rb") as answers:
         replay = subprocess.Popen(by, stdin=trace, stdout=subprocess.PIPE)
-        step("%s gives the same answers (%d bytes of trace)" % (os.path.basename(by[0]), size), replay.communicate()[0] == answers.read())
+        step(
+            "%s gives the same answers (%d bytes of trace)" % (os.path.basename(by[0]), size),
+            replay.communicate()[0] == answers.read(),
+        )
 else:
     step("a trace of %d bytes can be replayed here" % size, False)
 finish()

@@ -1,3 +1,4 @@
+# shellcheck shell=bash disable=SC2154
 # Steps of a container's life, each printed with its result. Sourced; $w is an empty folder.
 bad=0
 step() { # NAME COMMAND..

@@ -99,11 +99,18 @@ class Mount:
         self.said = open(os.path.join(self.home, "said"), "w+")
         os.mkdir(self.at)
         options = (*options, "--control") if control and "--control" not in options else options
-        before = (lambda: __import__("resource").setrlimit(__import__("resource").RLIMIT_FSIZE, limit)) if limit else None
+        before = (
+            (lambda: __import__("resource").setrlimit(__import__("resource").RLIMIT_FSIZE, limit)) if limit else None
+        )
         self.process = subprocess.Popen(
             [PROGRAM, "mount", self.at, "--foreground", "--trace", self.trace, "--answers", self.answers, *options],
-            stderr=self.said, preexec_fn=before, env=dict(os.environ, LD_PRELOAD=preload) if preload else None)
-        if not until(lambda: self.process.poll() is not None or os.path.ismount(self.at)) or not os.path.ismount(self.at):
+            stderr=self.said,
+            preexec_fn=before,
+            env=dict(os.environ, LD_PRELOAD=preload) if preload else None,
+        )
+        if not until(lambda: self.process.poll() is not None or os.path.ismount(self.at)) or not os.path.ismount(
+            self.at
+        ):
             raise SystemExit("no mount: %s" % self.words())
 
     def words(self):
@@ -158,7 +165,8 @@ def status_within(process, seconds=PATIENCE):
 
 
 def in_parallel(run, of, lanes=2):
-    """Calls `run` with each of these, so many at a time. A call that raises is a step that failed."""
+    """Calls `run` with each of these, `lanes` at a time. A call that raises is a step that failed."""
+
     def guarded(one):
         try:
             run(one)
@@ -167,3 +175,25 @@ def in_parallel(run, of, lanes=2):
 
     with ThreadPoolExecutor(lanes) as pool:
         list(pool.map(guarded, of))
+
+
+# ---- for programs under `run`: their hierarchy is at AT
+
+AT = "/sys/fs/cgroup"
+
+
+def into(group):
+    write(AT + group + "/cgroup.procs", b"0\n")
+
+
+def tracer():
+    """The supervisor of this process."""
+    return int(next(x for x in open("/proc/self/status") if x.startswith("TracerPid:")).split()[1])
+
+
+def line_of(pid):
+    """The command line of a process; empty if it has ended."""
+    try:
+        return open("/proc/%d/cmdline" % pid, "rb").read()
+    except OSError:
+        return b""

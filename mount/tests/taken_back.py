@@ -1,4 +1,4 @@
-"""Undoes, newest first and one by one, all commands of a run, and compares the result with the start."""
+"""Undoes, newest first and one by one, all operations of a run, and compares the result with the start."""
 import os
 import sys
 
@@ -15,8 +15,10 @@ def read(name):
 trace = read(".makhloeum/trace").splitlines(True)
 undo = os.open(AT + ".makhloeum/undo", os.O_WRONLY)
 while trace:
-    if read(".makhloeum/newest") != trace.pop():
+    newest = read(".makhloeum/newest").splitlines(True)
+    if not newest or trace[-len(newest) :] != newest:
         sys.exit("the newest is another")
+    del trace[-len(newest) :]
     os.write(undo, b"1\n")
 groups = [e.name for e in os.scandir(AT) if e.is_dir() and e.name != ".makhloeum"]
 if (groups, read("cgroup.procs"), read(".makhloeum/depth")) != ([], b"1\n", b"0\n"):

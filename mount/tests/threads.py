@@ -20,7 +20,11 @@ def writer(m, n, wrong):
             write(os.path.join(own, "cgroup.procs"), b"%d\n" % pid)
             limit = dice.randrange(1, 5)
             write(os.path.join(own, "pids.max"), b"%d\n" % limit)
-            got = read(os.path.join(own, "pids.max")), read(os.path.join(own, "pids.current")), read(os.path.join(own, "cgroup.procs"))
+            got = (
+                read(os.path.join(own, "pids.max")),
+                read(os.path.join(own, "pids.current")),
+                read(os.path.join(own, "cgroup.procs")),
+            )
             if got != (b"%d\n" % limit, b"1\n", b"%d\n" % pid):
                 wrong.append((n, i, got))
             error_of(write, m.path("shared", "cgroup.procs"), b"%d\n" % pid)

@@ -1,5 +1,6 @@
 /* under: microseconds for what a supervisor sees, the best of sixty runs of fifty. */
 #include <fcntl.h>
+#include <pthread.h>
 #include <stdio.h>
 #include <stdlib.h>
 #include <sys/statfs.h>
@@ -32,6 +33,18 @@ static void fork_it(void)
 		exit(1);
 }
 
+static void *end_at_once(void *unused)
+{
+	return unused;
+}
+
+static void thread_it(void)
+{
+	pthread_t thread;
+	if (pthread_create(&thread, NULL, end_at_once, NULL) || pthread_join(thread, NULL))
+		exit(1);
+}
+
 static void measure(const char *name, void (*call)(void))
 {
 	double best = 1e9;
@@ -53,5 +66,6 @@ int main(void)
 	measure("open to read, close", open_it);
 	measure("statfs", statfs_it);
 	measure("fork, exit, wait", fork_it);
+	measure("thread, join", thread_it);
 	return 0;
 }

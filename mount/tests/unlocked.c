@@ -1,16 +1,19 @@
 /* Each function that needs the engine's lock ends a program that calls it without the lock. Built with CHECK_LOCK, over the
    sources of the mount without main.c. */
-#include "engine.h"
+#include "attributes.h"
 #include "control.h"
-#include "operations.h"
+#include "engine.h"
+#include "joined.h"
 #include "listed.h"
 #include "opened.h"
+#include "operations.h"
 #include "owner.h"
 #include "remembered.h"
+#include "reserved.h"
 #include "spaces.h"
+#include "tasks.h"
 #include "watch.h"
 #include "zombies.h"
-#include "attributes.h"
 #include <signal.h>
 #include <stdio.h>
 #include <sys/wait.h>
@@ -24,49 +27,195 @@ static size_t size;
 static const char *text;
 static char group[PATH_MAX_SAID];
 
-static void line(void) { engine_line("mkdir /x"); }
-static void look_at(void) { engine_look("cat / cgroup.procs"); }
-static void take_text(void) { engine_text(&size); }
-static void where(void) { engine_where(1, group, sizeof group); }
-static void has_group(void) { engine_has_group("/"); }
-static void children(void) { engine_children("/", &text, &size); }
-static void groups(void) { engine_groups("/", &text, &size); }
-static void depth(void) { engine_depth(); }
-static void history(void) { engine_history(0, &text, &size); }
-static void find(void) { remembered_find("/"); }
-static void make(void) { remembered_make("/"); }
-static void lose(void) { remembered_lose("/"); }
-static void numbered(void) { remembered_numbered(1); }
-static void tidy(void) { remembered_tidy(&remembered); }
-static void node_find(void) { nodes_find(1, &node); }
-static void node_below(void) { nodes_find_below(&node, "x", &found); }
-static void node_above(void) { nodes_find_above(&node, &found); }
-static void node_known(void) { nodes_known(&node); }
-static void node_forget(void) { nodes_forget(1, 1); }
-static void begin(void) { owner_begin(&remembered, NULL); }
-static void apply(void) { owner_apply(&node, &st); }
-static void set(void) { owner_set(&node, &st, 0); }
-static void touch(void) { owner_touch(&remembered); }
-static void forget_owner(void) { owner_forget(&remembered); }
-static void forget_attributes(void) { attributes_forget(&remembered); }
-static void seen(void) { watch_seen("/", file_named("cgroup.events", false)); }
-static void above(void) { watch_above("/"); }
-static void below(void) { watch_below("/"); }
-static void process(void) { watch_process(1); }
-static int ignore(pid_t pid, const char *in) { return pid < 0 || !in; }
-static void listed(void) { listed_each("/", false, ignore); }
-static void visit(const struct remembered *r) { (void)r; }
-static void visit_each(void) { remembered_each("/", visit); }
-static void prepare(void) { spaces_prepare(1, 1); }
-static void zombies_room(void) { zombies_make_room(1); }
-static void forget_watch(void) { watch_forget(&remembered); }
-static void new_open(void) { opened_new(&remembered, NULL, A_DIRECTORY); }
-static void has(void) { opened_has(&opened, 1, 0); }
-static void read_open(void) { opened_read(&opened, group, 0, 0); }
-static void is_gone(void) { opened_is_gone(&opened); }
-static void wake(void) { opened_wake(&remembered, NULL); }
-static void lose_open(void) { opened_lose(&remembered); }
-static void control(void) { control_write(0, "1", 1); }
+static void line(void)
+{
+	engine_line("mkdir /x");
+}
+static void look_at(void)
+{
+	engine_look("cat / cgroup.procs");
+}
+static void take_text(void)
+{
+	engine_text(&size);
+}
+static void where(void)
+{
+	engine_where(1, group, sizeof group);
+}
+static void has_group(void)
+{
+	engine_has_group("/");
+}
+static void children(void)
+{
+	engine_children("/", &text, &size);
+}
+static void groups(void)
+{
+	engine_groups("/", &text, &size);
+}
+static void depth(void)
+{
+	engine_depth();
+}
+static void history(void)
+{
+	engine_history(0, &text, &size);
+}
+static void find(void)
+{
+	remembered_find("/");
+}
+static void make(void)
+{
+	remembered_make("/");
+}
+static void lose(void)
+{
+	remembered_lose("/");
+}
+static void numbered(void)
+{
+	remembered_numbered(1);
+}
+static void tidy(void)
+{
+	remembered_tidy(&remembered);
+}
+static void node_find(void)
+{
+	nodes_find(1, &node);
+}
+static void node_below(void)
+{
+	nodes_find_below(&node, "x", &found);
+}
+static void node_above(void)
+{
+	nodes_find_above(&node, &found);
+}
+static void node_known(void)
+{
+	nodes_known(&node);
+}
+static void node_forget(void)
+{
+	nodes_forget(1, 1);
+}
+static void begin(void)
+{
+	owner_begin(&remembered, NULL);
+}
+static void apply(void)
+{
+	owner_apply(&node, &st);
+}
+static void set(void)
+{
+	owner_set(&node, &st, 0);
+}
+static void touch(void)
+{
+	owner_touch(&remembered);
+}
+static void forget_owner(void)
+{
+	owner_forget(&remembered);
+}
+static void forget_attributes(void)
+{
+	attributes_forget(&remembered);
+}
+static void seen(void)
+{
+	watch_seen("/", file_named("cgroup.events", false));
+}
+static void above(void)
+{
+	watch_above("/");
+}
+static void below(void)
+{
+	watch_below("/");
+}
+static void process(void)
+{
+	watch_process(1);
+}
+static int ignore(pid_t pid, const char *in)
+{
+	return pid < 0 || !in;
+}
+static void listed(void)
+{
+	listed_each("/", false, ignore);
+}
+static void visit(const struct remembered *r)
+{
+	(void)r;
+}
+static void visit_each(void)
+{
+	remembered_each("/", visit);
+}
+static void prepare(void)
+{
+	spaces_prepare(1, 1);
+}
+static void zombies_room(void)
+{
+	zombies_make_room(1);
+}
+static void forget_watch(void)
+{
+	watch_forget(&remembered);
+}
+static void new_open(void)
+{
+	opened_new(&remembered, NULL, A_DIRECTORY);
+}
+static void has(void)
+{
+	opened_has(&opened, 1, 0);
+}
+static void read_open(void)
+{
+	opened_read(&opened, group, 0, 0);
+}
+static void is_gone(void)
+{
+	opened_is_gone(&opened);
+}
+static void wake(void)
+{
+	opened_wake(&remembered, NULL);
+}
+static void lose_open(void)
+{
+	opened_lose(&remembered);
+}
+static void control(void)
+{
+	control_write(0, "1", 1);
+}
+
+static void begin_several(void)
+{
+	engine_begin();
+}
+static void newest_operation(void)
+{
+	joined_newest(1);
+}
+static void count_reserved(void)
+{
+	reserved_count();
+}
+static void next_thread(void)
+{
+	tasks_next(1);
+}
 
 static int ends_by(void (*call)(void), bool locked)
 {
@@ -86,9 +235,11 @@ static int ends_by(void (*call)(void), bool locked)
 
 int main(void)
 {
-	void (*const calls[])(void) = { line, look_at, take_text, where, has_group, children, groups, depth, history, find, make,
-		lose, numbered, tidy, node_find, node_below, node_above, node_known, node_forget, begin, apply, set, touch, forget_owner, forget_attributes, seen, above, below, process, listed, visit_each, prepare,
-		zombies_room, forget_watch, new_open, has, read_open, is_gone, wake, lose_open, control };
+	void (*const calls[])(void) = { line, look_at, take_text, where, has_group, children, groups, depth, history, find,
+		make, lose, numbered, tidy, node_find, node_below, node_above, node_known, node_forget, begin, apply, set,
+		touch, forget_owner, forget_attributes, seen, above, below, process, listed, visit_each, prepare, zombies_room,
+		forget_watch, new_open, has, read_open, is_gone, wake, lose_open, control, begin_several, newest_operation,
+		count_reserved, next_thread };
 	static struct kept none = { .fd = -1 };
 	size_t wrong = 0, count = sizeof calls / sizeof *calls;
 	if (!engine_start(&none, &none, true))

@@ -1,14 +1,17 @@
 """`makhloeum run --users`: several users in a run. Started by a superuser: of the machine, or of a namespace that
 `unshare --map-root-user --map-auto` makes. This file is also the program."""
+import ctypes
+import errno
 import os
 import shutil
 import subprocess
 import sys
 
-from support import PATIENCE, PROGRAM, error_of, finish, read, same, step
+from support import PATIENCE, PROGRAM, error_of, finish, libc, read, same, step
 
 ME = os.path.realpath(__file__)
 OTHER = 1
+AT = b"/sys/fs/cgroup"
 
 
 def numbers(which):
@@ -43,7 +46,21 @@ def inside(outside):
     same("a setuid program is the superuser", said(*as_other, tool, "-u"), (0, "0\n", ""))
     shutil.rmtree(at)
     same("another user is in the hierarchy", said(*as_other, "cat", "/proc/self/cgroup"), (0, "0::/\n", ""))
-    same("who owns the group that it makes", said(*as_other, "sh", "-c", "cd /sys/fs/cgroup && mkdir o && stat -c %u:%g o o/pids.max"), (0, "%d:%d\n" % (OTHER, OTHER) * 2, ""))
+    same(
+        "who owns the group that it makes",
+        said(*as_other, "sh", "-c", "cd /sys/fs/cgroup && mkdir o && stat -c %u:%g o o/pids.max"),
+        (0, "%d:%d\n" % (OTHER, OTHER) * 2, ""),
+    )
+    place = os.path.join(os.environ["TMPDIR"], "at%d" % os.getpid())
+    os.mkdir(place)
+    script = "mount -t tmpfs x %s && stat -c %%u:%%g %s" % (place, place)
+    same(
+        "who owns what another user mounts in namespaces of its own",
+        said(*as_other, "unshare", "-UrCm", "sh", "-c", script),
+        (0, "0:0\n", ""),
+    )
+    os.rmdir(place)
+    same("the hierarchy cannot be unmounted", (libc.umount2(AT, 2), ctypes.get_errno()), (-1, errno.EINVAL))
     supervisor = os.getppid()
     for name in ("mem", "ns/user", "fd/0"):
         same("the supervisor's %s" % name, error_of(os.open, "/proc/%d/%s" % (supervisor, name), os.O_RDONLY), "EACCES")
@@ -53,10 +70,21 @@ def inside(outside):
 if sys.argv[1:2] == ["inside"]:
     inside(sys.argv[2])
 if sys.argv[1:2] == ["refused"]:
-    same("for another than the superuser", said(PROGRAM, "run", "--users", "true"),
-         (2, "", "makhloeum: --users needs root on this machine or in a user namespace: "
-          "unshare --map-root-user --map-auto makes one\n"))
+    same(
+        "for another than the superuser",
+        said(PROGRAM, "run", "--users", "true"),
+        (
+            2,
+            "",
+            "makhloeum: --users needs root on this machine or in a user namespace: "
+            "unshare --map-root-user --map-auto makes one\n",
+        ),
+    )
     same("with mount", said(PROGRAM, "mount", os.environ["TMPDIR"], "--users")[0], 2)
     finish()
-maps = ";".join("%d,%d" % (numbers(which)[0][0], sum(c for _, _, c in numbers(which))) for which in ("uid_map", "gid_map"))
-sys.exit(subprocess.run([PROGRAM, "run", "--users", sys.executable, ME, "inside", maps], timeout=6 * PATIENCE).returncode)
+maps = ";".join(
+    "%d,%d" % (numbers(which)[0][0], sum(c for _, _, c in numbers(which))) for which in ("uid_map", "gid_map")
+)
+sys.exit(
+    subprocess.run([PROGRAM, "run", "--users", sys.executable, ME, "inside", maps], timeout=6 * PATIENCE).returncode
+)

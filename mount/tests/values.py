@@ -6,60 +6,136 @@ from support import Mount, error_of, finish, read, same, step, write
 
 PAGE = os.sysconf("SC_PAGE_SIZE")
 # The greatest counter of pages, in bytes, means no limit.
-NO_LIMIT = (2 ** 63 - 1) // PAGE * PAGE
+NO_LIMIT = (2**63 - 1) // PAGE * PAGE
 LIMITS = ("memory.min", "memory.low", "memory.high", "memory.max", "memory.swap.high", "memory.swap.max")
 FRESH = {
-    "memory.min": "0", "memory.low": "0", "memory.high": "max", "memory.max": "max", "memory.swap.high": "max", "memory.swap.max": "max",
-    "memory.oom.group": "0", "memory.current": "0", "memory.peak": "0", "memory.swap.current": "0", "memory.swap.peak": "0",
+    "memory.min": "0",
+    "memory.low": "0",
+    "memory.high": "max",
+    "memory.max": "max",
+    "memory.swap.high": "max",
+    "memory.swap.max": "max",
+    "memory.oom.group": "0",
+    "memory.current": "0",
+    "memory.peak": "0",
+    "memory.swap.current": "0",
+    "memory.swap.peak": "0",
     "memory.events": "low 0\nhigh 0\nmax 0\noom 0\noom_kill 0\noom_group_kill 0",
-    "memory.events.local": "low 0\nhigh 0\nmax 0\noom 0\noom_kill 0\noom_group_kill 0", "memory.swap.events": "high 0\nmax 0\nfail 0",
-    "cpu.max": "max 100000", "cpu.max.burst": "0", "cpu.weight": "100", "cpu.weight.nice": "0", "cpu.idle": "0",
+    "memory.events.local": "low 0\nhigh 0\nmax 0\noom 0\noom_kill 0\noom_group_kill 0",
+    "memory.swap.events": "high 0\nmax 0\nfail 0",
+    "cpu.max": "max 100000",
+    "cpu.max.burst": "0",
+    "cpu.weight": "100",
+    "cpu.weight.nice": "0",
+    "cpu.idle": "0",
     "cpu.stat": "usage_usec 0\nuser_usec 0\nsystem_usec 0\nnr_periods 0\nnr_throttled 0\nthrottled_usec 0\nnr_bursts 0\nburst_usec 0",
-    "io.weight": "default 100", "cpuset.cpus": "", "cpuset.mems": "", "cpuset.cpus.partition": "member",
+    "io.weight": "default 100",
+    "cpuset.cpus": "",
+    "cpuset.mems": "",
+    "cpuset.cpus.partition": "member",
 }
 EMPTY = {"io.max", "io.stat"}
 ON_ROOT = ["cpu.stat", "cpuset.cpus.effective", "cpuset.mems.effective", "io.stat", "memory.stat"]
 
 # What is written to which file, the errno, and what is read then.
 VALUES = [
-    ("memory.max", b"max\n", "ok", "max"), ("memory.max", b"%d\n" % (PAGE - 1), "ok", "0"), ("memory.max", b" 1M\n", "ok", str(1 << 20)),
-    ("memory.max", b"64k", "ok", str(65536)), ("memory.max", b"2G\n", "ok", str(2 << 30)), ("memory.max", b"1t\n", "ok", str(1 << 40)),
-    ("memory.max", b"1p\n", "ok", str(1 << 50)), ("memory.max", b"1E\n", "ok", str(1 << 60)), ("memory.max", b"0x10000\n", "ok", "65536"),
-    ("memory.max", b"0200000\n", "ok", "65536"), ("memory.max", b"9223372036854775807\n", "ok", "max"),
-    ("memory.max", b"%d\n" % NO_LIMIT, "ok", "max"), ("memory.max", b"%d\n" % (NO_LIMIT - PAGE), "ok", str(NO_LIMIT - PAGE)),
+    ("memory.max", b"max\n", "ok", "max"),
+    ("memory.max", b"%d\n" % (PAGE - 1), "ok", "0"),
+    ("memory.max", b" 1M\n", "ok", str(1 << 20)),
+    ("memory.max", b"64k", "ok", str(65536)),
+    ("memory.max", b"2G\n", "ok", str(2 << 30)),
+    ("memory.max", b"1t\n", "ok", str(1 << 40)),
+    ("memory.max", b"1p\n", "ok", str(1 << 50)),
+    ("memory.max", b"1E\n", "ok", str(1 << 60)),
+    ("memory.max", b"0x10000\n", "ok", "65536"),
+    ("memory.max", b"0200000\n", "ok", "65536"),
+    ("memory.max", b"9223372036854775807\n", "ok", "max"),
+    ("memory.max", b"%d\n" % NO_LIMIT, "ok", "max"),
+    ("memory.max", b"%d\n" % (NO_LIMIT - PAGE), "ok", str(NO_LIMIT - PAGE)),
     ("memory.max", b"65537\n", "ok", "65536" if PAGE == 4096 else str(65537 // PAGE * PAGE)),
-    ("memory.max", b"-1\n", "EINVAL", "65536"), ("memory.max", b"1MB\n", "EINVAL", "65536"), ("memory.max", b"MAX\n", "EINVAL", "65536"),
-    ("memory.max", b"1 2\n", "EINVAL", "65536"), ("memory.max", b"08\n", "EINVAL", "65536"), ("memory.max", b"\n", "ok", "0"),
+    ("memory.max", b"-1\n", "EINVAL", "65536"),
+    ("memory.max", b"1MB\n", "EINVAL", "65536"),
+    ("memory.max", b"MAX\n", "EINVAL", "65536"),
+    ("memory.max", b"1 2\n", "EINVAL", "65536"),
+    ("memory.max", b"08\n", "EINVAL", "65536"),
+    ("memory.max", b"\n", "ok", "0"),
     ("memory.max", b"1" * 5000, "E2BIG", "0"),
-    ("memory.oom.group", b"1\n", "ok", "1"), ("memory.oom.group", b"2\n", "EINVAL", "1"), ("memory.oom.group", b"-1\n", "EINVAL", "1"),
-    ("memory.oom.group", b"x\n", "EINVAL", "1"), ("memory.oom.group", b"4294967296\n", "ERANGE", "1"), ("memory.oom.group", b"0x0\n", "ok", "0"),
-    ("cpu.max", b"50000\n", "ok", "50000 100000"), ("cpu.max", b"50000 200000\n", "ok", "50000 200000"), ("cpu.max", b"max\n", "ok", "max 200000"),
-    ("cpu.max", b"max 100000", "ok", "max 100000"), ("cpu.max", b"999\n", "EINVAL", "max 100000"), ("cpu.max", b"1000 999\n", "EINVAL", "max 100000"),
-    ("cpu.max", b"1000 1000001\n", "EINVAL", "max 100000"), ("cpu.max", b"1000 1000000\n", "ok", "1000 1000000"),
-    ("cpu.max", b"-1\n", "EINVAL", "1000 1000000"), ("cpu.max", b"\n", "EINVAL", "1000 1000000"), ("cpu.max", b"many\n", "EINVAL", "1000 1000000"),
-    ("cpu.max", b"17592186044416 100000\n", "EINVAL", "1000 1000000"), ("cpu.max", b"17592186044415 100000\n", "ok", "17592186044415 100000"),
+    ("memory.oom.group", b"1\n", "ok", "1"),
+    ("memory.oom.group", b"2\n", "EINVAL", "1"),
+    ("memory.oom.group", b"-1\n", "EINVAL", "1"),
+    ("memory.oom.group", b"x\n", "EINVAL", "1"),
+    ("memory.oom.group", b"4294967296\n", "ERANGE", "1"),
+    ("memory.oom.group", b"0x0\n", "ok", "0"),
+    ("cpu.max", b"50000\n", "ok", "50000 100000"),
+    ("cpu.max", b"50000 200000\n", "ok", "50000 200000"),
+    ("cpu.max", b"max\n", "ok", "max 200000"),
+    ("cpu.max", b"max 100000", "ok", "max 100000"),
+    ("cpu.max", b"999\n", "EINVAL", "max 100000"),
+    ("cpu.max", b"1000 999\n", "EINVAL", "max 100000"),
+    ("cpu.max", b"1000 1000001\n", "EINVAL", "max 100000"),
+    ("cpu.max", b"1000 1000000\n", "ok", "1000 1000000"),
+    ("cpu.max", b"-1\n", "EINVAL", "1000 1000000"),
+    ("cpu.max", b"\n", "EINVAL", "1000 1000000"),
+    ("cpu.max", b"many\n", "EINVAL", "1000 1000000"),
+    ("cpu.max", b"17592186044416 100000\n", "EINVAL", "1000 1000000"),
+    ("cpu.max", b"17592186044415 100000\n", "ok", "17592186044415 100000"),
     ("cpu.max", b"20000 100000\n", "ok", "20000 100000"),
-    ("cpu.max.burst", b"20000\n", "ok", "20000"), ("cpu.max.burst", b"20001\n", "EINVAL", "20000"), ("cpu.max", b"10000\n", "EINVAL", "20000 100000"),
-    ("cpu.max.burst", b" 1\n", "EINVAL", "20000"), ("cpu.max.burst", b"-1\n", "EINVAL", "20000"), ("cpu.max.burst", b"0\n", "ok", "0"),
-    ("cpu.weight", b"1\n", "ok", "1"), ("cpu.weight", b"10000\n", "ok", "10000"), ("cpu.weight", b"0\n", "ERANGE", "10000"),
-    ("cpu.weight", b"10001\n", "ERANGE", "10000"), ("cpu.weight", b"x\n", "EINVAL", "10000"), ("cpu.weight", b" 5\n", "EINVAL", "10000"),
-    ("cpu.weight", b"99999999999999999999\n", "ERANGE", "10000"), ("cpu.weight", b"0x64\n", "ok", "100"),
-    ("cpu.weight.nice", b"-20\n", "ok", "-20"), ("cpu.weight.nice", b"19\n", "ok", "19"), ("cpu.weight.nice", b"20\n", "ERANGE", "19"),
-    ("cpu.weight.nice", b"-21\n", "ERANGE", "19"), ("cpu.weight.nice", b"1.5\n", "EINVAL", "19"), ("cpu.weight.nice", b"17\n", "ok", "17"),
-    ("cpu.idle", b"2\n", "EINVAL", "0"), ("cpu.idle", b"1\n", "ok", "1"), ("cpu.weight", b"100\n", "EINVAL", "0"), ("cpu.idle", b"0\n", "ok", "0"),
+    ("cpu.max.burst", b"20000\n", "ok", "20000"),
+    ("cpu.max.burst", b"20001\n", "EINVAL", "20000"),
+    ("cpu.max", b"10000\n", "EINVAL", "20000 100000"),
+    ("cpu.max.burst", b" 1\n", "EINVAL", "20000"),
+    ("cpu.max.burst", b"-1\n", "EINVAL", "20000"),
+    ("cpu.max.burst", b"0\n", "ok", "0"),
+    ("cpu.weight", b"1\n", "ok", "1"),
+    ("cpu.weight", b"10000\n", "ok", "10000"),
+    ("cpu.weight", b"0\n", "ERANGE", "10000"),
+    ("cpu.weight", b"10001\n", "ERANGE", "10000"),
+    ("cpu.weight", b"x\n", "EINVAL", "10000"),
+    ("cpu.weight", b" 5\n", "EINVAL", "10000"),
+    ("cpu.weight", b"99999999999999999999\n", "ERANGE", "10000"),
+    ("cpu.weight", b"0x64\n", "ok", "100"),
+    ("cpu.weight.nice", b"-20\n", "ok", "-20"),
+    ("cpu.weight.nice", b"19\n", "ok", "19"),
+    ("cpu.weight.nice", b"20\n", "ERANGE", "19"),
+    ("cpu.weight.nice", b"-21\n", "ERANGE", "19"),
+    ("cpu.weight.nice", b"1.5\n", "EINVAL", "19"),
+    ("cpu.weight.nice", b"17\n", "ok", "17"),
+    ("cpu.idle", b"2\n", "EINVAL", "0"),
+    ("cpu.idle", b"1\n", "ok", "1"),
+    ("cpu.weight", b"100\n", "EINVAL", "0"),
+    ("cpu.idle", b"0\n", "ok", "0"),
     ("cpu.weight", b"100\n", "ok", "100"),
-    ("io.weight", b"200\n", "ok", "default 200"), ("io.weight", b"default 300\n", "ok", "default 300"), ("io.weight", b"0\n", "EINVAL", "default 300"),
-    ("io.weight", b"10001\n", "EINVAL", "default 300"), ("io.weight", b"x\n", "EINVAL", "default 300"), ("io.weight", b"default\n", "EINVAL", "default 300"),
-    ("io.max", b"rbps=1\n", "EINVAL", ""), ("io.max", b"4095:4095 rbps=1000\n", "ENODEV", ""), ("io.max", b"8\n", "EINVAL", ""),
-    ("cpuset.cpus", b"0\n", "ok", "0"), ("cpuset.cpus", b" 0-0, 0 \n", "ok", "0"), ("cpuset.cpus", b"x\n", "EINVAL", "0"),
-    ("cpuset.cpus", b"1-0\n", "EINVAL", "0"), ("cpuset.cpus", b"0-\n", "EINVAL", "0"), ("cpuset.cpus", b"0:1/2\n", "EINVAL", "0"),
-    ("cpuset.cpus", b"-1\n", "EINVAL", "0"), ("cpuset.cpus", b"8192\n", "ERANGE", "0"), ("cpuset.cpus", b"0-0:0/0\n", "EINVAL", "0"),
-    ("cpuset.cpus", b"0-0:3/2\n", "EINVAL", "0"), ("cpuset.cpus", b"0-0:2/2\n", "ok", "0"),
-    ("cpuset.cpus", b"99999999999\n", "EOVERFLOW", "0"), ("cpuset.cpus", b"\n", "ok", ""),
-    ("cpuset.mems", b"0\n", "ok", "0"), ("cpuset.mems", b"1024\n", "ERANGE", "0"), ("cpuset.mems", b"1023\n", "EINVAL", "0"), ("cpuset.mems", b"\n", "ok", ""),
+    ("io.weight", b"200\n", "ok", "default 200"),
+    ("io.weight", b"default 300\n", "ok", "default 300"),
+    ("io.weight", b"0\n", "EINVAL", "default 300"),
+    ("io.weight", b"10001\n", "EINVAL", "default 300"),
+    ("io.weight", b"x\n", "EINVAL", "default 300"),
+    ("io.weight", b"default\n", "EINVAL", "default 300"),
+    ("io.max", b"rbps=1\n", "EINVAL", ""),
+    ("io.max", b"4095:4095 rbps=1000\n", "ENODEV", ""),
+    ("io.max", b"8\n", "EINVAL", ""),
+    ("cpuset.cpus", b"0\n", "ok", "0"),
+    ("cpuset.cpus", b" 0-0, 0 \n", "ok", "0"),
+    ("cpuset.cpus", b"x\n", "EINVAL", "0"),
+    ("cpuset.cpus", b"1-0\n", "EINVAL", "0"),
+    ("cpuset.cpus", b"0-\n", "EINVAL", "0"),
+    ("cpuset.cpus", b"0:1/2\n", "EINVAL", "0"),
+    ("cpuset.cpus", b"-1\n", "EINVAL", "0"),
+    ("cpuset.cpus", b"8192\n", "ERANGE", "0"),
+    ("cpuset.cpus", b"0-0:0/0\n", "EINVAL", "0"),
+    ("cpuset.cpus", b"0-0:3/2\n", "EINVAL", "0"),
+    ("cpuset.cpus", b"0-0:2/2\n", "ok", "0"),
+    ("cpuset.cpus", b"99999999999\n", "EOVERFLOW", "0"),
+    ("cpuset.cpus", b"\n", "ok", ""),
+    ("cpuset.mems", b"0\n", "ok", "0"),
+    ("cpuset.mems", b"1024\n", "ERANGE", "0"),
+    ("cpuset.mems", b"1023\n", "EINVAL", "0"),
+    ("cpuset.mems", b"\n", "ok", ""),
     ("cpuset.cpus.partition", b"other\n", "EINVAL", "member"),
     ("cpuset.cpus.partition", b"root\n", "ok", "root invalid (cpuset.cpus and cpuset.cpus.exclusive are empty)"),
-    ("cpuset.cpus", b"0\n", "ok", "0"), ("cpuset.cpus.partition", b"isolated\n", "ok", "isolated"), ("cpuset.cpus.partition", b"member\n", "ok", "member"),
+    ("cpuset.cpus", b"0\n", "ok", "0"),
+    ("cpuset.cpus.partition", b"isolated\n", "ok", "isolated"),
+    ("cpuset.cpus.partition", b"member\n", "ok", "member"),
 ]
 
 
@@ -90,10 +166,17 @@ def fresh():
     for name in EMPTY:
         same("a new group's " + name, text_of(m, name), "")
     lines = [x.split() for x in text_of(m, "memory.stat").splitlines()]
-    step("memory.stat is all zero", {"anon", "file", "pgfault", "slab"} < {k for k, _ in lines} and {v for _, v in lines} == {"0"})
+    step(
+        "memory.stat is all zero",
+        {"anon", "file", "pgfault", "slab"} < {k for k, _ in lines} and {v for _, v in lines} == {"0"},
+    )
     there = {n for n in os.listdir(m.at) if n.partition(".")[0] in ("memory", "cpu", "io", "cpuset")}
     same("on the root", sorted(there), ON_ROOT)
-    same("a counter is not written", error_of(os.open, m.path("v", "memory.current"), os.O_WRONLY) if os.getuid() else "EACCES", "EACCES")
+    same(
+        "a counter is not written",
+        error_of(os.open, m.path("v", "memory.current"), os.O_WRONLY) if os.getuid() else "EACCES",
+        "EACCES",
+    )
     m.end()
 
 
@@ -115,7 +198,11 @@ def related():
     m = kept()
     for nice, weight in ((-20, 8668), (-1, 125), (0, 100), (1, 80), (10, 11), (19, 1)):
         write(m.path("v", "cpu.weight.nice"), b"%d\n" % nice)
-        same("nice %d as weight and as nice" % nice, (text_of(m, "cpu.weight"), text_of(m, "cpu.weight.nice")), ("%d\n" % weight, "%d\n" % nice))
+        same(
+            "nice %d as weight and as nice" % nice,
+            (text_of(m, "cpu.weight"), text_of(m, "cpu.weight.nice")),
+            ("%d\n" % weight, "%d\n" % nice),
+        )
     write(m.path("v", "cpu.weight"), b"200\n")
     same("weight 200 as nice", text_of(m, "cpu.weight.nice"), "-3\n")
     write(m.path("v", "cpu.idle"), b"1\n")
@@ -139,11 +226,19 @@ def related():
     same("memory nodes", text_of(m, "w/cpuset.mems.effective"), text_of(m, "cpuset.mems.effective", "."))
     write(m.path("v", "w", "cpuset.cpus"), b"0\n")
     write(m.path("v", "w", "cpuset.cpus.partition"), b"root\n")
-    same("a partition below a member", text_of(m, "w/cpuset.cpus.partition"), "root invalid (Parent is not a partition root)\n")
+    same(
+        "a partition below a member",
+        text_of(m, "w/cpuset.cpus.partition"),
+        "root invalid (Parent is not a partition root)\n",
+    )
     write(m.path("v", "cpuset.cpus.partition"), b"root\n")
     same("below a partition", text_of(m, "w/cpuset.cpus.partition"), "root\n")
     write(m.path("v", "cpuset.cpus"), b"\n")
-    same("below an invalid one", text_of(m, "w/cpuset.cpus.partition"), "root invalid (Parent is an invalid partition root)\n")
+    same(
+        "below an invalid one",
+        text_of(m, "w/cpuset.cpus.partition"),
+        "root invalid (Parent is an invalid partition root)\n",
+    )
     m.end()
 
 
@@ -161,19 +256,34 @@ def devices():
         (a, "wiops=5 riops=max", "ok", a + " rbps=1000 wbps=max riops=max wiops=5\n"),
         (a, "rbps=0", "ERANGE", a + " rbps=1000 wbps=max riops=max wiops=5\n"),
         (a, "rbps=1", "EINVAL", a + " rbps=1000 wbps=max riops=max wiops=5\n"),
+        (a.split(":")[0] + ":1048575", "rbps=9", "ENODEV", a + " rbps=1000 wbps=max riops=max wiops=5\n"),
+        ("4095:" + a.split(":")[1], "rbps=9", "ENODEV", a + " rbps=1000 wbps=max riops=max wiops=5\n"),
         (a, "bps=10", "EINVAL", a + " rbps=1000 wbps=max riops=max wiops=5\n"),
         (a, "rbps", "EINVAL", a + " rbps=1000 wbps=max riops=max wiops=5\n"),
         (a, "rbps=x", "EINVAL", a + " rbps=1000 wbps=max riops=max wiops=5\n"),
         (a, "riops=99999999999", "ok", a + " rbps=1000 wbps=max riops=max wiops=5\n"),
-        (b, "wbps=2000", "ok", a + " rbps=1000 wbps=max riops=max wiops=5\n" + b + " rbps=max wbps=2000 riops=max wiops=max\n"),
+        (
+            b,
+            "wbps=2000",
+            "ok",
+            a + " rbps=1000 wbps=max riops=max wiops=5\n" + b + " rbps=max wbps=2000 riops=max wiops=max\n",
+        ),
         (a, "rbps=max wiops=max", "ok", b + " rbps=max wbps=2000 riops=max wiops=max\n"),
         (b, "wbps=max", "ok", ""),
     ]
     for device, words, error, text in tries:
-        same("io.max: %s %s" % (device, words), error_of(write, m.path("v", "io.max"), ("%s %s\n" % (device, words)).encode()), error)
+        same(
+            "io.max: %s %s" % (device, words),
+            error_of(write, m.path("v", "io.max"), ("%s %s\n" % (device, words)).encode()),
+            error,
+        )
         same("io.max then", text_of(m, "io.max"), text)
-    for words, error, text in ((a + " 50", "ok", "default 100\n%s 50\n" % a), (a + " 0", "EINVAL", "default 100\n%s 50\n" % a),
-                               ("400", "ok", "default 400\n%s 50\n" % a), (a + " default", "ok", "default 400\n")):
+    for words, error, text in (
+        (a + " 50", "ok", "default 100\n%s 50\n" % a),
+        (a + " 0", "EINVAL", "default 100\n%s 50\n" % a),
+        ("400", "ok", "default 400\n%s 50\n" % a),
+        (a + " default", "ok", "default 400\n"),
+    ):
         same("io.weight: " + words, error_of(write, m.path("v", "io.weight"), words.encode() + b"\n"), error)
         same("io.weight then", text_of(m, "io.weight"), text)
     m.end()
@@ -186,7 +296,11 @@ def lives():
     fd = os.open(m.path("v", "memory.max"), os.O_RDWR)
     same("its size", os.fstat(fd).st_size, len("1048576\n"))
     os.rmdir(m.path("v"))
-    same("an open file of a removed group", (error_of(os.read, fd, 9), error_of(os.write, fd, b"1\n")), ("ENODEV", "ENODEV"))
+    same(
+        "an open file of a removed group",
+        (error_of(os.read, fd, 9), error_of(os.write, fd, b"1\n")),
+        ("ENODEV", "ENODEV"),
+    )
     os.close(fd)
     os.mkdir(m.path("v"))
     same("a new group is another", text_of(m, "memory.max"), "max\n")

@@ -42,8 +42,10 @@ for i in range(GROUPS):
 for _ in range(TURNS):
     bare.turn()
     full.turn()
-print("  %.1f microseconds of the server for a fork and an exit; %.1f after the event files of %d groups were read" %
-      (1e6 * bare.least / PAIRS, 1e6 * full.least / PAIRS, GROUPS))
+print(
+    "  %.1f microseconds of the server for a fork and an exit; %.1f after the event files of %d groups were read"
+    % (1e6 * bare.least / PAIRS, 1e6 * full.least / PAIRS, GROUPS)
+)
 step("that costs forks nothing", full.least < 4 * bare.least, "%.4f s, then %.4f s" % (bare.least, full.least))
 for fd in opened:
     os.close(fd)

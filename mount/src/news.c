@@ -1,0 +1,46 @@
+#include "news.h"
+#include <stdatomic.h>
+#include <stddef.h>
+#include <sys/mman.h>
+
+enum { ROOM = 256 };
+
+/* A ring: one process writes, and one reads. The numbers of the next place count on, and wrap around. */
+static struct shared {
+	atomic_uint written, read;
+	struct news {
+		unsigned reservation;
+		pid_t thread;
+	} all[ROOM];
+} * shared;
+
+bool news_begin(void)
+{
+	/* cppcheck-suppress invalidFunctionArg ; without a file the number is -1 */
+	void *at = mmap(NULL, sizeof *shared, PROT_READ | PROT_WRITE, MAP_SHARED | MAP_ANONYMOUS, -1, 0);
+	if (at == MAP_FAILED)
+		return false;
+	shared = at;
+	return true;
+}
+
+bool news_tell(unsigned reservation, pid_t thread)
+{
+	unsigned next = atomic_load(&shared->written);
+	if (next - atomic_load(&shared->read) == ROOM)
+		return false;
+	shared->all[next % ROOM] = (struct news){ reservation, thread };
+	atomic_store(&shared->written, next + 1);
+	return true;
+}
+
+bool news_hear(unsigned *reservation, pid_t *thread)
+{
+	unsigned next = shared ? atomic_load(&shared->read) : 0;
+	if (!shared || next == atomic_load(&shared->written))
+		return false;
+	*reservation = shared->all[next % ROOM].reservation;
+	*thread = shared->all[next % ROOM].thread;
+	atomic_store(&shared->read, next + 1);
+	return true;
+}

@@ -1,0 +1,30 @@
+/* Forks and threads that were allowed and are not made yet. Each counts against every limit at or above its group. All require the
+   engine's lock. */
+#ifndef RESERVED_H
+#define RESERVED_H
+
+#include <stdbool.h>
+#include <stddef.h>
+#include <sys/types.h>
+
+struct reservation {
+	struct reservation *next;
+	unsigned number;
+	pid_t parent;
+	bool elsewhere; /* the child is born in another group than its parent's */
+	bool is_thread, killed;
+	unsigned long allowed_in; /* after this operation of the file system, and before the next */
+	char group[];
+};
+
+/* `like` has what the reservation is for. 0 or -ENOMEM */
+int reserved_add(const struct reservation *like, const char *group, unsigned *number);
+const struct reservation *reserved_find(unsigned number);
+void reserved_drop(unsigned number);
+size_t reserved_count(void);
+/* How many there are at or below a group. */
+long reserved_below(const char *group);
+/* A kill in the hierarchy reached a group. */
+void reserved_kill(const char *group);
+
+#endif

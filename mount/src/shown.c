@@ -1,0 +1,78 @@
+#include "shown.h"
+#include "engine.h"
+#include "tasks.h"
+#include "zombies.h"
+#include <errno.h>
+#include <stdbool.h>
+#include <stdint.h>
+#include <stdlib.h>
+#include <string.h>
+#include <sys/syscall.h>
+#include <unistd.h>
+
+/* A first thread that ended before the others keeps its number, and has no memory any more: the kernel says so without looking
+   up a path. */
+static bool has_ended(pid_t process)
+{
+	return syscall(SYS_move_pages, process, 0UL, NULL, NULL, NULL, 0) != 0 && errno == EINVAL;
+}
+
+static bool is_listed(pid_t pid, bool threads)
+{
+	if (zombies_has(pid))
+		return false;
+	return threads ? !tasks_next(pid) || tasks_is_thread(pid) || !has_ended(pid) : !tasks_is_thread(pid);
+}
+
+/* Leaves out those that are not listed. */
+static size_t shorten(char *procs, bool threads)
+{
+	char *to = procs;
+	for (char *at = procs, *end; *at; at = end) {
+		pid_t pid = (pid_t)strtol(at, &end, 10);
+		end += *end == '\n';
+		size_t n = (size_t)(end - at);
+		if (!is_listed(pid, threads))
+			continue;
+		memmove(to, at, n);
+		to += n;
+	}
+	return (size_t)(to - procs);
+}
+
+/* 1 if there is nobody but zombies; 0; -errno */
+static int are_all_zombies(const char *group)
+{
+	uint64_t count, dead;
+	int fault = engine_current(group, &count);
+	if (fault == 0)
+		fault = zombies_below(group, &dead);
+	return fault ? fault : count == dead;
+}
+
+int shown_text(const char *group, const struct file *file, const char **text, size_t *size)
+{
+	static char *own;
+	if ((zombies_count() == 0 && !tasks_any()) || *size == 0)
+		return 0;
+	bool threads = strcmp(file->name, "cgroup.threads") == 0,
+		 procs = threads || strcmp(file->name, "cgroup.procs") == 0;
+	if (!procs && (zombies_count() == 0 || strcmp(file->name, "cgroup.events") != 0))
+		return 0;
+	char *copy = realloc(own, *size + 1);
+	if (!copy)
+		return -ENOMEM;
+	own = copy;
+	memcpy(own, *text, *size);
+	own[*size] = 0;
+	*text = own;
+	if (procs)
+		*size = shorten(own, threads);
+	else if (strncmp(own, "populated 1", 11) == 0) {
+		int dead = are_all_zombies(group);
+		if (dead < 0)
+			return dead;
+		own[10] = dead ? '0' : '1';
+	}
+	return 0;
+}

@@ -1,0 +1,313 @@
+#include "tables.h"
+#include "cleanup.h"
+#include "control.h"
+#include "engine.h"
+#include "opened.h"
+#include "passing.h"
+#include "place.h"
+#include "space.h"
+#include "spaces.h"
+#include <errno.h>
+#include <poll.h>
+#include <pthread.h>
+#include <stdio.h>
+#include <stdlib.h>
+#include <string.h>
+#include <sys/epoll.h>
+#include <sys/resource.h>
+#include <sys/socket.h>
+#include <unistd.h>
+
+/* UNOPENED: a table that was given and not opened is dropped when so many others were given after it. SHARE: the part of its
+   descriptors that the server has for tables. */
+enum { LONG = 4096, TAKEN = 16, UNOPENED = 1024, SHARE = 4 };
+
+static int ends[2] = { -1, -1 };
+
+bool tables_begin(void)
+{
+	return socketpair(AF_UNIX, SOCK_SEQPACKET | SOCK_CLOEXEC, 0, ends) == 0;
+}
+
+void tables_be(int which)
+{
+	close(ends[1 - which]);
+	ends[1 - which] = -1;
+}
+
+int tables_socket(void)
+{
+	return ends[TABLES_HELPER];
+}
+
+/* ---------------------------------------------------------------- which there are */
+
+/* A change is told once for each descriptor, when that is asked. So one is read and asked, and the other wakes who waits. */
+static struct table {
+	struct table *next;
+	struct given_table is;
+	int file, bell;
+	size_t opens;
+	bool rings; /* the bell is watched */
+} * all;
+static size_t count;
+static struct {
+	long number;
+	int fault;
+} refused; /* the last one for which there was no room */
+static int bells = -1; /* an epoll set */
+static bool ended;
+
+static void drop(struct table **at)
+{
+	struct table *t = *at;
+	*at = t->next;
+	close(t->file);
+	close(t->bell);
+	free(t);
+	count--;
+}
+
+/* The program chooses how many tables it opens, and the server needs descriptors for other things too. */
+static bool has_room(void)
+{
+	struct rlimit most;
+	return getrlimit(RLIMIT_NOFILE, &most) == 0 && 2 * count < most.rlim_cur / SHARE;
+}
+
+static void take_given(void)
+{
+	struct given_table given = { .number = 0 };
+	int fds[2];
+	while (passing_take(ends[TABLES_SERVER], &given, sizeof given, fds, 2, MSG_DONTWAIT)) {
+		bool room = has_room();
+		struct table *t = room ? malloc(sizeof *t) : NULL;
+		for (struct table **at = &all; *at;)
+			if ((*at)->opens == 0 && (*at)->is.number + UNOPENED < given.number)
+				drop(at);
+			else
+				at = &(*at)->next;
+		if (!t) {
+			close(fds[0]);
+			close(fds[1]);
+			refused.number = given.number;
+			refused.fault = room ? -ENOMEM : -ENFILE;
+			continue;
+		}
+		*t = (struct table){ .next = all, .is = given, .file = fds[0], .bell = fds[1] };
+		all = t;
+		count++;
+	}
+}
+
+static struct table **find(long number)
+{
+	struct table **at = &all;
+	while (*at && (*at)->is.number != number)
+		at = &(*at)->next;
+	return at;
+}
+
+/* NULL and why, if there is none. */
+static struct table *get(long number, int *fault)
+{
+	WANTS_LOCK();
+	if (!*find(number))
+		take_given();
+	struct table *t = *find(number);
+	*fault = t ? 0 : refused.number == number ? refused.fault : -ENOENT;
+	return t;
+}
+
+int tables_find(long number)
+{
+	int fault;
+	get(number, &fault);
+	return fault;
+}
+
+int tables_open(long number)
+{
+	int fault;
+	struct table *t = get(number, &fault);
+	if (t)
+		t->opens++;
+	return fault;
+}
+
+void tables_close(long number)
+{
+	struct table **at = find(number);
+	WANTS_LOCK();
+	if (*at && --(*at)->opens == 0)
+		drop(at);
+}
+
+/* ---------------------------------------------------------------- the texts */
+
+/* A word of a line, counted from 0. */
+static bool take_word(const char *line, int which, char *out, size_t size)
+{
+	line += strspn(line, " ");
+	for (; which > 0; which--) {
+		line += strcspn(line, " ");
+		line += strspn(line, " ");
+	}
+	size_t n = strcspn(line, " ");
+	if (n == 0 || n >= size)
+		return false;
+	memcpy(out, line, n);
+	out[n] = 0;
+	return true;
+}
+
+/* A line of mountinfo without its end. The mount's root is shown relative to the root of the reader's namespace. */
+static void put_info(FILE *out, const char *line, const char *root)
+{
+	char group[LONG], seen[LONG];
+	size_t before = 0;
+	for (int i = 0; i < 3; i++)
+		before += strcspn(line + before, " ") + 1;
+	if (!take_word(line, 3, group, sizeof group))
+		return;
+	seen_from(root, group, seen);
+	fprintf(out, "%.*s%s%s - cgroup2 cgroup2 rw\n", (int)before, line, seen, line + before + strlen(group));
+}
+
+/* Which words of a line are the place, the type and the source; those of mountinfo are counted from its dash on. */
+static const struct form {
+	const char *what;
+	int place, type, source;
+} forms[] = { { "mounts", 1, 2, 0 }, { "mountinfo", 4, 1, 2 }, { "mountstats", 4, 7, 1 } };
+
+static const struct form *form_of(const char *what)
+{
+	const struct form *f = forms;
+	while (strcmp(f->what, what))
+		f++;
+	return f;
+}
+
+/* One line: the mount as the kernel would show a cgroup2 mount; the machine's own are left out. */
+static void put_mount(FILE *out, char *line, const struct form *f, const char *root)
+{
+	char place[LONG], type[64], source[64];
+	bool is_info = f == &forms[1], is_stats = f == &forms[2];
+	char *tail = is_info ? strstr(line, " - ") : line;
+	if (!tail || !take_word(line, f->place, place, sizeof place) || !take_word(tail, f->type, type, sizeof type) ||
+		!take_word(tail, f->source, source, sizeof source)) {
+		fprintf(out, "%s\n", line);
+		return;
+	}
+	if (strcmp(type, "cgroup") == 0 || strcmp(type, "cgroup2") == 0)
+		return;
+	if (strcmp(type, "tmpfs") == 0 && strcmp(place, cgroup_mount) == 0)
+		return;
+	if (strcmp(type, "fuse.cgroup2") != 0 || strcmp(source, cgroup_source) != 0)
+		fprintf(out, "%s\n", line);
+	else if (is_info) {
+		*tail = 0;
+		put_info(out, line, root);
+	} else if (is_stats)
+		fprintf(out, "device cgroup2 mounted on %s with fstype cgroup2\n", place);
+	else
+		fprintf(out, "cgroup2 %s cgroup2 rw,nosuid,nodev,noexec,relatime 0 0\n", place);
+}
+
+/* The whole of the kernel's table, ended by a zero byte. 0 or -errno */
+static int read_kernels(int file, char **out)
+{
+	size_t size = 0, room = 0;
+	ssize_t n;
+	do {
+		if (size + 1 >= room) {
+			size_t more = room ? 2 * room : 2 * LONG;
+			char *at = realloc(*out, more);
+			if (!at)
+				return -ENOMEM;
+			*out = at;
+			room = more;
+		}
+		n = pread(file, *out + size, room - 1 - size, (off_t)size);
+		size += n > 0 ? (size_t)n : 0;
+	} while (n > 0);
+	(*out)[size] = 0;
+	return n < 0 ? -errno : 0;
+}
+
+int tables_read(long number, int (*keep)(void *, const char *, size_t), void *to)
+{
+	cleanup_free char *kernels = NULL, *text = NULL;
+	size_t size = 0;
+	int fault;
+	const struct table *t = get(number, &fault);
+	if (!t)
+		return fault;
+	fault = read_kernels(t->file, &kernels);
+	FILE *out = fault ? NULL : open_memstream(&text, &size);
+	if (!out)
+		return fault ? fault : -ENOMEM;
+	char *rest = kernels, *line;
+	while ((line = strsep(&rest, "\n")) && (rest || *line))
+		put_mount(out, line, form_of(t->is.what), spaces_root(t->is.space));
+	bool incomplete = ferror(out);
+	incomplete |= fclose(out) != 0;
+	return incomplete || !text ? -ENOMEM
+							   : keep(to, text, size); /* no text: its end had no memory, and fclose says nothing */
+}
+
+/* ---------------------------------------------------------------- polls */
+
+/* Waits for changes of all tables that somebody has polled. */
+static void *listen_to_bells(void *unused)
+{
+	struct epoll_event rung[TAKEN];
+	int n;
+	(void)unused;
+	while ((n = epoll_wait(bells, rung, TAKEN, -1)) >= 0 || errno == EINTR) {
+		engine_lock();
+		for (int i = 0; i < n && !ended; i++)
+			opened_wake_control(CONTROL_TABLE + (long)rung[i].data.u64);
+		engine_unlock();
+	}
+	return NULL;
+}
+
+static bool begin_listening(void)
+{
+	pthread_t thread;
+	if (bells >= 0)
+		return true;
+	bells = epoll_create1(EPOLL_CLOEXEC);
+	if (bells >= 0 && pthread_create(&thread, NULL, listen_to_bells, NULL) == 0 && pthread_detach(thread) == 0)
+		return true;
+	close_at(&bells);
+	bells = -1;
+	return false;
+}
+
+int tables_poll(long number, unsigned *told)
+{
+	int fault;
+	struct table *t = get(number, &fault);
+	if (!t)
+		return fault;
+	struct epoll_event changes = { .events = EPOLLPRI, .data.u64 = (uint64_t)number };
+	if (!t->rings && !begin_listening())
+		return -ENOMEM;
+	if (!t->rings && epoll_ctl(bells, EPOLL_CTL_ADD, t->bell, &changes) &&
+		errno != EPERM) /* mountstats has no changes */
+		return -ENOMEM;
+	t->rings = true;
+	struct pollfd file = { .fd = t->file, .events = POLLIN | POLLRDNORM | POLLPRI };
+	poll(&file, 1, 0);
+	*told = (unsigned)file.revents;
+	return 0;
+}
+
+void tables_end(void)
+{
+	engine_lock();
+	ended = true;
+	engine_unlock();
+}
