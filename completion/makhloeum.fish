@@ -24,6 +24,7 @@ complete -c makhloeum -n '__fish_seen_subcommand_from run' -l keep -x -a 'memory
 complete -c makhloeum -n '__fish_seen_subcommand_from run' -l control -d 'serve the control files'
 complete -c makhloeum -n '__fish_seen_subcommand_from run' -l root -d 'at /sys/fs/cgroup'
 complete -c makhloeum -n '__fish_seen_subcommand_from run' -l users -d 'with all users'
+complete -c makhloeum -n '__fish_seen_subcommand_from run' -l threads=no -d 'count processes only'
 complete -c makhloeum -n '__fish_seen_subcommand_from view' -F
 complete -c makhloeum -n '__fish_seen_subcommand_from view' -s o -r -F -d 'the page'
 complete -c makhloeum -n '__fish_seen_subcommand_from view' -l help -d 'show help'

@@ -11,20 +11,29 @@
 
 struct fault;
 
-/* An engine with its lock. */
-struct slot {
-    mk0_handle engine; /* the first field: a slot is found from its engine */
-    pthread_mutex_t lock;
-    uint64_t serial; /* 0: closed */
-    pthread_cond_t changed;
-    uint64_t changes;
-    size_t depth; /* at the newest change */
-    struct fault *faults;
-    struct slot *next;
-    struct slot *next_free;
+/* The caller's memory for an answer. */
+struct buffer {
+	char *at;
+	size_t size;
 };
 
-static inline struct slot *slot_of(mk0_handle *engine) { return (struct slot *)engine; }
+/* An engine with its lock. */
+struct slot {
+	mk0_handle engine; /* the first field: a slot is found from its engine */
+	pthread_mutex_t lock;
+	uint64_t serial; /* 0: closed */
+	pthread_cond_t changed;
+	uint64_t changes;
+	size_t depth; /* at the newest change */
+	struct fault *faults;
+	struct slot *next;
+	struct slot *next_free;
+};
+
+static inline struct slot *slot_of(mk0_handle *engine)
+{
+	return (struct slot *)engine;
+}
 
 /* MK_DONE with *engine, which no other call uses until leave; or MK_CLOSED, MK_BUSY or MK_WOULD_BLOCK, and then there is
    nothing to leave. */

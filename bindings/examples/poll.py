@@ -27,7 +27,7 @@ class Monitor:
         return int(os.pread(self._fd, 100, 0).split()[1])
 
     def wait(self, seconds: float) -> int:
-        """How many were refused; 0 after so many seconds."""
+        """How many were refused; 0 when the time is over."""
         if not self._poll.poll(seconds * 1000):
             return 0
         before, self._refused = self._refused, self._read()

@@ -22,8 +22,6 @@ func copied(t testing.TB, h *Hierarchy) *Hierarchy {
 
 // story is all that a hierarchy tells, errors included.
 func story(t testing.TB, h *Hierarchy) []string {
-	files := []string{"cgroup.procs", "cgroup.events", "cgroup.stat", "cgroup.max.depth", "cgroup.max.descendants", "pids.max",
-		"pids.current", "pids.peak", "pids.events", "pids.events.local"}
 	groups, err := h.Groups("/")
 	if err != nil {
 		t.Fatal(err)
@@ -35,8 +33,8 @@ func story(t testing.TB, h *Hierarchy) []string {
 	told := []string{fmt.Sprint(depth)}
 	for _, group := range groups {
 		for _, file := range files {
-			text, err := h.Read(group, file)
-			told = append(told, fmt.Sprint(group, file, text, err))
+			text, err := h.Read(group, file.name)
+			told = append(told, fmt.Sprint(group, file.name, text, err))
 		}
 	}
 	for pid := 1; pid < 10; pid++ {

@@ -244,7 +244,7 @@ func isFile(name string) bool {
 }
 
 // Mkdir makes the group of that name, as os.Mkdir does. The error is that of Hierarchy.Mkdir, or an errno of a mount for a name that
-// no group can have, such as syscall.ENAMETOOLONG. It moves 40 bytes for each group with the same parent.
+// no group can have, such as syscall.ENAMETOOLONG. It moves 16 bytes for each group with the same parent.
 func (f FS) Mkdir(name string) error {
 	if isFile(name) {
 		if _, err := f.find("mkdir", name); err != nil {
@@ -256,7 +256,7 @@ func (f FS) Mkdir(name string) error {
 }
 
 // Remove removes the group of that name, as os.Remove does. The error is that of Hierarchy.Rmdir, and syscall.EPERM for a file. It
-// moves 40 bytes for each group with the same parent.
+// moves 16 bytes for each group with the same parent.
 func (f FS) Remove(name string) error {
 	if isFile(name) {
 		if _, err := f.find("remove", name); err != nil {

@@ -185,14 +185,14 @@ func (h *Hierarchy) do(operation, path string, words ...string) (string, error) 
 }
 
 // Mkdir makes the group path. It is refused with Exists, NoGroup if there is no parent, Descendants or Depth if a limit is reached,
-// and NoSlot beyond 1,024 groups. It moves 40 bytes for each group with the same parent.
+// and NoSlot beyond 1,024 groups. It moves 16 bytes for each group with the same parent.
 func (h *Hierarchy) Mkdir(path string) error {
 	_, err := h.do("mkdir", path)
 	return err
 }
 
 // Rmdir removes the group path, which has neither children nor processes. It is refused with RootFixed, NoGroup, HasChildren or
-// HasProcesses. It moves 40 bytes for each group with the same parent.
+// HasProcesses. It moves 16 bytes for each group with the same parent.
 func (h *Hierarchy) Rmdir(path string) error {
 	_, err := h.do("rmdir", path)
 	return err

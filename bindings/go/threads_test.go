@@ -188,17 +188,22 @@ func memory(t *testing.T) int {
 	return pages * os.Getpagesize()
 }
 
+// newWithGroup returns a hierarchy with a group, that the test closes or forgets.
+func newWithGroup(t *testing.T) *Hierarchy {
+	h, err := New()
+	if err != nil {
+		t.Fatal(err)
+	}
+	if err := h.Mkdir("/a"); err != nil {
+		t.Fatal(err)
+	}
+	return h
+}
+
 func TestAClosedHierarchyLeavesNoMemory(t *testing.T) {
 	use := func(rounds int) {
 		for i := 0; i < rounds; i++ {
-			h, err := New()
-			if err != nil {
-				t.Fatal(err)
-			}
-			if err := h.Mkdir("/a"); err != nil {
-				t.Fatal(err)
-			}
-			h.Close()
+			newWithGroup(t).Close()
 		}
 	}
 	use(100)

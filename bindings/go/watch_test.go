@@ -106,6 +106,18 @@ func TestAWatchEndsWithItsContextAndWithoutAFile(t *testing.T) {
 	for text := next(t, unread); text != "closed"; text = next(t, unread) {
 		says(t, "populated 0\nfrozen 0\n", text, nil)
 	}
+	// nobody ever reads them
+	before := runtime.NumGoroutine()
+	ctx, cancel = context.WithTimeout(context.Background(), 200*time.Millisecond)
+	defer cancel()
+	for i := 0; i < 20; i++ {
+		h.Watch(ctx, "/a", "cgroup.events")
+	}
+	for end := time.Now().Add(patience); runtime.NumGoroutine() > before; time.Sleep(time.Millisecond) {
+		if time.Now().After(end) {
+			t.Fatal("a watch goes on that nobody reads")
+		}
+	}
 	for _, row := range [][2]string{{"/none", "cgroup.events"}, {"a", "cgroup.events"}, {"/a", "none"}, {"/a", "cgroup.kill"}, {"/a\x00", "x\x00"}, {"/a", "pids.max\x00x"}} {
 		says(t, "closed", next(t, h.Watch(context.Background(), row[0], row[1])), nil)
 	}
@@ -146,13 +158,7 @@ func TestAWaitReturnsAtItsDeadline(t *testing.T) {
 func TestAForgottenHierarchyIsFreed(t *testing.T) {
 	forget := func(rounds int) {
 		for i := 0; i < rounds; i++ {
-			h, err := New()
-			if err != nil {
-				t.Fatal(err)
-			}
-			if err := h.Mkdir("/a"); err != nil {
-				t.Fatal(err)
-			}
+			newWithGroup(t)
 			if i%50 == 0 {
 				runtime.GC()
 				time.Sleep(5 * time.Millisecond) // the finalizers run in a goroutine

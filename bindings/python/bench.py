@@ -26,4 +26,6 @@ with Hierarchy() as h:
     for _ in range(3):
         cat = seconds(lambda: h.read("/a", "pids.current"))
         pair = seconds(lambda: fork_and_undo(h))
-        print(f"Python: {COUNT / cat / 1e6:.3f} million cats a second; {COUNT / pair / 1e6:.3f} million forks with their undos a second")
+        print(
+            f"Python: {COUNT / cat / 1e6:.3f} million cats a second; {COUNT / pair / 1e6:.3f} million forks with their undos a second"
+        )

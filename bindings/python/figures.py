@@ -12,7 +12,7 @@ GROUPS, PROCESSES = 1024, 100_000
 
 
 def best_of(call, times, clock=time.process_time):
-    """Seconds for so many calls."""
+    """Seconds for this number of calls."""
     best = float("inf")
     for _ in range(ROUNDS):
         start = clock()

@@ -27,7 +27,9 @@ def library() -> Path:
     for place in places:
         if place.is_file():
             return place.resolve()
-    sys.exit(f"makhloeum: {places[-1]} is missing: run bindings/build first, or set MAKHLOEUM_LIBRARY to the path of {NAME}")
+    sys.exit(
+        f"makhloeum: {places[-1]} is missing: run bindings/build first, or set MAKHLOEUM_LIBRARY to the path of {NAME}"
+    )
 
 
 def version() -> str:

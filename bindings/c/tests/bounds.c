@@ -1,106 +1,106 @@
 /* The sizes that the header calls large enough for a text: each is enough for the longest, and none is much larger. Exits with the
    number of the first check that fails, or 0, and prints how many held. */
-#include "makhloeum.h"
-#include <stdio.h>
-#include <stdlib.h>
-#include <string.h>
+#include "check.h"
 
 enum { PATH_BYTES = 4095, NAME_BYTES = 255, GROUPS = 1024, PROCESSES = 1000, GREATEST_PID = 4194303 };
 #define GREATEST_LIMIT "2147483646"
 
-static mk_handle h;
-static mk_info info;
-static int checks;
-
-#define CHECK(holds) do { checks++; if (!(holds)) { fprintf(stderr, "bounds.c:%d: %s\n", __LINE__, #holds); return checks; } } while (0)
-
-static bool done(uint32_t status) { return status == MK_DONE; }
-
 /* How many bytes the text of a file needs, with its zero byte. */
-static size_t needed(const char *path, const char *file) {
-    char none[1];
-    return mk_read(&h, path, file, none, 0, &info) == MK_TOO_SMALL ? info.needed : 0;
+static size_t needed(const char *path, const char *file)
+{
+	char none[1];
+	return mk_read(&h, path, file, none, 0, &info) == MK_TOO_SMALL ? info.needed : 0;
 }
 
 /* The pids with the most digits. */
-static int pids(void) {
-    CHECK(done(mk_mkdir(&h, "/a", &info)) && done(mk_fork(&h, 1, GREATEST_PID, &info)) && done(mk_attach(&h, "/a", GREATEST_PID, &info)));
-    for (int64_t more = 1; more < PROCESSES; more++) CHECK(done(mk_fork(&h, GREATEST_PID, GREATEST_PID - more, &info)));
-    static char text[MK_READ_MAX(PROCESSES)];
-    CHECK(done(mk_read(&h, "/a", "cgroup.procs", text, sizeof text, &info)) && info.len == strlen(text));
-    CHECK(needed("/a", "cgroup.procs") == 8 * PROCESSES + 1 && sizeof text - needed("/a", "cgroup.procs") < 64);
-    CHECK(done(mk_kill(&h, "/a", &info)));
-    return 0;
+static int pids(void)
+{
+	CHECK(done(mk_mkdir(&h, "/a", &info)) && done(mk_fork(&h, 1, GREATEST_PID, &info)) &&
+		done(mk_attach(&h, "/a", GREATEST_PID, &info)));
+	for (int64_t more = 1; more < PROCESSES; more++)
+		CHECK(done(mk_fork(&h, GREATEST_PID, GREATEST_PID - more, &info)));
+	static char text[MK_READ_MAX(PROCESSES)];
+	CHECK(done(mk_read(&h, "/a", "cgroup.procs", text, sizeof text, &info)) && info.len == strlen(text));
+	CHECK(needed("/a", "cgroup.procs") == 8 * PROCESSES + 1 && sizeof text - needed("/a", "cgroup.procs") < 64);
+	CHECK(done(mk_kill(&h, "/a", &info)));
+	return 0;
 }
 
 /* Every other file, with the longest text that it can have; of a count of refused forks that is 2^64 - 1. */
-static int other_files(void) {
-    static const char *const limits[][2] = {
-        {"pids.max", "4194304"}, {"cgroup.max.depth", GREATEST_LIMIT}, {"cgroup.max.descendants", GREATEST_LIMIT}};
-    char path[32], text[MK_READ_MAX(0)];
-    for (size_t i = 0; i < sizeof limits / sizeof *limits; i++) CHECK(done(mk_write(&h, "/a", limits[i][0], limits[i][1], &info)));
-    for (int i = 1; i < GROUPS; i++) {
-        snprintf(path, sizeof path, "/a/%d", i);
-        CHECK(done(mk_mkdir(&h, path, &info)));
-    }
-    CHECK(mk_mkdir(&h, "/b", &info) == MK_REFUSED && info.code == MK_NO_SLOT);
-    const mk_file *file;
-    size_t longest = 0;
-    for (size_t i = 0; (file = mk_file_at(i)) != NULL; i++) {
-        if (file->constant != NULL || !file->readable) continue;
-        CHECK(done(mk_read(&h, "/a", file->name, text, sizeof text, &info)));
-        longest = info.len > longest ? info.len : longest;
-    }
-    CHECK(longest == strlen("nr_descendants 1023\nnr_dying_descendants 0\n") && strlen("max 18446744073709551615\n") < longest);
-    CHECK(done(mk_undo_to(&h, 0, &info)));
-    return 0;
+static int other_files(void)
+{
+	static const char *const limits[][2] = { { "pids.max", "4194304" }, { "cgroup.max.depth", GREATEST_LIMIT },
+		{ "cgroup.max.descendants", GREATEST_LIMIT } };
+	char path[32], text[MK_READ_MAX(0)];
+	for (size_t i = 0; i < sizeof limits / sizeof *limits; i++)
+		CHECK(done(mk_write(&h, "/a", limits[i][0], limits[i][1], &info)));
+	for (int i = 1; i < GROUPS; i++) {
+		snprintf(path, sizeof path, "/a/%d", i);
+		CHECK(done(mk_mkdir(&h, path, &info)));
+	}
+	CHECK(mk_mkdir(&h, "/b", &info) == MK_REFUSED && info.code == MK_NO_SLOT);
+	const mk_file *file;
+	size_t longest = 0;
+	for (size_t i = 0; (file = mk_file_at(i)) != NULL; i++) {
+		if (file->constant != NULL || !file->readable)
+			continue;
+		CHECK(done(mk_read(&h, "/a", file->name, text, sizeof text, &info)));
+		longest = info.len > longest ? info.len : longest;
+	}
+	CHECK(longest == strlen("nr_descendants 1023\nnr_dying_descendants 0\n") &&
+		strlen("max 18446744073709551615\n") < longest);
+	CHECK(done(mk_undo_to(&h, 0, &info)));
+	return 0;
 }
 
 /* The longest path: names of 255 bytes, and a last one of 254. */
-static void longest_path(char path[PATH_BYTES + 1]) {
-    memset(path, 'x', PATH_BYTES);
-    for (size_t at = 0; at < PATH_BYTES; at += NAME_BYTES + 1) path[at] = '/';
-    path[PATH_BYTES] = 0;
+static void longest_path(char path[PATH_BYTES + 1])
+{
+	memset(path, 'x', PATH_BYTES);
+	for (size_t at = 0; at < PATH_BYTES; at += NAME_BYTES + 1)
+		path[at] = '/';
+	path[PATH_BYTES] = 0;
 }
 
-static int paths(void) {
-    char path[PATH_BYTES + 1], text[MK_WHERE_MAX], none[1];
-    longest_path(path);
-    for (size_t end = NAME_BYTES + 1; end < PATH_BYTES; end += NAME_BYTES + 1) {
-        path[end] = 0;
-        CHECK(done(mk_mkdir(&h, path, &info)));
-        path[end] = '/';
-    }
-    CHECK(done(mk_mkdir(&h, path, &info)) && done(mk_attach(&h, path, 1, &info)));
-    CHECK(mk_where(&h, 1, none, 0, &info) == MK_TOO_SMALL && info.needed == MK_WHERE_MAX);
-    CHECK(done(mk_where(&h, 1, text, sizeof text, &info)) && info.len == MK_WHERE_MAX - 1);
-    return 0;
+static int paths(void)
+{
+	char path[PATH_BYTES + 1], text[MK_WHERE_MAX], none[1];
+	longest_path(path);
+	for (size_t end = NAME_BYTES + 1; end < PATH_BYTES; end += NAME_BYTES + 1) {
+		path[end] = 0;
+		CHECK(done(mk_mkdir(&h, path, &info)));
+		path[end] = '/';
+	}
+	CHECK(done(mk_mkdir(&h, path, &info)) && done(mk_attach(&h, path, 1, &info)));
+	CHECK(mk_where(&h, 1, none, 0, &info) == MK_TOO_SMALL && info.needed == MK_WHERE_MAX);
+	CHECK(done(mk_where(&h, 1, text, sizeof text, &info)) && info.len == MK_WHERE_MAX - 1);
+	return 0;
 }
 
 /* The longest recorded command, and a whole history. */
-static int history(void) {
-    char path[PATH_BYTES + 1];
-    uint8_t line[MK_HISTORY_MAX(1)];
-    size_t depth;
-    longest_path(path);
-    CHECK(done(mk_write(&h, path, "cgroup.max.descendants", GREATEST_LIMIT, &info)) && done(mk_depth(&h, &depth)));
-    CHECK(done(mk_history(&h, depth - 1, line, sizeof line, &info)) && info.len == sizeof line && info.count == 1);
-    uint8_t *all = malloc(MK_HISTORY_MAX(depth));
-    CHECK(all != NULL);
-    bool whole = done(mk_history(&h, 0, all, MK_HISTORY_MAX(depth), &info)) && info.count == depth;
-    free(all);
-    CHECK(whole);
-    return 0;
+static int history(void)
+{
+	char path[PATH_BYTES + 1];
+	uint8_t line[MK_HISTORY_MAX(1)];
+	size_t depth;
+	longest_path(path);
+	CHECK(done(mk_write(&h, path, "cgroup.max.descendants", GREATEST_LIMIT, &info)) && done(mk_depth(&h, &depth)));
+	CHECK(done(mk_history(&h, depth - 1, line, sizeof line, &info)) && info.len == sizeof line && info.count == 1);
+	uint8_t *all = malloc(MK_HISTORY_MAX(depth));
+	CHECK(all != NULL);
+	bool whole = done(mk_history(&h, 0, all, MK_HISTORY_MAX(depth), &info)) && info.count == depth;
+	free(all);
+	CHECK(whole);
+	return 0;
 }
 
-int main(void) {
-    int (*const parts[])(void) = {pids, other_files, paths, history};
-    if (mk_open(&h) != MK_DONE) return 1;
-    for (size_t i = 0; i < sizeof parts / sizeof *parts; i++) {
-        int failed = parts[i]();
-        if (failed != 0) return failed % 250 + 1;
-    }
-    if (mk_close(&h) != MK_DONE) return 1;
-    printf("%d\n", checks);
-    return 0;
+int main(void)
+{
+	int (*const parts[])(void) = { pids, other_files, paths, history };
+	if (mk_open(&h) != MK_DONE)
+		return 1;
+	int failed = run_all(parts, sizeof parts / sizeof *parts);
+	if (failed == 0 && mk_close(&h) != MK_DONE)
+		return 1;
+	return failed;
 }

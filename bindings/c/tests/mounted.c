@@ -15,123 +15,165 @@ static mk_handle h;
 static mk_info info;
 static char text[256];
 
-#define CHECK(holds, ...) do { held++; if (!(holds)) { fprintf(stderr, "mounted.c:%d: %s: ", __LINE__, #holds); fprintf(stderr, __VA_ARGS__); fputc('\n', stderr); exit(1); } } while (0)
+#define CHECK(holds, ...)                                            \
+	do {                                                             \
+		held++;                                                      \
+		if (!(holds)) {                                              \
+			fprintf(stderr, "mounted.c:%d: %s: ", __LINE__, #holds); \
+			fprintf(stderr, __VA_ARGS__);                            \
+			fputc('\n', stderr);                                     \
+			exit(1);                                                 \
+		}                                                            \
+	} while (0)
 
 /* the files that take values, and what they take */
 static const struct taking {
-    const char *name;
-    enum value value;
-    bool readable;
-} files[] = {{"cgroup.procs", A_PID, true},
-             {"cgroup.max.depth", A_COUNT, true},
-             {"cgroup.max.descendants", A_COUNT, true},
-             {"pids.max", A_PIDS_LIMIT, true},
-             {"cgroup.kill", A_ONE, false}};
+	const char *name;
+	enum value value;
+	bool readable;
+} files[] = { { "cgroup.procs", A_PID, true }, { "cgroup.max.depth", A_COUNT, true },
+	{ "cgroup.max.descendants", A_COUNT, true }, { "pids.max", A_PIDS_LIMIT, true }, { "cgroup.kill", A_ONE, false } };
 enum { FILES = sizeof files / sizeof *files };
 
-static void table(void) {
-    const mk_file *file;
-    for (size_t i = 0; (file = mk_file_at(i)) != NULL; i++) {
-        bool takes = false;
-        for (size_t at = 0; at < FILES; at++) takes |= strcmp(file->name, files[at].name) == 0;
-        CHECK(i == 0 || strcmp(mk_file_at(i - 1)->name, file->name) < 0, "%s", file->name);
-        CHECK(takes == (file->writable && file->constant == NULL), "%s", file->name);
-    }
+static void table(void)
+{
+	const mk_file *file;
+	for (size_t i = 0; (file = mk_file_at(i)) != NULL; i++) {
+		bool takes = false;
+		for (size_t at = 0; at < FILES; at++)
+			takes |= strcmp(file->name, files[at].name) == 0;
+		CHECK(i == 0 || strcmp(mk_file_at(i - 1)->name, file->name) < 0, "%s", file->name);
+		CHECK(takes == (file->writable && file->constant == NULL), "%s", file->name);
+	}
 }
 
 /* ---- values */
 
-static const char *const words[] = {
-    "", "0", "1", "2", "9", "max", "MAX", "maxx", "-0", "-1", "+5", "+-5", "08", "010", "0x", "0x10", "0X1f", "-0x1", "0xg", "1 2", "1.0", "x", "1x",
-    "2147483646", "2147483647", "2147483648", "4194303", "4194304", "4194305", "9223372036854775807", "9223372036854775808", "-9223372036854775808",
-    "-9223372036854775809", "18446744073709551615", "18446744073709551616", "99999999999999999999x", "0xffffffffffffffffff", "0777777777777777777777777",
-    "+pids", "pids", "-pids", "+pids +pids", "domain", "threaded", "0\n", "\v5\f", "\2407", "7\240", "3\n\n"};
-static const char *const blanks[] = {"", " ", "\n", "\t\r\n"};
+static const char *const words[] = { "", "0", "1", "2", "9", "max", "MAX", "maxx", "-0", "-1", "+5", "+-5", "08", "010",
+	"0x", "0x10", "0X1f", "-0x1", "0xg", "1 2", "1.0", "x", "1x", "2147483646", "2147483647", "2147483648", "4194303",
+	"4194304", "4194305", "9223372036854775807", "9223372036854775808", "-9223372036854775808", "-9223372036854775809",
+	"18446744073709551615", "18446744073709551616", "99999999999999999999x", "0xffffffffffffffffff",
+	"0777777777777777777777777", "+pids", "pids", "-pids", "+pids +pids", "domain", "threaded", "0\n", "\v5\f", "\2407",
+	"7\240", "3\n\n" };
+static const char *const blanks[] = { "", " ", "\n", "\t\r\n" };
 
 /* the errno of a write to the mount's file, with what the engine says to the word */
-static int mount_error(const struct taking *file, const char *data, size_t size) {
-    char said[SAID_MAX];
-    int error = -value_said(file->value, data, size, said);
-    if (error != 0) return error;
-    if (file->value == A_PID && strcmp(said, "0") == 0) snprintf(said, sizeof said, "1"); /* the caller */
-    return mk_write(&h, "/a", file->name, said, &info) == MK_DONE ? 0 : info.error;
+static int mount_error(const struct taking *file, const char *data, size_t size)
+{
+	char said[SAID_MAX];
+	int error = -value_said(file->value, data, size, said);
+	if (error != 0)
+		return error;
+	if (file->value == A_PID && strcmp(said, "0") == 0)
+		snprintf(said, sizeof said, "1"); /* the caller */
+	return mk_write(&h, "/a", file->name, said, &info) == MK_DONE ? 0 : info.error;
 }
 
-static void compare(const struct taking *file, const char *data, size_t size) {
-    char want[sizeof text] = "";
-    int error = mount_error(file, data, size);
-    if (file->readable) mk_read(&h, "/a", file->name, want, sizeof want, &info);
-    mk_undo_to(&h, BEFORE, &info);
-    uint32_t status = mk_put(&h, "/a", file->name, data, size, 1, &info);
-    CHECK((status == MK_DONE) == (error == 0) && info.error == error, "%s: %.40s: %d, and %d in the mount", file->name, data, info.error, error);
-    if (file->readable)
-        CHECK(mk_read(&h, "/a", file->name, text, sizeof text, &info) == MK_DONE && strcmp(text, want) == 0, "%s: %.40s: %s, and %s", file->name, data, text, want);
-    mk_undo_to(&h, BEFORE, &info);
+static void compare(const struct taking *file, const char *data, size_t size)
+{
+	char want[sizeof text] = "";
+	int error = mount_error(file, data, size);
+	if (file->readable)
+		mk_read(&h, "/a", file->name, want, sizeof want, &info);
+	mk_undo_to(&h, BEFORE, &info);
+	uint32_t status = mk_put(&h, "/a", file->name, data, size, 1, &info);
+	CHECK((status == MK_DONE) == (error == 0) && info.error == error, "%s: %.40s: %d, and %d in the mount", file->name,
+		data, info.error, error);
+	if (file->readable)
+		CHECK(mk_read(&h, "/a", file->name, text, sizeof text, &info) == MK_DONE && strcmp(text, want) == 0,
+			"%s: %.40s: %s, and %s", file->name, data, text, want);
+	mk_undo_to(&h, BEFORE, &info);
 }
 
-static void values(void) {
-    static char page[5000];
-    memset(page, ' ', sizeof page);
-    page[0] = '1';
-    for (const struct taking *file = files; file < files + FILES; file++) {
-        for (size_t word = 0; word < sizeof words / sizeof *words; word++)
-            for (size_t front = 0; front < 4; front++)
-                for (size_t back = 0; back < 4; back++) {
-                    char data[128];
-                    int size = snprintf(data, sizeof data, "%s%s%s", blanks[front], words[word], blanks[back]);
-                    compare(file, data, (size_t)size);
-                    compare(file, data, (size_t)size + 1); /* with the zero byte */
-                }
-        for (size_t size = 4094; size < 4099; size++) compare(file, page, size);
-    }
+static void values(void)
+{
+	static char page[5000];
+	memset(page, ' ', sizeof page);
+	page[0] = '1';
+	for (const struct taking *file = files; file < files + FILES; file++) {
+		for (size_t word = 0; word < sizeof words / sizeof *words; word++)
+			for (size_t front = 0; front < 4; front++)
+				for (size_t back = 0; back < 4; back++) {
+					char data[128];
+					int size = snprintf(data, sizeof data, "%s%s%s", blanks[front], words[word], blanks[back]);
+					compare(file, data, (size_t)size);
+					compare(file, data, (size_t)size + 1); /* with the zero byte */
+				}
+		for (size_t size = 4094; size < 4099; size++)
+			compare(file, page, size);
+	}
 }
 
-static void random_values(void) {
-    static const char letters[] = "0123456789abcdefxX+- \n\tmaxm";
-    unsigned seed = 1;
-    for (int round = 0; round < 5000; round++)
-        for (const struct taking *file = files; file < files + FILES; file++) {
-            char data[32];
-            size_t size = 0;
-            seed = seed * 1103515245u + 12345u;
-            for (size_t most = (seed >> 16) % 12; size < most; size++) {
-                seed = seed * 1103515245u + 12345u;
-                data[size] = letters[(seed >> 16) % (sizeof letters - 1)];
-            }
-            data[size] = 0;
-            compare(file, data, size);
-        }
+static void random_values(void)
+{
+	static const char letters[] = "0123456789abcdefxX+- \n\tmaxm";
+	unsigned seed = 1;
+	for (int round = 0; round < 5000; round++)
+		for (const struct taking *file = files; file < files + FILES; file++) {
+			char data[32];
+			size_t size = 0;
+			seed = seed * 1103515245u + 12345u;
+			for (size_t most = (seed >> 16) % 12; size < most; size++) {
+				seed = seed * 1103515245u + 12345u;
+				data[size] = letters[(seed >> 16) % (sizeof letters - 1)];
+			}
+			data[size] = 0;
+			compare(file, data, size);
+		}
 }
 
-static int put(const char *path, const char *file, const char *data, int64_t self) {
-    return mk_put(&h, path, file, data, strlen(data), self, &info) == MK_DONE ? 0 : info.error;
+static int put(const char *path, const char *file, const char *data, int64_t self)
+{
+	return mk_put(&h, path, file, data, strlen(data), self, &info) == MK_DONE ? 0 : info.error;
 }
 
-static void others(void) {
-    CHECK(put("/a", "none", "1", 1) == ENOENT && info.code == MK_FILE, "a file that is not there");
-    CHECK(put("/c", "pids.max", "1", 1) == ENOENT && info.code == MK_NO_GROUP, "a group that is not there");
-    CHECK(put("/c", "cpu.stat", "1", 1) == ENOENT && info.code == MK_NO_GROUP, "a constant of a group that is not there");
-    CHECK(put("/", "pids.max", "1", 1) == ENOENT && put("/", "cgroup.type", "domain", 1) == ENOENT, "files that the root has not");
-    CHECK(put("/a", "pids.current", "1", 1) == EINVAL && info.code == MK_DIRECTION && put("/a", "cpu.stat", "", 1) == EINVAL, "files that are read");
-    CHECK(put("/a", "cgroup.freeze", "0\n", 1) == 0 && put("/a", "cgroup.freeze", "1", 1) == EOPNOTSUPP, "a constant");
-    CHECK(put("/", "cgroup.subtree_control", "+pids\n", 1) == 0 && put("/", "cgroup.subtree_control", "+memory", 1) == EOPNOTSUPP, "another");
-    CHECK(put("/a", "cgroup.type", "domain", 1) == 0 && put("/a", "cgroup.type", "threaded", 1) == EOPNOTSUPP, "a third");
-    CHECK(put("/a", "cgroup.procs", "0\n", 2) == 0 && mk_where(&h, 2, text, sizeof text, &info) == MK_DONE, "the caller's own process");
-    CHECK(mk_fork(&h, 1, 4194303, &info) == MK_DONE && put("/a", "cgroup.procs", "4194303", 1) == 0, "the greatest pid");
-    CHECK(put("/a", "cgroup.type", "domai", 1) == EOPNOTSUPP && put("/a", "cgroup.type", "domain ", 1) == 0, "a part of a constant");
-    CHECK(put("/a", "cgroup.type", "domainx", 1) == EOPNOTSUPP && put("/", "cgroup.subtree_control", "+", 1) == EOPNOTSUPP, "and more");
-    CHECK(strcmp(text, "0::/a\n") == 0 && put("/a", "cgroup.procs", "0", 9) == ESRCH, "%s, and a caller that is no process", text);
-    CHECK(mk_path_errno(0) == 0 && mk_path_errno(MK_NAME_TOO_LONG) == ENAMETOOLONG && mk_path_errno(MK_PATH_TOO_LONG) == ENAMETOOLONG, "long names");
-    CHECK(mk_path_errno(MK_TOO_DEEP) == EAGAIN && mk_path_errno(MK_RESERVED) == EINVAL && mk_path_errno(MK_BAD_BYTE) == EINVAL, "names");
+static void others(void)
+{
+	CHECK(put("/a", "none", "1", 1) == ENOENT && info.code == MK_FILE, "a file that is not there");
+	CHECK(put("/c", "pids.max", "1", 1) == ENOENT && info.code == MK_NO_GROUP, "a group that is not there");
+	CHECK(put("/c", "cpu.stat", "1", 1) == ENOENT && info.code == MK_NO_GROUP,
+		"a constant of a group that is not there");
+	CHECK(put("/", "pids.max", "1", 1) == ENOENT && put("/", "cgroup.type", "domain", 1) == ENOENT,
+		"files that the root has not");
+	CHECK(put("/a", "pids.current", "1", 1) == EINVAL && info.code == MK_DIRECTION &&
+			put("/a", "cpu.stat", "", 1) == EINVAL,
+		"files that are read");
+	CHECK(put("/a", "cgroup.freeze", "0\n", 1) == 0 && put("/a", "cgroup.freeze", "1", 1) == EOPNOTSUPP, "a constant");
+	CHECK(put("/", "cgroup.subtree_control", "+pids\n", 1) == 0 &&
+			put("/", "cgroup.subtree_control", "+memory", 1) == EOPNOTSUPP,
+		"another");
+	CHECK(put("/a", "cgroup.type", "domain", 1) == 0 && put("/a", "cgroup.type", "threaded", 1) == EOPNOTSUPP,
+		"a third");
+	CHECK(put("/a", "cgroup.procs", "0\n", 2) == 0 && mk_where(&h, 2, text, sizeof text, &info) == MK_DONE,
+		"the caller's own process");
+	CHECK(mk_fork(&h, 1, 4194303, &info) == MK_DONE && put("/a", "cgroup.procs", "4194303", 1) == 0,
+		"the greatest pid");
+	CHECK(put("/a", "cgroup.type", "domai", 1) == EOPNOTSUPP && put("/a", "cgroup.type", "domain ", 1) == 0,
+		"a part of a constant");
+	CHECK(put("/a", "cgroup.type", "domainx", 1) == EOPNOTSUPP &&
+			put("/", "cgroup.subtree_control", "+", 1) == EOPNOTSUPP,
+		"and more");
+	CHECK(strcmp(text, "0::/a\n") == 0 && put("/a", "cgroup.procs", "0", 9) == ESRCH,
+		"%s, and a caller that is no process", text);
+	CHECK(mk_path_errno(0) == 0 && mk_path_errno(MK_NAME_TOO_LONG) == ENAMETOOLONG &&
+			mk_path_errno(MK_PATH_TOO_LONG) == ENAMETOOLONG,
+		"long names");
+	CHECK(mk_path_errno(MK_TOO_DEEP) == EAGAIN && mk_path_errno(MK_RESERVED) == EINVAL &&
+			mk_path_errno(MK_BAD_BYTE) == EINVAL,
+		"names");
 }
 
-int main(void) {
-    if (mk_open(&h) != MK_DONE || mk_mkdir(&h, "/a", &info) != MK_DONE || mk_fork(&h, 1, 2, &info) != MK_DONE || mk_attach(&h, "/a", 2, &info) != MK_DONE) return 2;
-    table();
-    values();
-    random_values();
-    if (mk_undo_to(&h, 2, &info) != MK_DONE) return 2;
-    others();
-    printf("%ld\n", held);
-    return mk_close(&h) == MK_DONE ? 0 : 2;
+int main(void)
+{
+	if (mk_open(&h) != MK_DONE || mk_mkdir(&h, "/a", &info) != MK_DONE || mk_fork(&h, 1, 2, &info) != MK_DONE ||
+		mk_attach(&h, "/a", 2, &info) != MK_DONE)
+		return 2;
+	table();
+	values();
+	random_values();
+	if (mk_undo_to(&h, 2, &info) != MK_DONE)
+		return 2;
+	others();
+	printf("%ld\n", held);
+	return mk_close(&h) == MK_DONE ? 0 : 2;
 }

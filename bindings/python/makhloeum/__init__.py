@@ -22,7 +22,7 @@ leaves it, and then where the system keeps libraries.
 
 from . import _interrupts, errors  # noqa: F401
 from ._library import library as _c
-from .errors import *  # noqa: F403
+from .errors import *  # noqa: F401, F403
 from .hierarchy import Hierarchy
 from .mounted import mounted_at
 

@@ -19,7 +19,21 @@ from ._replace import Place, Replacement
 from ._tree import Node, RawFile, Tree, error
 
 _SERVED = (
-    *("read", "write", "readv", "writev", "pread", "pwrite", "preadv", "pwritev", "lseek", "dup", "dup2", "close", "closerange"),
+    *(
+        "read",
+        "write",
+        "readv",
+        "writev",
+        "pread",
+        "pwrite",
+        "preadv",
+        "pwritev",
+        "lseek",
+        "dup",
+        "dup2",
+        "close",
+        "closerange",
+    ),
     *("fstat", "stat", "lstat", "access", "listdir", "scandir", "mkdir", "rmdir", "readlink"),
 )
 _REFUSED = {
@@ -102,7 +116,9 @@ class Calls:
             Place(os, "open", "os_open", self.os_open),
         ]
         places += [Place(os, name, name, getattr(self, name)) for name in _SERVED if hasattr(os, name)]
-        return places + [Place(os, name, name, self.other(name)) for name in (*_REFUSED, *_WITHOUT_EFFECT) if hasattr(os, name)]
+        return places + [
+            Place(os, name, name, self.other(name)) for name in (*_REFUSED, *_WITHOUT_EFFECT) if hasattr(os, name)
+        ]
 
     def mount(self, at: str, tree: Tree) -> None:
         with self._lock:
@@ -176,7 +192,11 @@ class Calls:
         if buffering == 0:
             return raw
         kind = (
-            io.BufferedRandom if raw.readable() and raw.writable() else io.BufferedReader if raw.readable() else io.BufferedWriter
+            io.BufferedRandom
+            if raw.readable() and raw.writable()
+            else io.BufferedReader
+            if raw.readable()
+            else io.BufferedWriter
         )
         buffered = kind(raw)
         if binary:
@@ -216,16 +236,24 @@ class Calls:
             raise error(errno.ENOTDIR, node.shown)
         else:
             makes = bool(flags & os.O_CREAT)
-            opened = self._opened(node, way != os.O_WRONLY, way != os.O_RDONLY, makes, makes and bool(flags & os.O_EXCL))
+            opened = self._opened(
+                node, way != os.O_WRONLY, way != os.O_RDONLY, makes, makes and bool(flags & os.O_EXCL)
+            )
         return self.descriptors.add(opened)
 
     # ---- descriptors
 
     def read(self, fd: int, size: int) -> Any:
-        return self.was["read"](fd, size) if self.descriptors.get(fd) is None else self.descriptors.raw(fd).read(size) or b""
+        return (
+            self.was["read"](fd, size)
+            if self.descriptors.get(fd) is None
+            else self.descriptors.raw(fd).read(size) or b""
+        )
 
     def readv(self, fd: int, buffers: Any) -> Any:
-        return self.was["readv"](fd, buffers) if self.descriptors.get(fd) is None else scatter(self.descriptors.raw(fd), buffers)
+        if self.descriptors.get(fd) is None:
+            return self.was["readv"](fd, buffers)
+        return scatter(self.descriptors.raw(fd), buffers)
 
     def pread(self, fd: int, size: int, offset: int) -> Any:
         if self.descriptors.get(fd) is None:
@@ -323,7 +351,9 @@ class Calls:
         entries = []
         for name in node.names():
             below = os.path.join(above, name)
-            entries.append(_Entry(node.tree.locate(node.group.rstrip("/") + "/" + name, below), *_as(path, name, below)))
+            entries.append(
+                _Entry(node.tree.locate(node.group.rstrip("/") + "/" + name, below), *_as(path, name, below))
+            )
         return _Scan(entries)
 
     def mkdir(self, path: Any, mode: int = 0o777, *, dir_fd: int | None = None) -> Any:

@@ -11,7 +11,7 @@ from typing import Any, Callable
 from ._library import DONE, TIMED_OUT, waiting
 from ._words import _integer, _raise
 
-# The interpreter handles signals between two waits: Ctrl-C ends a wait after at most so many seconds.
+# The interpreter handles signals between two waits: Ctrl-C ends a wait after at most this number of seconds.
 _SLICE = 0.1
 
 

@@ -64,7 +64,9 @@ class Descriptors:
 
     def end(self, tree: Tree) -> None:
         """The tree is no longer mounted: its descriptors are only numbers until they are closed."""
-        for fd in [fd for fd, it in list(self._opened.items()) if (it if isinstance(it, Node) else it.node).tree is tree]:
+        for fd in [
+            fd for fd, it in list(self._opened.items()) if (it if isinstance(it, Node) else it.node).tree is tree
+        ]:
             self._opened.pop(fd, None)  # another thread may close it meanwhile
 
     def raw(self, fd: int) -> RawFile:

@@ -16,19 +16,24 @@ class Faults:
     _call: Callable[..., int]
 
     @overload
-    def fail(self, path: Path, *, error: int, nth: int = 1) -> None: ...
+    def fail(self, path: Path, *, error: int, nth: int = 1) -> None:
+        ...
 
     @overload
-    def fail(self, path: Path, error: int, /, nth: int = 1) -> None: ...
+    def fail(self, path: Path, error: int, /, nth: int = 1) -> None:
+        ...
 
     def fail(self, path: Path, *positional: int, error: int | None = None, nth: int = 1) -> None:
         """The `nth` call from now on that names the `path` fails with the errno `error`, as `fail("/a", error=errno.EIO)` lets the
         next `read("/a", ..)` raise an OSError; it changes nothing.
 
         `nth` is 1 for the next call. `error` and `nth` by position, in this order, are deprecated. Raises BadPath if the text is not a
-        path, and ValueError if `error` or `nth` is out of range. While there are faults, each call with a path takes time for each."""
+        path, and ValueError if `error` or `nth` is out of range. While there are faults, each call with a path takes time for each.
+        """
         if positional:
-            warnings.warn("fail: give error and nth by name: fail(path, error=.., nth=..)", DeprecationWarning, stacklevel=2)
+            warnings.warn(
+                "fail: give error and nth by name: fail(path, error=.., nth=..)", DeprecationWarning, stacklevel=2
+            )
             if error is not None or len(positional) > 2 or (len(positional) == 2 and nth != 1):
                 raise TypeError("fail: a path, one error and one nth")
             error, nth = (*positional, nth)[:2]

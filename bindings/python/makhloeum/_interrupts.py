@@ -1,11 +1,16 @@
-"""Ctrl-C in the commands of this package, which ends them without a traceback."""
+"""Ctrl-C in the commands of this package, which ends them without a traceback.
+
+The package loads this module before all others, so it loads few itself: until then Ctrl-C is a traceback."""
 
 from __future__ import annotations
 
 import os
 import signal
 import sys
-from typing import Callable
+
+TYPE_CHECKING = False  # that of typing would load typing
+if TYPE_CHECKING:
+    from typing import Callable
 
 
 def _is_started_by_name() -> bool:

@@ -260,7 +260,9 @@ class RawFile(io.RawIOBase):
         info, tree = Info(), self.node.tree
         group = self.node.group.encode("utf-8", "surrogateescape")
         is_long = self.node.name == "cgroup.kill"
-        status = tree.h._either(is_long, "mk_put", group, self.node.file.name, data, len(data), tree.pid, ctypes.byref(info))
+        status = tree.h._either(
+            is_long, "mk_put", group, self.node.file.name, data, len(data), tree.pid, ctypes.byref(info)
+        )
         if status not in (DONE, REFUSED, FAULT, FAILED):
             _raise(status, 0, "", None, f"write {self.name}")
         if info.code == NoGroup.code:

@@ -105,7 +105,9 @@ def _raise(
         raise asked_for(error, command, name)
     if status not in (REFUSED, FAULT):
         message = library.mk_status_message(status)
-        raise RuntimeError(f"{command}: unexpected status {status} of the library" + (f": {message.decode()}" if message else ""))
+        raise RuntimeError(
+            f"{command}: unexpected status {status} of the library" + (f": {message.decode()}" if message else "")
+        )
     kind = BY_CODE[code]
     if kind is BadPath and path is not None:
         raise _path_refusal(_bytes(path) if refused is None else refused, _text(path), command)

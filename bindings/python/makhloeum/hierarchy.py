@@ -10,16 +10,43 @@ from typing import Any, Callable, NoReturn
 
 from ._changes import Changes
 from ._faults import Faults
-from ._library import ANSWER_MAX, CLOSED, DONE, NO_LIMIT, REFUSED, SKIPPED, TOO_SMALL, WOULD_BLOCK, Handle, Info, library, patient
+from ._library import (
+    ANSWER_MAX,
+    CLOSED,
+    DONE,
+    NO_LIMIT,
+    REFUSED,
+    SKIPPED,
+    TOO_SMALL,
+    WOULD_BLOCK,
+    Handle,
+    Info,
+    library,
+    patient,
+)
 from ._many import Many
-from ._words import _FIRST_SIZE, Path, Value, _bytes, _c_text, _integer, _number, _path_word, _pid, _raise, _shown, _text, _value
+from ._words import (
+    _FIRST_SIZE,
+    Path,
+    Value,
+    _bytes,
+    _c_text,
+    _integer,
+    _number,
+    _path_word,
+    _pid,
+    _raise,
+    _shown,
+    _text,
+    _value,
+)
 from .errors import BY_CODE, BadSyntax, NoGroup, Refused
 
 # What a command names that may take long: a list of pids, a kill, and the undo of one.
 _LONG = (b"cgroup.procs", b"cgroup.kill")
 _long_line = re.compile(rb"cgroup\.(procs|kill)|undo").search
 
-# Packs the lengths of so many words as C has them.
+# Packs the lengths of words as C has them, by how many there are.
 _LENS = tuple(struct.Struct(f"{count}N").pack for count in range(5))
 
 
@@ -164,17 +191,18 @@ class Hierarchy(Changes, Faults, Many):
 
     def mkdir(self, path: Path) -> None:
         """Makes the group `path`. Raises Exists, NoGroup if there is no parent, Descendants or Depth if a limit is reached, and NoSlot
-        beyond 1,024 groups. Moves 40 bytes for each group with the same parent."""
+        beyond 1,024 groups. Moves 16 bytes for each group with the same parent."""
         self._asked((b"mkdir", _bytes(path)), f"mkdir {_text(path)}", path)
 
     def rmdir(self, path: Path) -> None:
         """Removes the group `path`, which has neither children nor processes. Raises RootFixed, NoGroup, HasChildren or HasProcesses;
-        all but NoGroup are Busy. Moves 40 bytes for each group with the same parent."""
+        all but NoGroup are Busy. Moves 16 bytes for each group with the same parent."""
         self._asked((b"rmdir", _bytes(path)), f"rmdir {_text(path)}", path)
 
     def fork(self, parent: int, child: int) -> None:
         """The process `parent` forks `child`, which starts in its group: pids. Raises NoProcess if there is no parent, PidInUse, PidsMax
-        if a limit is reached, and BadValue for a number that is not a pid. PidsMax is counted in pids.events, and recorded."""
+        if a limit is reached, and BadValue for a number that is not a pid. PidsMax is counted in pids.events, and recorded.
+        """
         self._asked((b"fork", _pid(parent), _pid(child)), f"fork {_number(parent)} {_number(child)}")
 
     def exit(self, pid: int) -> None:
@@ -183,7 +211,8 @@ class Hierarchy(Changes, Faults, Many):
 
     def read(self, path: Path, file: str | bytes) -> str:
         """The text of the `file` of the group at `path`, as '1\\n' of pids.current. Raises NoGroup, BadFile if no group has such a file,
-        NoFile if the root has none, and BadDirection for cgroup.kill. cgroup.procs takes time for each process of the group."""
+        NoFile if the root has none, and BadDirection for cgroup.kill. cgroup.procs takes time for each process of the group.
+        """
         return self._asked((b"cat", _bytes(path), _bytes(file)), f"read {_text(path)} {_text(file)}", path)
 
     def write(self, path: Path, file: str | bytes, value: Value) -> None:
@@ -288,7 +317,8 @@ class Hierarchy(Changes, Faults, Many):
     def undo_to(self, mark: int) -> int:
         """Undoes the commands that were recorded since the `mark`, and returns how many. No other thread's command comes in
         between. Raises NothingToUndo if fewer commands are left than at the mark, and ValueError if it is negative. With MemoryError
-        the commands that were undone so far stay undone, and `depth()` says how many are left. Takes time for each of them."""
+        the commands that were undone so far stay undone, and `depth()` says how many are left. Takes time for each of them.
+        """
         info = Info()
         mark = _integer(mark, "a mark")
         if mark < 0:

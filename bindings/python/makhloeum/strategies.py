@@ -42,7 +42,9 @@ def _is_name(name: str) -> bool:
 
 def paths(max_names: int = 4, name: st.SearchStrategy[str] | None = None) -> st.SearchStrategy[str]:
     """Paths of groups, including the root's, of at most `max_names` names, each drawn from `name` if it is given."""
-    return st.lists(names() if name is None else name, max_size=min(max_names, DEPTH_MAX)).map(lambda parts: "/" + "/".join(parts))
+    return st.lists(names() if name is None else name, max_size=min(max_names, DEPTH_MAX)).map(
+        lambda parts: "/" + "/".join(parts)
+    )
 
 
 def pids(most: int = PID_MAX) -> st.SearchStrategy[int]:
@@ -55,7 +57,9 @@ def limits(most: int = PIDS_LIMIT_MAX) -> st.SearchStrategy[str]:
     return st.one_of(st.just("max"), st.integers(0, most).map(str))
 
 
-def commands(path: st.SearchStrategy[str] | None = None, pid: st.SearchStrategy[int] | None = None) -> st.SearchStrategy[str]:
+def commands(
+    path: st.SearchStrategy[str] | None = None, pid: st.SearchStrategy[int] | None = None
+) -> st.SearchStrategy[str]:
     """Lines of the trace language that change a hierarchy, with paths drawn from `path` and pids from `pid`. Few of them make commands
     that meet each other: commands(paths(3, sampled_from("ab")), pids(8))."""
     path, pid = paths() if path is None else path, pids() if pid is None else pid

@@ -23,7 +23,14 @@ def above(path):
 
 
 def new_group():
-    return {"pids.max": None, "cgroup.max.depth": None, "cgroup.max.descendants": None, "peak": 0, "total": 0, "local": 0}
+    return {
+        "pids.max": None,
+        "cgroup.max.depth": None,
+        "cgroup.max.descendants": None,
+        "peak": 0,
+        "total": 0,
+        "local": 0,
+    }
 
 
 class Model:
@@ -150,5 +157,9 @@ class Model:
 
     def listed(self, path="/"):
         """All groups, each before those below it, child by child in the order of the names' bytes."""
-        names = sorted(group.rsplit("/", 1)[1] for group in self.groups if group != "/" and (group.rsplit("/", 1)[0] or "/") == path)
+        names = sorted(
+            group.rsplit("/", 1)[1]
+            for group in self.groups
+            if group != "/" and (group.rsplit("/", 1)[0] or "/") == path
+        )
         return [path] + [group for name in names for group in self.listed(path.rstrip("/") + "/" + name)]

@@ -25,8 +25,15 @@ def test_an_errno_out_of_range_is_a_value_error(h, number):
 @pytest.mark.parametrize("wrong", ["0", None, 1.0, True, b"1", [1]])
 def test_what_is_no_number_is_a_type_error(h, wrong):
     for call in (
-        lambda: h.fail("/a", error=wrong), lambda: h.fail("/a", error=errno.EIO, nth=wrong), lambda: h.vanish("/a", nth=wrong), lambda: h.wait(wrong, timeout=0),
-        lambda: h.undo_to(wrong), lambda: h.exit(wrong), lambda: h.where(wrong), lambda: h.fork(wrong, 5), lambda: h.fork(1, wrong),
+        lambda: h.fail("/a", error=wrong),
+        lambda: h.fail("/a", error=errno.EIO, nth=wrong),
+        lambda: h.vanish("/a", nth=wrong),
+        lambda: h.wait(wrong, timeout=0),
+        lambda: h.undo_to(wrong),
+        lambda: h.exit(wrong),
+        lambda: h.where(wrong),
+        lambda: h.fork(wrong, 5),
+        lambda: h.fork(1, wrong),
         lambda: mounted_at("/x", pid=wrong).__enter__(),
     ):
         with pytest.raises(TypeError):

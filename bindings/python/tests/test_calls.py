@@ -55,8 +55,17 @@ REFUSALS = [
 
 @pytest.mark.parametrize("line, reply, number, kind", REFUSALS)
 def test_a_refusal(h, line, reply, number, kind):
-    for before in ("mkdir /a", "mkdir /a/b", "mkdir /c", "mkdir /d", "fork 1 2", "write /a/b cgroup.procs 2", "write /a/b pids.max 1",
-                   "write /c cgroup.max.descendants 0", "write /d cgroup.max.depth 0"):
+    for before in (
+        "mkdir /a",
+        "mkdir /a/b",
+        "mkdir /c",
+        "mkdir /d",
+        "fork 1 2",
+        "write /a/b cgroup.procs 2",
+        "write /a/b pids.max 1",
+        "write /c cgroup.max.descendants 0",
+        "write /d cgroup.max.depth 0",
+    ):
         h.line(before)
     depth = h.depth()
     with pytest.raises(kind) as refused:
@@ -136,7 +145,14 @@ def test_a_closed_hierarchy():
     h = Hierarchy()
     h.close()
     h.close()
-    for call in (lambda: h.mkdir("/a"), lambda: h.undo(), lambda: h.depth(), lambda: h.children("/"), lambda: h.groups(), lambda: h.has_group("/")):
+    for call in (
+        lambda: h.mkdir("/a"),
+        lambda: h.undo(),
+        lambda: h.depth(),
+        lambda: h.children("/"),
+        lambda: h.groups(),
+        lambda: h.has_group("/"),
+    ):
         with pytest.raises(ValueError):
             call()
 
@@ -147,7 +163,7 @@ def test_the_header_has_these_codes():
     with open(os.path.join(here, "..", "..", "c", "makhloeum.h"), encoding="utf-8") as file:
         header = file.read()
     codes = {name: int(code) for name, code in re.findall(r"\b(MK_[A-Z_]+) = (\d+)(?! *[+*\d])", header)}
-    cases = re.search(r"switch \(code\) \{(.*?)\n    \}", header, re.S).group(1)
+    cases = re.search(r"switch \(code\) \{(.*?)\n\s*\}", header, re.S).group(1)
     numbers, names = {}, []
     for word in re.findall(r"case (\w+):|return (\w+);", cases):
         if word[0]:
@@ -158,8 +174,20 @@ def test_the_header_has_these_codes():
     kinds = makhloeum.errors.BY_CODE
     refusals = {name: code for name, code in codes.items() if name.startswith("MK_") and code in kinds}
     path_faults = re.findall(r"(MK_\w+) = \d+", re.search(r"MK_NOT_ROOTED = 1.*?\}", header, re.S).group(0))
-    statuses = ("MK_DONE", "MK_REFUSED", "MK_FAULT", "MK_TOO_SMALL", "MK_OUT_OF_MEMORY", "MK_SKIPPED", "MK_CLOSED", "MK_BUSY",
-                "MK_TIMED_OUT", "MK_FAILED", "MK_WOULD_BLOCK", *path_faults)
+    statuses = (
+        "MK_DONE",
+        "MK_REFUSED",
+        "MK_FAULT",
+        "MK_TOO_SMALL",
+        "MK_OUT_OF_MEMORY",
+        "MK_SKIPPED",
+        "MK_CLOSED",
+        "MK_BUSY",
+        "MK_TIMED_OUT",
+        "MK_FAILED",
+        "MK_WOULD_BLOCK",
+        *path_faults,
+    )
     refusals = {name: code for name, code in refusals.items() if name not in statuses}
     assert sorted(refusals.values()) == sorted(kinds)
     for name, code in refusals.items():

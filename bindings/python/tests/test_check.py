@@ -7,6 +7,7 @@ from makhloeum.check import known
 from makhloeum.check.differences import CONTRADICTION, difference
 from makhloeum.check.engine import Answer, Engine
 from makhloeum.check.playing import Difference
+from makhloeum.check.refusals import chosen
 from makhloeum.check.script import shell_script
 from makhloeum.check.sequences import Random, worked
 from makhloeum.check.shorten import shorten
@@ -46,7 +47,9 @@ def test_the_answers_are_compared():
         assert difference(cat, Answer("ok", "1\n"), Answer("ok", "0\n"), engine, FOUND) == CONTRADICTION
         refused = Answer("EAGAIN", "", "pidsmax /a")
         assert difference(["fork", "2", "3"], refused, Answer("ok"), engine, FOUND) == known.NOT_STOPPED
-        assert difference(["fork", "2", "3"], refused, Answer("ok"), engine, {**FOUND, "kind": "cgroup2"}) == CONTRADICTION
+        assert (
+            difference(["fork", "2", "3"], refused, Answer("ok"), engine, {**FOUND, "kind": "cgroup2"}) == CONTRADICTION
+        )
     finally:
         engine.close()
 
@@ -63,15 +66,24 @@ def test_known_differences_have_their_names():
         assert difference(peak, Answer("ok", "1\n"), Answer("ok", "2\n"), engine, FOUND) == known.MOVE_RAISES
         assert difference(peak, Answer("ok", "1\n"), Answer("ok", "3\n"), engine, FOUND) == CONTRADICTION
         stat, text = ["cat", "/a", "cgroup.stat"], "nr_descendants 1\nnr_dying_descendants 0\n"
-        assert difference(stat, Answer("ok", text), Answer("ok", text + "nr_subsys_pids 2\n"), engine, FOUND) == known.MORE_KEYS
-        assert difference(stat, Answer("ok", text), Answer("ok", text.replace(" 0", " 3")), engine, FOUND) == known.DYING
-        assert difference(stat, Answer("ok", text), Answer("ok", text.replace(" 1", " 2")), engine, FOUND) == CONTRADICTION
+        assert (
+            difference(stat, Answer("ok", text), Answer("ok", text + "nr_subsys_pids 2\n"), engine, FOUND)
+            == known.MORE_KEYS
+        )
+        assert (
+            difference(stat, Answer("ok", text), Answer("ok", text.replace(" 0", " 3")), engine, FOUND) == known.DYING
+        )
+        assert (
+            difference(stat, Answer("ok", text), Answer("ok", text.replace(" 1", " 2")), engine, FOUND) == CONTRADICTION
+        )
     finally:
         engine.close()
 
 
 def test_changes_of_populated_are_counted():
-    engine = played("mkdir /a\nmkdir /a/b\nwatch /a\nfork 1 2\nfork 1 3\nwrite /a/b cgroup.procs 2\nwrite /a cgroup.procs 3")
+    engine = played(
+        "mkdir /a\nmkdir /a/b\nwatch /a\nfork 1 2\nfork 1 3\nwrite /a/b cgroup.procs 2\nwrite /a cgroup.procs 3"
+    )
     try:
         assert engine.changes == {"/a": 1}
         assert engine.play(["told", "/a"]).text == "poll inotify"
@@ -81,12 +93,18 @@ def test_changes_of_populated_are_counted():
         engine.play(["write", "/a", "cgroup.procs", "4"])
         assert engine.changes == {"/a": 2}
         told, late = ["told", "/a"], Answer("ok", "inotify")
-        assert difference(told, engine.play(told), Answer("ok", "poll inotify"), engine, FOUND) is None
+        ours = engine.play(told)
+        for text in ("nothing", "poll", "inotify"):
+            assert difference(told, ours, Answer("ok", text), engine, FOUND) == CONTRADICTION
+        assert difference(told, ours, Answer("ok", "poll inotify"), engine, FOUND) is None
         # the notification of the second change may come later, but no third
         assert difference(told, engine.play(told), late, engine, FOUND) is None
         assert difference(told, engine.play(told), late, engine, FOUND) == CONTRADICTION
         engine.play(["exit", "4"])
-        assert difference(told, engine.play(told), Answer("ok", "poll inotify, again inotify"), engine, FOUND) == CONTRADICTION
+        assert (
+            difference(told, engine.play(told), Answer("ok", "poll inotify, again inotify"), engine, FOUND)
+            == CONTRADICTION
+        )
     finally:
         engine.close()
 
@@ -95,7 +113,9 @@ def test_a_leaf_alone_holds_processes_where_the_kernel_wants_it():
     engine = played("mkdir /a\nfork 1 2\nwrite /a cgroup.procs 2\nmkdir /b\nmkdir /b/c", way="D")
     try:
         assert not engine.can_do(["mkdir", "/a/x"]) and engine.can_do(["mkdir", "/b/x"])
-        assert not engine.can_do(["write", "/b", "cgroup.procs", "2"]) and engine.can_do(["write", "/b/c", "cgroup.procs", "2"])
+        assert not engine.can_do(["write", "/b", "cgroup.procs", "2"]) and engine.can_do(
+            ["write", "/b/c", "cgroup.procs", "2"]
+        )
         assert not engine.can_do(["write", "/a", "cgroup.procs", "0"]) and not engine.can_do(["rmdir", "/"])
     finally:
         engine.close()
@@ -114,7 +134,9 @@ def test_a_random_sequence_is_that_of_its_number():
             engine.close()
         return found
 
-    assert sequence(1) == sequence(1) != sequence(2)
+    # both aim at the same refusals
+    assert chosen(7, 1) == chosen(7, 11) != chosen(7, 2)
+    assert sequence(1) == sequence(1) != sequence(11)
     assert any(words[0] == "fork" for words in sequence(1))
 
 
@@ -128,7 +150,8 @@ def test_a_difference_is_made_short():
     """Halves and then single commands: what stays is what is needed."""
     text = "\n".join(f"mkdir /x{number}" for number in range(40))
     long = commands_of(
-        text + "\nmkdir /c\nfork 1 4\nfork 4 2\ncat /c cgroup.procs\nwrite /c cgroup.procs 2\ncat /c pids.peak\nrmdir /c"
+        text
+        + "\nmkdir /c\nfork 1 4\nfork 4 2\ncat /c cgroup.procs\nwrite /c cgroup.procs 2\ncat /c pids.peak\nrmdir /c"
     )
 
     def retry(commands):
@@ -143,7 +166,9 @@ def test_a_difference_is_made_short():
 
 
 def test_a_script_is_one_of_the_shell():
-    commands = commands_of("mkdir /a\nmkdir /a/b\nwrite /a pids.max 1\nfork 1 2\nwrite /a/b cgroup.procs 2\nfork 2 3\nrmdir /a/b")
+    commands = commands_of(
+        "mkdir /a\nmkdir /a/b\nwrite /a pids.max 1\nfork 1 2\nwrite /a/b cgroup.procs 2\nfork 2 3\nrmdir /a/b"
+    )
     for way in ("free", "D", "T"):
         script = shell_script(Difference(way, commands, BUSY, Answer("EINVAL")), "/tmp/it's here", way != "free")
         assert script[0] == "#!/bin/sh" and script[-1].endswith("rmdir a/b")

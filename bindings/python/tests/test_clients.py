@@ -19,11 +19,27 @@ def test_many_files_in_one_call(hierarchy):
         h.write("/b", "cgroup.procs", pid)
     h.write("/a", "cgroup.procs", 1)
     long = "".join(f"{pid}\n" for pid in range(2, 3000))
-    files = [("/a", "pids.current"), ("/b", "cgroup.procs"), ("/b", "pids.current"), ("/b", "cgroup.procs"), ("/", "cgroup.procs")]
+    files = [
+        ("/a", "pids.current"),
+        ("/b", "cgroup.procs"),
+        ("/b", "pids.current"),
+        ("/b", "cgroup.procs"),
+        ("/", "cgroup.procs"),
+    ]
     assert h.read_many(files) == ["1\n", long, "2998\n", long, ""]
     assert h.read_many((group, "cgroup.events") for group in h.groups()[1:]) == ["populated 1\nfrozen 0\n"] * 2
     assert h.read_many([]) == []
-    told = h.read_many([("/c", "pids.max"), ("/a", "pids.max"), ("a", "x"), ("/a", "none"), ("/a", "cgroup.kill"), ("/\0", "x"), ("/a", "x\0y")])
+    told = h.read_many(
+        [
+            ("/c", "pids.max"),
+            ("/a", "pids.max"),
+            ("a", "x"),
+            ("/a", "none"),
+            ("/a", "cgroup.kill"),
+            ("/\0", "x"),
+            ("/a", "x\0y"),
+        ]
+    )
     assert told[1] == "max\n"
     assert isinstance(told[0], NoGroup) and str(told[0]) == "read /c pids.max: No such file or directory (nogroup /c)"
     assert isinstance(told[2], BadPath) and isinstance(told[3], BadFile) and isinstance(told[4], BadDirection)
@@ -125,7 +141,7 @@ def test_the_nth_call_fails(hierarchy):
 
 
 def group_whose_second_call_fails(h, count):
-    """Makes /a with so many processes. The second call that names it from then on fails."""
+    """Makes /a with `count` processes. The second call that names it from then on fails."""
     h.mkdir("/a")
     for pid in range(2, 2 + count):
         h.fork(1, pid)
@@ -191,8 +207,14 @@ def test_faults_need_a_path(hierarchy, path):
 
 
 def test_faults_that_cannot_come(hierarchy):
-    for call in (lambda: hierarchy.fail("/a", error=0), lambda: hierarchy.fail("/a", error=-5), lambda: hierarchy.fail("/a", error=errno.EIO, nth=0),
-                 lambda: hierarchy.vanish("/a", nth=-1), lambda: hierarchy.vanish("/a", nth=1 << 64), lambda: hierarchy.vanish("/")):
+    for call in (
+        lambda: hierarchy.fail("/a", error=0),
+        lambda: hierarchy.fail("/a", error=-5),
+        lambda: hierarchy.fail("/a", error=errno.EIO, nth=0),
+        lambda: hierarchy.vanish("/a", nth=-1),
+        lambda: hierarchy.vanish("/a", nth=1 << 64),
+        lambda: hierarchy.vanish("/"),
+    ):
         with pytest.raises(ValueError):
             call()
     assert hierarchy.clear_faults() == 0

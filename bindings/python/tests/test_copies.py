@@ -8,16 +8,17 @@ import threading
 import pytest
 
 from makhloeum import Hierarchy, NothingToUndo, PidsMax
+from makhloeum._table import FILES
 
-FILES = ["cgroup.procs", "cgroup.events", "cgroup.stat", "cgroup.max.depth", "cgroup.max.descendants", "pids.max", "pids.current",
-         "pids.peak", "pids.events", "pids.events.local"]
 WAYS = [Hierarchy.copy, copy.copy, copy.deepcopy]
 
 
 def story(h):
     """All that a hierarchy tells."""
     groups = h.groups()
-    files = [(group, file) for group in groups for file in FILES if group != "/" or file in ("cgroup.procs", "cgroup.stat")]
+    files = [
+        (group, file.name) for group in groups for file in FILES if file.readable and (group != "/" or file.on_root)
+    ]
     places = [h.where(pid) for group in groups for pid in h.processes(group)]
     return groups, [h.read(*it) for it in files], places, h.depth()
 

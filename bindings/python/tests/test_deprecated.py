@@ -8,7 +8,9 @@ import pytest
 @pytest.mark.parametrize("words, more", [((errno.EIO,), {}), ((errno.EIO, 1), {}), ((errno.EIO,), {"nth": 1})])
 def test_fail_with_an_errno_by_position(hierarchy, words, more):
     hierarchy.mkdir("/a")
-    with pytest.warns(DeprecationWarning, match=r"^fail: give error and nth by name: fail\(path, error=.., nth=..\)$") as told:
+    with pytest.warns(
+        DeprecationWarning, match=r"^fail: give error and nth by name: fail\(path, error=.., nth=..\)$"
+    ) as told:
         hierarchy.fail("/a", *words, **more)
     assert [it.filename for it in told] == [__file__]
     with pytest.raises(OSError) as failed:

@@ -21,7 +21,21 @@ except ImportError:
 
 # the methods that take time for more than the names of a path
 GROWING = {
-    *("children", "close", "copy", "fail", "forget", "groups", "line", "mkdir", "processes", "read", "read_many", "reset", "rmdir"),
+    *(
+        "children",
+        "close",
+        "copy",
+        "fail",
+        "forget",
+        "groups",
+        "line",
+        "mkdir",
+        "processes",
+        "read",
+        "read_many",
+        "reset",
+        "rmdir",
+    ),
     *("undo", "undo_to", "write"),
 }
 
@@ -30,7 +44,11 @@ RAISED = {
     "children": [(("/c",), "NoGroup"), (("c",), "BadPath")],
     "current": [(("/c",), "NoGroup"), (("/",), "NoFile")],
     "exit": [((7,), "NoProcess"), ((0,), "BadValue")],
-    "fail": [(("c",), "BadPath", {"error": errno.EIO}), (("/a",), "ValueError", {"error": 0}), (("/a",), "ValueError", {"error": 1, "nth": 0})],
+    "fail": [
+        (("c",), "BadPath", {"error": errno.EIO}),
+        (("/a",), "ValueError", {"error": 0}),
+        (("/a",), "ValueError", {"error": 1, "nth": 0}),
+    ],
     "fork": [((7, 8), "NoProcess"), ((1, 1), "PidInUse"), ((1, 2), "PidsMax"), ((1, 0), "BadValue")],
     "groups": [(("/c",), "NoGroup")],
     "has_group": [(("c",), "BadPath")],
@@ -40,7 +58,12 @@ RAISED = {
     "peak": [(("/c",), "NoGroup"), (("/",), "NoFile")],
     "populated": [(("/c",), "NoGroup"), (("/",), "NoFile")],
     "processes": [(("/c",), "NoGroup")],
-    "read": [(("/c", "pids.max"), "NoGroup"), (("/a", "x"), "BadFile"), (("/", "pids.max"), "NoFile"), (("/a", "cgroup.kill"), "BadDirection")],
+    "read": [
+        (("/c", "pids.max"), "NoGroup"),
+        (("/a", "x"), "BadFile"),
+        (("/", "pids.max"), "NoFile"),
+        (("/a", "cgroup.kill"), "BadDirection"),
+    ],
     "read_many": [((["/a"],), "TypeError")],
     "rmdir": [(("/",), "RootFixed"), (("/c",), "NoGroup"), (("/a",), "HasChildren"), (("/a/b",), "HasProcesses")],
     "undo": [((), "NothingToUndo")],
@@ -50,7 +73,11 @@ RAISED = {
     "where": [((7,), "NoProcess"), ((0,), "BadValue")],
     "write": [
         *((("/c", "pids.max", 1), "NoGroup"), (("/a", "x", 1), "BadFile"), (("/", "pids.max", 1), "NoFile")),
-        *((("/a", "pids.current", 1), "BadDirection"), (("/a", "pids.max", -1), "BadValue"), (("/a", "cgroup.procs", 7), "NoProcess")),
+        *(
+            (("/a", "pids.current", 1), "BadDirection"),
+            (("/a", "pids.max", -1), "BadValue"),
+            (("/a", "cgroup.procs", 7), "NoProcess"),
+        ),
     ],
 }
 
@@ -89,20 +116,37 @@ def test_each_public_name_is_described(name, value):
     assert len(text.split()) > 1, f"{name} isn't described"
     if isinstance(value, types.FunctionType):
         parameters = [it for it in inspect.signature(value).parameters.values() if it.name not in ("self", "data")]
-        missing = [it.name for it in parameters if it.kind is not it.VAR_POSITIONAL and not re.search(rf"\b{it.name}\b", text)]
+        missing = [
+            it.name for it in parameters if it.kind is not it.VAR_POSITIONAL and not re.search(rf"\b{it.name}\b", text)
+        ]
         assert not missing, f"{name} doesn't say what {', '.join(missing)} is"
 
 
 def test_all_methods_are_looked_at():
     assert set(RAISED) <= set(METHODS) and GROWING <= set(METHODS) and len(METHODS) > 28
     # these have no argument that can be wrong, and nothing that refuses them
-    assert set(METHODS) - set(RAISED) == {"changes", "clear_faults", "close", "copy", "depth", "forget", "mark", "reset"}
+    assert set(METHODS) - set(RAISED) == {
+        "changes",
+        "clear_faults",
+        "close",
+        "copy",
+        "depth",
+        "forget",
+        "mark",
+        "reset",
+    }
 
 
 @pytest.mark.parametrize("name", sorted(RAISED))
 def test_what_a_method_raises_is_named(hierarchy, name):
     h = hierarchy
-    for line in ("mkdir /a", "mkdir /a/b", "write /a/b cgroup.max.depth 0", "write /a cgroup.max.descendants 1", "write /a/b cgroup.procs 1"):
+    for line in (
+        "mkdir /a",
+        "mkdir /a/b",
+        "write /a/b cgroup.max.depth 0",
+        "write /a cgroup.max.descendants 1",
+        "write /a/b cgroup.procs 1",
+    ):
         h.line(line)
     h.write("/a", "pids.max", 1)
     if name == "undo":

@@ -18,8 +18,14 @@ from makhloeum._library import BUSY, CLOSED, OUT_OF_MEMORY, TIMED_OUT, library
 def test_type_checkers_find_every_error():
     # they don't run the module: the list of its names has to be written out
     path = pathlib.Path(makhloeum.errors.__file__)
-    lists = [node.value for node in ast.parse(path.read_text()).body if isinstance(node, ast.Assign) and node.targets[0].id == "__all__"]
-    classes = {name for name, kind in vars(makhloeum.errors).items() if isinstance(kind, type) and issubclass(kind, Refused)}
+    lists = [
+        node.value
+        for node in ast.parse(path.read_text()).body
+        if isinstance(node, ast.Assign) and node.targets[0].id == "__all__"
+    ]
+    classes = {
+        name for name, kind in vars(makhloeum.errors).items() if isinstance(kind, type) and issubclass(kind, Refused)
+    }
     assert [set(ast.literal_eval(names)) for names in lists] == [classes]
     assert classes < set(makhloeum.__all__)
 
@@ -45,8 +51,14 @@ TEXTS = [
     (lambda h: h.fork(1, 1), "fork 1 1: File exists (pidinuse 1)"),
     (lambda h: h.exit(9), "exit 9: No such process (noprocess 9)"),
     (lambda h: h.read("/a", "x"), "read /a x: No such file or directory (file: there is no file of that name)"),
-    (lambda h: h.write("/a", "pids.max", -1), "write /a pids.max -1: Invalid argument (value: the value is not a number, or out of range)"),
-    (lambda h: h.mkdir("/my service"), "mkdir /my service: Invalid argument (path: a name cannot have this byte, at 3)"),
+    (
+        lambda h: h.write("/a", "pids.max", -1),
+        "write /a pids.max -1: Invalid argument (value: the value is not a number, or out of range)",
+    ),
+    (
+        lambda h: h.mkdir("/my service"),
+        "mkdir /my service: Invalid argument (path: a name cannot have this byte, at 3)",
+    ),
     (lambda h: h.children("/x"), "children /x: No such file or directory (nogroup /x)"),
     (lambda h: h.groups("/x"), "groups /x: No such file or directory (nogroup /x)"),
     (lambda h: h.undo() and h.undo() and h.undo(), "undo: No data available (nothing)"),
@@ -107,7 +119,15 @@ def test_limits_of_the_hierarchy_block_as_a_real_mkdir_does(h):
     ],
 )
 def test_the_fault_of_a_path_and_its_place(h, path, kind, position):
-    calls = (h.mkdir, h.rmdir, h.children, h.groups, h.has_group, lambda it: h.read(it, "x y"), lambda it: h.write(it, "x", "y"))
+    calls = (
+        h.mkdir,
+        h.rmdir,
+        h.children,
+        h.groups,
+        h.has_group,
+        lambda it: h.read(it, "x y"),
+        lambda it: h.write(it, "x", "y"),
+    )
     for call in calls:
         refused = refusal(lambda: call(path))
         assert type(refused) is kind and isinstance(refused, BadPath) and refused.position == position
@@ -122,8 +142,28 @@ def test_faults_are_explained_as_by_the_library(h):
     )
 
 
-WORDS = ["", " ", "/b ", " /b", "/b\t", "/b\n", "/b\r", "/b pids.max", "/b pids.max 5", "#", "x y", "pids.max ", "pids.max 5",
-         "\n", "/c\nmkdir /d", "1 2", "cgroup.procs 1", "max\x0b", "5 #", "\x0b5"]
+WORDS = [
+    "",
+    " ",
+    "/b ",
+    " /b",
+    "/b\t",
+    "/b\n",
+    "/b\r",
+    "/b pids.max",
+    "/b pids.max 5",
+    "#",
+    "x y",
+    "pids.max ",
+    "pids.max 5",
+    "\n",
+    "/c\nmkdir /d",
+    "1 2",
+    "cgroup.procs 1",
+    "max\x0b",
+    "5 #",
+    "\x0b5",
+]
 
 
 def test_no_word_leaks_into_another(h):
@@ -149,7 +189,13 @@ def test_no_word_leaks_into_another(h):
 
 @pytest.mark.parametrize("pid", [0, -1, 4194304, 2**31, 2**64, 2**64 + 1, -(2**64)])
 def test_numbers_that_are_no_pid(h, pid):
-    for call in (h.exit, h.where, lambda it: h.fork(it, 5), lambda it: h.fork(1, it), lambda it: h.write("/a", "cgroup.procs", it)):
+    for call in (
+        h.exit,
+        h.where,
+        lambda it: h.fork(it, 5),
+        lambda it: h.fork(1, it),
+        lambda it: h.write("/a", "cgroup.procs", it),
+    ):
         assert isinstance(refusal(lambda: call(pid)), BadValue)
 
 
@@ -162,9 +208,23 @@ def test_blanks_around_a_value_are_dropped_as_in_a_file(h):
 def test_what_is_no_text_is_a_type_error_as_for_os(h):
     """None, numbers and other objects are no paths: they don't become texts like 'None'."""
     for wrong in (None, 5, 5.0, ["/a"], object()):
-        for call in (h.mkdir, h.rmdir, h.children, h.groups, h.has_group, h.current, h.processes, lambda it: h.read(it, "pids.max"),
-                     lambda it: h.read("/a", it), lambda it: h.write(it, "pids.max", 5), lambda it: h.write("/a", it, 5), h.line, h.vanish,
-                     lambda it: h.fail(it, error=errno.EIO), lambda it: h.read_many([(it, "pids.max")])):
+        for call in (
+            h.mkdir,
+            h.rmdir,
+            h.children,
+            h.groups,
+            h.has_group,
+            h.current,
+            h.processes,
+            lambda it: h.read(it, "pids.max"),
+            lambda it: h.read("/a", it),
+            lambda it: h.write(it, "pids.max", 5),
+            lambda it: h.write("/a", it, 5),
+            h.line,
+            h.vanish,
+            lambda it: h.fail(it, error=errno.EIO),
+            lambda it: h.read_many([(it, "pids.max")]),
+        ):
             with pytest.raises(TypeError):
                 call(wrong)
     for wrong in (None, 5.0, ["5"], object()):
@@ -184,29 +244,52 @@ def test_paths_may_be_of_pathlib_and_bytes(h):
 def test_a_closed_hierarchy_names_the_call():
     h = Hierarchy()
     h.close()
-    for call, text in ((lambda: h.mkdir("/a"), "mkdir /a"), (lambda: h.current("/a"), "current /a"), (h.undo, "undo"), (h.groups, "groups /"),
-                       (lambda: h.read_many([("/a", "pids.max")]), "read_many"), (h.changes, "changes"), (lambda: h.wait(0), "wait")):
+    for call, text in (
+        (lambda: h.mkdir("/a"), "mkdir /a"),
+        (lambda: h.current("/a"), "current /a"),
+        (h.undo, "undo"),
+        (h.groups, "groups /"),
+        (lambda: h.read_many([("/a", "pids.max")]), "read_many"),
+        (h.changes, "changes"),
+        (lambda: h.wait(0), "wait"),
+    ):
         with pytest.raises(ValueError, match=f"^{text}: the hierarchy is closed$"):
             call()
 
 
 @pytest.mark.parametrize("given", ["/elsewhere", "else where", "/a/", b"/x\xff", pathlib.PurePosixPath("/a")])
-@pytest.mark.parametrize("line, kind, position", [
-    ("mkdir a", makhloeum.NotRooted, 0), ("write /a/. x y", makhloeum.DotName, 3), (b" cat\t/a\xff  pids.max\r", BadByte, 2),
-    ("rmdir /pids.x", makhloeum.ReservedName, 1),
-])
+@pytest.mark.parametrize(
+    "line, kind, position",
+    [
+        ("mkdir a", makhloeum.NotRooted, 0),
+        ("write /a/. x y", makhloeum.DotName, 3),
+        (b" cat\t/a\xff  pids.max\r", BadByte, 2),
+        ("rmdir /pids.x", makhloeum.ReservedName, 1),
+    ],
+)
 def test_the_path_of_a_line_is_at_fault_and_the_given_one_is_named(h, line, kind, position, given):
     refused = refusal(lambda: h.line(line, path=given))
     assert type(refused) is kind and refused.fault == kind.fault and refused.position == position
     assert refused.filename == makhloeum._words._text(given) and f"at {position}" in refused.reply
-    for line, kind in (("mkdir /a", makhloeum.Exists), ("mkdir", makhloeum.BadSyntax), ("mkdir /a\n", makhloeum.BadSyntax), ("exit 9", makhloeum.NoProcess)):
+    for line, kind in (
+        ("mkdir /a", makhloeum.Exists),
+        ("mkdir", makhloeum.BadSyntax),
+        ("mkdir /a\n", makhloeum.BadSyntax),
+        ("exit 9", makhloeum.NoProcess),
+    ):
         refused = refusal(lambda: h.line(line, path=given))
         assert type(refused) is kind and refused.filename == makhloeum._words._text(given)
 
 
 def test_without_a_path_a_line_has_the_words_of_the_answer(h):
     refused = refusal(lambda: h.line("mkdir a"))
-    assert (type(refused), refused.reply, refused.fault, refused.position, refused.filename) == (BadPath, "path", 0, None, None)
+    assert (type(refused), refused.reply, refused.fault, refused.position, refused.filename) == (
+        BadPath,
+        "path",
+        0,
+        None,
+        None,
+    )
 
 
 CALLS = {
@@ -242,7 +325,9 @@ STATUSES = {
 }
 
 
-@pytest.mark.parametrize("name, status", [it for it in itertools.product(CALLS, STATUSES) if it != ("waiting", TIMED_OUT)])
+@pytest.mark.parametrize(
+    "name, status", [it for it in itertools.product(CALLS, STATUSES) if it != ("waiting", TIMED_OUT)]
+)
 def test_each_status_has_its_own_error(h, monkeypatch, name, status):
     """Python can't interrupt a call by a handler of C, and most statuses can't come: so they are given."""
     call, command = CALLS[name]

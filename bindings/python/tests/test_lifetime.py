@@ -88,7 +88,14 @@ def test_an_unclosed_hierarchy_gives_a_warning():
         gc.collect()
 
 
-@pytest.mark.parametrize("keep", ["h = Hierarchy()", "class A: pass\na = A(); a.a = a; a.h = Hierarchy()", "import builtins; builtins.h = Hierarchy()"])
+@pytest.mark.parametrize(
+    "keep",
+    [
+        "h = Hierarchy()",
+        "class A: pass\na = A(); a.a = a; a.h = Hierarchy()",
+        "import builtins; builtins.h = Hierarchy()",
+    ],
+)
 def test_no_error_is_printed_when_the_interpreter_ends(keep):
     words = [sys.executable, "-W", "ignore", "-c", f"from makhloeum import Hierarchy\n{keep}"]
     folder = os.path.dirname(os.path.dirname(makhloeum.__file__))
@@ -128,10 +135,19 @@ def test_a_hierarchy_for_which_there_is_no_memory(call, command):
 def test_a_missing_library_is_said_in_one_sentence():
     folder = os.path.dirname(os.path.dirname(makhloeum.__file__))
     words = [sys.executable, "-c", "import makhloeum"]
-    ran = subprocess.run(words, capture_output=True, text=True, timeout=60,
-                         env=dict(os.environ, PYTHONPATH=folder, MAKHLOEUM_LIBRARY="/nowhere/libmakhloeum.so"))
+    ran = subprocess.run(
+        words,
+        capture_output=True,
+        text=True,
+        timeout=60,
+        env=dict(os.environ, PYTHONPATH=folder, MAKHLOEUM_LIBRARY="/nowhere/libmakhloeum.so"),
+    )
     assert ran.returncode == 1
-    assert ran.stderr.strip().split("\n")[-1].startswith("ImportError: makhloeum needs libmakhloeum.so.1: run bindings/build,")
+    assert (
+        ran.stderr.strip()
+        .split("\n")[-1]
+        .startswith("ImportError: makhloeum needs libmakhloeum.so.1: run bindings/build,")
+    )
 
 
 def test_the_version_is_that_of_the_library_and_the_header():

@@ -7,16 +7,29 @@ import time
 from flat_model import LIMITS, ON_ROOT, Model, No
 
 from makhloeum import Hierarchy, Refused
+from makhloeum._table import FILES
 
 SECONDS = float(os.environ.get("MAKHLOEUM_MODEL_SECONDS", "30"))
-PATHS = ["/", "/a", "/b", "/a/x", "/a/y", "/a/x-z", "/a/x/deep", "/a/x/deep/deeper", "/b/x", "/b/long-name-of-a-group-that-needs-memory"]
-READ = [*LIMITS, "cgroup.procs", "cgroup.events", "cgroup.stat", "pids.current", "pids.peak", "pids.events", "pids.events.local"]
+PATHS = [
+    "/",
+    "/a",
+    "/b",
+    "/a/x",
+    "/a/y",
+    "/a/x-z",
+    "/a/x/deep",
+    "/a/x/deep/deeper",
+    "/b/x",
+    "/b/long-name-of-a-group-that-needs-memory",
+]
+READ = [file.name for file in FILES if file.readable]
 
 
 def command(choice):
     path, pid = choice.choice(PATHS), choice.randint(1, 12)
     kind = choice.choices(
-        ["mkdir", "rmdir", "fork", "exit", "move", "limit", "kill", "cat", "where", "undo"], [8, 3, 12, 3, 8, 4, 1, 8, 2, 5]
+        ["mkdir", "rmdir", "fork", "exit", "move", "limit", "kill", "cat", "where", "undo"],
+        [8, 3, 12, 3, 8, 4, 1, 8, 2, 5],
     )[0]
     if kind == "fork":
         return f"fork {pid} {choice.randint(1, 12)}"
@@ -48,7 +61,11 @@ def compare_all(h, model):
                 assert h.read(group, file) == model.cat(group, file), (group, file)
         if group != "/":
             limit = model.groups[group]["pids.max"]
-            assert (h.current(group), h.peak(group), h.limit(group)) == (model.current(group), model.groups[group]["peak"], limit)
+            assert (h.current(group), h.peak(group), h.limit(group)) == (
+                model.current(group),
+                model.groups[group]["peak"],
+                limit,
+            )
             assert h.populated(group) == (model.current(group) > 0)
         assert h.processes(group) == sorted(pid for pid, home in model.home.items() if home == group)
 

@@ -18,7 +18,26 @@ from makhloeum import Hierarchy, mounted_at
 
 AT = "/sys/fs/cgroup"
 THE_MOUNT = pathlib.Path(__file__).parents[3] / "mount" / "tests" / "files.py"
-REPLACED = [(io, "open"), *((os, name) for name in ("open", "read", "write", "close", "stat", "lstat", "listdir", "scandir", "mkdir", "rmdir", "rename", "chmod"))]
+REPLACED = [
+    (io, "open"),
+    *(
+        (os, name)
+        for name in (
+            "open",
+            "read",
+            "write",
+            "close",
+            "stat",
+            "lstat",
+            "listdir",
+            "scandir",
+            "mkdir",
+            "rmdir",
+            "rename",
+            "chmod",
+        )
+    ),
+]
 
 
 def expectations():
@@ -26,7 +45,9 @@ def expectations():
     tables = {}
     for node in ast.parse(THE_MOUNT.read_text(encoding="utf-8")).body:
         if isinstance(node, ast.Assign) and node.targets[0].id in ("ROOT", "GROUP", "CONSTANTS", "FRESH", "VALUES"):
-            tables[node.targets[0].id] = eval(compile(ast.Expression(node.value), "files.py", "eval"), {"sorted": sorted}, tables)  # noqa: S307
+            tables[node.targets[0].id] = eval(
+                compile(ast.Expression(node.value), "files.py", "eval"), {"sorted": sorted}, tables
+            )  # noqa: S307
     return tables
 
 
@@ -81,7 +102,11 @@ def test_the_files_are_those_of_the_mount(h):
         assert os.stat(at("a", name)).st_size == len(text)
     modes = {name: stat.S_IMODE(os.stat(at("a", name)).st_mode) for name in ("pids.max", "pids.current", "cgroup.kill")}
     assert modes == {"pids.max": 0o644, "pids.current": 0o444, "cgroup.kill": 0o200}
-    assert read(at("cgroup.procs")) == b"1\n" and code(read, at("pids.max")) == "ENOENT" and code(read, at("cgroup.type")) == "ENOENT"
+    assert (
+        read(at("cgroup.procs")) == b"1\n"
+        and code(read, at("pids.max")) == "ENOENT"
+        and code(read, at("cgroup.type")) == "ENOENT"
+    )
     assert os.stat(AT).st_nlink == 3 and stat.S_ISDIR(os.stat(AT).st_mode)
 
 
@@ -97,19 +122,48 @@ def test_a_value_is_read_as_by_the_mount(h, number, row):
 
 def test_the_errno_of_groups_are_those_of_the_mount(h, as_user):
     steps = [
-        ("ok", os.mkdir, at("a")), ("EEXIST", os.mkdir, at("a")), ("ENOENT", os.mkdir, at("n", "b")), ("EEXIST", os.mkdir, at("a", "pids.max")),
-        ("EINVAL", os.mkdir, at("pids.x")), ("EINVAL", os.mkdir, at("a b")), ("EINVAL", os.mkdir, at("a\nb")), ("ENAMETOOLONG", os.mkdir, at("x" * 256)),
-        ("ok", os.mkdir, at("x" * 255)), ("ok", os.makedirs, at(*["d"] * 32)), ("EAGAIN", os.mkdir, at(*["d"] * 33)),
-        ("ok", write, at("a", "cgroup.max.depth"), b"1\n"), ("ok", os.mkdir, at("a", "b")), ("EAGAIN", os.mkdir, at("a", "b", "c")),
-        ("ok", write, at("a", "cgroup.max.descendants"), b"1\n"), ("EAGAIN", os.mkdir, at("a", "c")), ("EBUSY", os.rmdir, at("a")),
-        ("ENOTDIR", os.rmdir, at("a", "pids.max")), ("ok", os.rmdir, at("a", "b")), ("ENOENT", os.rmdir, at("a", "b")),
-        ("ok", write, at("a", "cgroup.procs"), b"1\n"), ("EBUSY", os.rmdir, at("a")), ("EPERM", os.unlink, at("a", "pids.max")),
-        ("EACCES", lambda: open(at("a", "new"), "w")), ("EPERM", os.rename, at("a"), at("z")), ("EACCES", open, at("a", "pids.current"), "w"),
-        ("EACCES", open, at("a", "cgroup.kill")), ("EINVAL", write, at("a", "cgroup.kill"), b"x"), ("EBUSY", os.rmdir, AT),
-        ("EOPNOTSUPP", write, at("a", "cgroup.freeze"), b"1"), ("ok", write, at("a", "cgroup.freeze"), b"0\n"),
-        ("ok", write, at("cgroup.subtree_control"), b"+pids"), ("EOPNOTSUPP", write, at("cgroup.subtree_control"), b"+memory"),
-        ("ENOTDIR", read, at("a", "pids.max", "x")), ("ENOTDIR", os.mkdir, at("a", "pids.max", "x")), ("ENOENT", os.mkdir, at(*["e"] * 33)), ("EISDIR", read, at("a")), ("ENOTDIR", os.listdir, at("a", "pids.max")),
-        ("ENOENT", os.listdir, at("n")), ("ENOENT", os.stat, at("a b")), ("ENAMETOOLONG", os.stat, at("x" * 256)), ("EEXIST", open, at("a", "pids.max"), "x"),
+        ("ok", os.mkdir, at("a")),
+        ("EEXIST", os.mkdir, at("a")),
+        ("ENOENT", os.mkdir, at("n", "b")),
+        ("EEXIST", os.mkdir, at("a", "pids.max")),
+        ("EINVAL", os.mkdir, at("pids.x")),
+        ("EINVAL", os.mkdir, at("a b")),
+        ("EINVAL", os.mkdir, at("a\nb")),
+        ("ENAMETOOLONG", os.mkdir, at("x" * 256)),
+        ("ok", os.mkdir, at("x" * 255)),
+        ("ok", os.makedirs, at(*["d"] * 32)),
+        ("EAGAIN", os.mkdir, at(*["d"] * 33)),
+        ("ok", write, at("a", "cgroup.max.depth"), b"1\n"),
+        ("ok", os.mkdir, at("a", "b")),
+        ("EAGAIN", os.mkdir, at("a", "b", "c")),
+        ("ok", write, at("a", "cgroup.max.descendants"), b"1\n"),
+        ("EAGAIN", os.mkdir, at("a", "c")),
+        ("EBUSY", os.rmdir, at("a")),
+        ("ENOTDIR", os.rmdir, at("a", "pids.max")),
+        ("ok", os.rmdir, at("a", "b")),
+        ("ENOENT", os.rmdir, at("a", "b")),
+        ("ok", write, at("a", "cgroup.procs"), b"1\n"),
+        ("EBUSY", os.rmdir, at("a")),
+        ("EPERM", os.unlink, at("a", "pids.max")),
+        ("EACCES", lambda: open(at("a", "new"), "w")),
+        ("EPERM", os.rename, at("a"), at("z")),
+        ("EACCES", open, at("a", "pids.current"), "w"),
+        ("EACCES", open, at("a", "cgroup.kill")),
+        ("EINVAL", write, at("a", "cgroup.kill"), b"x"),
+        ("EBUSY", os.rmdir, AT),
+        ("EOPNOTSUPP", write, at("a", "cgroup.freeze"), b"1"),
+        ("ok", write, at("a", "cgroup.freeze"), b"0\n"),
+        ("ok", write, at("cgroup.subtree_control"), b"+pids"),
+        ("EOPNOTSUPP", write, at("cgroup.subtree_control"), b"+memory"),
+        ("ENOTDIR", read, at("a", "pids.max", "x")),
+        ("ENOTDIR", os.mkdir, at("a", "pids.max", "x")),
+        ("ENOENT", os.mkdir, at(*["e"] * 33)),
+        ("EISDIR", read, at("a")),
+        ("ENOTDIR", os.listdir, at("a", "pids.max")),
+        ("ENOENT", os.listdir, at("n")),
+        ("ENOENT", os.stat, at("a b")),
+        ("ENAMETOOLONG", os.stat, at("x" * 256)),
+        ("EEXIST", open, at("a", "pids.max"), "x"),
     ]
     assert [code(*step[1:]) for step in steps] == [step[0] for step in steps]
 
@@ -172,7 +226,11 @@ def test_descriptors(h):
     os.mkdir(at("a"))
     fd = os.open(at("a", "pids.max"), os.O_RDWR | os.O_CLOEXEC)
     assert os.read(fd, 100) == b"max\n" and os.read(fd, 100) == b"" and os.write(fd, b"5\n") == 2
-    assert os.pread(fd, 100, 0) == b"5\n" and os.pread(fd, 1, 0) + os.pread(fd, 9, 1) == b"5\n" and os.lseek(fd, 0, os.SEEK_SET) == 0
+    assert (
+        os.pread(fd, 100, 0) == b"5\n"
+        and os.pread(fd, 1, 0) + os.pread(fd, 9, 1) == b"5\n"
+        and os.lseek(fd, 0, os.SEEK_SET) == 0
+    )
     assert os.read(fd, 100) == b"5\n" and os.fstat(fd).st_size == 2 and stat.S_ISREG(os.stat(fd).st_mode)
     os.close(fd)
     assert code(os.read, fd, 1) == "EBADF" and code(os.close, fd) == "EBADF"
@@ -187,8 +245,14 @@ def test_descriptors(h):
     os.rmdir("b", dir_fd=top)
     os.close(inner)
     os.close(top)
-    assert code(os.open, at("a", "pids.max"), os.O_RDONLY | os.O_DIRECTORY) == "ENOTDIR" and code(os.open, at("x"), os.O_RDONLY) == "ENOENT"
-    assert code(os.open, at("a"), os.O_WRONLY) == "EISDIR" and code(os.open, at("a", "x"), os.O_WRONLY | os.O_CREAT) == "EACCES"
+    assert (
+        code(os.open, at("a", "pids.max"), os.O_RDONLY | os.O_DIRECTORY) == "ENOTDIR"
+        and code(os.open, at("x"), os.O_RDONLY) == "ENOENT"
+    )
+    assert (
+        code(os.open, at("a"), os.O_WRONLY) == "EISDIR"
+        and code(os.open, at("a", "x"), os.O_WRONLY | os.O_CREAT) == "EACCES"
+    )
 
 
 def test_pathlib(h):
@@ -197,7 +261,12 @@ def test_pathlib(h):
     (top / "a").mkdir(exist_ok=True)
     (top / "a" / "pids.max").write_text("5\n")
     assert (top / "a" / "pids.max").read_text() == "5\n" and (top / "a" / "pids.max").read_bytes() == b"5\n"
-    assert (top / "a").is_dir() and (top / "a" / "pids.max").is_file() and not (top / "x").exists() and not (top / "a").is_symlink()
+    assert (
+        (top / "a").is_dir()
+        and (top / "a" / "pids.max").is_file()
+        and not (top / "x").exists()
+        and not (top / "a").is_symlink()
+    )
     assert "b" in [path.name for path in (top / "a").iterdir()]
     assert sorted(str(path) for path in top.rglob("pids.max")) == [at("a", "b", "pids.max"), at("a", "pids.max")]
     assert (top / "a").resolve() == top / "a" and (top / "a" / ".." / "a").samefile(top / "a")
@@ -207,14 +276,30 @@ def test_pathlib(h):
 
 def test_os_path_glob_walk_and_scandir(h):
     os.makedirs(at("a", "b"))
-    assert os.path.exists(at("a")) and os.path.isdir(at("a")) and os.path.isfile(at("a", "pids.max")) and not os.path.exists(at("x"))
-    assert os.path.ismount(AT) and os.path.realpath(at("a", "..", "a")) == at("a") and os.path.getsize(at("a", "pids.max")) == 4
-    assert sorted(glob.glob(at("**", "pids.current"), recursive=True)) == [at("a", "b", "pids.current"), at("a", "pids.current")]
+    assert (
+        os.path.exists(at("a"))
+        and os.path.isdir(at("a"))
+        and os.path.isfile(at("a", "pids.max"))
+        and not os.path.exists(at("x"))
+    )
+    assert (
+        os.path.ismount(AT)
+        and os.path.realpath(at("a", "..", "a")) == at("a")
+        and os.path.getsize(at("a", "pids.max")) == 4
+    )
+    assert sorted(glob.glob(at("**", "pids.current"), recursive=True)) == [
+        at("a", "b", "pids.current"),
+        at("a", "pids.current"),
+    ]
     assert [folder for folder, _, _ in os.walk(AT)] == [AT, at("a"), at("a", "b")]
     with os.scandir(at("a")) as entries:
         kinds = {entry.name: (entry.is_dir(), entry.is_file(), entry.path, entry.stat().st_size) for entry in entries}
     assert kinds["b"] == (True, False, at("a", "b"), 0) and kinds["pids.max"] == (False, True, at("a", "pids.max"), 4)
-    assert os.access(at("a", "pids.max"), os.R_OK | os.W_OK) and not os.access(at("x"), os.F_OK) and os.listdir(os.fsencode(at("a", "b")))[0].startswith(b"cgroup")
+    assert (
+        os.access(at("a", "pids.max"), os.R_OK | os.W_OK)
+        and not os.access(at("x"), os.F_OK)
+        and os.listdir(os.fsencode(at("a", "b")))[0].startswith(b"cgroup")
+    )
     before = os.getcwd()
     assert code(os.chdir, at("a")) == "EOPNOTSUPP" and os.getcwd() == before and os.path.lexists(at("a", "pids.max"))
     assert code(shutil.rmtree, at("a")) == "EPERM"  # as in the kernel: files can't be unlinked
@@ -232,8 +317,15 @@ def test_other_files_are_as_before(h, tmp_path):
     assert os.read(fd, 9) == b"real" and os.fstat(fd).st_size == 4
     with os.fdopen(fd) as file:
         assert file.read() == ""
-    assert os.listdir(tmp_path) and subprocess.run([sys.executable, "-c", "print(1)"], capture_output=True, check=True).stdout == b"1\n"
-    assert os.path.exists("/proc/self/stat") and code(os.stat, tmp_path / "none") == "ENOENT" and code(os.rmdir, tmp_path) == "ENOTEMPTY"
+    assert (
+        os.listdir(tmp_path)
+        and subprocess.run([sys.executable, "-c", "print(1)"], capture_output=True, check=True).stdout == b"1\n"
+    )
+    assert (
+        os.path.exists("/proc/self/stat")
+        and code(os.stat, tmp_path / "none") == "ENOENT"
+        and code(os.rmdir, tmp_path) == "ENOTEMPTY"
+    )
     assert code(open, "/sys/fs/cgroup-x/pids.max") == "ENOENT"
     with os.scandir(tmp_path) as entries:
         assert sorted(entry.name for entry in entries) == ["g", "x"]
@@ -255,7 +347,11 @@ def test_two_hierarchies_at_two_places():
     with mounted_at("/one") as one, mounted_at("/two") as two:
         os.mkdir("/one/a")
         os.mkdir("/two/b")
-        assert one.groups() == ["/", "/a"] and two.groups() == ["/", "/b"] and code(os.rename, "/one/a", "/two/a") == "EPERM"
+        assert (
+            one.groups() == ["/", "/a"]
+            and two.groups() == ["/", "/b"]
+            and code(os.rename, "/one/a", "/two/a") == "EPERM"
+        )
     with pytest.raises(ValueError):
         mounted_at("/").__enter__()
 
@@ -264,7 +360,9 @@ def test_a_relative_path_is_found(monkeypatch, tmp_path):
     monkeypatch.chdir(tmp_path)
     with mounted_at("groups") as h:
         os.mkdir("groups/a")
-        assert h.groups() == ["/", "/a"] and os.path.exists(tmp_path / "groups" / "a") and not list(os.scandir(tmp_path))
+        assert (
+            h.groups() == ["/", "/a"] and os.path.exists(tmp_path / "groups" / "a") and not list(os.scandir(tmp_path))
+        )
 
 
 def test_faults_reach_who_opens_files(hierarchy):

@@ -18,14 +18,20 @@ from os import open as early_open
 import pytest
 
 from makhloeum import Hierarchy, mounted_at
-from makhloeum._calls import _REFUSED, _SERVED, _WITHOUT_EFFECT
+from makhloeum._calls import CALLS, _REFUSED, _SERVED, _WITHOUT_EFFECT
 
 AT = "/sys/fs/cgroup"
-REPLACED = [(builtins, "open"), (io, "open"), *((os, name) for name in ("open", *_SERVED, *_REFUSED, *_WITHOUT_EFFECT) if hasattr(os, name))]
+REPLACED = [
+    (builtins, "open"),
+    (io, "open"),
+    *((os, name) for name in ("open", *_SERVED, *_REFUSED, *_WITHOUT_EFFECT) if hasattr(os, name)),
+]
 
 
 def functions():
-    return [getattr(module, name) for module, name in REPLACED] + [value for kind in vars(glob).values() if isinstance(kind, type) for value in vars(kind).values()]
+    return [getattr(module, name) for module, name in REPLACED] + [
+        value for kind in vars(glob).values() if isinstance(kind, type) for value in vars(kind).values()
+    ]
 
 
 BEFORE = functions()
@@ -36,21 +42,25 @@ SETS = [set(it) for it in (os.supports_fd, os.supports_dir_fd, os.supports_effec
 def everything_is_put_back():
     yield
     assert all(now is was for now, was in zip(functions(), BEFORE))
-    assert SETS == [set(it) for it in (os.supports_fd, os.supports_dir_fd, os.supports_effective_ids, os.supports_follow_symlinks)]
+    assert SETS == [
+        set(it) for it in (os.supports_fd, os.supports_dir_fd, os.supports_effective_ids, os.supports_follow_symlinks)
+    ]
 
 
 @pytest.fixture
-def h():
-    with mounted_at(AT) as hierarchy:
-        os.mkdir(f"{AT}/a")
-        yield hierarchy
+def h(at_cgroup):
+    return at_cgroup
 
 
 def code(call, *arguments, **more):
     try:
         call(*arguments, **more)
     except OSError as error:
-        return errno.errorcode[error.errno].replace("ENOTSUP", "EOPNOTSUPP") if error.errno == errno.EOPNOTSUPP else errno.errorcode[error.errno]
+        return (
+            errno.errorcode[error.errno].replace("ENOTSUP", "EOPNOTSUPP")
+            if error.errno == errno.EOPNOTSUPP
+            else errno.errorcode[error.errno]
+        )
     return "ok"
 
 
@@ -129,6 +139,30 @@ def test_files_are_closed_while_a_block_ends(hierarchy):
     assert not failures and not thread.is_alive() and code(os.read, fds[0], 1) == "EBADF"
 
 
+def test_a_file_is_closed_just_as_a_block_ends(hierarchy, monkeypatch):
+    class Closing(dict):
+        """Another thread closes a file when the end of a block has listed it."""
+
+        def items(self):
+            listed = list(super().items())
+            os.close(listed[0][0])
+            return listed
+
+    monkeypatch.setattr(CALLS.descriptors, "_opened", Closing())
+    with mounted_at(AT, hierarchy):
+        fds = [os.open(f"{AT}/cgroup.procs", os.O_RDONLY) for _ in range(2)]
+    assert code(os.close, fds[0]) == "EBADF" and code(os.close, fds[1]) == "ok"
+
+
+def test_a_file_is_opened_just_as_a_group_is_removed(h):
+    opened = []
+    (_, tree), *_ = CALLS._mounts
+    tree._opened.add(lambda: opened.append(os.open(f"{AT}/cgroup.procs", os.O_RDONLY)))  # by another thread
+    os.rmdir(f"{AT}/a")
+    assert len(opened) == 1
+    os.close(opened[0])
+
+
 def test_one_over_another_and_below_it(hierarchy):
     hierarchy.mkdir("/lower")
     with mounted_at(AT, hierarchy), mounted_at(AT) as upper:
@@ -203,8 +237,17 @@ def test_vectors(h):
     assert os.lseek(fd, 0, os.SEEK_CUR) == 4
     assert os.writev(fd, [b"1", b"2\n"]) == 3 and h.limit("/a") == 12 and h.changes() == 2
     os.lseek(fd, 0, os.SEEK_SET)
-    assert os.pwritev(fd, [b"3", b"", memoryview(b"4")], 7) == 2 and h.limit("/a") == 34 and os.lseek(fd, 0, os.SEEK_CUR) == 0
-    assert os.pwrite(fd, b"56", 0) == 2 and h.limit("/a") == 56 and os.lseek(fd, 0, os.SEEK_CUR) == 0 and os.read(fd, 9) == b"56\n"
+    assert (
+        os.pwritev(fd, [b"3", b"", memoryview(b"4")], 7) == 2
+        and h.limit("/a") == 34
+        and os.lseek(fd, 0, os.SEEK_CUR) == 0
+    )
+    assert (
+        os.pwrite(fd, b"56", 0) == 2
+        and h.limit("/a") == 56
+        and os.lseek(fd, 0, os.SEEK_CUR) == 0
+        and os.read(fd, 9) == b"56\n"
+    )
     assert code(os.writev, fd, [b"x", b"y"]) == "EINVAL" and code(os.preadv, fd, [first], -1) == "EINVAL"
     os.close(fd)
     reading, writing = os.open(f"{AT}/a/pids.max", os.O_RDONLY), os.open(f"{AT}/a/pids.max", os.O_WRONLY)
@@ -238,7 +281,11 @@ def test_files_share_a_descriptor_or_not(h):
     assert code(os.read, copy, 1) == "EBADF" and os.pread(fd, 9, 0) == b"max\n"
     os.close(fd)
     with open(f"{AT}/a/pids.max") as file:
-        assert os.fstat(file.fileno()).st_size == 4 and os.pread(file.fileno(), 3, 0) == b"max" and file.name == f"{AT}/a/pids.max"
+        assert (
+            os.fstat(file.fileno()).st_size == 4
+            and os.pread(file.fileno(), 3, 0) == b"max"
+            and file.name == f"{AT}/a/pids.max"
+        )
     with open(f"{AT}/a/pids.max", opener=lambda path, flags: os.open(path, flags, 0o600)) as file:
         assert file.read() == "max\n"
     with open(f"{AT}/a/pids.max", "w", opener=os.open) as file:
@@ -246,7 +293,19 @@ def test_files_share_a_descriptor_or_not(h):
     assert h.limit("/a") == 8
 
 
-@pytest.mark.parametrize("mode, more", [("q", {}), ("", {}), ("rw", {}), ("rbt", {}), ("rr", {}), ("rb", {"encoding": "utf-8"}), ("r", {"buffering": 0}), ("r", {"closefd": False})])
+@pytest.mark.parametrize(
+    "mode, more",
+    [
+        ("q", {}),
+        ("", {}),
+        ("rw", {}),
+        ("rbt", {}),
+        ("rr", {}),
+        ("rb", {"encoding": "utf-8"}),
+        ("r", {"buffering": 0}),
+        ("r", {"closefd": False}),
+    ],
+)
 def test_a_wrong_mode_is_a_value_error_as_of_a_real_file(h, tmp_path, mode, more):
     (tmp_path / "f").write_text("")
     for path in (f"{AT}/a/pids.max", tmp_path / "f"):
@@ -258,7 +317,7 @@ def test_all_fields_of_a_stat(h, tmp_path):
     for path in (AT, f"{AT}/a", f"{AT}/a/pids.max", f"{AT}/a/cgroup.kill"):
         it, real = os.stat(path), os.stat(tmp_path)
         names = [name for name in dir(real) if name.startswith("st_")]
-        assert all(type(getattr(it, name)) is type(getattr(real, name)) for name in names)
+        assert all(isinstance(getattr(it, name), type(getattr(real, name))) for name in names)
         assert it.st_mtime_ns // 10**9 == int(it.st_mtime) == it[8] and it.st_blocks == 0 and it.st_blksize == 4096
         assert (it.st_atime_ns, it.st_ctime_ns) == (it.st_mtime_ns,) * 2
 
@@ -274,8 +333,17 @@ def test_scandir_and_listdir_by_path_bytes_and_descriptor(h):
     for given, above in ((fd, ""), (f"{AT}/a", f"{AT}/a/"), (pathlib.Path(AT, "a"), f"{AT}/a/")):
         with os.scandir(given) as entries:
             found = {entry.name: entry for entry in entries}
-        assert list(found) == names and found["b"].path == f"{above}b" and found["b"].is_dir() and found["pids.max"].is_file()
-        assert found["pids.max"].stat().st_size == 4 and os.fspath(found["b"]) == f"{above}b" and found["b"].inode() == os.stat(f"{AT}/a/b").st_ino
+        assert (
+            list(found) == names
+            and found["b"].path == f"{above}b"
+            and found["b"].is_dir()
+            and found["pids.max"].is_file()
+        )
+        assert (
+            found["pids.max"].stat().st_size == 4
+            and os.fspath(found["b"]) == f"{above}b"
+            and found["b"].inode() == os.stat(f"{AT}/a/b").st_ino
+        )
     with os.scandir(os.fsencode(f"{AT}/a")) as entries:
         assert os.fsencode(f"{AT}/a/b") in [entry.path for entry in entries]
     assert [it[2][-1] for it in os.fwalk(f"{AT}/a/b")] == [os.listdir(f"{AT}/a/b")[-1]]
@@ -308,7 +376,10 @@ def test_pathlib_of_each_python_finds_files(version):
     """What pathlib calls differs; where an interpreter isn't at hand, the test above has the calls of os that it makes."""
     python = shutil.which(f"python{version}")
     words = dict(os.environ, PYTHONPATH=str(pathlib.Path(__file__).parents[1]), PYENV_VERSION="")
-    words["PYENV_VERSION"] = next((it.name for it in pathlib.Path(os.environ.get("PYENV_ROOT", "/root/.pyenv"), "versions").glob(f"{version}.*")), "system")
+    words["PYENV_VERSION"] = next(
+        (it.name for it in pathlib.Path(os.environ.get("PYENV_ROOT", "/root/.pyenv"), "versions").glob(f"{version}.*")),
+        "system",
+    )
     if python is None or subprocess.run([python, "-c", ""], env=words, capture_output=True).returncode != 0:
         pytest.skip(f"there is no Python {version}")
     ran = subprocess.run([python, "-c", GLOBBING], env=words, capture_output=True, text=True)
@@ -321,7 +392,10 @@ def test_pathlib_of_each_python_finds_files(version):
 def test_real_files_are_not_moved_into_a_mount(h, tmp_path):
     (tmp_path / "f").write_text("real")
     for call in (os.rename, os.replace, os.link, os.symlink):
-        assert code(call, tmp_path / "f", f"{AT}/a/f") == "EPERM" and code(call, f"{AT}/a/pids.max", tmp_path / "g") == "EPERM"
+        assert (
+            code(call, tmp_path / "f", f"{AT}/a/f") == "EPERM"
+            and code(call, f"{AT}/a/pids.max", tmp_path / "g") == "EPERM"
+        )
     assert os.listdir(tmp_path) == ["f"] and (tmp_path / "f").read_text() == "real"
 
 
@@ -331,29 +405,49 @@ def test_arguments_may_have_their_names(h, tmp_path):
         assert code(call, src=tmp_path / "f", dst=f"{AT}/a/f") == code(call, tmp_path / "f", dst=f"{AT}/a/f") == "EPERM"
         assert code(call, src=f"{AT}/a/pids.max", dst=tmp_path / "g") == "EPERM"
     assert code(os.unlink, path=f"{AT}/a/pids.max") == "EPERM" and code(os.mkfifo, path=f"{AT}/a/f") == "EACCES"
-    assert code(os.statvfs, path=AT) == code(os.getxattr, path=AT, attribute="user.x") == code(os.chdir, path=AT) == "EOPNOTSUPP"
+    assert (
+        code(os.statvfs, path=AT)
+        == code(os.getxattr, path=AT, attribute="user.x")
+        == code(os.chdir, path=AT)
+        == "EOPNOTSUPP"
+    )
     assert os.chmod(path=f"{AT}/a", mode=0o700) is None and code(os.chmod, path=f"{AT}/none", mode=0o700) == "ENOENT"
     assert os.listdir(tmp_path) == ["f"]
 
 
 def test_no_other_kind_of_file_is_made(h):
     for call in (os.mkfifo, os.mknod):
-        assert [code(call, f"{AT}/{path}") for path in ("a/f", "f", "a/pids.max", "a", "none/f")] == ["EACCES", "EACCES", "EEXIST", "EEXIST", "ENOENT"]
+        assert [code(call, f"{AT}/{path}") for path in ("a/f", "f", "a/pids.max", "a", "none/f")] == [
+            "EACCES",
+            "EACCES",
+            "EEXIST",
+            "EEXIST",
+            "ENOENT",
+        ]
 
 
 def test_a_seek_from_elsewhere_is_refused(h):
     fd = os.open(f"{AT}/a/pids.max", os.O_RDONLY)
-    assert code(os.lseek, fd, 0, os.SEEK_DATA) == code(os.lseek, fd, 0, 9) == code(os.lseek, fd, -1, os.SEEK_SET) == "EINVAL"
+    assert (
+        code(os.lseek, fd, 0, os.SEEK_DATA)
+        == code(os.lseek, fd, 0, 9)
+        == code(os.lseek, fd, -1, os.SEEK_SET)
+        == "EINVAL"
+    )
     assert os.read(fd, 9) == b"max\n"
     os.close(fd)
 
 
 def test_what_reaches_the_real_functions_raises(h, tmp_path):
     for call, arguments in (
-        (early_listdir, (f"{AT}/a",)), (early_open, (f"{AT}/a/pids.max", os.O_RDONLY)), (io.FileIO, (f"{AT}/a/pids.max",)),
+        (early_listdir, (f"{AT}/a",)),
+        (early_open, (f"{AT}/a/pids.max", os.O_RDONLY)),
+        (io.FileIO, (f"{AT}/a/pids.max",)),
         (io.FileIO, (os.fsencode(f"{AT}/../cgroup/a/pids.max"),)),
     ):
-        with pytest.raises(OSError, match="mounted_at serves open and the functions of os .* `makhloeum run`") as failed:
+        with pytest.raises(
+            OSError, match="mounted_at serves open and the functions of os .* `makhloeum run`"
+        ) as failed:
             call(*arguments)
         assert failed.value.errno == errno.EOPNOTSUPP
     with pytest.raises(OSError, match="makhloeum run"):
@@ -378,15 +472,28 @@ def test_calls_on_a_descriptor_that_are_not_served_raise(h):
     real = os.open("/dev/null", os.O_RDWR)
     for it in (fd, group):
         for call in (
-            lambda: os.sendfile(real, it, 0, 4), lambda: os.fchdir(it), lambda: os.fstatvfs(it), lambda: os.fsync(it), lambda: os.lockf(it, os.F_LOCK, 0),
-            lambda: os.posix_fallocate(it, 0, 1), lambda: os.copy_file_range(it, real, 1), lambda: os.fpathconf(it, "PC_NAME_MAX"), lambda: os.listxattr(it),
+            lambda: os.sendfile(real, it, 0, 4),
+            lambda: os.fchdir(it),
+            lambda: os.fstatvfs(it),
+            lambda: os.fsync(it),
+            lambda: os.lockf(it, os.F_LOCK, 0),
+            lambda: os.posix_fallocate(it, 0, 1),
+            lambda: os.copy_file_range(it, real, 1),
+            lambda: os.fpathconf(it, "PC_NAME_MAX"),
+            lambda: os.listxattr(it),
         ):
             with pytest.raises(OSError):
                 call()
     assert code(os.pathconf, f"{AT}/a", "PC_NAME_MAX") == code(os.statvfs, AT) == code(os.chdir, AT) == "EOPNOTSUPP"
-    assert code(os.open, f"{AT}/a", os.O_TMPFILE | os.O_RDWR) == "EOPNOTSUPP" and os.fchmod(fd, 0o600) is None and os.ftruncate(fd, 0) is None
+    assert (
+        code(os.open, f"{AT}/a", os.O_TMPFILE | os.O_RDWR) == "EOPNOTSUPP"
+        and os.fchmod(fd, 0o600) is None
+        and os.ftruncate(fd, 0) is None
+    )
     assert code(os.open, "x", os.O_RDONLY, dir_fd=fd) == "ENOTDIR" and code(os.readv, group, [bytearray(1)]) == "EISDIR"
-    ran = subprocess.run([sys.executable, "-c", f"import os\nos.read({fd}, 9)"], pass_fds=[fd], capture_output=True, text=True)
+    ran = subprocess.run(
+        [sys.executable, "-c", f"import os\nos.read({fd}, 9)"], pass_fds=[fd], capture_output=True, text=True
+    )
     assert ran.returncode == 1 and "Bad file descriptor" in ran.stderr
     for it in (fd, group, real):
         os.close(it)
@@ -401,6 +508,11 @@ def test_after_the_block_a_descriptor_reads_nothing(hierarchy):
     file.close()
     os.close(fd)
     os.close(top)
+    with mounted_at("/elsewhere"):
+        with mounted_at(AT, hierarchy):
+            fd = os.open(f"{AT}/cgroup.procs", os.O_RDONLY)
+        assert code(os.read, fd, 9) == "EBADF", "also while another block goes on"
+        os.close(fd)
 
 
 def test_a_removed_group_ends_its_own_files_alone(h):
@@ -411,6 +523,23 @@ def test_a_removed_group_ends_its_own_files_alone(h):
         os.rmdir(f"{AT}/a")
         os.mkdir(f"{AT}/a")
         assert near.read() == "max\n" and code(below.read) == "ENODEV" and code(gone.read) == "ENODEV"
+
+
+def test_a_file_of_a_removed_group_is_not_that_of_a_new_one(h):
+    fd = os.open(f"{AT}/a/pids.max", os.O_RDWR)
+    os.rmdir(f"{AT}/a")
+    os.mkdir(f"{AT}/a")
+    assert code(os.write, fd, b"5") == code(os.read, fd, 9) == "ENODEV" and h.limit("/a") is None
+    os.close(fd)
+
+
+def test_a_buffered_line_is_a_write(h):
+    with open(f"{AT}/a/pids.max", "w", buffering=1) as file:
+        file.write("5\n")
+        assert h.limit("/a") == 5
+        file.write("7")
+        assert h.limit("/a") == 5
+    assert h.limit("/a") == 7
 
 
 def test_a_hierarchy_is_mounted_only_once_it_is_one():

@@ -19,6 +19,8 @@ def test_numbers(hierarchy):
     assert h.populated("/a/b")
     h.write("/a", "cgroup.kill", 1)
     assert not h.populated("/a") and h.current("/a") == 0
+    h.write("/a", "pids.max", 0)
+    assert h.limit("/a") == 0, "a limit, and not none"
 
 
 def test_numbers_of_what_is_not_there(hierarchy):
@@ -26,7 +28,10 @@ def test_numbers_of_what_is_not_there(hierarchy):
     for call in (h.current, h.peak, h.limit, h.populated, h.processes):
         with pytest.raises(NoGroup) as missing:
             call("/c")
-        assert missing.value.reply == "nogroup /c" and str(missing.value) == f"{call.__name__} /c: No such file or directory (nogroup /c)"
+        assert (
+            missing.value.reply == "nogroup /c"
+            and str(missing.value) == f"{call.__name__} /c: No such file or directory (nogroup /c)"
+        )
         with pytest.raises(BadByte) as bad:
             call("/\0a")
         assert bad.value.position == 1

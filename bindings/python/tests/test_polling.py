@@ -63,7 +63,10 @@ def test_a_fork_that_a_limit_refuses(h, ready):
     h.mkdir("/a/b")
     h.write("/a", "pids.max", 1)
     h.write("/a/b", "cgroup.procs", 1)
-    fds = {name: os.open(f"{AT}/{name}", os.O_RDONLY) for name in ("a/pids.events", "a/pids.events.local", "a/b/pids.events", "a/b/pids.events.local")}
+    fds = {
+        name: os.open(f"{AT}/{name}", os.O_RDONLY)
+        for name in ("a/pids.events", "a/pids.events.local", "a/b/pids.events", "a/b/pids.events.local")
+    }
     texts = {name: os.read(fd, 99) for name, fd in fds.items()}
     assert set(texts.values()) == {b"max 0\n"} and not any(ready(fd, 20) for fd in fds.values())
     later = threading.Timer(0.05, refused_fork, [h])
@@ -201,6 +204,19 @@ def test_a_wait_ends_with_the_block(hierarchy, ready, own):
 # ---- threads, handlers, and many changes
 
 
+def test_a_number_is_ready_once_nothing_more_will_change(hierarchy):
+    hierarchy.mkdir("/a")
+    poll = select.poll()
+    with mounted_at(AT, hierarchy):
+        file = open(f"{AT}/a/cgroup.events")
+        poll.register(file, select.POLLPRI)
+        assert poll.poll(0) and file.read() == "populated 0\nfrozen 0\n" and not poll.poll(0)
+    assert poll.poll(0)
+    file.seek(0)
+    assert file.read() == "populated 0\nfrozen 0\n" and poll.poll(0), "a read doesn't change that"
+    file.close()
+
+
 def test_each_of_several_threads_sees_the_last_change(h, ready):
     h.write("/a", "pids.max", 1)
     h.write("/a", "cgroup.procs", 1)
@@ -308,8 +324,14 @@ def test_a_number_that_can_be_waited_for_takes_nothing_else(h, tmp_path):
     (tmp_path / "f").write_text("real")
     fd, real = os.open(f"{AT}/a/cgroup.events", os.O_RDWR), os.open(tmp_path / "f", os.O_RDWR)
     for call in (
-        lambda: early_read(fd, 9), lambda: early_write(fd, b"1"), lambda: os.sendfile(fd, real, 0, 4), lambda: os.sendfile(real, fd, None, 4),
-        lambda: os.splice(real, fd, 4), lambda: os.fsync(fd), lambda: os.copy_file_range(fd, real, 1), lambda: os.posix_fallocate(fd, 0, 1),
+        lambda: early_read(fd, 9),
+        lambda: early_write(fd, b"1"),
+        lambda: os.sendfile(fd, real, 0, 4),
+        lambda: os.sendfile(real, fd, None, 4),
+        lambda: os.splice(real, fd, 4),
+        lambda: os.fsync(fd),
+        lambda: os.copy_file_range(fd, real, 1),
+        lambda: os.posix_fallocate(fd, 0, 1),
     ):
         with pytest.raises(OSError):
             call()

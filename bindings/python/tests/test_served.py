@@ -11,10 +11,8 @@ AT = "/sys/fs/cgroup"
 
 
 @pytest.fixture
-def h():
-    with mounted_at(AT) as hierarchy:
-        os.mkdir(f"{AT}/a")
-        yield hierarchy
+def h(at_cgroup):
+    return at_cgroup
 
 
 def code(call, *arguments, **more):
@@ -27,7 +25,10 @@ def test_a_path_that_only_begins_alike_is_another(tmp_path):
     (tmp_path / "cgroup2").mkdir()
     (tmp_path / "cgroup2" / "pids.max").write_text("real")
     with mounted_at(tmp_path / "cgroup"):
-        assert os.listdir(tmp_path / "cgroup2") == ["pids.max"] and (tmp_path / "cgroup2" / "pids.max").read_text() == "real"
+        assert (
+            os.listdir(tmp_path / "cgroup2") == ["pids.max"]
+            and (tmp_path / "cgroup2" / "pids.max").read_text() == "real"
+        )
         os.mkdir(tmp_path / "cgroup2" / "a")
     assert os.path.isdir(tmp_path / "cgroup2" / "a")
 

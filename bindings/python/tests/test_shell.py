@@ -27,7 +27,9 @@ def run(*arguments, text=""):
 
 def test_standard_input_and_scripts(tmp_path):
     script = tmp_path / "script"
-    script.write_text("# a comment\nmkdir /a\n\nfork 1 2\nwrite /a cgroup.procs 2\ncat /a pids.current\nwhere 2\nundo\n")
+    script.write_text(
+        "# a comment\nmkdir /a\n\nfork 1 2\nwrite /a cgroup.procs 2\ncat /a pids.current\nwhere 2\nundo\n"
+    )
     for ran in (run(text=script.read_text()), run(str(script))):
         assert (ran.returncode, ran.stdout, ran.stderr) == (0, "1\n0::/a\nwrite /a cgroup.procs 2\n", "")
     ran = run(text=f"source {script}\nls /a/\nmkdir /a\nnonsense\n")
@@ -42,7 +44,9 @@ def test_standard_input_and_scripts(tmp_path):
 
 
 def test_undo_and_forget():
-    ran = run(text="mkdir /a\nmkdir /b\nundo 3\nundo x\nundo -1\nundo 2\nls\nundo\nmkdir /c\nforget x\nforget\nundo\nls\n")
+    ran = run(
+        text="mkdir /a\nmkdir /b\nundo 3\nundo x\nundo -1\nundo 2\nls\nundo\nmkdir /c\nforget x\nforget\nundo\nls\n"
+    )
     files = "cgroup.procs\ncgroup.stat\ncgroup.max.descendants\ncgroup.max.depth\n"
     syntax = "Invalid argument (syntax: an unknown command, a wrong number of words, or a line that is too long)"
     assert ran.stdout == (
@@ -62,7 +66,11 @@ def test_quit_ends_all_scripts(tmp_path):
 
 def test_a_closed_pipe_is_no_message():
     shell = subprocess.Popen(
-        [sys.executable, "-m", "makhloeum"], stdin=subprocess.PIPE, stdout=subprocess.PIPE, stderr=subprocess.PIPE, env=WORDS
+        [sys.executable, "-m", "makhloeum"],
+        stdin=subprocess.PIPE,
+        stdout=subprocess.PIPE,
+        stderr=subprocess.PIPE,
+        env=WORDS,
     )
     assert shell.stdout is not None
     shell.stdout.close()
@@ -72,7 +80,15 @@ def test_a_closed_pipe_is_no_message():
 
 def test_a_tree_has_counts_and_limits(hierarchy):
     h = hierarchy
-    for line in ("mkdir /a", "mkdir /a/b", "mkdir /a/c", "mkdir /d", "write /a pids.max 10", "fork 1 2", "write /a/b cgroup.procs 2"):
+    for line in (
+        "mkdir /a",
+        "mkdir /a/b",
+        "mkdir /a/c",
+        "mkdir /d",
+        "write /a pids.max 10",
+        "fork 1 2",
+        "write /a/b cgroup.procs 2",
+    ):
         h.line(line)
     assert draw(of_hierarchy(h)) == (
         "/                                                1\n"
@@ -97,6 +113,8 @@ def test_completion(hierarchy):
     assert complete("al", "rmdir /al", 7, 9) == ["alpha"]
     assert complete("", "rmdir /alpha/", 13, 13) == ["x"]
     assert complete("pids.c", "cat /alpha pids.c", 11, 17) == ["pids.current"]
+    assert complete("pids.m", "write /alpha pids.m", 13, 19) == ["pids.max"]
+    assert complete("", "mkdir /alpha ", 13, 13) == []
     assert shell.completenames("m") == ["mkdir"]
     assert shell.completenames("E") == []
 
@@ -113,8 +131,15 @@ class Terminal:
             # a script in the background ignores SIGINT, and so do its children
             signal.signal(signal.SIGINT, signal.SIG_DFL)
 
-        self.shell = subprocess.Popen(command, stdin=theirs, stdout=theirs, stderr=theirs, env=WORDS, start_new_session=True,
-                                      preexec_fn=at_a_terminal)
+        self.shell = subprocess.Popen(
+            command,
+            stdin=theirs,
+            stdout=theirs,
+            stderr=theirs,
+            env=WORDS,
+            start_new_session=True,
+            preexec_fn=at_a_terminal,
+        )
         os.close(theirs)
         self.told = b""
 
@@ -139,7 +164,8 @@ class Terminal:
 
     def interrupt(self):
         """Types Ctrl-C until a prompt comes: Python notices a signal just before it waits for a key only at the next one. Then
-        waits until nothing more comes, since two signals give two prompts, and the second drops what was typed before it."""
+        waits until nothing more comes, since two signals give two prompts, and the second drops what was typed before it.
+        """
         for _ in range(12):
             self.type(b"\x03")
             told = b""
@@ -206,6 +232,15 @@ def test_a_script_that_was_interrupted_can_be_read_again(hierarchy, tmp_path, mo
             shell.answer_file(str(tmp_path / "script"))
     shell.onecmd(f"source {tmp_path / 'script'}")
     assert hierarchy.groups() == ["/", "/a", "/b"] and out.getvalue() == ""
+
+
+def test_little_is_loaded_before_an_interrupt_ends_a_command():
+    """Until then it is a traceback."""
+    words = [sys.executable, "-S", "-X", "importtime", "-m", "makhloeum", "--version"]
+    told = subprocess.run(words, capture_output=True, text=True, env=WORDS).stderr
+    loaded = [line.rsplit("|", 1)[1].strip() for line in told.splitlines() if line.startswith("import time:")]
+    before = loaded[: loaded.index("makhloeum._interrupts")]
+    assert "signal" in before and not {"typing", "ctypes", "makhloeum.errors"} & set(before)
 
 
 def test_an_interrupt_ends_a_script_without_a_traceback(tmp_path):

@@ -14,7 +14,9 @@ from hypothesis.stateful import invariant, run_state_machine_as_test  # noqa: E4
 from makhloeum import BadPath, Hierarchy, Refused  # noqa: E402
 from makhloeum.strategies import HierarchyMachine, _is_name, commands, limits, names, paths, pids  # noqa: E402
 
-FEW = settings(max_examples=200, deadline=None, database=None, derandomize=True, suppress_health_check=list(HealthCheck))
+FEW = settings(
+    max_examples=200, deadline=None, database=None, derandomize=True, suppress_health_check=list(HealthCheck)
+)
 
 
 @FEW
@@ -24,6 +26,11 @@ def test_names_are_names(first, second):
         h.mkdir(f"/{first}")
         h.mkdir(f"/{first}/{second}")
         assert h.children("/") == [first]
+
+
+@pytest.mark.parametrize("drawn", ["max", "0", "1", "4"])
+def test_each_limit_is_drawn(drawn):
+    assert hypothesis.find(limits(4), lambda limit: limit == drawn, settings=FEW) == drawn
 
 
 @FEW
@@ -76,7 +83,10 @@ class BesideTheModel(HierarchyMachine):
     def groups_and_counts_are_the_models(self):
         assert self.h.groups() == self.model.listed() and self.h.depth() == len(self.model.past)
         for group in self.h.groups()[1:]:
-            assert (self.h.current(group), self.h.peak(group)) == (self.model.current(group), self.model.groups[group]["peak"])
+            assert (self.h.current(group), self.h.peak(group)) == (
+                self.model.current(group),
+                self.model.groups[group]["peak"],
+            )
 
 
 KINDS = set()
@@ -84,7 +94,9 @@ KINDS = set()
 
 def test_the_state_machine_reaches_everything():
     run_state_machine_as_test(BesideTheModel, settings=settings(FEW, max_examples=60, stateful_step_count=40))
-    assert KINDS >= {word + end for word in ("mkdir", "rmdir", "fork", "exit", "write", "undo") for end in ("", " refused")}
+    assert KINDS >= {
+        word + end for word in ("mkdir", "rmdir", "fork", "exit", "write", "undo") for end in ("", " refused")
+    }
 
 
 class Counting(HierarchyMachine):
@@ -111,7 +123,20 @@ def test_each_kind_of_limit_refuses_one_command_in_twenty(examples, steps):
 
 def test_a_name_that_no_group_can_have_is_not_drawn():
     with Hierarchy() as h:
-        for name in (".", "..", "cgroup.", "cgroup.x", "pids.", "pids.max", "cgroup", "pids", "...", ".a", "xpids.", "cgroup-x"):
+        for name in (
+            ".",
+            "..",
+            "cgroup.",
+            "cgroup.x",
+            "pids.",
+            "pids.max",
+            "cgroup",
+            "pids",
+            "...",
+            ".a",
+            "xpids.",
+            "cgroup-x",
+        ):
             assert _is_name(name) == (not isinstance(refusal(h, f"mkdir /{name}"), BadPath)), name
     with pytest.raises(hypothesis.errors.NoSuchExample):
         hypothesis.find(names(1), lambda name: name in "./", settings=settings(FEW, max_examples=3000))
@@ -134,4 +159,6 @@ def test_a_wrong_monitor_is_found():
             assert not any(self.h.populated(group) for group in self.h.groups()[1:])
 
     with pytest.raises(AssertionError):
-        run_state_machine_as_test(Wrong, settings=settings(FEW, max_examples=100, stateful_step_count=30, print_blob=False))
+        run_state_machine_as_test(
+            Wrong, settings=settings(FEW, max_examples=100, stateful_step_count=30, print_blob=False)
+        )

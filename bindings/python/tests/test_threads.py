@@ -69,8 +69,22 @@ def test_each_thread_in_its_own_group():
 
 
 def test_anything_at_once_can_be_undone():
-    lines = ["mkdir /a", "mkdir /a/b", "rmdir /a/b", "fork 1 2", "fork 1 3", "exit 3", "write /a/b cgroup.procs 2", "undo",
-             "write /a pids.max 1", "write /a cgroup.kill 1", "cat /a pids.current", "undo", "rmdir /a", "where 2"]
+    lines = [
+        "mkdir /a",
+        "mkdir /a/b",
+        "rmdir /a/b",
+        "fork 1 2",
+        "fork 1 3",
+        "exit 3",
+        "write /a/b cgroup.procs 2",
+        "undo",
+        "write /a pids.max 1",
+        "write /a cgroup.kill 1",
+        "cat /a pids.current",
+        "undo",
+        "rmdir /a",
+        "where 2",
+    ]
     with Hierarchy() as h:
 
         def anything(number, stopped):

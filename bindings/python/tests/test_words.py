@@ -9,7 +9,37 @@ import pytest
 import makhloeum
 from makhloeum import BadDirection, BadFile, BadPath, BadSyntax, BadValue, PidsMax, Refused
 
-LENGTHS = [1, 2, 23, 127, 254, 255, 256, 257, 258, 509, 510, 511, 512, 519, 1024, 4085, 4086, 4087, 4094, 4095, 4096, 4097, 8180, 8191, 8192, 8193, 9000, 65536, 10**6]
+LENGTHS = [
+    1,
+    2,
+    23,
+    127,
+    254,
+    255,
+    256,
+    257,
+    258,
+    509,
+    510,
+    511,
+    512,
+    519,
+    1024,
+    4085,
+    4086,
+    4087,
+    4094,
+    4095,
+    4096,
+    4097,
+    8180,
+    8191,
+    8192,
+    8193,
+    9000,
+    65536,
+    10**6,
+]
 
 
 @pytest.fixture
@@ -28,7 +58,9 @@ def kind(call):
     try:
         call()
     except Refused as refused:
-        return next(it for it in (BadPath, BadFile, BadDirection, BadValue, BadSyntax, Refused) if isinstance(refused, it))
+        return next(
+            it for it in (BadPath, BadFile, BadDirection, BadValue, BadSyntax, Refused) if isinstance(refused, it)
+        )
     return None
 
 
@@ -36,17 +68,31 @@ def kind(call):
 def test_the_first_fault_counts_however_long_the_words_are(h, n):
     path, file, digits = "/a/" + "x" * (n + 256), "pids.max" + "x" * n, "5" * (n + 7)
     for call, want in (
-        (lambda: h.mkdir(path), BadPath), (lambda: h.rmdir(path), BadPath), (lambda: h.read(path, file), BadPath), (lambda: h.write(path, file, digits), BadPath),
-        (lambda: h.children(path), BadPath), (lambda: h.current(path), BadPath), (lambda: h.processes(path), BadPath), (lambda: h.fail(path, error=errno.EIO), BadPath),
-        (lambda: h.read("/a", file), BadFile), (lambda: h.write("/a", file, digits), BadFile), (lambda: h.write("/a", file, "max"), BadFile),
-        (lambda: h.write("/a", "pids.current", digits), BadDirection), (lambda: h.write("/a", "pids.max", digits), BadValue),
-        (lambda: h.write("/a", "pids.max", "0" * n + "5"), BadValue), (lambda: h.write("/a", "pids.max", "max" + "x" * n), BadValue),
+        (lambda: h.mkdir(path), BadPath),
+        (lambda: h.rmdir(path), BadPath),
+        (lambda: h.read(path, file), BadPath),
+        (lambda: h.write(path, file, digits), BadPath),
+        (lambda: h.children(path), BadPath),
+        (lambda: h.current(path), BadPath),
+        (lambda: h.processes(path), BadPath),
+        (lambda: h.fail(path, error=errno.EIO), BadPath),
+        (lambda: h.read("/a", file), BadFile),
+        (lambda: h.write("/a", file, digits), BadFile),
+        (lambda: h.write("/a", file, "max"), BadFile),
+        (lambda: h.write("/a", "pids.current", digits), BadDirection),
+        (lambda: h.write("/a", "pids.max", digits), BadValue),
+        (lambda: h.write("/a", "pids.max", "0" * n + "5"), BadValue),
+        (lambda: h.write("/a", "pids.max", "max" + "x" * n), BadValue),
     ):
         assert kind(call) is want
     # with the longest path that is one
     for call, want in (
-        (lambda: h.read(LONGEST, file), BadFile), (lambda: h.write(LONGEST, file, digits), BadFile), (lambda: h.write(LONGEST, "pids.max", digits), BadValue),
-        (lambda: h.write(LONGEST, "pids.current", digits), BadDirection), (lambda: h.mkdir(LONGEST), Refused), (lambda: h.mkdir(LONGEST + "n"), BadPath),
+        (lambda: h.read(LONGEST, file), BadFile),
+        (lambda: h.write(LONGEST, file, digits), BadFile),
+        (lambda: h.write(LONGEST, "pids.max", digits), BadValue),
+        (lambda: h.write(LONGEST, "pids.current", digits), BadDirection),
+        (lambda: h.mkdir(LONGEST), Refused),
+        (lambda: h.mkdir(LONGEST + "n"), BadPath),
     ):
         assert kind(call) is want
     told = h.read_many([(path, file), ("/a", file), ("/a", "pids.max")])
@@ -57,7 +103,10 @@ def test_the_first_fault_counts_however_long_the_words_are(h, n):
 @pytest.mark.parametrize("blank", " \t\r\n")
 def test_a_value_is_not_cut(h, n, blank):
     for value in ("1" + blank * n + "no", "1" + blank * n + "1", blank * n):
-        assert kind(lambda: h.write("/a", "cgroup.kill", value)) is BadValue and kind(lambda: h.write("/a", "pids.max", value)) is BadValue
+        assert (
+            kind(lambda: h.write("/a", "cgroup.kill", value)) is BadValue
+            and kind(lambda: h.write("/a", "pids.max", value)) is BadValue
+        )
     assert h.where(2) == "0::/a\n"
     h.write("/a", "pids.max", blank * n + "7" + blank * n)
     assert h.limit("/a") == 7
@@ -66,8 +115,12 @@ def test_a_value_is_not_cut(h, n, blank):
 def test_a_zero_byte_ends_no_word(h):
     depth = h.depth()
     for call, want in (
-        (lambda: h.mkdir("/b\0"), BadPath), (lambda: h.rmdir("/a\0/b"), BadPath), (lambda: h.read("/a", "pids.max\0"), BadFile),
-        (lambda: h.write("/a", "pids.max", "5\0"), BadValue), (lambda: h.write("/a", "pids.max", "\0"), BadValue), (lambda: h.current("/a\0"), BadPath),
+        (lambda: h.mkdir("/b\0"), BadPath),
+        (lambda: h.rmdir("/a\0/b"), BadPath),
+        (lambda: h.read("/a", "pids.max\0"), BadFile),
+        (lambda: h.write("/a", "pids.max", "5\0"), BadValue),
+        (lambda: h.write("/a", "pids.max", "\0"), BadValue),
+        (lambda: h.current("/a\0"), BadPath),
     ):
         assert kind(call) is want
     assert h.depth() == depth
@@ -75,7 +128,12 @@ def test_a_zero_byte_ends_no_word(h):
 
 def test_a_number_of_any_size_is_out_of_range_or_no_number(h):
     for number in (-1, 2**31, 2**64, 2**64 + 1, -(2**64), 10**5000, -(10**5000)):
-        for call in (lambda: h.write("/a", "pids.max", number), lambda: h.exit(number), lambda: h.where(number), lambda: h.fork(1, number)):
+        for call in (
+            lambda: h.write("/a", "pids.max", number),
+            lambda: h.exit(number),
+            lambda: h.where(number),
+            lambda: h.fork(1, number),
+        ):
             assert kind(call) is BadValue
 
 
@@ -95,4 +153,6 @@ def test_no_line_is_built_in_python():
     """C's calls make the lines, so that there is one rule for words."""
     for name in ("_many", "_words", "hierarchy"):
         text = (pathlib.Path(os.path.dirname(makhloeum.__file__)) / f"{name}.py").read_text()
-        assert not [word for word in ("mkdir ", "rmdir ", "fork ", "exit ", "cat ", "write ", "where ") if f'b"{word}' in text]
+        assert not [
+            word for word in ("mkdir ", "rmdir ", "fork ", "exit ", "cat ", "write ", "where ") if f'b"{word}' in text
+        ]

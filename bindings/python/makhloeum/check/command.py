@@ -62,12 +62,20 @@ class _Progress:
 def _arguments(words: list[str]) -> argparse.Namespace:
     parser = argparse.ArgumentParser(prog="makhloeum check", description=HELP, epilog=END, allow_abbrev=False)
     parser.add_argument("directory", metavar="DIR")
-    parser.add_argument("--seed", type=int, default=1, metavar="N", help="the random sequences are those of this number (1)")
+    parser.add_argument(
+        "--seed", type=int, default=1, metavar="N", help="the random sequences are those of this number (1)"
+    )
     parser.add_argument("--count", type=int, default=1000, metavar="N", help="play at least N operations in all (1000)")
-    parser.add_argument("--time", type=float, metavar="SECONDS", help="end after so many seconds, whatever the count")
+    parser.add_argument(
+        "--time", type=float, metavar="SECONDS", help="end after this number of seconds, whatever the count"
+    )
     parser.add_argument("--most", type=int, default=3, metavar="N", help="end after N kinds of differences (3)")
-    parser.add_argument("--limit", type=float, default=10, metavar="SECONDS", help="an operation that takes longer hangs (10)")
-    parser.add_argument("--shorten", type=float, default=30, metavar="SECONDS", help="time for making a difference short (30)")
+    parser.add_argument(
+        "--limit", type=float, default=10, metavar="SECONDS", help="an operation that takes longer hangs (10)"
+    )
+    parser.add_argument(
+        "--shorten", type=float, default=30, metavar="SECONDS", help="time for making a difference short (30)"
+    )
     parser.add_argument("--no-worked", action="store_true", help="only random sequences")
     parser.add_argument("--quiet", action="store_true", help="no progress on standard error")
     return parser.parse_args(words)
@@ -123,7 +131,10 @@ class _Check:
         self._player.on_operation = lambda: None
         began = time.monotonic()
         if found.hangs:
-            short = found._replace(played=[words for words in found.played[:-1] if words[0] not in ("cat", "reread", "list")] + found.played[-1:])
+            short = found._replace(
+                played=[words for words in found.played[:-1] if words[0] not in ("cat", "reread", "list")]
+                + found.played[-1:]
+            )
         else:
             short = shorten(found, lambda commands: self._retry(found.way, commands), self._options.shorten)
         self._player.on_operation = self.progress
@@ -132,7 +143,10 @@ class _Check:
         print(f"difference: {' '.join(short.played[-1])}: {'; '.join(explained(short))}")
         made = "it did not show again" if short is found else f"made {len(short.played)}"
         print(f"({name}; {len(found.played)} operations, {made})")
-        print("\n".join(shell_script(short, os.path.abspath(self._options.directory), self._has_control)) + "\n", flush=True)
+        print(
+            "\n".join(shell_script(short, os.path.abspath(self._options.directory), self._has_control)) + "\n",
+            flush=True,
+        )
 
     def told(self) -> str:
         counts = self.counts

@@ -16,7 +16,9 @@ _GREATEST: dict[Optional[str], int] = {"pids-limit": PIDS_LIMIT_MAX, "groups-lim
 _GREATEST_ACCEPTED = {file.name: _GREATEST[file.written] for file in FILES if file.written in _GREATEST}
 
 
-def difference(words: Words, ours: Answer, theirs: Answer, engine: Engine, directory: dict[str, object]) -> Optional[str]:
+def difference(
+    words: Words, ours: Answer, theirs: Answer, engine: Engine, directory: dict[str, object]
+) -> Optional[str]:
     """None if the directory's answer (`theirs`) is the engine's (`ours`), the name of the known difference, or
     CONTRADICTION. `directory` is what opening it found."""
     if words[0] == "fork" and ours.error == "EAGAIN" and theirs.error == "ok":
@@ -71,7 +73,9 @@ def _of_values(words: Words, error: str) -> Optional[str]:
     if error == "ok":
         return known.TAKES_MORE if _is_accepted(name, number) else None
     outside = (
-        number != 1 if name == "cgroup.kill" else not 0 <= number < (_GREATEST_PIDS_LIMIT if name == "pids.max" else 1 << 31)
+        number != 1
+        if name == "cgroup.kill"
+        else not 0 <= number < (_GREATEST_PIDS_LIMIT if name == "pids.max" else 1 << 31)
     )
     if error == "ERANGE" and not is_pid and outside:
         return known.OTHER_ERRNO

@@ -120,7 +120,9 @@ class Groups:
     def mkdir(self, path: str) -> str:
         parent = os.path.dirname(path)
         control = os.path.join(self.place(parent), "cgroup.subtree_control")
-        is_first = not self.children.get(parent) and self._controlled and self.way in ("D", "T") and os.path.exists(control)
+        is_first = (
+            not self.children.get(parent) and self._controlled and self.way in ("D", "T") and os.path.exists(control)
+        )
         if is_first:
             file_write(control, "+pids")
         try:
@@ -205,7 +207,9 @@ class Groups:
         """The groups in a group, and those of its files that the engine has too."""
         names = [entry for entry in os.scandir(self.place(path))]
         # what is a file by its name is not asked for its type, which some file systems do not list
-        groups = [it.name for it in names if not it.name.startswith(("cgroup.", "pids.")) and it.is_dir(follow_symlinks=False)]
+        groups = [
+            it.name for it in names if not it.name.startswith(("cgroup.", "pids.")) and it.is_dir(follow_symlinks=False)
+        ]
         return listing(groups, [it.name for it in names if it.name in (*FILES, "cgroup.kill")])
 
     def _shown(self, name: str, text: str) -> str:

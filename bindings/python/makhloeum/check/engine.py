@@ -3,6 +3,7 @@
 from __future__ import annotations
 
 import errno
+import itertools
 from typing import List, NamedTuple, Optional
 
 from .. import _table
@@ -48,7 +49,9 @@ class Engine:
         self._followed = Followed()
         self.changes: dict[str, int] = {}  # of each watched group since it was last asked for
         self._populated: dict[str, str] = {}
-        self._late: dict[str, int] = {}  # how many notifications may still come, since several changes may have one or more
+        self._late: dict[
+            str, int
+        ] = {}  # how many notifications may still come, since several changes may have one or more
 
     def close(self) -> None:
         self.h.close()
@@ -59,13 +62,18 @@ class Engine:
         """The processes in the group and below it."""
         return sorted(pid for group in self.h.groups(at) for pid in self.h.processes(group))
 
+    def new_pid(self) -> str:
+        """The smallest number that no process has."""
+        alive = set(self.alive())
+        return str(next(pid for pid in itertools.count(2) if pid not in alive))
+
     def group_of(self, pid: int) -> Optional[str]:
         try:
             return self.h.where(pid)[3:-1]
         except Refused:
             return None
 
-    def _is_group(self, path: str) -> bool:
+    def is_group(self, path: str) -> bool:
         try:
             return self.h.has_group(path)
         except Refused:
@@ -73,7 +81,12 @@ class Engine:
 
     def dying(self, words: Words) -> list[int]:
         """The processes that a kill ends, also a kill whose value only a kernel accepts."""
-        if words[0] != "write" or words[2] != "cgroup.kill" or kernel_number(words[3]) != 1 or not self._is_group(words[1]):
+        if (
+            words[0] != "write"
+            or words[2] != "cgroup.kill"
+            or kernel_number(words[3]) != 1
+            or not self.is_group(words[1])
+        ):
             return []
         return self.alive(words[1])
 
@@ -99,7 +112,7 @@ class Engine:
             return self._can_live(words)
         path = words[1]
         if kind in ("watch", "told"):
-            return path != "/" and self._is_group(path) and (kind == "told") == (path in self.changes)
+            return path != "/" and self.is_group(path) and (kind == "told") == (path in self.changes)
         if kind in ("mkdir", "rmdir"):
             return path != "/" and path.count("/") <= DEEPEST and len(path) <= LONGEST and self._keeps_to_leaves(words)
         return self._can_use(words) and self._keeps_to_leaves(words)
@@ -108,7 +121,9 @@ class Engine:
         pids = [int(word) for word in words[1:] if word.isdecimal()]
         if len(pids) < len(words) - 1 or self.group_of(pids[0]) is None:
             return False
-        return words[0] == "exit" or (self.group_of(pids[1]) is None and pids[1] > 1 and len(self.alive()) < MOST_PROCESSES)
+        return words[0] == "exit" or (
+            self.group_of(pids[1]) is None and pids[1] > 1 and len(self.alive()) < MOST_PROCESSES
+        )
 
     def _can_use(self, words: Words) -> bool:
         path, name = words[1:3]
@@ -118,7 +133,7 @@ class Engine:
             return False
         if name == "cgroup.kill" and self._way == "T":
             # played by signals, so the group's own file answers nothing
-            return words[0] == "write" and words[3] == "1" and self._is_group(path)
+            return words[0] == "write" and words[3] == "1" and self.is_group(path)
         # the writer itself, and numbers that mean another process to a kernel
         return (
             name != "cgroup.procs"
@@ -133,9 +148,9 @@ class Engine:
             return True
         if words[0] == "mkdir":
             parent = _parent(words[1])
-            return parent == "/" or not self._is_group(parent) or not self.h.processes(parent)
+            return parent == "/" or not self.is_group(parent) or not self.h.processes(parent)
         is_move = words[0] == "write" and words[2] == "cgroup.procs" and words[1] != "/"
-        return not is_move or not self._is_group(words[1]) or not self.h.children(words[1])
+        return not is_move or not self.is_group(words[1]) or not self.h.children(words[1])
 
     # ---- commands
 
@@ -193,7 +208,9 @@ class Engine:
         # the root of the engine is no root in the directory, so it has each file
         is_without = self._way == "N" and path != "/"
         files = [name for name in (*FILES, "cgroup.kill") if name not in self._missing]
-        return Answer("ok", listing(children, [name for name in files if not is_without or not name.startswith("pids.")]))
+        return Answer(
+            "ok", listing(children, [name for name in files if not is_without or not name.startswith("pids.")])
+        )
 
     def came_late(self, path: str) -> None:
         """A notification of several changes that came after the others."""

@@ -147,7 +147,9 @@ class Player:
             if found:
                 return found
 
-    def _step(self, way: str, words: Words, engine: Engine, played: list[Words], counts: Counts) -> Optional[Difference]:
+    def _step(
+        self, way: str, words: Words, engine: Engine, played: list[Words], counts: Counts
+    ) -> Optional[Difference]:
         request, value = engine.request(words), engine.taken(words)
         ours = engine.play(words)
         if words[0] == "fork":

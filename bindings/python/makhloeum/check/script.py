@@ -56,7 +56,11 @@ class _Script:
 
     @staticmethod
     def _is_about_first(words: Words) -> bool:
-        return words[:2] == ["exit", "1"] or words[2:] == ["cgroup.procs", "1"] or words[:3] == ["cat", "/", "cgroup.procs"]
+        return (
+            words[:2] == ["exit", "1"]
+            or words[2:] == ["cgroup.procs", "1"]
+            or words[:3] == ["cat", "/", "cgroup.procs"]
+        )
 
     def _ends_in_root(self, commands: list[Words]) -> bool:
         """Whether the processes of the root are compared last."""
@@ -69,7 +73,11 @@ class _Script:
         for words in self._difference.played[at:]:
             if words[2:] == ["cgroup.procs", pid]:
                 return "write"
-            if words[0] in ("fork", "exit", "where") and pid in words[1:] or words[:1] + words[2:] == ["cat", "cgroup.procs"]:
+            if (
+                words[0] in ("fork", "exit", "where")
+                and pid in words[1:]
+                or words[:1] + words[2:] == ["cat", "cgroup.procs"]
+            ):
                 return words[0]
         return ""
 
@@ -216,7 +224,9 @@ class _Script:
             before = words
 
     def _belongs(self, before: Words, words: Words) -> bool:
-        is_one_place = before[0] == "mkdir" and words[0] == "write" and words[1] == before[1] and words[2] != "cgroup.procs"
+        is_one_place = (
+            before[0] == "mkdir" and words[0] == "write" and words[1] == before[1] and words[2] != "cgroup.procs"
+        )
         return is_one_place or (before[0], words[0]) in (("mkdir", "mkdir"), ("rmdir", "rmdir"))
 
     def lines(self) -> list[str]:

@@ -9,13 +9,12 @@ from typing import Iterator, Optional
 
 from .._table import PIDS_LIMIT_MAX
 from .engine import Engine, FILES, LIMITS, Words
+from .refusals import DEEPEST, NAMES, chosen, leading_to
 
 HERE = os.path.dirname(os.path.abspath(__file__))
 # beside this module if it is installed, else in the repository
 _PLACES = (os.path.join(HERE, "worked"), os.path.normpath(os.path.join(HERE, "../../../../evidence/linux")))
 _SETS = ("rows", "text")
-NAMES = ("a", "b", "c")
-DEEPEST = 4
 GROUPS_AT_MOST = 12
 COMMANDS = 40
 
@@ -44,25 +43,31 @@ def _read(path: str) -> tuple[str, list[Words]]:
 
 
 class Random:
-    """A random sequence, aimed at the state: call it for the next command. At its end every file of every group is read."""
+    """A random sequence, aimed at the state and at a refusal by each limit: call it for the next command. At its end every file of
+    every group is read."""
 
     def __init__(self, seed: int, number: int) -> None:
         self._choice = random.Random(f"{seed} {number}")
         self._left = self._choice.randint(COMMANDS // 4, COMMANDS)
-        self._waiting: list[Words] = []
+        refusals = chosen(seed, number)
+        # in the first half, the fork first: after kills there may be no process
+        moments = self._choice.sample(range(self._left // 2, self._left), len(refusals))
+        self._refusals = dict(zip(sorted(moments, reverse=True), refusals))
+        self._waiting: Iterator[Words] = iter(())
         self._is_dumped = False
 
     def __call__(self, engine: Engine) -> Optional[Words]:
-        if self._waiting:
-            return self._waiting.pop(0)
-        if self._left <= 0:
-            if self._is_dumped:
-                return None
+        waiting = next(self._waiting, None)
+        if waiting or self._is_dumped:
+            return waiting
+        if self._left == 0:
             self._is_dumped = True
-            self._waiting = engine.dump() + [["told", group] for group in engine.changes]
-            return self._waiting.pop(0)
+            self._waiting = iter(engine.dump() + [["told", group] for group in engine.changes])
+            return next(self._waiting)
         self._left -= 1
-        return self._command(engine)
+        if self._left in self._refusals:
+            self._waiting = leading_to(self._refusals[self._left], engine, self._choice)
+        return next(self._waiting, None) or self._command(engine)
 
     def _command(self, engine: Engine) -> Words:
         kinds = {
@@ -97,10 +102,6 @@ class Random:
         alive = engine.alive()
         return str(self._choice.choice(alive[1:] if len(alive) > 1 and self._choice.random() < 0.9 else alive or [1]))
 
-    def _new_pid(self, engine: Engine) -> str:
-        alive = set(engine.alive())
-        return str(next(pid for pid in range(2, 100) if pid not in alive))
-
     # ---- commands
 
     def _mkdir(self, engine: Engine) -> Words:
@@ -112,10 +113,10 @@ class Random:
         return ["rmdir", self._group(engine, beside_root=True)]
 
     def _fork(self, engine: Engine) -> Words:
-        child, parent = self._new_pid(engine), self._process(engine)
+        child, parent = engine.new_pid(), self._process(engine)
         if self._choice.random() < 0.3:
             # a child of process 1 that is moved at once, as a container's is
-            self._waiting = [["write", self._group(engine, beside_root=True), "cgroup.procs", child]]
+            self._waiting = iter([["write", self._group(engine, beside_root=True), "cgroup.procs", child]])
             parent = "1"
         return ["fork", parent, child]
 
@@ -139,9 +140,11 @@ class Random:
 
     def _kill(self, engine: Engine) -> Words:
         """Of a group that has processes below it, if there is one."""
-        self._waiting = [["cat", group, "pids.current"] for group in engine.h.groups()[1:]]
+        self._waiting = iter([["cat", group, "pids.current"] for group in engine.h.groups()[1:]])
         full = [group for group in engine.h.groups()[1:] if len(engine.alive(group)) > len(engine.h.processes(group))]
-        group = self._choice.choice(full) if full and self._choice.random() < 0.7 else self._group(engine, beside_root=True)
+        group = (
+            self._choice.choice(full) if full and self._choice.random() < 0.7 else self._group(engine, beside_root=True)
+        )
         return ["write", group, "cgroup.kill", "1"]
 
     def _cat(self, engine: Engine) -> Words:

@@ -74,7 +74,8 @@ def _changes(commands: list[Words]) -> Iterator[list[Words]]:
         upper = parent.rsplit("/", 1)[0] + "/" + name
         if not any(_is_at(words[1], upper) for words in commands):
             yield [
-                [words[0], upper + words[1][len(path) :], *words[2:]] if _is_at(words[1], path) else words for words in commands
+                [words[0], upper + words[1][len(path) :], *words[2:]] if _is_at(words[1], path) else words
+                for words in commands
             ]
 
 

@@ -77,4 +77,6 @@ class Watch:
         again = self._came(_NO_MORE)
         if again:
             self._see()
-        return " ".join(sorted(came, reverse=True)) + (", again " + " ".join(sorted(again, reverse=True)) if again else "")
+        return " ".join(sorted(came, reverse=True)) + (
+            ", again " + " ".join(sorted(again, reverse=True)) if again else ""
+        )

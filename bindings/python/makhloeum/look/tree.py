@@ -15,7 +15,7 @@ import shutil
 import sys
 import time
 from dataclasses import dataclass, field
-from typing import IO, Callable, Dict, Iterator, List, Optional, TextIO, Tuple
+from typing import IO, Dict, Iterator, List, Optional, TextIO, Tuple
 
 from ..hierarchy import Hierarchy
 
@@ -49,7 +49,12 @@ def of_hierarchy(h: Hierarchy, path: str = "/") -> Node:
     """The group of an engine, with those below it."""
     node = Node(path if path == "/" else path.rsplit("/", 1)[1], h.processes(path))
     if path != "/":
-        node.current, node.limit, node.peak, node.populated = h.current(path), h.limit(path), h.peak(path), h.populated(path)
+        node.current, node.limit, node.peak, node.populated = (
+            h.current(path),
+            h.limit(path),
+            h.peak(path),
+            h.populated(path),
+        )
         node.total, node.here = (int(h.read(path, file).split()[1]) for file in ("pids.events", "pids.events.local"))
     node.below = [of_hierarchy(h, path.rstrip("/") + "/" + name) for name in h.children(path)]
     return node
@@ -280,7 +285,11 @@ def main(words: List[str]) -> int:
     try:
         os.close(os.open(os.path.join(folder, "cgroup.procs"), os.O_RDONLY))
     except OSError as failure:
-        why = "it has no cgroup.procs" if os.path.isdir(folder) and not os.path.exists(failure.filename) else failure.strerror
+        why = (
+            "it has no cgroup.procs"
+            if os.path.isdir(folder) and not os.path.exists(failure.filename)
+            else failure.strerror
+        )
         print(f"makhloeum tree: {_printable(folder)} is not a cgroup2 directory: {why}", file=sys.stderr)
         return 2
     # a name may have letters that the output's encoding lacks
