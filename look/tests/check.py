@@ -71,7 +71,9 @@ class Mount:
         os.mkdir(self.at)
         command = [self.at if word == "AT" else word for word in command]
         self.process = subprocess.Popen(command, stderr=subprocess.PIPE, env=dict(os.environ, **environment))
-        if not until(lambda: self.process.poll() is not None or os.path.ismount(self.at)) or not os.path.ismount(self.at):
+        if not until(lambda: self.process.poll() is not None or os.path.ismount(self.at)) or not os.path.ismount(
+            self.at
+        ):
             raise SystemExit(f"no mount: {self.process.stderr.read().decode()}")
 
     def groups(self):
@@ -102,17 +104,22 @@ def check(directory, *words, seconds=300):
     return ran.returncode, ran.stdout, ran.stderr
 
 
+def contents(pid, name):
+    try:
+        with open(f"/proc/{pid}/{name}", "rb") as it:
+            return it.read()
+    except OSError:
+        return b""
+
+
 def workers():
-    """The processes of a check that are still there."""
-    found = []
-    for pid in filter(str.isdecimal, os.listdir("/proc")):
-        try:
-            with open(f"/proc/{pid}/cmdline", "rb") as it:
-                if b"makhloeum.check" in it.read():
-                    found.append(int(pid))
-        except OSError:
-            pass
-    return found
+    """The processes of a check of these tests that are still there. look/test-check gives the tests a TMPDIR of their own."""
+    ours = os.fsencode(f"TMPDIR={os.environ['TMPDIR']}")
+    return [
+        int(pid)
+        for pid in filter(str.isdecimal, os.listdir("/proc"))
+        if b"makhloeum.check" in contents(pid, "cmdline") and ours in contents(pid, "environ").split(b"\0")
+    ]
 
 
 # ---- no difference
@@ -151,23 +158,26 @@ def script_of(out):
 
 
 def shows(m, script):
-    """What the script prints is what the directory said."""
+    """What the last line of the script prints is what the directory said; its pids are other numbers."""
     said = re.search(r"; the directory: (.*)$", script[1])[1]
-    ran = subprocess.run(["sh", "-c", "\n".join(script)], capture_output=True, text=True, timeout=60)
+    parted = [*script[:-1], "echo --", script[-1]]
+    ran = subprocess.run(["sh", "-c", "\n".join(parted)], capture_output=True, text=True, timeout=60)
     wanted = re.search(r"\((.*)\)$", said)
     if said == "ok":
         return ran.returncode == 0, ran
     if wanted:
         return wanted[1] in ran.stderr, ran
-    text = eval(said)
-    return "alive: " in text or ran.stdout.endswith(text) or len(ran.stdout.split()) == len(text.split()), ran
+    text, printed = eval(said), ran.stdout.rpartition("--\n")[2]
+    return "alive: " in text or printed == text or len(printed.split()) == len(text.split()), ran
 
 
 def caught(name):
     """What went wrong, or ''; and how long it took."""
     began = time.monotonic()
     with faulty(name) as m:
-        status, out, said = check(m.at, "--no-worked", "--most", "1", "--shorten", "90", "--time", "120", "--count", "100000")
+        status, out, said = check(
+            m.at, "--no-worked", "--most", "1", "--shorten", "90", "--time", "120", "--count", "100000"
+        )
         seconds, script = time.monotonic() - began, script_of(out)
         if status != 1 or not script:
             return f"status {status}: {out}{said}", seconds
@@ -196,6 +206,18 @@ def catch_all():
 # ---- what ends it
 
 
+def others_are_not_ours():
+    """Of two processes with the name of a check, only the one of these tests is counted."""
+    sleeping = [sys.executable, "-c", "import time; time.sleep(60)", "makhloeum.check"]
+    with subprocess.Popen(sleeping) as ours, subprocess.Popen(sleeping, env=dict(os.environ, TMPDIR="/tmp")) as other:
+        # a process may have its words only after Popen returned
+        until(lambda: all(contents(it.pid, "environ") and contents(it.pid, "cmdline") for it in (ours, other)))
+        found = workers()
+        ours.kill()
+        other.kill()
+    step("a process of another run is not counted", found == [ours.pid], f"{found}: {ours.pid}, and not {other.pid}")
+
+
 def hanging():
     with faulty("hang") as m:
         status, out, said = check(m.at, "--limit", "2")
@@ -207,7 +229,11 @@ def hanging():
     began = time.monotonic()
     with faulty("hang_kill") as m:
         status, out, said = check(m.at, "--limit", "2", "--no-worked")
-        step("a directory that hangs", status == 1 and "it hangs" in out and "cgroup.kill" in script_of(out)[-1], out + said)
+        step(
+            "a directory that hangs",
+            status == 1 and "it hangs" in out and "cgroup.kill" in script_of(out)[-1],
+            out + said,
+        )
         step("what could not be removed is named", "could not be removed" in said, said)
     step("it ends in time", time.monotonic() - began < 60)
     step("no process is left once the directory is gone", until(lambda: not workers()), workers())
@@ -216,7 +242,11 @@ def hanging():
 def not_removed():
     with faulty("stays") as m:
         status, out, said = check(m.at, "--no-worked", "--count", "50")
-        step("groups that cannot be removed: the status", status == 2 and ", 0 differences" in out, f"{status}: {out}{said}")
+        step(
+            "groups that cannot be removed: the status",
+            status == 2 and ", 0 differences" in out,
+            f"{status}: {out}{said}",
+        )
         step("groups that cannot be removed are named", re.search(r"/top\d+ could not be removed$", said, re.M), said)
 
 
@@ -233,7 +263,11 @@ def signalled(number, status):
         step(f"{name}: its status", running.returncode == status, running.returncode)
         step(f"{name}: nothing is left", until(lambda: m.groups() == []), m.groups())
         if status == 2:
-            step(f"{name}: one sentence, and the counts", said.endswith("interrupted\n") and "operations in" in out, out + said)
+            step(
+                f"{name}: one sentence, and the counts",
+                said.endswith("interrupted\n") and "operations in" in out,
+                out + said,
+            )
         step(f"{name}: no process is left", until(lambda: not workers()), workers())
 
 
@@ -261,7 +295,10 @@ def unusable():
     refused("a file", os.path.join(folder("f", x=""), "x"), "not a directory")
     refused("a plain directory", folder("plain"), "not a cgroup2 directory")
     refused(
-        "another controller", folder("other", cgroup__procs="", cgroup__controllers="cpu memory\n"), "pids", "cgroup.controllers"
+        "another controller",
+        folder("other", cgroup__procs="", cgroup__controllers="cpu memory\n"),
+        "pids",
+        "cgroup.controllers",
     )
     off = folder("off", cgroup__procs="", cgroup__controllers="pids\n", cgroup__subtree_control="\n")
     refused("the controller is off", off, "+pids")
@@ -293,6 +330,7 @@ same_on("the small file system", faulty("none"), 800, "--no-worked")
 same_under_run()
 progress()
 catch_all()
+others_are_not_ours()
 hanging()
 not_removed()
 signalled(signal.SIGINT, 2)

@@ -24,11 +24,16 @@ static const struct kind {
 	bool on_root;
 	mode_t mode;
 } kinds[] = {
-	{ "cgroup.procs", true, 0644 },         { "cgroup.events", false, 0444 },
-	{ "cgroup.stat", true, 0444 },          { "cgroup.max.descendants", true, 0644 },
-	{ "cgroup.max.depth", true, 0644 },     { "cgroup.kill", false, 0200 },
-	{ "pids.max", false, 0644 },            { "pids.current", false, 0444 },
-	{ "pids.peak", false, 0444 },           { "pids.events", false, 0444 },
+	{ "cgroup.procs", true, 0644 },
+	{ "cgroup.events", false, 0444 },
+	{ "cgroup.stat", true, 0444 },
+	{ "cgroup.max.descendants", true, 0644 },
+	{ "cgroup.max.depth", true, 0644 },
+	{ "cgroup.kill", false, 0200 },
+	{ "pids.max", false, 0644 },
+	{ "pids.current", false, 0444 },
+	{ "pids.peak", false, 0444 },
+	{ "pids.events", false, 0444 },
 	{ "pids.events.local", false, 0444 },
 };
 
@@ -42,7 +47,7 @@ static struct opened {
 	bool changed;
 	int again;
 	struct fuse_pollhandle *waiter;
-} *all_opened;
+} * all_opened;
 
 static bool has(const char *name)
 {
@@ -78,7 +83,9 @@ static bool is_below(const char *path, const char *top)
 static int children_of(const char *group)
 {
 	static uint8_t names[MK_CHILDREN_MAX];
-	return mk_children(&engine, (const uint8_t *)group, strlen(group), names, sizeof names, &info) == MK_DONE ? (int)info.count : 0;
+	return mk_children(&engine, (const uint8_t *)group, strlen(group), names, sizeof names, &info) == MK_DONE
+		? (int)info.count
+		: 0;
 }
 
 static const char *name_shown(const struct kind *kind)
@@ -96,7 +103,7 @@ static const char *name_shown(const struct kind *kind)
 static void drop_last(char *text)
 {
 	char *last = strrchr(text, '\n');
-	for (*text && last ? *last = 0 : 0; last > text && last[-1] != '\n'; last--)
+	for (*text &&last ? *last = 0 : 0; last > text && last[-1] != '\n'; last--)
 		;
 	if (last > text)
 		*last = 0;
@@ -107,7 +114,8 @@ static void drop_last(char *text)
 static void change_text(const char *group, const struct kind *kind, char *text)
 {
 	const char *name = kind->name;
-	if (has("one_too_few") && strcmp(name, "pids.current") == 0 && *killed && is_below(killed, group) && strcmp(text, "0\n"))
+	if (has("one_too_few") && strcmp(name, "pids.current") == 0 && *killed && is_below(killed, group) &&
+		strcmp(text, "0\n"))
 		sprintf(text, "%d\n", atoi(text) - 1);
 	if (has("no_feed") && strcmp(name, "pids.current") == 0)
 		text[strlen(text) - 1] = 0;
@@ -194,7 +202,8 @@ static int get(const char *path, struct stat *st, struct fuse_file_info *fi)
 	return 0;
 }
 
-static int list(const char *path, void *out, fuse_fill_dir_t fill, off_t at, struct fuse_file_info *fi, enum fuse_readdir_flags flags)
+static int list(const char *path, void *out, fuse_fill_dir_t fill, off_t at, struct fuse_file_info *fi,
+	enum fuse_readdir_flags flags)
 {
 	static char names[MK_CHILDREN_MAX];
 	const char *name = names;
@@ -316,7 +325,8 @@ static bool is_over(const char *group)
 	char at[PATH_MAX];
 	uint64_t limit = 0, now = 0;
 	for (snprintf(at, sizeof at, "%s", group); *at && strcmp(at, "/"); *strrchr(at, '/') = 0)
-		if (mk_limit(&engine, at, &limit, &info) == MK_DONE && mk_current(&engine, at, &now, &info) == MK_DONE && now >= limit)
+		if (mk_limit(&engine, at, &limit, &info) == MK_DONE && mk_current(&engine, at, &now, &info) == MK_DONE &&
+			now >= limit)
 			return true;
 	return false;
 }
@@ -387,8 +397,17 @@ static void *start(struct fuse_conn_info *connection, struct fuse_config *config
 }
 
 static const struct fuse_operations operations = {
-	.init = start, .getattr = get, .readdir = list, .mkdir = make, .rmdir = take_away, .open = open_it, .release = close_it,
-	.read = read_it, .write = write_it, .truncate = cut_off, .poll = wait_for,
+	.init = start,
+	.getattr = get,
+	.readdir = list,
+	.mkdir = make,
+	.rmdir = take_away,
+	.open = open_it,
+	.release = close_it,
+	.read = read_it,
+	.write = write_it,
+	.truncate = cut_off,
+	.poll = wait_for,
 };
 
 int main(int argc, char **argv)

@@ -14,7 +14,7 @@ const { columns, momentAt, scale, stepPath, ticks } = await import(new URL("plot
 const LINES = [
   "mkdir /a", "write /a pids.max 1", "fork 1 2", "write /a cgroup.procs 2", "fork 2 3", "write /a cgroup.kill 1", "undo", "exit 2", "rmdir /a",
 ];
-const STEPS = [[0, 1], [7, 0, 1, 1], [2, 2, 0], [4, 2, 1], [8, 2, 1, 1, 1, 8, 3, 1, 1, 1], [5, 1], [6, 5], [3, 2], [1, 1]];
+const STEPS = [[0, 1], [7, LIMIT, 1, 1], [2, 2, 0], [4, 2, 1], [8, TOTAL, 1, 1, 1, 8, LOCAL, 1, 1, 1], [5, 1], [6, 5], [3, 2], [1, 1]];
 const run = () => new Run({
   lines: LINES.join("\n"), names: ["/", "a"], parents: [0, 0], notes: { 4: "# too many" }, times: [1, 1, 1, 1, 1, 5, 5, 5, 5].map((n) => n * 1e6),
   answers: ["ok", "refused pidsmax /a", "ok\n| write /a cgroup.kill 1"], answer: [0, 0, 0, 0, 1, 0, 2, 0, 0], steps: STEPS.flatMap((step) => [step.length, ...step]),
@@ -99,6 +99,12 @@ const answered = (...pairs) => new Run({
   lines: pairs.map(([line]) => line).join("\n"), names: ["/", "a", "b", "bc"], parents: [0, 0, 1, 1], notes: {}, times: null,
   answers: pairs.map(([, answer]) => answer ?? "ok"), answer: pairs.map((_, at) => at),
   steps: pairs.flatMap(([, , ...step]) => [step.length, ...step]),
+});
+
+test("a path is found from its start", () => {
+  const one = answered(["mkdir /a"], ["mkdir /b"], ["mkdir /a/b"], ["mkdir /a/bc"], ["rmdir /b", "refused haschildren /b"]);
+  assert.deepStrictEqual(search(one, "/b"), [2, 5]);
+  assert.deepStrictEqual(search(one, "/a/b"), [3, 4]);
 });
 
 test("the refusals of a group", () => {

@@ -17,7 +17,19 @@ from makhloeum.look.page import page  # noqa: E402
 
 PATHS = ["/a", "/b", "/a/x", "/a/y", "/a/x/deep", "/a/x/deep/er", "/b/x"]
 FILES = ["cgroup.procs", "cgroup.stat", "cgroup.events", "pids.current", "pids.peak", "pids.events", "pids.max"]
-KINDS = {"mkdir": 8, "rmdir": 3, "fork": 14, "exit": 3, "move": 9, "limit": 5, "kill": 1, "cat": 5, "where": 2, "undo": 6, "bad": 1}
+KINDS = {
+    "mkdir": 8,
+    "rmdir": 3,
+    "fork": 14,
+    "exit": 3,
+    "move": 9,
+    "limit": 5,
+    "kill": 1,
+    "cat": 5,
+    "where": 2,
+    "undo": 6,
+    "bad": 1,
+}
 
 
 def command(choice: random.Random, pids: int = 14) -> str:
@@ -33,7 +45,9 @@ def command(choice: random.Random, pids: int = 14) -> str:
         "kill": f"write {path} cgroup.kill 1",
         "cat": f"cat {path} {choice.choice(FILES)}",
         "undo": "undo",
-        "bad": choice.choice(["nonsense", "write /a pids.max -1", "mkdir a", "cat /a pids.mox", "\x01\x02", "mkdir /a/<b>"]),
+        "bad": choice.choice(
+            ["nonsense", "write /a pids.max -1", "mkdir a", "cat /a pids.mox", "\x01\x02", "mkdir /a/<b>"]
+        ),
     }.get(kind, f"{kind} {path}")
 
 
@@ -49,7 +63,12 @@ def long_trace(lines: int) -> str:
     choice, told, now = random.Random(1), [], 0
     alive: List[List[int]] = []
     for group in range(60):
-        told += [f"mkdir /s{group}", f"write /s{group} pids.max 40", f"fork 1 {group + 2}", f"write /s{group} cgroup.procs {group + 2}"]
+        told += [
+            f"mkdir /s{group}",
+            f"write /s{group} pids.max 40",
+            f"fork 1 {group + 2}",
+            f"write /s{group} cgroup.procs {group + 2}",
+        ]
         alive.append([])
     pid = 100
     while len(told) < lines:
@@ -91,8 +110,18 @@ def pods_trace() -> str:
             pod = f"/kubepods.slice/kubepods-{kind}.slice/kubepods-{kind}-pod7b2f4c1d_4a0e_4f0c_9d1a_c0ffee00000{number}.slice"
             container = f"{pod}/cri-containerd-{pid * 0x9E3779B97F4A7C15 % (1 << 256):064x}.scope"
             pool = f"{container}/init.scope/workers/pool-of-the-greatest-importance-{number}"
-            told += [f"mkdir {pod}", f"write {pod} pids.max {8 + number}", f"mkdir {container}", f"mkdir {container}/init.scope"]
-            told += [f"mkdir {container}/init.scope/workers", f"mkdir {pool}", f"fork 100 {pid}", f"write {container} cgroup.procs {pid}"]
+            told += [
+                f"mkdir {pod}",
+                f"write {pod} pids.max {8 + number}",
+                f"mkdir {container}",
+                f"mkdir {container}/init.scope",
+            ]
+            told += [
+                f"mkdir {container}/init.scope/workers",
+                f"mkdir {pool}",
+                f"fork 100 {pid}",
+                f"write {container} cgroup.procs {pid}",
+            ]
             told += [f"fork {pid} {pid + 1 + child}" for child in range(10)] + [f"write {pool} cgroup.procs {pid + 2}"]
             pid += 20
     return "\n".join(told) + "\n"
@@ -110,7 +139,7 @@ def deep_trace() -> str:
 HOSTILE = (
     "# </script><script>window.hacked = 1</script> <!-- <script>\n"
     "# \x1b[31m \u202e text from the right\n"
-    "mkdir /<script>\nmkdir /<script>/&quot;\nmkdir /<img\nmkdir /\"onload=hacked=1\nmkdir /@DATA@\nmkdir /$&\nmkdir /__proto__\n"
+    'mkdir /<script>\nmkdir /<script>/&quot;\nmkdir /<img\nmkdir /"onload=hacked=1\nmkdir /@DATA@\nmkdir /$&\nmkdir /__proto__\n'
     "mkdir /constructor\nfork 1 2\nwrite /__proto__ cgroup.procs 2\n</script><script>window.hacked = 1</script>\ncat /<script> pids.max\n"
     "write /<script>/&quot; pids.max 0\nfork 1 3\nwrite /<script>/&quot; cgroup.procs 3\nfork 3 4\n\\u003cb\\u003e \\\" ' ` ${hacked}\n"
 )

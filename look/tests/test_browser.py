@@ -53,7 +53,9 @@ def test_it_steps_by_keys_clicks_and_the_slider(shown):
     assert moment(b) == 27
     b.click("#list .row[data-at='25'] .text")
     assert moment(b) == 26 and b.text("#answer") == "26 fork 4 31\nok"
-    b.run("const slider = document.getElementById('slider'); slider.value = 5; slider.dispatchEvent(new Event('input'))")
+    b.run(
+        "const slider = document.getElementById('slider'); slider.value = 5; slider.dispatchEvent(new Event('input'))"
+    )
     assert moment(b) == 5
     b.run("document.getElementById('slider').focus()")
     b.press("right")
@@ -68,7 +70,8 @@ def test_it_plays_and_plays_back(shown):
     b = shown(40)
     b.run("document.getElementById('speed').value = '100'")
     b.press(" ")
-    assert b.until(lambda: moment(b) == 47)
+    plays = "return ['play', 'play-back'].map((id) => document.getElementById(id).ariaPressed)"
+    assert b.until(lambda: moment(b) == 47 and b.run(plays) == ["false", "false"]), "it stops at the end"
     b.press(" ", held="shift")
     assert b.until(lambda: moment(b) < 30)
     b.press("escape")
@@ -76,7 +79,7 @@ def test_it_plays_and_plays_back(shown):
     time.sleep(0.3)
     assert moment(b) == stopped
     b.click("#play-back")
-    assert b.until(lambda: moment(b) == 0)
+    assert b.until(lambda: moment(b) == 0 and b.run(plays) == ["false", "false"])
     b.run("document.getElementById('speed').value = '10'")
     b.click("#play")
     assert b.until(lambda: moment(b) > 3)
@@ -107,7 +110,11 @@ def test_what_the_last_command_changed_is_marked(shown):
     assert b.texts("#tree .pid.fresh") == ["30"]
     assert b.texts("#tree .was") == ["16 in all", "2 / 8", "2", "2 / max", "2"]
     b.press("left", "left")
-    assert b.run("return [...document.querySelectorAll('#tree .row.changed')].map((one) => one.firstChild.title)") == ["/", "/system", "/system/db"]
+    assert b.run("return [...document.querySelectorAll('#tree .row.changed')].map((one) => one.firstChild.title)") == [
+        "/",
+        "/system",
+        "/system/db",
+    ]
 
 
 def test_bars_and_peaks(shown):
@@ -120,7 +127,8 @@ def test_bars_and_peaks(shown):
     assert b.run(bar, "/batch")[:2] == ["bar", 0]
     assert b.run(bar, "/system/db")[0] == "bar free"
     b.press("left")
-    assert b.run(bar, "/batch")[1] in (86, 87, 88, 89)
+    assert b.run(bar, "/batch")[0] == "bar" and b.run(bar, "/batch")[1] in (86, 87, 88, 89)
+    assert shown(32).run(bar, "/batch")[:2] == ["bar full", 100]
 
 
 def test_groups_are_folded_and_chosen(shown):
@@ -180,12 +188,17 @@ def test_search_by_group_pid_and_word(shown):
     assert (b.text("#found"), moment(b)) == ("2 of 2", 42), "a process that was killed is found at the kill"
     b.press("home", "/")
     assert b.run("return document.activeElement.id") == "query"
+    b = shown(33)
+    b.type("#query", "pidsmax")
+    assert (b.text("#found"), moment(b)) == ("2 of 3", 33), "the next match is that of the moment, or after it"
 
 
 def test_a_processs_life(shown):
     b = shown(0)
     b.type("#query", "4")
-    life = b.run("return [...document.querySelectorAll('.life tr')].map((row) => [...row.cells].map((one) => one.textContent))")
+    life = b.run(
+        "return [...document.querySelectorAll('.life tr')].map((row) => [...row.cells].map((one) => one.textContent))"
+    )
     assert life == [
         ["line 12", "born /", "fork 1 4"],
         ["line 13", "moved /batch/job", "write /batch/job cgroup.procs 4"],
@@ -203,7 +216,9 @@ def test_a_processs_life(shown):
 def test_plots_have_marks_and_tell_the_command(shown):
     b = shown(20)
     assert b.texts("figcaption strong") == ["/batch", "/system/web"]
-    assert b.run("return [document.querySelectorAll('.mark-refused').length, document.querySelectorAll('.mark-kill').length]") == [3, 1]
+    assert b.run(
+        "return [document.querySelectorAll('.mark-refused').length, document.querySelectorAll('.mark-kill').length]"
+    ) == [3, 1]
     box = "const box = document.querySelector(arguments[0]).getBoundingClientRect(); return [box.left + box.width / 2, box.top + box.height / 2]"
     x, y = b.run(box, ".mark-refused")
     b.point(x, y)
@@ -238,9 +253,15 @@ def test_names_are_shown_as_written(browser, pages):
     b = browser
     b.open("about:blank")
     b.open(pages("hostile", HOSTILE))
-    assert b.run("return [window.hacked === undefined, document.scripts.length, document.querySelectorAll('img').length]") == [True, 2, 0]
-    names = b.run("return [...document.querySelectorAll('#tree .row > span:first-child')].map((one) => one.textContent.replace(/[▸▾\\u00a0]/g, ''))")
-    assert sorted(names) == sorted(["/", "<script>", "&quot;", "<img", '"onload=hacked=1', "@DATA@", "$&", "__proto__", "constructor"])
+    assert b.run(
+        "return [window.hacked === undefined, document.scripts.length, document.querySelectorAll('img').length]"
+    ) == [True, 2, 0]
+    names = b.run(
+        "return [...document.querySelectorAll('#tree .row > span:first-child')].map((one) => one.textContent.replace(/[▸▾\\u00a0]/g, ''))"
+    )
+    assert sorted(names) == sorted(
+        ["/", "<script>", "&quot;", "<img", '"onload=hacked=1', "@DATA@", "$&", "__proto__", "constructor"]
+    )
     b.press("home")
     assert "</script><script>window.hacked = 1</script>" in b.text("#list") and "\\u202e" in b.text("#list")
     for query in ("/__proto__", "/constructor", "/<script>/&quot;", "__proto__", "</script>"):
@@ -259,10 +280,17 @@ def test_no_global_names_and_no_network(browser, pages, tmp_path):
     names = set(b.run("return Object.getOwnPropertyNames(window)"))
     b.open("about:blank")
     b.open(pages("demo", demo()) + "#line=32")
-    more = {name for name in set(b.run("return Object.getOwnPropertyNames(window)")) - names if not name.startswith(("cdc_", "$cdc"))}
+    more = {
+        name
+        for name in set(b.run("return Object.getOwnPropertyNames(window)")) - names
+        if not name.startswith(("cdc_", "$cdc"))
+    }
     assert more == set()
     assert b.run("return performance.getEntriesByType('resource').length") == 0
-    assert b.run("return fetch('http://127.0.0.1:9/').then(() => 'went', (error) => error.constructor.name)") == "TypeError"
+    assert (
+        b.run("return fetch('http://127.0.0.1:9/').then(() => 'went', (error) => error.constructor.name)")
+        == "TypeError"
+    )
     assert any("Content Security Policy" in message for message in b.complaints())
 
 
@@ -310,20 +338,47 @@ def test_everything_can_be_reached_by_the_keyboard(shown):
     seen = []
     for _ in range(40):
         b.press("tab")
-        seen.append(b.run("const it = document.activeElement; return it.id || it.className || it.title || it.textContent"))
-        assert b.run("return document.activeElement === document.body || getComputedStyle(document.activeElement).outlineWidth") in (True, "3px")
-    for wanted in ("query", "found-after", "first", "play-back", "last", "speed", "slider", "list", "before", "name-width", "tree", "refusals", "plot-it", "pid", "Take this plot off"):
+        seen.append(
+            b.run("const it = document.activeElement; return it.id || it.className || it.title || it.textContent")
+        )
+        assert b.run(
+            "return document.activeElement === document.body || getComputedStyle(document.activeElement).outlineWidth"
+        ) in (True, "3px")
+    for wanted in (
+        "query",
+        "found-after",
+        "first",
+        "play-back",
+        "last",
+        "speed",
+        "slider",
+        "list",
+        "before",
+        "name-width",
+        "tree",
+        "refusals",
+        "plot-it",
+        "pid",
+        "Take this plot off",
+    ):
         assert wanted in seen, (wanted, seen)
 
 
 def test_roles_and_names(shown):
     b = shown(32)
     assert b.run("return document.getElementById('list').getAttribute('aria-activedescendant')") == "list-31"
-    assert b.run("return [...document.querySelectorAll('#list [aria-selected=true]')].map((one) => one.id)") == ["list-31"]
+    assert b.run("return [...document.querySelectorAll('#list [aria-selected=true]')].map((one) => one.id)") == [
+        "list-31"
+    ]
     assert b.run("return document.querySelector('#tree .row[data-at=\"2\"]').ariaLevel") == "3"
     assert b.run("return document.querySelector('#tree .row[data-at=\"1\"]').ariaExpanded") == "true"
     assert b.run("return document.getElementById('slider').getAttribute('aria-valuetext')").startswith("after 32 of 47")
-    assert b.run("return [...document.querySelectorAll('button, input, select')].filter((one) => !one.title && !one.labels?.length && !one.ariaLabel && !one.textContent).length") == 0
+    assert (
+        b.run(
+            "return [...document.querySelectorAll('button, input, select')].filter((one) => !one.title && !one.labels?.length && !one.ariaLabel && !one.textContent).length"
+        )
+        == 0
+    )
 
 
 # ---- size and speed
@@ -350,6 +405,8 @@ def test_a_trace_of_100000_lines(browser, pages, tmp_path):
     )
     moving = (b.busy() - before) / 60
     wall = b.run("return performance.getEntriesByType('navigation')[0].domContentLoadedEventEnd")
-    print(f"100,000 lines: opens in {opening:.3f} s of its thread ({wall / 1000:.3f} s), moves in {moving * 1000:.1f} ms")
+    print(
+        f"100,000 lines: opens in {opening:.3f} s of its thread ({wall / 1000:.3f} s), moves in {moving * 1000:.1f} ms"
+    )
     assert 0.02 < opening < 2 and 0.0001 < moving < 0.05
     assert b.complaints() == []

@@ -6,11 +6,12 @@ import re
 import signal
 import socket
 import subprocess
+import types
 
 import pytest
 from support import HERE
 
-from makhloeum.check import command, known
+from makhloeum.check import command, directory, known, opening
 from makhloeum.check.differences import CONTRADICTION, difference
 from makhloeum.check.directory import remove_groups
 from makhloeum.check.engine import Answer, Engine
@@ -63,7 +64,10 @@ def test_what_could_not_be_removed_is_named(handlers, capsys):
     player = Player(signal.SIGINT)
     player.play, player.close, player.left = (lambda *words: None), (lambda: None), ["/nowhere/makhloeum-check-1"]
     status = command._checked(command._arguments(["/nowhere", "--count", "0", "--quiet"]), player)
-    assert status == 2 and capsys.readouterr().err == "makhloeum check: /nowhere: /nowhere/makhloeum-check-1 could not be removed\n"
+    assert (
+        status == 2
+        and capsys.readouterr().err == "makhloeum check: /nowhere: /nowhere/makhloeum-check-1 could not be removed\n"
+    )
 
 
 def test_a_second_signal_does_not_come_before_the_cleaning_up(handlers):
@@ -128,7 +132,24 @@ def test_groups_are_removed_from_below(tmp_path):
 
 # ---- scripts
 
-NAMES = ["a;id>hit", "$(id>hit)", "`id>hit`", "it's", '"', "-p", "--help", "*", "~", "a&b", "#", "\\", "{a,b}", "a|b", "<x", "!"]
+NAMES = [
+    "a;id>hit",
+    "$(id>hit)",
+    "`id>hit`",
+    "it's",
+    '"',
+    "-p",
+    "--help",
+    "*",
+    "~",
+    "a&b",
+    "#",
+    "\\",
+    "{a,b}",
+    "a|b",
+    "<x",
+    "!",
+]
 
 
 @pytest.mark.parametrize("way", ["free", "D", "T"])
@@ -139,11 +160,19 @@ def test_the_names_of_groups_are_quoted_in_a_script(tmp_path, way):
         commands += [["mkdir", f"/{name}"], ["cat", f"/{name}", "pids.max"], ["list", f"/{name}"]]
     for name in NAMES[:-1]:
         commands.append(["rmdir", f"/{name}"])
-    commands += [["mkdir", "/-x"], ["mkdir", "/-x/-y"], ["rmdir", "/-x/-y"], ["rmdir", "/-x"], ["rmdir", f"/{NAMES[-1]}"]]
+    commands += [
+        ["mkdir", "/-x"],
+        ["mkdir", "/-x/-y"],
+        ["rmdir", "/-x/-y"],
+        ["rmdir", "/-x"],
+        ["rmdir", f"/{NAMES[-1]}"],
+    ]
     script = "\n".join(shell_script(Difference(way, commands, BUSY, Answer("EINVAL")), str(tmp_path), False)) + "\n"
     if way == "T":
         script = re.sub(r"; echo threaded >\S*'?[^;\n]*cgroup\.type'?", "", script)
-    ran = subprocess.run(["sh"], input=script, text=True, capture_output=True, timeout=60, env=dict(os.environ, LC_ALL="C"))
+    ran = subprocess.run(
+        ["sh"], input=script, text=True, capture_output=True, timeout=60, env=dict(os.environ, LC_ALL="C")
+    )
     assert ran.returncode == 0, ran.stderr
     said = [line for line in ran.stderr.split("\n") if line and not line.startswith("cat: ") and "kill" not in line]
     assert said == [] and ran.stderr.count("No such file") == len(NAMES)
@@ -158,6 +187,37 @@ def test_values_and_the_directory_are_quoted_in_a_script(tmp_path):
     assert "echo '$(id>hit)' >a/pids.max" in "\n".join(script)
     ran = subprocess.run(["sh"], input="\n".join(script[:4]) + "\n", text=True, capture_output=True, timeout=60)
     assert ran.returncode == 0 and os.listdir(home) == [] and os.listdir(tmp_path) == [home.name]
+
+
+def test_a_process_that_is_none_has_a_number_in_a_script(tmp_path):
+    commands = [
+        ["fork", "1", "2"],
+        ["mkdir", "/a"],
+        ["write", "/a", "cgroup.procs", "2"],
+        ["write", "/a", "cgroup.procs", "7"],
+    ]
+    script = shell_script(Difference("free", commands, BUSY, Answer("EINVAL")), str(tmp_path))
+    assert script[-1] == "/bin/echo 4194303 >a/cgroup.procs" and "echo $p2 >a/cgroup.procs" in script[-2]
+
+
+# ---- the directory
+
+
+def test_room_is_what_a_limit_leaves(tmp_path):
+    (tmp_path / "pids.max").write_text("100\n")
+    (tmp_path / "pids.current").write_text("36\n")
+    opening._room(str(tmp_path))
+    (tmp_path / "pids.current").write_text("37\n")
+    with pytest.raises(opening.Unusable, match="its pids.max leaves too little room: a check needs 64"):
+        opening._room(str(tmp_path))
+    (tmp_path / "pids.max").write_text("max\n")
+    opening._room(str(tmp_path))
+
+
+def test_a_process_of_somebody_else_is_seen():
+    groups = directory.Groups.__new__(directory.Groups)
+    groups.processes = {number: types.SimpleNamespace(pid=100 - number) for number in (2, 3)}
+    assert groups.named(["97", "5", "98"]) == ["2", "3", "?5"] and groups.named([]) == []
 
 
 # ---- differences
@@ -226,14 +286,30 @@ def test_peaks_and_events_of_a_kernel():
     ways = (False, False), (True, False), (False, True), (True, True)
     start = "mkdir /a", "mkdir /a/b", "mkdir /a/b/c", "fork 1 2", "write /a/b/c cgroup.procs 2"
     refused = played(*start, "fork 2 3 -> refused pidsmax /a/b")
-    assert [[refused.peak_by_way(path)[way] for way in ways] for path in ("/a", "/a/b", "/a/b/c")] == [[1, 1, 1, 1], [1, 1, 1, 1], [1, 2, 1, 2]]
+    assert [[refused.peak_by_way(path)[way] for way in ways] for path in ("/a", "/a/b", "/a/b/c")] == [
+        [1, 1, 1, 1],
+        [1, 1, 1, 1],
+        [1, 2, 1, 2],
+    ]
     assert [refused.events.total[path] for path in ("/a", "/a/b", "/a/b/c")] == [1, 1, 0]
     assert [refused.events.own[path] for path in ("/a", "/a/b", "/a/b/c")] == [0, 0, 1]
     moved = played(*start, "mkdir /a/d", "write /a/d cgroup.procs 2")
-    assert [[moved.peak_by_way(path)[way] for way in ways] for path in ("/a", "/a/b", "/a/d")] == [[1, 1, 2, 2], [1, 1, 1, 1], [1, 1, 1, 1]]
+    assert [[moved.peak_by_way(path)[way] for way in ways] for path in ("/a", "/a/b", "/a/d")] == [
+        [1, 1, 2, 2],
+        [1, 1, 1, 1],
+        [1, 1, 1, 1],
+    ]
     still = played(*start, "write /a/b/c cgroup.procs 2", "fork 2 3", "exit 3", "fork 2 4")
     assert [still.peak_by_way("/a/b/c")[way] for way in ways] == [2, 2, 2, 2]
-    killed = played(*start, "fork 2 3", "write /a cgroup.kill 1", "fork 1 5", "write /a/b cgroup.procs 5", "rmdir /a/b/c", "mkdir /a/b/c")
+    killed = played(
+        *start,
+        "fork 2 3",
+        "write /a cgroup.kill 1",
+        "fork 1 5",
+        "write /a/b cgroup.procs 5",
+        "rmdir /a/b/c",
+        "mkdir /a/b/c",
+    )
     assert killed.home == {"1": "/", "5": "/a/b"} and killed.peak_by_way("/a")[False, False] == 2
     assert killed.peak_by_way("/a/b/c")[True, True] == 0
 

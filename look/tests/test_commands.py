@@ -24,7 +24,9 @@ PROGRAM = os.environ.get("MAKHLOEUM") or os.path.join(HERE, "..", "..", "mount",
 
 
 def run(*words, text=b"", **how):
-    ran = subprocess.run([sys.executable, "-m", "makhloeum", *words], input=text, capture_output=True, env=WORDS, timeout=60, **how)
+    ran = subprocess.run(
+        [sys.executable, "-m", "makhloeum", *words], input=text, capture_output=True, env=WORDS, timeout=60, **how
+    )
     return ran.returncode, ran.stdout.decode(), ran.stderr.decode()
 
 
@@ -41,6 +43,8 @@ def test_view_makes_a_page(tmp_path):
     status, said, _ = run("view", "-", text=b"mkdir /a\nmkdir /a\n")
     assert status == 0 and said == whole.replace("run.trace", "standard input")
     assert run("view", "--help")[0] == 0
+    trace.rename(tmp_path / "-o")
+    assert run("view", "--", "-o", cwd=tmp_path) == (0, "-o.html: 2 commands, 1 refused\n", "")
 
 
 def test_view_says_in_one_sentence_what_is_wrong(tmp_path):
@@ -65,7 +69,9 @@ def test_view_says_in_one_sentence_what_is_wrong(tmp_path):
 
 
 def test_commands_that_are_missing(tmp_path):
-    if os.path.exists(os.path.join(PYTHON, "makhloeum", "check.py")) or os.path.isdir(os.path.join(PYTHON, "makhloeum", "check")):
+    if os.path.exists(os.path.join(PYTHON, "makhloeum", "check.py")) or os.path.isdir(
+        os.path.join(PYTHON, "makhloeum", "check")
+    ):
         return
     assert run("check", "x") == (2, "", "makhloeum: check is not part of this installation\n")
 
@@ -114,7 +120,14 @@ def test_a_directory_as_text(tmp_path):
 def test_the_tree_of_an_engine_is_that_of_its_directory(tmp_path):
     """The shell's tree and that of a directory with the same files are the same text."""
     with Hierarchy() as h:
-        for line in ("mkdir /a", "mkdir /a/b", "write /a pids.max 2", "fork 1 2", "write /a/b cgroup.procs 2", "fork 2 3"):
+        for line in (
+            "mkdir /a",
+            "mkdir /a/b",
+            "write /a pids.max 2",
+            "fork 1 2",
+            "write /a/b cgroup.procs 2",
+            "fork 2 3",
+        ):
             h.line(line)
         with pytest.raises(makhloeum.PidsMax):
             h.fork(2, 4)
@@ -137,7 +150,11 @@ def test_names_do_not_move_the_cursor(tmp_path):
 
 def test_colour_is_for_a_terminal(tmp_path):
     groups(tmp_path, SMALL)
-    for more, coloured in (({"TERM": "xterm"}, True), ({"TERM": "dumb"}, False), ({"TERM": "xterm", "NO_COLOR": "1"}, False)):
+    for more, coloured in (
+        ({"TERM": "xterm"}, True),
+        ({"TERM": "dumb"}, False),
+        ({"TERM": "xterm", "NO_COLOR": "1"}, False),
+    ):
         ours, theirs = pty.openpty()
         command = [sys.executable, "-m", "makhloeum", "tree", str(tmp_path)]
         process = subprocess.Popen(command, stdout=theirs, stderr=theirs, env={**WORDS, **more}, close_fds=True)
@@ -161,10 +178,15 @@ def test_a_closed_pipe_is_no_message(tmp_path):
 
 
 def test_an_output_without_lines_and_blocks(tmp_path):
-    groups(tmp_path, {".": {"cgroup.procs": ""}, "a/\u00fc": {"cgroup.procs": "7\n", "pids.current": "1\n", "pids.max": "2\n"}})
+    groups(
+        tmp_path,
+        {".": {"cgroup.procs": ""}, "a/\u00fc": {"cgroup.procs": "7\n", "pids.current": "1\n", "pids.max": "2\n"}},
+    )
     groups(tmp_path, {"a": {"cgroup.procs": "", "pids.current": "1\n", "pids.max": "2\n", "pids.peak": "2\n"}})
     words = dict(WORDS, PYTHONIOENCODING="ascii")
-    ran = subprocess.run([sys.executable, "-m", "makhloeum", "tree", "."], capture_output=True, env=words, cwd=tmp_path, timeout=60)
+    ran = subprocess.run(
+        [sys.executable, "-m", "makhloeum", "tree", "."], capture_output=True, env=words, cwd=tmp_path, timeout=60
+    )
     assert (ran.returncode, ran.stderr) == (0, b"")
     assert ran.stdout.decode("ascii").split("\n") == [
         ".",
@@ -175,11 +197,19 @@ def test_an_output_without_lines_and_blocks(tmp_path):
 
 
 def test_lines_are_cut_to_a_terminal(tmp_path):
-    groups(tmp_path, {".": {"cgroup.procs": ""}, "a": {"cgroup.procs": "".join(f"{pid}\n" for pid in range(100000, 100016))}})
+    groups(
+        tmp_path,
+        {".": {"cgroup.procs": ""}, "a": {"cgroup.procs": "".join(f"{pid}\n" for pid in range(100000, 100016))}},
+    )
     ours, theirs = pty.openpty()
     fcntl.ioctl(theirs, termios.TIOCSWINSZ, struct.pack("HHHH", 24, 40, 0, 0))
     for more in ({"NO_COLOR": "1"}, {}):
-        tree = subprocess.Popen([sys.executable, "-m", "makhloeum", "tree", "."], stdout=theirs, env=dict(WORDS, TERM="xterm", **more), cwd=tmp_path)
+        tree = subprocess.Popen(
+            [sys.executable, "-m", "makhloeum", "tree", "."],
+            stdout=theirs,
+            env=dict(WORDS, TERM="xterm", **more),
+            cwd=tmp_path,
+        )
         assert tree.wait(60) == 0
         lines = re.sub(r"\x1b\[[0-9;]*m", "", os.read(ours, 65536).decode()).split("\r\n")
         # 40 columns, the last of which is a blank between two pids
@@ -195,7 +225,9 @@ def test_an_interrupt_is_no_traceback(tmp_path):
     default = lambda: signal.signal(signal.SIGINT, signal.SIG_DFL)  # noqa: E731: a background ignores SIGINT
     for words, begun in ((["view", str(pipe), "-o", "-"], True), (["check", str(tmp_path)], False)):
         command = [sys.executable, "-m", "makhloeum", *words]
-        running = subprocess.Popen(command, stdout=subprocess.PIPE, stderr=subprocess.PIPE, env=WORDS, preexec_fn=default)
+        running = subprocess.Popen(
+            command, stdout=subprocess.PIPE, stderr=subprocess.PIPE, env=WORDS, preexec_fn=default
+        )
         if begun:
             with open(pipe, "w"):
                 running.send_signal(signal.SIGINT)
@@ -205,7 +237,9 @@ def test_an_interrupt_is_no_traceback(tmp_path):
             if running.poll() is not None:
                 break
         out, error = running.communicate(timeout=60)
-        assert b"Traceback" not in error and running.returncode in ((-signal.SIGINT,) if begun else (-signal.SIGINT, 2)), (words, error)
+        assert b"Traceback" not in error and running.returncode in (
+            (-signal.SIGINT,) if begun else (-signal.SIGINT, 2)
+        ), (words, error)
 
 
 def test_what_is_no_hierarchy(tmp_path):
@@ -223,7 +257,11 @@ def test_what_is_no_hierarchy(tmp_path):
 def watching(command):
     """A command that SIGINT ends. A script in the background ignores SIGINT, and so do its children."""
     return subprocess.Popen(
-        command, stdout=subprocess.PIPE, text=True, env=WORDS, preexec_fn=lambda: signal.signal(signal.SIGINT, signal.SIG_DFL)
+        command,
+        stdout=subprocess.PIPE,
+        text=True,
+        env=WORDS,
+        preexec_fn=lambda: signal.signal(signal.SIGINT, signal.SIG_DFL),
     )
 
 
@@ -243,7 +281,9 @@ def test_watch_draws_again_on_a_change_and_ends(tmp_path):
     assert (process.returncode, rest) == (0, ""), "nothing is drawn without a change"
 
 
-@pytest.mark.skipif(not os.path.exists(PROGRAM) or not os.path.exists("/dev/fuse"), reason="there is no mount/out/makhloeum or no FUSE")
+@pytest.mark.skipif(
+    not os.path.exists(PROGRAM) or not os.path.exists("/dev/fuse"), reason="there is no mount/out/makhloeum or no FUSE"
+)
 def test_watch_follows_a_mount_by_poll(tmp_path):
     at = tmp_path / "groups"
     at.mkdir()
@@ -260,8 +300,12 @@ def test_watch_follows_a_mount_by_poll(tmp_path):
             assert process.stdout is not None
             assert [process.stdout.readline().split()[-1] for _ in range(2)] == ["2", "empty"]
             (at / "a" / "cgroup.procs").write_text("2\n")
-            again = [process.stdout.readline() for _ in range(3)]
-            assert again[1].rstrip().endswith("  1") and again[2].split()[2:] == ["1/max", "peak", "1", "populated", "2"]
+            # what is drawn while the process moves may have it twice; it is drawn again after the notification
+            for again in ([process.stdout.readline() for _ in range(3)] for _ in range(3)):
+                if again[1].rstrip().endswith("  1"):
+                    break
+            assert again[1].rstrip().endswith("  1"), again
+            assert again[2].split()[2:] == ["1/max", "peak", "1", "populated", "2"]
         finally:
             process.send_signal(signal.SIGINT)
             process.communicate(timeout=20)
@@ -287,7 +331,9 @@ def test_the_program_starts_programs(tmp_path):
     shutil.copy(tmp_path / "makhloeum-hello", elsewhere / "makhloeum-away")
 
     def start(*words):
-        ran = subprocess.run([program, *words], capture_output=True, text=True, env={"PATH": f"{elsewhere}:/usr/bin:/bin"})
+        ran = subprocess.run(
+            [program, *words], capture_output=True, text=True, env={"PATH": f"{elsewhere}:/usr/bin:/bin"}
+        )
         return ran.returncode, ran.stdout, ran.stderr
 
     assert start("hello", "a b", "--help") == (7, f"{tmp_path}/makhloeum-hello a b --help\n", "")

@@ -28,7 +28,9 @@ def opened(browser, pages):
 def names(b, role):
     """The names that a screen reader says of the controls of a role."""
     nodes = b.cdp("Accessibility.getFullAXTree")["nodes"]
-    return [one["name"]["value"] for one in nodes if one.get("role", {}).get("value") == role and not one.get("ignored")]
+    return [
+        one["name"]["value"] for one in nodes if one.get("role", {}).get("value") == role and not one.get("ignored")
+    ]
 
 
 def test_buttons_have_names(shown):
@@ -46,7 +48,11 @@ def test_buttons_have_names(shown):
 def test_a_step_and_playing_have_signs_of_their_own(shown):
     b = shown(10)
     signs = b.texts("nav button")
-    assert len(set(signs)) == 6 and b.text("#play").startswith("▶") and not any("▶" in sign for sign in signs[:3] + signs[4:])
+    assert (
+        len(set(signs)) == 6
+        and b.text("#play").startswith("▶")
+        and not any("▶" in sign for sign in signs[:3] + signs[4:])
+    )
     clicked = "const play = document.getElementById('play'); return [1, 2].map(() => (play.click(), [play.ariaPressed, play.textContent.includes('▶')]))"
     assert b.run(clicked) == [["true", False], ["false", True]]
 
@@ -56,7 +62,18 @@ def test_a_step_and_playing_have_signs_of_their_own(shown):
 
 @pytest.mark.parametrize(
     "line, path",
-    [(5, "/batch/job"), (7, "/system/web"), (10, "/"), (11, "/system/db"), (32, "/batch"), (36, "/system/web"), (42, "/batch"), (44, "/"), (46, "/system/web"), (0, "/")],
+    [
+        (5, "/batch/job"),
+        (7, "/system/web"),
+        (10, "/"),
+        (11, "/system/db"),
+        (32, "/batch"),
+        (36, "/system/web"),
+        (42, "/batch"),
+        (44, "/"),
+        (46, "/system/web"),
+        (0, "/"),
+    ],
 )
 def test_it_opens_at_the_group_of_the_command(shown, line, path):
     b = shown(line)
@@ -96,7 +113,9 @@ def test_the_state_before_this_line(shown):
     assert b.text("#moment").startswith("before 42 of 47") and b.text("#when") == "Groups before this line"
     assert row_of(b, "/batch")[3] == "7 / 8" and b.text("#answer").startswith("42 write /batch cgroup.kill 1")
     assert b.run("return document.querySelector('#list .row.now').dataset.at") == "41"
-    assert "changed" in row_of(b, "/batch")[0] and "changed" not in row_of(b, "/system")[0], "what the line changes is marked"
+    assert (
+        "changed" in row_of(b, "/batch")[0] and "changed" not in row_of(b, "/system")[0]
+    ), "what the line changes is marked"
     assert b.run("return document.getElementById('before').ariaPressed") == "true"
     assert b.run(FOCUSED) == "before"
     assert b.until(lambda: b.run("return location.hash") == "#before=42")
@@ -137,7 +156,11 @@ def test_the_refusals_of_a_group(opened):
     b.press("r")
     assert b.text("#moment").startswith("after 13 ")
     b.type("#query", "refused /a/bc")
-    assert (b.text("#path"), b.text("#found"), b.text("#answer")) == ("/a/bc", "2 of 2", "16 rmdir /a/bc\nrefused hasprocesses")
+    assert (b.text("#path"), b.text("#found"), b.text("#answer")) == (
+        "/a/bc",
+        "2 of 2",
+        "16 rmdir /a/bc\nrefused hasprocesses",
+    )
     b.click("#refusals")
     assert b.text("#answer") == "8 fork 2 3\nrefused pidsmax /a/bc"
     b.type("#query", "refused /a")
@@ -163,7 +186,9 @@ def test_the_focus_is_kept(shown):
     assert b.texts("figcaption strong") == ["/batch", "/system/web", "/batch/job"] and b.run(FOCUSED) == "plot-it"
     b.run("document.querySelector('figcaption button').focus()")
     b.press("enter")
-    assert b.texts("figcaption strong") == ["/system/web", "/batch/job"] and b.run(FOCUSED) == "plots", "its place keeps the focus"
+    assert (
+        b.texts("figcaption strong") == ["/system/web", "/batch/job"] and b.run(FOCUSED) == "plots"
+    ), "its place keeps the focus"
     b.run("document.querySelectorAll('figcaption button')[1].focus()")
     b.press("p")
     assert b.texts("figcaption strong") == ["/system/web"] and b.run(FOCUSED) == "plots"

@@ -77,11 +77,52 @@ def test_a_wrong_state_is_not_shown():
             history.audit()
 
 
+def test_a_read_is_answered_once_in_each_state():
+    """500 lists of 30,000 processes would take seconds otherwise."""
+    asked = []
+
+    class Asked(Hierarchy):
+        def line(self, line, path=None):
+            asked.append(line.decode())
+            return super().line(line, path)
+
+    changes = [
+        "fork 1 3",
+        "exit 3",
+        "write /a pids.max 1",
+        "fork 2 3",
+        "undo",
+        "mkdir /b",
+        "undo",
+        "write /a cgroup.kill 1",
+    ]
+    reads = ["cat /a cgroup.procs", "cat /a pids.events", "where 1"]
+    lines = ["mkdir /a", "fork 1 2", "write /a cgroup.procs 2"]
+    for change in changes:
+        lines += [change, *reads, *reads]
+    with Asked() as h:
+        history = History(h)
+        history.read("\n".join([*lines, "cat /none pids.max", "cat /none pids.max"]).encode())
+    assert all(asked.count(read) == len(changes) for read in reads)
+    assert history.refused == 3, "a refused fork, and both reads of a group that isn't there"
+    with Hierarchy() as h:
+        assert [history.answers[one] for one in history.answer[:-2]] == [answer(h, line) for line in lines]
+
+
 def test_lines_comments_and_times():
-    history = history_of(b"# a run\n \t\r\n# at 0.5\nmkdir /a\n#at 7\n  # at 1.25\n\tmkdir   /a\r\n# at 1\nfork 1 2\n\xff\x00\n" + b"x" * 9000)
+    history = history_of(
+        b"# a run\n \t\r\n# at 0.5\nmkdir /a\n#at 7\n  # at 1.25\n\tmkdir   /a\r\n# at 1\nfork 1 2\n\xff\x00\n"
+        + b"x" * 9000
+    )
     assert history.lines[:3] == ["mkdir /a", "mkdir   /a", "fork 1 2"]
     assert history.lines[3] == "\\xff\\x00" and history.lines[4].endswith(" .. (9000 bytes)")
-    assert [history.answers[n] for n in history.answer] == ["ok", "refused exists", "ok", "refused syntax", "refused syntax"]
+    assert [history.answers[n] for n in history.answer] == [
+        "ok",
+        "refused exists",
+        "ok",
+        "refused syntax",
+        "refused syntax",
+    ]
     assert history.times == [500000, 1250000, 1250000, 1250000, 1250000], "a clock that goes back stands still"
     assert history.notes == {0: "# a run", 1: "#at 7"}
     assert (history.refused, history.kills) == (3, 0)
@@ -91,7 +132,9 @@ def test_lines_comments_and_times():
 
 def test_times_are_comments_to_the_engine():
     lines = random_trace(5, 300)
-    plain, timed = history_of("\n".join(lines)), history_of("".join(f"# at {n}.5\n{line}\n" for n, line in enumerate(lines)))
+    plain, timed = history_of("\n".join(lines)), history_of(
+        "".join(f"# at {n}.5\n{line}\n" for n, line in enumerate(lines))
+    )
     assert (plain.answer, plain.answers, plain.steps) == (timed.answer, timed.answers, timed.steps)
     assert plain.times == [] and len(timed.times) == len(lines)
 
@@ -102,7 +145,9 @@ SHAPES = {
     "no times": re.sub("#.*\n", "", long_trace(2000)),
     "wide": wide_trace(),
     "reads": "fork 1 2\n" + "".join(f"fork 1 {n}\ncat / cgroup.procs\n" for n in range(3, 400)),
-    "kills": "mkdir /a\nwrite /a cgroup.procs 1\n" + "".join(f"fork 1 {n}\n" for n in range(2, 200)) + "write /a cgroup.kill 1\nundo\n" * 300,
+    "kills": "mkdir /a\nwrite /a cgroup.procs 1\n"
+    + "".join(f"fork 1 {n}\n" for n in range(2, 200))
+    + "write /a cgroup.kill 1\nundo\n" * 300,
     "deep": "\n".join(DEEP + [line for n in range(2, 300) for line in (f"fork 1 {n}", "undo")] * 2) + "\n",
     "refused": "\n".join(DEEP + ["write /d/d pids.max 1"] + ["fork 1 2", "undo"] * 300) + "\n",
     "random": "\n".join(random_trace(9, 2000)) + "\n",
@@ -130,6 +175,8 @@ def test_nothing_of_the_trace_is_markup():
 
 def test_the_page_loads_nothing():
     whole = page_of("mkdir /a\n")
-    assert "default-src 'none'" in whole and not re.search(r"<(?:link|iframe|img|object|embed|base)|@import|url\(", whole)
+    assert "default-src 'none'" in whole and not re.search(
+        r"<(?:link|iframe|img|object|embed|base)|@import|url\(", whole
+    )
     assert re.sub(r"http://www\.w3\.org/2000/svg", "", whole).count("http") == 1  # http-equiv
     assert not re.search(r"^\s*(?:import|export) ", script(), re.M)

@@ -85,7 +85,9 @@ def test_the_ends_of_names_are_shown_at_each_level(sized, name, trace):
 
 def test_deeper_names_are_indented_more(sized):
     b = sized("deep", deep_trace(), 1400)
-    lefts = b.run("return [...document.querySelectorAll('#tree .row .twist')].map((one) => one.getBoundingClientRect().left)")
+    lefts = b.run(
+        "return [...document.querySelectorAll('#tree .row .twist')].map((one) => one.getBoundingClientRect().left)"
+    )
     assert len(lefts) > 10 and all(later > one + 1 for one, later in zip(lefts, lefts[1:]))
 
 
@@ -113,6 +115,11 @@ def test_the_column_of_names_is_resized(sized):
     assert b.run("return document.querySelector('#tree .row').lastElementChild.getBoundingClientRect().width") > 60
     b.press("home")
     assert b.run(WIDTH) == 160
+    b.press("left")
+    assert b.run(WIDTH) == 160, "it can't be narrower"
+    x, y = b.run(HANDLE)
+    b.drag(x, y, x - 150, y)
+    assert b.run(WIDTH) == 160
     assert all(last for _, _, _, last in b.run(NAMES))
 
 
@@ -136,7 +143,11 @@ def test_heads_are_above_their_columns(pages):
 
 
 def test_a_list_that_is_cut_says_how_many_there_are(sized):
-    many = "mkdir /a\nwrite /a cgroup.procs 1\n" + "".join(f"fork 1 {pid}\n" for pid in range(1000, 1039)) + "cat /a cgroup.procs\n"
+    many = (
+        "mkdir /a\nwrite /a cgroup.procs 1\n"
+        + "".join(f"fork 1 {pid}\n" for pid in range(1000, 1039))
+        + "cat /a cgroup.procs\n"
+    )
     b = sized("many", "mkdir /b\nfork 1 7\nwrite /b cgroup.procs 7\n" + many, WIDTHS[0])
     fits = "return [...document.querySelectorAll('#tree .row > span:last-child')].every((one) => one.scrollWidth <= one.clientWidth)"
     pids = "return document.querySelectorAll('#tree .row')[1].querySelectorAll('.pid').length"
@@ -152,6 +163,27 @@ def test_a_list_that_is_cut_says_how_many_there_are(sized):
     assert max(shown_at) > min(shown_at), "a wide column has more of them"
     assert b.texts("#list .row.now .said") == ["40 lines"]
     assert len(b.text("#answer").split("\n")) == 42
+
+
+# Of each row: its line, whether line and answer fit beside each other, whether the answer is cut, and its part of the row.
+ANSWERS = """
+const letter = document.querySelector("#list .number").getBoundingClientRect().width / 4;
+return [...document.querySelectorAll("#list .row")].map((row) => {
+  const [number, text, said] = row.children, room = row.clientWidth - 16;
+  const fits = (4 + text.textContent.length + said.textContent.length) * letter + 24 <= room;
+  return [text.textContent, fits, said.scrollWidth > said.clientWidth, said.offsetWidth / room];
+})
+"""
+
+
+def test_an_answer_has_the_room_that_its_line_leaves(sized):
+    for width in WIDTHS:
+        rows = sized("demo", demo(), width, "#line=32").run(ANSWERS)
+        assert ["fork 4 37", True, False] in [row[:3] for row in rows], width
+        assert [row for row in rows if row[1] and row[2]] == []
+    rows = sized("pods", pods_trace(), 400).run(ANSWERS)
+    cut = [part for _, fits, is_cut, part in rows if is_cut and not fits]
+    assert cut and min(cut) > 0.44
 
 
 def test_an_answer_that_is_cut_says_how_many_lines_it_has(sized):

@@ -36,7 +36,11 @@ class Browser:
         self.folder = tempfile.mkdtemp(prefix="look-")
         words = dict(os.environ, HOME=self.folder, TMPDIR=self.folder)
         self.driver = subprocess.Popen(
-            [str(shutil.which("chromedriver")), "--port=0"], stdout=subprocess.PIPE, stderr=subprocess.DEVNULL, text=True, env=words
+            [str(shutil.which("chromedriver")), "--port=0"],
+            stdout=subprocess.PIPE,
+            stderr=subprocess.DEVNULL,
+            text=True,
+            env=words,
         )
         self.at, self.session = "", ""
         try:
@@ -81,7 +85,9 @@ class Browser:
         return str(self.run("return document.querySelector(arguments[0]).textContent", selector))
 
     def texts(self, selector: str) -> Any:
-        return self.run("return Array.from(document.querySelectorAll(arguments[0]), (one) => one.textContent)", selector)
+        return self.run(
+            "return Array.from(document.querySelectorAll(arguments[0]), (one) => one.textContent)", selector
+        )
 
     def find(self, selector: str) -> str:
         return str(self.call("POST", "/element", using="css selector", value=selector)[ELEMENT])
@@ -108,8 +114,14 @@ class Browser:
         self.call("POST", "/actions", actions=[{"type": "pointer", "id": "mouse", "actions": acts}])
 
     def drag(self, x: float, y: float, to_x: float, to_y: float) -> None:
-        acts: List[Dict[str, Any]] = [{"type": "pointerMove", "duration": 0, "x": int(x), "y": int(y)}, {"type": "pointerDown", "button": 0}]
-        acts += [{"type": "pointerMove", "duration": 20, "x": int(to_x), "y": int(to_y)}, {"type": "pointerUp", "button": 0}]
+        acts: List[Dict[str, Any]] = [
+            {"type": "pointerMove", "duration": 0, "x": int(x), "y": int(y)},
+            {"type": "pointerDown", "button": 0},
+        ]
+        acts += [
+            {"type": "pointerMove", "duration": 20, "x": int(to_x), "y": int(to_y)},
+            {"type": "pointerUp", "button": 0},
+        ]
         self.call("POST", "/actions", actions=[{"type": "pointer", "id": "mouse", "actions": acts}])
 
     def cdp(self, command: str, **words: Any) -> Any:
@@ -117,18 +129,25 @@ class Browser:
         return self.call("POST", "/goog/cdp/execute", cmd=command, params=words)
 
     def dark(self, is_dark: bool) -> None:
-        self.cdp("Emulation.setEmulatedMedia", features=[{"name": "prefers-color-scheme", "value": "dark" if is_dark else "light"}])
+        self.cdp(
+            "Emulation.setEmulatedMedia",
+            features=[{"name": "prefers-color-scheme", "value": "dark" if is_dark else "light"}],
+        )
 
     def size(self, width: int = 0, height: int = 900) -> None:
         """The size of the page; as the window is without a width."""
         if width:
-            self.cdp("Emulation.setDeviceMetricsOverride", width=width, height=height, deviceScaleFactor=1, mobile=False)
+            self.cdp(
+                "Emulation.setDeviceMetricsOverride", width=width, height=height, deviceScaleFactor=1, mobile=False
+            )
         else:
             self.cdp("Emulation.clearDeviceMetricsOverride")
 
     def busy(self) -> float:
         """The seconds that the page's thread has worked, after Performance.enable."""
-        return float(next(one["value"] for one in self.cdp("Performance.getMetrics")["metrics"] if one["name"] == "TaskDuration"))
+        return float(
+            next(one["value"] for one in self.cdp("Performance.getMetrics")["metrics"] if one["name"] == "TaskDuration")
+        )
 
     def complaints(self) -> Any:
         """What the browser wrote to its console since the last look."""
