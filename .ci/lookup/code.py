@@ -56,7 +56,7 @@ def definition_of(path, names):
     either, is_number = "|".join(map(re.escape, names)), names[0][0].isdigit()
     if path.endswith(".antt") and "/specs/" in path:
         return re.compile(rf"^\s*((abbrev|unfoldable|pub|record|data|rel) )+({either})\b|^  (pub )?({either}) : ")
-    if path.endswith(".rt"):
+    if path.endswith((".rt", ".rs")):
         types = r"^\s*(pub(\(\w+\))? )?(struct|enum|trait|type|const|mod|static) "
         items = rf"({FUNCTION.pattern.removesuffix(NAME)}|{types})({either})\b"
         variants = rf"^    ({either})(\(.*\)| \{{)?,?$"

@@ -5,8 +5,19 @@ import re
 
 TABLE = "crates/word_tables/stdout"
 FILES = "crates/interface_files/src/file.rt"
+MEANINGS = "crates/undo_journal/specs/CommandMeaning.antt"
 # The words of answers that mean nothing else in English.
-OWN_WORDS = ("nogroup", "noslot", "rootfixed", "haschildren", "hasprocesses", "noprocess", "pidinuse", "pidsmax", "nofile")
+OWN_WORDS = (
+    "nogroup",
+    "noslot",
+    "rootfixed",
+    "haschildren",
+    "hasprocesses",
+    "noprocess",
+    "pidinuse",
+    "pidsmax",
+    "nofile",
+)
 
 
 def with_separators(number):
@@ -26,13 +37,14 @@ def of_file(name, row, texts):
     )
 
 
-def of_code(name, row):
+def of_code(name, row, texts):
     """A refusal, or a fault of a line: an errno names all that have it, and has no other name."""
     code, python, c, answer, errno, _, meaning = row
     word = answer.split()[2]
-    if name not in (python, c, word, errno):
+    in_model = re.findall(rf"^refusal_of \(?(?:\w+\.)?{python}\b.* = \w+\.(\w+)", texts.get(MEANINGS, ""), re.M)
+    if name not in (python, c, word, errno, *in_model):
         return [], ""
-    others = [] if name == errno else [python, c, word if word in OWN_WORDS else f"refused {word}"]
+    others = [] if name == errno else [python, c, word if word in OWN_WORDS else f"refused {word}", *in_model]
     return others, f"code {code}: {python}, {c}, `{answer[2:]}`, {errno}: {meaning}"
 
 
@@ -40,7 +52,17 @@ def of_path(name, row):
     number, python, c, _, errno, _, meaning = row
     if name not in (python, c, errno):
         return [], ""
-    return [] if name == errno else [python, c], f"fault {number} of a path: {python}, {c}, {errno} of a mkdir: {meaning}"
+    return (
+        [] if name == errno else [python, c],
+        f"fault {number} of a path: {python}, {c}, {errno} of a mkdir: {meaning}",
+    )
+
+
+def of_status(name, row):
+    number, c, errno, _, meaning = row
+    if name not in (c, errno):
+        return [], ""
+    return [], f"status {number}: {c}{'' if errno == '-' else ', ' + errno}: {meaning}"
 
 
 def of_number(name, row):
@@ -57,11 +79,12 @@ def of_command(name, row):
 
 def same_things(name, texts):
     """The other names of the same thing, and what the table of words says of it."""
-    kinds = {"refusal": of_code, "fault": of_code, "path": of_path, "number": of_number, "command": of_command}
+    kinds = {"path": of_path, "status": of_status, "number": of_number, "command": of_command}
+    with_texts = {"file": of_file, "refusal": of_code, "fault": of_code}
     others = with_separators(name) if re.fullmatch(r"\d{4,}", name) else []
     said = []
     for kind, *row in (line.split("\t") for line in texts.get(TABLE, "").splitlines() if not line.startswith("#")):
-        more, sentence = of_file(name, row, texts) if kind == "file" else kinds[kind](name, row)
+        more, sentence = with_texts[kind](name, row, texts) if kind in with_texts else kinds[kind](name, row)
         others += more
         said += [sentence] if sentence else []
     return sorted(set(others) - {name}), said
@@ -71,7 +94,8 @@ def boundaries(name):
     """A name of a file isn't part of a longer one, and a number not part of another."""
     if name[0].isdigit():
         return r"(?<![\d.,_])", r"(?![\d_]|[.,]\d)"
-    return (r"(?<![\w.])", r"(?!\w|\.\w)") if "." in name else (r"(?<!\w)", r"(?!\w)")
+    first = r"(?:(?<![\w.])|(?<=\\0))"  # a zero byte in a string of C ends what is before it
+    return (first, r"(?!\w|\.\w)") if "." in name else (r"(?<!\w)", r"(?!\w)")
 
 
 def pattern_of(names):

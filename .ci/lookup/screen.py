@@ -66,7 +66,11 @@ def fits(lines, room):
 def fitting(hits, room, label):
     """The most exact of these lists that fits: lines, counts of lines, counts of files."""
     hits = {path: hits[path] for path in sorted(hits)}
-    for entries in (by_folder(hits, label), by_folder(hits, of_counts), *(by_count(hits, depth) for depth in (4, 3, 2))):
+    for entries in (
+        by_folder(hits, label),
+        by_folder(hits, of_counts),
+        *(by_count(hits, depth) for depth in (4, 3, 2)),
+    ):
         lines = filled(entries)
         if fits(lines, room):
             return lines

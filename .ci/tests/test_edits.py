@@ -25,7 +25,10 @@ class Edits(unittest.TestCase):
         self.patch("version", lambda: self.kit)
         self.patch("subprocess", mock.Mock(run=self.rt, PIPE=None, STDOUT=None))
         self.kit, self.calls = "kit-1", []
-        self.write("crates.txt", "# Crates.\nlow: smallvec\nsnzi_tree: low\nsessions may_wait=2: snzi_tree std_io\ndocs_only: low\n")
+        self.write(
+            "crates.txt",
+            "# Crates.\nlow: smallvec\nsnzi_tree: low\nsessions may_wait=2: snzi_tree std_io\ndocs_only: low\n",
+        )
         for crate in ("low", "snzi_tree", "sessions", "docs_only"):
             self.write(f"crates/{crate}/src/lib.rt", f"fn {crate}() {{ right }}\n")
             self.write(f"crates/{crate}/specs/Lib.antt", "spec\n")
@@ -48,7 +51,14 @@ class Edits(unittest.TestCase):
             for edit in sorted(glob.glob(f"{self.top}/crates/{crate}/must-fail/*.edit")):
                 good = "wrong" in self.read(edit)
                 label = f"rt: must-fail {crate}/{os.path.basename(edit)}: "
-                lines.append(label + ("refused, as it must be: 3:4: error" if good else "NOT REFUSED: the crate is still proved with this edit"))
+                lines.append(
+                    label
+                    + (
+                        "refused, as it must be: 3:4: error"
+                        if good
+                        else "NOT REFUSED: the crate is still proved with this edit"
+                    )
+                )
         return subprocess.CompletedProcess(command, 0, "\n".join([*lines, "1 passed, 0 failed\n"]))
 
     def read(self, path):
@@ -115,7 +125,9 @@ class Edits(unittest.TestCase):
 
     def laid(self):
         self.run_edits("--lay")
-        return sorted(path[len(f"{self.top}/crates/"):] for path in glob.glob(f"{self.top}/crates/*/must-fail/second-set-*"))
+        return sorted(
+            path[len(f"{self.top}/crates/") :] for path in glob.glob(f"{self.top}/crates/*/must-fail/second-set-*")
+        )
 
     def test_a_new_edit_is_tried_alone(self):
         self.land()
@@ -139,6 +151,14 @@ class Edits(unittest.TestCase):
         text = self.read("crates/low/must-fail-more/a.edit")
         self.write("crates/low/must-fail-more/a.edit", "# breaks: a clause\n" + text)
         self.assertEqual(self.names("--due"), [])
+
+    def test_a_comment_in_a_source_makes_nothing_due(self):
+        self.land()
+        self.write("crates/low/src/lib.rt", "//! Low.\n\nfn low() { right }\n    // The end.\n")
+        self.write("crates/low/specs/Lib.antt", "-- Definitions.\nspec\n")
+        self.assertEqual((self.names("--due"), self.names("--due-below")), ([], []))
+        self.write("crates/low/src/lib.rt", "//! Low.\nfn low() { right; // The end.\n}\n")
+        self.assertEqual(self.names("--due"), ["low"])
 
     def test_a_removed_edit_is_no_longer_noted(self):
         self.edit("low", "must-fail-more", "old")
@@ -168,7 +188,8 @@ class Edits(unittest.TestCase):
         self.change("crates/snzi_tree/src/lib.rt")
         self.calls.clear()
         self.assertIn("edits: 3 refused", self.run_edits("--full"))
-        self.assertEqual(self.calls, ["rt ci snzi_tree sessions"])
+        tried = [call for call in self.calls if call.startswith("rt must-fail")]
+        self.assertEqual(sorted(tried), ["rt must-fail sessions", "rt must-fail snzi_tree"])
         self.assertEqual(self.names("--due") + self.names("--due-below"), [])
         self.calls.clear()
         self.run_edits("--full")
@@ -205,7 +226,10 @@ class Edits(unittest.TestCase):
         self.run_edits("--lay")
         self.write("log", "")
         self.run_edits("--take-back")
-        self.assertIn("edits: snzi_tree/b.edit was NOT REFUSED, or not tried", self.run_edits("--note", f"{self.top}/log", status=1))
+        self.assertIn(
+            "edits: snzi_tree/b.edit was NOT REFUSED, or not tried",
+            self.run_edits("--note", f"{self.top}/log", status=1),
+        )
 
     def test_the_bounds_of_the_first_set(self):
         self.edit("docs_only", "must-fail", "e")

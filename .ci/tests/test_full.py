@@ -17,7 +17,12 @@ class Full(unittest.TestCase):
     def setUp(self):
         self.top = tempfile.mkdtemp()
         self.addCleanup(shutil.rmtree, self.top)
-        values = {"ROOT": self.top, "PASSED": f"{self.top}/.ci/full-passed", "STATE": f"{self.top}/out/full", "run": self.runs}
+        values = {
+            "ROOT": self.top,
+            "PASSED": f"{self.top}/.ci/full-passed",
+            "STATE": f"{self.top}/out/full",
+            "run": self.runs,
+        }
         for name, value in values.items():
             patcher = mock.patch.object(full, name, value)
             patcher.start()
@@ -26,7 +31,12 @@ class Full(unittest.TestCase):
         patcher.start()
         self.addCleanup(patcher.stop)
         self.calls, self.fails_at = [], None
-        for name, text in {".gitignore": "out/\n", "mount/a.c": "a\n", "bindings/c/b.c": "b\n", ".ci/full-passed": ""}.items():
+        for name, text in {
+            ".gitignore": "out/\n",
+            "mount/a.c": "a\n",
+            "bindings/c/b.c": "b\n",
+            ".ci/full-passed": "",
+        }.items():
             self.write(name, text)
         self.git("init", "--quiet")
         self.commit()
@@ -62,7 +72,9 @@ class Full(unittest.TestCase):
     def test_what_passed_is_noted_with_its_commit(self):
         first = self.commit_of("x")
         self.full("edits", "mutants")
-        self.assertEqual((self.calls, self.noted()), ([".ci/edits --full", ".ci/mutants"], {"edits": first, "mutants": first}))
+        self.assertEqual(
+            (self.calls, self.noted()), ([".ci/edits --full", ".ci/mutants"], {"edits": first, "mutants": first})
+        )
         second = self.commit_of("y")
         self.full("mutants")
         self.assertEqual(self.noted(), {"edits": first, "mutants": second})

@@ -16,7 +16,9 @@ class Generate(unittest.TestCase):
         self.top = tempfile.mkdtemp()
         self.addCleanup(shutil.rmtree, self.top)
         named = re.search(r"TARGETS = \((.*?)\n\)", self.read("bindings/generate", TOP), re.S)[1]
-        for path in ("bindings/generate", "crates/word_tables/stdout", *re.findall(r'"(.+?)"', named)):
+        generating = [f"bindings/generating/{name}" for name in os.listdir(os.path.join(TOP, "bindings/generating"))]
+        sources = [path for path in generating if path.endswith(".py")]
+        for path in ("bindings/generate", *sources, "crates/word_tables/stdout", *re.findall(r'"(.+?)"', named)):
             os.makedirs(os.path.dirname(os.path.join(self.top, path)), exist_ok=True)
             shutil.copy(os.path.join(TOP, path), os.path.join(self.top, path))
 
@@ -32,7 +34,10 @@ class Generate(unittest.TestCase):
 
     def run_generate(self, *words):
         ran = subprocess.run(
-            [sys.executable, os.path.join(self.top, "bindings/generate"), *words], capture_output=True, text=True, check=False
+            [sys.executable, os.path.join(self.top, "bindings/generate"), *words],
+            capture_output=True,
+            text=True,
+            check=False,
         )
         return ran.returncode, (ran.stdout + ran.stderr).strip()
 
@@ -42,7 +47,7 @@ class Generate(unittest.TestCase):
 
     def test_a_changed_part_is_reported_and_written_again(self):
         whole = self.read(HEADER)
-        self.replace(HEADER, "    MK_EXISTS = 1,\n", "    MK_EXISTS = 7,\n")
+        self.replace(HEADER, "\tMK_EXISTS = 1,\n", "\tMK_EXISTS = 7,\n")
         self.assertEqual(self.run_generate("--check"), (1, f"{HEADER} is not what bindings/generate writes"))
         self.assertEqual(self.run_generate(), (0, f"wrote {HEADER}"))
         self.assertEqual(self.read(HEADER), whole)
@@ -51,7 +56,7 @@ class Generate(unittest.TestCase):
         self.replace("crates/word_tables/stdout", "fault\t36\t", "fault\t40\t")
         self.assertEqual(self.run_generate("--check")[0], 1)
         self.run_generate()
-        self.assertIn("    MK_VALUE = 40\n", self.read(HEADER))
+        self.assertIn("\tMK_VALUE = 40\n", self.read(HEADER))
 
     def test_what_is_written_by_hand_stays(self):
         self.replace(HEADER, "#ifndef MAKHLOEUM_H", "/* by hand */\n#ifndef MAKHLOEUM_H")

@@ -84,11 +84,14 @@ class Mutants(unittest.TestCase):
     def test_bad_ones_fail(self):
         self.mutant("stale", old="no such text")
         self.assertEqual(
-            self.run_mutants("--check", status=1), ["mutants: mount/stale: BAD MUTANT: an old text is in mount/src/a.c 0 times, not once"]
+            self.run_mutants("--check", status=1),
+            ["mutants: mount/stale: BAD MUTANT: an old text is in mount/src/a.c 0 times, not once"],
         )
         self.mutant("stale", new="broken")
         said = self.run_mutants(status=1)
-        self.assertEqual((said[0].strip(), said[-1]), ("mutants: mount/stale: BAD MUTANT: it can't be built:", "0 passed, 1 failed"))
+        self.assertEqual(
+            (said[0].strip(), said[-1]), ("mutants: mount/stale: BAD MUTANT: it can't be built:", "0 passed, 1 failed")
+        )
 
     def test_a_test_that_fails_without_a_mutant_or_runs_nothing_says_nothing(self):
         self.mutant("a", test="bad")
@@ -101,7 +104,9 @@ class Mutants(unittest.TestCase):
         self.mutant("a")
         self.mutant("a2", new="first other;")
         self.mutant("b", "third right;", "first", test="one", file="mount/src/b.c")
-        self.assertEqual(self.run_mutants("--most", "2")[-2:], ["mutants: 1 more are due: .ci/full mutants", "2 passed, 0 failed"])
+        self.assertEqual(
+            self.run_mutants("--most", "2")[-2:], ["mutants: 1 more are due: .ci/full mutants", "2 passed, 0 failed"]
+        )
         self.assertEqual(self.due(), ["mount/b"])
         self.assertEqual(self.run_mutants("--most", "0")[-1], "0 passed, 0 failed")
 

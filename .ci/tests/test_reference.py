@@ -82,7 +82,13 @@ class Reference(unittest.TestCase):
         if not shutil.which("mandoc"):
             self.skipTest("mandoc is not here; .ci/installed/run asks man")
         pages = glob.glob(os.path.join(TOP, "man", "*.[1-9]"))
-        ran = subprocess.run(["mandoc", "-T", "lint", "-W", "warning", *pages], stdout=subprocess.PIPE, stderr=subprocess.STDOUT, text=True, check=False)
+        ran = subprocess.run(
+            ["mandoc", "-T", "lint", "-W", "warning", *pages],
+            stdout=subprocess.PIPE,
+            stderr=subprocess.STDOUT,
+            text=True,
+            check=False,
+        )
         self.assertEqual(ran.stdout, "")
 
 

@@ -75,8 +75,15 @@ class OfThisRepository(unittest.TestCase):
                     self.assertTrue(short in files or above(path) & folders or edit in whole, whole)
 
     def test_longer_words_are_counted(self):
-        longer = self.searches["PidsMax"].longer
-        self.assertEqual(longer["OverPidsMax"], sum("OverPidsMax" in text for text in self.texts.values()))
+        longer = self.searches["pids.peak"].longer
+        self.assertEqual(longer["pids.peaks"], sum("pids.peaks" in text for text in self.texts.values()))
+
+    def test_a_refusal_of_the_model(self):
+        self.assertIn("OverPidsMax", self.searches["PidsMax"].names)
+        self.assertIn("PidsMax", where.Search("OverPidsMax", self.texts).names)
+
+    def test_a_string_of_c_with_zero_bytes(self):
+        self.assertTrue(where.pattern_of(["cgroup.kill"]).search('"a\\0cgroup.kill\\0/b"'))
 
     def test_all_fits_on_a_screen(self):
         for name, search in self.searches.items():
@@ -88,13 +95,18 @@ class OfThisRepository(unittest.TestCase):
         screen = "\n".join(self.searches["pids.peak"].screen())
         self.assertIn("pids.peak = PidsPeak\n  file: not on the root, read, not written; the number", screen)
         self.assertRegex(screen, r"defined     flat_model/specs/File\.antt:\d+ PidsPeak : File\n")
-        self.assertRegex(screen, r"\nedits       undo_journal/peak_rendered_as_the_current_count \(Engine::render\)")
+        self.assertRegex(
+            screen, r"\nedits       undo_journal/peak_rendered_as_the_current_count \(Shown\.Shows, FileText"
+        )
 
     def test_an_errno_names_its_refusals(self):
         said = self.searches["EAGAIN"].said
         self.assertEqual(
             [line.split(",")[0] for line in said],
-            ["code 3: Descendants", "code 4: Depth", "code 11: PidsMax", "fault 3 of a path: TooDeep"],
+            [
+                *("code 3: Descendants", "code 4: Depth", "code 11: PidsMax"),
+                *("fault 3 of a path: TooDeep", "status 64: MK_WOULD_BLOCK"),
+            ],
         )
 
     def test_a_number_with_separators(self):
@@ -102,7 +114,8 @@ class OfThisRepository(unittest.TestCase):
 
     def test_a_function(self):
         search = self.searches["Engine::fork"]
-        self.assertEqual([path for path, _, _ in search.defined], ["crates/undo_journal/src/fork.rt"])
+        both = ["crates/undo_journal/src/fork.rt", "evidence/bench/plain/engine.rs"]
+        self.assertEqual([path for path, _, _ in search.defined], both)
         self.assertIn("cites Answers of undo_journal/specs/Answer.antt", search.contract)
 
 

@@ -1,0 +1,66 @@
+"""Tests of what .ci/documents looks for in comments and edits, on a made-up repository."""
+import os
+import sys
+import unittest
+
+sys.path.insert(0, os.path.join(os.path.dirname(os.path.realpath(__file__)), ".."))
+from lookup.comments import faults_of_comments, faults_of_subjects  # noqa: E402
+
+CRATES = "# Crates.\nlow: memchr\nhigh staticlib: low\n"
+TEXTS = {
+    "crates/low/specs/Sum.antt": "-- A sum.\nabbrev pub Adds : Type 0\nAdds = Few\n",
+    "crates/low/src/lib.rt": "//! Sums.\n//!\n//! The definitions are in `specs/` (`Sum`).\n//!\n//! - `Sum`: sums.\n",
+    "crates/low/src/sum.rt": "impl Sum {\n    fn add(self) {}\n}\n",
+    "crates/high/src/lib.rt": "//! Uses `Sum` by `specs/Sum.antt`, and `low/src/sum.rt`.\n",
+    "crates/low/must-fail-more/one.edit": "# breaks: Sum.Adds, Sum::add\nfile: src/sum.rt\nold: {}\nnew: {1}\n",
+}
+
+
+class Comments(unittest.TestCase):
+    def faults(self, path=None, text=""):
+        texts = {**TEXTS, path: text} if path else TEXTS
+        return [*faults_of_subjects(texts), *faults_of_comments(texts, CRATES)]
+
+    def test_names_that_are_there(self):
+        self.assertEqual(self.faults(), [])
+
+    def test_a_file_that_is_not_there(self):
+        path = "crates/high/src/lib.rt"
+        self.assertEqual(self.faults(path, "// See `specs/Total.antt`.\n"), [f"{path}:1: there is no specs/Total.antt"])
+
+    def test_a_file_of_a_crate_above(self):
+        path = "crates/low/src/sum.rt"
+        texts = {**TEXTS, "crates/high/specs/Top.antt": "Top\n"}
+        texts[path] += "// See `specs/Top.antt`.\n"
+        self.assertEqual(list(faults_of_comments(texts, CRATES)), [f"{path}:4: there is no specs/Top.antt"])
+
+    def test_an_item_that_only_a_comment_has(self):
+        path = "crates/low/src/sum.rt"
+        self.assertEqual(
+            self.faults(path, TEXTS[path] + "// A `Total`.\n"), [f"{path}:4: Total of `Total` is in no crate"]
+        )
+
+    def test_a_head_that_lists_another_file_than_there_is(self):
+        path = "crates/low/src/lib.rt"
+        one = ["crates/low/src/lib.rt: there is no specs/Adds.antt"]
+        self.assertEqual(self.faults(path, TEXTS[path].replace("- `Sum`", "- `Adds`")), one)
+        self.assertEqual(self.faults(path, TEXTS[path].replace("(`Sum`)", "(`Adds`)")), one)
+
+    def test_an_edit_without_a_name(self):
+        path = "crates/low/must-fail-more/one.edit"
+        self.assertEqual(self.faults(path, "file: src/sum.rt\n"), [f"{path}: no line `# breaks: NAME`"])
+        for name in ("Sum.Few", "Total.Adds", "Sum::take", "take"):
+            with self.subTest(name):
+                self.assertEqual(
+                    self.faults(path, f"# breaks: {name}\n"), [f"{path}: breaks {name}, which is not there"]
+                )
+
+    def test_cases_without_a_name(self):
+        path = "crates/low_tests/data/sums.cases"
+        self.assertEqual(self.faults(path, "# shows: Sum.Adds\n== a sum\n"), [])
+        self.assertEqual(self.faults(path, "== a sum\n"), [f"{path}: no line `# shows: NAME`"])
+        self.assertEqual(self.faults(path, "# shows: take\n"), [f"{path}: shows take, which is not there"])
+
+
+if __name__ == "__main__":
+    unittest.main()
