@@ -32,7 +32,14 @@ FILES = {
 }
 # How many words a command has.
 WORDS = {b"mkdir": 2, b"rmdir": 2, b"fork": 3, b"exit": 2, b"write": 4, b"cat": 3, b"where": 2, b"undo": 1}
-NEW_GROUP = {"pids.max": None, "cgroup.max.descendants": None, "cgroup.max.depth": None, "local": 0, "total": 0, "peak": 0}
+NEW_GROUP = {
+    "pids.max": None,
+    "cgroup.max.descendants": None,
+    "cgroup.max.depth": None,
+    "local": 0,
+    "total": 0,
+    "peak": 0,
+}
 
 
 class Fault(Exception):
@@ -59,7 +66,12 @@ def path_text(path):
 
 
 def read_number(text, least, most):
-    if not text.isdigit() or (text[:1] == b"0" and len(text) > 1) or not least <= int(text[:20]) <= most or len(text) > 10:
+    if (
+        not text.isdigit()
+        or (text[:1] == b"0" and len(text) > 1)
+        or not least <= int(text[:20]) <= most
+        or len(text) > 10
+    ):
         raise Fault("value")
     return int(text)
 

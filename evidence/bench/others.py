@@ -35,7 +35,9 @@ def sections(said):
     """The lines of mount/cost: each heading with the figures after it."""
     found = []
     for line in said.splitlines():
-        figure = re.match(r" *(.*\S) +([\d.]+)$", line) or re.match(r" *(\d+ clients): (\d+) operations a second$", line)
+        figure = re.match(r" *(.*\S) +([\d.]+)$", line) or re.match(
+            r" *(\d+ clients): (\d+) operations a second$", line
+        )
         if figure:
             found[-1][1][figure[1]] = figure[2]
         else:
@@ -80,7 +82,15 @@ def best(said, form):
 
 def c(top, folder):
     at, program = os.path.join(top, "bindings"), os.path.join(folder, "drive")
-    words = ["-O2", "-D_POSIX_C_SOURCE=200809L", "-I", f"{at}/c", f"{at}/c/tests/drive.c", f"{at}/out/libmakhloeum.a", "-pthread"]
+    words = [
+        "-O2",
+        "-D_POSIX_C_SOURCE=200809L",
+        "-I",
+        f"{at}/c",
+        f"{at}/c/tests/drive.c",
+        f"{at}/out/libmakhloeum.a",
+        "-pthread",
+    ]
     if ran([os.environ.get("CC", "cc"), *words, "-o", program]) is None:
         return None
     said = ran([program, "bench"])
@@ -99,7 +109,9 @@ def go(top, folder):
     said = ran(command, cwd=os.path.join(top, "bindings/go"), env=words)
     if said is None:
         return None
-    return [1e9 / min(map(float, re.findall(rf"{name}\S*\s+\d+\s+([\d.]+) ns/op", said))) for name in ("Cat", "ForkAndUndo")]
+    return [
+        1e9 / min(map(float, re.findall(rf"{name}\S*\s+\d+\s+([\d.]+) ns/op", said))) for name in ("Cat", "ForkAndUndo")
+    ]
 
 
 def pipes(top, _):
@@ -137,8 +149,14 @@ def bindings(top, load):
         return 1
     before, rows, failed = load(), {}, 0
     version = f"{sys.version_info[0]}.{sys.version_info[1]}"
-    parts = [("C", c, os.environ.get("CC", "cc")), (f"Python {version}, `ctypes`", python, sys.executable), ("Go, cgo", go, "go")]
-    parts.append((f"Python {version}, pipes to and from `cgshell`", pipes, os.path.join(top, "crates/cgshell/out/cgshell")))
+    parts = [
+        ("C", c, os.environ.get("CC", "cc")),
+        (f"Python {version}, `ctypes`", python, sys.executable),
+        ("Go, cgo", go, "go"),
+    ]
+    parts.append(
+        (f"Python {version}, pipes to and from `cgshell`", pipes, os.path.join(top, "crates/cgshell/out/cgshell"))
+    )
     with tempfile.TemporaryDirectory() as folder:
         for name, measure, needs in parts:
             if not shutil.which(needs):
@@ -146,7 +164,9 @@ def bindings(top, load):
                 continue
             rates = measure(top, folder)
             if rates:
-                rows[name] = dict(zip(("Cats a second", "Pairs a second"), (f"{round(rate, -3):,.0f}" for rate in rates)))
+                rows[name] = dict(
+                    zip(("Cats a second", "Pairs a second"), (f"{round(rate, -3):,.0f}" for rate in rates))
+                )
             failed = failed or not rates
     table(["Cats a second", "Pairs a second"], rows, "From")
     print(f"best of three rounds each; load {before} before, {load()} after")

@@ -44,7 +44,12 @@ def moves(lines):
     for _ in range(lines):
         group, pid = dice.randrange(256), dice.randrange(2, MANY + 2)
         yield dice.choice(
-            (f"write /g{group} cgroup.procs {pid}", f"cat /g{group} pids.current", f"cat /g{group} cgroup.events", f"where {pid}")
+            (
+                f"write /g{group} cgroup.procs {pid}",
+                f"cat /g{group} pids.current",
+                f"cat /g{group} cgroup.events",
+                f"where {pid}",
+            )
         )
 
 
