@@ -3,7 +3,6 @@ import glob
 import os
 import subprocess
 import unittest
-from unittest import mock
 
 from scripts import MadeUp, load
 

@@ -1,42 +1,43 @@
-"""Tests of what .ci/documents looks for in DEFINITIONS and PROVED, on a made-up repository."""
+"""Tests of what .ci/documents looks for in names of definitions and calls, on a made-up repository."""
 import os
 import sys
 import unittest
 
 sys.path.insert(0, os.path.join(os.path.dirname(os.path.realpath(__file__)), ".."))
-from lookup.held import faults_of_clauses, faults_of_held  # noqa: E402
+from lookup.clauses import Crates  # noqa: E402
+from lookup.held import faults_of_held  # noqa: E402
 
 TEXTS = {
-    "crates/low/specs/Sum.antt": "-- A sum.\nabbrev pub Adds : Type 0\nAdds = Few\n",
+    "crates/low/specs/Sum.antt": "-- Sums.\nuse Rattle.std.specs.Prelude.{Few}\n\n-- it adds\nabbrev pub Adds : Type 0\nAdds = Few\n",
     "crates/low/src/sum.rt": "impl<A> Sum<A> {\n    /// Not Total.\n    pub fn add(self)\n        ensures kept { Adds }\n    {\n"
     "        body\n    }\n\n    pub fn take(self) {}\n}\n",
     "crates/low_laws/src/sums.rt": "pub fn sums_add_up()\n    ensures { Adds }\n{}\n",
 }
-ROW = "| a sum | `low/specs/Sum`: `Adds` | `Sum::add` (`kept`), `take`; law `sums::sums_add_up` | own |"
 
 
 class Held(unittest.TestCase):
-    def of_row(self, old="", new=""):
-        text = "| Notion | Definition | Held by | Source |\n|---|---|---|---|\n" + ROW.replace(old, new)
-        return [fault.removeprefix("D:3: ") for fault in faults_of_held("D", text, TEXTS)]
+    def faults_of(self, line):
+        crates = Crates(TEXTS, ["low", "low_laws"])
+        return [fault.removeprefix("D:7: ") for fault in faults_of_held("D", [(7, line)], crates)]
 
-    def test_a_row_that_is_right(self):
-        self.assertEqual(self.of_row(), [])
-
-    def test_rows_that_are_wrong(self):
-        for old, new, fault in (
-            ("Adds", "Total", "Sum define no Total"),
-            ("`Sum::add` (`kept`)", "`Sum::count`", "there is no Sum::count"),
-            ("kept", "lost", "the contract of Sum::add has no lost"),
-            ("kept", "body", "the contract of Sum::add has no body"),
-            ("sums::sums_add_up", "sums::sums_are_few", "there is no sums::sums_are_few"),
+    def test_what_is_there(self):
+        for line in (
+            "`Sum.Adds` in `Sum.antt`, by `Sum::add` (`kept`) and `sums::sums_add_up`",
+            "`Sum::add` (`low`), `Sum::Variant`, `Other::add`, `Other.add`",
         ):
-            with self.subTest(new):
-                self.assertEqual(self.of_row(old, new), [fault])
+            with self.subTest(line):
+                self.assertEqual(self.faults_of(line), [])
 
-    def test_names_of_a_section(self):
-        text = "### `low`\n\n- It adds (`kept`, `Adds`), by a law (`sums_add_up`).\n- It is few (`Total`).\n"
-        self.assertEqual(list(faults_of_clauses("P", text, TEXTS)), ["P:4: low have no Total"])
+    def test_what_is_not_there(self):
+        for line, fault in (
+            ("`Sum.Total`", "Sum defines no Total"),
+            ("`Sum::count`", "Sum has no count"),
+            ("`sums::sums_are_few`", "sums has no sums_are_few"),
+            ("`Sum::add` (`kept`, `lost`)", "the contract of Sum::add has no lost"),
+            ("`Sum::add` (`body`)", "the contract of Sum::add has no body"),
+        ):
+            with self.subTest(line):
+                self.assertEqual(self.faults_of(line), [fault])
 
 
 if __name__ == "__main__":
