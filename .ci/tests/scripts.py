@@ -27,11 +27,14 @@ class MadeUp(unittest.TestCase):
     """Tests of a loaded program in a made-up repository: an empty folder, which the program takes for its own."""
 
     program = None
+    places = {}  # the program's names of other paths, each below that folder
 
     def setUp(self):
         self.top = tempfile.mkdtemp()
         self.addCleanup(shutil.rmtree, self.top)
         self.patch("ROOT", self.top)
+        for name, place in self.places.items():
+            self.patch(name, f"{self.top}/{place}")
 
     def patch(self, name, value):
         patcher = mock.patch.object(self.program, name, value)
@@ -49,9 +52,13 @@ class MadeUp(unittest.TestCase):
             it.write(text)
         os.chmod(at, mode)
 
-    def run_with(self, *words, status=0):
-        """The lines that the program prints."""
+    def said(self, *words, status=0):
+        """What the program prints."""
         said = io.StringIO()
         with contextlib.redirect_stdout(said), contextlib.redirect_stderr(said):
             self.assertEqual(self.program.main(list(words)), status, said.getvalue())
-        return said.getvalue().split("\n")[:-1]
+        return said.getvalue()
+
+    def run_with(self, *words, status=0):
+        """The lines that the program prints."""
+        return self.said(*words, status=status).split("\n")[:-1]

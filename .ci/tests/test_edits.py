@@ -13,11 +13,10 @@ class Edits(MadeUp):
     """low has no crate below it; snzi_tree is above low; sessions is above snzi_tree, and so above low."""
 
     program = edits
+    places = {"PASSED": "passed", "BEGUN": "out/begun"}
 
     def setUp(self):
         super().setUp()
-        self.patch("PASSED", f"{self.top}/passed")
-        self.patch("BEGUN", f"{self.top}/out/begun")
         self.patch("version", lambda: self.kit)
         self.patch("lines_of", lambda command: self.rt(command).stdout.splitlines(True))
         self.kit, self.calls = "kit-1", []

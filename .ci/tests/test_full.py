@@ -1,32 +1,21 @@
 """Tests of .ci/full in a made-up repository, with a function in place of the programs that it runs."""
-import contextlib
-import io
 import os
-import shutil
 import subprocess
-import tempfile
 import unittest
 from unittest import mock
 
-from scripts import load
+from scripts import MadeUp, load
 
 full = load(".ci/full")
 
 
-class Full(unittest.TestCase):
+class Full(MadeUp):
+    program = full
+    places = {"PASSED": ".ci/full-passed", "STATE": "out/full"}
+
     def setUp(self):
-        self.top = tempfile.mkdtemp()
-        self.addCleanup(shutil.rmtree, self.top)
-        values = {
-            "ROOT": self.top,
-            "PASSED": f"{self.top}/.ci/full-passed",
-            "STATE": f"{self.top}/out/full",
-            "run": self.runs,
-        }
-        for name, value in values.items():
-            patcher = mock.patch.object(full, name, value)
-            patcher.start()
-            self.addCleanup(patcher.stop)
+        super().setUp()
+        self.patch("run", self.runs)
         patcher = mock.patch.dict(os.environ, MINUTES="15")
         patcher.start()
         self.addCleanup(patcher.stop)
@@ -41,12 +30,6 @@ class Full(unittest.TestCase):
         self.git("init", "--quiet")
         self.commit()
 
-    def write(self, path, text):
-        at = os.path.join(self.top, path)
-        os.makedirs(os.path.dirname(at), exist_ok=True)
-        with open(at, "w", encoding="utf-8") as it:
-            it.write(text)
-
     def git(self, *words):
         who = ["-c", "user.name=A", "-c", "user.email=a@example.org"]
         return subprocess.run(["git", *who, *words], cwd=self.top, stdout=subprocess.PIPE, text=True, check=True).stdout
@@ -60,23 +43,17 @@ class Full(unittest.TestCase):
         self.calls.append(" ".join(command))
         return len(self.calls) != self.fails_at
 
-    def full(self, *words, status=0):
-        said = io.StringIO()
-        with contextlib.redirect_stdout(said), contextlib.redirect_stderr(said):
-            self.assertEqual(full.main(list(words)), status, said.getvalue())
-        return said.getvalue()
-
     def noted(self):
         return {line.split()[0]: line.split()[1] for line in full.passed().values()}
 
     def test_what_passed_is_noted_with_its_commit(self):
         first = self.commit_of("x")
-        self.full("edits", "mutants")
+        self.said("edits", "mutants")
         self.assertEqual(
             (self.calls, self.noted()), ([".ci/edits --full", ".ci/mutants"], {"edits": first, "mutants": first})
         )
         second = self.commit_of("y")
-        self.full("mutants")
+        self.said("mutants")
         self.assertEqual(self.noted(), {"edits": first, "mutants": second})
 
     def commit_of(self, text):
@@ -85,44 +62,44 @@ class Full(unittest.TestCase):
 
     def test_what_failed_is_not_noted(self):
         self.fails_at = 1
-        self.assertIn("full: 1 parts passed; failed: edits", self.full("edits", "mutants", status=1))
+        self.assertIn("full: 1 parts passed; failed: edits", self.said("edits", "mutants", status=1))
         self.assertEqual(list(self.noted()), ["mutants"])
 
     def test_with_uncommitted_changes_nothing_is_noted(self):
         self.write("mount/a.c", "changed\n")
-        self.assertIn("edits passed, and is not noted", self.full("edits"))
+        self.assertIn("edits passed, and is not noted", self.said("edits"))
         self.assertEqual(self.noted(), {})
 
     def test_a_part_that_was_stopped_continues(self):
         self.fails_at = 3
-        self.full("soak", status=1)
-        self.full("soak")
+        self.said("soak", status=1)
+        self.said("soak")
         self.assertEqual(len(self.calls), 4)
         self.assertEqual(list(self.noted()), ["soak"])
-        self.full("soak")
+        self.said("soak")
         self.assertEqual(len(self.calls), 7)
 
     def test_how_long_a_part_took_is_noted_if_it_can_be_chosen(self):
         for minutes, runs in ("1", 1), ("5", 1), ("6", 2), ("60", 12):
             self.calls.clear()
             with mock.patch.dict(os.environ, MINUTES=minutes):
-                self.full("fuzz", "edits")
+                self.said("fuzz", "edits")
             self.assertEqual(len(self.calls), runs + 1)
             noted = full.passed()
             self.assertEqual((noted["fuzz"].split()[3:], noted["edits"].split()[3:]), ([minutes, "minutes"], []))
 
     def test_a_part_begins_anew_on_other_code_of_the_mount(self):
         self.fails_at = 3
-        self.full("soak", status=1)
+        self.said("soak", status=1)
         self.commit_of("no code of the mount")
         self.write("bindings/c/b.c", "changed\n")
         self.commit()
-        self.full("soak")
+        self.said("soak")
         self.assertEqual(len(self.calls), 3 + 3)
 
     def test_wrong_words(self):
-        self.full(status=2)
-        self.full("edits", "everything", status=2)
+        self.said(status=2)
+        self.said("edits", "everything", status=2)
 
 
 if __name__ == "__main__":

@@ -21,10 +21,10 @@ esac
 
 class Mutants(MadeUp):
     program = mutants
+    places = {"CAUGHT": "caught"}
 
     def setUp(self):
         super().setUp()
-        self.patch("CAUGHT", f"{self.top}/caught")
         subprocess.run(["git", "init", "--quiet"], cwd=self.top, check=True)
         os.mkdir(f"{self.top}/crates")
         self.write("mount/src/a.c", "first right;\nsecond right;\n")
