@@ -103,7 +103,7 @@ class Model:
         self.below = {ROOT: 0}  # the groups below a group
         self.own = {ROOT: 1}  # the processes of the group itself
         self.changed = []  # what undoes the command that runs now, in the order of its changes
-        self.past = []  # of each recorded command its text and `changed`
+        self.journal = []  # of each recorded command, newest last, its text and `changed`
 
     # ---- changes of the two maps, each with what undoes it
 
@@ -232,9 +232,9 @@ class Model:
         return [b"0::" + path_text(self.home[pid])]
 
     def undo(self):
-        if not self.past:
+        if not self.journal:
             raise Refused(b"nothing")
-        text, changes = self.past.pop()
+        text, changes = self.journal.pop()
         for change, key, old in reversed(changes):
             change(key, old)
         return [text]
@@ -253,7 +253,7 @@ class Model:
         else:
             lines = [b"ok"] + [b"| " + line for line in shown or []]
         if call != "undo" and self.changed or call in ("write", "exit") and lines == [b"ok"]:
-            self.past.append((text, self.changed))
+            self.journal.append((text, self.changed))
         return lines
 
 

@@ -6,6 +6,8 @@ from .code import definition_of
 
 COMMENT = re.compile(r"^\s*(//[/!]?|--) ?(.*)$")
 CODE = re.compile(r"`([^`]+)`")
+# A name with an underscore: a crate, a function, a file.
+SNAKE = re.compile(r"(?<![\w'.-])[a-z][a-z0-9]*(?:_[a-z0-9]+)+\b")
 # Names from outside that comments compare with, or that the kit has.
 ELSEWHERE = {"LongAdder"}
 
@@ -66,12 +68,14 @@ def split(text):
 
 
 def faults_of_comments(texts, listing):
-    """Names in comments of crates: a file of specs/, proofs/ or src/, there or in a crate below; a word with a capital."""
+    """Names in comments of crates: a file of specs/, proofs/ or src/, there or in a crate below; a word with a capital in code
+    type; a name with an underscore, which may also be a crate or a file of another kind."""
     parts = {path: split(text) for path, text in texts.items() if re.match(r"crates/.*\.(rt|antt)$", path)}
-    words = {path.rsplit("/", 1)[1].split(".")[0] for path in parts} | ELSEWHERE
+    words = {path.rsplit("/", 1)[1].split(".")[0] for path in texts} | ELSEWHERE
     for _, rest in parts.values():
         words.update(re.findall(r"\w+", rest))
     below = crates_with_those_below(listing)
+    words.update(below)
     for path, (comments, _) in parts.items():
         for number, comment in comments:
             found = faults_in(comment, below.get(path.split("/")[1], ()), words, texts)
@@ -90,6 +94,9 @@ def faults_in(comment, below, words, texts):
         for word in re.findall(r"(?<![\w'.])[A-Z][a-z]\w*", "" if file else token):
             if word not in words:
                 yield f"{word} of `{token}` is in no crate"
+    for word in SNAKE.findall(comment):
+        if word not in words:
+            yield f"{word} is in no crate"
 
 
 def faults_of_head(path, comments, texts):

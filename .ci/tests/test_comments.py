@@ -5,6 +5,7 @@ import unittest
 
 sys.path.insert(0, os.path.join(os.path.dirname(os.path.realpath(__file__)), ".."))
 from lookup.comments import faults_of_comments, faults_of_subjects  # noqa: E402
+from lookup.unproved import faults_of_unproved  # noqa: E402
 
 CRATES = "# Crates.\nlow: memchr\nhigh staticlib: low\n"
 TEXTS = {
@@ -40,6 +41,16 @@ class Comments(unittest.TestCase):
             self.faults(path, TEXTS[path] + "// A `Total`.\n"), [f"{path}:4: Total of `Total` is in no crate"]
         )
 
+    def test_a_crate_that_is_not_there(self):
+        path = "crates/low/src/sum.rt"
+        self.assertEqual(
+            self.faults(path, TEXTS[path] + "// As in `low`.\n// As high_one, or `low_two`.\n")[0],
+            f"{path}:5: high_one is in no crate",
+        )
+        self.assertEqual(
+            self.faults(path, TEXTS[path] + "// As the proof_kit.\n"), [f"{path}:4: proof_kit is in no crate"]
+        )
+
     def test_a_head_that_lists_another_file_than_there_is(self):
         path = "crates/low/src/lib.rt"
         one = ["crates/low/src/lib.rt: there is no specs/Adds.antt"]
@@ -60,6 +71,35 @@ class Comments(unittest.TestCase):
         self.assertEqual(self.faults(path, "# shows: Sum.Adds\n== a sum\n"), [])
         self.assertEqual(self.faults(path, "== a sum\n"), [f"{path}: no line `# shows: NAME`"])
         self.assertEqual(self.faults(path, "# shows: take\n"), [f"{path}: shows take, which is not there"])
+
+
+class Unproved(unittest.TestCase):
+    """Comments of each language that name a crate and a file of it, once as they are and once as they are not."""
+
+    CODE = {
+        "c/one.c": '/* %s */\nchar c[] = "// old_name";\n',
+        "go/two.go": "// %s\npackage two\n",
+        "three.mjs": "// %s\n",
+        "four.rs": "// %s\n",
+        "five.sh": "#!/bin/sh\n# %s\n",
+        "six.py": "def six():  # %s\n    pass\n",
+        "seven": '#!/usr/bin/env python3\n"""A script.\n\n%s\n"""\n',
+    }
+
+    def faults(self, said):
+        texts = {"crates/low_one/specs/Sum.antt": "-- old_crate\nAdds = Few\n"}
+        return [fault.split(": ") for fault in faults_of_unproved(texts | {p: t % said for p, t in self.CODE.items()})]
+
+    def test_names_that_are_there(self):
+        self.assertEqual(self.faults("As `low_one` has it in low_one/specs/Sum.antt, or specs/Sum.antt."), [])
+
+    def test_names_that_are_only_in_comments(self):
+        for said in ("As old_crate has it.", "It is in specs/Total.antt."):
+            with self.subTest(said):
+                self.assertEqual({at.split(":")[0] for at, _ in self.faults(said)}, set(self.CODE))
+
+    def test_a_name_in_a_string_is_no_comment(self):
+        self.assertEqual(self.faults("As old_name has it."), [])
 
 
 if __name__ == "__main__":

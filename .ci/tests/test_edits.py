@@ -1,29 +1,25 @@
 """Tests of .ci/edits on a made-up repository, with a function in place of `rt`."""
-import contextlib
 import glob
-import io
 import os
-import shutil
 import subprocess
-import tempfile
 import unittest
-from unittest import mock
 
-from scripts import load
+from scripts import MadeUp, load
 
 edits = load(".ci/edits")
 
 
-class Edits(unittest.TestCase):
+class Edits(MadeUp):
     """low has no crate below it; snzi_tree is above low; sessions is above snzi_tree, and so above low."""
 
+    program = edits
+
     def setUp(self):
-        self.top = tempfile.mkdtemp()
-        self.addCleanup(shutil.rmtree, self.top)
-        for name, value in {"ROOT": self.top, "PASSED": f"{self.top}/passed", "BEGUN": f"{self.top}/out/begun"}.items():
-            self.patch(name, value)
+        super().setUp()
+        self.patch("PASSED", f"{self.top}/passed")
+        self.patch("BEGUN", f"{self.top}/out/begun")
         self.patch("version", lambda: self.kit)
-        self.patch("subprocess", mock.Mock(run=self.rt, PIPE=None, STDOUT=None))
+        self.patch("lines_of", lambda command: self.rt(command).stdout.splitlines(True))
         self.kit, self.calls = "kit-1", []
         self.write(
             "crates.txt",
@@ -37,11 +33,6 @@ class Edits(unittest.TestCase):
         self.edit("snzi_tree", "must-fail", "b")
         self.edit("snzi_tree", "must-fail-more", "c")
         self.edit("sessions", "must-fail-more", "d")
-
-    def patch(self, name, value):
-        patcher = mock.patch.object(edits, name, value)
-        patcher.start()
-        self.addCleanup(patcher.stop)
 
     def rt(self, command, **_):
         """In place of `rt ci` and `rt must-fail`: it refuses each edit whose new text has the word wrong, and says so as they do."""
@@ -61,35 +52,19 @@ class Edits(unittest.TestCase):
                 )
         return subprocess.CompletedProcess(command, 0, "\n".join([*lines, "1 passed, 0 failed\n"]))
 
-    def read(self, path):
-        with open(os.path.join(self.top, path), encoding="utf-8") as it:
-            return it.read()
-
-    def write(self, path, text):
-        at = os.path.join(self.top, path)
-        os.makedirs(os.path.dirname(at), exist_ok=True)
-        with open(at, "w", encoding="utf-8") as it:
-            it.write(text)
-
     def edit(self, crate, folder, name, old="right", new="wrong"):
         self.write(f"crates/{crate}/{folder}/{name}.edit", f"file: src/lib.rt\nold: {old}\nnew: {new}\n")
 
-    def run_edits(self, *words, status=0):
-        said = io.StringIO()
-        with contextlib.redirect_stdout(said), contextlib.redirect_stderr(said):
-            self.assertEqual(edits.main(list(words)), status, said.getvalue())
-        return said.getvalue().split("\n")[:-1]
-
     def names(self, *words):
-        return [line for line in self.run_edits(*words) if line]
+        return [line for line in self.run_with(*words) if line]
 
     def land(self, status=0, meanwhile=lambda: None):
         """What .ci/run does: lays what is due, lets `rt ci` try it, and notes."""
-        self.run_edits("--lay")
+        self.run_with("--lay")
         self.write("log", self.rt(["rt", "ci"]).stdout)
         meanwhile()
-        self.run_edits("--take-back")
-        return self.run_edits("--note", f"{self.top}/log", status=status)
+        self.run_with("--take-back")
+        return self.run_with("--note", f"{self.top}/log", status=status)
 
     def change(self, path):
         with open(os.path.join(self.top, path), "a", encoding="utf-8") as it:
@@ -98,33 +73,33 @@ class Edits(unittest.TestCase):
     def test_all_are_due_at_first_and_none_once_they_passed(self):
         self.assertEqual(self.names("--due"), ["low", "snzi_tree", "sessions"])
         self.assertEqual(self.names("--due-below"), [])
-        self.assertIn("edits: 4 refused", self.run_edits())
+        self.assertIn("edits: 4 refused", self.run_with())
         self.assertEqual(self.names("--due") + self.names("--due-below"), [])
 
     def test_a_changed_crate_is_due_itself_and_those_above_it_only_below(self):
-        self.run_edits()
+        self.run_with()
         for part in ("src/lib.rt", "specs/Lib.antt"):
             self.change(f"crates/low/{part}")
             self.assertEqual(self.names("--due"), ["low"])
             self.assertEqual(self.names("--due-below"), ["snzi_tree", "sessions"])
-            self.run_edits()
+            self.run_with()
         self.change("crates/snzi_tree/specs/Lib.antt")
         self.assertEqual((self.names("--due"), self.names("--due-below")), (["snzi_tree"], ["sessions"]))
 
     def test_a_proof_below_makes_nothing_above_due(self):
-        self.run_edits()
+        self.run_with()
         self.change("crates/low/proofs/Lib.antt")
         self.assertEqual((self.names("--due"), self.names("--due-below")), (["low"], []))
 
     def test_a_changed_edit_is_due_and_a_moved_one_is_not(self):
-        self.run_edits()
+        self.run_with()
         os.rename(f"{self.top}/crates/snzi_tree/must-fail/b.edit", f"{self.top}/crates/snzi_tree/must-fail-more/b.edit")
         self.assertEqual(self.names("--due"), [])
         self.edit("sessions", "must-fail-more", "d", new="also wrong")
         self.assertEqual(self.names("--due"), ["sessions"])
 
     def laid(self):
-        self.run_edits("--lay")
+        self.run_with("--lay")
         return sorted(
             path[len(f"{self.top}/crates/") :] for path in glob.glob(f"{self.top}/crates/*/must-fail/second-set-*")
         )
@@ -169,7 +144,7 @@ class Edits(unittest.TestCase):
         self.assertNotIn("low/old.edit", self.read("passed"))
 
     def test_another_kit_makes_all_due_below(self):
-        self.run_edits()
+        self.run_with()
         self.kit = "kit-2"
         self.assertEqual((self.names("--due"), self.names("--due-below")), ([], ["low", "snzi_tree", "sessions"]))
 
@@ -187,12 +162,11 @@ class Edits(unittest.TestCase):
         self.land()
         self.change("crates/snzi_tree/src/lib.rt")
         self.calls.clear()
-        self.assertIn("edits: 3 refused", self.run_edits("--full"))
-        tried = [call for call in self.calls if call.startswith("rt must-fail")]
-        self.assertEqual(sorted(tried), ["rt must-fail sessions", "rt must-fail snzi_tree"])
+        self.assertIn("edits: 3 refused", self.run_with("--full"))
+        self.assertEqual(self.calls, ["rt ci snzi_tree sessions"])
         self.assertEqual(self.names("--due") + self.names("--due-below"), [])
         self.calls.clear()
-        self.run_edits("--full")
+        self.run_with("--full")
         self.assertEqual(self.calls, [])
 
     def test_a_change_during_the_run_stays_due(self):
@@ -204,53 +178,53 @@ class Edits(unittest.TestCase):
         said = self.land(status=1)
         self.assertIn("edits: low/harmless.edit was NOT REFUSED, or not tried", said)
         self.assertEqual(self.names("--due"), ["low"])
-        self.assertIn("edits: 4 refused; not all of low", self.run_edits(status=1))
+        self.assertIn("edits: 4 refused; not all of low", self.run_with(status=1))
         self.assertEqual(self.names("--due"), ["low"])
-        self.assertIn("edits: 1 refused; not all of low", self.run_edits("--full", status=1))
+        self.assertIn("edits: 1 refused; not all of low", self.run_with("--full", status=1))
 
     def test_an_edit_whose_old_text_is_gone_fails(self):
         self.edit("sessions", "must-fail-more", "stale", old="no such text")
         why = "edits: sessions/stale.edit can't be applied: an old: text is in src/lib.rt 0 times, not once"
         for words in (["--check"], ["--lay"], ["--full"], ["sessions"]):
-            self.assertEqual(self.run_edits(*words, status=1), [why])
+            self.assertEqual(self.run_with(*words, status=1), [why])
 
     def test_an_edit_that_the_kit_calls_bad_is_not_noted(self):
-        self.run_edits("--lay")
+        self.run_with("--lay")
         self.write("log", "rt: must-fail low/second-set-a.edit: BAD EDIT: the prover cannot read the edited text\n")
-        self.run_edits("--take-back")
-        self.run_edits("--note", f"{self.top}/log", status=1)
+        self.run_with("--take-back")
+        self.run_with("--note", f"{self.top}/log", status=1)
         self.assertEqual(self.names("--due"), ["low", "snzi_tree", "sessions"])
 
     def test_a_missing_edit_of_the_first_set_fails_also_if_its_crate_is_not_due(self):
         self.land()
-        self.run_edits("--lay")
+        self.run_with("--lay")
         self.write("log", "")
-        self.run_edits("--take-back")
+        self.run_with("--take-back")
         self.assertIn(
             "edits: snzi_tree/b.edit was NOT REFUSED, or not tried",
-            self.run_edits("--note", f"{self.top}/log", status=1),
+            self.run_with("--note", f"{self.top}/log", status=1),
         )
 
     def test_the_bounds_of_the_first_set(self):
         self.edit("docs_only", "must-fail", "e")
-        self.assertIn("docs_only has a first set", self.run_edits("--check", status=1)[0])
+        self.assertIn("docs_only has a first set", self.run_with("--check", status=1)[0])
         os.remove(f"{self.top}/crates/docs_only/must-fail/e.edit")
         for number in range(8):
             self.edit("sessions", "must-fail", f"n{number}")
-        self.run_edits("--check")
+        self.run_with("--check")
         self.edit("sessions", "must-fail", "n8")
-        self.assertIn("sessions has 9 edits in must-fail/, more than 8", self.run_edits("--check", status=1)[0])
+        self.assertIn("sessions has 9 edits in must-fail/, more than 8", self.run_with("--check", status=1)[0])
 
     def test_nothing_that_was_laid_is_left(self):
         before = sorted(os.walk(f"{self.top}/crates"))
-        self.run_edits("--lay")
+        self.run_with("--lay")
         self.assertTrue(os.path.exists(f"{self.top}/crates/low/must-fail/second-set-a.edit"))
-        self.run_edits("--take-back")
+        self.run_with("--take-back")
         self.assertEqual(sorted(os.walk(f"{self.top}/crates")), before)
 
     def test_wrong_words(self):
         for words in (["--no-such"], ["no_such_crate"], ["--note"]):
-            self.run_edits(*words, status=2)
+            self.run_with(*words, status=2)
 
 
 if __name__ == "__main__":

@@ -9,13 +9,14 @@ import unittest
 
 TOP = os.path.dirname(os.path.dirname(os.path.dirname(os.path.realpath(__file__))))
 HEADER = "bindings/c/makhloeum.h"
+TRACE = ".ci/refused/traces/every_file.trace"
 
 
 class Generate(unittest.TestCase):
     def setUp(self):
         self.top = tempfile.mkdtemp()
         self.addCleanup(shutil.rmtree, self.top)
-        named = re.search(r"TARGETS = \((.*?)\n\)", self.read("bindings/generate", TOP), re.S)[1]
+        named = re.search(r"TARGETS = \((.*?)\n\)", self.read("bindings/generate", TOP), re.S)[1] + f'"{TRACE}"'
         generating = [f"bindings/generating/{name}" for name in os.listdir(os.path.join(TOP, "bindings/generating"))]
         sources = [path for path in generating if path.endswith(".py")]
         for path in ("bindings/generate", *sources, "crates/word_tables/stdout", *re.findall(r'"(.+?)"', named)):
@@ -57,6 +58,22 @@ class Generate(unittest.TestCase):
         self.assertEqual(self.run_generate("--check")[0], 1)
         self.run_generate()
         self.assertIn("\tMK_VALUE = 40\n", self.read(HEADER))
+
+    def test_a_new_file_reaches_the_lists_of_tests(self):
+        peak = "file\tpids.peak\t"
+        self.replace("crates/word_tables/stdout", peak, "file\tpids.new\tno\tyes\t-\tno\tthe number\n" + peak)
+        self.run_generate()
+        self.assertEqual(self.read(TRACE).count("cat /k/a pids.new\n"), 3)
+        self.assertIn('    "pids.new": b"0\\n",\n', self.read("mount/tests/files.py"))
+        self.assertIn('\t{ "pids.new", false, 0444 },\n', self.read("look/tests/faulty.c"))
+        self.assertIn('    (File::PidsNew, "pids.new", false),\n', self.read("evidence/bench/plain/lines.rs"))
+
+    def test_a_file_without_parts_is_written_whole(self):
+        whole = self.read(TRACE)
+        self.replace(TRACE, "fork 1 9\n", "")
+        self.assertEqual(self.run_generate("--check"), (1, f"{TRACE} is not what bindings/generate writes"))
+        self.run_generate()
+        self.assertEqual(self.read(TRACE), whole)
 
     def test_what_is_written_by_hand_stays(self):
         self.replace(HEADER, "#ifndef MAKHLOEUM_H", "/* by hand */\n#ifndef MAKHLOEUM_H")

@@ -1,15 +1,10 @@
 """Tests of .ci/mutants in a made-up repository whose builder and tests are two lines of shell."""
-import contextlib
-import io
 import os
 import pathlib
-import shutil
 import subprocess
-import tempfile
 import unittest
-from unittest import mock
 
-from scripts import load
+from scripts import MadeUp, load
 
 mutants = load(".ci/mutants")
 
@@ -24,14 +19,12 @@ esac
 """
 
 
-class Mutants(unittest.TestCase):
+class Mutants(MadeUp):
+    program = mutants
+
     def setUp(self):
-        self.top = tempfile.mkdtemp()
-        self.addCleanup(shutil.rmtree, self.top)
-        for name, value in {"ROOT": self.top, "CAUGHT": f"{self.top}/caught"}.items():
-            patcher = mock.patch.object(mutants, name, value)
-            patcher.start()
-            self.addCleanup(patcher.stop)
+        super().setUp()
+        self.patch("CAUGHT", f"{self.top}/caught")
         subprocess.run(["git", "init", "--quiet"], cwd=self.top, check=True)
         os.mkdir(f"{self.top}/crates")
         self.write("mount/src/a.c", "first right;\nsecond right;\n")
@@ -40,35 +33,22 @@ class Mutants(unittest.TestCase):
         self.write("mount/test", TEST, 0o755)
         self.write("mount/tests/one.py", "a test\n")
 
-    def write(self, path, text, mode=0o644):
-        at = os.path.join(self.top, path)
-        os.makedirs(os.path.dirname(at), exist_ok=True)
-        with open(at, "w", encoding="utf-8") as it:
-            it.write(text)
-        os.chmod(at, mode)
-
     def mutant(self, name, old="first right;", new="first wrong;", test="one", file="mount/src/a.c"):
         self.write(f"mount/mutants/{name}.mutant", f"file: {file}\nold: {old}\nnew: {new}\ntest: {test}\n")
 
-    def run_mutants(self, *words, status=0):
-        said = io.StringIO()
-        with contextlib.redirect_stdout(said), contextlib.redirect_stderr(said):
-            self.assertEqual(mutants.main(list(words)), status, said.getvalue())
-        return said.getvalue().split("\n")[:-1]
-
     def due(self):
-        return [line for line in self.run_mutants("--due") if line]
+        return [line for line in self.run_with("--due") if line]
 
     def test_one_that_is_caught_is_noted_and_due_again_after_a_change(self):
         self.mutant("a")
         self.assertEqual(self.due(), ["mount/a"])
-        self.assertEqual(self.run_mutants(), ["mutants: mount/a: caught by one", "1 passed, 0 failed"])
-        self.assertEqual((self.due(), self.run_mutants()), ([], ["0 passed, 0 failed"]))
+        self.assertEqual(self.run_with(), ["mutants: mount/a: caught by one", "1 passed, 0 failed"])
+        self.assertEqual((self.due(), self.run_with()), ([], ["0 passed, 0 failed"]))
         for path in ("mount/src/a.c", "mount/tests/one.py"):
             with open(f"{self.top}/{path}", "a", encoding="utf-8") as it:
                 it.write("more\n")
             self.assertEqual(self.due(), ["mount/a"])
-            self.run_mutants()
+            self.run_with()
         self.mutant("another", new="first other;")
         self.assertEqual(self.due(), ["mount/a", "mount/another"])
 
@@ -76,7 +56,7 @@ class Mutants(unittest.TestCase):
         self.mutant("a")
         self.mutant("missed", "second right;", "second wrong;")
         self.mutant("elsewhere", "third right;", "third wrong;", file="mount/src/b.c")
-        said = self.run_mutants(status=1)
+        said = self.run_with(status=1)
         self.assertIn("mutants: mount/missed: NOT CAUGHT by one", said)
         self.assertEqual(said[-1], "1 passed, 2 failed")
         self.assertEqual(self.due(), ["mount/a", "mount/elsewhere", "mount/missed"])
@@ -84,11 +64,11 @@ class Mutants(unittest.TestCase):
     def test_bad_ones_fail(self):
         self.mutant("stale", old="no such text")
         self.assertEqual(
-            self.run_mutants("--check", status=1),
+            self.run_with("--check", status=1),
             ["mutants: mount/stale: BAD MUTANT: an old text is in mount/src/a.c 0 times, not once"],
         )
         self.mutant("stale", new="broken")
-        said = self.run_mutants(status=1)
+        said = self.run_with(status=1)
         self.assertEqual(
             (said[0].strip(), said[-1]), ("mutants: mount/stale: BAD MUTANT: it can't be built:", "0 passed, 1 failed")
         )
@@ -96,7 +76,7 @@ class Mutants(unittest.TestCase):
     def test_a_test_that_fails_without_a_mutant_or_runs_nothing_says_nothing(self):
         self.mutant("a", test="bad")
         self.mutant("b", test="none")
-        said = self.run_mutants(status=1)
+        said = self.run_with(status=1)
         self.assertIn("mutants: mount/a: NOT TRIED: bad doesn't pass without it", said)
         self.assertIn("mutants: mount/b: NOT TRIED: none doesn't pass without it", said)
 
@@ -105,15 +85,15 @@ class Mutants(unittest.TestCase):
         self.mutant("a2", new="first other;")
         self.mutant("b", "third right;", "first", test="one", file="mount/src/b.c")
         self.assertEqual(
-            self.run_mutants("--most", "2")[-2:], ["mutants: 1 more are due: .ci/full mutants", "2 passed, 0 failed"]
+            self.run_with("--most", "2")[-2:], ["mutants: 1 more are due: .ci/full mutants", "2 passed, 0 failed"]
         )
         self.assertEqual(self.due(), ["mount/b"])
-        self.assertEqual(self.run_mutants("--most", "0")[-1], "0 passed, 0 failed")
+        self.assertEqual(self.run_with("--most", "0")[-1], "0 passed, 0 failed")
 
     def test_the_tree_stays_as_it_is(self):
         self.mutant("a")
         before = self.files()
-        self.run_mutants("a")
+        self.run_with("a")
         self.assertEqual(self.files(), before)
 
     def files(self):
@@ -121,7 +101,7 @@ class Mutants(unittest.TestCase):
 
     def test_wrong_words(self):
         for words in (["--no-such"], ["nobody"], ["--most"]):
-            self.run_mutants(*words, status=2)
+            self.run_with(*words, status=2)
 
 
 if __name__ == "__main__":

@@ -1,6 +1,6 @@
 // What has no document: the state at each moment, searches, lives, series, rows, and the shapes of plots.
 //   node --test look/tests/state.test.mjs
-// MAKHLOEUM_RUN is a file with a run as the page has it, and with what the engine said of every moment (test_page.py makes it).
+// MAKHLOEUM_RUN is a file with a run as the page has it, and with what the engine said of every moment (test_history.py makes it).
 import assert from "node:assert";
 import { readFileSync } from "node:fs";
 import test from "node:test";

@@ -1,4 +1,5 @@
-/* The values of kept controllers: what was taken is taken again as it is read, and then reads the same. */
+/* The values of kept controllers: what was taken is taken again as it is read, and then reads the same. An input begins with the
+   name of a file and a line feed, or with a byte that chooses the file. */
 #include "values.h"
 #include "controllers.h"
 #include "engine.h"
@@ -20,6 +21,26 @@ static bool reads_as_written(const char *name)
 		strcmp(name, "cpuset.cpus.partition") != 0;
 }
 
+/* The disks are the same on every machine: 7:0 to 7:3. This stands for the function of machine.c (-Wl,--wrap). */
+bool __wrap_machine_has_disk(unsigned major, unsigned minor);
+bool __wrap_machine_has_disk(unsigned major, unsigned minor)
+{
+	return major == 7 && minor < 4;
+}
+
+/* The file that the input names, and where its value begins. */
+static const struct file *choose(const char *data, size_t size, size_t *from)
+{
+	const char *end = memchr(data, '\n', size);
+	size_t name = end ? (size_t)(end - data) : 0;
+	*from = name + 1;
+	for (size_t i = 0; name && i < values_count; i++)
+		if (strlen(values_files[i].name) == name && memcmp(values_files[i].name, data, name) == 0)
+			return &values_files[i];
+	*from = 1;
+	return &values_files[(unsigned char)data[0] % values_count];
+}
+
 static void read_text(const struct file *file, char out[TEXT_ROOM])
 {
 	if (file->show)
@@ -37,15 +58,17 @@ int LLVMFuzzerTestOneInput(const uint8_t *data, size_t size)
 		return 0;
 	if (!has_machine)
 		require(has_machine = machine_read());
-	const struct file *file = &values_files[data[0] % values_count];
+	size_t from;
+	const struct file *file = choose((const char *)data, size, &from);
 	if (!file->take)
 		return 0;
 	engine_lock();
-	if (values_write("/", file, (const char *)data + 1, size - 1) == 0) {
+	if (values_write("/", file, (const char *)data + from, size - from) == 0) {
 		read_text(file, text);
-		require(strchr(text, 0)[-1] == '\n' || !*text);
-		if (reads_as_written(file->name) && strlen(text)) {
-			require(values_write("/", file, text, strlen(text)) == 0);
+		size_t n = strlen(text);
+		require(n == 0 || text[n - 1] == '\n');
+		if (reads_as_written(file->name) && n) {
+			require(values_write("/", file, text, n) == 0);
 			read_text(file, again);
 			require(strcmp(text, again) == 0);
 		}

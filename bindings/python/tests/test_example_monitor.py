@@ -1,4 +1,4 @@
-"""A small monitor, and its test: `python3 -m pytest example_monitor.py`, once bindings/build has made the library.
+"""A small monitor, and its test: `python3 -m pytest test_example_monitor.py`, once bindings/build has made the library.
 
 The monitor names the groups that hold more than a share of their `pids.max`. It reads files by a function that it is given:
 in a service one that opens /sys/fs/cgroup, in the test one that asks a hierarchy in memory."""

@@ -7,3 +7,4 @@ mod Answered
 mod Below
 mod SameTexts
 mod TooLong
+mod Depths

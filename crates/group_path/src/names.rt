@@ -1,6 +1,6 @@
 //! The names of a path, in order.
 
-ghost use Rattle.std.specs.Prelude.{◌≡◌};
+ghost use Rattle.std.specs.Prelude.{◌≡◌, ◌%◌, ◌^◌, count_by};
 ghost use Rattle.std.specs.Iterator.{YieldsFirstBy, item_count};
 ghost use Rattle.std.specs.List.{position};
 ghost use Rattle.flat_model.specs.PathText.{is_slash};
@@ -53,6 +53,17 @@ fn far_slash(bytes: &[u8]) -> Option<usize>
     ensures { result ≡ position is_slash bytes.now }
 {
     memchr(b'/', bytes)
+}
+
+/// How many slashes there are, modulo 256: with a byte for the count, a vector counts sixteen bytes at once.
+pub(crate) fn slashes(bytes: &[u8]) -> u8
+    ensures { result ≡ count_by is_slash bytes.now % 2 ^ 8 }
+{
+    let mut count = 0u8;
+    for byte in bytes {
+        count = count.wrapping_add(u8::from(*byte == b'/'));
+    }
+    count
 }
 
 /// The index of the first slash: byte by byte among the first `NEAR` bytes, then by vectors.

@@ -8,7 +8,7 @@ ghost use Rattle.group_path.specs.FollowsGrammar.{FollowsGrammar};
 
 use crate::fault::PathFault;
 use crate::grammar::{DEPTH_MAX, check_text};
-use crate::names::Names;
+use crate::names::{Names, slashes};
 use inline_bytes::{INLINE_MAX, InlineBytes};
 use std::alloc::{AllocError, Allocator};
 use std::marker::Model;
@@ -103,7 +103,12 @@ impl<A: Allocator + Clone> GroupPath<A> {
         ensures { result ≡ length self.now }
     {
         let _ = &self.text;
-        self.names().count()
+        let text = self.text.as_slice();
+        if text.len() > 1 {
+            usize::from(slashes(text))
+        } else {
+            0
+        }
     }
 
     /// Whether this group is the other one or is below it. Linear in both texts.

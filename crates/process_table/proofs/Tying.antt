@@ -62,9 +62,6 @@ module _ {A : Type 0} where
         | false ↦ λ _ l. absurd (omega (arith, l))
       ] refl h
 
-  counts_one : (s : ℕ) (c : Cell A) → c.process.slot ≡ s → in_slot s (Some c) ≡ 1
-  counts_one s c e = rw (eq-eqb c.process.slot s e) refl
-
   same_slot : (s place : ℕ) (o : Option (Cell A)) → in_slot s (option_map (at_place place) o) ≡ in_slot s o
   same_slot s place None = refl
   same_slot s place (Some c) = refl
@@ -100,8 +97,7 @@ module _ {A : Type 0} where
     elsewhere q c is same at =
         let there : IsAt (list_at lists slot) place q = subst (λ n. IsAt (list_at lists slot) n q) at (subst (λ t. IsAt (list_at lists t) c.place q) same (o.placed q c is)) in
         let it : p ≡ q = sym o.here.here ∙ there.here in
-        let none : in_slot slot (cells p) ≡ 1 = ap (λ r. in_slot slot (cells r)) it ∙ ap (in_slot slot) is ∙ counts_one slot c same in
-        omega (arith, none, o.gone)
+        o.elsewhere c (ap cells it ∙ is) same at
 
     -- a pid that the last one of the list is not
     stays : (q : ℕ) (c : Cell A) → cells q ≡ Some c → (c.process.slot ≡ slot → c.place ≢ length (list_at after slot)) → IsAt (list_at after c.process.slot) c.place q
@@ -182,7 +178,7 @@ module _ {A : Type 0} where
   -- ---- a pid goes out of the cells
   pub taken_owes : (cells changed : ℕ → Option (Cell A)) (lists : List (List ℕ)) (p : ℕ) (c : Cell A) → IsTied cells lists
       → cells p ≡ Some c → ((q : ℕ) → changed q ≡ cond (eqb p q) None (cells q)) → Owes changed lists c.process.slot c.place p
-  taken_owes cells changed lists p c t is h = record { counted = counts; placed = places; few = fews; here = t.placed p c is; gone = ap (in_slot c.process.slot) gone }
+  taken_owes cells changed lists p c t is h = record { counted = counts; placed = places; few = fews; here = t.placed p c is; elsewhere = λ d e _ _. cc gone }
     where
       gone : changed p ≡ None
       gone = written cells changed p None h
@@ -200,35 +196,7 @@ module _ {A : Type 0} where
       fews : (q : ℕ) → pid_count ≤ q → changed q ≡ None
       fews = at_or_apart {p = p} {P = λ q. pid_count ≤ q → changed q ≡ None} (λ _. gone) (λ q ne le. unwritten cells changed p None h q ne ∙ t.few q le)
 
-  -- ---- a pid gets another process of the same slot
-  pub kept_tied : (cells changed : ℕ → Option (Cell A)) (lists : List (List ℕ)) (p : ℕ) (c d : Cell A) → IsTied cells lists
-      → cells p ≡ Some c → d.process.slot ≡ c.process.slot → d.place ≡ c.place → ((q : ℕ) → changed q ≡ cond (eqb p q) (Some d) (cells q))
-      → IsTied changed lists
-  kept_tied cells changed lists p c d t is slot place h = record { counted = counts; placed = places; few = fews }
-    where
-      new : changed p ≡ Some d
-      new = written cells changed p (Some d) h
-
-      counts : (s q : ℕ) → count_by (eqb q) (list_at lists s) ≡ in_slot s (changed q)
-      counts s = at_or_apart {p = p} {P = λ q. count_by (eqb q) (list_at lists s) ≡ in_slot s (changed q)}
-          (t.counted s p ∙ ap (in_slot s) is ∙ ap (λ n. one_if (eqb n s)) (sym slot) ∙ sym (ap (in_slot s) new))
-          (λ q ne. t.counted s q ∙ sym (ap (in_slot s) (unwritten cells changed p (Some d) h q ne)))
-
-      at_d : IsAt (list_at lists d.process.slot) d.place p
-      at_d = subst (λ s. IsAt (list_at lists s) d.place p) (sym slot) (subst (λ n. IsAt (list_at lists c.process.slot) n p) (sym place) (t.placed p c is))
-
-      places : (q : ℕ) (e : Cell A) → changed q ≡ Some e → IsAt (list_at lists e.process.slot) e.place q
-      places = at_or_apart {p = p} {P = λ q. (e : Cell A) → changed q ≡ Some e → IsAt (list_at lists e.process.slot) e.place q}
-          (λ e f. let it : d ≡ e = cc new in subst (λ (e : Cell A). IsAt (list_at lists e.process.slot) e.place p) it at_d)
-          (λ q ne e f. t.placed q e (sym (unwritten cells changed p (Some d) h q ne) ∙ f))
-
-      fews : (q : ℕ) → pid_count ≤ q → changed q ≡ None
-      fews = at_or_apart {p = p} {P = λ q. pid_count ≤ q → changed q ≡ None} (λ le. absurd (taken (cells p) (t.few p le))) (λ q ne le. unwritten cells changed p (Some d) h q ne ∙ t.few q le)
-        where
-          taken : (o : Option (Cell A)) → cells p ≡ None → ⊥
-          taken o e = cc is
-
-  -- ---- a pid comes to a slot that it was not in
+  -- ---- a pid comes to the end of the list of a slot
   module _ (cells changed : ℕ → Option (Cell A)) (lists after : List (List ℕ)) (p : ℕ) (d : Cell A) (t : IsTied cells lists) (small : p < pid_count)
       (place : d.place ≡ length (list_at lists d.process.slot))
       (pushed : (s : ℕ) → list_at after s ≡ cond (eqb d.process.slot s) (list_at lists s ++ p ∷ []) (list_at lists s))
@@ -283,13 +251,18 @@ module _ {A : Type 0} where
       few = fews;
     }
 
-    pub new_owes : (c : Cell A) → cells p ≡ Some c → c.process.slot ≢ d.process.slot → Owes changed after c.process.slot c.place p
-    new_owes c is apart = record {
+    pub new_owes : (c : Cell A) → cells p ≡ Some c → Owes changed after c.process.slot c.place p
+    new_owes c is = record {
       counted = λ s. at_or_apart {p = p} {P = λ q. count_by (eqb q) (list_at after s) ≡ in_slot s (changed q) + owed c.process.slot p s q}
           (omega (arith, counts_here s, ap (in_slot s) is, is_owed s p c))
           (λ q ne. omega (arith, counts_apart s q ne, not_owed c.process.slot p s q ne));
       placed = places;
       few = fews;
       here = longer c.process.slot c.place p (t.placed p c is);
-      gone = ap (in_slot c.process.slot) new ∙ ap one_if (ne_eqb d.process.slot c.process.slot (λ e. apart (sym e)));
+      elsewhere = λ e f same at.
+          let it : d ≡ e = cc new in
+          let slot : d.process.slot ≡ c.process.slot = ap (λ (x : Cell A). x.process.slot) it ∙ same in
+          let end : d.place ≡ c.place = ap (λ (x : Cell A). x.place) it ∙ at in
+          let long = ap (λ (n : ℕ). length (list_at lists n)) slot in
+          omega (arith, place, end, long, (t.placed p c is).within);
     }

@@ -4,7 +4,7 @@ use Rattle.process_table.specs.declared.process.Cell.{Cell}
 use Rattle.process_table.specs.SlotPids.{list_at, IsAt}
 use Rattle.process_table.specs.Rows.{pid_count}
 
--- once more in the list of this slot, if q is p
+-- how often q is in the list of s besides: once if q is p and s is the slot
 abbrev pub owed : ℕ → ℕ → ℕ → ℕ → ℕ
 owed slot p s q = cond (eqb q p) (cond (eqb slot s) 1 0) 0
 
@@ -20,15 +20,10 @@ module _ {A : Type 0} where
     pub placed : (q : ℕ) (c : Cell A) → cell q ≡ Some c → IsAt (list_at lists c.process.slot) c.place q
     pub few : (q : ℕ) → pid_count ≤ q → cell q ≡ None
 
-  -- the same, except that p is still at an index of a slot that it has left
+  -- the same, except that p is once more in the list of a slot, at an index that its cell does not store
   pub record Owes (cell : ℕ → Option (Cell A)) (lists : List (List ℕ)) (slot place p : ℕ) : Type 0 where
     pub counted : (s q : ℕ) → count_by (eqb q) (list_at lists s) ≡ in_slot s (cell q) + owed slot p s q
     pub placed : (q : ℕ) (c : Cell A) → cell q ≡ Some c → IsAt (list_at lists c.process.slot) c.place q
     pub few : (q : ℕ) → pid_count ≤ q → cell q ≡ None
     pub here : IsAt (list_at lists slot) place p
-    pub gone : in_slot slot (cell p) ≡ 0
-
-  -- the stored index, if the pid is in this slot
-  abbrev pub IsPlaceIn : Option (Cell A) → ℕ → Option ℕ → Type 0
-  IsPlaceIn o slot None = (c : Cell A) → o ≡ Some c → c.process.slot ≢ slot
-  IsPlaceIn o slot (Some place) = (c : Cell A) × (o ≡ Some c) × (c.process.slot ≡ slot) × (c.place ≡ place)
+    pub elsewhere : (c : Cell A) → cell p ≡ Some c → c.process.slot ≡ slot → c.place ≢ place

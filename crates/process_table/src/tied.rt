@@ -3,8 +3,8 @@
 ghost use Rattle.std.specs.Prelude.{◌≡◌, ℕ, ◌<◌, None, Some, IfOk, OnOk, OnErr, eqb, if◌then◌else◌, length, slice_index};
 ghost use Rattle.process_table.specs.Cells.{cell_at, HasPage};
 ghost use Rattle.process_table.specs.SlotPids.{list_at};
-ghost use Rattle.process_table.specs.Rows.{process_at, process_of};
-ghost use Rattle.process_table.specs.Tied.{IsPlaceIn, IsTied, Owes};
+ghost use Rattle.process_table.specs.Rows.{process_at};
+ghost use Rattle.process_table.specs.Tied.{IsTied, Owes};
 
 use crate::pages::Pages;
 use crate::process::{Cell, Process};
@@ -41,29 +41,8 @@ pub(crate) fn take_out<A: Allocator + Clone>(
     Some(cell.process)
 }
 
-// The index of the pid in the list of a slot.
-fn place_in<A: Allocator + Clone>(pages: &Pages<A>, pid: u32, slot: u16) -> Option<usize>
-    ensures { IsPlaceIn (cell_at pages.now pid) slot result }
-{
-    let Some(cell) = pages.get(pid) else {
-        return None;
-    };
-    if cell.process.slot != slot {
-        return None;
-    }
-    Some(cell.place)
-}
-
-fn without_place<A: Allocator + Clone>(cell: Option<Cell<A>>) -> Option<Process<A>>
-    ensures { result ≡ process_of cell }
-{
-    match cell {
-        None => None,
-        Some(cell) => Some(cell.process),
-    }
-}
-
-// Inserts a process, once the page of its pid and the list of its slot exist. Returns the one that had the pid, if any.
+// Inserts a process, once the page of its pid and the list of its slot exist. Returns the one that had the pid, if any. If
+// that one was in the same slot, the pid is in its list twice until the old index is given up.
 pub(crate) fn put_in<A: Allocator + Clone>(
     pages: &mut Pages<A>,
     slots: &mut Slots<A>,
@@ -78,10 +57,6 @@ pub(crate) fn put_in<A: Allocator + Clone>(
     ensures after { OnOk result ((q : ℕ) → process_at pages.new q ≡ (if eqb pid q then Some process else process_at pages.old q)) }
     ensures kept { OnErr result ((q : ℕ) → process_at pages.new q ≡ process_at pages.old q) }
 {
-    if let Some(place) = place_in(pages, pid, process.slot) {
-        let same = pages.put(pid, Cell { process, place });
-        return Ok(without_place(same));
-    }
     let place = slots.push(process.slot, pid)?;
     let Some(before) = pages.put(pid, Cell { process, place }) else {
         return Ok(None);

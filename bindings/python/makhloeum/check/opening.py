@@ -12,9 +12,19 @@ from .._table import FILES
 from .directory import CGROUP2_MAGIC, FUSE_MAGIC, file_read, file_write, remove_groups
 from .processes import Process
 
-# What a check needs in a new group, and what may be missing there.
-MAY_BE_MISSING = ("pids.peak", "pids.events.local")
-NEEDED = tuple(file.name for file in FILES if file.name not in MAY_BE_MISSING)
+# What a check needs in a new group. Any other file may be missing there, and is then not compared.
+NEEDED = (
+    "cgroup.procs",
+    "cgroup.events",
+    "cgroup.stat",
+    "cgroup.max.descendants",
+    "cgroup.max.depth",
+    "cgroup.kill",
+    "pids.max",
+    "pids.current",
+    "pids.events",
+)
+MAY_BE_MISSING = tuple(file.name for file in FILES if file.name not in NEEDED)
 ROOM = 64  # processes and groups that a sequence may have
 
 
