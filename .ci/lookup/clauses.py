@@ -3,7 +3,7 @@
 import re
 
 DEFINITION = re.compile(r"\s*(?:(?:abbrev|unfoldable) pub (\S+) :|pub (?:record|data|rel) (\S+))")
-FIELD = re.compile(r"\s+pub (\w+) : ")
+FIELD = re.compile(r"\s+pub (\w+) : |\s+(\w+) : ")
 STRUCT = re.compile(r"(?:pub(?:\(\w+\))? )?struct (\w+)")
 GHOST = re.compile(r"    ghost (\w+): \{(.*)\}[,;]$")
 FUNCTION = re.compile(r"(\s*)(pub(?:\(\w+\))? )?(?:final )?(?:const )?(?:unsafe )?(extern \"C\" )?fn (\w+)")
@@ -16,7 +16,8 @@ WORD = re.compile(r"[\w']+(?:\.\w+)?")
 class Definition:
     def __init__(self, crate, file, name, says):
         self.crate, self.file, self.name, self.says = crate, file, name, says
-        self.fields = []  # of a record, each with its comment
+        self.type = None  # of an abbreviation
+        self.fields = []  # of a record, or the constructors of data, each with its comment
         self.cited = []  # by which functions, views and definitions
 
     def __str__(self):
@@ -98,10 +99,12 @@ def definitions_of(texts, crate):
             is_one = DEFINITION.match(line)
             if is_one:
                 one = Definition(crate, file, is_one[1] or is_one[2], comment_above(lines, at, "--"))
+                one.type = line[is_one.end() :].strip() if is_one[1] else None
                 found.append(one)
                 texts_of[one.name] = []
-            elif FIELD.match(line) and found:
-                found[-1].fields.append((FIELD.match(line)[1], comment_above(lines, at, "--")))
+            elif FIELD.match(line) and found and found[-1].type is None:
+                field = FIELD.match(line)
+                found[-1].fields.append((field[1] or field[2], comment_above(lines, at, "--")))
             if found and not line.lstrip().startswith("--"):
                 texts_of[found[-1].name].append(line)
         yield file, " ".join(head), found, {name: "\n".join(text) for name, text in texts_of.items()}

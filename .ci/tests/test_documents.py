@@ -34,6 +34,12 @@ class Words(unittest.TestCase):
     def test_a_page_without_generated_parts_counts_whole(self):
         self.assertEqual(documents.count_words("one <!-- a comment --> two"), 6)
 
+    def test_what_is_generated_keeps_its_lines(self):
+        lines = documents.by_hand(PAGE).split("\n")
+        self.assertEqual(len(lines), len(PAGE.split("\n")))
+        self.assertEqual(lines[PAGE.split("\n").index("After it.")], "After it.")
+        self.assertNotIn("nor this", lines)
+
     def test_every_page_with_a_limit_exists(self):
         for page in documents.WORDS_AT_MOST:
             self.assertTrue(os.path.exists(os.path.join(TOP, page)), page)

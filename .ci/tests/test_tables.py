@@ -121,6 +121,16 @@ class Tables(unittest.TestCase):
             ["| `counts`, `exact` | the count is right |", "| `only` | nothing else |"],
         )
 
+    def test_a_definition_without_a_comment_shows_what_it_is(self):
+        text = (
+            "-- Limits.\nuse Rattle.std.specs.Prelude.{ℕ}\n\npub data Limit : Type 0 where\n  -- none\n  Unlimited : Limit\n"
+            "  At : ℕ → Limit\n\npub record Limits : Type 0 where\n  pub pids : Limit\n\nabbrev pub is_at : Limit → Bool\n"
+            "is_at l = true\n"
+        )
+        found = tables.Crates({"crates/low/specs/Limit.antt": text}, ["low"]).by_name
+        meanings = [tables.meaning_of(found["low", "Limit", name]) for name in ("Limit", "Limits", "is_at")]
+        self.assertEqual(meanings, ["`Unlimited`, `At`", "`pids`", "`Limit → Bool`"])
+
     def test_what_is_too_long_is_cut(self):
         self.assertEqual(tables.cut("One. Two three.", 12), "One.")
         self.assertEqual(tables.cut("one `two three` four", 14), "one `two` ..")

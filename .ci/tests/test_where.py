@@ -60,6 +60,12 @@ class OfThisRepository(unittest.TestCase):
         cls.texts = where.repository()
         cls.searches = {name: where.Search(name, cls.texts) for name in NAMES}
 
+    def test_a_contract_is_whole_if_there_is_room(self):
+        search = where.Search("Board::split", self.texts)
+        self.assertGreater(len(search.contract), 10)
+        screen = "\n".join(search.screen())
+        self.assertEqual([clause for clause in search.contract if clause[:100] not in screen], [])
+
     def test_every_file_with_the_name_is_listed(self):
         for name, search in self.searches.items():
             screen = search.screen()
