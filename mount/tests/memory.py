@@ -5,6 +5,8 @@ import sys
 
 from support import PROGRAM, Mount, finish, in_parallel, same, status_within, step
 
+# With an arena for each thread the memory grows until each has had its turn with the most records.
+os.environ["MALLOC_ARENA_MAX"] = "1"
 PAIRS, FORKS, CLIENTS, GROUPS = 16000, 5000, 20, 2000
 
 
