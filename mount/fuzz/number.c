@@ -29,7 +29,7 @@ int LLVMFuzzerTestOneInput(const uint8_t *data, size_t size);
 int LLVMFuzzerTestOneInput(const uint8_t *data, size_t size)
 {
 	static const long long
-		most[] = { [A_PID] = 4194303, [A_COUNT] = 2147483646, [A_PIDS_LIMIT] = 4194304, [A_ONE] = 1, [A_SWITCH] = 1 };
+		most[] = { [A_PID] = 4194303, [A_COUNT] = 2147483647, [A_PIDS_LIMIT] = 4194304, [A_ONE] = 1, [A_SWITCH] = 1 };
 	char said[SAID_MAX], again[SAID_MAX];
 	unsigned long numbers[2];
 	if (size == 0)

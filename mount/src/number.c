@@ -65,7 +65,8 @@ static int say_max(char said[SAID_MAX])
 	return 0;
 }
 
-/* A limit: `max`, or a number from 0 to `largest`. A number outside this range has the errno `beyond`. */
+/* A limit: `max`, or a number from 0 to `largest`. A number outside this range has the errno `beyond`. (The greatest int means
+   no limit: the engine knows that.) */
 static int limit_said(const char *text, long long largest, int beyond, char said[SAID_MAX])
 {
 	long long n;
@@ -76,8 +77,7 @@ static int limit_said(const char *text, long long largest, int beyond, char said
 		return fault;
 	if (n < 0 || n > largest)
 		return -beyond;
-	/* the greatest int means no limit */
-	return n == INT_MAX ? say_max(said) : say(said, n);
+	return say(said, n);
 }
 
 static int pid_said(const char *text, char said[SAID_MAX])

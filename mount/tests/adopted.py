@@ -39,6 +39,26 @@ child.kill()
 child.wait()
 m.end()
 
+# a child of a thread that is not the first
+THREAD = """import os, threading, time
+def fork():
+    if os.fork() and os.write(1, b"x"):
+        pass
+    time.sleep(600)
+t = threading.Thread(target=fork)
+t.start()
+t.join()
+"""
+m = Mount("--adopt")
+os.mkdir(m.path("t"))
+parent = subprocess.Popen([sys.executable, "-c", THREAD], stdout=subprocess.PIPE)
+parent.stdout.read(1)
+write(m.path("t", "cgroup.procs"), b"%d\n" % parent.pid)
+same("a thread's child is adopted", read(m.path("t", "pids.current")), b"2\n")
+write(m.path("t", "cgroup.kill"), b"1\n")
+same("and killed", parent.wait(PATIENCE), -signal.SIGKILL)
+m.end()
+
 # a list of children that is longer than a page, so a read ends within a number
 CHILDREN = 2000
 FORKS = (

@@ -2,7 +2,6 @@
 also the program (blocking.py inside NAME)."""
 import ast
 import ctypes
-import errno
 import glob
 import os
 import shutil
@@ -18,6 +17,7 @@ from support import (
     PROGRAM,
     Beside,
     Mount,
+    clone_into,
     error_of,
     finish,
     in_parallel,
@@ -39,7 +39,7 @@ BLOCKING, STALLED = os.path.join(BUILT, "blocking"), os.path.join(BUILT, "stalle
 PAGE = os.environ.get("PAGE", "")
 SLOW_KILL = os.path.join(os.path.dirname(PROGRAM), "slow_kill.so")  # only with the plain build
 PF_EXITING = 4
-CLONE_INTO_CGROUP, CLONE_NEWNS, CLONE_NEWCGROUP, MS_BIND = 0x200000000, 0x20000, 0x2000000, 4096
+CLONE_NEWNS, CLONE_NEWCGROUP, MS_BIND = 0x20000, 0x2000000, 4096
 
 
 def mount(source, target, kind, flags=0):
@@ -59,15 +59,6 @@ def forks(times=20):
         return True
 
     return Beside(all_of).result() is True
-
-
-def clone_into(fd):
-    """A child that ends at once, made in the group of this descriptor: its wait status, or the name of the errno."""
-    args = (ctypes.c_uint64 * 11)(CLONE_INTO_CGROUP, 0, 0, 0, signal.SIGCHLD, 0, 0, 0, 0, 0, fd)
-    pid = libc.syscall(435, args, 88)
-    if pid == 0:
-        libc._exit(0)
-    return os.waitpid(pid, 0)[1] if pid > 0 else errno.errorcode[ctypes.get_errno()]
 
 
 def stat_of(pid):
@@ -152,6 +143,8 @@ def listing():
     same("a call that began before", asking.result(), "ENOENT")
     same("a call into a removed group", clone_into(gone), "ENOENT")
     same("a call into another group", clone_into(stays), 0)
+    other = os.open(os.path.dirname(PAGE), os.O_RDONLY)
+    same("a call into another file system, which says that it is a group", clone_into(other), "EBADF")
     p.kill()
 
 

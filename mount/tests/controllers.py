@@ -1,9 +1,11 @@
 """--keep: which controllers a group has, and that groups which enable them for their children have no processes."""
 import os
 import subprocess
+import sys
 
-from support import PATIENCE, PROGRAM, Mount, error_of, finish, read, same, write
+from support import AT, PATIENCE, PROGRAM, Mount, clone_into, error_of, finish, into, read, same, write
 
+ME = os.path.realpath(__file__)
 KEPT = "memory,cpu,io,cpuset"
 
 
@@ -184,8 +186,32 @@ cat /proc/self/cgroup
         timeout=PATIENCE,
     )
     same("under run", ran.stdout, b"1048576\nmemory pids\nrefused\n0::/a/b\n")
+    ran = subprocess.run([PROGRAM, "run", "--keep", KEPT, sys.executable, ME, "inside"], timeout=4 * PATIENCE)
+    same("births under run", ran.returncode, 0)
 
 
+def born():
+    """Inside: a child is born only where a process may be."""
+    write(AT + "/cgroup.subtree_control", b"+memory +pids")
+    os.makedirs(AT + "/a/b")
+    os.makedirs(AT + "/c/d")
+    write(AT + "/a/cgroup.subtree_control", b"+memory")
+    child = subprocess.Popen(["sleep", "600"], preexec_fn=lambda: into("/c"))
+    write(AT + "/c/cgroup.subtree_control", b"+pids")
+    for name, group, wanted in (
+        ("a group that shares out memory", "/a", "EBUSY"),
+        ("a group below it", "/a/b", 0),
+        ("the root of a threaded subtree", "/c", 0),
+        ("a group below it, which is no domain", "/c/d", "ENOTSUP"),
+    ):
+        same("a clone3 into " + name, clone_into(os.open(AT + group, os.O_RDONLY)), wanted)
+    child.kill()
+    child.wait()
+
+
+if sys.argv[1:] == ["inside"]:
+    born()
+    finish()
 for test in (enabling, lost_pids, internal, threaded, without, refused, under_run):
     test()
 finish()

@@ -227,6 +227,7 @@ def control():
     m = Mount("--control")
     step("the control directory is listed", ".makhloeum" in os.listdir(m.at))
     os.mkdir(m.path("a"))
+    step("in the root alone", ".makhloeum" not in os.listdir(m.path("a")))
     write(m.control("fork"), b"1 2\n")
     write(m.path("a", "cgroup.procs"), b"2\n")
     write(m.path("a", "pids.max"), b"1\n")

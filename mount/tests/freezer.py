@@ -3,11 +3,27 @@ the program (freezer.py inside NAME)."""
 import ctypes
 import os
 import select
+import shutil
 import signal
 import subprocess
 import sys
+import tempfile
 
-from support import PATIENCE, PROGRAM, Mount, error_of, finish, in_parallel, libc, read, same, step, until, write
+from support import (
+    PATIENCE,
+    PROGRAM,
+    Mount,
+    error_of,
+    finish,
+    in_parallel,
+    libc,
+    line_of,
+    read,
+    same,
+    step,
+    until,
+    write,
+)
 
 AT = "/sys/fs/cgroup"
 ME = os.path.realpath(__file__)
@@ -265,6 +281,50 @@ def kinds():
         write(AT + group + "/cgroup.kill", b"1\n")
 
 
+def state(pid):
+    return open("/proc/%d/stat" % pid).read().rpartition(")")[2].split()[0]
+
+
+VFORK = """
+import os, sys
+os.posix_spawn("/bin/sleep", ["sleep", "600"], {}, file_actions=[(os.POSIX_SPAWN_OPEN, 9, sys.argv[1], os.O_WRONLY, 0)])
+os.write(1, b"x")
+"""
+
+
+def vforked():
+    """A process waits for its child's exec while it is frozen. The child, in another group, goes on."""
+    os.mkdir(AT + "/a")
+    os.mkdir(AT + "/b")
+    home = tempfile.mkdtemp()
+    fifo = home + "/fifo"
+    os.mkfifo(fifo)
+    parent = subprocess.Popen(
+        [sys.executable, "-c", VFORK, fifo],
+        stdout=subprocess.PIPE,
+        preexec_fn=lambda: write(AT + "/a/cgroup.procs", b"0\n"),
+    )
+    there = lambda: [int(p) for p in read(AT + "/a/cgroup.procs").split() if int(p) != parent.pid]
+    step("it has a child", until(there))
+    child = there()[0]
+    step(
+        "which waits before the exec, and the parent for it",
+        until(lambda: (state(parent.pid), state(child)) == ("D", "S")),
+    )
+    write(AT + "/b/cgroup.procs", b"%d\n" % child)
+    freeze("/a", 1)
+    becomes("the parent is frozen", "/a", FROZEN)
+    os.close(os.open(fifo, os.O_RDONLY))
+    step("the child is another program", until(lambda: line_of(child).startswith(b"sleep")))
+    while_others_run(40)
+    same("the parent rests", select.select([parent.stdout], [], [], 0)[0], [])
+    freeze("/a", 0)
+    same("and goes on once it is thawed", (parent.wait(PATIENCE), parent.stdout.read(1)), (0, b"x"))
+    parent.stdout.close()
+    write(AT + "/b/cgroup.kill", b"1")
+    shutil.rmtree(home)
+
+
 def signals():
     """The program's job control works together with the freezer."""
     os.mkdir(AT + "/a")
@@ -346,7 +406,7 @@ def many():
     same("all are killed", {p.wait(PATIENCE) for p in all_of}, {-signal.SIGKILL})
 
 
-INSIDE = (stops, moves, kinds, signals, itself, told, many)
+INSIDE = (stops, moves, kinds, vforked, signals, itself, told, many)
 if sys.argv[1:2] == ["inside"]:
     {t.__name__: t for t in INSIDE}[sys.argv[2]]()
     for one in runner:

@@ -9,7 +9,21 @@ import subprocess
 import sys
 import tempfile
 
-from support import CGREPLAY, PATIENCE, PROGRAM, error_of, finish, libc, read, same, status_within, step, until, write
+from support import (
+    CGREPLAY,
+    PATIENCE,
+    PROGRAM,
+    error_of,
+    finish,
+    libc,
+    read,
+    same,
+    status_within,
+    step,
+    tracer,
+    until,
+    write,
+)
 
 AT = "/sys/fs/cgroup"
 ME = os.path.realpath(__file__)
@@ -140,6 +154,16 @@ def zombies():
     os.waitpid(child, 0)
     orphan = subprocess.run(["sh", "-c", "sleep 0.2 & echo $!"], stdout=subprocess.PIPE).stdout
     step("an orphan is waited for", until(lambda: not os.path.exists("/proc/%d" % int(orphan))))
+    r, w = os.pipe()
+    child = os.fork()
+    if child == 0:
+        above = os.getpid()
+        if os.fork() == 0:
+            until(lambda: os.getppid() != above)
+            os.write(w, b"%d" % os.getppid())
+        os._exit(0)
+    os.waitpid(child, 0)
+    same("by the supervisor, which is its parent then", int(os.read(r, 20)), tracer())
 
 
 # ---------------------------------------------------------------- inside: what is read
@@ -267,7 +291,7 @@ def stalled():
     if not until(lambda: os.path.ismount(home)):
         step("a file system that does not answer is left out: it can't be mounted", True)
         return
-    p = subprocess.Popen([PROGRAM, "run", HANGS, "stalled", home + "/page"], stdout=subprocess.PIPE)
+    p = subprocess.Popen([PROGRAM, "run", HANGS, "stalled", home], stdout=subprocess.PIPE)
     line = []
     thread = __import__("threading").Thread(target=lambda: line.append(p.stdout.readline()), daemon=True)
     thread.start()

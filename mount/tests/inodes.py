@@ -117,6 +117,8 @@ def owned(at):
         (owner(os.stat(at + "/o")), owner(os.stat(at + "/o/cgroup.procs"))),
         (maker, maker),
     )
+    if error_of(os.chown, at + "/o", 7, 8) == "ok":  # on the kernel's only a superuser may
+        same("another owner", (owner(os.stat(at + "/o")), owner(os.stat(at + "/o/cgroup.procs"))), ((7, 8), maker))
     os.rmdir(at + "/o")
 
 
@@ -278,6 +280,25 @@ def handled(at):
     os.rmdir(group)
 
 
+def unknown():
+    """A handle of a group that the kernel has not looked up: an undone rmdir has made it, and its number is that of a listing."""
+    m = Mount()
+    os.mkdir(m.path("h"))
+    os.rmdir(m.path("h"))
+    write(m.control("undo"), b"1\n")
+    number, above = entries(m.at)["h"][0], os.open(m.at, os.O_RDONLY)
+    # the length, the type, the halves of the number and its generation, as the kernel writes them
+    handle = (ctypes.c_uint32 * 5)(12, 0x81, number >> 32, number & 0xFFFFFFFF, 0)
+    fd = libc.open_by_handle_at(above, handle, os.O_RDONLY)
+    if fd >= 0 or ctypes.get_errno() != errno.EPERM:
+        got = os.fstat(fd).st_ino if fd >= 0 else errno.errorcode[ctypes.get_errno()]
+        same("a group that the kernel does not know", got, number)
+    if fd >= 0:
+        os.close(fd)
+    os.close(above)
+    m.end()
+
+
 def undone():
     """A group whose mkdir is undone is gone like one that was removed, and one whose rmdir is undone is another group."""
     m = Mount()
@@ -332,6 +353,7 @@ else:
     for test in ON_BOTH:
         test(m.at)
     m.end()
+    unknown()
     undone()
     notified()
     control()

@@ -5,7 +5,9 @@ import sys
 
 from support import PROGRAM, Mount, finish, in_parallel, same, status_within, step
 
-PAIRS, FORKS, CLIENTS = 16000, 5000, 20
+# With an arena for each thread the memory grows until each has had its turn with the most records.
+os.environ["MALLOC_ARENA_MAX"] = "1"
+PAIRS, FORKS, CLIENTS, GROUPS = 16000, 5000, 20, 2000
 
 
 def resident(pid):
@@ -33,6 +35,26 @@ def of_mount():
     step("a mount does not grow", grown < 12 * part, sizes)
     os.close(fork)
     os.close(leave)
+    m.end()
+
+
+def of_groups():
+    """A group that was removed is forgotten, however often it was looked up."""
+    m = Mount(control=False)
+
+    def groups(count):
+        for _ in range(count):
+            os.mkdir(m.path("g"))
+            for _ in range(3):
+                os.stat(m.path("g", "pids.max"))
+            os.rmdir(m.path("g"))
+        return resident(m.process.pid)
+
+    groups(GROUPS // 4)
+    sizes = [groups(GROUPS) for _ in range(3)]
+    grown = min(after - before for before, after in zip(sizes, sizes[1:]))
+    print("  mount: %.1f bytes for each of %d groups made and removed" % (grown / GROUPS, GROUPS))
+    step("a mount does not grow by groups that are gone", grown < 100 * GROUPS, sizes)
     m.end()
 
 
@@ -74,5 +96,6 @@ def of_run():
 
 
 of_mount()
+of_groups()
 of_run()
 finish()

@@ -89,6 +89,8 @@ def opens():
     write(AT + "/a/cgroup.procs", b"0")
     proc, here, me, cwd = os.open("/proc", os.O_RDONLY), os.open("/proc/self", os.O_RDONLY), os.getpid(), -100
     link = "/proc/self/fd/%d" % os.open("/proc/self/cgroup", os.O_PATH)
+    top, absolute = os.open("/", os.O_RDONLY), os.path.join(tempfile.mkdtemp(), "absolute")
+    os.symlink("/proc/self/cgroup", absolute)
     text = "0::/a\n"
     for wanted, directory, path, more in (
         (text, cwd, "/proc/self/cgroup", {}),
@@ -106,6 +108,8 @@ def opens():
         (text, proc, "%d/cgroup" % me, {"resolve": NO_XDEV}),
         ("ELOOP", cwd, link, {"resolve": NO_MAGICLINKS}),
         (text, cwd, link, {}),
+        ("EXDEV", top, absolute[1:], {"resolve": BENEATH}),
+        (text, top, absolute[1:], {"resolve": IN_ROOT}),
         ("EINVAL", cwd, "/proc/self/cgroup", {"resolve": IN_ROOT | BENEATH}),
         ("EINVAL", cwd, "/proc/self/cgroup", {"resolve": 64}),
         ("EINVAL", cwd, "/proc/self/cgroup", {"mode": 0o644}),
@@ -178,6 +182,15 @@ def tables():
         same("again", also.poll(0), [(fd, CHANGED)])
         subprocess.run(["unshare", "-m", "mount", "-t", "tmpfs", "x", home], check=True)
         same("not what happens in another namespace", also.poll(0), [])
+        many = [os.path.join(home, b"%d" % i) for i in range(90)]
+        for each in many:
+            os.mkdir(each)
+            libc.mount(b"x", each, b"tmpfs", 0, None)
+        whole = text(by_link)
+        same("a table of several pages", [each for each in many if b" %s " % each not in whole], [])
+        for each in many:
+            libc.umount2(each, DETACH)
+            os.rmdir(each)
         os.close(fd)
         same("the link is still open", text(by_link) != b"", True)
         os.close(by_link)

@@ -2,6 +2,7 @@
 import ctypes
 import errno
 import os
+import pty
 import re
 import select
 import shutil
@@ -76,13 +77,15 @@ def forks():
     os.kill(child, signal.SIGKILL)
     os.waitpid(child, 0)
     same("and gone when wait returns", read(AT + "/a/cgroup.procs"), me)
-    thread = threading.Thread(target=time.sleep, args=(0.2,))
+    may_end = threading.Event()
+    thread = threading.Thread(target=may_end.wait)
     thread.start()
     same(
         "a thread counts, and is not a process",
         (read(AT + "/a/pids.current"), read(AT + "/a/cgroup.procs")),
         (b"2\n", me),
     )
+    may_end.set()
     thread.join()
     step("until it has ended", until(lambda: read(AT + "/a/pids.current") == b"1\n"))
     write(AT + "/a/pids.max", b"1\n")
@@ -106,28 +109,32 @@ def forks():
 
 
 def fork_in_thread():
-    """The greatest pids.current while twelve threads fork children that stay for a moment."""
-    most, lock, all_there = [0], threading.Lock(), threading.Barrier(12)
+    """pids.current once twelve threads have tried to fork at the same time, and before any thread or child ends."""
+    all_there, all_tried, looked = threading.Barrier(12), threading.Barrier(13), threading.Barrier(13)
+    made = []
 
     def one():
-        p = None
         all_there.wait()
         try:
-            p = subprocess.Popen(["sleep", "0.1"])
+            made.append(subprocess.Popen(["sleep", "600"]))
         except OSError:
             pass
-        with lock:
-            most[0] = max(most[0], int(read(AT + "/a/pids.current")))
-        if p:
-            p.wait()
+        all_tried.wait()
+        looked.wait()
 
     threads = [threading.Thread(target=one) for _ in range(12)]
     for t in threads:
         t.start()
+    all_tried.wait(4 * PATIENCE)
+    count = int(read(AT + "/a/pids.current"))
+    looked.wait()
     for t in threads:
         t.join()
+    for p in made:
+        p.kill()
+        p.wait()
     until(lambda: read(AT + "/a/pids.current") == b"1\n")
-    return most[0]
+    return count
 
 
 def kills():
@@ -197,6 +204,26 @@ def clones():
             os.close(numbers[0])
         else:
             same("the number here", numbers[1], pid)
+    for name, flags, fields in (
+        ("a stack without a size", 0, {5: at[0]}),
+        ("a size without a stack", 0, {6: 4096}),
+        ("a stack that wraps around", 0, {5: 4096, 6: (1 << 64) - 4096}),
+        ("signal 65", 0, {4: 65}),
+        ("a signal beyond all", 0, {4: 256}),
+        ("a signal in the flags", signal.SIGCHLD, {}),
+        ("a signal of a thread", 0x00010900, {}),
+        ("an unknown flag", 1 << 40, {}),
+        ("CLONE_DETACHED", 0x00400000, {}),
+        ("CLONE_SIGHAND and CLONE_CLEAR_SIGHAND", 0x100000900, {}),
+        ("a descriptor of a group beyond all", 0x200000000, {10: 1 << 31}),
+    ):
+        args = (ctypes.c_uint64 * 11)(flags, 0, 0, 0, signal.SIGCHLD)
+        for field, value in fields.items():
+            args[field] = value
+        pid = libc.syscall(435, args, 88)
+        if pid == 0:
+            libc._exit(0)
+        same("clone3 with %s" % name, (pid, ctypes.get_errno()), (-1, errno.EINVAL))
     args = (ctypes.c_uint64 * 11)(0, 0, 0, 0, signal.SIGCHLD)
     for _ in range(600):  # more than may wait at once
         pid = libc.syscall(435, args, 88)
@@ -300,6 +327,56 @@ def statuses():
     left = run("sh", "-c", "%s & exec setsid %s & true" % (SLEEPS[0], SLEEPS[1]))
     same("what it leaves behind", left.returncode, 0)
     step("ends with it", not any(map(running, SLEEPS)))
+
+
+COUNTS = """import os, signal
+r, w = os.pipe()
+os.set_blocking(w, False)
+signal.signal(signal.SIGINT, lambda *_: None)
+signal.set_wakeup_fd(w)  # gets a byte for each signal
+count = 0
+for _ in range(40):
+    os.write(1, b"ready ")
+    os.set_blocking(r, True)
+    count += len(os.read(r, 1))
+    for _ in range(5):
+        pid = os.fork()
+        if pid == 0:
+            os._exit(0)
+        os.waitpid(pid, 0)
+    os.set_blocking(r, False)
+    try:
+        count += len(os.read(r, 99))
+    except BlockingIOError:
+        pass
+os.write(1, b"%d times" % count)
+"""
+
+
+def terminal():
+    """An interrupt by the terminal reaches the program once: from the terminal, and not by makhloeum too. (Two that wait are one: so
+    there are forty.)"""
+    pid, fd = pty.fork()
+    if pid == 0:
+        os.execv(PROGRAM, [PROGRAM, "run", sys.executable, "-c", COUNTS])
+    said = b""
+
+    def has(word, times):
+        nonlocal said
+        if select.select([fd], [], [], PATIENCE)[0]:
+            try:
+                said += os.read(fd, 99)
+            except OSError:  # nobody has the terminal open any more
+                return True
+        return said.count(word) == times
+
+    for i in range(40):
+        until(lambda: has(b"ready", i + 1))
+        os.write(fd, b"\3")
+    until(lambda: has(b"times", 1))
+    step("each of forty interrupts by the terminal comes once", b"40 times" in said, said)
+    same("the status", os.waitstatus_to_exitcode(os.waitpid(pid, 0)[1]), 0)
+    os.close(fd)
 
 
 SLEEPS = [
@@ -435,6 +512,6 @@ for test in INSIDE:
             "cgreplay gives the same answers (%d lines)" % sum(1 for _ in open(trace)),
             subprocess.run(CGREPLAY, stdin=lines, stdout=subprocess.PIPE).stdout == wanted.read(),
         )
-for test in (statuses, beside, ends, refused_here):
+for test in (statuses, terminal, beside, ends, refused_here):
     test()
 finish()

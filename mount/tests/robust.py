@@ -1,4 +1,6 @@
 """Clients that die, full devices, and mounts that go while they are used."""
+import fcntl
+import glob
 import os
 import random
 import shutil
@@ -9,7 +11,7 @@ import tempfile
 import threading
 import time
 
-from support import PATIENCE, PROGRAM, Mount, error_of, finish, read, same, step, until
+from support import PATIENCE, PROGRAM, Mount, error_of, finish, line_of, read, same, step, until
 
 CLIENT = """import os, sys
 at = sys.argv[1]
@@ -170,10 +172,33 @@ def background(closed=""):
     same("mount %sreturns once it is there" % closed, (ran.returncode, os.path.ismount(at)), (0, True))
     os.mkdir(at + "/a")
     same("and stays", (read(at + "/a/pids.current"), os.path.ismount(at)), (b"0\n", True))
+    line = b"".join(word.encode() + b"\0" for word in (PROGRAM, "mount", at))
+    ours = [int(n) for n in os.listdir("/proc") if n.isdigit() and line_of(int(n)) == line]
+    step("out of reach of the caller's terminal", ours and os.getsid(0) not in map(os.getsid, ours), ours)
     step(
         "fusermount3 -u unmounts it",
         until(lambda: subprocess.run(["fusermount3", "-u", at], stderr=-3).returncode == 0),
     )
+    os.rmdir(at)
+
+
+def let_go():
+    """The companion of a mount keeps none of the caller's descriptors, whatever their numbers."""
+    at = tempfile.mkdtemp()
+    r, w = os.pipe()
+    high = fcntl.fcntl(w, fcntl.F_DUPFD, 300)
+    p = subprocess.Popen([PROGRAM, "mount", at, "--foreground"], pass_fds=(w, high))
+    step("it is mounted", until(lambda: os.path.ismount(at)))
+    companions = [
+        n for n in os.listdir("/proc") if n.isdigit() and int(n) != p.pid and line_of(int(n)) == line_of(p.pid)
+    ]
+    held = [os.readlink(name) for n in companions for name in glob.glob("/proc/%s/fd/*" % n)]
+    same("there is one companion", len(companions), 1)
+    step("it does not have the pipe", held and os.readlink("/proc/self/fd/%d" % w) not in held, held)
+    step("it can be unmounted", until(lambda: subprocess.run(["fusermount3", "-u", at], stderr=-3).returncode == 0))
+    same("its process ends", p.wait(PATIENCE), 0)
+    for fd in (r, w, high):
+        os.close(fd)
     os.rmdir(at)
 
 
@@ -191,6 +216,7 @@ for test, args in (
     (background, ("<&- ",)),
     (background, (">&- ",)),
     (background, ("<&- >&- 2>&- ",)),
+    (let_go, ()),
 ):
     test(*args)
 # only with the plain build: the sanitizers' library has to be loaded first

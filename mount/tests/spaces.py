@@ -185,6 +185,11 @@ def others():
         (libc.mount(b"x", at.encode(), b"tmpfs", 0xC0ED0000, None), libc.umount2(at.encode(), DETACH)),
         (0, 0),
     )
+    for data in (b"fd=%d,rootmode=40000,user_id=0,group_id=0", b"rootmode=40000,user_id=0,group_id=0,fd=%d"):
+        device = os.open("/dev/fuse", os.O_RDWR)
+        same("FUSE, by %s" % data.decode(), libc.mount(b"x", at.encode(), b"fuse", 0, data % device), 0)
+        libc.umount2(at.encode(), DETACH)
+        os.close(device)
     same("a process whose first thread has other namespaces", mounted_by_thread(at), "tmpfs")
 
 
@@ -330,18 +335,34 @@ def mount(where):
         raise OSError(ctypes.get_errno(), "mount")
 
 
+def uncounted():
+    """With --threads=no a thread has no number in the hierarchy. Its namespace begins at the group of its process."""
+    os.mkdir(AT + "/a")
+    into("/a")
+    got = []
+
+    def unshare():
+        got.append((libc.unshare(CLONE_NEWCGROUP), read("/proc/thread-self/cgroup")))
+
+    t = threading.Thread(target=unshare)
+    t.start()
+    t.join()
+    same("a thread unshares", got, [(0, b"0::/\n")])
+    same("its process does not", read("/proc/self/cgroup"), b"0::/a\n")
+
+
 def unprivileged():
     same("a mount without privileges", error_of(mount, "/tmp"), "EPERM")
     same("nor a namespace", (libc.unshare(CLONE_NEWCGROUP), ctypes.get_errno()), (-1, errno.EPERM))
     same("then all is as before", read("/proc/self/cgroup"), b"0::/\n")
 
 
-INSIDE = (namespaces, mounts, others, rewritten, covered, beneath, threads, confined, unprivileged)
+INSIDE = (namespaces, mounts, others, rewritten, covered, beneath, threads, confined, uncounted, unprivileged)
 if sys.argv[1:2] == ["inside"]:
     {t.__name__: t for t in INSIDE}[sys.argv[2]]()
     finish()
 for test in INSIDE:
-    how = [] if test is unprivileged else ["--root"]
+    how = {unprivileged: [], uncounted: ["--root", "--threads=no"]}.get(test, ["--root"])
     ran = subprocess.run(
         [PROGRAM, "run", *how, sys.executable, ME, "inside", test.__name__],
         timeout=6 * PATIENCE,

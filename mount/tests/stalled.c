@@ -1,9 +1,13 @@
 /* stalled DIRECTORY: a file system whose file `page` can be opened and mapped, and whose reads are never answered. Its file
-   `slow` takes a second to close. */
+   `slow` takes a second to close; its file `asked` is there once a read has come. */
 #include <errno.h>
 #include <fuse3/fuse.h>
+#include <stdatomic.h>
+#include <stdbool.h>
 #include <string.h>
 #include <unistd.h>
+
+static atomic_bool asked;
 
 static int get(const char *path, struct stat *st, struct fuse_file_info *fi)
 {
@@ -11,12 +15,15 @@ static int get(const char *path, struct stat *st, struct fuse_file_info *fi)
 	memset(st, 0, sizeof *st);
 	st->st_mode = strcmp(path, "/") == 0 ? S_IFDIR | 0755 : S_IFREG | 0444;
 	st->st_size = 4096;
+	if (strcmp(path, "/asked") == 0)
+		return atomic_load(&asked) ? 0 : -ENOENT;
 	return strcmp(path, "/") == 0 || strcmp(path, "/page") == 0 || strcmp(path, "/slow") == 0 ? 0 : -ENOENT;
 }
 
 static int read_never(const char *path, char *out, size_t size, off_t at, struct fuse_file_info *fi)
 {
 	(void)path, (void)out, (void)size, (void)at, (void)fi;
+	atomic_store(&asked, true);
 	for (;;)
 		pause();
 	return -EIO;
@@ -30,7 +37,22 @@ static int close_slowly(const char *path, struct fuse_file_info *fi)
 	return 0;
 }
 
-static const struct fuse_operations operations = { .getattr = get, .read = read_never, .flush = close_slowly };
+/* It says what the mount says of a group, as any file system of a program may. */
+static int claim(const char *path, const char *name, char *out, size_t size)
+{
+	static const char group[] = "/stays";
+	(void)path;
+	if (strcmp(name, "system.makhloeum.group") != 0)
+		return -ENODATA;
+	if (size >= sizeof group)
+		memcpy(out, group, sizeof group - 1);
+	return sizeof group - 1;
+}
+
+static const struct fuse_operations operations = { .getattr = get,
+	.read = read_never,
+	.flush = close_slowly,
+	.getxattr = claim };
 
 int main(int argc, char **argv)
 {

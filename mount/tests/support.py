@@ -3,6 +3,7 @@ import ctypes
 import errno
 import os
 import shutil
+import signal
 import subprocess
 import sys
 import tempfile
@@ -180,6 +181,15 @@ def in_parallel(run, of, lanes=2):
 # ---- for programs under `run`: their hierarchy is at AT
 
 AT = "/sys/fs/cgroup"
+
+
+def clone_into(fd):
+    """A child that ends at once, made in the group of this descriptor: its wait status, or the name of the errno."""
+    args = (ctypes.c_uint64 * 11)(0x200000000, 0, 0, 0, signal.SIGCHLD, 0, 0, 0, 0, 0, fd)  # CLONE_INTO_CGROUP
+    pid = libc.syscall(435, args, 88)
+    if pid == 0:
+        libc._exit(0)
+    return os.waitpid(pid, 0)[1] if pid > 0 else errno.errorcode[ctypes.get_errno()]
 
 
 def into(group):

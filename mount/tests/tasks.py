@@ -174,6 +174,37 @@ def limited_later():
     finally_empty(b)
 
 
+def next_to(first, group):
+    """A process whose number is that of the first and a multiple of 64: a run has places for threads that are allowed in advance,
+    and these two share theirs."""
+    while True:
+        pid = os.fork()
+        if pid == 0:
+            os._exit(0)
+        os.waitpid(pid, 0)
+        if (pid + 1 - first.pid) % 64 == 0:
+            t = Tasks(group)
+            if (t.pid - first.pid) % 64 == 0:
+                return t
+            t.end()
+
+
+def sharing():
+    a = (top / "a").make()
+    one = Tasks(a)
+    one.make(1)
+    other = next_to(one, a)
+    other.make(1)
+    one.make(1)
+    same("two processes make threads in turn", a.current(), 5)
+    a.write("pids.max", 7)
+    same("there is room for two more, and not for three", [type(n) for n in other.make(3)], [int, int, str])
+    same("all count", a.current(), 7)
+    one.end()
+    other.end()
+    finally_empty(a)
+
+
 def leaderless():
     a = (top / "a").make()
     b = (top / "b").make()
@@ -346,7 +377,20 @@ def races():
         finally_empty(a)
 
 
-AS_THE_KERNEL = (five, limited, limited_later, leaderless, execs, forks, moves, killed, frozen, born_elsewhere, races)
+AS_THE_KERNEL = (
+    five,
+    limited,
+    limited_later,
+    sharing,
+    leaderless,
+    execs,
+    forks,
+    moves,
+    killed,
+    frozen,
+    born_elsewhere,
+    races,
+)
 
 # ---------------------------------------------------------------- what only a run has
 
@@ -380,9 +424,11 @@ def undone():
     same("the counts", (a.current(), b.current(), depth()), (5, 0, before))
     top.write(".makhloeum/undo", "")
     same("another undoes the birth of a thread", (a.current(), a.threads()), (4, sorted([t.pid, *others[:3]])))
+    before = depth()
     b.take(t.pid)
     same("the others still move together", (a.current(), b.threads()), (0, sorted([t.pid, *others[:3]])))
     a.take(t.pid)
+    same("two moves are two operations", depth(), before + 2)
     top.write(".makhloeum/undo", 2)
     same("two undos of moves", (a.current(), b.current()), (4, 0))
     child = t.ask("into", b.top)
@@ -540,9 +586,11 @@ def run(test, room=None):
         [PROGRAM, "run", "--control", *option, "--trace", trace, "--answers", answers]
         + [sys.executable, ME, "inside", test.__name__],
         timeout=6 * PATIENCE,
+        stdout=subprocess.PIPE,  # a file would have no more room than the trace
         stderr=subprocess.PIPE,
         preexec_fn=(lambda: resource.setrlimit(resource.RLIMIT_FSIZE, (room, room))) if room else None,
     )
+    print(ran.stdout.decode(), end="", flush=True)
     same("%s: its status" % test.__name__, (ran.returncode, ran.stderr), (0, b""))
     with open(trace) as lines, open(answers, "rb") as wanted:
         got = subprocess.run(CGREPLAY, stdin=lines, stdout=subprocess.PIPE).stdout

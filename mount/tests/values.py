@@ -1,9 +1,12 @@
 """--keep: the files of other controllers take values, give them back in normal form, and refuse as the kernel's code does."""
 import glob
 import os
+import subprocess
+import sys
 
-from support import Mount, error_of, finish, read, same, step, write
+from support import AT, PATIENCE, PROGRAM, Mount, error_of, finish, read, same, step, write
 
+ME = os.path.realpath(__file__)
 PAGE = os.sysconf("SC_PAGE_SIZE")
 # The greatest counter of pages, in bytes, means no limit.
 NO_LIMIT = (2**63 - 1) // PAGE * PAGE
@@ -93,6 +96,7 @@ VALUES = [
     ("cpu.weight", b"x\n", "EINVAL", "10000"),
     ("cpu.weight", b" 5\n", "EINVAL", "10000"),
     ("cpu.weight", b"99999999999999999999\n", "ERANGE", "10000"),
+    ("cpu.weight", b"18446744073709551666\n", "ERANGE", "10000"),
     ("cpu.weight", b"0x64\n", "ok", "100"),
     ("cpu.weight.nice", b"-20\n", "ok", "-20"),
     ("cpu.weight.nice", b"19\n", "ok", "19"),
@@ -100,6 +104,8 @@ VALUES = [
     ("cpu.weight.nice", b"-21\n", "ERANGE", "19"),
     ("cpu.weight.nice", b"1.5\n", "EINVAL", "19"),
     ("cpu.weight.nice", b"17\n", "ok", "17"),
+    ("cpu.weight.nice", b"-+5\n", "EINVAL", "17"),
+    ("cpu.weight.nice", b"+5\n", "ok", "5"),
     ("cpu.idle", b"2\n", "EINVAL", "0"),
     ("cpu.idle", b"1\n", "ok", "1"),
     ("cpu.weight", b"100\n", "EINVAL", "0"),
@@ -205,6 +211,8 @@ def related():
         )
     write(m.path("v", "cpu.weight"), b"200\n")
     same("weight 200 as nice", text_of(m, "cpu.weight.nice"), "-3\n")
+    write(m.path("v", "cpu.weight"), b"37\n")  # 379 shares: as near to 423 of nice 4 as to 335 of nice 5
+    same("weight 37 as nice", text_of(m, "cpu.weight.nice"), "4\n")
     write(m.path("v", "cpu.idle"), b"1\n")
     same("an idle group", (text_of(m, "cpu.weight"), text_of(m, "cpu.weight.nice")), ("0\n", "19\n"))
     same("its nice value", error_of(write, m.path("v", "cpu.weight.nice"), b"0\n"), "EINVAL")
@@ -218,6 +226,9 @@ def related():
     same("all", numbers(text_of(m, "cpuset.cpus")), possible)
     write(m.path("v", "cpuset.cpus"), b"0-N:1/2\n")
     same("every other one", numbers(text_of(m, "cpuset.cpus")), [n for n in range(possible[-1] + 1) if n % 2 == 0])
+    if len(possible) > 1:
+        write(m.path("v", "cpuset.cpus"), b"1-N:1/2\n")
+        same("from the second on", numbers(text_of(m, "cpuset.cpus")), [n for n in possible if n % 2])
     same("one too many", error_of(write, m.path("v", "cpuset.cpus"), b"%d\n" % (possible[-1] + 1)), "ERANGE")
     write(m.path("v", "cpuset.cpus"), b"0\n")
     write(m.path("v", "cgroup.subtree_control"), b"+cpuset\n")
@@ -289,6 +300,40 @@ def devices():
     m.end()
 
 
+def of_disks():
+    """Inside a run for which the machine has the disks 7:1, 7:10 and 8:0, and 8:1 is a part of a disk."""
+    write(AT + "/cgroup.subtree_control", b"+io")
+    os.mkdir(AT + "/v")
+    for name, words, error, text in (
+        ("io.max", "7:10 rbps=10", "ok", "7:10 rbps=10 wbps=max riops=max wiops=max\n"),
+        ("io.max", "7:1 wbps=max", "ok", "7:10 rbps=10 wbps=max riops=max wiops=max\n"),
+        (
+            "io.max",
+            "7:1 riops=1000",
+            "ok",
+            "7:10 rbps=10 wbps=max riops=max wiops=max\n7:1 rbps=max wbps=max riops=1000 wiops=max\n",
+        ),
+        ("io.max", "7:10 rbps=max", "ok", "7:1 rbps=max wbps=max riops=1000 wiops=max\n"),
+        ("io.max", "8:1 rbps=10", "ENODEV", "7:1 rbps=max wbps=max riops=1000 wiops=max\n"),
+        ("io.max", "8:10 rbps=10", "ENODEV", "7:1 rbps=max wbps=max riops=1000 wiops=max\n"),
+        ("io.max", "7:1 riops=max", "ok", ""),
+        ("io.weight", "7:10 50", "ok", "default 100\n7:10 50\n"),
+        ("io.weight", "7:1 60", "ok", "default 100\n7:10 50\n7:1 60\n"),
+        ("io.weight", "7:10 default", "ok", "default 100\n7:1 60\n"),
+        ("io.weight", "8:1 50", "ENODEV", "default 100\n7:1 60\n"),
+    ):
+        file = AT + "/v/" + name
+        same("%s: %s" % (name, words), error_of(write, file, words.encode() + b"\n"), error)
+        same("%s then" % name, read(file).decode(), text)
+
+
+def disks():
+    script = """mount -t tmpfs none /sys/dev/block && cd /sys/dev/block && mkdir 7:1 7:10 8:0 8:1 && touch 8:1/partition && cd / &&
+exec "$0" run --keep io -- "$@" """
+    words = ["unshare", "-Urm", "sh", "-c", script, PROGRAM, sys.executable, ME, "inside"]
+    same("the status of a run with these disks", subprocess.run(words, timeout=4 * PATIENCE).returncode, 0)
+
+
 def lives():
     """Values are created and removed with their group."""
     m = kept()
@@ -322,6 +367,9 @@ def lives():
     m.end()
 
 
-for test in (fresh, values, related, devices, lives):
+if sys.argv[1:] == ["inside"]:
+    of_disks()
+    finish()
+for test in (fresh, values, related, devices, disks, lives):
     test()
 finish()
