@@ -165,6 +165,53 @@ def test_a_listing_is_that_of_its_processes():
             assert listing.text().decode() == "".join(f"| {pid}\n" for pid in sorted(pids))
 
 
+def test_a_listing_is_made_anew_only_after_many_changes():
+    looks = []
+
+    class Pids(dict):
+        def __iter__(self):
+            looks.append(1)
+            return super().__iter__()
+
+    pids = Pids.fromkeys(range(1, 1000))
+    listing = Listing(pids)
+    listing.text()
+    for pid in range(1000, 1000 + FEW):
+        pids[pid] = None
+        listing.add(pid)
+    assert listing.text().count(b"\n") == len(pids) and len(looks) == 1
+    for pid in range(1, FEW + 2):
+        del pids[pid]
+        listing.remove(pid)
+    assert listing.text().count(b"\n") == len(pids) and len(looks) == 2
+
+
+def test_a_process_costs_as_many_calls_at_each_level():
+    class Counted(Hierarchy):
+        calls = 0
+
+        def _call(self, *words):
+            self.calls += 1
+            return super()._call(*words)
+
+        def _told(self, *words):
+            self.calls += 1
+            return super()._told(*words)
+
+    def calls(levels):
+        with Counted() as h:
+            history = History(h)
+            for level in range(1, levels + 1):
+                history.line(b"mkdir " + b"/a" * level)
+            history.line(b"write " + b"/a" * levels + b" cgroup.procs 1")
+            h.calls = 0
+            for line in (b"fork 1 2", b"exit 2"):
+                history.line(line)
+            return h.calls
+
+    assert calls(31) == calls(1) <= 6
+
+
 def test_lines_comments_and_times():
     history = history_of(
         b"# a run\n \t\r\n# at 0.5\nmkdir /a\n#at 7\n  # at 1.25\n\tmkdir   /a\r\n# at 1\nfork 1 2\n\xff\x00\n"
