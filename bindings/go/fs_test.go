@@ -119,6 +119,30 @@ func TestNamesThatNoGroupHas(t *testing.T) {
 	}
 }
 
+// A file that the root lacks is missing there in every way, also one whose text is always the same.
+func TestFilesThatTheRootLacks(t *testing.T) {
+	f := open(t).FS()
+	lacks := 0
+	for _, it := range files {
+		if it.onRoot {
+			continue
+		}
+		lacks++
+		_, read := f.ReadFile(it.name)
+		_, stat := f.Stat(it.name)
+		_, opened := f.Open(it.name)
+		_, list := f.ReadDir(it.name)
+		for operation, err := range map[string]error{"read": read, "stat": stat, "open": opened, "list": list} {
+			if !errors.Is(err, fs.ErrNotExist) {
+				t.Errorf("%s %s: %v", operation, it.name, err)
+			}
+		}
+	}
+	if lacks < 5 {
+		t.Error(lacks)
+	}
+}
+
 // What the caller does with a part of a listing doesn't change the next one.
 func TestPartsOfAListingAreTheCallers(t *testing.T) {
 	h := open(t)

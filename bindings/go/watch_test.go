@@ -154,6 +154,28 @@ func TestAWaitReturnsAtItsDeadline(t *testing.T) {
 	}
 }
 
+// A context that is cancelled ends a wait long before its deadline.
+func TestAWaitEndsWithItsContext(t *testing.T) {
+	h := open(t)
+	for _, ahead := range []time.Duration{time.Hour, 1000 * time.Hour} {
+		ctx, cancel := context.WithTimeout(context.Background(), ahead)
+		ended := make(chan error)
+		go func() {
+			_, err := h.Wait(ctx, 0)
+			ended <- err
+		}()
+		cancel()
+		select {
+		case err := <-ended:
+			if !errors.Is(err, context.Canceled) {
+				t.Error(ahead, err)
+			}
+		case <-time.After(patience):
+			t.Fatal(ahead, "no end")
+		}
+	}
+}
+
 // A hierarchy that nothing refers to any more is freed: the memory of many would be more than this.
 func TestAForgottenHierarchyIsFreed(t *testing.T) {
 	forget := func(rounds int) {

@@ -246,6 +246,20 @@ def test_without_times_the_axis_is_the_number_of_the_line(browser, pages):
     assert ticks[:3] == ["0", "10", "20"] and browser.complaints() == []
 
 
+def test_a_limit_far_above_the_processes_is_not_drawn(browser, pages):
+    """It would flatten the rest, or be outside of the plot. Once it is near, it is drawn."""
+    trace = "mkdir /a\nwrite /a pids.max 1000\nfork 1 2\nwrite /a cgroup.procs 2\nfork 2 3\n"
+    lines = "return [...document.querySelectorAll('svg .limit, svg .current')].map((one) => one.getAttribute('d'))"
+    browser.open("about:blank")
+    browser.open(pages("far", trace))
+    assert ["", True] == [line and True for line in browser.run(lines)]
+    browser.open("about:blank")
+    browser.open(pages("near", trace + "write /a pids.max 7\nfork 2 4\n"))
+    limit, current = browser.run(lines)
+    heights = [float(y) for y in re.findall(r"(?:M[0-9.]+ |V)([0-9.-]+)", limit)]
+    assert current and heights and all(0 <= y <= 108 for y in heights), limit
+
+
 # ---- what one may rely on
 
 

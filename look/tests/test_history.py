@@ -12,6 +12,7 @@ from support import HERE, HOSTILE, FILES, history_of, long_trace, page_of, rando
 
 from makhloeum import Hierarchy, Refused
 from makhloeum.look.history import History, shown
+from makhloeum.look.listing import FEW, Listing
 from makhloeum.look.page import data, script
 
 NODE = shutil.which("node") or shutil.which("nodejs")
@@ -107,6 +108,108 @@ def test_a_read_is_answered_once_in_each_state():
     assert history.refused == 3, "a refused fork, and both reads of a group that isn't there"
     with Hierarchy() as h:
         assert [history.answers[one] for one in history.answer[:-2]] == [answer(h, line) for line in lines]
+
+
+@pytest.mark.parametrize("blank", [" ", "\t", "  "])
+def test_a_long_list_follows_the_processes(blank):
+    """It is asked for after each change, and the page takes it from its state."""
+    read = blank.join(["cat", "/a", "cgroup.procs"])
+    setup = ["mkdir /a", "mkdir /a/b", "write /a cgroup.procs 1"] + [f"fork 1 {pid}" for pid in range(100, 130)]
+    changes = ["fork 1 99", "fork 1 4194303", "fork 1 105", "exit 100", "exit 129", "exit 115", "undo", "undo"]
+    changes += [
+        "write /a/b cgroup.procs 110",
+        "write /a/b cgroup.procs 1",
+        "write /a cgroup.procs 1",
+        "write /a cgroup.kill 1",
+        "undo",
+    ]
+    lines = [*setup, read, *(line for change in changes for line in (change, read))]
+    history = history_of("\n".join(lines))
+    with Hierarchy() as h:
+        told = [answer(h, line) for line in lines]
+    for line, one, wanted in zip(lines, history.answer, told):
+        is_long = line == read and wanted.count("\n") > 8
+        assert history.answers[one] == (f"ok\n{wanted.count(chr(10))}" if is_long else wanted), line
+
+
+def test_a_list_that_the_page_has_otherwise_is_shown_whole():
+    with Hierarchy() as h:
+        history = History(h)
+        for line in [b"mkdir /a", b"write /a cgroup.procs 1", *(b"fork 1 %d" % pid for pid in range(2, 20))]:
+            history.line(line)
+        h.exit(5)
+        history.line(b"cat /a cgroup.procs")
+    assert history.answers[history.answer[-1]] == "ok" + "".join(f"\n| {pid}" for pid in range(1, 20) if pid != 5)
+
+
+def test_a_line_that_is_too_long_lists_nothing():
+    lines = ["mkdir /a", "write /a cgroup.procs 1", *(f"fork 1 {pid}" for pid in range(2, 20))]
+    history = history_of("\n".join([*lines, "cat /a" + " " * 9000 + "cgroup.procs"]))
+    assert history.answers[history.answer[-1]] == "refused syntax" and history.refused == 1
+
+
+def test_a_listing_is_that_of_its_processes():
+    choice, pids = random.Random(7), dict.fromkeys([5, 50, 500])
+    listing = Listing(pids)
+    for round_ in range(60):
+        # now and then more than are put in one by one
+        for _ in range(choice.choice([0, 1, 3, FEW, FEW + 1])):
+            pid = choice.choice([1, 9, 10, 4194303, choice.randrange(1, 2000)])
+            if pid in pids:
+                del pids[pid]
+                listing.remove(pid)
+            else:
+                pids[pid] = None
+                listing.add(pid)
+        if round_ % 3:
+            assert listing.text().decode() == "".join(f"| {pid}\n" for pid in sorted(pids))
+
+
+def test_a_listing_is_made_anew_only_after_many_changes():
+    looks = []
+
+    class Pids(dict):
+        def __iter__(self):
+            looks.append(1)
+            return super().__iter__()
+
+    pids = Pids.fromkeys(range(1, 1000))
+    listing = Listing(pids)
+    listing.text()
+    for pid in range(1000, 1000 + FEW):
+        pids[pid] = None
+        listing.add(pid)
+    assert listing.text().count(b"\n") == len(pids) and len(looks) == 1
+    for pid in range(1, FEW + 2):
+        del pids[pid]
+        listing.remove(pid)
+    assert listing.text().count(b"\n") == len(pids) and len(looks) == 2
+
+
+def test_a_process_costs_as_many_calls_at_each_level():
+    class Counted(Hierarchy):
+        calls = 0
+
+        def _call(self, *words):
+            self.calls += 1
+            return super()._call(*words)
+
+        def _told(self, *words):
+            self.calls += 1
+            return super()._told(*words)
+
+    def calls(levels):
+        with Counted() as h:
+            history = History(h)
+            for level in range(1, levels + 1):
+                history.line(b"mkdir " + b"/a" * level)
+            history.line(b"write " + b"/a" * levels + b" cgroup.procs 1")
+            h.calls = 0
+            for line in (b"fork 1 2", b"exit 2"):
+                history.line(line)
+            return h.calls
+
+    assert calls(31) == calls(1) <= 6
 
 
 def test_lines_comments_and_times():

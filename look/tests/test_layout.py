@@ -186,6 +186,14 @@ def test_an_answer_has_the_room_that_its_line_leaves(sized):
     assert cut and min(cut) > 0.44
 
 
+def test_a_short_line_is_whole_beside_a_long_answer(sized):
+    cut = """return [...document.querySelectorAll("#list .row.refused")].map((row) => row.children[1])
+      .map((text) => [text.textContent, text.scrollWidth > text.clientWidth])"""
+    for width in WIDTHS:
+        lines = sized("pods", pods_trace(), width).run(cut)
+        assert lines and [line for line, is_cut in lines if is_cut] == [], width
+
+
 def test_an_answer_that_is_cut_says_how_many_lines_it_has(sized):
     b = sized("few", "fork 1 2\nfork 1 3\ncat / cgroup.procs\ncat / cgroup.stat\n", 1400, "#line=3")
     assert b.texts("#list .said")[2:] == ["3 lines: | 1 | 2 | 3", "| nr_descendants 0 | nr_dying_descendants 0"]

@@ -149,10 +149,11 @@ class Hierarchy(Changes, Faults, Many):
         path: Path | None = None,
         refused: bytes | None = None,
         is_long: bool = False,
+        size: int = _FIRST_SIZE,
     ) -> bytes:
         """The bytes that a call returns. Another thread may make the answer longer between two calls, so the buffer may grow more
-        than once, but not beyond the longest answer."""
-        calls, handle, size = (patient, self._at, _FIRST_SIZE) if is_long else (library, self._quick, _FIRST_SIZE)
+        than once, but not beyond the longest answer. `size` is that of the first buffer."""
+        calls, handle = (patient, self._at) if is_long else (library, self._quick)
         while True:
             buffer: Any = (ctypes.c_char * size)()
             info = Info()
@@ -188,6 +189,10 @@ class Hierarchy(Changes, Faults, Many):
             raise BadSyntax("syntax", None if path is None else _text(path), _text(text))
         is_long = _long_line(text) is not None
         return _shown(self._told("mk_line", (1, text, len(text)), text, path, _path_word(text), is_long))
+
+    def _answer_of(self, line: bytes, size: int) -> bytes:
+        """The whole answer to a line that lists many processes; `size` is a guess at its length."""
+        return self._told("mk_line", (1, line, len(line)), line, None, None, True, size)
 
     def mkdir(self, path: Path) -> None:
         """Makes the group `path`. Raises Exists, NoGroup if there is no parent, Descendants or Depth if a limit is reached, and NoSlot

@@ -80,3 +80,15 @@ def test_no_file_of_a_removed_group_has_a_text(h):
         assert code(os.read, fd, 99) == "ENODEV"
         os.close(fd)
     assert code(os.stat, f"{AT}/a/cgroup.type") == code(open, f"{AT}/a/cgroup.type") == "ENOENT"
+
+
+@pytest.mark.parametrize("name", ["cgroup.kill", "cgroup.procs", "pids.current", ""])
+def test_access_is_that_of_a_real_file_with_this_mode(h, tmp_path, name):
+    """For the superuser, whom a mode stops only from execution, and for everybody else."""
+    served = f"{AT}/a/{name}".rstrip("/")
+    real = tmp_path / "real"
+    real.write_text("") if name else real.mkdir()
+    real.chmod(os.stat(served).st_mode & 0o777)
+    for mode in range(8):
+        assert os.access(served, mode) == os.access(real, mode), mode
+    assert not os.access(f"{AT}/b/{name}", os.F_OK)
