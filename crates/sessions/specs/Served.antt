@@ -1,5 +1,5 @@
 -- What one call of a session does under the lock.
-use Rattle.std.specs.Prelude.{◌≡◌, ℕ, ◌<◌, List, [], ◌∷◌, ◌++◌, Bool, false, Option, Some, None, Result, Ok, Err, vec_len}
+use Rattle.std.specs.Prelude.{◌≡◌, ℕ, ◌<◌, List, [], ◌∷◌, ◌++◌, Bool, true, false, Option, Some, None, Result, Ok, Err, vec_len}
 use Rattle.flat_model.specs.Command as model
 use Rattle.flat_model.specs.Machine.{tick}
 use Rattle.flat_model.specs.Log.{Entry, Receipt, entry_of}
@@ -53,6 +53,15 @@ IsEarlyFor None halted turn = ⊥
 -- the turn has not come yet
 abbrev pub IsEarly : Hall → ℕ → Type 0
 IsEarly h turn = IsEarlyFor h.book h.is_halted turn
+
+abbrev pub reached_in : Option Book → Bool → Option ℕ
+reached_in (Some b) false = Some (vec_len b.log)
+reached_in (Some b) true = None
+reached_in None halted = None
+
+-- the length of the log, or none if the desk is halted or closed
+abbrev pub reached_of : Hall → Option ℕ
+reached_of h = reached_in h.book h.is_halted
 
 -- ---- how a call leaves the value behind the lock, and its result by what it found there
 

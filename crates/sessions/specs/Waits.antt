@@ -1,16 +1,5 @@
 -- The turns that sessions wait for: which have come, and which are still waited for.
-use Rattle.std.specs.Prelude.{◌≡◌, ◌↔◌, ℕ, ◌<◌, ◌≤◌, List, Bool, true, false, Option, Some, None, IsTrue, slice_index_or, vec_len}
-use Rattle.sessions.specs.declared.book.Book.{Book}
-use Rattle.sessions.specs.declared.hall.Hall.{Hall}
-
-abbrev pub reached_in : Option Book → Bool → Option ℕ
-reached_in (Some b) false = Some (vec_len b.log)
-reached_in (Some b) true = None
-reached_in None halted = None
-
--- the length of the log, or none if the desk is halted or closed
-abbrev pub reached_of : Hall → Option ℕ
-reached_of h = reached_in h.book h.is_halted
+use Rattle.std.specs.Prelude.{◌≡◌, ◌↔◌, ℕ, ◌<◌, ◌≤◌, List, Bool, false, Option, Some, None, IsTrue, slice_index_or}
 
 -- the log is as long as the turn, or the desk is halted or closed
 abbrev pub HasCome : Option ℕ → ℕ → Type 0
@@ -35,6 +24,10 @@ IsNoted turn None = ⊥
 abbrev pub IsNoLater : Option ℕ → Option ℕ → Type 0
 IsNoLater (Some turn) after = IsNoted turn after
 IsNoLater None after = Unit {0}
+
+-- no turn of these is earlier than this one; without one there is none
+abbrev pub AreNoEarlier : Option ℕ → List (Option ℕ) → Type 0
+AreNoEarlier first waits = (at : ℕ) → IsNoLater (slice_index_or waits at None) first
 
 -- at each of the eight indices whether the turn there is due
 abbrev pub AreDue : Option ℕ → List (Option ℕ) → List Bool → Type 0

@@ -6,6 +6,7 @@ use crate::book::Book;
 use crate::hall::Hall;
 use crate::session::Session;
 use crate::shared::Shared;
+use crate::waits::Waits;
 use std::alloc::{AllocError, Global};
 use std::marker::Model;
 use std::sync::{Arc, Wait};
@@ -41,7 +42,7 @@ impl Desk {
         let hall = Hall {
             book: Some(Book::new(alloc)?),
             is_halted: false,
-            waits: [None; 8],
+            waits: Waits::none(),
         };
         let shared = Arc::new(alloc, Shared::new(hall))?;
         Ok(Desk {

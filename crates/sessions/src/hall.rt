@@ -1,6 +1,6 @@
 //! The value behind the lock, and one call of a session on it.
 
-ghost use Rattle.std.specs.Prelude.{◌≡◌, ◌↔◌, ◌≤◌, ◌%◌, ℕ, IsTrue, IfOk, IfErr, IfSome, OnErr, Some, None, slice_index_or, true};
+ghost use Rattle.std.specs.Prelude.{◌≡◌, ◌↔◌, ◌%◌, ℕ, IsTrue, IfOk, IfErr, OnErr, Some, None, slice_index_or, true};
 ghost use Rattle.flat_model.specs.Audit.{AreEntries};
 ghost use Rattle.undo_journal.specs.CommandMeaning.{command_of};
 ghost use Rattle.sessions.specs.Faults.{IsFirstFault};
@@ -12,11 +12,13 @@ ghost use Rattle.sessions.specs.Served.{
   IsSame,
   Served,
   log_in,
+  reached_of,
 };
-ghost use Rattle.sessions.specs.Waits.{reached_of, AreDue, AreLeft, IsDue, IsLeft, IsNoLater, IsNoted};
+ghost use Rattle.sessions.specs.Waits.{AreDue, AreLeft, IsNoLater, IsNoted};
 
 use crate::auditing::audit;
 use crate::book::Book;
+use crate::waits::Waits;
 use crate::{CloseFault, Receipt, RunFault, Session};
 use std::alloc::{Allocator, Global};
 use std::sync::Wait;
@@ -29,7 +31,7 @@ pub(crate) struct Hall {
     pub(crate) book: Option<Book>,
     pub(crate) is_halted: bool,
     /// For each session number the least turn that is waited for, if any.
-    pub(crate) waits: [Option<u64>; 8],
+    pub(crate) waits: Waits,
 }
 
 impl Hall {
@@ -54,8 +56,7 @@ impl Hall {
     {
         let is_early = self.is_early(turn);
         if is_early {
-            let at = usize::from(session % 8);
-            self.waits[at] = Some(least_of(self.waits[at], turn));
+            self.waits.note(session, turn);
         }
         is_early
     }
@@ -70,14 +71,15 @@ impl Hall {
         }
     }
 
-    /// The sessions whose waiting threads have to be woken, because their turns have come. Drops the notes of these turns.
+    /// The sessions whose waiting threads have to be woken, because their turns have come. Drops
+    /// the notes of these turns.
     pub(crate) fn take_due(&mut self) -> [bool; 8]
         ensures same { IsBut self.old self.new }
         ensures due { AreDue (reached_of self.old) self.old.waits result }
         ensures left { AreLeft (reached_of self.old) self.old.waits self.new.waits }
     {
         let reached = self.reached();
-        due_of(&mut self.waits, reached)
+        self.waits.take_due(reached)
     }
 
     /// Halts the desk: later calls return `Halted`.
@@ -168,47 +170,4 @@ impl Hall {
         }
         self.serve(rt, session, cmd, receipts)
     }
-}
-
-/// The lesser of this turn and the noted one, if any.
-fn least_of(noted: Option<u64>, turn: u64) -> u64
-    ensures this { result ≤ turn }
-    ensures noted { IfSome noted (λ t. result ≤ t) }
-{
-    match noted {
-        Some(least) => least.min(turn),
-        None => turn,
-    }
-}
-
-/// The indices at which the awaited turn has come. Those turns are removed.
-fn due_of(waits: &mut [Option<u64>; 8], reached: Option<u64>) -> [bool; 8]
-    ensures due { AreDue reached waits.old result }
-    ensures left { AreLeft reached waits.old waits.new }
-{
-    let mut due = [false; 8];
-    for at in 0..8 {
-        let noted = waits[at];
-        due[at] = is_due(noted, reached);
-        waits[at] = left_of(noted, reached);
-    }
-    due
-}
-
-/// Whether a turn is noted and has come: the log is long enough, or the desk is halted or closed.
-fn is_due(noted: Option<u64>, reached: Option<u64>) -> bool
-    ensures { IsTrue result ↔ IsDue reached noted }
-{
-    match (noted, reached) {
-        (Some(turn), Some(len)) => turn <= len,
-        (Some(_), None) => true,
-        (None, _) => false,
-    }
-}
-
-/// The noted turn, if it has not come.
-fn left_of(noted: Option<u64>, reached: Option<u64>) -> Option<u64>
-    ensures { IsLeft reached noted result }
-{
-    if is_due(noted, reached) { None } else { noted }
 }

@@ -46,6 +46,7 @@ mod hall;
 mod session;
 mod shared;
 mod step;
+mod waits;
 
 pub use auditing::audit;
 pub use book::DeskEngine;

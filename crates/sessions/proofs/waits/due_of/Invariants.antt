@@ -1,7 +1,7 @@
 use Rattle.std.proofs.Common.{◌≡◌, ◌↔◌, ℕ, ◌<◌, ◌≤◌, None, false, length, get_or}
 use Rattle.std.specs.Prelude.{IsTrue}
-use Rattle.sessions.specs.Waits.{IsDue, IsLeft}
-use Rattle.sessions.proofs.hall.due_of.Given as goal
+use Rattle.sessions.specs.Waits.{IsDue, IsLeft, IsNoLater}
+use Rattle.sessions.proofs.waits.due_of.Given as goal
 
 abbrev pub invariant-loop-at : goal.invariant-loop-at
 invariant-loop-at l = record {
@@ -10,4 +10,5 @@ invariant-loop-at l = record {
   due : (k : ℕ) → k < l.at → IsTrue (get_or l.due k false) ↔ IsDue l.reached (get_or l.fn.waits k None);
   left : (k : ℕ) → k < l.at → IsLeft l.reached (get_or l.fn.waits k None) (get_or l.waits k None);
   kept : (k : ℕ) → l.at ≤ k → get_or l.waits k None ≡ get_or l.fn.waits k None;
+  first : (k : ℕ) → k < l.at → IsNoLater (get_or l.waits k None) l.first;
 }
