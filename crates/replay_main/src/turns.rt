@@ -152,20 +152,18 @@ fn only(worker: usize) -> [bool; 8]
     is_mine
 }
 
-/// How many commands a worker runs before the next worker continues: 1 if no worker has more than
-/// 32 commands, otherwise enough that each has at most 32 runs.
+/// How many commands a worker runs before the next worker continues: 1 if no worker has more than 8
+/// commands, otherwise enough that each has at most 8 runs. More runs would wake more threads.
 fn run_length(len: usize, workers: usize) -> usize
     requires { (1 ≤ workers) × (workers ≤ 8) }
     ensures some { 0 < result }
-    ensures single { len ≤ 32 * workers → result ≡ 1 }
-    ensures few { len ≤ 32 * workers * result }
+    ensures single { len ≤ 8 * workers → result ≡ 1 }
+    ensures few { len ≤ 8 * workers * result }
 {
-    len.saturating_sub(1) / (32 * workers) + 1
+    len.saturating_sub(1) / (8 * workers) + 1
 }
 
 /// The work of these workers, in the order of the turns: run r is that of worker r mod their number.
-/// Each command is run by its own session. No seat is held while it waits, since the sessions of the
-/// run that it waits for sit there.
 fn work_for<R: Threads + Wait + Sync, G: Gate>(
     rt: &R,
     gate: &G,
@@ -184,24 +182,42 @@ fn work_for<R: Threads + Wait + Sync, G: Gate>(
         }
     }
     let size = run_length(commands.len(), workers);
-    for (turn, command) in commands.iter().enumerate() {
-        let worker = turn / size % workers;
+    for (run, turns) in commands.chunks(size).enumerate() {
+        let worker = run % workers;
         if !is_mine[worker] {
             continue;
         }
-        if turn % size == 0 && desk.wait_for(rt, worker as u8, turn as u64).is_none() {
-            break;
-        }
-        if !run_one(
-            rt,
-            &mut seats[turn % workers].lock(rt),
-            turn,
-            command,
-            is_short,
-        ) {
+        let first = run.saturating_mul(size);
+        if !run_turns(rt, desk, seats, worker, first, turns, is_short) {
             break;
         }
     }
+}
+
+/// Runs these commands once the first one's turn has come, each by its own session. False if the
+/// desk is halted. No seat is held during the wait, since the runs before need the sessions.
+fn run_turns<R: Threads + Wait + Sync>(
+    rt: &R,
+    desk: &Desk,
+    seats: &[Mutex<Session>],
+    worker: usize,
+    first: usize,
+    commands: &[Command<Global>],
+    is_short: &AtomicBool,
+) -> bool
+    requires { (worker < length seats.now) × (length seats.now ≤ 8) }
+{
+    if desk.wait_for(rt, worker as u8, first as u64).is_none() {
+        return false;
+    }
+    for (place, command) in commands.iter().enumerate() {
+        let turn = first.saturating_add(place);
+        let seat = &seats[turn % seats.len()];
+        if !run_one(rt, &mut seat.lock(rt), turn, command, is_short) {
+            return false;
+        }
+    }
+    true
 }
 
 /// Runs a command at its turn. False if the desk is halted, as it is after running out of memory.
