@@ -11,6 +11,7 @@ import types
 import pytest
 from support import HERE
 
+from makhloeum._table import PID_MAX
 from makhloeum.check import command, directory, known, opening
 from makhloeum.check.differences import CONTRADICTION, difference
 from makhloeum.check.directory import remove_groups
@@ -201,6 +202,25 @@ def test_a_process_that_is_none_has_a_number_in_a_script(tmp_path):
 
 
 # ---- the directory
+
+
+def test_a_script_forgets_the_processes_of_a_killed_group_alone():
+    """Those of a group whose name only begins alike are moved and waited for as before."""
+    commands = [["mkdir", "/a"], ["mkdir", "/a/b"], ["mkdir", "/ab"]]
+    for pid, group in (("2", "/a/b"), ("3", "/ab")):
+        commands += [["fork", "1", pid], ["write", group, "cgroup.procs", pid]]
+    commands += [
+        ["write", "/a", "cgroup.kill", "1"],
+        ["write", "/a", "cgroup.procs", "3"],
+        ["write", "/a", "cgroup.procs", "2"],
+    ]
+    commands.append(["rmdir", "/a"])
+    lines = shell_script(Difference("free", commands, BUSY, Answer("EINVAL")), "/dir", False)
+    at = next(i for i, line in enumerate(lines) if "cgroup.kill" in line)
+    assert lines[at].endswith("; wait $p2") and lines[at + 1 : at + 3] == [
+        "echo $p3 >a/cgroup.procs",
+        f"echo {PID_MAX} >a/cgroup.procs",
+    ]
 
 
 def test_room_is_what_a_limit_leaves(tmp_path):
