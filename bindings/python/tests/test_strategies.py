@@ -11,8 +11,9 @@ from hypothesis import HealthCheck, given, settings  # noqa: E402
 from hypothesis import strategies as st  # noqa: E402
 from hypothesis.stateful import invariant, run_state_machine_as_test  # noqa: E402
 
-from makhloeum import BadPath, Hierarchy, Refused  # noqa: E402
-from makhloeum.strategies import HierarchyMachine, _is_name, commands, limits, names, paths, pids  # noqa: E402
+from makhloeum import BadPath, Hierarchy, PidsMax, Refused  # noqa: E402
+from makhloeum.strategies import HierarchyMachine, _is_full, _is_name  # noqa: E402
+from makhloeum.strategies import commands, limits, names, paths, pids  # noqa: E402
 
 FEW = settings(
     max_examples=200, deadline=None, database=None, derandomize=True, suppress_health_check=list(HealthCheck)
@@ -119,6 +120,26 @@ def test_each_kind_of_limit_refuses_one_command_in_twenty(examples, steps):
     for kind in ("PidsMax", "Descendants", "Depth"):
         assert COUNTS[kind] >= COUNTS["all"] / 20, COUNTS
     assert COUNTS["str"] >= COUNTS["all"] / 3, COUNTS
+
+
+def test_a_group_is_full_exactly_where_a_fork_is_refused():
+    with Hierarchy() as h:
+        for group in ("/a", "/a/b", "/c", "/d"):
+            h.mkdir(group)
+        for pid, group in ((2, "/a/b"), (3, "/a/b"), (4, "/c"), (5, "/d")):
+            h.fork(1, pid)
+            h.write(group, "cgroup.procs", pid)
+        for limit_of_a in ("max", 3, 2, 1, 0):
+            h.write("/a", "pids.max", limit_of_a)
+            h.write("/c", "pids.max", limit_of_a)
+            for pid, group in ((1, "/"), (2, "/a/b"), (4, "/c"), (5, "/d")):
+                try:
+                    h.fork(pid, 9)
+                    h.undo()
+                    is_refused = False
+                except PidsMax:
+                    is_refused = True
+                assert _is_full(h, group) == is_refused, (limit_of_a, group)
 
 
 def test_a_name_that_no_group_can_have_is_not_drawn():
