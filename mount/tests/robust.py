@@ -196,7 +196,7 @@ def let_go():
     same("there is one companion", len(companions), 1)
     step("it does not have the pipe", held and os.readlink("/proc/self/fd/%d" % w) not in held, held)
     step("it can be unmounted", until(lambda: subprocess.run(["fusermount3", "-u", at], stderr=-3).returncode == 0))
-    same("its process ends", p.wait(PATIENCE), 0)
+    same("its process ends", p.wait(10 * PATIENCE), 0)
     for fd in (r, w, high):
         os.close(fd)
     os.rmdir(at)

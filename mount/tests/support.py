@@ -132,9 +132,10 @@ class Mount:
         return until(lambda: self.unmount() == 0 or self.process.poll() is not None)
 
     def ended(self):
-        """The status of its process, or None if it does not end in time."""
+        """The status of its process, or None if it does not end in time. A run of another test that began meanwhile may have a copy
+        of the mount in its namespace, until it ends."""
         try:
-            return self.process.wait(PATIENCE)
+            return self.process.wait(10 * PATIENCE)
         except subprocess.TimeoutExpired:
             self.process.kill()
             return None
