@@ -44,7 +44,14 @@ def expectations():
     """The tables of the mount's test: its files, their first texts, and what is written with which errno."""
     tables = {}
     for node in ast.parse(THE_MOUNT.read_text(encoding="utf-8")).body:
-        if isinstance(node, ast.Assign) and node.targets[0].id in ("ROOT", "GROUP", "CONSTANTS", "FRESH", "VALUES"):
+        if isinstance(node, ast.Assign) and node.targets[0].id in (
+            "ROOT",
+            "GROUP",
+            "NUMBERS",
+            "CONSTANTS",
+            "FRESH",
+            "VALUES",
+        ):
             tables[node.targets[0].id] = eval(
                 compile(ast.Expression(node.value), "files.py", "eval"), {"sorted": sorted}, tables
             )  # noqa: S307
