@@ -19,7 +19,7 @@ class Edits(MadeUp):
         super().setUp()
         self.patch("version", lambda: self.kit)
         self.patch("lines_of", lambda command: self.rt(command).stdout.splitlines(True))
-        self.kit, self.calls = "kit-1", []
+        self.kit, self.calls, self.takes_names = "kit-1", [], True
         self.write(
             "crates.txt",
             "# Crates.\nlow: smallvec\nsnzi_tree: low\nsessions may_wait=2: snzi_tree std_io\ndocs_only: low\n",
@@ -36,6 +36,8 @@ class Edits(MadeUp):
     def rt(self, command, **_):
         """In place of `rt ci` and `rt must-fail`: it refuses each edit whose new text has the word wrong, and says so as they do."""
         self.calls.append(" ".join(command))
+        if command[1] == "ci" and command[2:] and not self.takes_names:
+            return subprocess.CompletedProcess(command, 2, "usage: rt new FOLDER\n       rt check\n")
         lines = []
         for crate in command[2:] or sorted(os.listdir(f"{self.top}/crates")):
             for edit in sorted(glob.glob(f"{self.top}/crates/{crate}/must-fail/*.edit")):
@@ -167,6 +169,15 @@ class Edits(MadeUp):
         self.calls.clear()
         self.run_with("--full")
         self.assertEqual(self.calls, [])
+
+    def test_full_proves_all_with_a_kit_whose_rt_ci_takes_no_names(self):
+        self.takes_names = False
+        self.land()
+        self.change("crates/snzi_tree/src/lib.rt")
+        self.calls.clear()
+        self.assertIn("edits: 3 refused", self.run_with("--full"))
+        self.assertEqual(self.calls, ["rt ci snzi_tree sessions", "rt ci"])
+        self.assertEqual(self.names("--due") + self.names("--due-below"), [])
 
     def test_a_change_during_the_run_stays_due(self):
         self.land(meanwhile=lambda: self.change("crates/low/src/lib.rt"))
