@@ -9,11 +9,10 @@ import tempfile
 import time
 import uuid
 
-from support import CGREPLAY, PATIENCE, PROGRAM, finish, in_parallel, read, same, status_within, step, until, write
+from support import AT, BUILT, CGREPLAY, PATIENCE, PROGRAM
+from support import finish, in_parallel, into, read, same, status_within, step, until, write
 
-AT = "/sys/fs/cgroup"
 ME = os.path.realpath(__file__)
-BUILT = os.environ.get("HOSTILE") or os.path.join(os.path.dirname(PROGRAM), "..", "hostile")
 ABUSE, MEDDLE = (
     [os.path.join(BUILT, "abuse"), n]
     for n in ("vforks", "flags", "daemons", "namespaces", "execs", "memories", "filters", "tracers", "limits")
@@ -68,10 +67,6 @@ def reap():
             pass
     except ChildProcessError:
         pass
-
-
-def into(group):
-    write(AT + group + "/cgroup.procs", b"0\n")
 
 
 # ---------------------------------------------------------------- inside

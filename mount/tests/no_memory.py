@@ -13,9 +13,8 @@ import sys
 import tempfile
 import time
 
-from support import PATIENCE, PROGRAM, Mount, finish, in_parallel, libc, read, same, step, until, write
+from support import AT, PATIENCE, PROGRAM, Mount, finish, in_parallel, libc, read, same, step, until, write
 
-AT = "/sys/fs/cgroup"
 ME = os.path.realpath(__file__)
 MOST = 400  # allocations of one call
 GOOD = ("ENOMEM",)

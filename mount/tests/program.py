@@ -14,9 +14,8 @@ import tempfile
 import threading
 import time
 
-from support import CGREPLAY, PATIENCE, PROGRAM, Mount, error_of, finish, libc, read, same, step, until, write
+from support import AT, CGREPLAY, PATIENCE, PROGRAM, Mount, error_of, finish, libc, read, same, step, until, write
 
-AT = "/sys/fs/cgroup"
 ME = os.path.realpath(__file__)
 
 

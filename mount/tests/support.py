@@ -12,6 +12,8 @@ import time
 from concurrent.futures import ThreadPoolExecutor
 
 PROGRAM = os.environ["MAKHLOEUM"]
+# The programs of the tests that are written in C.
+BUILT = os.environ.get("HOSTILE") or os.path.join(os.path.dirname(PROGRAM), "..", "hostile")
 CGREPLAY = os.environ["CGREPLAY"].split()
 CGSHELL = os.environ.get("CGSHELL", "")
 failed = []
