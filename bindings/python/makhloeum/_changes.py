@@ -34,7 +34,7 @@ class Changes:
         count = ctypes.c_uint64()
         status = self._call("mk_changes", ctypes.byref(count))
         if status != DONE:
-            _raise(status, 0, "", None, "changes")
+            _raise(status, "changes")
         return count.value
 
     def wait(self, seen: int, timeout: float | None = None) -> int:
@@ -53,6 +53,6 @@ class Changes:
             if status == DONE:
                 return count.value
             if status != TIMED_OUT:
-                _raise(status, 0, "", None, "wait")
+                _raise(status, "wait")
             if end is not None and time.monotonic() >= end:
                 raise TimeoutError(f"wait: nothing has changed in {timeout} seconds")

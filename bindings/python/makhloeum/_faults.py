@@ -59,12 +59,12 @@ class Faults:
             raise ValueError(f"{command}: nth is 1 for the next call, not {nth}")
         status = self._call(f"mk_{operation}", word, nth, *error, ctypes.byref(info))
         if status != DONE:
-            _raise(status, info.code, "value", path, command)
+            _raise(status, command, path, info, "value")
 
     def clear_faults(self) -> int:
         """Drops the faults that have not occurred, and returns how many there were."""
         left = ctypes.c_size_t()
         status = self._call("mk_clear_faults", ctypes.byref(left))
         if status != DONE:
-            _raise(status, 0, "", None, "clear_faults")
+            _raise(status, "clear_faults")
         return left.value
