@@ -6,7 +6,6 @@ import "C"
 import (
 	"fmt"
 	"math"
-	"runtime"
 	"syscall"
 )
 
@@ -34,10 +33,6 @@ func (h *Hierarchy) Vanish(path string, nth uint64) error {
 // ClearFaults drops the faults that have not occurred, and returns how many there were. The error is ErrClosed or ErrBusy.
 func (h *Hierarchy) ClearFaults() (int, error) {
 	var left C.size_t
-	status := C.mk_clear_faults(&h.handle, &left)
-	runtime.KeepAlive(h)
-	if status != C.MK_DONE {
-		return 0, failure(command{text: "clear faults"}, uint32(status), 0, nil)
-	}
-	return int(left), nil
+	err := h.errorOf("clear faults", C.mk_clear_faults(&h.handle, &left))
+	return int(left), err
 }

@@ -389,12 +389,8 @@ static void in_the_child(void)
 static void forks(double seconds)
 {
 	pthread_t threads[THREADS];
-	static int numbers[THREADS];
 	atomic_store(&stopped, false);
-	for (int i = 0; i < THREADS; i++) {
-		numbers[i] = i;
-		CHECK(pthread_create(&threads[i], NULL, own_group, &numbers[i]) == 0);
-	}
+	start_threads(threads, own_group);
 	for (double end = now() + seconds; now() < end;) {
 		int status = -1;
 		pid_t child = fork();
@@ -404,8 +400,7 @@ static void forks(double seconds)
 		CHECK(waitpid(child, &status, 0) == child && WIFEXITED(status) && WEXITSTATUS(status) == 0);
 	}
 	atomic_store(&stopped, true);
-	for (int i = 0; i < THREADS; i++)
-		CHECK(pthread_join(threads[i], NULL) == 0);
+	join_threads(threads);
 }
 
 int main(int argc, char **argv)
