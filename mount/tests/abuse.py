@@ -10,7 +10,7 @@ import time
 import uuid
 
 from support import AT, BUILT, CGREPLAY, PATIENCE, PROGRAM
-from support import finish, in_parallel, into, read, same, status_within, step, until, write
+from support import finish, in_parallel, into, line_of, read, same, status_within, step, until, write
 
 ME = os.path.realpath(__file__)
 ABUSE, MEDDLE = (
@@ -137,14 +137,6 @@ def left(mark):
     return found
 
 
-def line_of(pid):
-    """The words of a process, or one that is empty."""
-    try:
-        return open("/proc/%d/cmdline" % pid, "rb").read().split(b"\0")
-    except OSError:
-        return [b""]
-
-
 def ends(name, how):
     """The run gets a signal in the middle of it."""
     mark = uuid.uuid4().hex
@@ -152,7 +144,7 @@ def ends(name, how):
     p = subprocess.Popen(
         [PROGRAM, "run", "sh", "-c", script, "sh", *WAYS[name], mark], start_new_session=True, stdout=subprocess.DEVNULL
     )
-    until(lambda: any(line[0] == WAYS[name][0].encode() for line in map(line_of, left(mark.encode()))))
+    until(lambda: any(line.startswith(WAYS[name][0].encode() + b"\0") for line in map(line_of, left(mark.encode()))))
     time.sleep(0.1)
     p.send_signal(how)
     try:

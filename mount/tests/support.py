@@ -204,6 +204,14 @@ def tracer():
     return int(next(x for x in open("/proc/self/status") if x.startswith("TracerPid:")).split()[1])
 
 
+def is_alive(pid):
+    """Whether there is such a process, and no zombie."""
+    try:
+        return open("/proc/%d/stat" % pid).read().rpartition(")")[2].split()[0] not in "ZX"
+    except OSError:
+        return False
+
+
 def line_of(pid):
     """The command line of a process; empty if it has ended."""
     try:
