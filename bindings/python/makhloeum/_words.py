@@ -77,8 +77,8 @@ def _path_word(line: bytes) -> bytes:
     return words[1] if len(words) > 1 else b""
 
 
-def _path_refusal(refused: bytes, path: str, command: str) -> BadPath:
-    """The refusal of a text that is not a path; `path` is the one that the exception names."""
+def _path_fault(refused: bytes, path: str, command: str) -> BadPath:
+    """The fault of a text that is not a path; `path` is the one that the exception names."""
     position = ctypes.c_size_t()
     fault = library.mk_path_fault(refused, len(refused), ctypes.byref(position))
     if fault == 0:
@@ -116,5 +116,5 @@ def _raise(
         )
     kind = BY_CODE[info.code]
     if kind is BadPath and path is not None:
-        raise _path_refusal(_bytes(path) if refused is None else refused, _text(path), command)
+        raise _path_fault(_bytes(path) if refused is None else refused, _text(path), command)
     raise kind(words, name, command)

@@ -61,5 +61,5 @@ class Model:
         return {pid: text_of(path) for pid, path in self.state.home.items()}
 
     @property
-    def past(self):
+    def journal(self):
         return self.state.journal
