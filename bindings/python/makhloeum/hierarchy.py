@@ -139,6 +139,13 @@ class Hierarchy(Changes, Faults, Many):
             status = getattr(patient, name)(self._at, *words)
         return int(status)
 
+    def _count(self, name: str, count: Any) -> int:
+        """A number of the whole hierarchy, which a call puts into `count`."""
+        status = self._call(f"mk_{name}", ctypes.byref(count))
+        if status != DONE:
+            _raise(status, name)
+        return int(count.value)
+
     def _either(self, is_long: bool, name: str, *words: Any) -> int:
         return int(getattr(patient, name)(self._at, *words)) if is_long else self._call(name, *words)
 
@@ -241,11 +248,7 @@ class Hierarchy(Changes, Faults, Many):
 
     def depth(self) -> int:
         """How many recorded commands can be undone."""
-        depth = ctypes.c_size_t()
-        status = self._call("mk_depth", ctypes.byref(depth))
-        if status != DONE:
-            _raise(status, "depth")
-        return int(depth.value)
+        return self._count("depth", ctypes.c_size_t())
 
     def forget(self) -> None:
         """Forgets the recorded commands and frees their memory: groups, processes and counts stay, and nothing earlier can
