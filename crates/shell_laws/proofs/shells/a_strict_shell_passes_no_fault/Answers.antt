@@ -1,4 +1,3 @@
-use Rattle.std.proofs.Common.{List, ℕ}
 use Rattle.shell_main.specs.Forgetful.{output_of}
 use Rattle.shell_laws.proofs.Stricts.{written_front}
 use Rattle.shell_laws.proofs.shells.a_strict_shell_passes_no_fault.Goals as goal

@@ -1,4 +1,4 @@
-use Rattle.std.proofs.Common.{◌≡◌, ◌∙◌, ◌≤◌, ◌↔◌, true, List, ℕ, Option, Some, Ok, length, subst, sym, zero-add}
+use Rattle.std.proofs.Common.{◌∙◌, ◌≤◌, true, List, ℕ, Option, Some, Ok, length, subst, sym, zero-add}
 use Rattle.flat_model.specs.Replies.{refused_count}
 use Rattle.flat_model.specs.Trace.{read_trace, trace_max}
 use Rattle.sessions.specs.SessionMeaning.{slots}
