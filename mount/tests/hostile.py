@@ -111,6 +111,16 @@ def fair():
         step("twelve that only call %s leave room for others" % what, got == ["40", "40"], got)
 
 
+def zombie_in(group):
+    """A child that has ended in this group; nobody has waited for it."""
+    child = os.fork()
+    if child == 0:
+        into(group)
+        os._exit(0)
+    os.waitid(os.P_PID, child, os.WEXITED | os.WNOWAIT)
+    return child
+
+
 def zombies():
     os.mkdir(AT + "/a")
     p = started("zombies", group="/a")
@@ -124,15 +134,19 @@ def zombies():
     same("once they are waited for they are gone", count("/a"), 1)
     p.communicate(b"\n")
     os.mkdir(AT + "/b")
-    child = os.fork()
-    if child == 0:
-        into("/b")
-        os._exit(0)
-    os.waitid(os.P_PID, child, os.WEXITED | os.WNOWAIT)
+    child = zombie_in("/b")
     same("a group with only zombies", (read(AT + "/b/cgroup.events"), count("/b")), (b"populated 0\nfrozen 0\n", 1))
     same("one moves nowhere", error_of(write, AT + "/a/cgroup.procs", b"%d\n" % child), "ok")
     same("and does not hold its group", error_of(os.rmdir, AT + "/b"), "ok")
     os.waitpid(child, 0)
+    os.mkdir(AT + "/c")
+    three = [zombie_in("/c") for _ in range(3)]
+    os.waitpid(three[0], 0)
+    same("of three, those that nobody waited for", (processes("/c"), count("/c")), ([], 2))
+    os.waitpid(three[2], 0)
+    same("then the one between them", (processes("/c"), count("/c")), ([], 1))
+    os.waitpid(three[1], 0)
+    same("then none", count("/c"), 0)
     orphan = subprocess.run(["sh", "-c", "sleep 0.2 & echo $!"], stdout=subprocess.PIPE).stdout
     step("an orphan is waited for", until(lambda: not os.path.exists("/proc/%d" % int(orphan))))
     r, w = os.pipe()
