@@ -3,6 +3,7 @@
 #include "births.h"
 #include "cleanup.h"
 #include "engine.h"
+#include "execute.h"
 #include "filter.h"
 #include "freezer.h"
 #include "groups.h"
@@ -113,9 +114,9 @@ static void become(char **program, int control, const struct wishes *wishes)
 	if (read(control, &go, 1) != 1)
 		_exit(1);
 	give_signals();
-	execvp(program[0], program);
-	say("%s: %s", program[0], strerror(errno));
-	_exit(errno == ENOENT ? NOT_FOUND : NOT_EXECUTABLE);
+	int fault = execute(program[0], program);
+	say("%s: %s", program[0], strerror(fault));
+	_exit(fault == ENOENT ? NOT_FOUND : NOT_EXECUTABLE);
 }
 
 /* ---------------------------------------------------------------- the supervisor */
