@@ -99,14 +99,17 @@ static void hide(bool hidden)
 }
 
 /* Enters its namespaces, waits until it is traced, installs the filter, and becomes the program. */
-static void become(char **program, int control, const struct wishes *wishes)
+static void become(char **program, int control, const struct wishes *wishes, pid_t supervisor)
 {
 	char go;
 	hide(false);
+	if (!own_dies_with(supervisor))
+		_exit(1);
 	if (!space_enter_below(wishes))
 		_exit(REFUSED_HERE);
 	if (write(control, "", 1) != 1 || read(control, &go, 1) != 1)
 		_exit(1);
+	prctl(PR_SET_PDEATHSIG, 0, 0, 0, 0); /* it cannot fail. From now on it ends with its tracer */
 	int listener = filter_install();
 	if (listener < 0 || !passing_send(control, "", 1, &listener, 1))
 		_exit(1);
@@ -191,10 +194,10 @@ static int supervise(char **program, const struct wishes *wishes, int signals, i
 	}
 	/* this process, not the machine's first one, waits for the orphans that the program leaves */
 	prctl(PR_SET_CHILD_SUBREAPER, 1, 0, 0, 0); /* it cannot fail */
-	pid_t pid = fork();
+	pid_t self = getpid(), pid = fork();
 	if (pid == 0) {
 		close(control[0]); /* else it would wait forever if the supervisor is killed */
-		become(program, control[1], wishes);
+		become(program, control[1], wishes, self);
 	}
 	close(control[1]);
 	char there;
