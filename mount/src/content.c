@@ -3,6 +3,7 @@
 #include "controllers.h"
 #include "engine.h"
 #include "freezer.h"
+#include "link.h"
 #include "nodes.h"
 #include "number.h"
 #include "numbering.h"
@@ -192,6 +193,7 @@ static int move(const struct opened *o, char said[SAID_MAX])
 
 static int kill_group(const struct opened *o, const char *said)
 {
+	link_hold_numbers(true);
 	int fault = real_sweep();
 	if (fault == 0)
 		fault = real_note(o->of->path);
@@ -201,6 +203,7 @@ static int kill_group(const struct opened *o, const char *said)
 		real_kill_noted();
 		watch_below(o->of->path);
 	}
+	link_hold_numbers(false);
 	return fault;
 }
 

@@ -124,7 +124,7 @@ static void become(char **program, int control, const struct wishes *wishes, pid
 
 /* ---------------------------------------------------------------- the supervisor */
 
-/* What the supervisor listens to. It asks each once in a turn, and waits for none while another has something. */
+/* What the supervisor listens to. It asks each that has something once in a turn, and then waits for all. */
 struct ears {
 	int signals, link, helper, freezer;
 };
@@ -147,17 +147,19 @@ static int sooner(int one, int other)
 static int watch_over(const struct ears *ears, pid_t program)
 {
 	int status = 0;
+	bool orders = false;
 	struct pollfd from[] = { { .fd = ears->signals, .events = POLLIN }, { .fd = ears->link },
 		{ .fd = ears->helper, .events = POLLIN }, { .fd = ears->freezer, .events = POLLIN } };
 	for (;;) {
-		int next = signals_pass_on(ears->signals, program);
+		int next = signals_pass_on(from[0].revents ? ears->signals : -1, program);
 		bool more = tracer_look();
 		if (tracer_has_ended(&status))
 			break;
-		hear_helper();
-		more |= tracer_obey();
+		if (from[2].revents)
+			hear_helper();
+		orders = (orders || from[3].revents) && tracer_obey();
 		next = sooner(sooner(sooner(next, births_give_up()), halts_look_again()), link_wake_late());
-		if (poll(from, sizeof from / sizeof *from, more ? 0 : next) < 0 && errno != EINTR)
+		if (poll(from, sizeof from / sizeof *from, more || orders ? 0 : next) < 0 && errno != EINTR)
 			break;
 		for (int i = 1; i < 3; i++)
 			if (from[i].revents & (POLLHUP | POLLERR)) {

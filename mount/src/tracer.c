@@ -303,7 +303,7 @@ bool tracer_look(void)
 		count += taken > 0;
 	for (size_t i = 0; i < count; i++)
 		on_stop(stops[i].id, stops[i].status);
-	return count > 0 || taken != 0;
+	return taken != 0;
 }
 
 bool tracer_obey(void)
