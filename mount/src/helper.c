@@ -195,7 +195,7 @@ static bool share_root(pid_t program)
 {
 	char path[40];
 	snprintf(path, sizeof path, "%d/root", program);
-	return chroot(path) == 0 || errno == ENOENT || errno == ESRCH; /* it has ended already, and calls nobody */
+	return chroot(path) == 0 || errno == ENOENT || errno == ESRCH; /* it has ended already, and makes no call */
 }
 
 static void serve(int listener, int end)
