@@ -4,8 +4,9 @@
 #include <stdint.h>
 #include <sys/mman.h>
 
-/* Each process has a few places, which it shares with others. A place has a process and its reservation, or 0. */
-enum { PLACES = 512, EACH = 8 };
+/* Each process has a few places for threads and one for a child, which it shares with others. A place has a process and its
+   reservation, or 0. */
+enum { PLACES = 512, EACH = 8, ALL = 2 * PLACES };
 
 static _Atomic uint64_t *places;
 static size_t given; /* by the server, and not taken back by it: the supervisor may have taken them */
@@ -13,16 +14,22 @@ static size_t given; /* by the server, and not taken back by it: the supervisor 
 bool advance_begin(void)
 {
 	/* cppcheck-suppress invalidFunctionArg ; without a file the number is -1 */
-	void *shared = mmap(NULL, PLACES * sizeof *places, PROT_READ | PROT_WRITE, MAP_SHARED | MAP_ANONYMOUS, -1, 0);
+	void *shared = mmap(NULL, ALL * sizeof *places, PROT_READ | PROT_WRITE, MAP_SHARED | MAP_ANONYMOUS, -1, 0);
 	if (shared == MAP_FAILED)
 		return false;
 	places = shared;
 	return true;
 }
 
-static _Atomic uint64_t *place_of(pid_t process, int i)
+static int places_of(bool is_thread)
 {
-	return &places[((size_t)process * EACH + (size_t)i) % PLACES];
+	return is_thread ? EACH : 1;
+}
+
+static _Atomic uint64_t *place_of(pid_t process, bool is_thread, int i)
+{
+	size_t number = (size_t)process;
+	return &places[is_thread ? (number * EACH + (size_t)i) % PLACES : PLACES + number % PLACES];
 }
 
 static bool is_of(uint64_t word, pid_t process)
@@ -30,39 +37,41 @@ static bool is_of(uint64_t word, pid_t process)
 	return word >> 32 == (uint64_t)process;
 }
 
-bool advance_wants(pid_t process)
+bool advance_wants(pid_t process, bool is_thread)
 {
 	bool wants = false;
-	for (int i = 0; i < EACH; i++)
-		wants |= !is_of(atomic_load(place_of(process, i)), process);
+	for (int i = 0; i < places_of(is_thread); i++)
+		wants |= !is_of(atomic_load(place_of(process, is_thread, i)), process);
 	return wants;
 }
 
-unsigned advance_give(pid_t process, unsigned reservation)
+unsigned advance_give(pid_t process, bool is_thread, unsigned reservation)
 {
 	int i = 0;
-	while (i < EACH - 1 && is_of(atomic_load(place_of(process, i)), process))
+	while (i < places_of(is_thread) - 1 && is_of(atomic_load(place_of(process, is_thread, i)), process))
 		i++;
 	given++;
-	return (unsigned)atomic_exchange(place_of(process, i), (uint64_t)process << 32 | reservation);
+	return (unsigned)atomic_exchange(place_of(process, is_thread, i), (uint64_t)process << 32 | reservation);
 }
 
 unsigned advance_take_any(void)
 {
-	for (size_t i = 0; given > 0 && i < PLACES; i++) {
-		unsigned reservation = (unsigned)atomic_exchange(&places[i], 0);
+	static size_t at; /* of those before it none is left */
+	for (; given > 0 && at < ALL; at++) {
+		unsigned reservation = atomic_load(&places[at]) ? (unsigned)atomic_exchange(&places[at], 0) : 0;
 		if (reservation)
 			return reservation;
 	}
-	given = 0;
+	at = given = 0;
 	return 0;
 }
 
-unsigned advance_take(pid_t process)
+unsigned advance_take(pid_t process, bool is_thread)
 {
-	for (int i = 0; i < EACH; i++) {
-		uint64_t there = atomic_load(place_of(process, i));
-		if (is_of(there, process) && atomic_compare_exchange_strong(place_of(process, i), &there, 0))
+	for (int i = 0; i < places_of(is_thread); i++) {
+		_Atomic uint64_t *place = place_of(process, is_thread, i);
+		uint64_t there = atomic_load(place);
+		if (is_of(there, process) && atomic_compare_exchange_strong(place, &there, 0))
 			return (unsigned)there;
 	}
 	return 0;

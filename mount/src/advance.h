@@ -1,5 +1,5 @@
-/* Threads that are allowed in advance. A process that makes one thread often makes the next soon. So when a thread is born the
-   server reserves another one, if the limits allow it, and the supervisor does not have to wait for an answer to make it. A
+/* Threads and children that are allowed in advance. A process that makes one often makes the next soon. So when one is born the
+   server reserves another, if the limits allow it, and the supervisor does not have to wait for an answer to make it. A
    reservation is a word of memory that both share: the supervisor takes it, or the server takes it back. */
 #ifndef ADVANCE_H
 #define ADVANCE_H
@@ -11,11 +11,11 @@
 bool advance_begin(void);
 /* The server's part. Whether the process has fewer than it may have; a reservation for it, which returns one that nobody can use
    any more, or 0. */
-bool advance_wants(pid_t process);
-unsigned advance_give(pid_t process, unsigned reservation);
+bool advance_wants(pid_t process, bool is_thread);
+unsigned advance_give(pid_t process, bool is_thread, unsigned reservation);
 /* The next one that nobody has taken, of any process. 0: there is none. */
 unsigned advance_take_any(void);
 /* The part of both: one of this process, or 0. */
-unsigned advance_take(pid_t process);
+unsigned advance_take(pid_t process, bool is_thread);
 
 #endif

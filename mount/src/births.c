@@ -136,7 +136,7 @@ static void make(struct thread *t, struct birth *b, long number, struct clone_re
 	b->is_thread = args->flags & CLONE_THREAD;
 	bool counts = !b->is_thread || counts_threads;
 	int fault = !counts && group ? -EOPNOTSUPP : 0;
-	b->reservation = counts && b->is_thread && !group ? advance_take(b->process) : 0;
+	b->reservation = counts && !group ? advance_take(b->process, b->is_thread) : 0;
 	if (counts && !b->reservation)
 		fault = link_reserve(b->process, group, b->is_thread, &b->reservation);
 	b->reserved = counts && fault == 0;

@@ -3,8 +3,10 @@
 #include "controllers.h"
 #include "engine.h"
 #include "freezer.h"
+#include "link.h"
 #include "nodes.h"
 #include "number.h"
+#include "numbering.h"
 #include "opened.h"
 #include "operations.h"
 #include "real.h"
@@ -99,7 +101,20 @@ static int keep(void *opened, const char *text, size_t size)
 	return opened_keep(opened, text, size);
 }
 
-static int begin_read(struct opened *o)
+/* Lists of processes are in the numbers of their reader's PID namespace. */
+static bool is_list(const struct opened *o)
+{
+	return look.marked && o->file && (o->file->value == A_PID || strcmp(o->file->name, "cgroup.threads") == 0);
+}
+
+static int keep_list(struct opened *o, const char *text, size_t size, int space)
+{
+	cleanup_free char *list = malloc(NUMBERING_MORE * size + 1);
+	return list ? opened_keep(o, list, numbering_list(space, text, size, list)) : -ENOMEM;
+}
+
+/* `space`: the reader's PID namespace, if it is another */
+static int begin_read(struct opened *o, int space)
 {
 	size_t size;
 	const char *text;
@@ -112,7 +127,9 @@ static int begin_read(struct opened *o)
 	int fault = real_sweep();
 	if (fault == 0)
 		fault = texts_read(o->of->path, o->file, true, &text, &size);
-	return fault ? fault : opened_keep(o, text, size);
+	if (fault == 0)
+		fault = space < 0 ? opened_keep(o, text, size) : keep_list(o, text, size, space);
+	return fault;
 }
 
 void content_read(fuse_req_t req, fuse_ino_t number, size_t size, off_t at, struct fuse_file_info *fi)
@@ -120,8 +137,9 @@ void content_read(fuse_req_t req, fuse_ino_t number, size_t size, off_t at, stru
 	struct opened *o = opened_of(fi);
 	char few[TEXT_ROOM];
 	(void)number;
+	cleanup_fd int space = is_list(o) ? numbering_of(fuse_req_ctx(req)->pid) : -1;
 	engine_lock();
-	int fault = opened_goes_on(o, at) ? 0 : begin_read(o);
+	int fault = opened_goes_on(o, at) ? 0 : begin_read(o, space);
 	size = opened_has(o, size, at);
 	cleanup_free char *many = size > sizeof few ? malloc(size) : NULL;
 	char *bytes = many ? many : few;
@@ -156,12 +174,9 @@ static int move_to(const struct opened *o, const char *said)
 	return fault;
 }
 
-/* 0 is the writer. */
-static int move(const struct opened *o, char said[SAID_MAX], pid_t writer)
+static int move(const struct opened *o, char said[SAID_MAX])
 {
 	bool is_new;
-	if (strcmp(said, "0") == 0)
-		snprintf(said, SAID_MAX, "%d", writer);
 	pid_t number = (pid_t)strtol(said, NULL, 10), pid = tasks_process(number);
 	if (pid != number) /* a thread: all of its process moves */
 		snprintf(said, SAID_MAX, "%d", pid);
@@ -178,6 +193,7 @@ static int move(const struct opened *o, char said[SAID_MAX], pid_t writer)
 
 static int kill_group(const struct opened *o, const char *said)
 {
+	link_hold_numbers(true);
 	int fault = real_sweep();
 	if (fault == 0)
 		fault = real_note(o->of->path);
@@ -187,10 +203,12 @@ static int kill_group(const struct opened *o, const char *said)
 		real_kill_noted();
 		watch_below(o->of->path);
 	}
+	link_hold_numbers(false);
 	return fault;
 }
 
-static int write_file(struct opened *o, const char *data, size_t size, pid_t writer)
+/* `who`: the process that is meant, if it is the number of one; empty: there is none. */
+static int write_file(struct opened *o, const char *data, size_t size, char who[SAID_MAX])
 {
 	char said[SAID_MAX];
 	if (!o->file)
@@ -205,24 +223,38 @@ static int write_file(struct opened *o, const char *data, size_t size, pid_t wri
 	if (fault)
 		return fault;
 	if (o->file->value == A_PID)
-		return move(o, said, writer);
+		return who[0] ? move(o, who) : -ESRCH;
 	if (o->file->value == A_ONE)
 		return kill_group(o, said);
 	return engine_line("write %s %s %s", o->of->path, o->file->name, said);
+}
+
+/* Whom a writer means by a number: 0 is itself (it may be a thread of its process), others are those of its PID namespace. That is
+   asked for without the lock, since the kernel may have to wait. */
+static void find_meant(pid_t writer, char who[SAID_MAX])
+{
+	if (strcmp(who, "0") == 0) {
+		snprintf(who, SAID_MAX, "%d", real_process_of(writer));
+		return;
+	}
+	cleanup_fd int space = look.marked ? numbering_of(writer) : -1;
+	pid_t meant = space < 0 ? 0 : numbering_here(space, (pid_t)strtol(who, NULL, 10));
+	if (meant)
+		snprintf(who, SAID_MAX, "%d", meant);
+	else if (space >= 0)
+		who[0] = 0;
 }
 
 void content_write(fuse_req_t req, fuse_ino_t number, const char *data, size_t size, off_t at,
 	struct fuse_file_info *fi)
 {
 	struct opened *o = opened_of(fi);
-	char said[SAID_MAX];
-	pid_t writer = fuse_req_ctx(req)->pid;
+	char who[SAID_MAX] = "";
 	(void)number, (void)at;
-	/* the writer may be a thread of its process; that is asked for without the lock, since the kernel may have to wait */
-	if (o->file && o->file->value == A_PID && value_said(A_PID, data, size, said) == 0 && strcmp(said, "0") == 0)
-		writer = real_process_of(writer);
+	if (o->file && o->file->value == A_PID && value_said(A_PID, data, size, who) == 0)
+		find_meant(fuse_req_ctx(req)->pid, who);
 	engine_lock();
-	int fault = write_file(o, data, size, writer);
+	int fault = write_file(o, data, size, who);
 	engine_unlock();
 	if (fault)
 		fuse_reply_err(req, -fault);

@@ -129,3 +129,28 @@ int filter_install(void)
 		fd = install(&program);
 	return fd;
 }
+
+bool filter_stops(long call, const uint64_t args[6])
+{
+	switch (call) {
+	case __NR_clone:
+	case __NR_clone3:
+#ifdef __NR_fork
+	case __NR_fork:
+	case __NR_vfork:
+#endif
+		return true;
+	case __NR_unshare:
+		return args[0] & CLONE_NEWCGROUP;
+	case __NR_prctl:
+		return (unsigned)args[0] == PR_SET_SECCOMP;
+	case __NR_seccomp:
+		return (unsigned)args[0] == SECCOMP_SET_MODE_STRICT;
+	case __NR_waitid:
+		return args[3] & WNOHANG;
+	case __NR_wait4:
+		return (int)args[0] >= 0 && args[2] & WNOHANG;
+	default:
+		return false;
+	}
+}

@@ -2,6 +2,9 @@
 #ifndef FILTER_H
 #define FILTER_H
 
+#include <stdbool.h>
+#include <stdint.h>
+
 /* What the tracer is told at a stop of this filter. A filter of the program that sends a call to a tracer tells something
    else, and is asked before this one. */
 enum { FILTER_MARK = 0x4d6b };
@@ -10,5 +13,7 @@ enum { FILTER_MARK = 0x4d6b };
    make a process or a thread stop for the tracer; so do calls that ask for strict mode, and calls that look whether a
    child has ended. */
 int filter_install(void);
+/* Whether this filter stops such a call. A filter of the program can send any call to a tracer, and with the same mark. */
+bool filter_stops(long call, const uint64_t args[6]);
 
 #endif

@@ -195,12 +195,13 @@ static bool share_root(pid_t program)
 {
 	char path[40];
 	snprintf(path, sizeof path, "%d/root", program);
-	return chroot(path) == 0;
+	return chroot(path) == 0 || errno == ENOENT || errno == ESRCH; /* it has ended already, and makes no call */
 }
 
 static void serve(int listener, int end)
 {
 	own_raise_files(); /* each call that waits has a few */
+	notified_begin(listener);
 	/* other descriptors of the supervisor would keep the mount and the other ends of its pipes open */
 	for (int fd = STDERR_FILENO + 1; fd < OPEN_AT_FIRST; fd++)
 		if (fd != listener && fd != end && fd != groups_root() && fd != tables_socket())

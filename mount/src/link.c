@@ -18,10 +18,10 @@
 #include <time.h>
 #include <unistd.h>
 
-enum what { RESERVE, BORN, CANCEL, EXITED, STOPPED, ORDER, PREPARE, SPACE, NEWS };
+enum what { RESERVE, BORN, CANCEL, STOPPED, ORDER, PREPARE, SPACE, NEWS };
 
-/* AT_ONCE: the questions that a socket can have, which are answered at once. MUCH: how much news of threads wakes the server. LATE:
-   after how many milliseconds less news does. */
+/* AT_ONCE: the questions that a socket can have, which are answered at once. MUCH: how much news wakes the server. LATE: after how many
+   milliseconds less news does. */
 enum { AT_ONCE = 1024, MUCH = 8, LATE = 1 };
 
 /* Only the beginning of a question is sent, up to the end of its text. */
@@ -57,9 +57,6 @@ static void answer(const struct question *q, struct reply *r)
 		break;
 	case CANCEL:
 		reserved_drop(q->reservation);
-		break;
-	case EXITED:
-		reported_exited(q->pid);
 		break;
 	case STOPPED:
 		freezer_told(q->pid, q->stopped);
@@ -112,6 +109,13 @@ static void answer_pending(void)
 		if (q.what != NEWS)
 			is_over = send(supervisor, &r, sizeof r, MSG_NOSIGNAL) != sizeof r;
 	}
+}
+
+void link_hold_numbers(bool hold)
+{
+	news_set_kills(hold);
+	if (hold)
+		hear_news();
 }
 
 /* With the lock: whoever has it knows all that the supervisor has said before. An operation of the file system may change what
@@ -231,13 +235,6 @@ void link_cancel(unsigned reservation)
 	ask(&q, NULL, &r);
 }
 
-void link_exited(pid_t pid)
-{
-	struct question q = { .what = EXITED, .pid = pid };
-	struct reply r;
-	ask(&q, NULL, &r);
-}
-
 static long long now(void)
 {
 	struct timespec t;
@@ -271,6 +268,13 @@ void link_thread_born(unsigned reservation, pid_t thread)
 void link_thread_ended(pid_t thread)
 {
 	tell_news(0, thread);
+}
+
+void link_exited(pid_t pid)
+{
+	tell_news(0, pid);
+	if (news_is_killing())
+		link_cancel(0);
 }
 
 int link_wake_late(void)

@@ -10,6 +10,8 @@
 bool link_make(int ends[2]);
 /* The server's side: a thread that answers until the other end closes, and then ends this process. */
 bool link_answer(int end);
+/* The server, with the lock: meanwhile the number of no process becomes another's. */
+void link_hold_numbers(bool hold);
 /* The supervisor's side; `process` is the server. */
 void link_use(int end, pid_t process);
 /* 0 and a reservation, or the negated errno if the process may not make a child (in a group, if that is not NULL), or a thread.
@@ -18,10 +20,11 @@ int link_reserve(pid_t parent, const char *group, bool is_thread, unsigned *rese
 /* 0, or a negated errno if the child may not run. The reservation has ended. `frozen`: it stays at its first stop. */
 int link_born(unsigned reservation, pid_t child, bool *frozen);
 void link_cancel(unsigned reservation);
-void link_exited(pid_t pid);
-/* A new thread exists; a thread has ended. The server is not waited for: whatever anyone asks it later, it knows this first. */
+/* A new thread exists; a thread or a process has ended. The server is not waited for: whatever anyone asks it later, it knows this
+   first. */
 void link_thread_born(unsigned reservation, pid_t thread);
 void link_thread_ended(pid_t thread);
+void link_exited(pid_t pid);
 /* Wakes the server if it has news for a while. Returns how long until the next call is needed: in milliseconds, -1 for never. */
 int link_wake_late(void);
 /* All threads of a frozen process rest, or no longer do. */

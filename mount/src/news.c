@@ -8,6 +8,7 @@ enum { ROOM = 256 };
 /* A ring: one process writes, and one reads. The numbers of the next place count on, and wrap around. */
 static struct shared {
 	atomic_uint written, read;
+	atomic_bool kills;
 	struct news {
 		unsigned reservation;
 		pid_t thread;
@@ -43,4 +44,15 @@ bool news_hear(unsigned *reservation, pid_t *thread)
 	*thread = shared->all[next % ROOM].thread;
 	atomic_store(&shared->read, next + 1);
 	return true;
+}
+
+void news_set_kills(bool kills)
+{
+	if (shared)
+		atomic_store(&shared->kills, kills);
+}
+
+bool news_is_killing(void)
+{
+	return atomic_load(&shared->kills);
 }

@@ -23,6 +23,17 @@
 #define CGROUP2_SUPER_MAGIC 0x63677270
 #endif
 
+#ifndef SECCOMP_USER_NOTIF_FD_SYNC_WAKE_UP
+#define SECCOMP_USER_NOTIF_FD_SYNC_WAKE_UP 1UL
+#define SECCOMP_IOCTL_NOTIF_SET_FLAGS SECCOMP_IOW(4, __u64)
+#endif
+
+void notified_begin(int listener)
+{
+	/* it fails before Linux 6.6, where another processor may be woken */
+	(void)ioctl(listener, SECCOMP_IOCTL_NOTIF_SET_FLAGS, SECCOMP_USER_NOTIF_FD_SYNC_WAKE_UP);
+}
+
 bool notified_next(int listener, struct seccomp_notif *call)
 {
 	for (;;) {

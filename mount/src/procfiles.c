@@ -11,7 +11,6 @@
 #include "tables.h"
 #include <fcntl.h>
 #include <linux/magic.h>
-#include <stdatomic.h>
 #include <stdbool.h>
 #include <string.h>
 #include <sys/mman.h>
@@ -56,9 +55,8 @@ static int cgroup_text(pid_t reader, pid_t pid)
 /* A file of the mount too: it shows what is mounted when it is read. */
 static int mounts_text(pid_t reader, pid_t pid, const char *what)
 {
-	static atomic_long last;
 	char path[48];
-	struct given_table given = { .number = atomic_fetch_add(&last, 1) + 1, .space = spaces_of(reader) };
+	struct given_table given = { .number = tables_number(), .space = spaces_of(reader) };
 	snprintf(given.what, sizeof given.what, "%s", what);
 	snprintf(path, sizeof path, "%d/%s", pid, what);
 	cleanup_fd int table = open(path, O_RDONLY | O_CLOEXEC), bell = open(path, O_RDONLY | O_CLOEXEC);

@@ -32,16 +32,15 @@ static bool in_range(pid_t pid)
 
 /* ---------------------------------------------------------------- before a birth */
 
-/* 1 if one more than `coming` does not fit into this group; 0 if it does; -errno if it can't be known, and then nothing may
-   be made. */
-static int is_full(const char *group, long coming)
+/* 1 if one more does not fit into this group; 0 if it does; -errno if it can't be known, and then nothing may be made. */
+static int is_full(const char *group, bool with_reserved)
 {
 	uint64_t most, count;
 	int fault = engine_limit(group, &most);
 	if (fault || most == MK_NO_LIMIT)
 		return fault;
 	fault = engine_current(group, &count);
-	return fault ? fault : count + (uint64_t)coming + 1 > most;
+	return fault ? fault : count + (uint64_t)(with_reserved ? reserved_below(group) : 0) + 1 > most;
 }
 
 static int is_any_full(const char *group, bool with_reserved)
@@ -50,7 +49,7 @@ static int is_any_full(const char *group, bool with_reserved)
 	int full = 0;
 	snprintf(at, sizeof at, "%s", group);
 	for (; full == 0 && !is_root(at); go_up(at))
-		full = is_full(at, with_reserved ? reserved_below(at) : 0);
+		full = is_full(at, with_reserved);
 	return full;
 }
 
@@ -125,14 +124,17 @@ void reported_operation(void)
 	allow_none();
 }
 
-/* A process in this group has made a thread: it may make some more without a question, if the limits allow that now. */
-static void allow_next(pid_t process, const char *group)
+/* A process in this group has made a thread or a child: it may make some more without a question, if the limits allow that now. */
+static void allow_next(pid_t process, bool is_thread, const char *group)
 {
-	const struct reservation like = { .parent = process, .is_thread = true, .allowed_in = operations };
+	const struct reservation like = { .parent = process,
+		.is_thread = is_thread,
+		.in_advance = true,
+		.allowed_in = operations };
 	unsigned next;
-	while (advance_wants(process) && zombies_make_room(known_count + 2 * reserved_count() + 2) == 0 &&
+	while (advance_wants(process, is_thread) && zombies_make_room(known_count + 2 * reserved_count() + 2) == 0 &&
 		is_any_full(group, true) == 0 && reserved_add(&like, group, &next) == 0)
-		reserved_drop(advance_give(process, next));
+		reserved_drop(advance_give(process, is_thread, next));
 }
 
 int reported_reserve(pid_t parent, const char *group, bool is_thread, unsigned *reservation)
@@ -153,7 +155,7 @@ int reported_reserve(pid_t parent, const char *group, bool is_thread, unsigned *
 	if (is_thread && group && strcmp(group, at) != 0)
 		return -EOPNOTSUPP;
 	int full = is_any_full(at, true);
-	if (full > 0) { /* perhaps by threads that were allowed in advance */
+	if (full > 0) { /* perhaps by what was allowed in advance */
 		allow_none();
 		full = is_any_full(at, true);
 	}
@@ -192,7 +194,7 @@ static int put(const struct reservation *r, pid_t child, char at[PATH_MAX_SAID],
 {
 	int fault;
 	snprintf(at, PATH_MAX_SAID, "%s", r->group);
-	*has_parent = r->is_thread && r->allowed_in == operations;
+	*has_parent = r->parent && !r->elsewhere && r->allowed_in == operations;
 	/* what allowed it is as it was; unless an undo has left its process without a number */
 	if (*has_parent && (fault = engine_line("fork %d %d", r->parent, child)) != -ESRCH)
 		return fault;
@@ -214,7 +216,10 @@ static int tell(const struct reservation *r, pid_t child, bool *frozen)
 		return -EAGAIN;
 	if (r->killed || known[r->parent] == DYING)
 		return -ESRCH;
-	int fault = put(r, child, at, &has_parent);
+	/* whom its parent has waited for since the last question leaves first: else the peak would have both */
+	int fault = r->in_advance ? zombies_sweep(false) : 0;
+	if (fault == 0)
+		fault = put(r, child, at, &has_parent);
 	if (fault)
 		return fault;
 	known_count += known[child] == UNKNOWN;
@@ -226,8 +231,8 @@ static int tell(const struct reservation *r, pid_t child, bool *frozen)
 	else
 		tasks_begin_process(child);
 	*frozen = !r->is_thread && freezer_born(child, at);
-	if (r->is_thread && has_parent)
-		allow_next(r->parent, at);
+	if (has_parent)
+		allow_next(r->parent, r->is_thread, at);
 	return 0;
 }
 
@@ -270,8 +275,9 @@ void reported_exited(pid_t pid)
 	known[pid] = UNKNOWN;
 	known_count--;
 	freezer_gone(pid);
-	for (unsigned unused = advance_take(pid); unused; unused = advance_take(pid))
+	for (unsigned unused = advance_take(pid, true); unused; unused = advance_take(pid, true))
 		reserved_drop(unused);
+	reserved_drop(advance_take(pid, false));
 	if (!stands)
 		return;
 	zombies_add(pid);

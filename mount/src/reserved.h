@@ -12,7 +12,7 @@ struct reservation {
 	unsigned number;
 	pid_t parent;
 	bool elsewhere; /* the child is born in another group than its parent's */
-	bool is_thread, killed;
+	bool is_thread, in_advance, killed;
 	unsigned long allowed_in; /* after this operation of the file system, and before the next */
 	char group[];
 };

@@ -26,6 +26,9 @@ static bool may_begin_again(long call)
 	case SYS_sendto:
 	case SYS_sendmsg:
 	case SYS_sendmmsg:
+	case SYS_sendfile:
+	case SYS_splice:
+	case SYS_connect:
 	case SYS_accept:
 	case SYS_accept4:
 	case SYS_semop:

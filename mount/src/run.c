@@ -3,6 +3,7 @@
 #include "births.h"
 #include "cleanup.h"
 #include "engine.h"
+#include "execute.h"
 #include "filter.h"
 #include "freezer.h"
 #include "groups.h"
@@ -98,14 +99,17 @@ static void hide(bool hidden)
 }
 
 /* Enters its namespaces, waits until it is traced, installs the filter, and becomes the program. */
-static void become(char **program, int control, const struct wishes *wishes)
+static void become(char **program, int control, const struct wishes *wishes, pid_t supervisor)
 {
 	char go;
 	hide(false);
+	if (!own_dies_with(supervisor))
+		_exit(1);
 	if (!space_enter_below(wishes))
 		_exit(REFUSED_HERE);
 	if (write(control, "", 1) != 1 || read(control, &go, 1) != 1)
 		_exit(1);
+	prctl(PR_SET_PDEATHSIG, 0, 0, 0, 0); /* it cannot fail. From now on it ends with its tracer */
 	int listener = filter_install();
 	if (listener < 0 || !passing_send(control, "", 1, &listener, 1))
 		_exit(1);
@@ -113,14 +117,14 @@ static void become(char **program, int control, const struct wishes *wishes)
 	if (read(control, &go, 1) != 1)
 		_exit(1);
 	give_signals();
-	execvp(program[0], program);
-	say("%s: %s", program[0], strerror(errno));
-	_exit(errno == ENOENT ? NOT_FOUND : NOT_EXECUTABLE);
+	int fault = execute(program[0], program);
+	say("%s: %s", program[0], strerror(fault));
+	_exit(fault == ENOENT ? NOT_FOUND : NOT_EXECUTABLE);
 }
 
 /* ---------------------------------------------------------------- the supervisor */
 
-/* What the supervisor listens to. It asks each once in a turn, and waits for none while another has something. */
+/* What the supervisor listens to. It asks each that has something once in a turn, and then waits for all. */
 struct ears {
 	int signals, link, helper, freezer;
 };
@@ -143,17 +147,19 @@ static int sooner(int one, int other)
 static int watch_over(const struct ears *ears, pid_t program)
 {
 	int status = 0;
+	bool orders = false;
 	struct pollfd from[] = { { .fd = ears->signals, .events = POLLIN }, { .fd = ears->link },
 		{ .fd = ears->helper, .events = POLLIN }, { .fd = ears->freezer, .events = POLLIN } };
 	for (;;) {
-		int next = signals_pass_on(ears->signals, program);
+		int next = signals_pass_on(from[0].revents ? ears->signals : -1, program);
 		bool more = tracer_look();
 		if (tracer_has_ended(&status))
 			break;
-		hear_helper();
-		more |= tracer_obey();
+		if (from[2].revents)
+			hear_helper();
+		orders = (orders || from[3].revents) && tracer_obey();
 		next = sooner(sooner(sooner(next, births_give_up()), halts_look_again()), link_wake_late());
-		if (poll(from, sizeof from / sizeof *from, more ? 0 : next) < 0 && errno != EINTR)
+		if (poll(from, sizeof from / sizeof *from, more || orders ? 0 : next) < 0 && errno != EINTR)
 			break;
 		for (int i = 1; i < 3; i++)
 			if (from[i].revents & (POLLHUP | POLLERR)) {
@@ -190,10 +196,10 @@ static int supervise(char **program, const struct wishes *wishes, int signals, i
 	}
 	/* this process, not the machine's first one, waits for the orphans that the program leaves */
 	prctl(PR_SET_CHILD_SUBREAPER, 1, 0, 0, 0); /* it cannot fail */
-	pid_t pid = fork();
+	pid_t self = getpid(), pid = fork();
 	if (pid == 0) {
 		close(control[0]); /* else it would wait forever if the supervisor is killed */
-		become(program, control[1], wishes);
+		become(program, control[1], wishes, self);
 	}
 	close(control[1]);
 	char there;

@@ -43,7 +43,7 @@ int signals_pass_on(int from, pid_t program)
 	static unsigned waiting; /* a bit for each signal */
 	static long long next;
 	struct signalfd_siginfo one;
-	for (int i = 0; i < AT_ONCE && read(from, &one, sizeof one) == sizeof one; i++)
+	for (int i = 0; from >= 0 && i < AT_ONCE && read(from, &one, sizeof one) == sizeof one; i++)
 		if (is_passed_on(&one))
 			waiting |= 1U << one.ssi_signo;
 	if (!waiting)

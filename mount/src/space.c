@@ -1,5 +1,6 @@
 #include "space.h"
 #include "cleanup.h"
+#include "own.h"
 #include "serve.h"
 #include <errno.h>
 #include <fcntl.h>
@@ -72,7 +73,8 @@ static bool enter_with_all(void)
 	pid_t writer = fork();
 	if (writer == 0) {
 		close(is_in[1]);
-		if (read(is_in[0], &byte, 1) == 1 && map_all(self, "uid_map") && map_all(self, "gid_map"))
+		if (own_dies_with(self) && read(is_in[0], &byte, 1) == 1 && map_all(self, "uid_map") &&
+			map_all(self, "gid_map"))
 			_exit(0);
 		_exit(errno ? errno : EINVAL);
 	}

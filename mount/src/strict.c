@@ -6,11 +6,12 @@
 
 int strict_begin(struct thread *t, long call, const uint64_t args[6])
 {
-	if (call == SYS_prctl && (args[0] != PR_SET_SECCOMP || args[1] != SECCOMP_MODE_STRICT))
+	/* the kernel takes an int there: what is above is not looked at */
+	if (call == SYS_prctl && ((unsigned)args[0] != PR_SET_SECCOMP || args[1] != SECCOMP_MODE_STRICT))
 		return 1;
-	if (call == SYS_seccomp && args[0] != SECCOMP_SET_MODE_STRICT)
+	if (call == SYS_seccomp && (unsigned)args[0] != SECCOMP_SET_MODE_STRICT)
 		return 1;
-	if (call == SYS_seccomp && (args[1] || args[2]))
+	if (call == SYS_seccomp && ((unsigned)args[1] || args[2]))
 		return -EINVAL;
 	t->strict = true;
 	return 0;

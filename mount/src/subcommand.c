@@ -1,4 +1,5 @@
 #include "subcommand.h"
+#include "execute.h"
 #include "serve.h"
 #include <errno.h>
 #include <limits.h>
@@ -41,10 +42,10 @@ int subcommand_start(char **words)
 		snprintf(file, sizeof file, "%s%s%s", folder, places[i], program);
 		execv(file, words);
 	}
-	execvp(program, words);
-	if (errno == ENOENT)
+	int fault = execute(program, words);
+	if (fault == ENOENT)
 		say("'%s' is not a command, and there is no %s on PATH; makhloeum --help lists the commands", name, program);
 	else
-		say("%s cannot be started: %s", program, strerror(errno));
+		say("%s cannot be started: %s", program, strerror(fault));
 	return UNKNOWN;
 }

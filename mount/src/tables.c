@@ -10,10 +10,12 @@
 #include <errno.h>
 #include <poll.h>
 #include <pthread.h>
+#include <stdatomic.h>
 #include <stdio.h>
 #include <stdlib.h>
 #include <string.h>
 #include <sys/epoll.h>
+#include <sys/random.h>
 #include <sys/resource.h>
 #include <sys/socket.h>
 #include <unistd.h>
@@ -38,6 +40,22 @@ void tables_be(int which)
 int tables_socket(void)
 {
 	return ends[TABLES_HELPER];
+}
+
+enum { LOWER = 32, COUNTED = (1 << 26) - 1 };
+
+static long count_of(long number)
+{
+	return number >> LOWER;
+}
+
+long tables_number(void)
+{
+	static atomic_uint last;
+	unsigned unknown = 0;
+	long next = (long)(atomic_fetch_add(&last, 1) & COUNTED) + 1;
+	(void)!getrandom(&unknown, sizeof unknown, 0); /* it cannot fail: so few bytes are always there */
+	return (next << LOWER) + unknown;
 }
 
 /* ---------------------------------------------------------------- which there are */
@@ -83,7 +101,7 @@ static void take_given(void)
 		bool room = has_room();
 		struct table *t = room ? malloc(sizeof *t) : NULL;
 		for (struct table **at = &all; *at;)
-			if ((*at)->opens == 0 && (*at)->is.number + UNOPENED < given.number)
+			if ((*at)->opens == 0 && count_of((*at)->is.number) + UNOPENED < count_of(given.number))
 				drop(at);
 			else
 				at = &(*at)->next;

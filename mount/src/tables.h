@@ -15,6 +15,10 @@ void tables_be(int which);
 /* The end of the helper. */
 int tables_socket(void);
 
+/* The number of a new table. It counts on in its upper half, and nobody can guess the other: else a program could open and close a
+   table before the helper has opened it. */
+long tables_number(void);
+
 /* What the helper sends there, with two descriptors of the kernel's table: its number, which of the tables it is, and the cgroup
    namespace of who reads it. */
 struct given_table {

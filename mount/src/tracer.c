@@ -99,16 +99,16 @@ static void on_call(struct thread *t)
 		return;
 	long number = (long)call.seccomp.nr;
 	bool is_ours = call.seccomp.ret_data == FILTER_MARK;
-	if (is_ours && births_is_fork(number))
-		births_ask(t, number);
-	else if (is_ours && number == SYS_unshare)
-		on_unshare(t);
-	else if (is_ours && (number == SYS_prctl || number == SYS_seccomp))
-		on_seccomp(t, number, call.seccomp.args);
-	else if (is_ours && (number == SYS_waitid || number == SYS_wait4))
-		stops_run(t->id, 0); /* every death before this stop has been handled: so the caller sees it */
-	else /* a filter of the program wants it */
+	if (!is_ours || !filter_stops(number, call.seccomp.args)) /* a filter of the program wants it */
 		refuse(t, ENOSYS);
+	else if (births_is_fork(number))
+		births_ask(t, number);
+	else if (number == SYS_unshare)
+		on_unshare(t);
+	else if (number == SYS_prctl || number == SYS_seccomp)
+		on_seccomp(t, number, call.seccomp.args);
+	else /* waitid or wait4: every death before this stop has been handled, so the caller sees it */
+		stops_run(t->id, 0);
 }
 
 static void on_birth(struct thread *t, bool waits)
@@ -303,7 +303,7 @@ bool tracer_look(void)
 		count += taken > 0;
 	for (size_t i = 0; i < count; i++)
 		on_stop(stops[i].id, stops[i].status);
-	return count > 0 || taken != 0;
+	return taken != 0;
 }
 
 bool tracer_obey(void)

@@ -8,8 +8,8 @@
 /* Attaches to the program before it runs; false with errno. If the tracer dies, the kernel kills everything that is left.
     */
 bool tracer_hold(pid_t program);
-/* Handles what has happened: it takes every pending stop and death, and then answers each stop once. False if nothing had
-   happened. */
+/* Handles what has happened: it takes every pending stop and death, and then answers each stop once. True if there were too many to
+   take at once. What happens afterwards comes with another SIGCHLD. */
 bool tracer_look(void);
 /* Stops and continues what the freezer says; true if it says more than was done. */
 bool tracer_obey(void);

@@ -1,8 +1,10 @@
 #include "zombies.h"
+#include "cleanup.h"
 #include "engine.h"
 #include "place.h"
 #include "room.h"
 #include <errno.h>
+#include <poll.h>
 #include <signal.h>
 #include <stdio.h>
 #include <sys/epoll.h>
@@ -90,10 +92,23 @@ static bool may_open(void)
 	return getrlimit(RLIMIT_NOFILE, &most) == 0 && count + SPARED < most.rlim_cur;
 }
 
+static bool has_ended(int process)
+{
+	struct pollfd end = { .fd = process, .events = POLLIN };
+	return poll(&end, 1, 0) == 1;
+}
+
 void zombies_add(pid_t pid)
 {
-	int fd = may_open() ? (int)syscall(SYS_pidfd_open, pid, 0) : -1;
+	bool may = may_open();
+	int fd = may ? (int)syscall(SYS_pidfd_open, pid, 0) : -1;
 	struct epoll_event none = { .events = 0, .data.u32 = (unsigned)pid };
+	if (may && (fd < 0 ? errno == ESRCH : !has_ended(fd))) {
+		/* it was waited for already, and another may have its number */
+		close_at(&fd);
+		add(pid, -1, true);
+		return;
+	}
 	if (hangups < 0 && count == 0) /* else some are unnamed already */
 		hangups = epoll_create1(EPOLL_CLOEXEC);
 	if (fd >= 0 && hangups >= 0 && epoll_ctl(hangups, EPOLL_CTL_ADD, fd, &none)) {

@@ -377,9 +377,10 @@ def stuck():
 
 def killed():
     """makhloeum is killed while its other processes are stopped."""
-    p = subprocess.Popen([PROGRAM, "run", "sleep", "600.%d" % os.getpid()])
-    step("it runs", until(lambda: len(own(p.pid)) == 3))
+    p = subprocess.Popen([PROGRAM, "run", "sh", "-c", "echo x; exec sleep 600"], stdout=subprocess.PIPE)
+    same("it runs", p.stdout.read(1), b"x")  # before that the program is one of its processes too
     others = own(p.pid)
+    same("its other processes", len(others), 3)
     line = line_of(p.pid)
     for pid in others:
         os.kill(pid, signal.SIGSTOP)

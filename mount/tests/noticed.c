@@ -19,9 +19,11 @@
 #include <sys/prctl.h>
 #include <sys/resource.h>
 #include <sys/sem.h>
+#include <sys/sendfile.h>
 #include <sys/socket.h>
 #include <sys/syscall.h>
 #include <sys/time.h>
+#include <sys/un.h>
 #include <sys/wait.h>
 #include <time.h>
 #include <unistd.h>
@@ -133,6 +135,51 @@ static long in_inotify(void)
 	return read(fd, event, sizeof event);
 }
 
+/* A socket that takes no more connections. */
+static long in_connect(void)
+{
+	struct sockaddr own = { .sa_family = AF_UNIX };
+	struct sockaddr_un there;
+	socklen_t size = sizeof there;
+	int taken = socket(AF_UNIX, SOCK_STREAM, 0), fd;
+	bind(taken, &own, sizeof own.sa_family);
+	listen(taken, 0);
+	getsockname(taken, (struct sockaddr *)&there, &size);
+	do
+		fd = socket(AF_UNIX, SOCK_STREAM | SOCK_NONBLOCK, 0);
+	while (connect(fd, (struct sockaddr *)&there, size) == 0);
+	fd = socket(AF_UNIX, SOCK_STREAM, 0);
+	set_timeout(fd, SO_SNDTIMEO);
+	atomic_store(ready, 1);
+	return connect(fd, (struct sockaddr *)&there, size);
+}
+
+static void fill_socket(void)
+{
+	static char bytes[1 << 20];
+	set_timeout(ends[0], SO_SNDTIMEO);
+	while (send(ends[0], bytes, sizeof bytes, MSG_DONTWAIT) > 0)
+		;
+}
+
+static long in_sendfile(void)
+{
+	int fd = open("/proc/self/exe", O_RDONLY);
+	fill_socket();
+	atomic_store(ready, 1);
+	return sendfile(ends[0], fd, NULL, 1);
+}
+
+static long in_splice(void)
+{
+	int from[2];
+	if (pipe(from) || write(from[1], "x", 1) != 1)
+		return -1;
+	fill_socket();
+	atomic_store(ready, 1);
+	return splice(from[0], NULL, ends[0], NULL, 1, 0);
+}
+
 static long in_poll(void)
 {
 	atomic_store(ready, 1);
@@ -162,6 +209,9 @@ static const struct {
 	{ "inotify", in_inotify, EINTR },
 	{ "poll", in_poll, 0 },
 	{ "nanosleep", in_nanosleep, 0 },
+	{ "connect", in_connect, EAGAIN },
+	{ "sendfile", in_sendfile, EAGAIN },
+	{ "splice", in_splice, EAGAIN },
 };
 
 static void on_alarm(int unused)

@@ -1,0 +1,71 @@
+"""What `makhloeum run PROGRAM` and `makhloeum NAME` say about a program that cannot be started: as a shell, whatever folders PATH has."""
+import os
+import shutil
+import subprocess
+import tempfile
+
+from support import PATIENCE, PROGRAM, finish, in_parallel, same, step
+
+
+def said(path, *words):
+    ran = subprocess.run(
+        [PROGRAM, *words],
+        env=dict(os.environ, PATH=path) if path is not None else {k: v for k, v in os.environ.items() if k != "PATH"},
+        stdout=subprocess.PIPE,
+        stderr=subprocess.PIPE,
+        timeout=PATIENCE,
+    )
+    return ran.returncode, ran.stderr.decode()
+
+
+def missing(name):
+    return 127, "makhloeum: %s: No such file or directory\n" % name
+
+
+def denied(name):
+    return 126, "makhloeum: %s: Permission denied\n" % name
+
+
+home = tempfile.mkdtemp()
+os.chdir(home)
+closed, plain, folders = (os.path.join(home, name) for name in ("closed", "plain", "folders"))
+# one of another user: in the program's namespace its user has every permission over its own files
+others = next(
+    (f for f in ("/root", "/etc/ssl/private", "/lost+found") if os.path.isdir(f) and not os.access(f, os.X_OK)), closed
+)
+for folder in (closed, plain, folders):
+    os.mkdir(folder)
+for name in (os.path.join(plain, "found"), os.path.join(closed, "found"), "found-here"):
+    with open(name, "w") as f:
+        f.write("exit 0\n")
+    os.chmod(name, 0o644)
+os.mkdir(os.path.join(folders, "found"))
+os.chmod(closed, 0)
+usual = "/usr/bin:/bin"
+if os.getuid() == 0:
+    step("the superuser may search every folder", True)
+else:
+    absent = "makhloeum: 'nosuch' is not a command, and there is no makhloeum-nosuch on PATH; makhloeum --help lists the commands\n"
+    for path in (closed + ":" + usual, others + ":" + usual, usual + ":" + others, others, usual + "::" + others):
+        told = path.replace(home, "HOME")
+        same("run, nothing found: %s" % told, said(path, "run", "nosuch"), missing("nosuch"))
+        same("a command: %s" % told, said(path, "nosuch"), (2, absent))
+    same("by its path", said(usual, "run", closed + "/found"), denied(closed + "/found"))
+    same("behind it", said(others + ":" + usual, "run", "true"), (0, ""))
+    same("and not executable", said(others + ":" + plain, "run", "found"), denied("found"))
+    same("before it", said(plain + ":" + others, "run", "found"), denied("found"))
+    same("in the working directory", said(others + ":", "run", "found-here"), denied("found-here"))
+same("not executable", said(plain + ":" + usual, "run", "found"), denied("found"))
+told = []
+in_parallel(lambda _: told.append(said(plain + ":" + usual, "run", "found")), range(100), lanes=16)
+same("a hundred at the same time", [t for t in told if t != denied("found")], [])
+same("a folder of that name", said(folders, "run", "found"), missing("found"))
+same("found elsewhere too", said(plain + ":" + usual, "run", "true"), (0, ""))
+same("an empty PATH", said("", "run", "found-here"), denied("found-here"))
+same("without PATH", said(None, "run", "nosuch"), missing("nosuch"))
+same("without PATH, found", said(None, "run", "true"), (0, ""))
+same("without a name", said(usual, "run", ""), missing(""))
+os.chmod(closed, 0o700)
+os.chdir("/")
+shutil.rmtree(home)
+finish()
