@@ -1,0 +1,75 @@
+"""A child of a fork reads, opens and polls files under mounted_at, whatever the other threads did at the fork."""
+
+import os
+import select
+import signal
+import threading
+import warnings
+
+from makhloeum import mounted_at
+
+AT = "/sys/fs/cgroup"
+PATIENCE = 20  # seconds
+
+
+def in_a_child(body):
+    """The status of a child that runs the body; a hang ends it by SIGALRM."""
+    with warnings.catch_warnings():
+        warnings.simplefilter("ignore", DeprecationWarning)
+        child = os.fork()
+    if child == 0:
+        try:
+            signal.signal(signal.SIGALRM, signal.SIG_DFL)
+            signal.alarm(PATIENCE)
+            os._exit(0 if body() else 1)
+        finally:
+            os._exit(2)
+    return os.waitpid(child, 0)[1]
+
+
+def test_a_child_reads_what_is_polled(hierarchy):
+    hierarchy.mkdir("/a")
+    stopped = threading.Event()
+
+    def change():
+        while not stopped.is_set():
+            hierarchy.write("/a", "cgroup.procs", 1)
+            hierarchy.write("/", "cgroup.procs", 1)
+
+    with mounted_at(AT, hierarchy):
+        fd = os.open(f"{AT}/a/cgroup.events", os.O_RDONLY)
+
+        def read():
+            with open(f"{AT}/a/cgroup.events") as file:
+                seen = {os.pread(fd, 99, 0).decode(), file.read()}
+            os.mkdir(f"{AT}/of-the-child")
+            return seen <= {"populated 0\nfrozen 0\n", "populated 1\nfrozen 0\n"} and os.path.isdir(
+                f"{AT}/of-the-child"
+            )
+
+        thread = threading.Thread(target=change)
+        thread.start()
+        try:
+            statuses = {in_a_child(read) for _ in range(300)}
+        finally:
+            stopped.set()
+            thread.join()
+        assert statuses == {0} and not hierarchy.has_group("/of-the-child")
+        os.close(fd)
+
+
+def test_a_child_waits_for_its_own_changes(hierarchy):
+    hierarchy.mkdir("/a")
+    with mounted_at(AT, hierarchy):
+        with open(f"{AT}/a/cgroup.events") as file:
+            file.read()
+
+            def poll():
+                with open(f"{AT}/a/cgroup.events") as own:
+                    own.read()
+                    threading.Timer(0.05, hierarchy.write, ["/a", "cgroup.procs", 1]).start()
+                    waiting = select.poll()
+                    waiting.register(own, select.POLLPRI)
+                    return bool(waiting.poll(1000 * PATIENCE))
+
+            assert in_a_child(poll) == 0
