@@ -49,8 +49,13 @@ def test_a_child_reads_what_is_polled(hierarchy):
 
         thread = threading.Thread(target=change)
         thread.start()
+        statuses = set()
         try:
-            statuses = {in_a_child(read) for _ in range(300)}
+            for _ in range(300):
+                os.pread(fd, 99, 0)  # so that the thread that watches looks at it again
+                statuses.add(in_a_child(read))
+                if statuses != {0}:
+                    break
         finally:
             stopped.set()
             thread.join()
@@ -73,3 +78,33 @@ def test_a_child_waits_for_its_own_changes(hierarchy):
                     return bool(waiting.poll(1000 * PATIENCE))
 
             assert in_a_child(poll) == 0
+
+
+def test_a_child_has_its_own_notifications(hierarchy):
+    """Of a file that was open at the fork: neither wakes the other, and neither takes the other's."""
+    hierarchy.mkdir("/a")
+    with mounted_at(AT, hierarchy):
+        with open(f"{AT}/a/cgroup.events") as file:
+            waiting = select.poll()
+            waiting.register(file, select.POLLPRI)
+            assert waiting.poll(1000 * PATIENCE) and file.read() == "populated 0\nfrozen 0\n" and not waiting.poll(0)
+
+            def change():
+                own = select.poll()
+                own.register(file, select.POLLPRI)
+                if own.poll(0):
+                    return False
+                hierarchy.write("/a", "cgroup.procs", 1)
+                return bool(own.poll(1000 * PATIENCE))
+
+            assert in_a_child(change) == 0 and not waiting.poll(200)
+            hierarchy.write("/a", "cgroup.procs", 1)
+            assert waiting.poll(1000 * PATIENCE)
+
+            def read():
+                file.seek(0)
+                return file.read() == "populated 1\nfrozen 0\n"
+
+            assert in_a_child(read) == 0 and waiting.poll(0)
+            file.seek(0)
+            assert file.read() == "populated 1\nfrozen 0\n" and not waiting.poll(0)

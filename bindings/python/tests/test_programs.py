@@ -156,7 +156,7 @@ def test_what_a_line_of_the_shell_changes(shell):
 def test_the_help_names_each_command(shell):
     shell.onecmd("help")
     told = shell.stdout.getvalue()
-    names = told.split("=\n")[1].split()
+    names = sorted(told.split("=\n")[1].split())
     assert names == sorted(
         [
             "cat",
