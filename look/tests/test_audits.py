@@ -109,6 +109,55 @@ def test_a_run_is_audited_now_and_then(monkeypatch):
             history.line(b"where 1")
 
 
+# ---- long lists
+
+
+class Asked(Hierarchy):
+    """Counts the lists that the engine makes for the page."""
+
+    lists = 0
+
+    def _answer_of(self, line, size):
+        self.lists += 1
+        return super()._answer_of(line, size)
+
+
+MANY = ["mkdir /a", "write /a cgroup.procs 1", *(f"fork 1 {pid}" for pid in range(2, 801))]
+READ = "cat /a cgroup.procs"
+
+
+@pytest.mark.parametrize(
+    "between, lists",
+    [
+        ([], 1),
+        (["mkdir /b", "rmdir /b"], 1),
+        (["fork 1 5000", "exit 5000"], 3),
+        (["fork 1 {}"], 1),
+        (["exit {}"], 2),
+        (["write /a cgroup.kill 1", "undo"], 101),
+    ],
+)
+def test_a_long_list_is_asked_for_once_a_part_of_it_changed(between, lists):
+    """Of 800 processes an eighth; 100 times what comes between two lists."""
+    told = []
+    for round_ in range(100):
+        told += [*(line.format((1000 if line[0] == "f" else 100) + round_) for line in between), READ]
+    with Asked() as h:
+        history = History(h)
+        history.read("\n".join([*MANY, READ, *told]).encode())
+        assert h.lists == lists
+    assert {history.answers[one].split("\n")[0] for one in history.answer} == {"ok"}
+
+
+def test_a_list_that_was_not_asked_for_is_audited():
+    with Hierarchy() as h:
+        history = History(h)
+        history.read("\n".join([*MANY, READ]).encode())
+        h.exit(300)
+        with pytest.raises(RuntimeError, match=": /a$"):
+            history.read(f"where 1\nmkdir /b\n{READ}\n".encode())
+
+
 # ---- times, notes and lines
 
 

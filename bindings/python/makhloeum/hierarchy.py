@@ -147,7 +147,6 @@ class Hierarchy(Changes, Faults, Many):
         given: tuple[Any, ...],
         command: str | bytes,
         path: Path | None = None,
-        refused: bytes | None = None,
         is_long: bool = False,
         size: int = _FIRST_SIZE,
     ) -> bytes:
@@ -167,6 +166,8 @@ class Hierarchy(Changes, Faults, Many):
                 break
             size = 1 << max(info.needed - 1, size).bit_length()
         told = buffer[: info.len].decode().rstrip("\n").split(" ", 2)
+        # of a line the path that is refused is that in it
+        refused = _path_word(command) if isinstance(command, bytes) else None
         _raise(status, info.code, told[2] if len(told) > 2 else "", path, _text(command), info.error, refused)
 
     def _asked(self, words: tuple[bytes, ...], command: str, path: Path | None = None) -> str:
@@ -174,7 +175,7 @@ class Hierarchy(Changes, Faults, Many):
         count = len(words)
         is_long = count > 2 and words[2] in _LONG and (words[0] == b"cat" or words[2] == b"cgroup.kill")
         given = (1, b"".join(words), _LENS[count](*map(len, words)), count)
-        return _shown(self._told("mk_words", given, command, path, None, is_long))
+        return _shown(self._told("mk_words", given, command, path, is_long))
 
     def line(self, line: str | bytes, path: Path | None = None) -> str:
         """Answers one `line` of the trace language, as 'cat /a pids.current', and returns the text that it shows: the file's
@@ -188,11 +189,11 @@ class Hierarchy(Changes, Faults, Many):
         if b"\n" in text:
             raise BadSyntax("syntax", None if path is None else _text(path), _text(text))
         is_long = _long_line(text) is not None
-        return _shown(self._told("mk_line", (1, text, len(text)), text, path, _path_word(text), is_long))
+        return _shown(self._told("mk_line", (1, text, len(text)), text, path, is_long))
 
     def _answer_of(self, line: bytes, size: int) -> bytes:
         """The whole answer to a line that lists many processes; `size` is a guess at its length."""
-        return self._told("mk_line", (1, line, len(line)), line, None, None, True, size)
+        return self._told("mk_line", (1, line, len(line)), line, None, True, size)
 
     def mkdir(self, path: Path) -> None:
         """Makes the group `path`. Raises Exists, NoGroup if there is no parent, Descendants or Depth if a limit is reached, and NoSlot
