@@ -142,14 +142,20 @@ static int say_one(const char *text, char *said)
 	return n == 1 ? say(said, n) : ERANGE;
 }
 
-/* the word that the engine gets, or an errno */
-static int said_of(enum value value, char *text, char *said)
+/* without the blanks at its ends */
+static char *stripped(char *text)
 {
 	char *end = text + strlen(text);
 	while (end > text && is_blank((unsigned char)end[-1]))
 		*--end = 0;
 	while (is_blank((unsigned char)*text))
 		text++;
+	return text;
+}
+
+/* the word that the engine gets, or an errno */
+static int said_of(enum value value, const char *text, char *said)
+{
 	switch (value) {
 	case A_PID:
 		return say_pid(text, said);
@@ -166,11 +172,9 @@ static int said_of(enum value value, char *text, char *said)
 
 /* ---- a write */
 
-static int constant_error(const struct file *file, const char *data, size_t size)
+static int constant_error(const struct file *file, const char *text)
 {
-	while (size > 0 && data[size - 1] != 0 && strchr(" \t\n\r", data[size - 1]) != NULL)
-		size--;
-	return size == 0 || (size == strlen(file->unchanged) && memcmp(data, file->unchanged, size) == 0) ? 0 : EOPNOTSUPP;
+	return *text == 0 || strcmp(text, file->unchanged) == 0 ? 0 : EOPNOTSUPP;
 }
 
 /* What a process writes: bytes, and its pid. */
@@ -183,16 +187,17 @@ struct write {
 /* 0 with the word, or with an empty one if there is nothing to do; else an errno */
 static int value_of(const struct file *file, const struct write *write, char *said)
 {
-	char text[PAGE + 1];
+	char data[PAGE + 1];
 	said[0] = 0;
 	if (file->value == NOTHING)
 		return EINVAL;
-	if (file->value == NO_CHANGE)
-		return constant_error(file, write->data, write->size);
 	if (write->size > PAGE)
 		return E2BIG;
-	memcpy(text, write->data, write->size);
-	text[write->size] = 0;
+	memcpy(data, write->data, write->size);
+	data[write->size] = 0;
+	const char *text = stripped(data);
+	if (file->value == NO_CHANGE)
+		return constant_error(file, text);
 	int error = said_of(file->value, text, said);
 	if (error == 0 && file->value == A_PID && strcmp(said, "0") == 0)
 		say(said, write->self);

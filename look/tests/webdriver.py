@@ -18,6 +18,7 @@ ELEMENT = "element-6066-11e4-a52e-4f735466cecf"
 KEYS = {
     "left": "\ue012", "up": "\ue013", "right": "\ue014", "down": "\ue015", "home": "\ue011", "end": "\ue010", "page down": "\ue00f",
     "page up": "\ue00e", "enter": "\ue007", "tab": "\ue004", "escape": "\ue00c", "shift": "\ue008",
+    "control": "\ue009", "alt": "\ue00a",
 }  # fmt: skip
 
 

@@ -105,6 +105,7 @@ class Calls:
         self.descriptors = Descriptors()
         self.was: dict[str, Callable[..., Any]] = {}
         self._replacement = Replacement(self._places(), self.was)
+        os.register_at_fork(after_in_child=self._begin_again)
 
     # ---- what is mounted
 
@@ -134,6 +135,15 @@ class Calls:
             if not self._mounts:
                 _audit.watch(None)
                 self._replacement.take_away()
+
+    def _begin_again(self) -> None:
+        """In the child of a fork, where only the thread that forked goes on."""
+        self._lock = threading.RLock()
+        for _, tree in self._mounts:
+            tree.watch.begin_again()
+        self.descriptors.begin_again()
+        for _, tree in self._mounts:
+            tree.watch.go_on()
 
     def _below(self, name: str) -> tuple[Tree, str] | None:
         """The tree at that absolute path, the newest first, and the path in it, as "/a"."""
@@ -201,7 +211,9 @@ class Calls:
         buffered = kind(raw)
         if binary:
             return buffered
-        return io.TextIOWrapper(buffered, encoding or "utf-8", errors, newline, line_buffering=buffering == 1)
+        text = io.TextIOWrapper(buffered, encoding or "utf-8", errors, newline, line_buffering=buffering == 1)
+        setattr(text, "mode", mode)
+        return text
 
     def _file(self, file: Any, node: Node, mode: str, closefd: bool) -> Shared:
         if isinstance(file, int):

@@ -69,6 +69,14 @@ class Descriptors:
         ]:
             self._opened.pop(fd, None)  # another thread may close it meanwhile
 
+    def begin_again(self) -> None:
+        """In the child of a fork: the numbers that can be waited on get sockets of the child."""
+        for fd, opened in list(self._opened.items()):
+            number = _number_to_poll(opened)
+            if number is not None:
+                _real_dup2(number, fd, os.get_inheritable(fd))
+                _real_close(number)
+
     def raw(self, fd: int) -> RawFile:
         opened = self._opened[fd]
         if isinstance(opened, Node):

@@ -13,8 +13,13 @@ if TYPE_CHECKING:
     from typing import Callable
 
 
+_PROGRAMS = ("makhloeum-view", "makhloeum-tree", "makhloeum-check")  # of a wheel
+
+
 def _is_started_by_name() -> bool:
-    """Whether Python loads this package for `python3 -m makhloeum` or a module below it."""
+    """Whether Python loads this package for `python3 -m makhloeum`, a module below it, or a program of a wheel."""
+    if os.path.basename("".join(sys.argv[:1])) in _PROGRAMS:
+        return True
     words = getattr(sys, "orig_argv", [])
     return sys.argv[:1] == ["-m"] and "-m" in words[:-1] and words[words.index("-m") + 1].split(".")[0] == "makhloeum"
 

@@ -90,12 +90,21 @@ class Poller:
                 self._tell()
             self._ready = self._ended = True
 
+    def begin_again(self) -> None:
+        """In the child of a fork: another thread may have had the lock, and the sockets are those of the parent too."""
+        self._lock = threading.RLock()
+        self._drop()
+
     def close(self) -> None:
         with self._lock:
-            if self._ends is not None:
-                for end in self._ends:
-                    end.close()
-            self._ends, self._ready = None, True
+            self._drop()
+            self._ready = True
+
+    def _drop(self) -> None:
+        if self._ends is not None:
+            for end in self._ends:
+                end.close()
+        self._ends = None
 
 
 class Watch:
@@ -111,9 +120,22 @@ class Watch:
     def add(self, poller: Poller) -> None:
         with self._lock:
             self._pollers.add(weakref.ref(poller, self._pollers.discard))
-            if self._thread is None and not self._ended:
-                self._thread = threading.Thread(target=self._follow, name="makhloeum-poll", daemon=True)
-                self._thread.start()
+            self._start()
+
+    def _start(self) -> None:
+        if self._thread is None and not self._ended:
+            self._thread = threading.Thread(target=self._follow, name="makhloeum-poll", daemon=True)
+            self._thread.start()
+
+    def begin_again(self) -> None:
+        """In the child of a fork, which has no thread that looks; `go_on` starts one."""
+        self._lock, self._thread = threading.RLock(), None
+        for poller in self._added():
+            poller.begin_again()
+
+    def go_on(self) -> None:
+        if self._added():
+            self._start()
 
     def _added(self) -> list[Poller]:
         return [poller for it in list(self._pollers) if (poller := it()) is not None]

@@ -66,7 +66,10 @@ def _value(value: Value) -> bytes:
 
 def _shown(answer: bytes) -> str:
     """The text after an answer's first line."""
-    text = answer.partition(b"\n")[2].decode()
+    lines = answer.partition(b"\n")[2]
+    if not lines:
+        return ""
+    text = lines.decode()
     # each line begins with a bar and a blank
     return text[2:].replace("\n| ", "\n")
 

@@ -174,6 +174,7 @@ class Hierarchy(Changes, Faults, Many):
                 break
             size = 1 << max(info.needed - 1, size).bit_length()
         told = buffer[: info.len].decode().rstrip("\n").split(" ", 2)
+        # of a line the path that is refused is that in it
         refused = _path_word(command) if isinstance(command, bytes) else None
         _raise(status, _text(command), path, info, told[2] if len(told) > 2 else "", refused)
 

@@ -10,7 +10,7 @@ from __future__ import annotations
 
 import ctypes
 import re
-from typing import Dict, List, Optional, Tuple
+from typing import Callable, Dict, List, Optional, Tuple
 
 from .._library import DONE, Info
 from .._table import LINE_MAX
@@ -51,6 +51,10 @@ class History:
         self._step: List[int] = []
         self._value, self._info = ctypes.c_uint64(), Info()
         self._told = ctypes.byref(self._value), ctypes.byref(self._info)
+        self._notes_of: Dict[str, Callable[..., None]] = {
+            **{"mkdir": self._mkdir, "rmdir": self._rmdir, "fork": self._fork, "exit": self._exit},
+            **{"move": self._move, "kill": self._kill, "limit": self._limit},
+        }
 
     # ---- lines
 
@@ -96,20 +100,22 @@ class History:
 
     def _answered(self, line: bytes) -> str:
         """The answer. The engine answers a read once in each state, since a list of many processes takes long."""
-        if line in self._reads:
+        if self._reads and line in self._reads:
             return self._reads[line]
         answer = self._answered_anew(line)
         if not line.startswith((b"cat", b"where")):
-            self._reads.clear()
+            if self._reads:
+                self._reads.clear()
         elif answer.startswith("ok"):
             self._reads[line] = answer
         return answer
 
     def _answered_anew(self, line: bytes) -> str:
         try:
-            group = self._with_a_long_list(line)
-            if group is not None:
-                return self._listed(line, group)
+            if line.endswith(b"cgroup.procs"):
+                group = self._with_a_long_list(line)
+                if group is not None:
+                    return self._listed(line, group)
             text = self.h.line(line)
         except Refused as refused:
             self.refused += 1
@@ -121,14 +127,13 @@ class History:
             self._undone()
         elif verb == "write":
             verb = {"cgroup.procs": "move", "cgroup.kill": "kill"}.get(words[1], "limit")
-        if verb in ("mkdir", "rmdir", "fork", "exit", "move", "kill", "limit"):
-            getattr(self, "_" + verb)(*words)
-        return _ok(text)
+        note = self._notes_of.get(verb)
+        if note is not None:
+            note(*words)
+        return _ok(text) if text else "ok"
 
     def _with_a_long_list(self, line: bytes) -> Optional[Group]:
-        """The group whose many processes the line lists."""
-        if not line.endswith(b"cgroup.procs"):
-            return None
+        """The group whose many processes the line lists, if it does; its last letters are `cgroup.procs`."""
         words = list(filter(None, line.translate(_TO_SPACES).split(b" ")))
         if len(words) != 3 or words[0] != b"cat":
             return None
@@ -136,12 +141,16 @@ class History:
         return group if group is not None and len(group.pids) > LONG_LIST else None
 
     def _listed(self, line: bytes, group: Group) -> str:
-        """The answer to that line. It is compared as bytes, since a list may have tens of thousands of processes."""
-        listed = group.listed()
-        answer = self.h._answer_of(line, len(_OK) + len(listed))
-        if answer == _OK + listed:
-            return FROM_STATE + str(len(group.pids))
-        return _ok(_shown(answer))
+        """The answer to that line. A list may have tens of thousands of processes, so it is compared as bytes, and only after a part
+        of it has changed: each of these changes was the engine's, and the audits ask for all processes."""
+        listing = group.listed()
+        if listing.is_due():
+            text = listing.text()
+            answer = self.h._answer_of(line, len(_OK) + len(text))
+            if answer != _OK + text:
+                return _ok(_shown(answer))
+            listing.is_engines()
+        return FROM_STATE + str(len(group.pids))
 
     # ---- what a command changed
 
@@ -171,9 +180,9 @@ class History:
         the peak of the group and the count of the outermost one; `audit` asks for all."""
         if group.id == 0:
             return
-        outermost = group.outermost
-        is_peak = self._asked("mk_peak", group) == group.numbers[PEAK]
-        if not is_peak or self._asked("mk_current", outermost) != outermost.numbers[CURRENT]:
+        outermost, asked = group.outermost, self._asked
+        is_peak = asked("mk_peak", group) == group.numbers[PEAK]
+        if not is_peak or asked("mk_current", outermost) != outermost.numbers[CURRENT]:
             self._settle(group, CURRENT, PEAK)
 
     def _asked(self, name: str, group: Group) -> int:
@@ -215,8 +224,10 @@ class History:
         self._journal.append(("rmdir", path))
 
     def _fork(self, parent: str, child: str) -> None:
-        home = self.copy.home[int(parent)]
-        self._emit(BORN, int(child), home.id)
+        # without `_emit`, since most commands are forks
+        home, pid = self.copy.home[int(parent)], int(child)
+        self._step += (BORN, pid, home.id)
+        self.copy.born(pid, home.id)
         self._follow(home)
         self._journal.append(("fork", child))
 

@@ -2,17 +2,20 @@
 
 from __future__ import annotations
 
-from typing import Iterable, List, Tuple
+from typing import Collection, List, Optional, Tuple
 
 # Of this many processes that came or went each is put in or taken out; of more, the lines are made anew.
 FEW = 64
+# The engine is asked for the list again once so many parts of it came or went.
+PARTS = 8
 
 
 class Listing:
     """`pids` is that of the group, which may change."""
 
-    def __init__(self, pids: Iterable[int]) -> None:
+    def __init__(self, pids: Collection[int]) -> None:
         self._pids = pids
+        self._since: Optional[int] = None  # how many came or went since the list was the engine's; None: it never was
         self._text = bytearray()
         self._is_whole = False
         self._late: List[Tuple[int, bool]] = []  # what came (True) or went since the text was right
@@ -23,7 +26,17 @@ class Listing:
     def remove(self, pid: int) -> None:
         self._note(pid, False)
 
+    def is_due(self) -> bool:
+        """Whether it is to be compared with the engine's: one that takes long, for a list that few processes changed."""
+        return self._since is None or self._since * PARTS >= len(self._pids)
+
+    def is_engines(self) -> None:
+        """The engine has the same list."""
+        self._since = 0
+
     def _note(self, pid: int, comes: bool) -> None:
+        if self._since is not None:
+            self._since += 1
         if not self._is_whole:
             return
         self._late.append((pid, comes))

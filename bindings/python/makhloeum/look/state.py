@@ -43,11 +43,11 @@ class Group:
         self.below: Dict[int, Group] = {}
         self.listing: Optional[Listing] = None
 
-    def listed(self) -> bytearray:
+    def listed(self) -> Listing:
         """The lines of an answer that lists the processes."""
         if self.listing is None:
             self.listing = Listing(self.pids)
-        return self.listing.text()
+        return self.listing
 
     def up(self) -> Iterator[Group]:
         """The group and those above it; the root last."""

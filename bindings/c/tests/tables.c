@@ -1,0 +1,245 @@
+/* Tables: what each call returns beside its status, the name and errno of each code, the numbers and constants that mk_put takes. Exits
+   with the number of the first check that fails, or 0, and prints how many held. */
+#include "check.h"
+
+static char text[4096];
+static uint8_t out[4096];
+
+/* ---- the fields of mk_info: 0, unless the header says otherwise */
+
+/* Each field as it was before a call, so that one that the call doesn't set is seen. */
+static mk_info *unset(void)
+{
+	memset(&info, 0xa5, sizeof info);
+	return &info;
+}
+
+static bool fields(uint32_t status, size_t len, size_t count)
+{
+	return status == MK_DONE && info.len == len && info.count == count && info.needed == 0 && info.code == 0 &&
+		info.error == 0;
+}
+
+static bool too_small(uint32_t status, size_t needed)
+{
+	return status == MK_TOO_SMALL && info.len == 0 && info.count == 0 && info.needed == needed && info.code == 0 &&
+		info.error == ERANGE;
+}
+
+static const uint8_t *bytes(const char *path)
+{
+	return (const uint8_t *)path;
+}
+
+static int commands(void)
+{
+	const size_t lens[] = { 5, 2 };
+	CHECK(fields(mk_mkdir(&h, "/a", unset()), 0, 0) && fields(mk_mkdir(&h, "/a/b", unset()), 0, 0));
+	CHECK(fields(mk_fork(&h, 1, 2, unset()), 0, 0) && fields(mk_attach(&h, "/a", 2, unset()), 0, 0));
+	CHECK(fields(mk_write(&h, "/a", "pids.max", "9", unset()), 0, 0) &&
+		fields(mk_put(&h, "/a", "pids.max", "8", 1, 1, unset()), 0, 0));
+	CHECK(fields(mk_put(&h, "/a", "cgroup.freeze", "0", 1, 1, unset()), 0, 0));
+	CHECK(fields(mk_fork(&h, 1, 3, unset()), 0, 0) && fields(mk_exit(&h, 3, unset()), 0, 0));
+	CHECK(fields(mk_kill(&h, "/a", unset()), 0, 0) && fields(mk_rmdir(&h, "/a/b", unset()), 0, 0));
+	CHECK(fields(mk_line(&h, 12, bytes("mkdir /c"), 8, out, sizeof out, unset()), strlen("12 ok\n"), 0));
+	CHECK(fields(mk_words(&h, 12, "rmdir/c", lens, 2, out, sizeof out, unset()), strlen("12 ok\n"), 0));
+	CHECK(fields(mk_undo(&h, 3, out, sizeof out, unset()), strlen("3 ok\n| rmdir /c\n"), 0));
+	CHECK(fields(mk_undo_to(&h, 4, unset()), 0, 7) && fields(mk_undo_to(&h, 4, unset()), 0, 0));
+	return 0;
+}
+
+/* Now there are /, /a with process 2, and /a/b. */
+static int reads(void)
+{
+	uint32_t pids[8];
+	uint64_t value;
+	bool populated;
+	mk_text texts[2];
+	CHECK(fields(mk_read(&h, "/a", "cgroup.procs", text, sizeof text, unset()), 2, 0) &&
+		fields(mk_where(&h, 2, text, sizeof text, unset()), strlen("0::/a\n"), 0));
+	CHECK(fields(mk_wait_file(&h, "/a", "cgroup.procs", "", 0, text, sizeof text, unset()), 2, 0));
+	CHECK(fields(mk_processes(&h, "/a", pids, 8, unset()), 0, 1) &&
+		fields(mk_processes(&h, "/a/b", pids, 8, unset()), 0, 0));
+	CHECK(fields(mk_current(&h, "/a", &value, unset()), 0, 0) && fields(mk_peak(&h, "/a", &value, unset()), 0, 0) &&
+		fields(mk_limit(&h, "/a", &value, unset()), 0, 0) && fields(mk_populated(&h, "/a", &populated, unset()), 0, 0));
+	CHECK(fields(mk_children(&h, bytes("/a"), 2, out, sizeof out, unset()), 2, 1) &&
+		fields(mk_subtree(&h, bytes("/a"), 2, out, sizeof out, unset()), sizeof "/a" + sizeof "/a/b", 2));
+	CHECK(fields(mk_groups(&h, out, sizeof out, unset()), sizeof "/" + sizeof "/a" + sizeof "/a/b", 3) &&
+		fields(mk_has_group(&h, bytes("/a"), 2, unset()), 0, 0));
+	CHECK(fields(mk_history(&h, 3, out, sizeof out, unset()), strlen("write /a cgroup.procs 2\n"), 1));
+	CHECK(fields(mk_read_many(&h, "/a\0pids.max\0/c\0pids.max", 2, texts, text, sizeof text, unset()),
+		sizeof "max\n" + 1, 2));
+	CHECK(texts[0].code == 0 && texts[0].error == 0 && texts[0].at == 0 && texts[1].len == 0 &&
+		texts[1].at == sizeof "max\n");
+	CHECK(fields(mk_fail(&h, "/c", 7, EIO, unset()), 0, 0) && fields(mk_vanish(&h, "/c", 7, unset()), 0, 0));
+	return 0;
+}
+
+static int small(void)
+{
+	uint32_t pids[1];
+	mk_text texts[1];
+	CHECK(too_small(mk_line(&h, 1, bytes("mkdir /c"), 8, out, 4, unset()), strlen("1 ok\n")) &&
+		too_small(mk_words(&h, 1, "mkdir/c", (const size_t[]){ 5, 2 }, 2, out, 4, unset()), strlen("1 ok\n")));
+	CHECK(too_small(mk_undo(&h, 1, out, 0, unset()), strlen("1 ok\n| write /a cgroup.procs 2\n")) &&
+		too_small(mk_history(&h, 3, out, 0, unset()), strlen("write /a cgroup.procs 2\n")));
+	CHECK(too_small(mk_read(&h, "/a", "pids.max", text, 4, unset()), sizeof "max\n") &&
+		too_small(mk_where(&h, 2, text, 6, unset()), sizeof "0::/a\n"));
+	CHECK(too_small(mk_wait_file(&h, "/a", "pids.max", "", 0, text, 4, unset()), sizeof "max\n") &&
+		too_small(mk_processes(&h, "/a", pids, 0, unset()), 1));
+	CHECK(too_small(mk_children(&h, bytes("/a"), 2, out, 1, unset()), sizeof "b") &&
+		too_small(mk_subtree(&h, bytes("/a/b"), 4, out, 1, unset()), sizeof "/a/b"));
+	CHECK(too_small(mk_groups(&h, out, 0, unset()), sizeof "/" + sizeof "/a" + sizeof "/a/b") &&
+		too_small(mk_read_many(&h, "/a\0pids.max", 1, texts, text, 4, unset()), sizeof "max\n"));
+	return 0;
+}
+
+/* ---- codes and statuses, as docs/FORMATS.md has them */
+
+static int codes(void)
+{
+	static const struct {
+		uint32_t code;
+		const char *name;
+		int error;
+	} each[] = { { MK_EXISTS, "exists", EEXIST }, { MK_NO_GROUP, "nogroup", ENOENT },
+		{ MK_DESCENDANTS, "descendants", EAGAIN }, { MK_DEPTH, "depth", EAGAIN }, { MK_NO_SLOT, "noslot", ENOSPC },
+		{ MK_ROOT_FIXED, "rootfixed", EBUSY }, { MK_HAS_CHILDREN, "haschildren", EBUSY },
+		{ MK_HAS_PROCESSES, "hasprocesses", EBUSY }, { MK_NO_PROCESS, "noprocess", ESRCH },
+		{ MK_PID_IN_USE, "pidinuse", EEXIST }, { MK_PIDS_MAX, "pidsmax", EAGAIN }, { MK_NO_FILE, "nofile", ENOENT },
+		{ MK_NOT_READABLE, "direction", EINVAL }, { MK_NOTHING_TO_UNDO, "nothing", ENODATA },
+		{ MK_SYNTAX, "syntax", EINVAL }, { MK_PATH, "path", EINVAL }, { MK_FILE, "file", ENOENT },
+		{ MK_DIRECTION, "direction", EINVAL }, { MK_VALUE, "value", EINVAL } };
+	for (size_t i = 0; i < sizeof each / sizeof *each; i++) {
+		CHECK(strcmp(mk_name(each[i].code), each[i].name) == 0 && mk_errno(each[i].code) == each[i].error);
+		uint32_t status = each[i].code < MK_SYNTAX ? MK_REFUSED : MK_FAULT;
+		CHECK(mk_status_errno(status, each[i].code) == each[i].error && mk_status_errno(MK_DONE, each[i].code) == 0);
+		CHECK(mk_status_errno(MK_CLOSED, each[i].code) == EBADF && strlen(mk_message(each[i].code)) > 8);
+		for (size_t other = 0; other < i; other++)
+			CHECK(strcmp(mk_message(each[i].code), mk_message(each[other].code)) != 0);
+	}
+	CHECK(mk_message(0) != NULL && mk_message(15) == NULL && mk_message(31) == NULL && mk_name(UINT32_MAX) == NULL);
+	return 0;
+}
+
+static int statuses(void)
+{
+	static const struct {
+		uint32_t status;
+		int error;
+	} each[] = { { MK_DONE, 0 }, { MK_TOO_SMALL, ERANGE }, { MK_OUT_OF_MEMORY, ENOMEM }, { MK_SKIPPED, 0 },
+		{ MK_CLOSED, EBADF }, { MK_BUSY, EDEADLK }, { MK_TIMED_OUT, ETIMEDOUT }, { MK_FAILED, EIO },
+		{ MK_WOULD_BLOCK, EAGAIN } };
+	for (size_t i = 0; i < sizeof each / sizeof *each; i++) {
+		CHECK(mk_status_errno(each[i].status, 0) == each[i].error && mk_status_message(each[i].status) != NULL);
+		for (size_t other = 0; other < i; other++)
+			CHECK(strcmp(mk_status_message(each[i].status), mk_status_message(each[other].status)) != 0);
+	}
+	CHECK(mk_status_message(MK_WOULD_BLOCK - 1) == NULL && mk_status_message(MK_WOULD_BLOCK + 1) == NULL);
+	return 0;
+}
+
+/* The first two are too long; a name that is too deep is refused as by a limit; no other can be the name of a group. */
+static int faults_of_paths(void)
+{
+	static const int errors[] = { [MK_NOT_ROOTED] = EINVAL,
+		[MK_PATH_TOO_LONG] = ENAMETOOLONG,
+		[MK_TOO_DEEP] = EAGAIN,
+		[MK_EMPTY_NAME] = EINVAL,
+		[MK_BAD_BYTE] = EINVAL,
+		[MK_NAME_TOO_LONG] = ENAMETOOLONG,
+		[MK_DOT_NAME] = EINVAL,
+		[MK_RESERVED] = EINVAL };
+	for (uint32_t fault = MK_NOT_ROOTED; fault <= MK_RESERVED; fault++) {
+		CHECK(mk_path_errno(fault) == errors[fault] && mk_path_message(fault) != NULL);
+		for (uint32_t other = 0; other < fault; other++)
+			CHECK(strcmp(mk_path_message(fault), mk_path_message(other)) != 0);
+	}
+	return 0;
+}
+
+/* ---- what mk_put takes */
+
+static uint32_t put(const char *file, const char *data, size_t size)
+{
+	return mk_put(&h, "/a", file, data, size, 2, &info);
+}
+
+/* each digit of each base, in both cases */
+static int digits(void)
+{
+	static const char hexadecimal[] = "0123456789abcdef", upper[] = "0123456789ABCDEF";
+	char data[16], want[16];
+	for (int high = 0; high < 16; high++)
+		for (int low = 0; low < 16; low++) {
+			snprintf(want, sizeof want, "%d\n", high * 16 + low);
+			for (int spelling = 0; spelling < 4; spelling++) {
+				const char *letters = spelling % 2 == 0 ? hexadecimal : upper;
+				snprintf(data, sizeof data, "0%c%c%c", spelling < 2 ? 'x' : 'X', letters[high], letters[low]);
+				CHECK(done(put("pids.max", data, strlen(data))));
+				CHECK(done(mk_read(&h, "/a", "pids.max", text, sizeof text, &info)) && strcmp(text, want) == 0);
+			}
+			snprintf(data, sizeof data, "0%o", (unsigned)(high * 16 + low));
+			CHECK(done(put("pids.max", data, strlen(data))));
+			CHECK(done(mk_read(&h, "/a", "pids.max", text, sizeof text, &info)) && strcmp(text, want) == 0);
+		}
+	for (const char *wrong = "gG@`/:"; *wrong != 0; wrong++) {
+		snprintf(data, sizeof data, "0x1%c", *wrong);
+		CHECK(put("pids.max", data, strlen(data)) == MK_FAULT && info.code == MK_VALUE && info.error == EINVAL);
+	}
+	return 0;
+}
+
+static bool is_taken(const char *file, const char *data, size_t size)
+{
+	return done(put(file, data, size));
+}
+
+static bool is_refused(const char *file, const char *data, size_t size, int error)
+{
+	return put(file, data, size) == MK_FAULT && info.code == MK_VALUE && info.error == error;
+}
+
+/* As in the mount a constant takes its current value or nothing, with the kernel's blanks around it, up to a zero byte. */
+static int constants(void)
+{
+	static const char *const each[][2] = { { "cgroup.freeze", "0" }, { "cgroup.subtree_control", "+pids" },
+		{ "cgroup.type", "domain" } };
+	static const char blanks[] = " \t\r\n\v\f\xa0", others[] = "1x+_\b\x1f\x9f\xa1";
+	static char page[4097];
+	memset(page, ' ', sizeof page);
+	for (size_t i = 0; i < sizeof each / sizeof *each; i++) {
+		const char *file = each[i][0], *value = each[i][1];
+		size_t size = strlen(value);
+		char data[32];
+		CHECK(is_taken(file, "", 0) && is_taken(file, value, size) && is_taken(file, blanks, strlen(blanks)));
+		for (const char *blank = blanks; *blank != 0; blank++) {
+			snprintf(data, sizeof data, "%c%c%s%c%c", *blank, *blank, value, *blank, *blank);
+			CHECK(is_taken(file, data, size + 4) && is_taken(file, data + 2, size + 1) &&
+				is_taken(file, data, size + 2) && is_taken(file, data, 1));
+			snprintf(data, sizeof data, "%s%c%s", value, *blank, value);
+			CHECK(is_refused(file, data, 2 * size + 1, EOPNOTSUPP));
+		}
+		for (const char *other = others; *other != 0; other++) {
+			snprintf(data, sizeof data, "%c%s%c", *other, value, *other);
+			CHECK(is_refused(file, data, size + 1, EOPNOTSUPP) && is_refused(file, data + 1, size + 1, EOPNOTSUPP));
+			CHECK(is_refused(file, data, 1, EOPNOTSUPP));
+		}
+		snprintf(data, sizeof data, "%s%c%s", value, 0, "x");
+		CHECK(is_taken(file, data, size + 1) && is_taken(file, data, size + 2) && is_taken(file, data + size, 1));
+		CHECK(size == 1 || is_refused(file, value, size - 1, EOPNOTSUPP));
+		CHECK(is_taken(file, page, 4096) && is_refused(file, page, 4097, E2BIG));
+	}
+	return 0;
+}
+
+int main(void)
+{
+	int (*const parts[])(void) = { commands, reads, small, codes, statuses, faults_of_paths, digits, constants };
+	if (mk_open(&h) != MK_DONE)
+		return 1;
+	int failed = run_all(parts, sizeof parts / sizeof *parts);
+	if (failed == 0 && mk_close(&h) != MK_DONE)
+		return 1;
+	return failed;
+}

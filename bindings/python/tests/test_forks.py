@@ -1,0 +1,150 @@
+"""A child of a fork reads, opens and polls files under mounted_at, whatever the other threads did at the fork."""
+
+import os
+import select
+import signal
+import threading
+import time
+import warnings
+
+from makhloeum import mounted_at
+from makhloeum._calls import CALLS
+
+AT = "/sys/fs/cgroup"
+PATIENCE = 20  # seconds
+
+
+def status_of(child):
+    """That of its end; a hang, also within the fork, is ended by SIGKILL."""
+    end = time.monotonic() + PATIENCE
+    while True:
+        found, status = os.waitpid(child, os.WNOHANG)
+        if found:
+            return status
+        if time.monotonic() > end:
+            os.kill(child, signal.SIGKILL)
+        time.sleep(0.001)
+
+
+def in_a_child(body):
+    """The status of a child that runs the body."""
+    with warnings.catch_warnings():
+        warnings.simplefilter("ignore", DeprecationWarning)
+        child = os.fork()
+    if child == 0:
+        try:
+            os._exit(0 if body() else 1)
+        finally:
+            os._exit(2)
+    return status_of(child)
+
+
+def test_a_child_reads_what_is_polled(hierarchy):
+    hierarchy.mkdir("/a")
+    stopped = threading.Event()
+
+    def change():
+        while not stopped.is_set():
+            hierarchy.write("/a", "cgroup.procs", 1)
+            hierarchy.write("/", "cgroup.procs", 1)
+
+    with mounted_at(AT, hierarchy):
+        fd = os.open(f"{AT}/a/cgroup.events", os.O_RDONLY)
+
+        def read():
+            with open(f"{AT}/a/cgroup.events") as file:
+                seen = {os.pread(fd, 99, 0).decode(), file.read()}
+            os.mkdir(f"{AT}/of-the-child")
+            return seen <= {
+                "populated 0\nfrozen 0\n",
+                "populated 1\nfrozen 0\n",
+            } and os.path.isdir(f"{AT}/of-the-child")
+
+        thread = threading.Thread(target=change)
+        thread.start()
+        statuses = set()
+        try:
+            for _ in range(100):
+                os.pread(fd, 99, 0)  # so that the thread that watches looks at it again
+                statuses.add(in_a_child(read))
+                if statuses != {0}:
+                    break
+        finally:
+            stopped.set()
+            thread.join()
+        assert statuses == {0} and not hierarchy.has_group("/of-the-child")
+        os.close(fd)
+
+
+def test_a_fork_just_as_another_thread_looks(hierarchy):
+    hierarchy.mkdir("/a")
+    with mounted_at(AT, hierarchy):
+        fd = os.open(f"{AT}/a/cgroup.events", os.O_RDONLY)
+        looks, ends = threading.Event(), threading.Event()
+
+        def look():
+            with CALLS.descriptors.get(fd).poller._lock:
+                looks.set()
+                ends.wait(2 * PATIENCE)
+
+        thread = threading.Thread(target=look)
+        thread.start()
+        assert looks.wait(PATIENCE)
+        status = in_a_child(lambda: os.pread(fd, 99, 0) == b"populated 0\nfrozen 0\n")
+        ends.set()
+        thread.join()
+        assert status == 0
+        os.close(fd)
+
+
+def test_a_child_waits_for_its_own_changes(hierarchy):
+    hierarchy.mkdir("/a")
+    with mounted_at(AT, hierarchy):
+        with open(f"{AT}/a/cgroup.events") as file:
+            file.read()
+
+            def poll():
+                with open(f"{AT}/a/cgroup.events") as own:
+                    own.read()
+                    threading.Timer(
+                        0.05, hierarchy.write, ["/a", "cgroup.procs", 1]
+                    ).start()
+                    waiting = select.poll()
+                    waiting.register(own, select.POLLPRI)
+                    return bool(waiting.poll(1000 * PATIENCE))
+
+            assert in_a_child(poll) == 0
+
+
+def test_a_child_has_its_own_notifications(hierarchy):
+    """Of a file that was open at the fork: neither wakes the other, and neither takes the other's."""
+    hierarchy.mkdir("/a")
+    with mounted_at(AT, hierarchy):
+        with open(f"{AT}/a/cgroup.events") as file:
+            waiting = select.poll()
+            waiting.register(file, select.POLLPRI)
+            assert (
+                waiting.poll(1000 * PATIENCE)
+                and file.read() == "populated 0\nfrozen 0\n"
+                and not waiting.poll(0)
+            )
+
+            def change():
+                own = select.poll()
+                own.register(file, select.POLLPRI)
+                if own.poll(0):
+                    return False
+                hierarchy.write("/a", "cgroup.procs", 1)
+                return bool(own.poll(1000 * PATIENCE))
+
+            assert in_a_child(change) == 0 and not waiting.poll(200)
+            hierarchy.write("/a", "cgroup.procs", 1)
+            assert waiting.poll(1000 * PATIENCE)
+
+            def read():
+                file.seek(0)
+                return file.read() == "populated 1\nfrozen 0\n"
+
+            assert in_a_child(read) == 0 and waiting.poll(0)
+            file.seek(0)
+            assert file.read() == "populated 1\nfrozen 0\n" and not waiting.poll(0)

@@ -1,0 +1,201 @@
+"""The tree as text: bars, columns and numbers, each by a table; and the words of `view` and `tree`."""
+
+import pytest
+import support  # noqa: F401: it puts the package on the path
+
+from makhloeum.look import tree, view
+from makhloeum.look.tree import Node, draw, of_directory
+
+
+def node(name="g", processes=(), below=(), **numbers):
+    return Node(name, list(processes), below=list(below), **numbers)
+
+
+# ---- bars
+
+
+@pytest.mark.parametrize(
+    "current, limit, peak, bar",
+    [
+        (0, 10, None, "[          ]"),
+        (0, 10, 0, "[          ]"),
+        (1, 10, 1, "[█|        ]"),
+        (1, 10, 9, "[█        |]"),
+        (1, 10, 10, "[█         ]"),
+        (5, 10, 5, "[█████|    ]"),
+        (10, 10, 10, "[██████████]"),
+        (12, 10, 15, "[██████████]"),
+        (1, 80, 1, "[▏         ]"),
+        (7, 80, 8, "[▉|        ]"),
+        (9, 80, 9, "[█▏        ]"),
+        (79, 80, 79, "[█████████▉]"),
+        (3, 4, 3, "[███████▌  ]"),
+        (0, 0, 0, "[          ]"),
+        (1, 0, 1, "[██████████]"),
+        (1, 3, 2, "[███▎  |   ]"),
+        (5, None, 7, "            "),
+        (None, 5, 7, "            "),
+    ],
+)
+def test_a_bar_is_the_count_as_a_part_of_the_limit(current, limit, peak, bar):
+    told = draw(node(current=current, limit=limit, peak=peak)).rstrip("\n")
+    assert told.ljust(15)[3:15] == bar
+    parts = tree._bar(node(current=current, limit=limit, peak=peak))
+    is_full = current is not None and limit is not None and current >= limit
+    assert ("full" in {kind for _, kind in parts}) == is_full and "".join(text for text, _ in parts) == bar
+
+
+def test_each_part_of_a_line_has_its_colour():
+    told = draw(node(current=2, limit=2, peak=1, populated=True, here=1, total=3), colour=True)
+    for part in ("\x1b[1mg\x1b[0m", "\x1b[31m█\x1b[0m", "\x1b[33m  peak 1\x1b[0m", "\x1b[32m  populated\x1b[0m"):
+        assert part in told, part
+    assert "\x1b[1;31m  refused 1 here, 3 in all\x1b[0m" in told
+    told = draw(node(current=1, limit=4, peak=3, populated=False), colour=True)
+    for part in ("\x1b[34m█\x1b[0m", "\x1b[33m|\x1b[0m", "\x1b[2m  empty\x1b[0m"):
+        assert part in told, part
+
+
+# ---- columns
+
+
+@pytest.mark.parametrize(
+    "numbers, columns",
+    [
+        ({}, ("", "", "", "", "")),
+        ({"current": 0}, ("0/max", "", "", "", "")),
+        ({"current": 3, "limit": 0}, ("3/0", "", "", "", "")),
+        ({"peak": 0}, ("", "peak 0", "", "", "")),
+        ({"populated": True}, ("", "", "populated", "", "")),
+        ({"populated": False}, ("", "", "empty", "", "")),
+        ({"total": 0, "here": 0}, ("", "", "", "", "")),
+        ({"total": 2, "here": 0}, ("", "", "", "refused 0 here, 2 in all", "")),
+        ({"total": 2}, ("", "", "", "refused 0 here, 2 in all", "")),
+        ({"here": 2}, ("", "", "", "refused 2 here, 0 in all", "")),
+        ({"processes": range(1, 17)}, ("", "", "", "", " ".join(map(str, range(1, 17))))),
+        ({"processes": range(1, 18)}, ("", "", "", "", " ".join(map(str, range(1, 17))) + " .. 1 more")),
+        ({"processes": range(1, 118)}, ("", "", "", "", " ".join(map(str, range(1, 17))) + " .. 101 more")),
+    ],
+)
+def test_the_columns_of_a_group(numbers, columns):
+    assert tree._columns(node(**numbers)) == columns
+
+
+def test_columns_are_below_each_other_and_groups_are_joined():
+    deepest = node("y", current=1000, limit=2000, peak=1500, populated=True)
+    root = node("/", [1], [node("a", below=[node("b", below=[deepest]), node("c", current=1, peak=1)]), node("dd")])
+    lines = draw(root).split("\n")
+    assert [line[:9].rstrip() for line in lines[:-1]] == ["/", "├─ a", "│  ├─ b", "│  │  └─", "│  └─ c", "└─ dd"]
+    assert lines[3] == "│  │  └─ y  [█████  |  ]  1000/2000  peak 1500  populated"
+    assert lines[4] == "│  └─ c" + " " * 23 + "1/max  peak 1"
+    assert draw(root, is_ascii=True).split("\n")[3] == "|  |  `- y  [#####  |  ]  1000/2000  peak 1500  populated"
+
+
+@pytest.mark.parametrize("width", [1, 3, 4, 12, 17, 30, 200])
+@pytest.mark.parametrize("colour", [False, True])
+def test_a_line_is_cut_to_the_width(width, colour):
+    whole = draw(node("group", range(5), current=1, limit=2, peak=2, populated=True)).rstrip("\n")
+    told = draw(node("group", range(5), current=1, limit=2, peak=2, populated=True), colour=colour, width=width)
+    plain = told.rstrip("\n")
+    for kind in tree.COLOURS.values():
+        plain = plain.replace(f"\x1b[{kind}m", "")
+    assert plain.replace("\x1b[0m", "").rstrip() == whole[:width].rstrip() and told.count("\n") == 1
+
+
+# ---- a directory
+
+
+@pytest.mark.parametrize(
+    "file, text, field, number",
+    [
+        ("pids.max", "max\n", "limit", None),
+        ("pids.max", "5\n", "limit", 5),
+        ("pids.max", "0\n", "limit", 0),
+        ("pids.max", "", "limit", None),
+        ("pids.max", "five\n", "limit", None),
+        ("pids.current", "7\n", "current", 7),
+        ("pids.peak", "8\n", "peak", 8),
+        ("pids.events", "max 3\n", "total", 3),
+        ("pids.events", "max\n", "total", None),
+        ("pids.events", "other 1\nmax 4\n", "total", 4),
+        ("pids.events.local", "max 2\n", "here", 2),
+        ("cgroup.events", "populated 1\nfrozen 0\n", "populated", True),
+        ("cgroup.events", "frozen 1\npopulated 0\n", "populated", False),
+        ("cgroup.events", "frozen 1\n", "populated", None),
+        ("cgroup.procs", "5\n6\n", "processes", [5, 6]),
+        ("cgroup.procs", "5\nx\n", "processes", [5]),
+    ],
+)
+def test_a_number_of_a_directory(tmp_path, file, text, field, number):
+    (tmp_path / file).write_text(text)
+    found = of_directory(str(tmp_path))
+    assert getattr(found, field) == number and found.name == str(tmp_path)
+    nothing = node(str(tmp_path))
+    setattr(nothing, field, number)
+    assert found == nothing, "the other numbers are not there"
+
+
+def test_the_groups_of_a_directory(tmp_path):
+    for name in ("b", "a", ".hidden", "no-group"):
+        (tmp_path / name).mkdir()
+        if name != "no-group":
+            (tmp_path / name / "cgroup.procs").write_text("")
+    (tmp_path / "link").symlink_to(tmp_path / "a")
+    (tmp_path / "file").write_text("")
+    assert [below.name for below in of_directory(str(tmp_path)).below] == ["a", "b"]
+    assert of_directory(str(tmp_path / "gone")).below == []
+
+
+# ---- command lines
+
+
+@pytest.mark.parametrize(
+    "words, wanted",
+    [
+        (["d"], ("d", None)),
+        (["d", "--watch"], ("d", 0.5)),
+        (["--watch", "d"], ("d", 0.5)),
+        (["--watch", "2", "d"], ("d", 2.0)),
+        (["d", "--watch", "0.25"], ("d", 0.25)),
+        (["d", "--watch", "3."], ("d", 3.0)),
+        (["--watch", "--", "-d"], ("-d", 0.5)),
+        (["--", "--watch"], ("--watch", None)),
+        (["d", "--watch", "0"], None),
+        (["d", "--watch", "-1"], None),
+        (["d", "--watch", "x"], None),
+        (["d", "e"], None),
+        (["--", "d", "e"], None),
+        (["--"], None),
+        ([], None),
+        (["-x", "d"], None),
+        (["d", "--watch", "1.2.3"], None),
+    ],
+)
+def test_the_words_of_tree(words, wanted):
+    assert tree._words(words) == wanted
+
+
+@pytest.mark.parametrize(
+    "words, wanted",
+    [
+        (["t"], ("t", "t.html")),
+        (["-"], ("-", "-")),
+        (["t", "-o", "p"], ("t", "p")),
+        (["-o", "p", "t"], ("t", "p")),
+        (["-op", "t"], ("t", "p")),
+        (["t", "-o", "-"], ("t", "-")),
+        (["-", "-o", "p"], ("-", "p")),
+        (["--", "-o"], ("-o", "-o.html")),
+        (["-o", "p", "--", "-t"], ("-t", "p")),
+        (["t", "-o"], None),
+        (["t", "-o", "p", "-o", "q"], None),
+        (["-op", "-oq", "t"], None),
+        (["t", "u"], None),
+        (["--", "t", "u"], None),
+        ([], None),
+        (["-o", "p"], None),
+        (["-x", "t"], None),
+        (["--output", "p", "t"], None),
+    ],
+)
+def test_the_words_of_view(words, wanted):
+    assert view._words(words) == wanted
