@@ -1,0 +1,98 @@
+//! Cores in heaps that are too small.
+//!
+//! `refused EVENTS`: the events are replayed on a new core of one slot with seven nodes, in a heap with room for no block, then
+//! for one and so on until all are done. The answer has what is found each time, without repetitions, separated by ` / `:
+//! where the replay stopped and why, the words and the sum, whether helper 1 can be joined, and then, with room again, the
+//! same after a replay of the events that are left.
+
+ghost use Rattle.std.specs.Prelude.{◌≡◌, ◌≤◌, ◌⊎◌};
+
+use crate::cores::{Shaped, put_stop};
+use crate::events::{event_words, events};
+use linked_list_allocator::LocalHeap;
+use snzi_core::Event;
+use std::alloc::{AllocError, Global};
+use test_support::{Case, CaseFault, all_but};
+
+/// Whether a new core fits in a heap of this size, and what it leaves there.
+pub(crate) fn core_fits(
+    alloc: Global,
+    bytes: usize,
+    slots: u16,
+    nodes: u8,
+) -> Result<(bool, usize), AllocError>
+    requires slots { 1 ≤ slots }
+    requires nodes { (nodes ≡ 1) ⊎ (nodes ≡ 3) ⊎ (nodes ≡ 7) ⊎ (nodes ≡ 15) }
+{
+    let heap = LocalHeap::new(alloc, bytes)?;
+    let fits = Shaped::new(&heap, slots, nodes).is_ok();
+    Ok((fits, heap.used()))
+}
+
+/// Does the events. Says where they stopped and why, and what is left. Returns how many were done.
+fn put_run(
+    said: &mut String,
+    core: &mut Shaped<&LocalHeap>,
+    events: &[Event<'_>],
+    room: &mut Vec<Vec<u8, &LocalHeap>>,
+) -> Result<usize, AllocError> {
+    let stop = core.run(events);
+    room.clear();
+    put_stop(said, events.len(), stop)?;
+    core.put_words(said, 0)?;
+    let sum = core.sum(0).unwrap_or(0);
+    write!(said, " sum {sum}")?;
+    match stop {
+        Some((done, _)) => Ok(done),
+        None => Ok(events.len()),
+    }
+}
+
+/// What is found with room for this many blocks. Returns whether all events were done.
+fn put_room(
+    alloc: Global,
+    heap: &LocalHeap,
+    room: usize,
+    events: &[Event<'_>],
+    said: &mut String,
+) -> Result<bool, AllocError> {
+    let mut core = Shaped::new(heap, 1, 7)?;
+    let mut blocks = all_but(alloc, heap, room)?;
+    let done = put_run(said, &mut core, events, &mut blocks)?;
+    match core.run(&[Event::Join { helper: 1 }]) {
+        Some((_, unlawful)) => write!(said, ", join {unlawful:?}")?,
+        None => said.push_str(", join ok")?,
+    }
+    let is_whole = done >= events.len();
+    if !is_whole {
+        said.push_str(", then")?;
+        put_run(said, &mut core, &events[done..], &mut blocks)?;
+    }
+    Ok(is_whole)
+}
+
+/// What is found with room for no block, for one and so on, until all events are done.
+pub(crate) fn each_room(alloc: Global, case: &Case, said: &mut String) -> Result<(), CaseFault> {
+    let words = event_words(alloc, case, 1)?;
+    let events = events(alloc, case, words.as_slice(), 0)?;
+    let heap = LocalHeap::new(alloc, 4096)?;
+    let mut last = String::new(alloc);
+    for room in 0..200usize {
+        let mut found = String::new(alloc);
+        let is_whole = put_room(alloc, &heap, room, events.as_slice(), &mut found)?;
+        if heap.used() > 0 {
+            found.push_str(", memory is left")?;
+        }
+        if found.as_str() != last.as_str() {
+            if !said.is_empty() {
+                said.push_str(" / ")?;
+            }
+            said.push_str(found.as_str())?;
+        }
+        if is_whole {
+            break;
+        }
+        last = found;
+    }
+    Ok(())
+}
