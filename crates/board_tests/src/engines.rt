@@ -3,7 +3,7 @@
 //! | Call | Answer |
 //! |---|---|
 //! | `USER LINE` | the engine's reply as in a trace, without its number |
-//! | `meet PARTS USER LINE` | the same, where the parts of a kill or of its undo wait for one another; first, whether they `met` |
+//! | `meet PARTS USER LINE` | the same, where the parts of a kill or of its undo wait for one another; then, whether they met |
 //! | `undo_all` | how many commands were undone |
 
 use crate::meeting::Meeting;
@@ -58,13 +58,18 @@ impl BoardEngine {
         gate: &(dyn Gate + Sync),
         case: &Case,
         at: usize,
-    ) -> Result<Vec<u8>, CaseFault> {
+        said: &mut String,
+    ) -> Result<(), CaseFault> {
         let who = case.number(at)?.min(255) as u8;
         let command = command(alloc, case, at.saturating_add(1))?;
         let reply = self.engine.apply_gated(rt, gate, who, &command);
         let mut bytes = Vec::new(alloc);
         put_reply(alloc, &mut bytes, 1, &reply)?;
-        Ok(bytes)
+        match bytes.as_slice() {
+            [b'1', b' ', text @ .., b'\n'] => push_escaped(said, text)?,
+            text => push_escaped(said, text)?,
+        }
+        Ok(())
     }
 }
 
@@ -76,25 +81,19 @@ impl Subject for BoardEngine {
         case: &Case,
         said: &mut String,
     ) -> Result<Outcome, CaseFault> {
-        let reply = match case.word(0) {
+        match case.word(0) {
             b"undo_all" => {
                 let Ok(undone) = self.engine.undo_all(rt, 1) else {
                     return Err(CaseFault::OutOfMemory);
                 };
                 write!(said, "{undone}")?;
-                return Ok(Outcome::Answered);
             }
             b"meet" => {
                 let meeting = Meeting::new(case.number(1)?.min(9) as usize);
-                let reply = self.apply(rt, alloc, &meeting, case, 2)?;
+                self.apply(rt, alloc, &meeting, case, 2, said)?;
                 said.push_str(meeting.said())?;
-                reply
             }
-            _ => self.apply(rt, alloc, &OpenGate, case, 0)?,
-        };
-        match reply.as_slice() {
-            [b'1', b' ', text @ .., b'\n'] => push_escaped(said, text)?,
-            text => push_escaped(said, text)?,
+            _ => self.apply(rt, alloc, &OpenGate, case, 0, said)?,
         }
         Ok(Outcome::Answered)
     }

@@ -20,9 +20,9 @@ impl Meeting {
     /// Says whether exactly these parts arrived, and none missed another.
     pub(crate) fn said(&self) -> &'static str {
         if self.barrier.met() {
-            "met "
+            ", met"
         } else {
-            "not met "
+            ", not met"
         }
     }
 }

@@ -4,7 +4,7 @@
 //! |---|---|
 //! | `calls STRIPE SLOT/LEAF SLOT/LEAF ..` | the charges that there are are removed, from this stripe, and these are added, each by a call: the counts at slots 0 and 1 and at the last slot |
 //! | `settle STRIPE SLOT/LEAF ..` | the same by a settlement |
-//! | `meet PARTS STRIPE SLOT/LEAF ..` | the same, where the parts on the board wait for one another; first, whether they `met` |
+//! | `meet PARTS STRIPE SLOT/LEAF ..` | the same, where the parts on the board wait for one another; then, whether they met |
 //! | `drawn ROUNDS` | after how many rounds the meters differ. In each round the charges are replaced by drawn ones: by calls in every third round, by a settlement in the others |
 //!
 //! If the meters differ at some slot, the answer ends in `differ`.
@@ -20,7 +20,7 @@ use crate::drawn::{drawn, next};
 use crate::meeting::Meeting;
 use crate::swap::{Way, alike, counts, fits, swap};
 use board_meter::BoardMeter;
-use pids_charge::{LEAVES, OpenGate, PlainMeter, SLOTS, Token};
+use pids_charge::{Gate, LEAVES, OpenGate, PlainMeter, SLOTS, Token};
 use std::alloc::{AllocError, Global};
 use std::sync::Wait;
 use std::thread::Threads;
@@ -78,11 +78,13 @@ impl Meters {
         })
     }
 
-    /// Replaces the charges of both meters. Returns whether the meters are alike; None if there are no such charges.
+    /// Replaces the charges of both meters, with these test hooks. Returns whether the meters are alike; None if there are no such charges.
     fn replace<R: Threads>(
         &mut self,
         rt: &R,
-        ways: [Way<'_>; 2],
+        way: Way,
+        open: &(dyn Gate + Sync),
+        gate: &(dyn Gate + Sync),
         stripe: u8,
         charges: Vec<Token>,
     ) -> Option<bool>
@@ -93,8 +95,8 @@ impl Meters {
         }
         let leaving = self.charges.as_slice();
         let arriving = charges.as_slice();
-        swap(rt, &mut self.plain, ways[0], stripe, leaving, arriving);
-        swap(rt, &mut self.board, ways[1], stripe, leaving, arriving);
+        swap(rt, &mut self.plain, way, open, stripe, leaving, arriving);
+        swap(rt, &mut self.board, way, gate, stripe, leaving, arriving);
         self.charges = charges;
         Some(alike(&mut self.plain, &mut self.board, SLOTS as u16))
     }
@@ -106,12 +108,14 @@ impl Meters {
         alloc: Global,
         case: &Case,
         at: usize,
-        ways: [Way<'_>; 2],
+        way: Way,
+        open: &(dyn Gate + Sync),
+        gate: &(dyn Gate + Sync),
         said: &mut String,
     ) -> Result<(), CaseFault> {
         let stripe = stripe_in(case, at)?;
         let charges = tokens(alloc, case, at.saturating_add(1))?;
-        let Some(is_alike) = self.replace(rt, ways, stripe, charges) else {
+        let Some(is_alike) = self.replace(rt, way, open, gate, stripe, charges) else {
             return Err(CaseFault::Malformed);
         };
         let [first, second, last] = counts(&mut self.plain);
@@ -130,11 +134,11 @@ impl Meters {
             let way = if round % 3 == 0 {
                 Way::Calls
             } else {
-                Way::Settlement(&OpenGate)
+                Way::Settlement
             };
             let charges = drawn(alloc, number)?;
             let stripe = (round % LEAVES as u64) as u8;
-            if self.replace(rt, [way, way], stripe, charges) != Some(true) {
+            if self.replace(rt, way, &OpenGate, &OpenGate, stripe, charges) != Some(true) {
                 return Ok(round);
             }
         }
@@ -150,17 +154,40 @@ impl Subject for Meters {
         case: &Case,
         said: &mut String,
     ) -> Result<Outcome, CaseFault> {
-        let open = Way::Settlement(&OpenGate);
         match case.word(0) {
-            b"calls" => self.put_replaced(rt, alloc, case, 1, [Way::Calls, Way::Calls], said)?,
-            b"settle" => self.put_replaced(rt, alloc, case, 1, [open, open], said)?,
+            b"calls" => self.put_replaced(
+                rt,
+                alloc,
+                case,
+                1,
+                Way::Calls,
+                &OpenGate,
+                &OpenGate,
+                said,
+            )?,
+            b"settle" => self.put_replaced(
+                rt,
+                alloc,
+                case,
+                1,
+                Way::Settlement,
+                &OpenGate,
+                &OpenGate,
+                said,
+            )?,
             b"meet" => {
                 let meeting = Meeting::new(case.number(1)?.min(9) as usize);
-                let mut counts = String::new(alloc);
-                let ways = [open, Way::Settlement(&meeting)];
-                self.put_replaced(rt, alloc, case, 2, ways, &mut counts)?;
+                self.put_replaced(
+                    rt,
+                    alloc,
+                    case,
+                    2,
+                    Way::Settlement,
+                    &OpenGate,
+                    &meeting,
+                    said,
+                )?;
                 said.push_str(meeting.said())?;
-                said.push_str(counts.as_str())?;
             }
             b"drawn" => {
                 let rounds = self.draw(rt, alloc, case.number(1)?)?;

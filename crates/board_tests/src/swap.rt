@@ -43,18 +43,19 @@ fn charge_each<M: Meter>(meter: &mut M, arriving: &[Token])
     }
 }
 
-/// How charges are removed and added: each by a call, or all by a settlement with this test hook.
+/// How charges are removed and added: each by a call, or all by a settlement.
 #[derive(Clone, Copy)]
-pub(crate) enum Way<'g> {
+pub(crate) enum Way {
     Calls,
-    Settlement(&'g (dyn Gate + Sync)),
+    Settlement,
 }
 
 /// Removes the leaving charges, which are all that there are, and adds the arriving ones.
 pub(crate) fn swap<R: Threads, M: Meter>(
     rt: &R,
     meter: &mut M,
-    way: Way<'_>,
+    way: Way,
+    gate: &(dyn Gate + Sync),
     stripe: u8,
     leaving: &[Token],
     arriving: &[Token],
@@ -70,7 +71,7 @@ pub(crate) fn swap<R: Threads, M: Meter>(
             uncharge_each(meter, stripe, leaving);
             charge_each(meter, arriving);
         }
-        Way::Settlement(gate) => meter.settle(rt, gate, stripe, leaving, arriving),
+        Way::Settlement => meter.settle(rt, gate, stripe, leaving, arriving),
     }
 }
 

@@ -6,9 +6,9 @@
 //! | `arrivals LEAF N` | main arrives N times |
 //! | `split`, `split_all` | a new helper with no token, or with all of main's, in place of the last one, which stays out |
 //! | `splits N` | N helpers with no token that stay out |
-//! | `steps`, `held`, `helpers_out`, `query`, `sum` | what main says or is answered |
+//! | `steps`, `held`, `helpers_out`, `query`, `sum` | what main says or is answered; `query` 1 or 0 |
 //! | `helper_held`, `helper_query`, `helper_sum` | the same of the helper |
-//! | `close` | `closed`; `open` if a helper is out |
+//! | `close` | `true`; `false` if a helper is out |
 //! | `threads LEAVES END` | what four helpers in threads of their own leave on a new board (`threads.rt`) |
 
 ghost use Rattle.std.specs.Prelude.{◌≡◌, ℕ};
@@ -41,11 +41,6 @@ pub(crate) struct Hands<const W: usize, const L: usize> {
     ghost helper_here: { ForSome helper (λ hand. IsHandOf board hand) },
 }
 
-/// The number that a word is, but at most 255.
-fn small(case: &Case, at: usize) -> Result<u8, CaseFault> {
-    Ok(case.number(at)?.min(255) as u8)
-}
-
 impl<const W: usize, const L: usize> Hands<W, L> {
     /// A new board.
     pub(crate) fn new(alloc: Global) -> Result<Hands<W, L>, AllocError>
@@ -60,94 +55,118 @@ impl<const W: usize, const L: usize> Hands<W, L> {
         })
     }
 
-    /// Main arrives at the leaf.
-    fn arrive(&mut self, leaf: u8) -> Result<(), CaseFault> {
-        if usize::from(leaf) >= L || self.main.held() >= HELD_MAX {
-            return Err(CaseFault::Malformed);
+    /// Main arrives at the leaf this many times. Returns whether it can.
+    fn arrive(&mut self, leaf: u64, times: u64) -> bool {
+        if leaf >= L as u64 {
+            return false;
         }
-        let token = Token { slot: 0, leaf };
-        if self.tokens.push(token).is_err() {
-            return Err(CaseFault::OutOfMemory);
+        let token = Token {
+            slot: 0,
+            leaf: leaf as u8,
+        };
+        for _ in 0..times {
+            if self.main.held() >= HELD_MAX || self.tokens.push(token).is_err() {
+                return false;
+            }
+            self.board.arrive(&mut self.main, token);
         }
-        self.board.arrive(&mut self.main, token);
-        Ok(())
+        true
     }
 
-    /// Main departs with its newest token.
-    fn depart(&mut self) -> Result<(), CaseFault> {
+    /// Main departs with its newest token. Returns whether it has one.
+    fn depart(&mut self) -> bool {
         match self.tokens.pop() {
             Some(token) => {
                 self.board.depart(&mut self.main, token);
-                Ok(())
+                true
             }
-            None => Err(CaseFault::Malformed),
+            None => false,
         }
     }
 
-    /// Main splits off a helper, with all of its tokens or with none.
-    fn split(&mut self, all: bool) -> Result<(), CaseFault> {
-        if u64::from(self.main.helpers_out()) >= HELPER_CAP {
-            return Err(CaseFault::Malformed);
-        }
-        if all {
-            self.helper = Some(self.board.split(&mut self.main, self.tokens.as_slice()));
-            self.tokens.clear();
-        } else {
+    /// Main splits off helpers with no token. Returns whether it can.
+    fn split(&mut self, times: u64) -> bool {
+        for _ in 0..times {
+            if u64::from(self.main.helpers_out()) >= HELPER_CAP {
+                return false;
+            }
             self.helper = Some(self.board.split(&mut self.main, &[]));
         }
-        Ok(())
+        true
     }
 
-    /// Changes an amount of main.
-    fn change(&mut self, case: &Case) -> Result<(), CaseFault> {
-        let (stripe, n) = (small(case, 1)?, case.number(2)?);
-        if usize::from(stripe) >= L {
-            return Err(CaseFault::Malformed);
+    /// Main splits off a helper with all its tokens. Returns whether it can.
+    fn split_all(&mut self) -> bool {
+        if u64::from(self.main.helpers_out()) >= HELPER_CAP {
+            return false;
         }
-        if matches!(case.word(0), b"add") {
-            self.board.add(&mut self.main, 0, stripe, n);
+        self.helper = Some(self.board.split(&mut self.main, self.tokens.as_slice()));
+        self.tokens.clear();
+        true
+    }
+
+    /// Changes an amount of main. Returns whether there is such a stripe.
+    fn add(&mut self, stripe: u64, n: u64, is_taken: bool) -> bool {
+        if stripe >= L as u64 {
+            return false;
+        }
+        if is_taken {
+            self.board.take(&mut self.main, 0, stripe as u8, n);
         } else {
-            self.board.take(&mut self.main, 0, stripe, n);
+            self.board.add(&mut self.main, 0, stripe as u8, n);
         }
-        Ok(())
+        true
     }
 
-    /// Says what the helper says or is answered.
-    fn ask_helper(&mut self, case: &Case, said: &mut String) -> Result<(), CaseFault> {
-        let Some(helper) = self.helper.as_mut() else {
+    /// Makes a call that changes something. Returns whether it is one, and can be made.
+    fn change(&mut self, case: &Case) -> bool {
+        let first = case.number(1).unwrap_or(u64::MAX);
+        let second = case.number(2).unwrap_or(u64::MAX);
+        match case.word(0) {
+            b"arrive" => self.arrive(first, 1),
+            b"arrivals" => self.arrive(first, second),
+            b"depart" => self.depart(),
+            b"add" => self.add(first, second, false),
+            b"take" => self.add(first, second, true),
+            b"split" => self.split(1),
+            b"splits" => self.split(first),
+            b"split_all" => self.split_all(),
+            _ => false,
+        }
+    }
+
+    /// What the helper says or is answered.
+    fn ask_helper(&mut self, what: &[u8]) -> Option<u64> {
+        let helper = self.helper.as_mut()?;
+        match what {
+            b"helper_held" => Some(helper.held()),
+            b"helper_query" => Some(u64::from(self.board.query(helper, 0))),
+            b"helper_sum" => Some(self.board.sum(helper, 0)),
+            _ => None,
+        }
+    }
+
+    /// What main says or is answered.
+    fn ask(&mut self, what: &[u8]) -> Option<u64> {
+        match what {
+            b"steps" => Some(self.main.steps()),
+            b"held" => Some(self.main.held()),
+            b"helpers_out" => Some(u64::from(self.main.helpers_out())),
+            b"query" => Some(u64::from(self.board.query(&mut self.main, 0))),
+            b"sum" => Some(self.board.sum(&mut self.main, 0)),
+            _ => self.ask_helper(what),
+        }
+    }
+
+    /// Makes a call.
+    fn answer(&mut self, case: &Case, said: &mut String) -> Result<(), CaseFault> {
+        if self.change(case) {
+            return Ok(());
+        }
+        let Some(number) = self.ask(case.word(0)) else {
             return Err(CaseFault::Malformed);
         };
-        match case.word(0) {
-            b"helper_held" => write!(said, "{}", helper.held())?,
-            b"helper_query" => {
-                let answer = self.board.query(helper, 0);
-                write!(said, "{answer}")?;
-            }
-            b"helper_sum" => {
-                let sum = self.board.sum(helper, 0);
-                write!(said, "{sum}")?;
-            }
-            _ => return Err(CaseFault::Malformed),
-        }
-        Ok(())
-    }
-
-    /// Says what main says or is answered.
-    fn ask(&mut self, case: &Case, said: &mut String) -> Result<(), CaseFault> {
-        match case.word(0) {
-            b"steps" => write!(said, "{}", self.main.steps())?,
-            b"held" => write!(said, "{}", self.main.held())?,
-            b"helpers_out" => write!(said, "{}", self.main.helpers_out())?,
-            b"query" => {
-                let answer = self.board.query(&mut self.main, 0);
-                write!(said, "{answer}")?;
-            }
-            b"sum" => {
-                let sum = self.board.sum(&mut self.main, 0);
-                write!(said, "{sum}")?;
-            }
-            _ => return self.ask_helper(case, said),
-        }
+        write!(said, "{number}")?;
         Ok(())
     }
 }
@@ -167,8 +186,8 @@ impl<const W: usize, const L: usize> Boards<W, L> {
         Ok(Boards { hands: Some(hands) })
     }
 
-    /// Closes the board. Returns whether no helper was out.
-    fn close(&mut self) -> Result<bool, CaseFault> {
+    /// Closes the board. Returns whether there was one, and no helper was out.
+    fn close(&mut self) -> bool {
         match self.hands.take() {
             Some(
                 Hands {
@@ -177,8 +196,8 @@ impl<const W: usize, const L: usize> Boards<W, L> {
                     tokens: _,
                     helper: _,
                 },
-            ) => Ok(ends(board, main)),
-            None => Err(CaseFault::Malformed),
+            ) => ends(board, main),
+            None => false,
         }
     }
 }
@@ -191,35 +210,16 @@ impl<const W: usize, const L: usize> Subject for Boards<W, L> {
         case: &Case,
         said: &mut String,
     ) -> Result<Outcome, CaseFault> {
-        if matches!(case.word(0), b"close") {
-            let closed = if self.close()? { "closed" } else { "open" };
-            said.push_str(closed)?;
-            return Ok(Outcome::Answered);
-        }
-        if matches!(case.word(0), b"threads") {
-            put_threads(rt, alloc, case, said)?;
-            return Ok(Outcome::Answered);
-        }
-        let Some(hands) = self.hands.as_mut() else {
-            return Err(CaseFault::Malformed);
-        };
         match case.word(0) {
-            b"arrive" => hands.arrive(small(case, 1)?)?,
-            b"arrivals" => {
-                for _ in 0..case.number(2)? {
-                    hands.arrive(small(case, 1)?)?;
-                }
+            b"close" => {
+                let closed = self.close();
+                write!(said, "{closed}")?;
             }
-            b"depart" => hands.depart()?,
-            b"add" | b"take" => hands.change(case)?,
-            b"split" => hands.split(false)?,
-            b"split_all" => hands.split(true)?,
-            b"splits" => {
-                for _ in 0..case.number(1)? {
-                    hands.split(false)?;
-                }
-            }
-            _ => hands.ask(case, said)?,
+            b"threads" => put_threads(rt, alloc, case, said)?,
+            _ => match self.hands.as_mut() {
+                Some(hands) => hands.answer(case, said)?,
+                None => return Err(CaseFault::Malformed),
+            },
         }
         Ok(Outcome::Answered)
     }
