@@ -9,7 +9,7 @@
 //!
 //! If the meters differ at some slot, the answer ends in `differ`.
 
-ghost use Rattle.std.specs.Prelude.{◌≡◌, ℕ, ◌<◌, ◌≤◌, length, IfOk};
+ghost use Rattle.std.specs.Prelude.{◌≡◌, ℕ, ◌<◌, ◌≤◌, length};
 ghost use Rattle.snzi_core.specs.Holding.{held};
 ghost use Rattle.snzi_tokens.specs.Listed.{IsWithin};
 ghost use Rattle.pids_charge.specs.Table.{table_at, table_held};
@@ -61,11 +61,28 @@ fn tokens(alloc: Global, case: &Case, from: usize) -> Result<Vec<Token>, CaseFau
     Ok(tokens)
 }
 
-/// The stripe that a word is.
-fn stripe_in(case: &Case, at: usize) -> Result<u8, CaseFault>
-    ensures { IfOk result (λ n. n < LEAVES) }
-{
-    Ok((case.number(at)? % LEAVES as u64) as u8)
+/// The charges to come, and how those that there are make room for them.
+#[derive(Drop)]
+struct Change {
+    way: Way,
+    stripe: u8,
+    charges: Vec<Token>,
+    ghost stripe_is: { stripe < LEAVES },
+}
+
+/// The change with the stripe and the tokens that the words from this one on are.
+fn read_change(alloc: Global, case: &Case, from: usize) -> Result<Change, CaseFault> {
+    let way = match case.word(0) {
+        b"calls" => Way::Calls,
+        _ => Way::Settlement,
+    };
+    let stripe = (case.number(from)? % LEAVES as u64) as u8;
+    let charges = tokens(alloc, case, from.saturating_add(1))?;
+    Ok(Change {
+        way,
+        stripe,
+        charges,
+    })
 }
 
 impl Meters {
@@ -78,18 +95,20 @@ impl Meters {
         })
     }
 
-    /// Replaces the charges of both meters, with these test hooks. Returns whether the meters are alike; None if there are no such charges.
+    /// Replaces the charges of both meters, with these test hooks. Returns whether the meters are alike; None if there are no
+    /// such charges.
     fn replace<R: Threads>(
         &mut self,
         rt: &R,
-        way: Way,
         open: &(dyn Gate + Sync),
         gate: &(dyn Gate + Sync),
-        stripe: u8,
-        charges: Vec<Token>,
-    ) -> Option<bool>
-        requires { stripe < LEAVES }
-    {
+        change: Change,
+    ) -> Option<bool> {
+        let Change {
+            way,
+            stripe,
+            charges,
+        } = change;
         if !fits(charges.as_slice()) {
             return None;
         }
@@ -101,21 +120,16 @@ impl Meters {
         Some(alike(&mut self.plain, &mut self.board, SLOTS as u16))
     }
 
-    /// Replaces the charges by those of the call, and says the counts.
+    /// Replaces the charges, and says the counts.
     fn put_replaced<R: Threads>(
         &mut self,
         rt: &R,
-        alloc: Global,
-        case: &Case,
-        at: usize,
-        way: Way,
         open: &(dyn Gate + Sync),
         gate: &(dyn Gate + Sync),
+        change: Change,
         said: &mut String,
     ) -> Result<(), CaseFault> {
-        let stripe = stripe_in(case, at)?;
-        let charges = tokens(alloc, case, at.saturating_add(1))?;
-        let Some(is_alike) = self.replace(rt, way, open, gate, stripe, charges) else {
+        let Some(is_alike) = self.replace(rt, open, gate, change) else {
             return Err(CaseFault::Malformed);
         };
         let [first, second, last] = counts(&mut self.plain);
@@ -137,8 +151,12 @@ impl Meters {
                 Way::Settlement
             };
             let charges = drawn(alloc, number)?;
-            let stripe = (round % LEAVES as u64) as u8;
-            if self.replace(rt, way, &OpenGate, &OpenGate, stripe, charges) != Some(true) {
+            let change = Change {
+                way,
+                stripe: (round % LEAVES as u64) as u8,
+                charges,
+            };
+            if self.replace(rt, &OpenGate, &OpenGate, change) != Some(true) {
                 return Ok(round);
             }
         }
@@ -155,38 +173,14 @@ impl Subject for Meters {
         said: &mut String,
     ) -> Result<Outcome, CaseFault> {
         match case.word(0) {
-            b"calls" => self.put_replaced(
-                rt,
-                alloc,
-                case,
-                1,
-                Way::Calls,
-                &OpenGate,
-                &OpenGate,
-                said,
-            )?,
-            b"settle" => self.put_replaced(
-                rt,
-                alloc,
-                case,
-                1,
-                Way::Settlement,
-                &OpenGate,
-                &OpenGate,
-                said,
-            )?,
+            b"calls" | b"settle" => {
+                let change = read_change(alloc, case, 1)?;
+                self.put_replaced(rt, &OpenGate, &OpenGate, change, said)?;
+            }
             b"meet" => {
+                let change = read_change(alloc, case, 2)?;
                 let meeting = Meeting::new(case.number(1)?.min(9) as usize);
-                self.put_replaced(
-                    rt,
-                    alloc,
-                    case,
-                    2,
-                    Way::Settlement,
-                    &OpenGate,
-                    &meeting,
-                    said,
-                )?;
+                self.put_replaced(rt, &OpenGate, &meeting, change, said)?;
                 said.push_str(meeting.said())?;
             }
             b"drawn" => {
