@@ -12,7 +12,7 @@
 
 ghost use Rattle.std.specs.Prelude.{◌≡◌, ◌≤◌, ◌⊎◌, IfOk};
 
-use crate::events::{event_words, events};
+use crate::events::{event_words, events, number};
 use crate::refused::{core_fits, each_room};
 use snzi_core::{At, Core, Event, Unlawful};
 use std::alloc::{AllocError, Allocator, Global};
@@ -95,7 +95,10 @@ pub(crate) struct Cores<A: Allocator + Clone> {
 fn slots_in(case: &Case, at: usize) -> Result<u16, CaseFault>
     ensures { IfOk result (λ n. 1 ≤ n) }
 {
-    Ok(case.number(at)?.clamp(1, 65_535) as u16)
+    match case.number(at)? {
+        slots @ 1..=65_535 => Ok(slots as u16),
+        _ => Err(CaseFault::Malformed),
+    }
 }
 
 /// The number of nodes that a word is.
@@ -111,20 +114,35 @@ fn nodes_in(case: &Case, at: usize) -> Result<u8, CaseFault>
     }
 }
 
+/// The name of a refusal.
+pub(crate) fn name_of(unlawful: Unlawful) -> &'static str {
+    match unlawful {
+        Unlawful::NoHand => "NoHand",
+        Unlawful::NoToken => "NoToken",
+        Unlawful::Cap => "Cap",
+        Unlawful::StillHolding => "StillHolding",
+        Unlawful::OutOfMemory => "OutOfMemory",
+        Unlawful::NoNode => "NoNode",
+        Unlawful::ZeroNode => "ZeroNode",
+    }
+}
+
 /// Appends where a list of this many events stopped, and why.
 pub(crate) fn put_stop(
     said: &mut String,
     count: usize,
     stop: Option<(usize, Unlawful)>,
 ) -> Result<(), AllocError> {
-    if stop.is_some() && !said.is_empty() {
+    let Some((at, unlawful)) = stop else {
+        return Ok(());
+    };
+    if !said.is_empty() {
         said.push(' ')?;
     }
-    match stop {
-        Some((_, unlawful)) if count == 1 => write!(said, "{unlawful:?}"),
-        Some((at, unlawful)) => write!(said, "{at} {unlawful:?}"),
-        None => Ok(()),
+    if count > 1 {
+        write!(said, "{at} ")?;
     }
+    said.push_str(name_of(unlawful))
 }
 
 impl<A: Allocator + Copy + Drop> Cores<A> {
@@ -182,14 +200,14 @@ impl<A: Allocator + Copy + Drop> Cores<A> {
         let Some(core) = self.core.as_ref() else {
             return Err(CaseFault::Malformed);
         };
-        let slot = case.number(1)?.min(65_535) as u16;
+        let slot = number(case, 1, 0, 65_535)? as u16;
         if matches!(case.word(0), b"sum") {
             let Some(sum) = core.sum(slot) else {
                 return Err(CaseFault::Malformed);
             };
             write!(said, "{sum}")?;
         } else {
-            let Some(answer) = core.query(slot, case.number(2)?.min(255) as u8) else {
+            let Some(answer) = core.query(slot, number(case, 2, 0, 255)? as u8) else {
                 return Err(CaseFault::Malformed);
             };
             write!(said, "{answer}")?;

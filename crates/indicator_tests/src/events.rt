@@ -17,14 +17,18 @@ pub(crate) struct EventWords {
     share: Vec<Token>,
 }
 
-/// The number that a word is, but at most this one.
-fn number(case: &Case, at: usize, round: u64, most: u64) -> Result<u64, CaseFault>
+/// The number that a word is, up to this one.
+pub(crate) fn number(case: &Case, at: usize, round: u64, most: u64) -> Result<u64, CaseFault>
     ensures { IfOk result (λ n. n ≤ most) }
 {
-    match case.word(at) {
-        b"#" => Ok(round.min(most)),
-        _ => Ok(case.number(at)?.min(most)),
+    let number = match case.word(at) {
+        b"#" => round,
+        _ => case.number(at)?,
+    };
+    if number > most {
+        return Err(CaseFault::Malformed);
     }
+    Ok(number)
 }
 
 /// The tokens of a split, by their slots and leaves between these words.
@@ -32,8 +36,8 @@ fn share(alloc: Global, case: &Case, from: usize, to: usize) -> Result<Vec<Token
     let mut tokens = Vec::new(alloc);
     for at in from..to {
         if at % 2 != from % 2 {
-            let slot = case.number(at.saturating_sub(1))?.min(65_535) as u16;
-            let leaf = case.number(at)?.min(255) as u8;
+            let slot = number(case, at.saturating_sub(1), 0, 65_535)? as u16;
+            let leaf = number(case, at, 0, 255)? as u8;
             if tokens.push(Token { slot, leaf }).is_err() {
                 return Err(CaseFault::OutOfMemory);
             }

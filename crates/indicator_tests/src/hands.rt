@@ -137,7 +137,9 @@ impl<const W: usize, const L: usize> Hands<W, L> {
 
     /// What the helper says or is answered.
     fn ask_helper(&mut self, what: &[u8]) -> Option<u64> {
-        let helper = self.helper.as_mut()?;
+        let Some(helper) = &mut self.helper else {
+            return None;
+        };
         match what {
             b"helper_held" => Some(helper.held()),
             b"helper_query" => Some(u64::from(self.board.query(helper, 0))),

@@ -7,7 +7,7 @@
 
 ghost use Rattle.std.specs.Prelude.{◌≡◌, ◌≤◌, ◌⊎◌};
 
-use crate::cores::{Shaped, put_stop};
+use crate::cores::{Shaped, name_of, put_stop};
 use crate::events::{event_words, events};
 use linked_list_allocator::LocalHeap;
 use snzi_core::Event;
@@ -59,10 +59,11 @@ fn put_room(
     let mut core = Shaped::new(heap, 1, 7)?;
     let mut blocks = all_but(alloc, heap, room)?;
     let done = put_run(said, &mut core, events, &mut blocks)?;
-    match core.run(&[Event::Join { helper: 1 }]) {
-        Some((_, unlawful)) => write!(said, ", join {unlawful:?}")?,
-        None => said.push_str(", join ok")?,
-    }
+    let join = match core.run(&[Event::Join { helper: 1 }]) {
+        Some((_, unlawful)) => name_of(unlawful),
+        None => "ok",
+    };
+    write!(said, ", join {join}")?;
     let is_whole = done >= events.len();
     if !is_whole {
         said.push_str(", then")?;

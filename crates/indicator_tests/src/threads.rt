@@ -27,7 +27,7 @@ struct Layout {
 }
 
 // The result of a run: whether each query was true, and what main finds after the joins.
-#[derive(Clone, Copy)]
+#[derive(Drop)]
 struct Found {
     each: bool,
     query: bool,
