@@ -50,6 +50,18 @@ impl<A: Allocator + Clone> Shaped<A> {
         }
     }
 
+    /// Does the events. Says where they stopped and why, and the words at the nodes of slot 0.
+    pub(crate) fn put_run(
+        &mut self,
+        events: &[Event<'_>],
+        said: &mut String,
+    ) -> Result<Option<(usize, Unlawful)>, AllocError> {
+        let stop = self.run(events);
+        put_stop(said, events.len(), stop)?;
+        self.put_words(said, 0)?;
+        Ok(stop)
+    }
+
     /// The sum of a slot.
     pub(crate) fn sum(&self, slot: u16) -> Option<u64> {
         if slot < self.slots {
@@ -128,7 +140,7 @@ pub(crate) fn name_of(unlawful: Unlawful) -> &'static str {
 }
 
 /// Appends where a list of this many events stopped, and why.
-pub(crate) fn put_stop(
+fn put_stop(
     said: &mut String,
     count: usize,
     stop: Option<(usize, Unlawful)>,
@@ -170,13 +182,10 @@ impl<A: Allocator + Copy + Drop> Cores<A> {
         };
         let words = event_words(alloc, case, 0)?;
         let events = events(alloc, case, words.as_slice(), 0)?;
-        let stop = core.run(events.as_slice());
-        if let Some((0, Unlawful::OutOfMemory)) = stop {
-            return Ok(Outcome::Refused);
+        match core.put_run(events.as_slice(), said)? {
+            Some((0, Unlawful::OutOfMemory)) => Ok(Outcome::Refused),
+            _ => Ok(Outcome::Answered),
         }
-        put_stop(said, events.len(), stop)?;
-        core.put_words(said, 0)?;
-        Ok(Outcome::Answered)
     }
 
     /// How many of the rounds did all their events.
@@ -200,14 +209,14 @@ impl<A: Allocator + Copy + Drop> Cores<A> {
         let Some(core) = self.core.as_ref() else {
             return Err(CaseFault::Malformed);
         };
-        let slot = number(case, 1, 0, 65_535)? as u16;
+        let slot = number(case, 1, 65_535)? as u16;
         if matches!(case.word(0), b"sum") {
             let Some(sum) = core.sum(slot) else {
                 return Err(CaseFault::Malformed);
             };
             write!(said, "{sum}")?;
         } else {
-            let Some(answer) = core.query(slot, number(case, 2, 0, 255)? as u8) else {
+            let Some(answer) = core.query(slot, number(case, 2, 255)? as u8) else {
                 return Err(CaseFault::Malformed);
             };
             write!(said, "{answer}")?;

@@ -10,21 +10,19 @@ use snzi_core::{At, Event, Token};
 use std::alloc::Global;
 use test_support::{Case, CaseFault};
 
-/// The words of one event: where they begin, and the share if it is a split.
+/// The words of one event: where they begin, where the next event begins, and the share if it is a split.
 #[derive(Drop)]
 pub(crate) struct EventWords {
     from: usize,
+    to: usize,
     share: Vec<Token>,
 }
 
 /// The number that a word is, up to this one.
-pub(crate) fn number(case: &Case, at: usize, round: u64, most: u64) -> Result<u64, CaseFault>
+pub(crate) fn number(case: &Case, at: usize, most: u64) -> Result<u64, CaseFault>
     ensures { IfOk result (λ n. n ≤ most) }
 {
-    let number = match case.word(at) {
-        b"#" => round,
-        _ => case.number(at)?,
-    };
+    let number = case.number(at)?;
     if number > most {
         return Err(CaseFault::Malformed);
     }
@@ -36,8 +34,8 @@ fn share(alloc: Global, case: &Case, from: usize, to: usize) -> Result<Vec<Token
     let mut tokens = Vec::new(alloc);
     for at in from..to {
         if at % 2 != from % 2 {
-            let slot = number(case, at.saturating_sub(1), 0, 65_535)? as u16;
-            let leaf = number(case, at, 0, 255)? as u8;
+            let slot = number(case, at.saturating_sub(1), 65_535)? as u16;
+            let leaf = number(case, at, 255)? as u8;
             if tokens.push(Token { slot, leaf }).is_err() {
                 return Err(CaseFault::OutOfMemory);
             }
@@ -46,7 +44,7 @@ fn share(alloc: Global, case: &Case, from: usize, to: usize) -> Result<Vec<Token
     Ok(tokens)
 }
 
-/// The events from this word on.
+/// The words of the events from this word on.
 pub(crate) fn event_words(
     alloc: Global,
     case: &Case,
@@ -54,19 +52,56 @@ pub(crate) fn event_words(
 ) -> Result<Vec<EventWords>, CaseFault> {
     let mut found = Vec::new(alloc);
     let mut from = first;
-    for at in first..=case.count() {
-        if at == case.count() || matches!(case.word(at), b";") {
+    for to in first..=case.count() {
+        if to == case.count() || matches!(case.word(to), b";") {
             let share = match case.word(from) {
-                b"split" => share(alloc, case, from.saturating_add(1), at)?,
+                b"split" => share(alloc, case, from.saturating_add(1), to)?,
                 _ => Vec::new(alloc),
             };
-            if found.push(EventWords { from, share }).is_err() {
+            if found.push(EventWords { from, to, share }).is_err() {
                 return Err(CaseFault::OutOfMemory);
             }
-            from = at.saturating_add(1);
+            from = to.saturating_add(1);
         }
     }
     Ok(found)
+}
+
+/// The first four numbers between these words; 0 for those that are missing.
+fn numbers(case: &Case, from: usize, to: usize, round: u64) -> Result<[u64; 4], CaseFault> {
+    let mut numbers = [0; 4];
+    for (at, number) in (from..to).zip(numbers.iter_mut()) {
+        *number = match case.word(at) {
+            b"#" => round,
+            _ => case.number(at)?,
+        };
+    }
+    Ok(numbers)
+}
+
+/// The event that these words are, without its share; None if they are none.
+fn plain_event(name: &[u8], numbers: [u64; 4]) -> Option<Event<'static>> {
+    let [hand, slot, word, n] = numbers;
+    if hand > 4_294_967_295 || slot > 65_535 || word > 255 {
+        return None;
+    }
+    let (hand, slot, word) = (hand as u32, slot as u16, word as u8);
+    let at = At { slot, node: word };
+    match name {
+        b"load" => Some(Event::Load { hand, slot, word }),
+        b"fast" => Some(Event::FastAdd { hand, at }),
+        b"root" => Some(Event::RootAdd { hand, slot }),
+        b"child" => Some(Event::ChildAdd { hand, at }),
+        b"leave" => Some(Event::Leave { hand, at }),
+        b"stripe" => Some(Event::StripeAdd {
+            hand,
+            slot,
+            stripe: word,
+            n,
+        }),
+        b"join" => Some(Event::Join { helper: hand }),
+        _ => None,
+    }
 }
 
 /// The event that these words are.
@@ -76,31 +111,10 @@ fn event<'a>(case: &Case, words: &'a EventWords, round: u64) -> Result<Event<'a>
         let share = words.share.as_slice();
         return Ok(Event::Split { share });
     }
-    let hand = number(case, words.from.saturating_add(1), round, 4_294_967_295)? as u32;
-    if let b"join" = name {
-        return Ok(Event::Join { helper: hand });
-    }
-    let slot = number(case, words.from.saturating_add(2), round, 65_535)? as u16;
-    if let b"root" = name {
-        return Ok(Event::RootAdd { hand, slot });
-    }
-    let word = number(case, words.from.saturating_add(3), round, 255)? as u8;
-    let at = At { slot, node: word };
-    match name {
-        b"load" => Ok(Event::Load { hand, slot, word }),
-        b"fast" => Ok(Event::FastAdd { hand, at }),
-        b"child" => Ok(Event::ChildAdd { hand, at }),
-        b"leave" => Ok(Event::Leave { hand, at }),
-        b"stripe" => {
-            let n = case.number(words.from.saturating_add(4))?;
-            Ok(Event::StripeAdd {
-                hand,
-                slot,
-                stripe: word,
-                n,
-            })
-        }
-        _ => Err(CaseFault::Malformed),
+    let numbers = numbers(case, words.from.saturating_add(1), words.to, round)?;
+    match plain_event(name, numbers) {
+        Some(event) => Ok(event),
+        None => Err(CaseFault::Malformed),
     }
 }
 

@@ -7,7 +7,7 @@
 //! | `split`, `split_all` | a new helper with no token, or with all of main's, in place of the last one, which stays out |
 //! | `splits N` | N helpers with no token that stay out |
 //! | `steps`, `held`, `helpers_out`, `query`, `sum` | what main says or is answered; `query` 1 or 0 |
-//! | `helper_held`, `helper_query`, `helper_sum` | the same of the helper |
+//! | `helper steps`, `helper held`, `helper query`, `helper sum` | the same of the helper |
 //! | `close` | `true`; `false` if a helper is out |
 //! | `threads LEAVES END` | what four helpers in threads of their own leave on a new board (`threads.rt`) |
 
@@ -16,7 +16,7 @@ ghost use Rattle.std.specs.Option.{ForSome};
 ghost use Rattle.snzi_core.specs.Holding.{held};
 ghost use Rattle.snzi_tokens.specs.Listed.{IsWithin, listed_at};
 ghost use Rattle.snzi_tree.specs.Contents.{content_of};
-ghost use Rattle.snzi_tree.specs.Hands.{IsHandOf, IsMain, holds};
+ghost use Rattle.snzi_tree.specs.Hands.{IsHandOf, IsMain, SameHand, holds};
 ghost use Rattle.snzi_tree.specs.View.{IsBoard};
 
 use crate::threads::{ends, put_threads};
@@ -39,6 +39,24 @@ pub(crate) struct Hands<const W: usize, const L: usize> {
     ghost within: { IsWithin 1 L tokens.items },
     ghost content: { (s j : ℕ) → content_of W L (holds main) s j ≡ listed_at tokens.items s j },
     ghost helper_here: { ForSome helper (λ hand. IsHandOf board hand) },
+}
+
+/// What a hand says or is answered.
+fn ask_hand<const W: usize, const L: usize>(
+    board: &Board<1, W, L>,
+    hand: &mut Hand,
+    what: &[u8],
+) -> Option<u64>
+    requires here { IsHandOf board.now hand.old }
+    ensures hand { SameHand hand.old hand.new × (holds hand.new ≡ holds hand.old) }
+{
+    match what {
+        b"steps" => Some(hand.steps()),
+        b"held" => Some(hand.held()),
+        b"query" => Some(u64::from(board.query(hand, 0))),
+        b"sum" => Some(board.sum(hand, 0)),
+        _ => None,
+    }
 }
 
 impl<const W: usize, const L: usize> Hands<W, L> {
@@ -135,28 +153,17 @@ impl<const W: usize, const L: usize> Hands<W, L> {
         }
     }
 
-    /// What the helper says or is answered.
-    fn ask_helper(&mut self, what: &[u8]) -> Option<u64> {
-        let Some(helper) = &mut self.helper else {
-            return None;
-        };
-        match what {
-            b"helper_held" => Some(helper.held()),
-            b"helper_query" => Some(u64::from(self.board.query(helper, 0))),
-            b"helper_sum" => Some(self.board.sum(helper, 0)),
-            _ => None,
-        }
-    }
-
-    /// What main says or is answered.
-    fn ask(&mut self, what: &[u8]) -> Option<u64> {
-        match what {
-            b"steps" => Some(self.main.steps()),
-            b"held" => Some(self.main.held()),
+    /// What main or the helper says or is answered.
+    fn ask(&mut self, case: &Case) -> Option<u64> {
+        match case.word(0) {
             b"helpers_out" => Some(u64::from(self.main.helpers_out())),
-            b"query" => Some(u64::from(self.board.query(&mut self.main, 0))),
-            b"sum" => Some(self.board.sum(&mut self.main, 0)),
-            _ => self.ask_helper(what),
+            b"helper" => {
+                let mut helper = self.helper.take()?;
+                let answer = ask_hand(&self.board, &mut helper, case.word(1));
+                self.helper = Some(helper);
+                answer
+            }
+            what => ask_hand(&self.board, &mut self.main, what),
         }
     }
 
@@ -165,7 +172,7 @@ impl<const W: usize, const L: usize> Hands<W, L> {
         if self.change(case) {
             return Ok(());
         }
-        let Some(number) = self.ask(case.word(0)) else {
+        let Some(number) = self.ask(case) else {
             return Err(CaseFault::Malformed);
         };
         write!(said, "{number}")?;

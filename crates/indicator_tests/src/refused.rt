@@ -7,7 +7,7 @@
 
 ghost use Rattle.std.specs.Prelude.{◌≡◌, ◌≤◌, ◌⊎◌};
 
-use crate::cores::{Shaped, name_of, put_stop};
+use crate::cores::{Shaped, name_of};
 use crate::events::{event_words, events};
 use linked_list_allocator::LocalHeap;
 use snzi_core::Event;
@@ -29,25 +29,6 @@ pub(crate) fn core_fits(
     Ok((fits, heap.used()))
 }
 
-/// Does the events. Says where they stopped and why, and what is left. Returns how many were done.
-fn put_run(
-    said: &mut String,
-    core: &mut Shaped<&LocalHeap>,
-    events: &[Event<'_>],
-    room: &mut Vec<Vec<u8, &LocalHeap>>,
-) -> Result<usize, AllocError> {
-    let stop = core.run(events);
-    room.clear();
-    put_stop(said, events.len(), stop)?;
-    core.put_words(said, 0)?;
-    let sum = core.sum(0).unwrap_or(0);
-    write!(said, " sum {sum}")?;
-    match stop {
-        Some((done, _)) => Ok(done),
-        None => Ok(events.len()),
-    }
-}
-
 /// What is found with room for this many blocks. Returns whether all events were done.
 fn put_room(
     alloc: Global,
@@ -57,19 +38,22 @@ fn put_room(
     said: &mut String,
 ) -> Result<bool, AllocError> {
     let mut core = Shaped::new(heap, 1, 7)?;
-    let mut blocks = all_but(alloc, heap, room)?;
-    let done = put_run(said, &mut core, events, &mut blocks)?;
+    let blocks = all_but(alloc, heap, room)?;
+    let stop = core.put_run(events, said)?;
+    drop(blocks);
+    let sum = core.sum(0).unwrap_or(0);
     let join = match core.run(&[Event::Join { helper: 1 }]) {
         Some((_, unlawful)) => name_of(unlawful),
         None => "ok",
     };
-    write!(said, ", join {join}")?;
-    let is_whole = done >= events.len();
-    if !is_whole {
+    write!(said, " sum {sum}, join {join}")?;
+    if let Some((done, _)) = stop {
         said.push_str(", then")?;
-        put_run(said, &mut core, &events[done..], &mut blocks)?;
+        core.put_run(&events[done.min(events.len())..], said)?;
+        let sum = core.sum(0).unwrap_or(0);
+        write!(said, " sum {sum}")?;
     }
-    Ok(is_whole)
+    Ok(stop.is_none())
 }
 
 /// What is found with room for no block, for one and so on, until all events are done.
