@@ -9,7 +9,7 @@
 //!
 //! If the meters differ at some slot, the answer ends in `differ`.
 
-ghost use Rattle.std.specs.Prelude.{◌≡◌, ℕ, ◌<◌, ◌≤◌, length};
+ghost use Rattle.std.specs.Prelude.{◌<◌, ◌≤◌, length};
 ghost use Rattle.snzi_core.specs.Holding.{held};
 ghost use Rattle.snzi_tokens.specs.Listed.{IsWithin};
 ghost use Rattle.pids_charge.specs.Table.{table_at, table_held};

@@ -2,7 +2,7 @@
 //!
 //! | Call | Answer |
 //! |---|---|
-//! | `core SLOTS NODES` | as below; the subject is a new core |
+//! | `core SLOTS NODES` | nothing; the subject is a new core |
 //! | an event (`events`) | after `step` of it: the words at the nodes of slot 0, after the name of the refusal if it was refused |
 //! | two events or more | after `replay` of them: the same, with the index of the event that was refused before its refusal |
 //! | `times N EVENTS` | how many of N replays did all their events; a round's number is in place of `#` |
@@ -31,6 +31,7 @@ pub(crate) struct Shaped<A: Allocator + Clone> {
 }
 
 impl<A: Allocator + Clone> Shaped<A> {
+    /// A new core.
     pub(crate) fn new(home: A, slots: u16, nodes: u8) -> Result<Shaped<A>, AllocError>
         requires slots { 1 ≤ slots }
         requires nodes { (nodes ≡ 1) ⊎ (nodes ≡ 3) ⊎ (nodes ≡ 7) ⊎ (nodes ≡ 15) }

@@ -13,7 +13,6 @@
 
 ghost use Rattle.std.specs.Prelude.{◌≡◌, ℕ};
 ghost use Rattle.std.specs.Option.{ForSome};
-ghost use Rattle.snzi_core.specs.Holding.{held};
 ghost use Rattle.snzi_tokens.specs.Listed.{IsWithin, listed_at};
 ghost use Rattle.snzi_tree.specs.Contents.{content_of};
 ghost use Rattle.snzi_tree.specs.Hands.{IsHandOf, IsMain, SameHand, holds};
