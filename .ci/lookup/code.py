@@ -1,15 +1,15 @@
-"""What a line of the repository is: the part that it belongs to, the function that it is in, whether it defines a name."""
+"""What a line of the repository is: the part that it belongs to, the function that it is in, its contract, what it breaks."""
 
 import functools
 import re
 
+from .definitions import FUNCTION
+
 CLAUSE = re.compile(r"^\s*(requires|ensures|ghost)\b|[≡≢→×λ∀∃≤ℕ↔∷⊥]")
-NAME = r"(\w+)"
-FUNCTION = re.compile(r"^\s*(?:pub(?:\([a-z ]+\))? )?(?:const |unsafe |extern \"C\" )*fn " + NAME)
 IMPL = re.compile(r"^impl\b(?:<.*?>)? ?(?:[\w:<>, ]+ for )?(\w+)")
 TESTS = re.compile(
     r"(^|/)tests?/|_test\.go$|^bindings/examples/|^evidence/|/bench|^crates/\w+_tests/|^crates/test_|/data/|/std(in|out)$"
-    r"|^\.ci/(tests|refused|shell|installed|must-not-compile)/|/fuzz/"
+    r"|^\.ci/(tests|refused|shell|installed|must-not-compile)/|/fuzz/|^\w+/test(-check)?$|^\.ci/(edits-passed|mutants-caught)$"
 )
 ENDINGS = {".md": "documents", ".svg": "documents", ".edit": "edits", ".mutant": "mutants"}
 
@@ -49,22 +49,6 @@ def functions_of(text):
             inside = f"{owner}::{name[1]}" if owner and line.startswith(" ") else name[1]
         found.append(inside)
     return found
-
-
-def definition_of(path, names):
-    """What a line of that file matches if it defines one of the names; None if the file can't define one."""
-    either, is_number = "|".join(map(re.escape, names)), names[0][0].isdigit()
-    if path.endswith(".antt") and "/specs/" in path:
-        return re.compile(rf"^\s*((abbrev|unfoldable|pub|record|data|rel) )+({either})\b|^  (pub )?({either}) : ")
-    if path.endswith((".rt", ".rs")):
-        types = r"^\s*(pub(\(\w+\))? )?(struct|enum|trait|type|const|mod|static) "
-        items = rf"({FUNCTION.pattern.removesuffix(NAME)}|{types})({either})\b"
-        variants = rf"^    ({either})(\(.*\)| \{{)?,?$"
-        return re.compile(f"{items}|{variants}" + (rf"|\bconst \w+: .* = ({either})\b" if is_number else ""))
-    if path.endswith((".py", ".go", ".h", ".c", ".mjs")):
-        items = rf"^\s*(class|def|func|type|#define) ({either})\b|^\s*({either})\s.*= C\.|^\s*({either}) = \d"
-        return re.compile(items + (rf"|\b[A-Z_]+\b.* = ({either})\b" if is_number else ""))
-    return None
 
 
 def contract_of(lines, number):

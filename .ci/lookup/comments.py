@@ -2,7 +2,7 @@
 
 import re
 
-from .code import definition_of
+from .definitions import definition_of
 
 COMMENT = re.compile(r"^\s*(//[/!]?|--) ?(.*)$")
 CODE = re.compile(r"`([^`]+)`")

@@ -3,6 +3,8 @@
 import functools
 import re
 
+from .screen import short
+
 TABLE = "crates/word_tables/stdout"
 FILES = "crates/interface_files/src/file.rt"
 MEANINGS = "crates/undo_journal/specs/CommandMeaning.antt"
@@ -90,12 +92,18 @@ def same_things(name, texts):
     return sorted(set(others) - {name}), said
 
 
+# What an escape in a string, or a change of the font, ends: a name may begin behind it.
+ESCAPE = r"\\[0abefnrtv]"
+
+
 def boundaries(name):
-    """A name of a file isn't part of a longer one, and a number not part of another."""
+    """A name of a file isn't part of a longer one, a number not part of another, an option not of another."""
     if name[0].isdigit():
-        return r"(?<![\d.,_])", r"(?![\d_]|[.,]\d)"
-    first = r"(?:(?<![\w.])|(?<=\\0))"  # a zero byte in a string of C ends what is before it
-    return (first, r"(?!\w|\.\w)") if "." in name else (r"(?<!\w)", r"(?!\w)")
+        return rf"(?:(?<![\w.,])|(?<={ESCAPE}))", r"(?![\d_]|[.,]\d)"
+    if name[0] == "-":
+        return r"(?<![\w-])", r"(?![\w-])"
+    before, behind = (r"(?<![\w.])", r"(?!\w|\.\w)") if "." in name else (r"(?<!\w)", r"(?!\w)")
+    return f"(?:{before}|(?<={ESCAPE}))", behind
 
 
 def pattern_of(names):
@@ -111,7 +119,26 @@ def compiled(names):
 
 def longer_words(names, line):
     """The words of a line that have one of the names in them, and are not one."""
-    names = [name for name in names if not name[0].isdigit()]
-    letters = r"[\w.]+" if any("." in name for name in names) else r"\w+"
-    found = {word.strip(".") for word in re.findall(letters, line)} if names else ()
-    return {word for word in found if any(name in word for name in names) and not pattern_of(names).search(word)}
+    more = ("." if any("." in name for name in names) else "") + ("-" if any(name[0] == "-" for name in names) else "")
+    found = re.findall(rf"(?:{ESCAPE})?([\w{more}]+)", line)
+    words = {word.strip(".") for word in found}
+    return {word for word in words if any(is_in(name, word) for name in names) and not pattern_of(names).search(word)}
+
+
+def is_in(name, word):
+    """Whether the word has the name in it. A number isn't in a longer one."""
+    return bool(re.search(rf"(?<!\d){name}(?!\d)", word)) if name[0].isdigit() else name in word
+
+
+def files_named(name, texts):
+    """The files of that name, with or without their ending, and the folders, as a screen lists them."""
+    found = {}
+    for path in texts:
+        *folders, last = path.split("/")
+        if name in (last, last.rsplit(".", 1)[0]):
+            found.setdefault(short(path), 0)
+        for depth, folder in enumerate(folders):
+            if folder == name:
+                at = "/".join(folders[: depth + 1])
+                found[at] = found.get(at, 0) + 1
+    return [f"{short(at)}/ {count} file{'s' * (count > 1)}" if count else at for at, count in sorted(found.items())]

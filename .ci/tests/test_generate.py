@@ -67,6 +67,7 @@ class Generate(unittest.TestCase):
         self.assertIn('    "pids.new": b"0\\n",\n', self.read("mount/tests/files.py"))
         self.assertIn('\t{ "pids.new", false, 0444 },\n', self.read("look/tests/faulty.c"))
         self.assertIn('    (File::PidsNew, "pids.new", false),\n', self.read("evidence/bench/plain/lines.rs"))
+        self.assertIn("`.current`, `.new`, `.peak`", self.read("README.md"))
 
     def test_a_file_without_parts_is_written_whole(self):
         whole = self.read(TRACE)

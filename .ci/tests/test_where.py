@@ -26,6 +26,12 @@ NAMES = (
     "Step.limit_met",
     "mkdir",
     "group",
+    "mk_wait_file",
+    "MK_WOULD_BLOCK",
+    "--keep",
+    "64",
+    "the child's pid is in use",
+    "missing_group_before_direction",
 )
 
 
@@ -80,6 +86,17 @@ class OfThisRepository(unittest.TestCase):
                 with self.subTest(name, path=path):
                     self.assertTrue(short in files or above(path) & folders or edit in whole, whole)
 
+    def test_every_line_that_a_search_by_hand_finds_has_the_name_or_a_longer_word(self):
+        for name in NAMES[:3] + NAMES[4:7] + NAMES[8:]:
+            for path, text in self.texts.items():
+                for line in text.split("\n") if name in text else ():
+                    found = (
+                        name not in line or where.pattern_of([name]).search(line) or where.longer_words([name], line)
+                    )
+                    # a digit, a comma or a point beside a number makes another number of it
+                    other_number = name.isdigit() and not re.search(rf"(?<![\d.,]){name}(?![\d.,_])", line)
+                    self.assertTrue(found or other_number, f"{name}: {path}: {line}")
+
     def test_longer_words_are_counted(self):
         longer = self.searches["pids.peak"].longer
         self.assertEqual(longer["pids.peaks"], sum("pids.peaks" in text for text in self.texts.values()))
@@ -88,8 +105,14 @@ class OfThisRepository(unittest.TestCase):
         self.assertIn("OverPidsMax", self.searches["PidsMax"].names)
         self.assertIn("PidsMax", where.Search("OverPidsMax", self.texts).names)
 
-    def test_a_string_of_c_with_zero_bytes(self):
-        self.assertTrue(where.pattern_of(["cgroup.kill"]).search('"a\\0cgroup.kill\\0/b"'))
+    def test_a_word_behind_an_escape(self):
+        for name, line in (
+            ("cgroup.kill", '"a\\0cgroup.kill\\0/b"'),
+            ("mkdir", 'b"undo\\nmkdir /a"'),
+            ("SLOTS", '"number\\tSLOTS"'),
+        ):
+            self.assertTrue(where.pattern_of([name]).search(line), line)
+            self.assertEqual(where.longer_words([name], line), set())
 
     def test_all_fits_on_a_screen(self):
         for name, search in self.searches.items():
@@ -134,6 +157,15 @@ class OfAMadeUpRepository(unittest.TestCase):
         "crates/low/must-fail-more/two.edit": "# breaks: Adds.IsFew\nfile: src/sum.rt\nold: self.add()\nnew: self\n",
         "crates/low_tests/data/sums.cases": "add 1 => 1\nadded\n",
         "crates/low/proofs/sum/Sum/add/Answers.antt": "proof\n",
+        "python/tree.py": "class Tree:\n    def peak(self):\nMOST = 9\nclass Other:\n    def peak(self):\n",
+        "python/tests/test_tree.py": "assert h.peak() == 1 and peak == 2\n",
+        "go/tree.go": "package tree\ntype Limit uint32\n\tNoLimit Limit = 5\nfunc (t *Tree) peak() int { return 0 }\nvar x = 32\n",
+        "c/peaks.h": "uint32_t mk_peak(mk_handle *h);\ntypedef struct mk_info {\nenum { TWO = 2, THREE };\n"
+        "static int peaks[4];\n\treturn done(1);\n",
+        "page.mjs": "export const HEIGHT = 1, WIDTH = 2;\nexport function rows(run) {\n",
+        "run": "#!/bin/bash\nstep() {\n  tool --keep=a --keep-all\n",
+        "README.md": "`Tree.peak` is a number.\n",
+        "man/tool.1": where.plain_manual(".B \\-\\-keep\\fR\n"),
     }
 
     def screen(self, name):
@@ -165,6 +197,52 @@ class OfAMadeUpRepository(unittest.TestCase):
                 "tests       low_tests/data/sums.cases:1",
             ],
         )
+
+    def test_a_method_of_python_or_go(self):
+        self.assertEqual(
+            self.screen("Tree.peak"),
+            [
+                "Tree.peak",
+                "defined     go/tree.go:4 func (t *Tree) peak() int { return 0 }",
+                "            python/tree.py:2 def peak(self):",
+                "code        go/tree.go:4; python/tree.py:2",
+                "tests       python/tests/test_tree.py:1",
+                "documents   README.md:1",
+            ],
+        )
+
+    def test_definitions_of_each_language(self):
+        for name, line in (
+            ("mk_peak", "c/peaks.h:1 uint32_t mk_peak(mk_handle *h);"),
+            ("mk_info", "c/peaks.h:2 typedef struct mk_info {"),
+            ("THREE", "c/peaks.h:3 enum { TWO = 2, THREE };"),
+            ("peaks", "c/peaks.h:4 static int peaks[4];"),
+            ("WIDTH", "page.mjs:1 export const HEIGHT = 1, WIDTH = 2;"),
+            ("rows", "page.mjs:2 export function rows(run) {"),
+            ("Limit", "go/tree.go:2 type Limit uint32"),
+            ("NoLimit", "go/tree.go:3 NoLimit Limit = 5"),
+            ("step", "run:2 step() {"),
+            ("MOST", "python/tree.py:3 MOST = 9"),
+        ):
+            self.assertIn(f"defined     {line}", self.screen(name), name)
+
+    def test_a_call_is_no_definition(self):
+        self.assertEqual(self.screen("done"), ["done", "code        c/peaks.h:5"])
+
+    def test_an_option(self):
+        self.assertEqual(
+            self.screen("--keep"),
+            ["--keep", "code        run:3", "documents   man/tool.1:1", "longer      --keep-all 1 files"],
+        )
+
+    def test_a_number_in_a_word_is_no_number(self):
+        self.assertEqual(
+            self.screen("32"), ["32", "code        go/tree.go:5", "longer      uint32 1 files; uint32_t 1 files"]
+        )
+
+    def test_the_name_of_a_file_or_a_folder(self):
+        self.assertEqual(self.screen("two"), ["two", "files       low/must-fail-more/two.edit"])
+        self.assertEqual(self.screen("low_tests"), ["low_tests", "files       low_tests/ 1 file"])
 
     def test_a_name_that_is_nowhere(self):
         said = io.StringIO()

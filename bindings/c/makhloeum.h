@@ -6,7 +6,7 @@
  *     if (mk_mkdir(&h, "/a", &info) != MK_DONE) fprintf(stderr, "mkdir /a: %s\n", strerror(info.error));
  *     mk_close(&h);
  *
- * A handle names one engine: the groups, the processes and a journal that can undo commands. A line is a line of the trace
+ * A handle names one engine: the groups, the processes and a history of commands that can be undone. A line is a line of the trace
  * language, and its answer the bytes that a replay writes for it (docs/FORMATS.md, "Trace" and "Replies"). `man 3 makhloeum` lists
  * the manual pages of the calls.
  *
@@ -186,7 +186,7 @@ uint32_t mk_undo(mk_handle *h, uint64_t number, uint8_t *out, size_t out_size, m
 uint32_t mk_depth(mk_handle *h, size_t *depth);
 
 /* Forgets the recorded commands: groups, processes and counts stay, none of these commands can be undone any more, and
-   the memory of the journal is freed. Needs no memory. MK_DONE, MK_CLOSED or MK_BUSY. */
+   the memory of the history is freed. Needs no memory. MK_DONE, MK_CLOSED or MK_BUSY. */
 uint32_t mk_forget(mk_handle *h);
 
 /* Makes a copy of an engine in a handle that has none: the same groups, processes, counts and recorded commands. From then

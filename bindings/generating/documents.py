@@ -38,6 +38,17 @@ def document_files():
     return table(("File", "On the root", "Read", "Written", "Text"), rows)
 
 
+def readme_files():
+    """The files of each controller, the first with its whole name."""
+    groups = {}
+    for file in FILES:
+        groups.setdefault(file.name.split(".")[0], []).append(file.name)
+    lists = (
+        [f"`{names[0]}`", *(f"`{name.removeprefix(kind)}`" for name in names[1:])] for kind, names in groups.items()
+    )
+    yield f"The files of a group: {'; '.join(map(', '.join, lists))}."
+
+
 def document_commands():
     rows = (
         (f"`{' '.join([it.example.split()[0], it.arguments or '']).strip()}`", it.meaning) for it in TABLES["command"]
@@ -144,6 +155,7 @@ PARTS = {
     "words of the manual": manual_words,
     "bounds of the manual": manual_bounds,
     "table of files": document_files,
+    "files that work": readme_files,
     "table of commands": document_commands,
     "table of replies": document_replies,
     "table of codes": document_codes,

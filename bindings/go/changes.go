@@ -15,12 +15,8 @@ const slice = 50 * time.Millisecond
 // Changes returns how many calls have changed the hierarchy, undos included. The error is ErrClosed or ErrBusy.
 func (h *Hierarchy) Changes() (uint64, error) {
 	var changes C.uint64_t
-	status := C.mk_changes(&h.handle, &changes)
-	runtime.KeepAlive(h)
-	if status != C.MK_DONE {
-		return 0, failure(command{text: "changes"}, uint32(status), 0, nil)
-	}
-	return uint64(changes), nil
+	err := h.errorOf("changes", C.mk_changes(&h.handle, &changes))
+	return uint64(changes), err
 }
 
 // Wait waits until Changes differs from seen, and returns it. The error is that of the context ctx, within 50 ms of its end, or

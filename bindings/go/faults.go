@@ -1,26 +1,22 @@
 package makhloeum
 
 // #include "makhloeum.h"
-// #include <stdlib.h>
 import "C"
 
 import (
 	"fmt"
 	"math"
-	"runtime"
 	"syscall"
-	"unsafe"
 )
 
 // Fail makes the nth call from now on that names the path fail with the errno; it changes nothing. nth is 1 for the next. It is
 // for tests of programs that use a hierarchy. It is refused with BadPath, and with BadValue if nth or errno is 0; an errno beyond 31
 // bits is syscall.EINVAL. While there are faults, each call with a path takes time for each of them.
 func (h *Hierarchy) Fail(path string, nth uint64, errno syscall.Errno) error {
-	what := fmt.Sprintf("fail %s", path)
 	if errno > math.MaxInt32 {
-		return fmt.Errorf("%s: %d is not an errno: %w", what, uint64(errno), syscall.EINVAL)
+		return fmt.Errorf("fail %s: %d is not an errno: %w", path, uint64(errno), syscall.EINVAL)
 	}
-	return h.plan(what, path, func(text *C.char, info *C.mk_info) C.uint32_t {
+	return h.callWithPath("fail", path, func(text *C.char, info *C.mk_info) C.uint32_t {
 		return C.mk_fail(&h.handle, text, C.uint64_t(nth), C.int32_t(errno), info)
 	})
 }
@@ -29,30 +25,14 @@ func (h *Hierarchy) Fail(path string, nth uint64, errno syscall.Errno) error {
 // it with all groups below it: after Vanish("/a", 1), Children("/") lists it and Read("/a", ..) is refused with NoGroup. nth is 1
 // for the next call. It is refused with BadPath, and with BadValue if nth is 0 or the path is that of the root.
 func (h *Hierarchy) Vanish(path string, nth uint64) error {
-	return h.plan(fmt.Sprintf("vanish %s", path), path, func(text *C.char, info *C.mk_info) C.uint32_t {
+	return h.callWithPath("vanish", path, func(text *C.char, info *C.mk_info) C.uint32_t {
 		return C.mk_vanish(&h.handle, text, C.uint64_t(nth), info)
 	})
-}
-
-func (h *Hierarchy) plan(what, path string, plan func(*C.char, *C.mk_info) C.uint32_t) error {
-	text := cPath(path)
-	defer C.free(unsafe.Pointer(text))
-	var info C.mk_info
-	status := plan(text, &info)
-	runtime.KeepAlive(h)
-	if status == C.MK_DONE {
-		return nil
-	}
-	return failed(command{text: what, path: path, hasPath: true}, uint32(status), info, nil)
 }
 
 // ClearFaults drops the faults that have not occurred, and returns how many there were. The error is ErrClosed or ErrBusy.
 func (h *Hierarchy) ClearFaults() (int, error) {
 	var left C.size_t
-	status := C.mk_clear_faults(&h.handle, &left)
-	runtime.KeepAlive(h)
-	if status != C.MK_DONE {
-		return 0, failure(command{text: "clear faults"}, uint32(status), 0, nil)
-	}
-	return int(left), nil
+	err := h.errorOf("clear faults", C.mk_clear_faults(&h.handle, &left))
+	return int(left), err
 }

@@ -248,26 +248,26 @@ func (h *Hierarchy) Undo() (string, error) {
 	return strings.TrimSuffix(text, "\n"), err
 }
 
+// errorOf is the error of a call with that status, which took neither a line nor a path.
+func (h *Hierarchy) errorOf(call string, status C.uint32_t) error {
+	runtime.KeepAlive(h)
+	if status == C.MK_DONE {
+		return nil
+	}
+	return failure(command{text: call}, uint32(status), 0, nil)
+}
+
 // Depth returns how many recorded commands can be undone. The error is ErrClosed or ErrBusy.
 func (h *Hierarchy) Depth() (int, error) {
 	var depth C.size_t
-	status := C.mk_depth(&h.handle, &depth)
-	runtime.KeepAlive(h)
-	if status != C.MK_DONE {
-		return 0, failure(command{text: "depth"}, uint32(status), 0, nil)
-	}
-	return int(depth), nil
+	err := h.errorOf("depth", C.mk_depth(&h.handle, &depth))
+	return int(depth), err
 }
 
 // Forget forgets the recorded commands and frees their memory: groups, processes and counts stay, and nothing earlier can
 // be undone. The error is ErrClosed or ErrBusy. It takes time for each recorded command, and no memory.
 func (h *Hierarchy) Forget() error {
-	status := C.mk_forget(&h.handle)
-	runtime.KeepAlive(h)
-	if status != C.MK_DONE {
-		return failure(command{text: "forget"}, uint32(status), 0, nil)
-	}
-	return nil
+	return h.errorOf("forget", C.mk_forget(&h.handle))
 }
 
 // Copy makes a new hierarchy with the same groups, processes, counts and recorded commands. From then on the two are

@@ -20,12 +20,12 @@ func cPath(path string) *C.char {
 	return C.CString(path)
 }
 
-// number makes a call that reads something of the group.
-func (h *Hierarchy) number(what, path string, read func(path *C.char, info *C.mk_info) C.uint32_t) error {
+// callWithPath makes a call of C that takes the path of a group.
+func (h *Hierarchy) callWithPath(what, path string, call func(path *C.char, info *C.mk_info) C.uint32_t) error {
 	text := cPath(path)
 	defer C.free(unsafe.Pointer(text))
 	var info C.mk_info
-	status := read(text, &info)
+	status := call(text, &info)
 	runtime.KeepAlive(h)
 	if status == C.MK_DONE {
 		return nil
@@ -37,7 +37,7 @@ func (h *Hierarchy) number(what, path string, read func(path *C.char, info *C.mk
 // with NoFile for the root.
 func (h *Hierarchy) Current(path string) (int, error) {
 	var value C.uint64_t
-	err := h.number("current", path, func(text *C.char, info *C.mk_info) C.uint32_t {
+	err := h.callWithPath("current", path, func(text *C.char, info *C.mk_info) C.uint32_t {
 		return C.mk_current(&h.handle, text, &value, info)
 	})
 	return int(value), err
@@ -46,7 +46,7 @@ func (h *Hierarchy) Current(path string) (int, error) {
 // Peak returns pids.peak: the largest pids.current of the group path so far. It is refused with NoGroup, and with NoFile for the root.
 func (h *Hierarchy) Peak(path string) (int, error) {
 	var value C.uint64_t
-	err := h.number("peak", path, func(text *C.char, info *C.mk_info) C.uint32_t {
+	err := h.callWithPath("peak", path, func(text *C.char, info *C.mk_info) C.uint32_t {
 		return C.mk_peak(&h.handle, text, &value, info)
 	})
 	return int(value), err
@@ -56,7 +56,7 @@ func (h *Hierarchy) Peak(path string) (int, error) {
 // with NoFile for the root.
 func (h *Hierarchy) Limit(path string) (int, bool, error) {
 	var value C.uint64_t
-	err := h.number("limit", path, func(text *C.char, info *C.mk_info) C.uint32_t {
+	err := h.callWithPath("limit", path, func(text *C.char, info *C.mk_info) C.uint32_t {
 		return C.mk_limit(&h.handle, text, &value, info)
 	})
 	if err != nil || value == C.MK_NO_LIMIT {
@@ -68,7 +68,7 @@ func (h *Hierarchy) Limit(path string) (int, bool, error) {
 // Populated says whether the group path or a group below it has a process. It is refused with NoGroup, and with NoFile for the root.
 func (h *Hierarchy) Populated(path string) (bool, error) {
 	var populated C.bool
-	err := h.number("populated", path, func(text *C.char, info *C.mk_info) C.uint32_t {
+	err := h.callWithPath("populated", path, func(text *C.char, info *C.mk_info) C.uint32_t {
 		return C.mk_populated(&h.handle, text, &populated, info)
 	})
 	return bool(populated), err
@@ -78,7 +78,7 @@ func (h *Hierarchy) Populated(path string) (bool, error) {
 func (h *Hierarchy) Processes(path string) ([]int, error) {
 	found := make([]C.uint32_t, 64)
 	count := 0
-	err := h.number("processes", path, func(text *C.char, info *C.mk_info) C.uint32_t {
+	err := h.callWithPath("processes", path, func(text *C.char, info *C.mk_info) C.uint32_t {
 		for {
 			status := C.mk_processes(&h.handle, text, &found[0], C.size_t(len(found)), info)
 			count = int(info.count)

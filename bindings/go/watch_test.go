@@ -133,6 +133,19 @@ func TestAWatchEndsWithItsContextAndWithoutAFile(t *testing.T) {
 	}
 }
 
+// endsWith fails the test unless a wait that may take the time ahead has ended with the error.
+func endsWith(t *testing.T, want error, ended <-chan error, ahead time.Duration) {
+	t.Helper()
+	select {
+	case err := <-ended:
+		if !errors.Is(err, want) {
+			t.Error(ahead, err)
+		}
+	case <-time.After(patience):
+		t.Fatal(ahead, "no end")
+	}
+}
+
 func TestAWaitReturnsAtItsDeadline(t *testing.T) {
 	h := open(t)
 	for _, ahead := range []time.Duration{-time.Hour, 0, time.Microsecond, 70 * time.Millisecond} {
@@ -143,14 +156,7 @@ func TestAWaitReturnsAtItsDeadline(t *testing.T) {
 			_, err := h.Wait(ctx, 0)
 			ended <- err
 		}()
-		select {
-		case err := <-ended:
-			if !errors.Is(err, context.DeadlineExceeded) {
-				t.Error(ahead, err)
-			}
-		case <-time.After(patience):
-			t.Fatal(ahead, "no end")
-		}
+		endsWith(t, context.DeadlineExceeded, ended, ahead)
 	}
 }
 
@@ -165,14 +171,7 @@ func TestAWaitEndsWithItsContext(t *testing.T) {
 			ended <- err
 		}()
 		cancel()
-		select {
-		case err := <-ended:
-			if !errors.Is(err, context.Canceled) {
-				t.Error(ahead, err)
-			}
-		case <-time.After(patience):
-			t.Fatal(ahead, "no end")
-		}
+		endsWith(t, context.Canceled, ended, ahead)
 	}
 }
 

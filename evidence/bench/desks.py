@@ -22,7 +22,7 @@ class Bench:
         return False
 
     def seconds(self, way, workload, threads, calls):
-        """How long a run takes in which each thread makes so many calls; None, with a message, if not all were done."""
+        """How long a run takes in which each thread makes that number of calls; None, with a message, if not all were done."""
         command = [self.program, way, workload, str(threads), str(calls)]
         wall, _, _, status = self.play(command, os.devnull, self.said)
         with open(self.said, encoding="utf-8") as it:

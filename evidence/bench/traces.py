@@ -1,4 +1,4 @@
-"""The workloads of evidence/bench: each makes a trace of about so many lines, the same one each time.
+"""The workloads of evidence/bench: each makes a trace of about LINES lines, the same one each time.
 
     python3 traces.py NAME LINES     writes one trace to standard output
 """

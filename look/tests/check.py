@@ -157,7 +157,7 @@ def script_of(out):
     return script[: script.index("")]
 
 
-def shows(m, script):
+def shows(script):
     """What the last line of the script prints is what the directory said; its pids are other numbers."""
     said = re.search(r"; the directory: (.*)$", script[1])[1]
     parted = [*script[:-1], "echo --", script[-1]]
@@ -186,7 +186,7 @@ def caught(name):
         if m.groups():
             return f"left: {m.groups()}", seconds
         if name not in NOT_REPLAYED:
-            right, ran = shows(m, script)
+            right, ran = shows(script)
             if not right:
                 return "the script shows something else:\n" + "\n".join(script) + f"\n{ran.stdout}{ran.stderr}", seconds
         return "", seconds

@@ -98,10 +98,6 @@ SMALL = {
     ".makhloeum": {"undo": ""},
     "no-group": {"x": ""},
 }  # fmt: skip
-SMALL_TREE = (
-    "DIR                                                                           1\n"
-    "├─ a    [███████▌  ]    3/4  peak 4  populated  refused 2 here, 5 in all  2 3\n"
-)
 
 
 def test_a_directory_as_text(tmp_path):

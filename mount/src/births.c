@@ -17,7 +17,7 @@
 
 /* How long a child whose creator was killed may take to reach its first stop. It exists already and only has to be
    scheduled. */
-enum { SLOTS = 65536, GRACE = 1000 };
+enum { PLACES = 65536, GRACE = 1000 };
 
 struct birth {
 	unsigned long ticket;
@@ -31,7 +31,7 @@ struct birth {
 	struct registers before; /* the creator's, at the stop */
 };
 
-static struct birth *slots[SLOTS];
+static struct birth *births[PLACES];
 static unsigned long last_ticket;
 static size_t lost; /* births without a creator whose child has not come yet */
 static long long next_look;
@@ -46,15 +46,15 @@ static long long now(void)
 
 static struct birth *find(unsigned long ticket)
 {
-	struct birth *b = slots[ticket % SLOTS];
+	struct birth *b = births[ticket % PLACES];
 	return b && b->ticket == ticket ? b : NULL;
 }
 
 static struct birth *begin(struct thread *t)
 {
 	int tries = 0;
-	while (slots[++last_ticket % SLOTS])
-		if (++tries == SLOTS)
+	while (births[++last_ticket % PLACES])
+		if (++tries == PLACES)
 			return NULL;
 	struct birth *b = calloc(1, sizeof *b);
 	if (!b)
@@ -62,7 +62,7 @@ static struct birth *begin(struct thread *t)
 	b->ticket = last_ticket;
 	b->creator = t;
 	b->process = t->process;
-	slots[b->ticket % SLOTS] = b;
+	births[b->ticket % PLACES] = b;
 	t->makes = b;
 	return b;
 }
@@ -77,7 +77,7 @@ static void end(struct birth *b)
 		b->creator->makes = NULL;
 	else if (!b->told)
 		lost--;
-	slots[b->ticket % SLOTS] = NULL;
+	births[b->ticket % PLACES] = NULL;
 	free(b);
 }
 
@@ -354,8 +354,8 @@ int births_give_up(void)
 		return -1;
 	long long t = now(), next = LLONG_MAX;
 	if (t >= next_look) {
-		for (size_t i = 0; i < SLOTS; i++) {
-			struct birth *b = slots[i];
+		for (size_t i = 0; i < PLACES; i++) {
+			struct birth *b = births[i];
 			if (!b || b->creator || b->told)
 				continue;
 			if (b->given_up_at <= t)

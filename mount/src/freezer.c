@@ -3,11 +3,11 @@
 #include "engine.h"
 #include "listed.h"
 #include "number.h"
+#include "room.h"
 #include "watch.h"
 #include <errno.h>
 #include <stdint.h>
 #include <stdio.h>
-#include <stdlib.h>
 #include <string.h>
 #include <sys/eventfd.h>
 #include <unistd.h>
@@ -151,14 +151,10 @@ static size_t changes_count, changes_room;
 
 static int note(pid_t pid, const char *group)
 {
-	if (changes_count == changes_room) {
-		size_t room = changes_room ? 2 * changes_room : 64;
-		struct change *more = realloc(changes, room * sizeof *more);
-		if (!more)
-			return -ENOMEM;
-		changes = more;
-		changes_room = room;
-	}
+	struct change *more = with_room(changes, changes_count + 1, &changes_room, sizeof *more);
+	if (!more)
+		return -ENOMEM;
+	changes = more;
 	changes[changes_count++] = (struct change){ pid, is_to_freeze(group) };
 	return 0;
 }

@@ -1,7 +1,7 @@
 #include "joined.h"
 #include "engine.h"
+#include "room.h"
 #include <errno.h>
-#include <stdlib.h>
 
 /* Those of more than one command, oldest first; `more` is how many commands they and those before them have beyond one each. */
 static struct joined {
@@ -12,14 +12,10 @@ static size_t count, room;
 int joined_make_room(void)
 {
 	WANTS_LOCK();
-	if (count < room)
-		return 0;
-	size_t wanted = room ? 2 * room : 64;
-	struct joined *at = realloc(all, wanted * sizeof *at);
+	struct joined *at = with_room(all, count + 1, &room, sizeof *at);
 	if (!at)
 		return -ENOMEM;
 	all = at;
-	room = wanted;
 	return 0;
 }
 

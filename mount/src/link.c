@@ -20,8 +20,8 @@
 
 enum what { RESERVE, BORN, CANCEL, EXITED, STOPPED, ORDER, PREPARE, SPACE, NEWS };
 
-/* As many questions as a socket can have are answered at once. The server is woken for so much news of threads, or after so many
-   milliseconds. */
+/* AT_ONCE: the questions that a socket can have, which are answered at once. MUCH: how much news of threads wakes the server. LATE:
+   after how many milliseconds less news does. */
 enum { AT_ONCE = 1024, MUCH = 8, LATE = 1 };
 
 /* Only the beginning of a question is sent, up to the end of its text. */

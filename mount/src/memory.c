@@ -10,12 +10,6 @@ bool memory_read(pid_t thread, unsigned long at, void *out, size_t size)
 	return process_vm_readv(thread, &here, 1, &there, 1, 0) == (ssize_t)size;
 }
 
-bool memory_write(pid_t thread, unsigned long at, const void *bytes, size_t size)
-{
-	struct iovec here = { (void *)(size_t)bytes, size }, there = { (void *)at, size };
-	return process_vm_writev(thread, &here, 1, &there, 1, 0) == (ssize_t)size;
-}
-
 bool memory_text(pid_t thread, unsigned long at, char *out, size_t size)
 {
 	for (size_t done = 0; done < size;) { /* page by page: the next page may not exist */

@@ -7,7 +7,6 @@
 #include <sys/types.h>
 
 bool memory_read(pid_t thread, unsigned long at, void *out, size_t size);
-bool memory_write(pid_t thread, unsigned long at, const void *bytes, size_t size);
 /* A text that ends with a zero byte. */
 bool memory_text(pid_t thread, unsigned long at, char *out, size_t size);
 

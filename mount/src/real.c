@@ -6,6 +6,7 @@
 #include "place.h"
 #include "reported.h"
 #include "reserved.h"
+#include "room.h"
 #include "status.h"
 #include "watch.h"
 #include <dirent.h>
@@ -14,7 +15,6 @@
 #include <signal.h>
 #include <stdint.h>
 #include <stdio.h>
-#include <stdlib.h>
 #include <string.h>
 #include <sys/epoll.h>
 #include <sys/ioctl.h>
@@ -86,16 +86,12 @@ static int remember(pid_t pid)
 	int fd = (int)syscall(SYS_pidfd_open, pid, 0);
 	if (fd < 0)
 		return -errno;
-	if (adopted_count == adopted_room) {
-		size_t room = adopted_room ? 2 * adopted_room : 64;
-		struct adopted *more = realloc(adopted, room * sizeof *more);
-		if (!more) {
-			close(fd);
-			return -ENOMEM;
-		}
-		adopted = more;
-		adopted_room = room;
+	struct adopted *more = with_room(adopted, adopted_count + 1, &adopted_room, sizeof *more);
+	if (!more) {
+		close(fd);
+		return -ENOMEM;
 	}
+	adopted = more;
 	struct epoll_event e = { .events = EPOLLIN, .data.u32 = (unsigned)pid };
 	if (epoll_ctl(deaths, EPOLL_CTL_ADD, fd, &e)) {
 		close(fd);
@@ -269,14 +265,10 @@ static int note(pid_t pid, const char *group)
 	(void)group;
 	if (way != REPORTED && !is_known(pid))
 		return 0;
-	if (noted_count == noted_room) {
-		size_t room = noted_room ? 2 * noted_room : 64;
-		pid_t *more = realloc(noted, room * sizeof *more);
-		if (!more)
-			return -ENOMEM;
-		noted = more;
-		noted_room = room;
-	}
+	pid_t *more = with_room(noted, noted_count + 1, &noted_room, sizeof *more);
+	if (!more)
+		return -ENOMEM;
+	noted = more;
 	noted[noted_count++] = pid;
 	return 0;
 }

@@ -1,10 +1,10 @@
 #include "zombies.h"
 #include "engine.h"
 #include "place.h"
+#include "room.h"
 #include <errno.h>
 #include <signal.h>
 #include <stdio.h>
-#include <stdlib.h>
 #include <sys/epoll.h>
 #include <sys/resource.h>
 #include <sys/syscall.h>
@@ -62,14 +62,10 @@ int zombies_make_room(size_t more)
 	WANTS_LOCK();
 	if (count + more <= room)
 		return 0;
-	size_t wanted = room ? room : 64;
-	while (wanted < count + more)
-		wanted *= 2;
-	struct zombie *at = realloc(all, wanted * sizeof *at);
+	struct zombie *at = with_room(all, count + more, &room, sizeof *at);
 	if (!at)
 		return -ENOMEM;
 	all = at;
-	room = wanted;
 	return 0;
 }
 

@@ -9,11 +9,10 @@ import tempfile
 import time
 import uuid
 
-from support import CGREPLAY, PATIENCE, PROGRAM, finish, in_parallel, read, same, status_within, step, until, write
+from support import AT, BUILT, CGREPLAY, PATIENCE, PROGRAM
+from support import finish, in_parallel, into, line_of, read, same, status_within, step, until, write
 
-AT = "/sys/fs/cgroup"
 ME = os.path.realpath(__file__)
-BUILT = os.environ.get("HOSTILE") or os.path.join(os.path.dirname(PROGRAM), "..", "hostile")
 ABUSE, MEDDLE = (
     [os.path.join(BUILT, "abuse"), n]
     for n in ("vforks", "flags", "daemons", "namespaces", "execs", "memories", "filters", "tracers", "limits")
@@ -68,10 +67,6 @@ def reap():
             pass
     except ChildProcessError:
         pass
-
-
-def into(group):
-    write(AT + group + "/cgroup.procs", b"0\n")
 
 
 # ---------------------------------------------------------------- inside
@@ -142,14 +137,6 @@ def left(mark):
     return found
 
 
-def line_of(pid):
-    """The words of a process, or one that is empty."""
-    try:
-        return open("/proc/%d/cmdline" % pid, "rb").read().split(b"\0")
-    except OSError:
-        return [b""]
-
-
 def ends(name, how):
     """The run gets a signal in the middle of it."""
     mark = uuid.uuid4().hex
@@ -157,7 +144,7 @@ def ends(name, how):
     p = subprocess.Popen(
         [PROGRAM, "run", "sh", "-c", script, "sh", *WAYS[name], mark], start_new_session=True, stdout=subprocess.DEVNULL
     )
-    until(lambda: any(line[0] == WAYS[name][0].encode() for line in map(line_of, left(mark.encode()))))
+    until(lambda: any(line.startswith(WAYS[name][0].encode() + b"\0") for line in map(line_of, left(mark.encode()))))
     time.sleep(0.1)
     p.send_signal(how)
     try:

@@ -39,7 +39,7 @@ def sized(what, wanted, call):
     """A call into a buffer of the right size, and into one that is a byte too small."""
     room = ctypes.create_string_buffer(wanted)
     same("%s: its size" % what, call(None, 0), wanted)
-    same("into so many bytes", call(room, wanted), wanted)
+    same("into as many bytes", call(room, wanted), wanted)
     same("into one byte fewer", (call(room, wanted - 1), ctypes.get_errno()), (-1, errno.ERANGE))
 
 

@@ -11,30 +11,11 @@ import sys
 import tempfile
 import time
 
-from support import (
-    AT,
-    PATIENCE,
-    PROGRAM,
-    Beside,
-    Mount,
-    clone_into,
-    error_of,
-    finish,
-    in_parallel,
-    into,
-    libc,
-    line_of,
-    read,
-    same,
-    status_within,
-    step,
-    tracer,
-    until,
-    write,
-)
+from support import AT, BUILT, PATIENCE, PROGRAM, Beside, Mount
+from support import clone_into, error_of, finish, in_parallel, into, libc, line_of, read, same, status_within, step
+from support import tracer, until, write
 
 ME = os.path.realpath(__file__)
-BUILT = os.environ.get("HOSTILE") or os.path.join(os.path.dirname(PROGRAM), "..", "hostile")
 BLOCKING, STALLED = os.path.join(BUILT, "blocking"), os.path.join(BUILT, "stalled")
 PAGE = os.environ.get("PAGE", "")
 SLOW_KILL = os.path.join(os.path.dirname(PROGRAM), "slow_kill.so")  # only with the plain build

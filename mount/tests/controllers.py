@@ -87,12 +87,18 @@ def lost_pids():
     m.end()
 
 
-def internal():
+def with_a_process():
+    """Groups a and a/b of a mount with all controllers, and process 2 in a."""
     m = Mount("--keep", KEPT)
     change(m, ".", "+memory +cpu +pids")
     os.makedirs(m.path("a", "b"))
     write(m.control("fork"), b"1 2\n")
     write(m.path("a", "cgroup.procs"), b"2\n")
+    return m
+
+
+def internal():
+    m = with_a_process()
     same("memory in a group with a process", change(m, "a", "+memory"), "EBUSY")
     same("with others", change(m, "a", "+memory +cpu"), "EBUSY")
     same("nothing was enabled", text_of(m, "a", "cgroup.subtree_control"), "")
@@ -113,11 +119,7 @@ def internal():
 def threaded():
     """Controllers of threads may be enabled in a group with processes; then groups below are not domains. There are no threaded
     groups."""
-    m = Mount("--keep", KEPT)
-    change(m, ".", "+memory +cpu +pids")
-    os.makedirs(m.path("a", "b"))
-    write(m.control("fork"), b"1 2\n")
-    write(m.path("a", "cgroup.procs"), b"2\n")
+    m = with_a_process()
     same("pids in a group with a process", change(m, "a", "+pids"), "ok")
     same(
         "the type",

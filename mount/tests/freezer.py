@@ -9,23 +9,9 @@ import subprocess
 import sys
 import tempfile
 
-from support import (
-    PATIENCE,
-    PROGRAM,
-    Mount,
-    error_of,
-    finish,
-    in_parallel,
-    libc,
-    line_of,
-    read,
-    same,
-    step,
-    until,
-    write,
-)
+from support import AT, PATIENCE, PROGRAM, Mount
+from support import error_of, finish, in_parallel, libc, line_of, read, same, step, until, write
 
-AT = "/sys/fs/cgroup"
 ME = os.path.realpath(__file__)
 THAWED, FROZEN = b"frozen 0\n", b"frozen 1\n"
 

@@ -9,30 +9,11 @@ import subprocess
 import sys
 import tempfile
 
-from support import (
-    CGREPLAY,
-    PATIENCE,
-    PROGRAM,
-    error_of,
-    finish,
-    libc,
-    read,
-    same,
-    status_within,
-    step,
-    tracer,
-    until,
-    write,
-)
+from support import AT, BUILT, CGREPLAY, PATIENCE, PROGRAM
+from support import error_of, finish, into, libc, read, same, status_within, step, tracer, until, write
 
-AT = "/sys/fs/cgroup"
 ME = os.path.realpath(__file__)
-BUILT = os.environ.get("HOSTILE") or os.path.join(os.path.dirname(PROGRAM), "..", "hostile")
 HOSTILE, HANGS, STALLED = (os.path.join(BUILT, n) for n in ("hostile", "hangs", "stalled"))
-
-
-def into(group):
-    write(AT + group + "/cgroup.procs", b"0\n")
 
 
 def started(*words, group="/", program=HOSTILE):

@@ -12,27 +12,11 @@ import sys
 import threading
 import time
 
-from support import (
-    AT,
-    PATIENCE,
-    PROGRAM,
-    error_of,
-    finish,
-    in_parallel,
-    into,
-    libc,
-    line_of,
-    read,
-    same,
-    status_within,
-    step,
-    tracer,
-    until,
-    write,
-)
+from support import AT, BUILT, PATIENCE, PROGRAM
+from support import error_of, finish, in_parallel, into, libc, line_of, read, same, status_within, step
+from support import tracer, until, write
 
 ME = os.path.realpath(__file__)
-BUILT = os.environ.get("HOSTILE") or os.path.join(os.path.dirname(PROGRAM), "..", "hostile")
 READERS = os.path.join(BUILT, "readers")
 CLONE_NEWCGROUP = 0x02000000
 

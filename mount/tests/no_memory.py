@@ -13,9 +13,8 @@ import sys
 import tempfile
 import time
 
-from support import PATIENCE, PROGRAM, Mount, finish, in_parallel, libc, read, same, step, until, write
+from support import AT, PATIENCE, PROGRAM, Mount, finish, in_parallel, is_alive, libc, read, same, step, until, write
 
-AT = "/sys/fs/cgroup"
 ME = os.path.realpath(__file__)
 MOST = 400  # allocations of one call
 GOOD = ("ENOMEM",)
@@ -249,13 +248,6 @@ def wakes(m, group):
 # ---------------------------------------------------------------- real processes of a mount
 
 CHILDREN = "read x; sleep 600 & sleep 600 & echo; wait"
-
-
-def is_alive(pid):
-    try:
-        return open("/proc/%d/stat" % pid).read().rpartition(")")[2].split()[0] not in "ZX"
-    except OSError:
-        return False
 
 
 class Family:

@@ -14,9 +14,9 @@ import tempfile
 import threading
 import time
 
-from support import CGREPLAY, PATIENCE, PROGRAM, Mount, error_of, finish, libc, read, same, step, until, write
+from support import AT, CGREPLAY, PATIENCE, PROGRAM, Mount
+from support import error_of, finish, is_alive, libc, read, same, step, until, write
 
-AT = "/sys/fs/cgroup"
 ME = os.path.realpath(__file__)
 
 
@@ -151,20 +151,13 @@ def kills():
     pids = read(AT + "/a/b/cgroup.procs").split()
     write(AT + "/a/cgroup.kill", b"1\n")
     same("a kill ends the parent", os.waitpid(child, 0)[1], signal.SIGKILL)
-    step("and its %d children" % (len(pids) - 1), until(lambda: not any(alive(int(p)) for p in pids)))
+    step("and its %d children" % (len(pids) - 1), until(lambda: not any(is_alive(int(p)) for p in pids)))
     same(
         "nobody is left",
         (read(AT + "/a/pids.current"), read(AT + "/a/cgroup.events")),
         (b"0\n", b"populated 0\nfrozen 0\n"),
     )
     same("the groups can go", (error_of(os.rmdir, AT + "/a/b"), error_of(os.rmdir, AT + "/a")), ("ok", "ok"))
-
-
-def alive(pid):
-    try:
-        return open("/proc/%d/stat" % pid).read().rpartition(")")[2].split()[0] not in "ZX"
-    except OSError:
-        return False
 
 
 def clones():

@@ -8,9 +8,8 @@ import sys
 import tempfile
 import threading
 
-from support import PATIENCE, PROGRAM, error_of, finish, libc, read, same, step, write
+from support import AT, PATIENCE, PROGRAM, error_of, finish, into, libc, read, same, step
 
-AT = "/sys/fs/cgroup"
 ME = os.path.realpath(__file__)
 CLONE_NEWCGROUP = 0x02000000
 
@@ -20,10 +19,6 @@ def shell(script, *before):
         [*before, "sh", "-ec", script], stdout=subprocess.PIPE, stderr=subprocess.PIPE, timeout=PATIENCE
     )
     return ran.returncode, ran.stdout.decode(), ran.stderr.decode()
-
-
-def into(group):
-    write(AT + group + "/cgroup.procs", b"0\n")
 
 
 def namespaces():

@@ -12,6 +12,8 @@ import time
 from concurrent.futures import ThreadPoolExecutor
 
 PROGRAM = os.environ["MAKHLOEUM"]
+# The programs of the tests that are written in C.
+BUILT = os.environ.get("HOSTILE") or os.path.join(os.path.dirname(PROGRAM), "..", "hostile")
 CGREPLAY = os.environ["CGREPLAY"].split()
 CGSHELL = os.environ.get("CGSHELL", "")
 failed = []
@@ -200,6 +202,14 @@ def into(group):
 def tracer():
     """The supervisor of this process."""
     return int(next(x for x in open("/proc/self/status") if x.startswith("TracerPid:")).split()[1])
+
+
+def is_alive(pid):
+    """Whether there is such a process, and no zombie."""
+    try:
+        return open("/proc/%d/stat" % pid).read().rpartition(")")[2].split()[0] not in "ZX"
+    except OSError:
+        return False
 
 
 def line_of(pid):

@@ -13,11 +13,10 @@ import threading
 from concurrent.futures import ThreadPoolExecutor
 
 from on_kernel import left_out
-from support import CGREPLAY, PATIENCE, PROGRAM, error_of, finish, in_parallel, read, same, step, until, write
+from support import AT, BUILT, CGREPLAY, PATIENCE, PROGRAM
+from support import error_of, finish, in_parallel, read, same, step, until, write
 
-AT = "/sys/fs/cgroup"
 ME = os.path.realpath(__file__)
-BUILT = os.environ.get("HOSTILE") or os.path.join(os.path.dirname(PROGRAM), "..", "hostile")
 TASKS = os.path.join(BUILT, "tasks")
 
 

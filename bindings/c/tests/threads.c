@@ -64,19 +64,30 @@ static void pause_for(double seconds)
 	nanosleep(&t, NULL);
 }
 
-static void run_threads(void *(*body)(void *), double seconds)
+/* Each thread gets its number. */
+static void start_threads(pthread_t threads[THREADS], void *(*body)(void *))
 {
-	pthread_t threads[THREADS];
 	static int numbers[THREADS];
-	atomic_store(&stopped, false);
 	for (int i = 0; i < THREADS; i++) {
 		numbers[i] = i;
 		CHECK(pthread_create(&threads[i], NULL, body, &numbers[i]) == 0);
 	}
-	pause_for(seconds);
-	atomic_store(&stopped, true);
+}
+
+static void join_threads(const pthread_t threads[THREADS])
+{
 	for (int i = 0; i < THREADS; i++)
 		CHECK(pthread_join(threads[i], NULL) == 0);
+}
+
+static void run_threads(void *(*body)(void *), double seconds)
+{
+	pthread_t threads[THREADS];
+	atomic_store(&stopped, false);
+	start_threads(threads, body);
+	pause_for(seconds);
+	atomic_store(&stopped, true);
+	join_threads(threads);
 }
 
 /* ---- each thread has its own group: only this thread changes the group, so it knows each answer */
@@ -187,18 +198,13 @@ static void closing(double seconds)
 {
 	for (double end = now() + seconds; now() < end;) {
 		pthread_t threads[THREADS];
-		static int numbers[THREADS];
 		atomic_store(&closed, false);
-		for (int i = 0; i < THREADS; i++) {
-			numbers[i] = i;
-			CHECK(pthread_create(&threads[i], NULL, until_closed, &numbers[i]) == 0);
-		}
+		start_threads(threads, until_closed);
 		pause_for(0.002);
 		CHECK(mk_close(&h) == MK_DONE);
 		atomic_store(&closed, true);
 		CHECK(mk_close(&h) == MK_CLOSED);
-		for (int i = 0; i < THREADS; i++)
-			CHECK(pthread_join(threads[i], NULL) == 0);
+		join_threads(threads);
 		CHECK(mk_open(&h) == MK_DONE);
 	}
 }
@@ -383,12 +389,8 @@ static void in_the_child(void)
 static void forks(double seconds)
 {
 	pthread_t threads[THREADS];
-	static int numbers[THREADS];
 	atomic_store(&stopped, false);
-	for (int i = 0; i < THREADS; i++) {
-		numbers[i] = i;
-		CHECK(pthread_create(&threads[i], NULL, own_group, &numbers[i]) == 0);
-	}
+	start_threads(threads, own_group);
 	for (double end = now() + seconds; now() < end;) {
 		int status = -1;
 		pid_t child = fork();
@@ -398,8 +400,7 @@ static void forks(double seconds)
 		CHECK(waitpid(child, &status, 0) == child && WIFEXITED(status) && WEXITSTATUS(status) == 0);
 	}
 	atomic_store(&stopped, true);
-	for (int i = 0; i < THREADS; i++)
-		CHECK(pthread_join(threads[i], NULL) == 0);
+	join_threads(threads);
 }
 
 int main(int argc, char **argv)

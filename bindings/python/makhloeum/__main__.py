@@ -18,6 +18,7 @@ from typing import Any, Callable, TextIO
 
 from . import __version__
 from ._interrupts import ended_by_interrupt
+from ._output import _nobody_reads
 from ._table import FILES
 from .errors import NothingToUndo, Refused
 from .hierarchy import Hierarchy
@@ -258,9 +259,7 @@ def main(arguments: list[str]) -> int:
             any(run_script(shell, file) for file in arguments or ["-"])
             sys.stdout.flush()
         except BrokenPipeError:
-            # nobody reads the output any more; what is left of it must not fail again when the interpreter ends
-            os.dup2(os.open(os.devnull, os.O_WRONLY), sys.stdout.fileno())
-            return 141
+            return _nobody_reads()
         except OSError as failure:
             print(f"makhloeum: {failure}", file=sys.stderr)
             return 1

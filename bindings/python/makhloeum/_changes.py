@@ -27,15 +27,11 @@ class Changes:
     """The part of a Hierarchy that counts changes and waits for them."""
 
     _at: Any
-    _call: Callable[..., int]
+    _count: Callable[..., int]
 
     def changes(self) -> int:
         """How many calls have changed the hierarchy, undos included."""
-        count = ctypes.c_uint64()
-        status = self._call("mk_changes", ctypes.byref(count))
-        if status != DONE:
-            _raise(status, 0, "", None, "changes")
-        return count.value
+        return self._count("changes", ctypes.c_uint64())
 
     def wait(self, seen: int, timeout: float | None = None) -> int:
         """Waits until changes() is another number than `seen`, and returns it. Other threads can make calls meanwhile.
@@ -53,6 +49,6 @@ class Changes:
             if status == DONE:
                 return count.value
             if status != TIMED_OUT:
-                _raise(status, 0, "", None, "wait")
+                _raise(status, "wait")
             if end is not None and time.monotonic() >= end:
                 raise TimeoutError(f"wait: nothing has changed in {timeout} seconds")

@@ -14,6 +14,7 @@ class Faults:
     """The part of a Hierarchy that lets calls fail."""
 
     _call: Callable[..., int]
+    _count: Callable[..., int]
 
     @overload
     def fail(self, path: Path, *, error: int, nth: int = 1) -> None:
@@ -59,12 +60,8 @@ class Faults:
             raise ValueError(f"{command}: nth is 1 for the next call, not {nth}")
         status = self._call(f"mk_{operation}", word, nth, *error, ctypes.byref(info))
         if status != DONE:
-            _raise(status, info.code, "value", path, command)
+            _raise(status, command, path, info, "value")
 
     def clear_faults(self) -> int:
         """Drops the faults that have not occurred, and returns how many there were."""
-        left = ctypes.c_size_t()
-        status = self._call("mk_clear_faults", ctypes.byref(left))
-        if status != DONE:
-            _raise(status, 0, "", None, "clear_faults")
-        return left.value
+        return self._count("clear_faults", ctypes.c_size_t())

@@ -6,8 +6,8 @@ import ctypes
 from typing import Any, Iterable
 
 from ._library import DONE, TOO_SMALL, Info, Text, library
-from ._words import Path, _c_text, _raise, _text
-from .errors import BY_CODE, NoGroup, Refused
+from ._words import Path, _c_text, _raise, _reply, _text
+from .errors import Refused
 
 _BYTES_EACH = 64
 
@@ -39,7 +39,7 @@ class Many:
             if status == DONE:
                 break
             if status != TOO_SMALL:
-                _raise(status, info.code, "", None, "read_many")
+                _raise(status, "read_many", info=info)
             size = info.needed + _BYTES_EACH
         told = out.raw
         return [_text_of(told, text, *pair) for text, pair in zip(texts, pairs)]
@@ -50,9 +50,7 @@ def _text_of(told: bytes, text: Text, path: Path, file: str) -> str | Refused | 
 
 
 def _error(text: Text, path: Path, file: str) -> Refused | OSError:
-    name = (library.mk_name(text.code) or b"").decode()
-    words = f"{name} {_text(path)}" if BY_CODE.get(text.code) is NoGroup else name
     try:
-        _raise(text.status, text.code, words, path, f"read {_text(path)} {_text(file)}", text.error)
+        _raise(text.status, f"read {_text(path)} {_text(file)}", path, text, _reply(text.code, path))
     except OSError as error:
         return error

@@ -264,7 +264,7 @@ class RawFile(io.RawIOBase):
             is_long, "mk_put", group, self.node.file.name, data, len(data), tree.pid, ctypes.byref(info)
         )
         if status not in (DONE, REFUSED, FAULT, FAILED):
-            _raise(status, 0, "", None, f"write {self.name}")
+            _raise(status, f"write {self.name}")
         if info.code == NoGroup.code:
             self.gone = True
             return errno.ENODEV

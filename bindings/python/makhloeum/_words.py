@@ -9,7 +9,7 @@ import re
 from typing import Any, NoReturn, Union
 
 from ._library import BUSY, CLOSED, FAILED, FAULT, OUT_OF_MEMORY, REFUSED, library
-from .errors import BY_CODE, BY_FAULT, BadPath, asked_for
+from .errors import BY_CODE, BY_FAULT, BadPath, NoGroup, asked_for
 
 Path = Union[str, bytes, "os.PathLike[str]"]
 Value = Union[str, bytes, int]
@@ -77,8 +77,8 @@ def _path_word(line: bytes) -> bytes:
     return words[1] if len(words) > 1 else b""
 
 
-def _path_refusal(refused: bytes, path: str, command: str) -> BadPath:
-    """The refusal of a text that is not a path; `path` is the one that the exception names."""
+def _path_fault(refused: bytes, path: str, command: str) -> BadPath:
+    """The fault of a text that is not a path; `path` is the one that the exception names."""
     position = ctypes.c_size_t()
     fault = library.mk_path_fault(refused, len(refused), ctypes.byref(position))
     if fault == 0:
@@ -89,11 +89,17 @@ def _path_refusal(refused: bytes, path: str, command: str) -> BadPath:
     return error
 
 
+def _reply(code: int, path: Path) -> str:
+    """The words of the reply with that code, of a call that has no answer as text."""
+    name = (library.mk_name(code) or b"").decode()
+    return f"{name} {_text(path)}" if BY_CODE.get(code) is NoGroup else name
+
+
 def _raise(
-    status: int, code: int, words: str, path: Path | None, command: str, error: int = 0, refused: bytes | None = None
+    status: int, command: str, path: Path | None = None, info: Any = None, words: str = "", refused: bytes | None = None
 ) -> NoReturn:
-    """Raises the exception of a status; each has its own. If it is that of a text that is not a path, `refused` is the text,
-    or else the path."""
+    """Raises the exception of a status; each has its own. `info` has the code and the errno of the library, and `words` are those of
+    its reply. If it is that of a text that is not a path, `refused` is the text, or else the path."""
     name = None if path is None else _text(path)
     if status == OUT_OF_MEMORY:
         raise MemoryError(f"{command}: out of memory")
@@ -102,13 +108,13 @@ def _raise(
     if status == BUSY:
         raise RuntimeError(f"{command}: a call of this thread is running")
     if status == FAILED:
-        raise asked_for(error, command, name)
+        raise asked_for(info.error, command, name)
     if status not in (REFUSED, FAULT):
         message = library.mk_status_message(status)
         raise RuntimeError(
             f"{command}: unexpected status {status} of the library" + (f": {message.decode()}" if message else "")
         )
-    kind = BY_CODE[code]
+    kind = BY_CODE[info.code]
     if kind is BadPath and path is not None:
-        raise _path_refusal(_bytes(path) if refused is None else refused, _text(path), command)
+        raise _path_fault(_bytes(path) if refused is None else refused, _text(path), command)
     raise kind(words, name, command)

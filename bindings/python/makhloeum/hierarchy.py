@@ -36,11 +36,12 @@ from ._words import (
     _path_word,
     _pid,
     _raise,
+    _reply,
     _shown,
     _text,
     _value,
 )
-from .errors import BY_CODE, BadSyntax, NoGroup, Refused
+from .errors import BadSyntax, NoGroup, Refused
 
 # What a command names that may take long: a list of pids, a kill, and the undo of one.
 _LONG = (b"cgroup.procs", b"cgroup.kill")
@@ -77,7 +78,7 @@ class Hierarchy(Changes, Faults, Many):
         self._at, self._quick = ctypes.byref(handle), ctypes.byref(quick)
         status = fill(self._at)
         if status != DONE:
-            _raise(status, 0, "", None, operation)
+            _raise(status, operation)
         library.mk_nonblocking(self._at, self._quick)
         self._handle, self._closed = handle, False
 
@@ -123,7 +124,7 @@ class Hierarchy(Changes, Faults, Many):
         and recorded command."""
         status = library.mk_close(self._at)
         if status not in (DONE, CLOSED):
-            _raise(status, 0, "", None, "close")
+            _raise(status, "close")
         self._closed = True
 
     @property
@@ -138,6 +139,13 @@ class Hierarchy(Changes, Faults, Many):
             status = getattr(patient, name)(self._at, *words)
         return int(status)
 
+    def _count(self, name: str, count: Any) -> int:
+        """A number of the whole hierarchy, which a call puts into `count`."""
+        status = self._call(f"mk_{name}", ctypes.byref(count))
+        if status != DONE:
+            _raise(status, name)
+        return int(count.value)
+
     def _either(self, is_long: bool, name: str, *words: Any) -> int:
         return int(getattr(patient, name)(self._at, *words)) if is_long else self._call(name, *words)
 
@@ -147,7 +155,6 @@ class Hierarchy(Changes, Faults, Many):
         given: tuple[Any, ...],
         command: str | bytes,
         path: Path | None = None,
-        refused: bytes | None = None,
         is_long: bool = False,
         size: int = _FIRST_SIZE,
     ) -> bytes:
@@ -167,14 +174,15 @@ class Hierarchy(Changes, Faults, Many):
                 break
             size = 1 << max(info.needed - 1, size).bit_length()
         told = buffer[: info.len].decode().rstrip("\n").split(" ", 2)
-        _raise(status, info.code, told[2] if len(told) > 2 else "", path, _text(command), info.error, refused)
+        refused = _path_word(command) if isinstance(command, bytes) else None
+        _raise(status, _text(command), path, info, told[2] if len(told) > 2 else "", refused)
 
     def _asked(self, words: tuple[bytes, ...], command: str, path: Path | None = None) -> str:
         """The text that a command of words shows."""
         count = len(words)
         is_long = count > 2 and words[2] in _LONG and (words[0] == b"cat" or words[2] == b"cgroup.kill")
         given = (1, b"".join(words), _LENS[count](*map(len, words)), count)
-        return _shown(self._told("mk_words", given, command, path, None, is_long))
+        return _shown(self._told("mk_words", given, command, path, is_long))
 
     def line(self, line: str | bytes, path: Path | None = None) -> str:
         """Answers one `line` of the trace language, as 'cat /a pids.current', and returns the text that it shows: the file's
@@ -188,11 +196,11 @@ class Hierarchy(Changes, Faults, Many):
         if b"\n" in text:
             raise BadSyntax("syntax", None if path is None else _text(path), _text(text))
         is_long = _long_line(text) is not None
-        return _shown(self._told("mk_line", (1, text, len(text)), text, path, _path_word(text), is_long))
+        return _shown(self._told("mk_line", (1, text, len(text)), text, path, is_long))
 
     def _answer_of(self, line: bytes, size: int) -> bytes:
         """The whole answer to a line that lists many processes; `size` is a guess at its length."""
-        return self._told("mk_line", (1, line, len(line)), line, None, None, True, size)
+        return self._told("mk_line", (1, line, len(line)), line, None, True, size)
 
     def mkdir(self, path: Path) -> None:
         """Makes the group `path`. Raises Exists, NoGroup if there is no parent, Descendants or Depth if a limit is reached, and NoSlot
@@ -240,18 +248,14 @@ class Hierarchy(Changes, Faults, Many):
 
     def depth(self) -> int:
         """How many recorded commands can be undone."""
-        depth = ctypes.c_size_t()
-        status = self._call("mk_depth", ctypes.byref(depth))
-        if status != DONE:
-            _raise(status, 0, "", None, "depth")
-        return int(depth.value)
+        return self._count("depth", ctypes.c_size_t())
 
     def forget(self) -> None:
         """Forgets the recorded commands and frees their memory: groups, processes and counts stay, and nothing earlier can
         be undone. Takes time for each recorded command, and no memory."""
         status = library.mk_forget(self._at)
         if status != DONE:
-            _raise(status, 0, "", None, "forget")
+            _raise(status, "forget")
 
     def _listed(self, name: str, operation: str, path: Path) -> list[str]:
         text = _bytes(path)
@@ -281,9 +285,7 @@ class Hierarchy(Changes, Faults, Many):
         return value.value
 
     def _refuse(self, status: int, info: Any, operation: str, path: Path) -> NoReturn:
-        name = (library.mk_name(info.code) or b"").decode()
-        words = f"{name} {_text(path)}" if BY_CODE.get(info.code) is NoGroup else name
-        _raise(status, info.code, words, path, operation, info.error)
+        _raise(status, operation, path, info, _reply(info.code, path))
 
     def current(self, path: Path) -> int:
         """pids.current: the number of processes of the group at `path` and of the groups below it. Raises NoGroup, and NoFile for the
@@ -331,7 +333,7 @@ class Hierarchy(Changes, Faults, Many):
         # a larger number would be cut to a smaller one
         status = library.mk_undo_to(self._at, min(mark, (1 << 64) - 1), ctypes.byref(info))
         if status != DONE:
-            _raise(status, info.code, "nothing", None, f"undo to {_number(mark)}")
+            _raise(status, f"undo to {_number(mark)}", None, info, "nothing")
         return int(info.count)
 
     def reset(self) -> int:

@@ -54,7 +54,7 @@ def answer(of, line, refusal):
 
 def compare_all(h, model):
     """Every file of every group, the groups, and the depth."""
-    assert h.groups() == model.listed() and h.depth() == len(model.past)
+    assert h.groups() == model.listed() and h.depth() == len(model.journal)
     for group in model.groups:
         for file in READ:
             if group != "/" or file in ON_ROOT:
@@ -81,9 +81,9 @@ def one_run(seed):
             else:
                 assert got == want, (seed, lines, want, got)
         compare_all(h, model)
-        mark = choice.randint(0, len(model.past))
+        mark = choice.randint(0, len(model.journal))
         h.undo_to(mark)
-        while len(model.past) > mark:
+        while len(model.journal) > mark:
             model.line("undo")
         compare_all(h, model)
     return len(lines)

@@ -82,7 +82,7 @@ class BesideTheModel(HierarchyMachine):
 
     @invariant()
     def groups_and_counts_are_the_models(self):
-        assert self.h.groups() == self.model.listed() and self.h.depth() == len(self.model.past)
+        assert self.h.groups() == self.model.listed() and self.h.depth() == len(self.model.journal)
         for group in self.h.groups()[1:]:
             assert (self.h.current(group), self.h.peak(group)) == (
                 self.model.current(group),

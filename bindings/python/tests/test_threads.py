@@ -37,15 +37,21 @@ def run_threads(body, seconds):
         raise failures[0]
 
 
+def own_group(h, number):
+    """A group for the thread with that number, and its process."""
+    group, first = f"/t{number}", 100 + number
+    h.mkdir(group)
+    h.fork(1, first)
+    h.write(group, "cgroup.procs", first)
+    return group, first
+
+
 def test_each_thread_in_its_own_group():
     with Hierarchy() as h:
         rounds = [0] * THREADS
 
         def own(number, stopped):
-            group, first = f"/t{number}", 100 + number
-            h.mkdir(group)
-            h.fork(1, first)
-            h.write(group, "cgroup.procs", first)
+            group, first = own_group(h, number)
             while not stopped.is_set():
                 child = first * 10
                 h.fork(first, child)
@@ -152,10 +158,7 @@ def test_a_fork_copies_a_whole_hierarchy():
     with Hierarchy() as h:
 
         def fork(number, stopped):
-            group, first = f"/t{number}", 100 + number
-            h.mkdir(group)
-            h.fork(1, first)
-            h.write(group, "cgroup.procs", first)
+            group, first = own_group(h, number)
             while not stopped.is_set():
                 h.fork(first, first * 10)
                 h.exit(first * 10)

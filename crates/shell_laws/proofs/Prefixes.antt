@@ -1,10 +1,12 @@
 -- What a shell wrote is a prefix of what a replay writes.
 use Rattle.std.proofs.Common.{◌≡◌, ◌∙◌, ◌⊎◌, inl, inr, ℕ, Bool, true, List, [], ◌++◌, append_assoc, append-nil, sym, ap, Option, Some, None, Result, Ok, Err}
+use Rattle.std.specs.Io.KnownBytes.{Consumes}
 use Rattle.flat_model.specs.Trace.{read_trace}
 use Rattle.trace_talk.specs.declared.summary.Summary.{Summary}
 use Rattle.program_io.specs.Device.{TakesFront}
 use Rattle.shell_main.specs.declared.fault.ShellFault.{ShellFault}
 use Rattle.shell_main.specs.declared.fault.ShellFault.TheVariants.{Read, Write, InputTooLong, OutOfMemory, NotACommand}
+use Rattle.shell_main.specs.Devices.{SinkState, SourceState}
 use Rattle.shell_main.specs.Shelled.{Shelled}
 use Rattle.trace_talk.specs.Points.{start_point}
 use Rattle.shell_main.specs.Forgetful.{after_by, answers_by, output_of}
@@ -51,15 +53,19 @@ by_either : (history : Bool) (left before lines rest more : List ℕ) (after : O
 by_either history left before lines rest more after (inl e) b t = lines_first history left before lines rest more after e b t
 by_either history left before lines rest more after (inr a) b t = all_first history left before lines rest after a t
 
-pub written_prefix : (r : Result Summary ShellFault) (history : Bool) (left before : List ℕ) (rest after : Option (List ℕ)) (read_failed write_failed flushed : Bool)
-    → Shelled history (Some left) rest read_failed (Some before) after write_failed flushed r → HasPrefix before (output_of history left) after
-written_prefix (Ok summary) history left before rest after read_failed write_failed flushed s = all_first history left before s.trace [] after s.is_input s.written
-written_prefix (Err Read) history left before None after read_failed write_failed flushed s = absurd s.1.2.read
-written_prefix (Err Read) history left before (Some ys) after read_failed write_failed flushed s =
+-- what is left of known bytes of which these were read
+unread_of : (start front : List ℕ) (left : Option (List ℕ)) → Consumes (Some start) left front → (unread : List ℕ) × (start ≡ front ++ unread)
+unread_of start front None c = absurd c
+unread_of start front (Some left) c = (left, c)
+
+pub written_prefix : (r : Result Summary ShellFault) (history : Bool) (start before : List ℕ) (source : SourceState) (sink : SinkState)
+    → Shelled history (Some start) source (Some before) sink r → HasPrefix before (output_of history start) sink.taken
+written_prefix (Ok summary) history start before source sink s = all_first history start before s.trace [] sink.taken s.is_input s.written
+written_prefix (Err Read) history start before source sink s =
     let n = s.1.2 in
-    lines_first history left before s.1.0 [] (s.1.1 ++ ys) after n.whole (n.read ∙ append_assoc s.1.0 s.1.1 ys) n.written
-written_prefix (Err Write) history left before rest after read_failed write_failed flushed s = by_either history left before s.lines s.rest s.is_front.0 after s.whole s.is_front.1 s.written
-written_prefix (Err InputTooLong) history left before rest after read_failed write_failed flushed s =
-    lines_first history left before s.0 [] s.2.0.is_front.0 after s.2.0.whole s.2.0.is_front.1 s.2.0.written
-written_prefix (Err OutOfMemory) history left before rest after read_failed write_failed flushed s = lines_first history left before s.0 [] s.1.is_front.0 after s.1.whole s.1.is_front.1 s.1.written
-written_prefix (Err NotACommand) history left before rest after read_failed write_failed flushed s = absurd s
+    let unread = unread_of start (s.1.0 ++ s.1.1) source.left n.read in
+    lines_first history start before s.1.0 [] (s.1.1 ++ unread.0) sink.taken n.whole (unread.1 ∙ append_assoc s.1.0 s.1.1 unread.0) n.written
+written_prefix (Err Write) history start before source sink s = by_either history start before s.lines s.rest s.is_front.0 sink.taken s.whole s.is_front.1 s.written
+written_prefix (Err InputTooLong) history start before source sink s = lines_first history start before s.0 [] s.2.0.is_front.0 sink.taken s.2.0.whole s.2.0.is_front.1 s.2.0.written
+written_prefix (Err OutOfMemory) history start before source sink s = lines_first history start before s.0 [] s.1.is_front.0 sink.taken s.1.whole s.1.is_front.1 s.1.written
+written_prefix (Err NotACommand) history start before source sink s = absurd s

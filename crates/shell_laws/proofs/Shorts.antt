@@ -1,5 +1,5 @@
 -- The lines of a text are no longer than the text.
-use Rattle.std.proofs.Common.{◌≡◌, ℕ, suc, ◌≤◌, Bool, true, false, cond, List, [], ◌∷◌, length, ◌==◌, arith}
+use Rattle.std.proofs.Common.{ℕ, suc, ◌≤◌, Bool, true, false, cond, List, [], ◌∷◌, length, ◌==◌, arith}
 use Rattle.std.specs.List.{All, AllByRecursion, onto_first, slice_split}
 use Rattle.std.proofs.lemmas.List.Elements.{All-from_recursion}
 use Rattle.flat_model.specs.Trace.{is_line_feed, lines_in, without_empty_end}

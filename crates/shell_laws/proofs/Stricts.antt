@@ -1,5 +1,5 @@
 -- A strict shell is a shell, unless it stops at a line.
-use Rattle.std.proofs.Common.{◌≡◌, ◌≤◌, ◌++◌, ◌∷◌, [], Bool, List, ℕ, length, true, false, arith, refl, ap, Option, Some, None, Result, Ok, Err}
+use Rattle.std.proofs.Common.{◌≡◌, ◌≤◌, ◌++◌, ◌∷◌, [], List, ℕ, length, true, false, arith, refl, ap, Option, Some, None, Result, Ok, Err}
 use Rattle.std.specs.List.{All}
 use Rattle.std.proofs.lemmas.List.Elements.{All-head}
 use Rattle.flat_model.specs.Replies.{is_fault}
@@ -9,16 +9,17 @@ use Rattle.trace_talk.specs.declared.summary.Summary.{Summary}
 use Rattle.shell_main.specs.declared.fault.ShellFault.{ShellFault}
 use Rattle.shell_main.specs.declared.fault.ShellFault.TheVariants.{Read, Write, InputTooLong, OutOfMemory, NotACommand}
 use Rattle.shell_main.specs.declared.options.Options.{Options}
+use Rattle.shell_main.specs.Devices.{SinkState, SourceState}
 use Rattle.shell_main.specs.Shelled.{Shelled, ShelledBy}
 
-pub as_shell : (r : Result Summary ShellFault) (how : Options) (left rest before after : Option (List ℕ)) (read_failed write_failed flushed : Bool)
-    → ShelledBy how left rest read_failed before after write_failed flushed r → (r ≡ Err NotACommand → ⊥) → Shelled how.keeps_history left rest read_failed before after write_failed flushed r
-as_shell (Ok summary) how left rest before after read_failed write_failed flushed s n = s.0
-as_shell (Err Read) how left rest before after read_failed write_failed flushed s n = (s.0, (s.1.0, s.1.1, s.1.2))
-as_shell (Err Write) how left rest before after read_failed write_failed flushed s n = s.0
-as_shell (Err InputTooLong) how left rest before after read_failed write_failed flushed s n = (s.0, s.1, (s.2.0, s.2.1))
-as_shell (Err OutOfMemory) how left rest before after read_failed write_failed flushed s n = (s.0, s.1.0)
-as_shell (Err NotACommand) how left rest before after read_failed write_failed flushed s n = absurd (n refl)
+pub as_shell : (r : Result Summary ShellFault) (how : Options) (start : Option (List ℕ)) (source : SourceState) (before : Option (List ℕ)) (sink : SinkState)
+    → ShelledBy how start source before sink r → (r ≡ Err NotACommand → ⊥) → Shelled how.keeps_history start source before sink r
+as_shell (Ok summary) how start source before sink s n = s.0
+as_shell (Err Read) how start source before sink s n = (s.0, (s.1.0, s.1.1, s.1.2))
+as_shell (Err Write) how start source before sink s n = s.0
+as_shell (Err InputTooLong) how start source before sink s n = (s.0, s.1, (s.2.0, s.2.1))
+as_shell (Err OutOfMemory) how start source before sink s n = (s.0, s.1.0)
+as_shell (Err NotACommand) how start source before sink s n = absurd (n refl)
 
 -- what was written before a write failed
 pub written_front : (before bytes rest : List ℕ) (after : Option (List ℕ)) → TakesFront (Some before) bytes rest after

@@ -13,6 +13,7 @@ use Rattle.shell_main.specs.declared.fault.ShellFault.TheVariants.{Read, Write, 
 use Rattle.shell_main.specs.Shelled.{BeginsWith, IsBarred, IsBroken, IsStopped, NothingOwed, ShelledBy}
 use Rattle.trace_talk.specs.Points.{Point, answers_on, number_max, start_point, summary_of}
 use Rattle.shell_main.specs.declared.options.Options.{Options}
+use Rattle.shell_main.specs.Devices.{SinkState, SourceState}
 use Rattle.shell_main.specs.Forgetful.{after_by, answers_by, output_of, refused_of}
 use Rattle.shell_main.specs.Talks.{Answered, Finishes, IsCutOff, IsOut, IsStruck, Serves, Stands, Stops}
 use Rattle.shell_main.specs.WholeLines.{HasCommandsOnly, IsClean, IsCleanBeforeLast}
@@ -53,9 +54,9 @@ refused_at history lines now p = ap (λ q. q.refused) p
 
 -- ---- before a read
 
-pub nothing_owed : (how : Options) (start left before taken : Option (List ℕ)) (failed flushed : Bool) (now : Point) (lines line : List ℕ)
-    → Stands how start left before taken failed flushed now lines line [] → NothingOwed how.keeps_history start left before taken failed flushed lines line
-nothing_owed how start left before taken failed flushed now lines line s = record {
+pub nothing_owed : {how : Options} {start left before : Option (List ℕ)} {sink : SinkState} {now : Point} {lines line : List ℕ}
+    → Stands how start left before sink now lines line [] → NothingOwed how.keeps_history start left before sink lines line
+nothing_owed {start} {left} {lines} {line} s = record {
   whole = s.whole;
   short = s.short;
   unended = s.unended.no_feed;
@@ -66,10 +67,10 @@ nothing_owed how start left before taken failed flushed now lines line s = recor
 }
 
 -- the read failed
-pub read_ended : (how : Options) (start left later before taken : Option (List ℕ)) (read_failed failed flushed : Bool) (now : Point) (lines line : List ℕ)
-    → Stands how start left before taken failed flushed now lines line [] → known.Keeps left later → read_failed ≡ true → ShelledBy how start later read_failed before taken failed flushed (Err Read)
-read_ended how start left later before taken read_failed failed flushed now lines line s k r =
-    let n = nothing_owed how start left before taken failed flushed now lines line s in (
+pub read_ended : {how : Options} {start left before : Option (List ℕ)} {sink : SinkState} {now : Point} {lines line : List ℕ} (source : SourceState)
+    → Stands how start left before sink now lines line [] → known.Keeps left source.left → source.failed ≡ true → ShelledBy how start source before sink (Err Read)
+read_ended {start} {left} {lines} {line} source s k r =
+    let n = nothing_owed s in (
       r,
       (
         lines,
@@ -78,7 +79,7 @@ read_ended how start left later before taken read_failed failed flushed now line
           whole = n.whole;
           short = n.short;
           unended = n.unended;
-          read = kept_left start left later (lines ++ line) n.read k;
+          read = kept_left start left source.left (lines ++ line) n.read k;
           written = n.written;
           good = n.good;
           is_out = n.is_out;
@@ -90,23 +91,23 @@ read_ended how start left later before taken read_failed failed flushed now line
 -- ---- after whole lines
 
 -- some more lines were answered, and their output is out
-record StoppedAt (how : Options) (start left before after : Option (List ℕ)) (read_failed failed flushed : Bool) (new : Point) (lines more : List ℕ) : Type 0 where
-  stopped : IsStopped how.keeps_history start before after read_failed failed flushed lines
+record StoppedAt (how : Options) (start : Option (List ℕ)) (source : SourceState) (before : Option (List ℕ)) (sink : SinkState) (new : Point) (lines more : List ℕ) : Type 0 where
+  stopped : IsStopped how.keeps_history start source before sink lines
   clean : IsClean how.is_strict lines
   point : new ≡ after_by how.keeps_history start_point (read_trace lines)
-  read : Consumes start left (lines ++ more)
+  read : Consumes start source.left (lines ++ more)
 
-stopped_at : (how : Options) (start left before taken after : Option (List ℕ)) (read_failed failed failed2 flushed flushed2 : Bool) (now new : Point) (lines line pending more out : List ℕ)
-    → Stands how start left before taken failed flushed now lines line pending → (a : Answered how now (line ++ pending) more out new) → IsOut taken out after failed2 flushed2 → read_failed ≡ false
-    → StoppedAt how start left before after read_failed failed2 flushed2 new (lines ++ a.text) more
-stopped_at how start left before taken after read_failed failed failed2 flushed flushed2 now new lines line pending more out s a o r =
-    let read = read_cut start left lines (line ++ pending) a.text more s.read a.is_front in
+stopped_at : {how : Options} {start before : Option (List ℕ)} {old sink : SinkState} {now new : Point} {lines line pending more out : List ℕ} (source : SourceState)
+    → Stands how start source.left before old now lines line pending → (a : Answered how now (line ++ pending) more out new) → IsOut old.taken out sink → source.failed ≡ false
+    → StoppedAt how start source before sink new (lines ++ a.text) more
+stopped_at {how} {start} {before} {old} {sink} {now} {new} {lines} {line} {pending} {more} source s a o r =
+    let read = read_cut start source.left lines (line ++ pending) a.text more s.read a.is_front in
     record {
       stopped = record {
         whole = ends_both lines a.text s.whole a.whole;
         short = short_both lines a.text s.whole s.short a.short;
-        is_front = begins start left (lines ++ a.text) more read;
-        written = written_both how.keeps_history lines a.text [] now before taken after s.whole s.point s.written (subst (λ x. TakesFront taken x [] after) a.output o.written);
+        is_front = begins start source.left (lines ++ a.text) more read;
+        written = written_both how.keeps_history lines a.text [] now before old.taken sink.taken s.whole s.point s.written (subst (λ x. TakesFront old.taken x [] sink.taken) a.output o.written);
         good_reads = r;
         good_writes = o.good;
         is_out = o.is_out;
@@ -117,18 +118,17 @@ stopped_at how start left before taken after read_failed failed failed2 flushed 
     }
 
 -- a write or a flush failed
-cut_off : (how : Options) (start left before taken after : Option (List ℕ)) (read_failed failed failed2 flushed : Bool) (now : Point) (lines line pending : List ℕ)
-    → Stands how start left before taken failed flushed now lines line pending
-    → IsCutOff how now (line ++ pending) taken after failed2 → read_failed ≡ false
-    → (broken : IsBroken how.keeps_history start before after read_failed failed2) × IsCleanBeforeLast how.is_strict broken.lines
-cut_off how start left before taken after read_failed failed failed2 flushed now lines line pending s c r = (
+cut_off : {how : Options} {start before : Option (List ℕ)} {old sink : SinkState} {now : Point} {lines line pending : List ℕ} (source : SourceState)
+    → Stands how start source.left before old now lines line pending → IsCutOff how now (line ++ pending) old.taken sink → source.failed ≡ false
+    → (broken : IsBroken how.keeps_history start source before sink) × IsCleanBeforeLast how.is_strict broken.lines
+cut_off {how} {start} {before} {old} {sink} {now} {lines} {line} {pending} source s c r = (
   record {
     lines = lines ++ c.text;
     whole = inl (ends_both lines c.text s.whole c.whole);
     short = short_both lines c.text s.whole s.short c.short;
-    is_front = begins start left (lines ++ c.text) c.more (read_cut start left lines (line ++ pending) c.text c.more s.read c.is_front);
+    is_front = begins start source.left (lines ++ c.text) c.more (read_cut start source.left lines (line ++ pending) c.text c.more s.read c.is_front);
     rest = c.rest;
-    written = written_both how.keeps_history lines c.text c.rest now before taken after s.whole s.point s.written c.written;
+    written = written_both how.keeps_history lines c.text c.rest now before old.taken sink.taken s.whole s.point s.written c.written;
     good_reads = r;
     bad_write = c.bad;
   },
@@ -140,16 +140,16 @@ strictly : (how : Options) (lines : List ℕ) → how.is_strict ≡ true → IsC
 strictly how lines e c = subst (λ b. IsClean b lines) e c
 
 -- a strict shell stopped after a line with its line feed
-struck : (how : Options) (start left before taken after : Option (List ℕ)) (read_failed failed failed2 flushed flushed2 : Bool) (now : Point) (lines line pending out : List ℕ)
-    → Stands how start left before taken failed flushed now lines line pending → (h : IsStruck how now (line ++ pending) out) → IsOut taken out after failed2 flushed2 → read_failed ≡ false
-    → IsBarred how.keeps_history start before after read_failed failed2 flushed2
-struck how start left before taken after read_failed failed failed2 flushed flushed2 now lines line pending out s h o r =
+struck : {how : Options} {start before : Option (List ℕ)} {old sink : SinkState} {now : Point} {lines line pending out : List ℕ} (source : SourceState)
+    → Stands how start source.left before old now lines line pending → IsStruck how now (line ++ pending) out → IsOut old.taken out sink → source.failed ≡ false
+    → IsBarred how.keeps_history start source before sink
+struck {how} {start} {before} {old} {sink} {now} {lines} {line} {pending} {out} source s h o r =
     let a = h.answered in
     let front = lines ++ a.text in
     let whole = ends_both lines a.text s.whole a.whole in
     let text = front ++ (h.line ++ 0x0A ∷ []) in
     let one = with_feed front h.line whole h.unended.no_feed in
-    let read = read_cut start left lines (line ++ pending) a.text (h.line ++ 0x0A ∷ h.more) s.read a.is_front in
+    let read = read_cut start source.left lines (line ++ pending) a.text (h.line ++ 0x0A ∷ h.more) s.read a.is_front in
     let joined : front ++ (h.line ++ 0x0A ∷ h.more) ≡ text ++ h.more = ap (λ x. front ++ x) (sym (append_assoc h.line (0x0A ∷ []) h.more)) ∙ sym (append_assoc front (h.line ++ 0x0A ∷ []) h.more) in
     record {
       lines = front;
@@ -157,7 +157,7 @@ struck how start left before taken after read_failed failed failed2 flushed flus
       text = text;
       whole = whole;
       unended = h.unended.no_feed;
-      is_next = inl (refl, begins start left text h.more (subst (Consumes start left) joined read));
+      is_next = inl (refl, begins start source.left text h.more (subst (Consumes start source.left) joined read));
       clean = strictly how front h.is_strict (clean_both how.is_strict lines a.text s.whole s.clean a.clean);
       fault = h.fault;
       short = one.short (short_both lines a.text s.whole s.short a.short) h.unended.fits;
@@ -168,30 +168,29 @@ struck how start left before taken after read_failed failed failed2 flushed flus
           ∙ ap (λ x. x ++ answers_on h.now (read_line h.line ∷ [])) (answers_both how.keeps_history start_point now lines a.text s.whole s.point)
           ∙ append_assoc (output_of how.keeps_history lines) (answers_by how.keeps_history now (read_trace a.text)) (answers_on h.now (read_line h.line ∷ []))
           ∙ ap (λ x. output_of how.keeps_history lines ++ x) (ap (λ x. x ++ answers_on h.now (read_line h.line ∷ [])) (sym a.output) ∙ sym h.output) in
-          subst (λ x. TakesFront before x [] after) (sym all) (both_written before taken after (output_of how.keeps_history lines) out [] s.written o.written);
+          subst (λ x. TakesFront before x [] sink.taken) (sym all) (both_written before old.taken sink.taken (output_of how.keeps_history lines) out [] s.written o.written);
       good_reads = r;
       good_writes = o.good;
       is_out = o.is_out;
     }
 
 -- some of what came was answered; a fault ended that, or a write did
-pub stop_ended : (fault : ShellFault) (how : Options) (start left before taken after : Option (List ℕ)) (read_failed failed failed2 flushed flushed2 : Bool) (now : Point) (lines line pending : List ℕ)
-    → Stands how start left before taken failed flushed now lines line pending → Stops how now (line ++ pending) taken after failed2 flushed2 fault → read_failed ≡ false
-    → ShelledBy how start left read_failed before after failed2 flushed2 (Err fault)
-stop_ended Read how start left before taken after read_failed failed failed2 flushed flushed2 now lines line pending s h r = absurd h.1.0
-stop_ended Write how start left before taken after read_failed failed failed2 flushed flushed2 now lines line pending s h r =
-    cut_off how start left before taken after read_failed failed failed2 flushed now lines line pending s h r
-stop_ended OutOfMemory how start left before taken after read_failed failed failed2 flushed flushed2 now lines line pending s h r =
+pub stop_ended : {how : Options} {start before : Option (List ℕ)} {old : SinkState} {now : Point} {lines line pending : List ℕ} (source : SourceState) (fault : ShellFault) (sink : SinkState)
+    → Stands how start source.left before old now lines line pending → Stops how now (line ++ pending) old.taken sink fault → source.failed ≡ false
+    → ShelledBy how start source before sink (Err fault)
+stop_ended source Read sink s h r = absurd h.1.0
+stop_ended source Write sink s h r = cut_off source s h r
+stop_ended {lines} source OutOfMemory sink s h r =
     let a = h.1.0.2 in
-    let t = stopped_at how start left before taken after read_failed failed failed2 flushed flushed2 now h.1.0.1 lines line pending h.1.0.0 h.0 s a h.1.1 r in
+    let t = stopped_at source s a h.1.1 r in
     (lines ++ a.text, (t.stopped, t.clean))
-stop_ended InputTooLong how start left before taken after read_failed failed failed2 flushed flushed2 now lines line pending s h r =
+stop_ended {how} {start} {lines} source InputTooLong sink s h r =
     let line2 = h.1.0.0 in
     let more = h.1.0.1 in
     let new = h.1.0.2 in
     let a = h.1.0.3.0 in
     let front = lines ++ a.text in
-    let t = stopped_at how start left before taken after read_failed failed failed2 flushed flushed2 now new lines line pending (line2 ++ more) h.0 s a h.1.1 r in
+    let t = stopped_at source s a h.1.1 r in
     let why : (trace_max < length line2) ⊎ (number_max ≤ command_count (read_trace front)) = elim h.1.0.3.2 [
       | inl e ↦ inl e
       | inr e ↦ inr (subst (λ n. number_max ≤ n) (commands_at how.keeps_history front new t.point) e)
@@ -200,39 +199,38 @@ stop_ended InputTooLong how start left before taken after read_failed failed fai
       line2,
       (
         t.stopped,
-        record { is_next = begins start left (front ++ line2) more (subst (Consumes start left) (sym (append_assoc front line2 more)) t.read); unended = h.1.0.3.1; too_long = why },
+        record { is_next = begins start source.left (front ++ line2) more (subst (Consumes start source.left) (sym (append_assoc front line2 more)) t.read); unended = h.1.0.3.1; too_long = why },
         t.clean,
       ),
     )
-stop_ended NotACommand how start left before taken after read_failed failed failed2 flushed flushed2 now lines line pending s h r =
-    (h.1.0.is_strict, struck how start left before taken after read_failed failed failed2 flushed flushed2 now lines line pending h.0 s h.1.0 h.1.1 r)
+stop_ended source NotACommand sink s h r = (h.1.0.is_strict, struck source s h.1.0 h.1.1 r)
 
 -- ---- at the end of the source
 
-input_of : (how : Options) (start left before taken : Option (List ℕ)) (failed flushed : Bool) (now : Point) (lines line : List ℕ)
-    → Stands how start left before taken failed flushed now lines line [] → IsAtEnd left → IsInput start (lines ++ line)
-input_of how start left before taken failed flushed now lines line s e = all_read start left (lines ++ line) (subst (λ x. Consumes start left (lines ++ x)) (append-nil line) s.read) e
+input_of : {how : Options} {start left before : Option (List ℕ)} {sink : SinkState} {now : Point} {lines line : List ℕ}
+    → Stands how start left before sink now lines line [] → IsAtEnd left → IsInput start (lines ++ line)
+input_of {start} {left} {lines} {line} s e = all_read start left (lines ++ line) (subst (λ x. Consumes start left (lines ++ x)) (append-nil line) s.read) e
 
 -- nothing was written after whole lines
-last_stopped : (how : Options) (start left before taken after : Option (List ℕ)) (read_failed failed failed2 flushed flushed2 : Bool) (now : Point) (lines line : List ℕ)
-    → Stands how start left before taken failed flushed now lines line [] → IsOut taken [] after failed2 flushed2 → read_failed ≡ false
-    → IsStopped how.keeps_history start before after read_failed failed2 flushed2 lines
-last_stopped how start left before taken after read_failed failed failed2 flushed flushed2 now lines line s o r = record {
+last_stopped : {how : Options} {start before : Option (List ℕ)} {old sink : SinkState} {now : Point} {lines line : List ℕ} (source : SourceState)
+    → Stands how start source.left before old now lines line [] → IsOut old.taken [] sink → source.failed ≡ false
+    → IsStopped how.keeps_history start source before sink lines
+last_stopped {how} {start} {before} {old} {sink} {lines} {line} source s o r = record {
   whole = s.whole;
   short = s.short;
-  is_front = begins start left lines (line ++ []) s.read;
-  written = subst (λ x. TakesFront before x [] after) (append-nil (output_of how.keeps_history lines)) (both_written before taken after (output_of how.keeps_history lines) [] [] s.written o.written);
+  is_front = begins start source.left lines (line ++ []) s.read;
+  written = subst (λ x. TakesFront before x [] sink.taken) (append-nil (output_of how.keeps_history lines)) (both_written before old.taken sink.taken (output_of how.keeps_history lines) [] [] s.written o.written);
   good_reads = r;
   good_writes = o.good;
   is_out = o.is_out;
 }
 
-pub last_ended : (fault : ShellFault) (how : Options) (start left before taken after : Option (List ℕ)) (read_failed failed failed2 flushed flushed2 : Bool) (now new : Point) (lines line : List ℕ)
-    → Stands how start left before taken failed flushed now lines line [] → IsAtEnd left → (length line == 0) ≡ false → read_failed ≡ false
-    → Finishes how now (read_line line) taken after failed2 flushed2 (Err fault) new → ShelledBy how start left read_failed before after failed2 flushed2 (Err fault)
-last_ended Read how start left before taken after read_failed failed failed2 flushed flushed2 now new lines line s e some r w = absurd w
-last_ended Write how start left before taken after read_failed failed failed2 flushed flushed2 now new lines line s e some r w =
-    let i = input_of how start left before taken failed flushed now lines line s e in
+pub last_ended : {how : Options} {start before : Option (List ℕ)} {old : SinkState} {now : Point} {lines line : List ℕ} (source : SourceState) (fault : ShellFault) (sink : SinkState) (new : Point)
+    → Stands how start source.left before old now lines line [] → IsAtEnd source.left → (length line == 0) ≡ false → source.failed ≡ false
+    → Finishes how now (read_line line) old.taken sink (Err fault) new → ShelledBy how start source before sink (Err fault)
+last_ended source Read sink new s e some r w = absurd w
+last_ended {how} {start} {before} {old} {now} {lines} {line} source Write sink new s e some r w =
+    let i = input_of s e in
     let one = without_feed lines line s.whole s.unended.no_feed some in (
       record {
         lines = lines ++ line;
@@ -240,26 +238,25 @@ last_ended Write how start left before taken after read_failed failed failed2 fl
         short = one.short s.short s.unended.fits;
         is_front = all_begins start (lines ++ line) i;
         rest = w.1.0;
-        written = written_more how.keeps_history lines line (lines ++ line) w.1.0 now before taken after one s.point s.written w.1.1;
+        written = written_more how.keeps_history lines line (lines ++ line) w.1.0 now before old.taken sink.taken one s.point s.written w.1.1;
         good_reads = r;
         bad_write = w.0;
       },
       last_any how.is_strict lines line (lines ++ line) one s.clean,
     )
-last_ended OutOfMemory how start left before taken after read_failed failed failed2 flushed flushed2 now new lines line s e some r w =
-    (lines, (last_stopped how start left before taken after read_failed failed failed2 flushed flushed2 now lines line s w r, s.clean))
-last_ended InputTooLong how start left before taken after read_failed failed failed2 flushed flushed2 now new lines line s e some r w =
-    let i = input_of how start left before taken failed flushed now lines line s e in (
+last_ended {lines} source OutOfMemory sink new s e some r w = (lines, (last_stopped source s w r, s.clean))
+last_ended {how} {start} {now} {lines} {line} source InputTooLong sink new s e some r w =
+    let i = input_of s e in (
       lines,
       line,
       (
-        last_stopped how start left before taken after read_failed failed failed2 flushed flushed2 now lines line s w.1 r,
+        last_stopped source s w.1 r,
         record { is_next = all_begins start (lines ++ line) i; unended = s.unended.no_feed; too_long = inr (subst (λ n. number_max ≤ n) (commands_at how.keeps_history lines now s.point) w.0) },
         s.clean,
       ),
     )
-last_ended NotACommand how start left before taken after read_failed failed failed2 flushed flushed2 now new lines line s e some r w =
-    let i = input_of how start left before taken failed flushed now lines line s e in
+last_ended {how} {before} {old} {now} {lines} {line} source NotACommand sink new s e some r w =
+    let i = input_of s e in
     let one = without_feed lines line s.whole s.unended.no_feed some in (
       w.0,
       record {
@@ -272,25 +269,25 @@ last_ended NotACommand how start left before taken after read_failed failed fail
         clean = strictly how lines w.0 s.clean;
         fault = w.1;
         short = one.short s.short s.unended.fits;
-        written = written_more how.keeps_history lines line (lines ++ line) [] now before taken after one s.point s.written w.2.written;
+        written = written_more how.keeps_history lines line (lines ++ line) [] now before old.taken sink.taken one s.point s.written w.2.written;
         good_reads = r;
         good_writes = w.2.good;
         is_out = w.2.is_out;
       },
     )
 
-pub last_served : (how : Options) (start left before taken after : Option (List ℕ)) (read_failed failed failed2 flushed flushed2 : Bool) (now new : Point) (lines line : List ℕ) (u : Unit {0})
-    → Stands how start left before taken failed flushed now lines line [] → IsAtEnd left → (length line == 0) ≡ false → read_failed ≡ false
-    → Finishes how now (read_line line) taken after failed2 flushed2 (Ok u) new → ShelledBy how start left read_failed before after failed2 flushed2 (Ok (summary_of new))
-last_served how start left before taken after read_failed failed failed2 flushed flushed2 now new lines line u s e some r w =
+pub last_served : {how : Options} {start before : Option (List ℕ)} {old : SinkState} {now : Point} {lines line : List ℕ} (source : SourceState) (sink : SinkState) (new : Point) (u : Unit {0})
+    → Stands how start source.left before old now lines line [] → IsAtEnd source.left → (length line == 0) ≡ false → source.failed ≡ false
+    → Finishes how now (read_line line) old.taken sink (Ok u) new → ShelledBy how start source before sink (Ok (summary_of new))
+last_served {how} {before} {old} {now} {lines} {line} source sink new u s e some r w =
     let text = lines ++ line in
     let one = without_feed lines line s.whole s.unended.no_feed some in
     let point = point_more how.keeps_history start_point now new lines line text one s.point w.0 in (
       record {
         trace = text;
-        is_input = input_of how start left before taken failed flushed now lines line s e;
+        is_input = input_of s e;
         short = one.short s.short s.unended.fits;
-        written = written_more how.keeps_history lines line text [] now before taken after one s.point s.written w.1.written;
+        written = written_more how.keeps_history lines line text [] now before old.taken sink.taken one s.point s.written w.1.written;
         commands = commands_at how.keeps_history text new point;
         refused = refused_at how.keeps_history text new point;
         good_reads = r;
@@ -304,13 +301,13 @@ none_left : (line : List ℕ) → (length line == 0) ≡ true → line ≡ []
 none_left [] e = refl
 none_left (x ∷ line) e = let n : suc (length line) ≡ 0 = eqb-true (suc (length line)) 0 e in absurd (omega (arith, n))
 
-pub served : (how : Options) (start left before taken : Option (List ℕ)) (read_failed failed flushed : Bool) (now : Point) (lines line : List ℕ)
-    → Stands how start left before taken failed flushed now lines line [] → IsAtEnd left → (length line == 0) ≡ true → read_failed ≡ false
-    → ShelledBy how start left read_failed before taken failed flushed (Ok (summary_of now))
-served how start left before taken read_failed failed flushed now lines line s e none r = (
+pub served : {how : Options} {start before : Option (List ℕ)} {sink : SinkState} {now : Point} {lines line : List ℕ} (source : SourceState)
+    → Stands how start source.left before sink now lines line [] → IsAtEnd source.left → (length line == 0) ≡ true → source.failed ≡ false
+    → ShelledBy how start source before sink (Ok (summary_of now))
+served {how} {start} {now} {lines} {line} source s e none r = (
   record {
     trace = lines;
-    is_input = subst (IsInput start) (ap (λ x. lines ++ x) (none_left line none) ∙ append-nil lines) (input_of how start left before taken failed flushed now lines line s e);
+    is_input = subst (IsInput start) (ap (λ x. lines ++ x) (none_left line none) ∙ append-nil lines) (input_of s e);
     short = s.short;
     written = s.written;
     commands = commands_at how.keeps_history lines now s.point;
@@ -325,17 +322,17 @@ served how start left before taken read_failed failed flushed now lines line s e
 -- ---- what one read leaves
 
 -- nothing came: the source is at its end
-pub at_end : (how : Options) (start left later before taken : Option (List ℕ)) (failed flushed : Bool) (now : Point) (lines line buf : List ℕ) (count : ℕ)
-    → Stands how start left before taken failed flushed now lines line [] → Consumes left later (take count buf) × (count ≡ 0 → 0 < length buf → IsAtEnd later) → count ≡ 0 → 0 < length buf
-    → Stands how start later before taken failed flushed now lines line [] × IsAtEnd later
-at_end how start left later before taken failed flushed now lines line buf count s c none room =
-    let P : ℕ → Type 0 = λ n. Stands how start later before taken failed flushed now lines line (take n buf) in
-    (subst P none (came how start left later before taken failed flushed now lines line (take count buf) s c.0), c.1 none room)
+pub at_end : {how : Options} {start left before : Option (List ℕ)} {sink : SinkState} {now : Point} {lines line : List ℕ} (later : Option (List ℕ)) (buf : List ℕ) (count : ℕ)
+    → Stands how start left before sink now lines line [] → Consumes left later (take count buf) × (count ≡ 0 → 0 < length buf → IsAtEnd later) → count ≡ 0 → 0 < length buf
+    → Stands how start later before sink now lines line [] × IsAtEnd later
+at_end {how} {start} {before} {sink} {now} {lines} {line} later buf count s c none room =
+    let P : ℕ → Type 0 = λ n. Stands how start later before sink now lines line (take n buf) in
+    (subst P none (came later (take count buf) s c.0), c.1 none room)
 
 -- the fault is handed on
-pub handed_on : (r : Result Bool ShellFault) (fault : ShellFault) (how : Options) (start left before taken : Option (List ℕ)) (read_failed failed flushed : Bool) (now : Point) (line : List ℕ)
-    → IsErrAnd r (λ e. e ≡ fault) → ShelledBy how start left read_failed before taken failed flushed (Err fault) → Serves how start left read_failed before taken failed flushed r now line
-handed_on (Ok b) fault how start left before taken read_failed failed flushed now line e s = absurd e
-handed_on (Err f) fault how start left before taken read_failed failed flushed now line e s =
-    let P : ShellFault → Type 0 = λ v. ShelledBy how start left read_failed before taken failed flushed (Err v) in
+pub handed_on : (r : Result Bool ShellFault) (fault : ShellFault) (how : Options) (start : Option (List ℕ)) (source : SourceState) (before : Option (List ℕ)) (sink : SinkState) (now : Point) (line : List ℕ)
+    → IsErrAnd r (λ e. e ≡ fault) → ShelledBy how start source before sink (Err fault) → Serves how start source before sink r now line
+handed_on (Ok b) fault how start source before sink now line e s = absurd e
+handed_on (Err f) fault how start source before sink now line e s =
+    let P : ShellFault → Type 0 = λ v. ShelledBy how start source before sink (Err v) in
     subst P (sym e) s

@@ -6,6 +6,7 @@ use Rattle.flat_model.specs.Trace.{read_line, read_trace, trace_max}
 use Rattle.program_io.specs.Device.{TakesFront}
 use Rattle.trace_talk.specs.Points.{Point, answers_on, start_point}
 use Rattle.shell_main.specs.declared.options.Options.{Options}
+use Rattle.shell_main.specs.Devices.{SinkState}
 use Rattle.shell_main.specs.Forgetful.{after_by, answers_by, output_of}
 use Rattle.shell_main.specs.Talks.{GoesOn, Stands}
 use Rattle.shell_main.specs.WholeLines.{ends_line}
@@ -60,24 +61,24 @@ written_more history lines line text rest now before taken after one p w v =
 -- ---- steps
 
 -- before the first line
-pub at_start : (how : Options) (left before : Option (List ℕ)) (failed flushed : Bool) (now : Point) → now ≡ start_point → failed ≡ false
-    → flushed ≡ true → Stands how left left before before failed flushed now [] [] []
-at_start how left before failed flushed now p f o = record {
+pub at_start : (how : Options) (left : Option (List ℕ)) (sink : SinkState) (now : Point) → now ≡ start_point → sink.failed ≡ false
+    → sink.flushed ≡ true → Stands how left left sink.taken sink now [] [] []
+at_start how left sink now p f o = record {
   whole = refl;
   short = All-nil (λ (l : List ℕ). length l ≤ trace_max);
   clean = clean_none how.is_strict;
   unended = nothing_unended;
   read = none_consumed left;
   point = p ∙ after_none how.keeps_history start_point;
-  written = subst (λ x. TakesFront before x [] before) (sym (answers_none how.keeps_history start_point)) (none_written before);
+  written = subst (λ x. TakesFront sink.taken x [] sink.taken) (sym (answers_none how.keeps_history start_point)) (none_written sink.taken);
   good = f;
   is_out = o;
 }
 
 -- bytes came in
-pub came : (how : Options) (start left later before taken : Option (List ℕ)) (failed flushed : Bool) (now : Point) (lines line bytes : List ℕ)
-    → Stands how start left before taken failed flushed now lines line [] → Consumes left later bytes → Stands how start later before taken failed flushed now lines line bytes
-came how start left later before taken failed flushed now lines line bytes s c = record {
+pub came : {how : Options} {start left before : Option (List ℕ)} {sink : SinkState} {now : Point} {lines line : List ℕ} (later : Option (List ℕ)) (bytes : List ℕ)
+    → Stands how start left before sink now lines line [] → Consumes left later bytes → Stands how start later before sink now lines line bytes
+came {how} {start} {left} {before} {sink} {now} {lines} {line} later bytes s c = record {
   whole = s.whole;
   short = s.short;
   clean = s.clean;
@@ -96,10 +97,10 @@ pub read_cut : (start left : Option (List ℕ)) (lines bytes text more : List �
 read_cut start left lines bytes text more c e = subst (Consumes start left) (ap (λ x. lines ++ x) e ∙ sym (append_assoc lines text more)) c
 
 -- lines of what came are answered, and their output is out
-pub went_on : (how : Options) (start left before taken after : Option (List ℕ)) (failed failed2 flushed flushed2 : Bool) (now new : Point) (lines line pending line2 rest : List ℕ)
-    → Stands how start left before taken failed flushed now lines line pending → (g : GoesOn how now (line ++ pending) taken after failed2 flushed2 new line2 rest)
-    → Stands how start left before after failed2 flushed2 new (lines ++ g.answered.text) line2 rest
-went_on how start left before taken after failed failed2 flushed flushed2 now new lines line pending line2 rest s g =
+pub went_on : {how : Options} {start left before : Option (List ℕ)} {old sink : SinkState} {now new : Point} {lines line pending line2 rest : List ℕ}
+    → Stands how start left before old now lines line pending → (g : GoesOn how now (line ++ pending) old.taken sink new line2 rest)
+    → Stands how start left before sink new (lines ++ g.answered.text) line2 rest
+went_on {how} {start} {left} {before} {old} {sink} {now} {new} {lines} {line} {pending} {line2} {rest} s g =
     let a = g.answered in
     record {
       whole = ends_both lines a.text s.whole a.whole;
@@ -108,7 +109,7 @@ went_on how start left before taken after failed failed2 flushed flushed2 now ne
       unended = g.unended;
       read = read_cut start left lines (line ++ pending) a.text (line2 ++ rest) s.read a.is_front;
       point = point_both how.keeps_history start_point now new lines a.text s.whole s.point a.point;
-      written = written_both how.keeps_history lines a.text [] now before taken after s.whole s.point s.written (subst (λ x. TakesFront taken x [] after) a.output g.is_out.written);
+      written = written_both how.keeps_history lines a.text [] now before old.taken sink.taken s.whole s.point s.written (subst (λ x. TakesFront old.taken x [] sink.taken) a.output g.is_out.written);
       good = g.is_out.good;
       is_out = g.is_out.is_out;
     }

@@ -9,6 +9,7 @@ use Rattle.shell_main.specs.declared.fault.ShellFault.{ShellFault}
 use Rattle.shell_main.specs.declared.fault.ShellFault.TheVariants.{Read, Write, InputTooLong, OutOfMemory, NotACommand}
 use Rattle.shell_main.specs.declared.options.Options.{Options}
 use Rattle.trace_talk.specs.Points.{start_point}
+use Rattle.shell_main.specs.Devices.{SinkState, SourceState}
 use Rattle.shell_main.specs.Forgetful.{output_of}
 use Rattle.shell_main.specs.Shelled.{BeginsWith, IsStopped, Shelled, ShelledBy}
 use Rattle.shell_main.proofs.ForgetfulCuts.{answers_none}
@@ -19,28 +20,28 @@ nothing : (left : Option (List ℕ)) → BeginsWith left []
 nothing None = tt
 nothing (Some xs) = (xs, refl)
 
-stopped_after : (history : Bool) (left before mid after : Option (List ℕ)) (read_failed failed flushed : Bool) (lines : List ℕ)
-    → TakesFront before [] [] mid → IsStopped history left mid after read_failed failed flushed lines → IsStopped history left before after read_failed failed flushed lines
-stopped_after history left before mid after read_failed failed flushed lines w s = record {
+stopped_after : {history : Bool} {start mid : Option (List ℕ)} {source : SourceState} {sink : SinkState} {lines : List ℕ} (before : Option (List ℕ))
+    → TakesFront before [] [] mid → IsStopped history start source mid sink lines → IsStopped history start source before sink lines
+stopped_after {history} {mid} {sink} {lines} before w s = record {
   whole = s.whole;
   short = s.short;
   is_front = s.is_front;
-  written = both_written before mid after [] (output_of history lines) [] w s.written;
+  written = both_written before mid sink.taken [] (output_of history lines) [] w s.written;
   good_reads = s.good_reads;
   good_writes = s.good_writes;
   is_out = s.is_out;
 }
 
 -- what a shell leaves of a sink that was flushed before
-pub after_flush : (r : Result Summary ShellFault) (how : Options) (left rest before mid after : Option (List ℕ)) (read_failed failed flushed : Bool)
-    → TakesFront before [] [] mid → ShelledBy how left rest read_failed mid after failed flushed r → ShelledBy how left rest read_failed before after failed flushed r
-after_flush (Ok summary) how left rest before mid after read_failed failed flushed w t =
+pub after_flush : (r : Result Summary ShellFault) (how : Options) (start : Option (List ℕ)) (source : SourceState) (before mid : Option (List ℕ)) (sink : SinkState)
+    → TakesFront before [] [] mid → ShelledBy how start source mid sink r → ShelledBy how start source before sink r
+after_flush (Ok summary) how start source before mid sink w t =
     let s = t.0 in (
       record {
         trace = s.trace;
         is_input = s.is_input;
         short = s.short;
-        written = both_written before mid after [] (output_of how.keeps_history s.trace) [] w s.written;
+        written = both_written before mid sink.taken [] (output_of how.keeps_history s.trace) [] w s.written;
         commands = s.commands;
         refused = s.refused;
         good_reads = s.good_reads;
@@ -49,7 +50,7 @@ after_flush (Ok summary) how left rest before mid after read_failed failed flush
       },
       t.1,
     )
-after_flush (Err Read) how left rest before mid after read_failed failed flushed w s =
+after_flush (Err Read) how start source before mid sink w s =
     let n = s.1.2 in (
       s.0,
       (
@@ -60,14 +61,14 @@ after_flush (Err Read) how left rest before mid after read_failed failed flushed
           short = n.short;
           unended = n.unended;
           read = n.read;
-          written = both_written before mid after [] (output_of how.keeps_history s.1.0) [] w n.written;
+          written = both_written before mid sink.taken [] (output_of how.keeps_history s.1.0) [] w n.written;
           good = n.good;
           is_out = n.is_out;
         },
         s.1.3,
       ),
     )
-after_flush (Err Write) how left rest before mid after read_failed failed flushed w t =
+after_flush (Err Write) how start source before mid sink w t =
     let s = t.0 in (
       record {
         lines = s.lines;
@@ -75,17 +76,15 @@ after_flush (Err Write) how left rest before mid after read_failed failed flushe
         short = s.short;
         is_front = s.is_front;
         rest = s.rest;
-        written = both_written before mid after [] (output_of how.keeps_history s.lines) s.rest w s.written;
+        written = both_written before mid sink.taken [] (output_of how.keeps_history s.lines) s.rest w s.written;
         good_reads = s.good_reads;
         bad_write = s.bad_write;
       },
       t.1,
     )
-after_flush (Err InputTooLong) how left rest before mid after read_failed failed flushed w s =
-    (s.0, s.1, (stopped_after how.keeps_history left before mid after read_failed failed flushed s.0 w s.2.0, s.2.1, s.2.2))
-after_flush (Err OutOfMemory) how left rest before mid after read_failed failed flushed w s =
-    (s.0, (stopped_after how.keeps_history left before mid after read_failed failed flushed s.0 w s.1.0, s.1.1))
-after_flush (Err NotACommand) how left rest before mid after read_failed failed flushed w t =
+after_flush (Err InputTooLong) how start source before mid sink w s = (s.0, s.1, (stopped_after before w s.2.0, s.2.1, s.2.2))
+after_flush (Err OutOfMemory) how start source before mid sink w s = (s.0, (stopped_after before w s.1.0, s.1.1))
+after_flush (Err NotACommand) how start source before mid sink w t =
     let s = t.1 in (
       t.0,
       record {
@@ -98,7 +97,7 @@ after_flush (Err NotACommand) how left rest before mid after read_failed failed 
         clean = s.clean;
         fault = s.fault;
         short = s.short;
-        written = both_written before mid after [] (output_of how.keeps_history s.text) [] w s.written;
+        written = both_written before mid sink.taken [] (output_of how.keeps_history s.text) [] w s.written;
         good_reads = s.good_reads;
         good_writes = s.good_writes;
         is_out = s.is_out;
@@ -106,29 +105,27 @@ after_flush (Err NotACommand) how left rest before mid after read_failed failed 
     )
 
 -- a shell that is not strict
-pub lenient : (r : Result Summary ShellFault) (history : Bool) (left rest before after : Option (List ℕ))
-    (read_failed failed flushed : Bool)
-    → ShelledBy (record { is_strict = false; keeps_history = history }) left rest read_failed before after failed flushed r
-    → Shelled history left rest read_failed before after failed flushed r
-lenient (Ok summary) history left rest before after read_failed failed flushed s = s.0
-lenient (Err Read) history left rest before after read_failed failed flushed s = (s.0, (s.1.0, s.1.1, s.1.2))
-lenient (Err Write) history left rest before after read_failed failed flushed s = s.0
-lenient (Err InputTooLong) history left rest before after read_failed failed flushed s = (s.0, s.1, (s.2.0, s.2.1))
-lenient (Err OutOfMemory) history left rest before after read_failed failed flushed s = (s.0, s.1.0)
-lenient (Err NotACommand) history left rest before after read_failed failed flushed s = let e = s.0 in cc
+pub lenient : (r : Result Summary ShellFault) (history : Bool) (start : Option (List ℕ)) (source : SourceState) (before : Option (List ℕ)) (sink : SinkState)
+    → ShelledBy (record { is_strict = false; keeps_history = history }) start source before sink r → Shelled history start source before sink r
+lenient (Ok summary) history start source before sink s = s.0
+lenient (Err Read) history start source before sink s = (s.0, (s.1.0, s.1.1, s.1.2))
+lenient (Err Write) history start source before sink s = s.0
+lenient (Err InputTooLong) history start source before sink s = (s.0, s.1, (s.2.0, s.2.1))
+lenient (Err OutOfMemory) history start source before sink s = (s.0, s.1.0)
+lenient (Err NotACommand) history start source before sink s = let e = s.0 in cc
 
 -- the flush failed
-pub unflushed : (r : Result (Unit {0}) DeviceFault) (how : Options) (left rest before after : Option (List ℕ)) (read_failed failed flushed : Bool)
-    → WholeWrite before [] after failed flushed r → is_err r ≡ true → read_failed ≡ false → ShelledBy how left rest read_failed before after failed flushed (Err Write)
-unflushed (Ok u) how left rest before after read_failed failed flushed w e r = cc
-unflushed (Err f) how left rest before after read_failed failed flushed w e r = (
+pub unflushed : (r : Result (Unit {0}) DeviceFault) (how : Options) (start : Option (List ℕ)) (source : SourceState) (before : Option (List ℕ)) (sink : SinkState)
+    → WholeWrite before [] sink.taken sink.failed sink.flushed r → is_err r ≡ true → source.failed ≡ false → ShelledBy how start source before sink (Err Write)
+unflushed (Ok u) how start source before sink w e r = cc
+unflushed (Err f) how start source before sink w e r = (
   record {
     lines = [];
     whole = inl refl;
     short = All-nil (λ (l : List ℕ). length l ≤ trace_max);
-    is_front = nothing left;
+    is_front = nothing start;
     rest = w.1.0;
-    written = subst (λ x. TakesFront before x w.1.0 after) (sym (answers_none how.keeps_history start_point)) w.1.1;
+    written = subst (λ x. TakesFront before x w.1.0 sink.taken) (sym (answers_none how.keeps_history start_point)) w.1.1;
     good_reads = r;
     bad_write = w.0;
   },
@@ -136,22 +133,22 @@ unflushed (Err f) how left rest before after read_failed failed flushed w e r = 
 )
 
 -- it did not
-pub flushed_by : (r : Result (Unit {0}) DeviceFault) (before after : Option (List ℕ)) (failed flushed : Bool)
-    → WholeWrite before [] after failed flushed r → is_err r ≡ false → (failed ≡ false) × (flushed ≡ true) × TakesFront before [] [] after
-flushed_by (Ok u) before after failed flushed w e = w
-flushed_by (Err f) before after failed flushed w e = cc
+pub flushed_by : (r : Result (Unit {0}) DeviceFault) (before : Option (List ℕ)) (sink : SinkState)
+    → WholeWrite before [] sink.taken sink.failed sink.flushed r → is_err r ≡ false → (sink.failed ≡ false) × (sink.flushed ≡ true) × TakesFront before [] [] sink.taken
+flushed_by (Ok u) before sink w e = w
+flushed_by (Err f) before sink w e = cc
 
 -- there was no memory for the engine
-pub unstarted : (how : Options) (left rest before after : Option (List ℕ)) (read_failed failed flushed : Bool)
-    → (failed ≡ false) × (flushed ≡ true) × TakesFront before [] [] after → read_failed ≡ false → ShelledBy how left rest read_failed before after failed flushed (Err OutOfMemory)
-unstarted how left rest before after read_failed failed flushed w r = (
+pub unstarted : (how : Options) (start : Option (List ℕ)) (source : SourceState) (before : Option (List ℕ)) (sink : SinkState)
+    → (sink.failed ≡ false) × (sink.flushed ≡ true) × TakesFront before [] [] sink.taken → source.failed ≡ false → ShelledBy how start source before sink (Err OutOfMemory)
+unstarted how start source before sink w r = (
   [],
   (
     record {
       whole = refl;
       short = All-nil (λ (l : List ℕ). length l ≤ trace_max);
-      is_front = nothing left;
-      written = subst (λ x. TakesFront before x [] after) (sym (answers_none how.keeps_history start_point)) w.2;
+      is_front = nothing start;
+      written = subst (λ x. TakesFront before x [] sink.taken) (sym (answers_none how.keeps_history start_point)) w.2;
       good_reads = r;
       good_writes = w.0;
       is_out = w.1;

@@ -8,35 +8,33 @@ use Rattle.shell_main.specs.declared.fault.ShellFault.TheVariants as shell
 use Rattle.shell_main.specs.declared.program.ProgramFault.{ProgramFault}
 use Rattle.shell_main.specs.declared.program.ProgramFault.TheVariants.{Line, Shell, Open, ClosedPipe}
 use Rattle.shell_main.specs.Asks.{Asks, RequestsText, app, options_in}
+use Rattle.shell_main.specs.Devices.{SinkState, SourceState}
 use Rattle.shell_main.specs.Shelled.{ShelledBy}
 
 -- help or the version is requested; nothing was read, and all of a text was written and flushed
-pub record IsHelped (words : List Text) (left rest : Option (List ℕ)) (read_failed : Bool) (before after : Option (List ℕ)) (write_failed flushed : Bool) : Type 0 where
+pub record IsHelped (words : List Text) (start : Option (List ℕ)) (source : SourceState) (before : Option (List ℕ)) (sink : SinkState) : Type 0 where
   pub called : RequestsText words
-  pub unread : IsUnread left rest read_failed
+  pub unread : IsUnread start source.left source.failed
   pub text : List ℕ
-  pub written : TakesFront before text [] after
-  pub good_writes : write_failed ≡ false
-  pub is_out : flushed ≡ true
+  pub written : TakesFront before text [] sink.taken
+  pub good_writes : sink.failed ≡ false
+  pub is_out : sink.flushed ≡ true
 
 -- a shell is requested, with these options, and it ran to the end
-pub record IsShelled (words : List Text) (left rest before after : Option (List ℕ)) (read_failed write_failed flushed : Bool) : Type 0 where
+pub record IsShelled (words : List Text) (start : Option (List ℕ)) (source : SourceState) (before : Option (List ℕ)) (sink : SinkState) : Type 0 where
   pub no_fault : fault_of app words ≡ []
   pub summary : Summary
-  pub served : ShelledBy (options_in words) left rest read_failed before after write_failed flushed (Ok summary)
+  pub served : ShelledBy (options_in words) start source before sink (Ok summary)
 
--- by the words of the command line: what the program leaves of a source that had `left` and of a sink that had `before`, and why it ended early
-abbrev pub Ran : List Text → Option (List ℕ) → Option (List ℕ) → Bool → Option (List ℕ) → Option (List ℕ) → Bool → Bool → Result (Unit {0}) ProgramFault → Type 0
-Ran words left rest read_failed before after write_failed flushed (Ok u) =
-    IsShelled words left rest before after read_failed write_failed flushed
-    ⊎ IsHelped words left rest read_failed before after write_failed flushed
-Ran words left rest read_failed before after write_failed flushed (Err (Line fault)) =
-    Asks words (Err fault) × IsUnread left rest read_failed × IsUnwritten before after write_failed
-Ran words left rest read_failed before after write_failed flushed (Err (Shell fault)) =
-    ((fault_of app words ≡ []) × ShelledBy (options_in words) left rest read_failed before after write_failed flushed (Err fault))
-    ⊎ (RequestsText words × IsUnread left rest read_failed × (fault ≡ shell.Write) × (write_failed ≡ true))
-Ran words left rest read_failed before after write_failed flushed (Err Open) = ⊥
-Ran words left rest read_failed before after write_failed flushed (Err ClosedPipe) = ⊥
+-- by the words of the command line: what the program leaves of a source that had `start` and of a sink that had `before`, and why it ended early
+abbrev pub Ran : List Text → Option (List ℕ) → SourceState → Option (List ℕ) → SinkState → Result (Unit {0}) ProgramFault → Type 0
+Ran words start source before sink (Ok u) = IsShelled words start source before sink ⊎ IsHelped words start source before sink
+Ran words start source before sink (Err (Line fault)) = Asks words (Err fault) × IsUnread start source.left source.failed × IsUnwritten before sink.taken sink.failed
+Ran words start source before sink (Err (Shell fault)) =
+    ((fault_of app words ≡ []) × ShelledBy (options_in words) start source before sink (Err fault))
+    ⊎ (RequestsText words × IsUnread start source.left source.failed × (fault ≡ shell.Write) × (sink.failed ≡ true))
+Ran words start source before sink (Err Open) = ⊥
+Ran words start source before sink (Err ClosedPipe) = ⊥
 
 -- a failed write to a closed pipe is a separate fault
 abbrev pub told_apart : Bool → Result (Unit {0}) ProgramFault → Result (Unit {0}) ProgramFault

@@ -7,6 +7,7 @@ use Rattle.program_io.specs.Device.{TakesFront}
 use Rattle.shell_main.specs.declared.fault.ShellFault.{ShellFault}
 use Rattle.shell_main.specs.declared.fault.ShellFault.TheVariants.{Read, Write, InputTooLong, OutOfMemory, NotACommand}
 use Rattle.shell_main.specs.declared.options.Options.{Options}
+use Rattle.shell_main.specs.Devices.{SinkState, SourceState}
 use Rattle.shell_main.specs.Forgetful.{after_by, answers_by, output_of, remembered}
 use Rattle.trace_talk.specs.Points.{Point, answers_on, number_max, point_after, start_point, summary_of}
 use Rattle.shell_main.specs.Shelled.{ShelledBy}
@@ -77,14 +78,14 @@ Halts how old bytes out Write = ⊥
 
 -- ---- their output
 
--- exactly this output was written and flushed
-pub record IsOut (before : Option (List ℕ)) (out : List ℕ) (after : Option (List ℕ)) (failed flushed : Bool) : Type 0 where
-  pub written : TakesFront before out [] after
-  pub good : failed ≡ false
-  pub is_out : flushed ≡ true
+-- exactly this output was written to a sink that had `before`, and flushed
+pub record IsOut (before : Option (List ℕ)) (out : List ℕ) (sink : SinkState) : Type 0 where
+  pub written : TakesFront before out [] sink.taken
+  pub good : sink.failed ≡ false
+  pub is_out : sink.flushed ≡ true
 
 -- a write or a flush failed, and a prefix of the output for whole lines at the front of these bytes was written
-pub record IsCutOff (how : Options) (old : Point) (bytes : List ℕ) (before after : Option (List ℕ)) (failed : Bool) : Type 0 where
+pub record IsCutOff (how : Options) (old : Point) (bytes : List ℕ) (before : Option (List ℕ)) (sink : SinkState) : Type 0 where
   pub text : List ℕ
   pub more : List ℕ
   pub is_front : bytes ≡ text ++ more
@@ -92,47 +93,47 @@ pub record IsCutOff (how : Options) (old : Point) (bytes : List ℕ) (before aft
   pub short : HasShortLines text
   pub clean : IsCleanBeforeLast how.is_strict text
   pub rest : List ℕ
-  pub written : TakesFront before (answers_by how.keeps_history old (read_trace text)) rest after
-  pub bad : failed ≡ true
+  pub written : TakesFront before (answers_by how.keeps_history old (read_trace text)) rest sink.taken
+  pub bad : sink.failed ≡ true
 
 -- whole lines at the front of these bytes are answered, and their output is out; a line that has not ended and the rest are after them
-pub record GoesOn (how : Options) (old : Point) (bytes : List ℕ) (before after : Option (List ℕ)) (failed flushed : Bool) (new : Point) (line rest : List ℕ) : Type 0 where
+pub record GoesOn (how : Options) (old : Point) (bytes : List ℕ) (before : Option (List ℕ)) (sink : SinkState) (new : Point) (line rest : List ℕ) : Type 0 where
   pub out : List ℕ
   pub answered : Answered how old bytes (line ++ rest) out new
   pub unended : IsUnended line
-  pub is_out : IsOut before out after failed flushed
+  pub is_out : IsOut before out sink
 
--- the same for a shell that stops: also then the output is out, unless a write failed
-abbrev pub Stops : Options → Point → List ℕ → Option (List ℕ) → Option (List ℕ) → Bool → Bool → ShellFault → Type 0
-Stops how old bytes before after failed flushed Write = IsCutOff how old bytes before after failed
-Stops how old bytes before after failed flushed fault = (out : List ℕ) × (Halts how old bytes out fault × IsOut before out after failed flushed)
+-- what a shell leaves that stops: also then the output is out, unless a write failed
+abbrev pub Stops : Options → Point → List ℕ → Option (List ℕ) → SinkState → ShellFault → Type 0
+Stops how old bytes before sink Write = IsCutOff how old bytes before sink
+Stops how old bytes before sink fault = (out : List ℕ) × (Halts how old bytes out fault × IsOut before out sink)
 
 -- the last line, which has no line feed, is answered, and its output is out
-abbrev pub Finishes : Options → Point → Line → Option (List ℕ) → Option (List ℕ) → Bool → Bool → Result (Unit {0}) ShellFault → Point → Type 0
-Finishes how old line before after failed flushed (Ok u) new = (new ≡ remembered how.keeps_history (point_after old (line ∷ [])))
-    × IsOut before (answers_on old (line ∷ [])) after failed flushed × IsPassed how.is_strict line
-Finishes how old line before after failed flushed (Err NotACommand) new = (how.is_strict ≡ true) × (is_fault line ≡ true) × IsOut before (answers_on old (line ∷ [])) after failed flushed
-Finishes how old line before after failed flushed (Err InputTooLong) new = (number_max ≤ old.commands) × IsOut before [] after failed flushed
-Finishes how old line before after failed flushed (Err OutOfMemory) new = IsOut before [] after failed flushed
-Finishes how old line before after failed flushed (Err Write) new = (failed ≡ true) × ((rest : List ℕ) × TakesFront before (answers_on old (line ∷ [])) rest after)
-Finishes how old line before after failed flushed (Err Read) new = ⊥
+abbrev pub Finishes : Options → Point → Line → Option (List ℕ) → SinkState → Result (Unit {0}) ShellFault → Point → Type 0
+Finishes how old line before sink (Ok u) new = (new ≡ remembered how.keeps_history (point_after old (line ∷ [])))
+    × IsOut before (answers_on old (line ∷ [])) sink × IsPassed how.is_strict line
+Finishes how old line before sink (Err NotACommand) new = (how.is_strict ≡ true) × (is_fault line ≡ true) × IsOut before (answers_on old (line ∷ [])) sink
+Finishes how old line before sink (Err InputTooLong) new = (number_max ≤ old.commands) × IsOut before [] sink
+Finishes how old line before sink (Err OutOfMemory) new = IsOut before [] sink
+Finishes how old line before sink (Err Write) new = (sink.failed ≡ true) × ((rest : List ℕ) × TakesFront before (answers_on old (line ∷ [])) rest sink.taken)
+Finishes how old line before sink (Err Read) new = ⊥
 
 -- ---- from the start
 
 -- These whole lines are answered, the output is flushed, and the talk is in the state after them; a line has not ended, and these are its bytes.
-pub record Stands (how : Options) (start left before taken : Option (List ℕ)) (failed flushed : Bool) (now : Point) (lines line pending : List ℕ) : Type 0 where
+pub record Stands (how : Options) (start left before : Option (List ℕ)) (sink : SinkState) (now : Point) (lines line pending : List ℕ) : Type 0 where
   pub whole : ends_line lines ≡ true
   pub short : HasShortLines lines
   pub clean : IsClean how.is_strict lines
   pub unended : IsUnended line
   pub read : Consumes start left (lines ++ (line ++ pending))
   pub point : now ≡ after_by how.keeps_history start_point (read_trace lines)
-  pub written : TakesFront before (output_of how.keeps_history lines) [] taken
-  pub good : failed ≡ false
-  pub is_out : flushed ≡ true
+  pub written : TakesFront before (output_of how.keeps_history lines) [] sink.taken
+  pub good : sink.failed ≡ false
+  pub is_out : sink.flushed ≡ true
 
 -- what one read leaves: false if there may be more to read, otherwise what a shell leaves
-abbrev pub Serves : Options → Option (List ℕ) → Option (List ℕ) → Bool → Option (List ℕ) → Option (List ℕ) → Bool → Bool → Result Bool ShellFault → Point → List ℕ → Type 0
-Serves how start left read_failed before taken failed flushed (Ok false) now line = (lines : List ℕ) × Stands how start left before taken failed flushed now lines line []
-Serves how start left read_failed before taken failed flushed (Ok true) now line = ShelledBy how start left read_failed before taken failed flushed (Ok (summary_of now))
-Serves how start left read_failed before taken failed flushed (Err fault) now line = ShelledBy how start left read_failed before taken failed flushed (Err fault)
+abbrev pub Serves : Options → Option (List ℕ) → SourceState → Option (List ℕ) → SinkState → Result Bool ShellFault → Point → List ℕ → Type 0
+Serves how start source before sink (Ok false) now line = (lines : List ℕ) × Stands how start source.left before sink now lines line []
+Serves how start source before sink (Ok true) now line = ShelledBy how start source before sink (Ok (summary_of now))
+Serves how start source before sink (Err fault) now line = ShelledBy how start source before sink (Err fault)

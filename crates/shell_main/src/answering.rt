@@ -31,10 +31,12 @@ pub(crate) fn answer_some<'a, W: Sink>(
     requires some { 0 < length bytes.now }
     ensures fewer { IfOk result (λ rest. length rest.now < length bytes.now) }
     ensures ok { IfOk result (λ rest. GoesOn options talk.old (line.old.items ++ bytes.now)
-        (W.taken writer.old) (W.taken writer.new) (W.is_failed writer.new) (W.is_flushed writer.new)
+        (W.taken writer.old)
+        (record { taken = W.taken writer.new; failed = W.is_failed writer.new; flushed = W.is_flushed writer.new })
         talk.new line.new.items rest.now) }
     ensures err { IfErr result (Stops options talk.old (line.old.items ++ bytes.now)
-        (W.taken writer.old) (W.taken writer.new) (W.is_failed writer.new) (W.is_flushed writer.new)) }
+        (W.taken writer.old)
+        (record { taken = W.taken writer.new; failed = W.is_failed writer.new; flushed = W.is_flushed writer.new })) }
 {
     let mut out = Vec::new(alloc);
     let answered = answer_lines(alloc, options, talk, line, bytes, &mut out);
@@ -85,8 +87,9 @@ pub(crate) fn answer_last<W: Sink>(
     line: &[u8],
 ) -> Result<(), ShellFault>
     requires { W.is_failed writer.old ≡ false }
-    ensures { Finishes options talk.old (read_line line.now) (W.taken writer.old) (W.taken writer.new)
-        (W.is_failed writer.new) (W.is_flushed writer.new) result talk.new }
+    ensures { Finishes options talk.old (read_line line.now) (W.taken writer.old)
+        (record { taken = W.taken writer.new; failed = W.is_failed writer.new; flushed = W.is_flushed writer.new })
+        result talk.new }
 {
     let mut answer = Vec::new(alloc);
     let said = say(alloc, options, talk, line, &mut answer);

@@ -17,9 +17,10 @@
 //! - It keeps no log and no earlier lines: only the engine with its journal, the bytes of the last read and of the line that
 //!   has not ended, and output that is not yet written. Nothing is promised about time, or about when a device responds.
 //!
-//! `specs/Shelled.antt` says what a shell leaves, `specs/Forgetful.antt` what it answers without a history,
-//! `specs/WholeLines.antt` what whole lines are, `specs/Program.antt` what the program leaves, and `specs/Asks.antt` what a
-//! command line requests. The laws of these definitions are in `shell_laws`.
+//! `specs/Shelled.antt` says what a shell leaves, `specs/Devices.antt` what a contract sees of source and sink,
+//! `specs/Forgetful.antt` what it answers without a history, `specs/WholeLines.antt` what whole lines are,
+//! `specs/Program.antt` what the program leaves, and `specs/Asks.antt` what a command line requests. The laws of these
+//! definitions are in `shell_laws`.
 #![tactic(auto)]
 
 mod answering;

@@ -49,8 +49,9 @@ pub fn run_program<R: Threads + Wait + Sync, S: Source, W: Sink>(
     requires reader { S.is_failed reader.old ≡ false }
     requires writer { W.is_failed writer.old ≡ false }
     ensures ran { Ran (map string_bytes (drop 1 args.now))
-        (S.left reader.old) (S.left reader.new) (S.is_failed reader.new)
-        (W.taken writer.old) (W.taken writer.new) (W.is_failed writer.new) (W.is_flushed writer.new)
+        (S.left reader.old)
+        (record { left = S.left reader.new; failed = S.is_failed reader.new }) (W.taken writer.old)
+        (record { taken = W.taken writer.new; failed = W.is_failed writer.new; flushed = W.is_flushed writer.new })
         result }
     ensures bad_line { (f : LineFault) → result ≡ Err (Line f)
         → (reader.new ≡ reader.old) × (writer.new ≡ writer.old) }

@@ -17,8 +17,9 @@ pub(crate) fn next_chunk<S: Source, W: Sink>(
     buf: &mut [u8],
 ) -> Result<usize, DeviceFault>
     ghost start: { Option (List ℕ) × Option (List ℕ) }
-    requires { (lines : List ℕ) × NothingOwed options.keeps_history start.0 (S.left reader.old) start.1 (W.taken writer.now)
-        (W.is_failed writer.now) (W.is_flushed writer.now) lines line.now }
+    requires { (lines : List ℕ) × NothingOwed options.keeps_history start.0 (S.left reader.old) start.1
+        (record { taken = W.taken writer.now; failed = W.is_failed writer.now; flushed = W.is_flushed writer.now })
+        lines line.now }
     ensures bound { IfOk result (λ n. n ≤ length buf.new) }
     ensures bytes { ReadConsumes (S.left reader.old) (S.left reader.new) result buf.new }
     ensures mark { S.is_failed reader.new

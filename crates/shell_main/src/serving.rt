@@ -34,8 +34,9 @@ pub fn shell<R: Threads + Wait + Sync, S: Source, W: Sink>(
 ) -> Result<Summary, ShellFault>
     requires reader { S.is_failed reader.old ≡ false }
     requires writer { W.is_failed writer.old ≡ false }
-    ensures { Shelled true (S.left reader.old) (S.left reader.new) (S.is_failed reader.new)
-        (W.taken writer.old) (W.taken writer.new) (W.is_failed writer.new) (W.is_flushed writer.new)
+    ensures { Shelled true (S.left reader.old)
+        (record { left = S.left reader.new; failed = S.is_failed reader.new }) (W.taken writer.old)
+        (record { taken = W.taken writer.new; failed = W.is_failed writer.new; flushed = W.is_flushed writer.new })
         result }
 {
     let options = Options {
@@ -59,8 +60,9 @@ pub fn strict_shell<R: Threads + Wait + Sync, S: Source, W: Sink>(
 ) -> Result<Summary, ShellFault>
     requires reader { S.is_failed reader.old ≡ false }
     requires writer { W.is_failed writer.old ≡ false }
-    ensures { ShelledBy (record { is_strict = true; keeps_history = true }) (S.left reader.old) (S.left reader.new) (S.is_failed reader.new)
-        (W.taken writer.old) (W.taken writer.new) (W.is_failed writer.new) (W.is_flushed writer.new)
+    ensures { ShelledBy (record { is_strict = true; keeps_history = true }) (S.left reader.old)
+        (record { left = S.left reader.new; failed = S.is_failed reader.new }) (W.taken writer.old)
+        (record { taken = W.taken writer.new; failed = W.is_failed writer.new; flushed = W.is_flushed writer.new })
         result }
 {
     let options = Options {
@@ -85,8 +87,9 @@ pub fn shell_by<R: Threads + Wait + Sync, S: Source, W: Sink>(
 ) -> Result<Summary, ShellFault>
     requires reader { S.is_failed reader.old ≡ false }
     requires writer { W.is_failed writer.old ≡ false }
-    ensures { ShelledBy options (S.left reader.old) (S.left reader.new) (S.is_failed reader.new)
-        (W.taken writer.old) (W.taken writer.new) (W.is_failed writer.new) (W.is_flushed writer.new)
+    ensures { ShelledBy options (S.left reader.old)
+        (record { left = S.left reader.new; failed = S.is_failed reader.new }) (W.taken writer.old)
+        (record { taken = W.taken writer.new; failed = W.is_failed writer.new; flushed = W.is_flushed writer.new })
         result }
 {
     if write_whole(writer, &[]).is_err() {
@@ -109,10 +112,13 @@ fn serve<R: Threads + Wait + Sync, S: Source, W: Sink>(
 ) -> Result<Summary, ShellFault>
     ghost start: { Option (List ℕ) × Option (List ℕ) }
     requires good { S.is_failed reader.old ≡ false }
-    requires stands { (lines : List ℕ) × Stands options start.0 (S.left reader.old) start.1 (W.taken writer.old)
-        (W.is_failed writer.old) (W.is_flushed writer.old) talk.old lines [] [] }
-    ensures { ShelledBy options start.0 (S.left reader.new) (S.is_failed reader.new) start.1 (W.taken writer.new)
-        (W.is_failed writer.new) (W.is_flushed writer.new) result }
+    requires stands { (lines : List ℕ) × Stands options start.0 (S.left reader.old) start.1
+        (record { taken = W.taken writer.old; failed = W.is_failed writer.old; flushed = W.is_flushed writer.old })
+        talk.old lines [] [] }
+    ensures { ShelledBy options start.0
+        (record { left = S.left reader.new; failed = S.is_failed reader.new }) start.1
+        (record { taken = W.taken writer.new; failed = W.is_failed writer.new; flushed = W.is_flushed writer.new })
+        result }
 {
     let mut line = Vec::new(alloc);
     for _ in rt.forever() {
@@ -135,11 +141,14 @@ fn serve_read<S: Source, W: Sink>(
 ) -> Result<bool, ShellFault>
     ghost start: { Option (List ℕ) × Option (List ℕ) }
     requires good { S.is_failed reader.old ≡ false }
-    requires stands { (lines : List ℕ) × Stands options start.0 (S.left reader.old) start.1 (W.taken writer.old)
-        (W.is_failed writer.old) (W.is_flushed writer.old) talk.old lines line.old.items [] }
+    requires stands { (lines : List ℕ) × Stands options start.0 (S.left reader.old) start.1
+        (record { taken = W.taken writer.old; failed = W.is_failed writer.old; flushed = W.is_flushed writer.old })
+        talk.old lines line.old.items [] }
     ensures good { OnOk result (S.is_failed reader.new ≡ false) }
-    ensures serves { Serves options start.0 (S.left reader.new) (S.is_failed reader.new) start.1 (W.taken writer.new)
-        (W.is_failed writer.new) (W.is_flushed writer.new) result talk.new line.new.items }
+    ensures serves { Serves options start.0
+        (record { left = S.left reader.new; failed = S.is_failed reader.new }) start.1
+        (record { taken = W.taken writer.new; failed = W.is_failed writer.new; flushed = W.is_flushed writer.new })
+        result talk.new line.new.items }
 {
     let mut buf = [0u8; 4096];
     let Ok(count) = next_chunk(options, reader, writer, line.as_slice(), &mut buf) else {

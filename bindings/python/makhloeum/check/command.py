@@ -18,7 +18,7 @@ from .shorten import shorten
 
 HELP = """\
 DIR claims to be a cgroup2 hierarchy. Worked and random sequences of operations are done with real sleeping processes below a
-new group in DIR, and the proved engine is asked the same. Each errno and each text is compared. A difference is made short
+new group in DIR, and by the proved engine. Each errno and each text is compared. A difference is made short
 and printed as a shell script that shows it. Nothing is left behind in DIR.
 """
 END = (

@@ -45,7 +45,7 @@ class History:
         self.refused = self.kills = 0
         self._indexes = {"ok": 0}
         self._reads: Dict[bytes, str] = {}  # the answers to reads since the last change
-        self._past: List[Tuple[str, ...]] = []  # what can be undone: a verb and its words
+        self._journal: List[Tuple[str, ...]] = []  # what can be undone: a verb and its words
         self._numbers: List[int] = []
         self._now: Optional[int] = None
         self._step: List[int] = []
@@ -208,32 +208,32 @@ class History:
 
     def _mkdir(self, path: str) -> None:
         self._emit(MAKE, self.copy.id_of(path))
-        self._past.append(("mkdir", path))
+        self._journal.append(("mkdir", path))
 
     def _rmdir(self, path: str) -> None:
         self._emit(GONE, self.copy.ids[path])
-        self._past.append(("rmdir", path))
+        self._journal.append(("rmdir", path))
 
     def _fork(self, parent: str, child: str) -> None:
         home = self.copy.home[int(parent)]
         self._emit(BORN, int(child), home.id)
         self._follow(home)
-        self._past.append(("fork", child))
+        self._journal.append(("fork", child))
 
     def _counted(self, path: str) -> None:
         self._settle(self.copy.at(path), TOTAL, LOCAL)
-        self._past.append(("counted", path))
+        self._journal.append(("counted", path))
 
     def _exit(self, pid: str) -> None:
         group = self.copy.home[int(pid)]
         self._emit(DIED, int(pid))
         self._follow(group)
-        self._past.append(("exit", pid))
+        self._journal.append(("exit", pid))
 
     def _move(self, path: str, file: str, pid: str) -> None:
         for group in self._moved(int(pid)):
             self._follow(group)
-        self._past.append(("move", pid))
+        self._journal.append(("move", pid))
 
     def _moved(self, pid: int) -> Tuple[Group, Group]:
         """Writes a move down, and returns the old and the new group."""
@@ -245,7 +245,7 @@ class History:
         self.kills += 1
         self._emit(KILL, self.copy.ids[path])
         self._settle_below(path)
-        self._past.append(("kill", path, str(len(self.lines))))
+        self._journal.append(("kill", path, str(len(self.lines))))
 
     def _settle_below(self, path: str) -> None:
         group = self.copy.at(path)
@@ -255,10 +255,10 @@ class History:
 
     def _limit(self, path: str, file: str, value: str) -> None:
         self._set(self.copy.at(path), FIELDS[file])
-        self._past.append(("limit", path, file))
+        self._journal.append(("limit", path, file))
 
     def _undone(self) -> None:
-        verb, word, *more = self._past.pop()
+        verb, word, *more = self._journal.pop()
         if verb == "mkdir":
             self._emit(GONE, self.copy.ids[word])
         elif verb == "rmdir":

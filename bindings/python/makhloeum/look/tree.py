@@ -17,6 +17,7 @@ import time
 from dataclasses import dataclass, field
 from typing import IO, Dict, Iterator, List, Optional, TextIO, Tuple
 
+from .._output import _nobody_reads
 from ..hierarchy import Hierarchy
 
 BAR = 10
@@ -304,9 +305,7 @@ def main(words: List[str]) -> int:
     except KeyboardInterrupt:
         return 0
     except BrokenPipeError:
-        # nobody reads the output any more; what is left of it must not fail again when the interpreter ends
-        os.dup2(os.open(os.devnull, os.O_WRONLY), sys.stdout.fileno())
-        return 141
+        return _nobody_reads()
     except OSError as failure:
         print(f"makhloeum tree: {failure}", file=sys.stderr)
         return 1

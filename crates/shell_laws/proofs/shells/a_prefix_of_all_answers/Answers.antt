@@ -2,6 +2,6 @@ use Rattle.shell_laws.proofs.Prefixes.{written_prefix}
 use Rattle.shell_laws.proofs.shells.a_prefix_of_all_answers.Goals as goal
 
 pub returns : goal.returns
-returns c = λ history left before rest after read_failed write_failed flushed r s.
-    let p = written_prefix r history left before rest after read_failed write_failed flushed s in
+returns c = λ history start before source sink r s.
+    let p = written_prefix r history start before source sink s in
     (p.front, p.more, p.whole, p.is)

@@ -1,16 +1,17 @@
-use Rattle.std.proofs.Common.{◌≡◌, ◌∙◌, ◌≤◌, ◌↔◌, Bool, true, List, ℕ, Option, Some, Ok, length, subst, sym, zero-add}
+use Rattle.std.proofs.Common.{◌∙◌, ◌≤◌, true, List, ℕ, Option, Some, Ok, length, subst, sym, zero-add}
 use Rattle.flat_model.specs.Replies.{refused_count}
 use Rattle.flat_model.specs.Trace.{read_trace, trace_max}
 use Rattle.sessions.specs.SessionMeaning.{slots}
 use Rattle.trace_talk.specs.declared.summary.Summary.{Summary}
 use Rattle.replay_main.specs.Replayed.{Replayed}
+use Rattle.shell_main.specs.Devices.{SinkState, SourceState}
 use Rattle.shell_main.specs.Shelled.{Shelled}
 use Rattle.shell_laws.proofs.Shorts.{lines_up_to}
 use Rattle.shell_laws.proofs.shells.what_a_replay_says.Goals as goal
 
-as_replayed : (left : List ℕ) (rest before after : Option (List ℕ)) (read_failed write_failed flushed : Bool) (summary : Summary) → length left ≤ trace_max
-    → Shelled true (Some left) rest read_failed before after write_failed flushed (Ok summary) → Replayed (Some left) read_failed before after write_failed flushed (Ok summary)
-as_replayed left rest before after read_failed write_failed flushed summary le s = record {
+as_replayed : (start : List ℕ) (source : SourceState) (before : Option (List ℕ)) (sink : SinkState) (summary : Summary) → length start ≤ trace_max
+    → Shelled true (Some start) source before sink (Ok summary) → Replayed (Some start) source.failed before sink.taken sink.failed sink.flushed (Ok summary)
+as_replayed start source before sink summary le s = record {
   trace = s.trace;
   is_input = s.is_input;
   short = let P : List ℕ → Type 0 = λ t. length t ≤ trace_max in subst P s.is_input le;
@@ -21,9 +22,9 @@ as_replayed left rest before after read_failed write_failed flushed summary le s
   is_out = s.is_out;
 }
 
-as_shelled : (left : List ℕ) (rest before after : Option (List ℕ)) (read_failed write_failed flushed : Bool) (summary : Summary)
-    → Replayed (Some left) read_failed before after write_failed flushed (Ok summary) → Shelled true (Some left) rest read_failed before after write_failed flushed (Ok summary)
-as_shelled left rest before after read_failed write_failed flushed summary s = record {
+as_shelled : (start : List ℕ) (source : SourceState) (before : Option (List ℕ)) (sink : SinkState) (summary : Summary)
+    → Replayed (Some start) source.failed before sink.taken sink.failed sink.flushed (Ok summary) → Shelled true (Some start) source before sink (Ok summary)
+as_shelled start source before sink summary s = record {
   trace = s.trace;
   is_input = s.is_input;
   short = lines_up_to trace_max s.trace s.short;
@@ -36,5 +37,4 @@ as_shelled left rest before after read_failed write_failed flushed summary s = r
 }
 
 pub returns : goal.returns
-returns c = λ left rest before after read_failed write_failed flushed summary le.
-    (as_replayed left rest before after read_failed write_failed flushed summary le, as_shelled left rest before after read_failed write_failed flushed summary)
+returns c = λ start source before sink summary le. (as_replayed start source before sink summary le, as_shelled start source before sink summary)

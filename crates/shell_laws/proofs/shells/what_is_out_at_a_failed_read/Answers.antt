@@ -9,6 +9,6 @@ all_taken before bytes None t = absurd t
 all_taken before bytes (Some xs) t = ap (λ x. Some x) (t.2 ∙ ap (λ y. before ++ y) (sym (append-nil t.0) ∙ sym t.1))
 
 pub returns : goal.returns
-returns c = λ history left rest before after read_failed write_failed flushed s.
+returns c = λ history failed start left before sink s.
     let n = s.1.2 in
-    (s.1.0, s.1.1, n.read, n.whole, n.unended, all_taken before (output_of history s.1.0) after n.written, n.is_out)
+    (s.1.0, s.1.1, n.read, n.whole, n.unended, all_taken before (output_of history s.1.0) sink.taken n.written, n.is_out)

@@ -12,8 +12,9 @@ returns-in-Ok-clause-ran g c =
     let words = map string_bytes (drop 1 c.args.args.now) in
     let P : Ask → Type 0 = λ a. Asks words (Ok a) in
     let asks = subst P c.in-Ok-Serve.field-0-is (subst (Asks words) c.in-Ok-Serve.is c.read_arguments.ensures) in
-    let Q : Options → Result Summary ShellFault → Type 0 = λ b r. ShelledBy b (g.S.Source.left c.args.reader.now) (g.S.Source.left c.shell_by.new.reader) (g.S.Source.is_failed c.shell_by.new.reader)
-    (g.W.Sink.taken c.args.writer.now) (g.W.Sink.taken c.shell_by.new.writer) (g.W.Sink.is_failed c.shell_by.new.writer) (g.W.Sink.is_flushed c.shell_by.new.writer) r in
+    let Q : Options → Result Summary ShellFault → Type 0 = λ b r. ShelledBy b (g.S.Source.left c.args.reader.now)
+    (record { left = g.S.Source.left c.shell_by.new.reader; failed = g.S.Source.is_failed c.shell_by.new.reader }) (g.W.Sink.taken c.args.writer.now)
+    (record { taken = g.W.Sink.taken c.shell_by.new.writer; failed = g.W.Sink.is_failed c.shell_by.new.writer; flushed = g.W.Sink.is_flushed c.shell_by.new.writer }) r in
     inl record {
       no_fault = asks.0;
       summary = c.in-Ok.field-0;
@@ -25,7 +26,8 @@ returns-in-Ok-Serve-clause-ran g c =
     let words = map string_bytes (drop 1 c.args.args.now) in
     let P : Ask → Type 0 = λ a. Asks words (Ok a) in
     let asks = subst P c.in-Ok-Serve.field-0-is (subst (Asks words) c.in-Ok-Serve.is c.read_arguments.ensures) in
-    let Q : Options → Result Summary ShellFault → Type 0 = λ b r. ShelledBy b (g.S.Source.left c.args.reader.now) (g.S.Source.left c.shell_by.new.reader) (g.S.Source.is_failed c.shell_by.new.reader)
-    (g.W.Sink.taken c.args.writer.now) (g.W.Sink.taken c.shell_by.new.writer) (g.W.Sink.is_failed c.shell_by.new.writer) (g.W.Sink.is_flushed c.shell_by.new.writer) r in
+    let Q : Options → Result Summary ShellFault → Type 0 = λ b r. ShelledBy b (g.S.Source.left c.args.reader.now)
+    (record { left = g.S.Source.left c.shell_by.new.reader; failed = g.S.Source.is_failed c.shell_by.new.reader }) (g.W.Sink.taken c.args.writer.now)
+    (record { taken = g.W.Sink.taken c.shell_by.new.writer; failed = g.W.Sink.is_failed c.shell_by.new.writer; flushed = g.W.Sink.is_flushed c.shell_by.new.writer }) r in
     let fault = c.in-Err-shell_by.fault in
     inl (asks.0, subst (λ b. Q b (Err fault)) asks.2 (subst (Q c.in-Ok-Serve.options) c.in-Err-shell_by.is c.shell_by.ensures))

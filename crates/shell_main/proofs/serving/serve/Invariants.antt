@@ -8,5 +8,6 @@ ghost-serve_read g a = g.start
 abbrev pub invariant-loop : goal.invariant-loop
 invariant-loop g l =
     (g.S.Source.is_failed l.reader ≡ false)
-    × ((lines : List ℕ) × Stands l.options g.start.0 (g.S.Source.left l.reader) g.start.1 (g.W.Sink.taken l.writer)
-    (g.W.Sink.is_failed l.writer) (g.W.Sink.is_flushed l.writer) l.talk lines l.line.items [])
+    × ((lines : List ℕ) × Stands l.options g.start.0 (g.S.Source.left l.reader) g.start.1
+    (record { taken = g.W.Sink.taken l.writer; failed = g.W.Sink.is_failed l.writer; flushed = g.W.Sink.is_flushed l.writer })
+    l.talk lines l.line.items [])

@@ -1,0 +1,17 @@
+#include "room.h"
+#include <stdlib.h>
+
+enum { FIRST = 64 };
+
+void *with_room(void *array, size_t count, size_t *room, size_t each)
+{
+	if (count <= *room)
+		return array;
+	size_t wanted = *room ? *room : FIRST;
+	while (wanted < count)
+		wanted *= 2;
+	void *at = realloc(array, wanted * each);
+	if (at)
+		*room = wanted;
+	return at;
+}
