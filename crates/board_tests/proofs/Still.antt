@@ -5,7 +5,4 @@ use Rattle.pids_charge.specs.Content.{Content}
 use Rattle.board_tests.specs.Tokens.{Holds}
 
 pub holds_still : (tokens : List Token) (f g : Content) (n m : ℕ) → g ≡ f → m ≡ n → Holds tokens f n → Holds tokens g m
-holds_still tokens f g n m same count h = record {
-  content = λ s j. ap (λ (x : Content). x s j) same ∙ h.content s j;
-  held = count ∙ h.held;
-}
+holds_still tokens f g n m same count h = (λ s j. ap (λ (x : Content). x s j) same ∙ h.0 s j, count ∙ h.1)

@@ -1,10 +1,9 @@
-//! Removing the charges of one list and adding those of another, by single calls or by a
-//! settlement.
+//! Removing the charges of one list from a meter and adding those of another, and what two meters answer.
 ghost use Rattle.std.specs.Prelude.{◌≡◌, ℕ, ◌+◌, ◌<◌, ◌≤◌, length, IsTrue};
 ghost use Rattle.snzi_tokens.specs.Listed.{IsWithin, listed_at};
 ghost use Rattle.board_tests.specs.Tokens.{Holds};
 
-use pids_charge::{HELD_MAX, LEAVES, Meter, OpenGate, SLOTS, Token};
+use pids_charge::{Gate, HELD_MAX, LEAVES, Meter, SLOTS, Token};
 use std::thread::Threads;
 
 /// The last slot of both meters.
@@ -56,6 +55,7 @@ pub(crate) fn swap<R: Threads, M: Meter>(
     rt: &R,
     meter: &mut M,
     way: Way,
+    gate: &(dyn Gate + Sync),
     stripe: u8,
     leaving: &[Token],
     arriving: &[Token],
@@ -71,7 +71,7 @@ pub(crate) fn swap<R: Threads, M: Meter>(
             uncharge_each(meter, stripe, leaving);
             charge_each(meter, arriving);
         }
-        Way::Settlement => meter.settle(rt, &OpenGate, stripe, leaving, arriving),
+        Way::Settlement => meter.settle(rt, gate, stripe, leaving, arriving),
     }
 }
 
@@ -82,4 +82,21 @@ pub(crate) fn counts<M: Meter>(meter: &mut M) -> [u64; 3]
     ensures held { M.held meter.new ≡ M.held meter.old }
 {
     [meter.current(0), meter.current(1), meter.current(LAST)]
+}
+
+/// Whether both meters have the same count at each slot below `slots`, and a charge where it is positive.
+pub(crate) fn alike<M: Meter, N: Meter>(one: &mut M, other: &mut N, slots: u16) -> bool
+    requires slots { (slots ≤ M.SLOTS) × (slots ≤ N.SLOTS) }
+    ensures one { (M.content one.new ≡ M.content one.old) × (M.held one.new ≡ M.held one.old) }
+    ensures other { (N.content other.new ≡ N.content other.old) × (N.held other.new ≡ N.held other.old) }
+{
+    let mut same = true;
+    for slot in 0..slots {
+        let count = one.current(slot);
+        let number = count == other.current(slot);
+        let flag = one.populated(slot) == (count > 0);
+        let other_flag = other.populated(slot) == (count > 0);
+        same = same & number & flag & other_flag;
+    }
+    same
 }

@@ -1,15 +1,20 @@
-//! The board on four threads.
-ghost use Rattle.std.specs.Prelude.{◌≡◌, ◌<◌};
+//! A board on four threads.
+//!
+//! `threads LEAVES END`: four helpers on a new board, each in a thread of its own. LEAVES is `apart`, with a leaf and a stripe for
+//! each helper, or `same`, with the first for all. Each does 10,000 rounds: it arrives, queries, adds 1, departs and takes 1.
+//! If END is `keep`, it then arrives and adds once more; if it is `leave`, it doesn't. Main joins the helpers, queries and sums.
+ghost use Rattle.std.specs.Prelude.{◌≡◌, ◌+◌, ◌<◌, ◌≤◌};
 ghost use Rattle.std.specs.Thread.{IsSync};
-ghost use Rattle.snzi_core.specs.Holding.{held};
+ghost use Rattle.snzi_core.specs.Caps.{helper_cap};
+ghost use Rattle.snzi_core.specs.Holding.{held, out};
 ghost use Rattle.snzi_tree.specs.Hands.{IsHandOf, IsMain, holds};
 ghost use Rattle.indicator_tests.specs.Works.{Works, IsFresh, IsBack};
 
-use crate::calls::{join_one, split_one};
 use snzi_tree::{Board, HELD_MAX, Hand, Token};
 use std::alloc::{AllocError, Global};
-use std::test::Fail;
+use std::sync::Wait;
 use std::thread::{Threads, join};
+use test_support::{Case, CaseFault};
 
 // The rounds of one thread.
 const ROUNDS: u32 = 10_000;
@@ -22,7 +27,7 @@ struct Layout {
 }
 
 // The result of a run: whether each query was true, and what main finds after the joins.
-#[derive(Clone, Copy, PartialEq, Eq)]
+#[derive(Drop)]
 struct Found {
     each: bool,
     query: bool,
@@ -71,6 +76,27 @@ fn leaf_of(apart: bool, number: u8) -> u8
     if apart { number } else { 0 }
 }
 
+// A helper that holds nothing.
+fn split_one(board: &Board<1, 7, 4>, main: &mut Hand) -> Hand
+    requires here { IsHandOf board.now main.old × IsMain main.old }
+    requires room { out (holds main.old).role < helper_cap }
+    ensures main { IsHandOf board.now main.new × IsMain main.new × (held (holds main.new) ≡ held (holds main.old)) }
+    ensures out { out (holds main.new).role ≡ out (holds main.old).role + 1 }
+    ensures helper { IsFresh board.now result }
+{
+    board.split(main, &[])
+}
+
+// Main joins a helper that holds at most one token.
+fn join_one(board: &Board<1, 7, 4>, main: &mut Hand, helper: Hand)
+    requires here { IsHandOf board.now main.old × IsMain main.old }
+    requires helper { IsBack board.now helper }
+    requires room { held (holds main.old) < HELD_MAX }
+    ensures main { IsHandOf board.now main.new × IsMain main.new × (held (holds main.new) ≤ held (holds main.old) + 1) }
+{
+    board.join(main, helper);
+}
+
 // Two hands at work, each in a thread of its own.
 fn two<R: Threads + Sync>(
     rt: &R,
@@ -97,8 +123,8 @@ fn two<R: Threads + Sync>(
     (x.0, y.0, x.1 & y.1)
 }
 
-// Ends the board if no helper is out. Returns whether it did.
-fn ends(board: Board<1, 7, 4>, main: Hand) -> bool
+/// Ends the board if no helper is out. Returns whether it did.
+pub(crate) fn ends<const W: usize, const L: usize>(board: Board<1, W, L>, main: Hand) -> bool
     requires here { IsHandOf board main }
     requires main { IsMain main }
 {
@@ -144,34 +170,25 @@ fn four<R: Threads + Sync>(rt: &R, alloc: Global, place: Layout) -> Result<Found
     })
 }
 
-#[test]
-fn four_threads_leave_nothing(rt: HostRuntime) -> Result<(), Fail> {
-    let nothing = Found {
-        each: true,
-        query: false,
-        sum: 0,
-        held: 0,
-        ended: true,
+/// Says what the four helpers leave.
+pub(crate) fn put_threads<R: Threads + Wait + Sync>(
+    rt: &R,
+    alloc: Global,
+    case: &Case,
+    said: &mut String,
+) -> Result<(), CaseFault>
+    requires { IsSync R.row }
+{
+    let place = Layout {
+        apart: matches!(case.word(1), b"apart"),
+        keep: matches!(case.word(2), b"keep"),
     };
-    for apart in [true, false] {
-        let found = four(&rt, rt.alloc(), Layout { apart, keep: false })?;
-        assert!(rt; found == nothing);
-    }
-    Ok(())
-}
-
-#[test]
-fn four_threads_keep_their_last_tokens(rt: HostRuntime) -> Result<(), Fail> {
-    let kept = Found {
-        each: true,
-        query: true,
-        sum: 4,
-        held: 4,
-        ended: true,
-    };
-    for apart in [true, false] {
-        let found = four(&rt, rt.alloc(), Layout { apart, keep: true })?;
-        assert!(rt; found == kept);
-    }
+    let found = four(rt, alloc, place)?;
+    let (each, query, sum) = (found.each, found.query, found.sum);
+    let (held, ended) = (found.held, found.ended);
+    write!(
+        said,
+        "each query {each}; then query {query}, sum {sum}, held {held}, closed {ended}"
+    )?;
     Ok(())
 }

@@ -2,7 +2,7 @@ use Rattle.std.proofs.Common.{◌∙◌, ap, arith}
 use Rattle.snzi_core.specs.Holding.{out, main_weight}
 use Rattle.snzi_core.proofs.Passing.{one_out_main, one_out_out}
 use Rattle.snzi_tree.specs.Hands.{holds}
-use Rattle.indicator_tests.proofs.calls.split_one.Goals as goal
+use Rattle.indicator_tests.proofs.threads.split_one.Goals as goal
 
 pub returns-clause-main : goal.returns-clause-main
 returns-clause-main c =
