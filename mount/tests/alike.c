@@ -92,6 +92,17 @@ static void put_wait(const char *name, pid_t pid, int options)
 
 /* ---------------------------------------------------------------- signals */
 
+/* Other processes are made and end. Meanwhile one that is not stopped would have run. */
+static void others_run(void)
+{
+	for (int i = 0; i < 100; i++) {
+		pid_t pid = fork();
+		if (pid == 0)
+			_exit(0);
+		waitpid(pid, NULL, 0);
+	}
+}
+
 /* What the default action of each signal does. */
 static void actions(void)
 {
@@ -104,10 +115,12 @@ static void actions(void)
 		bool stops = which == SIGSTOP || which == SIGTSTP || which == SIGTTIN || which == SIGTTOU;
 		if (stops) {
 			put_wait("stopped", pid, WSTOPPED | WEXITED | WCONTINUED);
+			let_end();
+			others_run();
+			put_wait("still stopped", pid, WEXITED | WNOHANG);
 			kill(pid, SIGCONT);
-			put_wait("continued", pid, WSTOPPED | WEXITED | WCONTINUED);
-		}
-		let_end();
+		} else
+			let_end();
 		printf("signal %d, ", which);
 		put_wait("ended", pid, WEXITED);
 	}

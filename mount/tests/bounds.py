@@ -207,7 +207,7 @@ def words(group, other="EINVAL"):
 
 # ---------------------------------------------------------------- what only the mount has here
 
-# The kernel's weight of each nice value, as it stands in its sources (sched_prio_to_weight), from -20 to 19.
+# The weight of each nice value from -20 to 19, as the scheduler of the kernel has it in its sources.
 SHARES = """88761 71755 56483 46273 36291 29154 23254 18705 14949 11916 9548 7620 6100 4904 3906 3121 2501 1991 1586 1277 1024 820 655 526
 423 335 272 215 172 137 110 87 70 56 45 36 29 23 18 15""".split()
 

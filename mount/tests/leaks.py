@@ -12,7 +12,7 @@ from support import AT, PATIENCE, PROGRAM, Mount, error_of, finish, libc, read, 
 ME = os.path.realpath(__file__)
 # With an arena for each thread the memory grows until each has had its turn with the most records.
 os.environ["MALLOC_ARENA_MAX"] = "1"
-ROUNDS, LEAST = 400, 24  # bytes: what is allocated takes more
+ROUNDS, LEAST = 300, 24  # bytes: what is allocated takes more
 PAGE = os.sysconf("SC_PAGE_SIZE")
 
 
@@ -139,12 +139,14 @@ def of_mount():
             lambda: (error_of(os.open, g + "/cpu.max", os.O_DIRECT), error_of(os.open, g + "/none", os.O_RDONLY)),
         ),
     )
+    for _ in range(2000):  # the engine forgets its records, each 1,024 commands
+        operations[0][1]()
     before = open_of(m.process.pid)
     for name, operation in operations:
         for _ in range(ROUNDS // 2):
             operation()
         sizes = [resident(m.process.pid)]
-        for _ in range(2):  # a thread may still begin in one of them
+        for _ in range(4):  # a thread may still begin in some of them
             for _ in range(ROUNDS):
                 operation()
             sizes.append(resident(m.process.pid))

@@ -28,6 +28,8 @@ from support import (
 )
 
 ME = os.path.realpath(__file__)
+BUILT = os.environ.get("HOSTILE") or os.path.join(os.path.dirname(PROGRAM), "..", "hostile")
+TASKS = os.path.join(BUILT, "tasks")
 CLONE = 56 if os.uname().machine == "x86_64" else 220
 THREAD, SIGHAND, VM, FS = 0x10000, 0x800, 0x100, 0x200
 NEWNS, NEWCGROUP, NEWUSER, NEWPID = 0x20000, 0x2000000, 0x10000000, 0x20000000
@@ -192,26 +194,25 @@ def status_of_own():
 
 
 def crowd():
-    """A process with four hundred threads: while the server is stopped they end, all at once."""
+    """A process with two thousand threads, which all end at once."""
     os.mkdir(AT + "/t")
-    into("/t")
-    stack, count = threading.stack_size(65536), 400
-    may_end = threading.Event()
-    threads = [threading.Thread(target=may_end.wait, daemon=True) for _ in range(count)]
-    for t in threads:
-        t.start()
-    same("all count", read(AT + "/t/pids.current"), b"%d\n" % (count + 1))
+    count = 2000
+    p = subprocess.Popen([TASKS, "first"], stdin=subprocess.PIPE, stdout=subprocess.PIPE, preexec_fn=lambda: into("/t"))
+    p.stdout.readline()
+    p.stdin.write(b"thread\n" * count)
+    p.stdin.flush()
+    made = {p.stdout.readline() for _ in range(count)}
+    same("all are made, and count", (len(made), read(AT + "/t/pids.current")), (count, b"%d\n" % (count + 1)))
     same("all are listed", len(read_all("/t/cgroup.threads").split()), count + 1)
-    for pid, _ in status_of_own()[1:]:
-        os.kill(pid, signal.SIGSTOP)
-    may_end.set()
-    for t in threads:
-        t.join()
-    step("none counts once they have ended", until(lambda: read(AT + "/t/pids.current") == b"1\n"))
-    same("nor is one listed", read(AT + "/t/cgroup.threads"), b"%d\n" % os.getpid())
+    p.kill()
+    same("it is killed", p.wait(PATIENCE), -signal.SIGKILL)
+    step("none counts once they have ended", until(lambda: read(AT + "/t/pids.current") == b"0\n"))
+    same("nor is one listed", (read(AT + "/t/cgroup.threads"), read(AT + "/t/cgroup.procs")), (b"", b""))
+    into("/t")
     write(AT + "/t/pids.max", b"3")
-    same("two have room", (thread(), thread(), places("")), ("ok", "ok", 2))
-    threading.stack_size(stack)
+    same("there is room for two threads", (thread(), thread()), ("ok", "ok"))
+    step("which end", until(lambda: read(AT + "/t/pids.current") == b"1\n"))
+    same("and for two children", places(""), 2)
 
 
 def read_all(name):

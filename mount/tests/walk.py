@@ -127,6 +127,8 @@ def walk(seed, rounds):
             wrong.append(("inotify", what, seen, changed))
 
     for _ in range(rounds):
+        if wrong:  # a mark that does not come takes long
+            break
         what, call, *args = commands(dice, m)
         depth = int(read(m.control("depth")))
         if what == "undo" and depth - int(args[1]) < first:
