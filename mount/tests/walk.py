@@ -198,7 +198,8 @@ def crowd():
     every = {(f.path, 0) for f in files}
     for i, name in enumerate(names):
         write(m.path(name, "cgroup.procs"), b"%d" % (i + 100))
-    same("each is told of a process", inotify.take() == every, True)
+    told = inotify.take() == every
+    step("each is told of a process", told)
     same("so is who polls", {f.path for f in files if f.told() != ([True] * 2, True)}, set())
     for what, call in (
         ("a kill", lambda: write(m.path("top/cgroup.kill"), b"1")),
@@ -207,9 +208,12 @@ def crowd():
         ("a thaw", lambda: write(m.path("top/cgroup.freeze"), b"0")),
         ("another kill", lambda: write(m.path("top/cgroup.kill"), b"1")),
     ):
+        if not told:  # what does not come takes long
+            break
         call()
         same("%s: who polls" % what, {f.path for f in files if f.told() != ([True] * 2, True)}, set())
-        same("%s: who watches" % what, inotify.take() == every, True)
+        told = inotify.take() == every
+        step("%s: who watches" % what, told)
     for value in (b"1", b"0") * 20:
         write(m.path("top/cgroup.freeze"), value)
     for name in names[::2]:
