@@ -60,7 +60,7 @@ static const char *take_region(const char *at, unsigned bits, struct region *r, 
 			*fault = -EINVAL;
 		at = *fault ? NULL : take_number(at + 1, bits, &r->last, fault);
 	}
-	r->used = r->of = r->last >= r->first ? r->last - r->first + 1 : 1;
+	r->used = r->of = r->last + 1; /* all. As in the kernel it is 0, and refused, for the last number of 32 bits. */
 	if (at && *at == ':') {
 		at = take_number(at + 1, bits, &r->used, fault);
 		if (at && *at != '/')

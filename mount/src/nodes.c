@@ -102,16 +102,15 @@ int nodes_find_below(const struct node *directory, const char *name, struct node
 		return -ENOENT;
 	if (above || strcmp(name, ".") == 0)
 		return find_relative(directory, above, out);
+	const struct file *file = directory->group ? file_named(name, is_root(directory->group->path)) : NULL;
+	if (file) { /* its path may be longer than that of any group */
+		*out = (struct node){ .group = directory->group, .file = file };
+		return controllers_have(directory->group->path, file) ? 0 : -ENOENT;
+	}
 	int fault = nodes_path(directory, name, path);
 	if (fault)
 		return fault;
-	if (!directory->group || control_has(path))
-		return find_control(path, out);
-	const struct file *file = file_named(name, is_root(directory->group->path));
-	if (!file)
-		return find_group(path, out);
-	*out = (struct node){ .group = directory->group, .file = file };
-	return controllers_have(directory->group->path, file) ? 0 : -ENOENT;
+	return !directory->group || control_has(path) ? find_control(path, out) : find_group(path, out);
 }
 
 void nodes_known(const struct node *node)

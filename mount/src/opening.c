@@ -82,6 +82,7 @@ struct walk {
 	pid_t thread;
 	int root, at;
 	int links;
+	bool to_directory; /* a slash follows the last name */
 	uint64_t resolve;
 	char rest[2 * PATH_MAX];
 };
@@ -124,6 +125,12 @@ static bool is_link(int fd)
 	return statx(fd, "", AT_EMPTY_PATH | AT_STATX_DONT_SYNC, STATX_TYPE, &st) == 0 && S_ISLNK(st.stx_mode);
 }
 
+static bool is_directory(int fd)
+{
+	struct statx st;
+	return statx(fd, "", AT_EMPTY_PATH | AT_STATX_DONT_SYNC, STATX_TYPE, &st) == 0 && S_ISDIR(st.stx_mode);
+}
+
 static bool is_proc(int fd)
 {
 	struct statfs st;
@@ -147,7 +154,7 @@ static void go(struct walk *w, int to)
 static bool go_on_with(struct walk *w, const char *text)
 {
 	char rest[sizeof w->rest];
-	int n = snprintf(rest, sizeof rest, "%s%s%s", text, w->rest[0] ? "/" : "", w->rest);
+	int n = snprintf(rest, sizeof rest, "%s%s%s", text, w->rest[0] || w->to_directory ? "/" : "", w->rest);
 	if (n < 0 || (size_t)n >= sizeof rest)
 		return false;
 	memcpy(w->rest, rest, (size_t)n + 1);
@@ -235,6 +242,7 @@ static bool take_name(struct walk *w, char name[NAME_MAX + 1], bool *is_last)
 	*is_last = w->rest[from + n] == 0;
 	const char *rest = w->rest + from + n;
 	rest += strspn(rest, "/");
+	w->to_directory = !*is_last && *rest == 0;
 	memmove(w->rest, rest, strlen(rest) + 1);
 	return true;
 }
@@ -245,7 +253,7 @@ static bool step(struct walk *w, const char *name, bool follows)
 	if (is_up && w->resolve & RESOLVE_BENEATH && is_same(w->at, w->root))
 		return false;
 	if (strcmp(name, ".") == 0 || (is_up && is_same(w->at, w->root)))
-		return true;
+		return is_directory(w->at);
 	cleanup_fd int next = openat(w->at, name, O_PATH | O_NOFOLLOW | O_CLOEXEC);
 	bool denied = next < 0 && errno == EACCES && follows && w->resolve == 0 && is_proc(w->at);
 	if (denied)
@@ -268,7 +276,7 @@ static int walk_by_hand(pid_t thread, int root, int from, const char *path, bool
 	bool found = snprintf(w.rest, sizeof w.rest, "%s", path) < (int)sizeof w.rest;
 	while (found && take_name(&w, name, &is_last))
 		found = step(&w, name, follows || !is_last);
-	if (found && w.rest[strspn(w.rest, "/")] == 0)
+	if (found && w.rest[strspn(w.rest, "/")] == 0 && (!w.to_directory || is_directory(w.at)))
 		return w.at;
 	close_at(&w.at);
 	return -1;

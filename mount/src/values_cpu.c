@@ -181,7 +181,8 @@ int cpu_take_max(const char *group, const struct file *file, const char *said, c
 		if (strcmp(word, "max") != 0)
 			return -EINVAL;
 		quota = no_quota;
-	}
+	} else if (quota == no_quota)
+		return -EINVAL; /* a number, and too large */
 	int fault = check_bandwidth(quota, period, burst_of(group));
 	if (fault)
 		return fault;

@@ -15,7 +15,7 @@ static bool is_mems(const struct file *file)
 /* Empty means: as the group above. A number beyond the kernel's own is ERANGE, one that the machine can't have EINVAL. */
 int cpuset_take_list(const char *group, const struct file *file, const char *said, char out[TEXT_ROOM])
 {
-	char text[TEXT_ROOM];
+	char text[TEXT_ROOM + 1];
 	struct list wanted;
 	const struct list *possible = machine_has(is_mems(file) ? NODES_POSSIBLE : CPUS_POSSIBLE);
 	(void)group;
@@ -62,7 +62,7 @@ int cpuset_show_effective(const char *group, const struct file *file, char out[T
 int cpuset_take_partition(const char *group, const struct file *file, const char *said, char out[TEXT_ROOM])
 {
 	static const char *const words[] = { "member", "root", "isolated" };
-	char text[TEXT_ROOM];
+	char text[TEXT_ROOM + 1];
 	(void)group, (void)file;
 	snprintf(text, sizeof text, "%s", said);
 	const char *word = scan_strip(text);

@@ -11,7 +11,7 @@
    limit. */
 int memory_take_limit(const char *group, const struct file *file, const char *said, char out[TEXT_ROOM])
 {
-	char text[TEXT_ROOM];
+	char text[TEXT_ROOM + 1];
 	const char *end;
 	unsigned long long page = (unsigned long long)sysconf(_SC_PAGESIZE);
 	(void)group, (void)file;
@@ -32,7 +32,7 @@ int memory_take_limit(const char *group, const struct file *file, const char *sa
 /* memory.oom.group: 0 or 1 */
 int memory_take_switch(const char *group, const struct file *file, const char *said, char out[TEXT_ROOM])
 {
-	char text[TEXT_ROOM];
+	char text[TEXT_ROOM + 1];
 	long long n;
 	(void)group, (void)file;
 	snprintf(text, sizeof text, "%s", said);

@@ -86,4 +86,80 @@ write(m.path("many", "cgroup.kill"), b"1\n")
 same("a kill reaches them all", parent.wait(PATIENCE), -signal.SIGKILL)
 step("and their children", until(lambda: not any(os.path.exists("/proc/%d" % p) and is_alive(p) for p in mine)))
 m.end()
+
+
+def alive(*pids):
+    """Which of them live, once whom a kill has reached is gone."""
+    return [is_alive(p) for p in pids]
+
+
+def family():
+    """A process with a child, and a grandchild; each waits, and a line ends the first. Their numbers."""
+    script = "sh -c 'sleep 600 & echo $! $$; wait' & echo $$; read x"
+    top = subprocess.Popen(["sh", "-c", script], stdin=subprocess.PIPE, stdout=subprocess.PIPE, text=True)
+    numbers = [int(n) for _ in range(2) for n in top.stdout.readline().split()]
+    child = next(n for n in numbers if n != top.pid and status_of(n) == top.pid)
+    return top, top.pid, child, next(n for n in numbers if n not in (top.pid, child))
+
+
+def status_of(pid):
+    return int(next(line for line in open("/proc/%d/status" % pid) if line.startswith("PPid:")).split()[1])
+
+
+# each is where it was moved, and a kill reaches those of its group alone
+m = Mount("--adopt", "--extra")
+for g in "abc":
+    os.mkdir(m.path(g))
+stranger = subprocess.Popen(["sleep", "600"])
+top, first, second, third = family()
+write(m.path("a", "cgroup.procs"), b"%d\n" % first)
+same(
+    "three are adopted",
+    read(m.path("a", "cgroup.procs")),
+    b"".join(b"%d\n" % p for p in sorted((first, second, third))),
+)
+same("the root has no other", read(m.path("cgroup.procs")), b"1\n")
+write(m.path("b", "cgroup.procs"), b"%d\n" % second)
+same("a child moves alone", [read(m.path(g, "pids.current")) for g in "abc"], [b"2\n", b"1\n", b"0\n"])
+write(m.path("b", "cgroup.procs"), b"%d\n" % second)
+same("to where it is", [read(m.path(g, "pids.current")) for g in "abc"], [b"2\n", b"1\n", b"0\n"])
+write(m.path("c", "cgroup.kill"), b"1\n")
+same("a kill of an empty group", alive(first, second, third, stranger.pid), [True] * 4)
+write(m.path("b", "cgroup.kill"), b"1\n")
+step("a kill of one", until(lambda: not is_alive(second)))
+same("reaches no other", alive(first, third, stranger.pid), [True] * 3)
+same("who is left", [read(m.path(g, "pids.current")) for g in "abc"], [b"2\n", b"0\n", b"0\n"])
+top.stdin.write("x\n")
+top.stdin.close()
+top.wait(PATIENCE)
+step("the parent ends", until(lambda: read(m.path("a", "pids.current")) == b"1\n"))
+same("a grandchild stays", read(m.path("a", "cgroup.procs")), b"%d\n" % third)
+same("one that has ended is nobody", error_of(write, m.path("a", "cgroup.procs"), b"%d\n" % first), "ESRCH")
+write(m.path("cgroup.procs"), b"%d\n" % third)
+same(
+    "it moves to the root",
+    (read(m.path("a", "pids.current")), b"%d" % third in read(m.path("cgroup.procs")).split()),
+    (b"0\n", True),
+)
+write(m.path("a", "cgroup.kill"), b"1\n")
+same("where no kill reaches it", alive(third), [True])
+write(m.path("c", "cgroup.procs"), b"%d\n" % third)
+write(m.path("c", "cgroup.freeze"), b"1\n")
+same(
+    "the freezer stops nobody",
+    (read(m.path("c", "cgroup.events")), open("/proc/%d/stat" % third).read().rpartition(")")[2].split()[0]),
+    (b"populated 1\nfrozen 1\n", "S"),
+)
+os.kill(third, signal.SIGKILL)
+step("a death empties a group", until(lambda: read(m.path("c", "cgroup.events")) == b"populated 0\nfrozen 1\n"))
+child = subprocess.Popen(["sleep", "600"])
+write(m.path("a", "cgroup.procs"), b"%d\n" % child.pid)
+child.send_signal(signal.SIGKILL)
+os.waitid(os.P_PID, child.pid, os.WEXITED | os.WNOWAIT)
+step("a zombie is gone", until(lambda: read(m.path("a", "pids.current")) == b"0\n"))
+child.wait()
+same("who was never there lives", alive(stranger.pid), [True])
+stranger.kill()
+stranger.wait()
+m.end()
 finish()

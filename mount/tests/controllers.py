@@ -142,6 +142,79 @@ def threaded():
     m.end()
 
 
+def each_one():
+    """By the kernel's rules for each controller: enabled in a group with a process, and entered by one where it is enabled. Those of
+    threads may be shared out in a group with processes, as long as nobody is below."""
+    of_threads = ("cpuset", "cpu", "pids")
+    for name in ("cpuset", "cpu", "io", "memory", "pids"):
+        m = Mount("--keep", KEPT)
+        change(m, ".", "+cpuset +cpu +io +memory +pids")
+        os.makedirs(m.path("a", "b", "c", "d"))
+        for pid in (2, 3):
+            write(m.control("fork"), b"1 %d\n" % pid)
+        write(m.path("a", "cgroup.procs"), b"2\n")
+        write(m.path("a", "b", "cgroup.procs"), b"3\n")
+        same("%s beside a process, and somebody below" % name, change(m, "a", "+" + name), "EBUSY")
+        write(m.path("cgroup.procs"), b"3\n")
+        same("%s beside a process" % name, change(m, "a", "+" + name), "ok" if name in of_threads else "EBUSY")
+        types = [text_of(m, at, "cgroup.type") for at in ("a", "a/b", "a/b/c", "a/b/c/d")]
+        same(
+            "%s: the types" % name,
+            types,
+            ["domain threaded", *["domain invalid"] * 3] if name in of_threads else ["domain"] * 4,
+        )
+        below = [error_of(write, m.path(at, "cgroup.procs"), b"3\n") for at in ("a/b", "a/b/c/d")]
+        same("%s: moves below" % name, below, ["ENOTSUP" if name in of_threads else "ok"] * 2)
+        same(
+            "%s below what is no domain" % name,
+            change(m, "a/b", "+" + name),
+            "ENOTSUP" if name in of_threads else "ENOENT",
+        )
+        same("%s: another process comes" % name, error_of(write, m.path("a", "cgroup.procs"), b"3\n"), "ok")
+        for pid in (2, 3):
+            write(m.path("cgroup.procs"), b"%d\n" % pid)
+        same("%s without processes" % name, change(m, "a", "+" + name), "ok")
+        same("%s: the type" % name, text_of(m, "a/b", "cgroup.type"), "domain")
+        entered = error_of(write, m.path("a", "cgroup.procs"), b"2\n")
+        same("%s: a process comes, and nobody is below" % name, entered, "ok" if name in of_threads else "EBUSY")
+        write(m.path("cgroup.procs"), b"2\n")
+        same("%s: one below" % name, error_of(write, m.path("a", "b", "cgroup.procs"), b"3\n"), "ok")
+        same("%s: then none comes" % name, error_of(write, m.path("a", "cgroup.procs"), b"2\n"), "EBUSY")
+        write(m.path("a", "b", "c", "d", "cgroup.procs"), b"3\n")
+        same("%s: nor if it is far below" % name, error_of(write, m.path("a", "cgroup.procs"), b"2\n"), "EBUSY")
+        same("%s is shared out below" % name, change(m, "a/b", "+" + name), "ok")
+        same("%s cannot be taken back" % name, change(m, "a", "-" + name), "EBUSY")
+        same(
+            "%s: it is as it was" % name,
+            [text_of(m, at, "cgroup.subtree_control") for at in ("a", "a/b", "a/b/c")],
+            [name, name, ""],
+        )
+        same("%s from the last" % name, (change(m, "a/b", "-" + name), change(m, "a", "-" + name)), ("ok", "ok"))
+        m.end()
+    m = Mount("--keep", KEPT)
+    change(m, ".", "+cpuset +cpu +io +memory +pids")
+    os.mkdir(m.path("a"))
+    files = ("cpuset.cpus", "cpu.max", "io.weight", "memory.max", "pids.max")
+    values = (b"0\n", b"5000 100000\n", b"default 7\n", b"1048576\n", b"9\n")
+    fresh = [read(m.path("a", f)) for f in files]
+    for lost, name in enumerate(("cpuset", "cpu", "io", "memory", "pids")):
+        for f, value in zip(files, values):
+            write(m.path("a", f), value)
+        held = [os.open(m.path("a", f), os.O_RDWR) for f in files]
+        change(m, ".", "-" + name)
+        there = [error_of(read, m.path("a", f)) for f in files]
+        same("%s is disabled: which files are there" % name, there, ["ENOENT" if i == lost else "ok" for i in range(5)])
+        for call in (lambda fd: os.pread(fd, 99, 0), lambda fd: os.write(fd, b"x")):
+            got = [error_of(call, fd) == "ENODEV" for fd in held]
+            same("%s: which open files are gone" % name, got, [i == lost for i in range(5)])
+        change(m, ".", "+" + name)
+        now = [read(m.path("a", f)) for f in files]
+        same("%s is enabled: the values" % name, now, [fresh[i] if i == lost else values[i] for i in range(5)])
+        for fd in held:
+            os.close(fd)
+    m.end()
+
+
 def without():
     """Without --keep none of this exists."""
     m = Mount("--extra")
@@ -214,6 +287,6 @@ def born():
 if sys.argv[1:] == ["inside"]:
     born()
     finish()
-for test in (enabling, lost_pids, internal, threaded, without, refused, under_run):
+for test in (enabling, lost_pids, internal, threaded, each_one, without, refused, under_run):
     test()
 finish()

@@ -122,6 +122,84 @@ def owned(at):
     os.rmdir(at + "/o")
 
 
+OMIT, NOW = (1 << 30) - 2, (1 << 30) - 1
+libc.utimensat.argtypes = [ctypes.c_int, ctypes.c_char_p, ctypes.c_void_p, ctypes.c_int]
+
+
+def set_times(fd, accessed, modified):
+    """Each is seconds and nanoseconds."""
+    times = (ctypes.c_long * 4)(*accessed, *modified)
+    if libc.futimens(fd, times):
+        raise OSError(ctypes.get_errno(), "")
+
+
+def all_of(st):
+    return {
+        "mode": stat.S_IMODE(st.st_mode),
+        "owner": st.st_uid,
+        "group": st.st_gid,
+        "accessed": st.st_atime_ns,
+        "modified": st.st_mtime_ns,
+        "number": st.st_ino,
+        "links": st.st_nlink,
+    }
+
+
+def settings(at):
+    """Each call sets what it names, and nothing else, by a path and by a descriptor."""
+    group = at + "/s"
+    os.mkdir(group)
+    os.mkdir(group + "/in")
+    others = group + "/in", group + "/cgroup.stat"
+    for path in (group, group + "/cgroup.procs"):
+        fd = os.open(path, os.O_RDONLY)
+        untouched = [all_of(os.stat(other)) for other in others]
+        for what, call, sets in (
+            ("chmod", lambda: os.chmod(path, 0o612), {"mode": 0o612}),
+            ("fchmod", lambda: os.fchmod(fd, 0o751), {"mode": 0o751}),
+            ("chown of the owner", lambda: os.chown(path, 7, -1), {"owner": 7}),
+            ("chown of the group", lambda: os.chown(path, -1, 8), {"group": 8}),
+            ("fchown of both", lambda: os.fchown(fd, 9, 10), {"owner": 9, "group": 10}),
+            ("fchown of the group", lambda: os.fchown(fd, -1, 11), {"group": 11}),
+            ("lchown", lambda: os.lchown(path, 12, 13), {"owner": 12, "group": 13}),
+            ("chown of neither", lambda: os.chown(path, -1, -1), {}),
+            (
+                "times",
+                lambda: set_times(fd, (3, 4), (5, 6)),
+                {"accessed": 3 * 10**9 + 4, "modified": 5 * 10**9 + 6},
+            ),
+            ("one time", lambda: set_times(fd, (8, 9), (0, OMIT)), {"accessed": 8 * 10**9 + 9}),
+            ("the other", lambda: set_times(fd, (0, OMIT), (10, 11)), {"modified": 10**10 + 11}),
+            ("neither", lambda: set_times(fd, (0, OMIT), (0, OMIT)), {}),
+            ("one time, now", lambda: set_times(fd, (0, NOW), (0, OMIT)), {"accessed": None}),
+            ("the other, now", lambda: set_times(fd, (0, OMIT), (0, NOW)), {"modified": None}),
+            ("chmod to nothing", lambda: os.chmod(path, 0), {"mode": 0}),
+            ("chmod to all", lambda: os.chmod(path, 0o7777), {"mode": 0o7777}),
+        ):
+            if error_of(call) == "EPERM" and "chown" in what:  # on the kernel's only a superuser may
+                continue
+            before = all_of(os.stat(path))
+            os.utime(path, ns=(before["accessed"], before["modified"]))
+            os.chmod(path, 0o640)
+            if "chown" in what:
+                error_of(os.chown, path, 20, 21)
+            before = all_of(os.stat(path))
+            changed, begun = os.stat(path).st_ctime_ns, time.time_ns() - 20 * 10**6
+            call()
+            st = os.stat(path)
+            after = all_of(st)
+            wanted = {**before, **{k: after[k] if v is None else v for k, v in sets.items()}}
+            same("%s of a %s" % (what, "group" if path == group else "file"), after, wanted)
+            for k in (k for k, v in sets.items() if v is None):
+                step("now", begun <= after[k] <= time.time_ns(), (begun, after[k]))
+            step("the time of the change", st.st_ctime_ns >= changed, (changed, st.st_ctime_ns))
+            same("by the descriptor", all_of(os.fstat(fd)), after)
+        same("others are as they were", [all_of(os.stat(other)) for other in others], untouched)
+        os.close(fd)
+    os.rmdir(group + "/in")
+    os.rmdir(group)
+
+
 def times_of(path):
     st = os.stat(path)
     return st.st_atime, st.st_mtime
@@ -343,7 +421,7 @@ def control():
     m.end()
 
 
-ON_BOTH = (listed, numbered, modes, owned, timed, removed, continued, handled)
+ON_BOTH = (listed, numbered, modes, owned, settings, timed, removed, continued, handled)
 if sys.argv[1:] == ["kernel"]:
     with new_group() as group:
         for test in ON_BOTH if group else ():

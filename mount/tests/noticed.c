@@ -23,6 +23,7 @@
 #include <sys/socket.h>
 #include <sys/syscall.h>
 #include <sys/time.h>
+#include <sys/uio.h>
 #include <sys/un.h>
 #include <sys/wait.h>
 #include <time.h>
@@ -38,13 +39,37 @@ static int ends[2];
 static int seconds = 3; /* how long a call takes that no signal ends */
 static atomic_int *ready; /* shared with the parent: the next thing that this process does is the call */
 
-static long in_epoll(void)
+static int watched_end(void)
 {
 	struct epoll_event e = { .events = EPOLLIN };
 	int set = epoll_create1(0);
 	epoll_ctl(set, EPOLL_CTL_ADD, ends[0], &e);
+	return set;
+}
+
+static long in_epoll(void)
+{
+	struct epoll_event e;
+	int set = watched_end();
 	atomic_store(ready, 1);
 	return epoll_wait(set, &e, 1, 1000 * seconds);
+}
+
+static long in_epoll_pwait(void)
+{
+	struct epoll_event e;
+	int set = watched_end();
+	atomic_store(ready, 1);
+	return syscall(SYS_epoll_pwait, set, &e, 1, 1000 * seconds, NULL, 8);
+}
+
+static long in_epoll_pwait2(void)
+{
+	struct epoll_event e;
+	struct timespec most = { seconds, 0 };
+	int set = watched_end();
+	atomic_store(ready, 1);
+	return syscall(SYS_epoll_pwait2, set, &e, 1, &most, NULL, 8);
 }
 
 static void set_timeout(int fd, int which)
@@ -55,31 +80,86 @@ static void set_timeout(int fd, int which)
 
 static long in_recv(void)
 {
-	char byte;
+	char got;
 	set_timeout(ends[0], SO_RCVTIMEO);
 	atomic_store(ready, 1);
-	return recv(ends[0], &byte, 1, 0);
+	return recv(ends[0], &got, 1, 0);
 }
 
 static long in_read_of_socket(void)
 {
-	char byte;
+	char got;
 	set_timeout(ends[0], SO_RCVTIMEO);
 	atomic_store(ready, 1);
-	return read(ends[0], &byte, 1);
+	return read(ends[0], &got, 1);
 }
 
-static long in_send(void)
+static char byte;
+static struct iovec one = { &byte, 1 };
+static struct mmsghdr message = { .msg_hdr = { .msg_iov = &one, .msg_iovlen = 1 } };
+
+static long in_readv_of_socket(void)
+{
+	set_timeout(ends[0], SO_RCVTIMEO);
+	atomic_store(ready, 1);
+	return readv(ends[0], &one, 1);
+}
+
+static long in_recvmsg(void)
+{
+	set_timeout(ends[0], SO_RCVTIMEO);
+	atomic_store(ready, 1);
+	return recvmsg(ends[0], &message.msg_hdr, 0);
+}
+
+static long in_recvmmsg(void)
+{
+	set_timeout(ends[0], SO_RCVTIMEO);
+	atomic_store(ready, 1);
+	return recvmmsg(ends[0], &message, 1, 0, NULL);
+}
+
+/* A socket that takes no more. */
+static void fill_socket(void)
 {
 	static char bytes[1 << 20];
 	set_timeout(ends[0], SO_SNDTIMEO);
 	while (send(ends[0], bytes, sizeof bytes, MSG_DONTWAIT) > 0)
 		;
 	atomic_store(ready, 1);
-	return send(ends[0], bytes, 1, 0);
 }
 
-static long in_accept(void)
+static long in_send(void)
+{
+	fill_socket();
+	return send(ends[0], &byte, 1, 0);
+}
+
+static long in_write_to_socket(void)
+{
+	fill_socket();
+	return write(ends[0], &byte, 1);
+}
+
+static long in_writev_to_socket(void)
+{
+	fill_socket();
+	return writev(ends[0], &one, 1);
+}
+
+static long in_sendmsg(void)
+{
+	fill_socket();
+	return sendmsg(ends[0], &message.msg_hdr, 0);
+}
+
+static long in_sendmmsg(void)
+{
+	fill_socket();
+	return sendmmsg(ends[0], &message, 1, 0);
+}
+
+static int listening(void)
 {
 	int fd = socket(AF_UNIX, SOCK_STREAM, 0);
 	struct sockaddr own = { .sa_family = AF_UNIX };
@@ -87,20 +167,47 @@ static long in_accept(void)
 	bind(fd, &own, sizeof own.sa_family);
 	listen(fd, 1);
 	atomic_store(ready, 1);
-	return accept(fd, NULL, NULL);
+	return fd;
 }
 
-static long in_semtimedop(void)
+static long in_accept(void)
+{
+	return accept(listening(), NULL, NULL);
+}
+
+static long in_accept4(void)
+{
+	return accept4(listening(), NULL, NULL, SOCK_CLOEXEC);
+}
+
+static void end_later(void)
+{
+	struct itimerval later = { { 0, 0 }, { seconds + 1, 0 } };
+	setitimer(ITIMER_REAL, &later, NULL);
+}
+
+static long in_semaphore(const struct timespec *most)
 {
 	struct sembuf take = { 0, -1, 0 };
-	struct timespec most = { seconds, 0 };
 	int set = semget(IPC_PRIVATE, 1, 0600);
+	if (!most)
+		end_later();
 	atomic_store(ready, 1);
-	long result = semtimedop(set, &take, 1, &most);
+	long result = most ? semtimedop(set, &take, 1, most) : syscall(SYS_semop, set, &take, 1);
 	int fault = errno;
 	semctl(set, 0, IPC_RMID);
 	errno = fault;
 	return result;
+}
+
+static long in_semtimedop(void)
+{
+	return in_semaphore(&(struct timespec){ seconds, 0 });
+}
+
+static long in_semop(void)
+{
+	return in_semaphore(NULL);
 }
 
 static long in_sigtimedwait(void)
@@ -124,13 +231,22 @@ static long in_getevents(void)
 	return syscall(SYS_io_getevents, all, 1, 1, &e, &most);
 }
 
+static long in_pgetevents(void)
+{
+	aio_context_t all = 0;
+	struct io_event e;
+	struct timespec most = { seconds, 0 };
+	syscall(SYS_io_setup, 1, &all);
+	atomic_store(ready, 1);
+	return syscall(SYS_io_pgetevents, all, 1, 1, &e, &most, NULL);
+}
+
 static long in_inotify(void)
 {
 	char event[4096];
 	int fd = inotify_init();
-	struct itimerval later = { { 0, 0 }, { seconds + 1, 0 } };
 	inotify_add_watch(fd, "/", IN_MOVE_SELF);
-	setitimer(ITIMER_REAL, &later, NULL);
+	end_later();
 	atomic_store(ready, 1);
 	return read(fd, event, sizeof event);
 }
@@ -199,13 +315,25 @@ static const struct {
 	int fault; /* without a signal */
 } calls[] = {
 	{ "epoll_wait", in_epoll, 0 },
+	{ "epoll_pwait", in_epoll_pwait, 0 },
+	{ "epoll_pwait2", in_epoll_pwait2, 0 },
 	{ "recv", in_recv, EAGAIN },
+	{ "recvmsg", in_recvmsg, EAGAIN },
+	{ "recvmmsg", in_recvmmsg, EAGAIN },
 	{ "read", in_read_of_socket, EAGAIN },
+	{ "readv", in_readv_of_socket, EAGAIN },
 	{ "send", in_send, EAGAIN },
+	{ "sendmsg", in_sendmsg, EAGAIN },
+	{ "sendmmsg", in_sendmmsg, EAGAIN },
+	{ "write", in_write_to_socket, EAGAIN },
+	{ "writev", in_writev_to_socket, EAGAIN },
 	{ "accept", in_accept, EAGAIN },
+	{ "accept4", in_accept4, EAGAIN },
 	{ "semtimedop", in_semtimedop, EAGAIN },
+	{ "semop", in_semop, EINTR },
 	{ "sigtimedwait", in_sigtimedwait, EAGAIN },
 	{ "io_getevents", in_getevents, 0 },
+	{ "io_pgetevents", in_pgetevents, 0 },
 	{ "inotify", in_inotify, EINTR },
 	{ "poll", in_poll, 0 },
 	{ "nanosleep", in_nanosleep, 0 },

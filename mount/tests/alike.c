@@ -1,0 +1,557 @@
+/* alike WHAT: calls about processes and signals, one line for what came of each. alike.py compares what this says alone and under
+   `makhloeum run`. */
+#include <errno.h>
+#include <fcntl.h>
+#include <linux/filter.h>
+#include <linux/sched.h>
+#include <linux/seccomp.h>
+#include <poll.h>
+#include <signal.h>
+#include <stdbool.h>
+#include <stddef.h>
+#include <stdio.h>
+#include <stdlib.h>
+#include <string.h>
+#include <sys/mman.h>
+#include <sys/prctl.h>
+#include <sys/resource.h>
+#include <sys/socket.h>
+#include <sys/stat.h>
+#include <sys/syscall.h>
+#include <sys/time.h>
+#include <sys/wait.h>
+#include <time.h>
+#include <unistd.h>
+
+#ifndef P_PIDFD
+#define P_PIDFD 3
+#endif
+
+static const char *fault(void)
+{
+	return strerrorname_np(errno);
+}
+
+/* What a call has returned, or its errno. */
+static void put(const char *name, long result)
+{
+	if (result < 0)
+		printf("%s: %s\n", name, fault());
+	else
+		printf("%s: %ld\n", name, result);
+}
+
+/* A child that ends with 5 once a byte comes, or the end of this process. */
+static int to_child;
+
+static pid_t waiting_child(void)
+{
+	int ends[2], ready[2];
+	char byte = 0;
+	if (socketpair(AF_UNIX, SOCK_STREAM, 0, ends) || pipe(ready))
+		exit(3);
+	pid_t pid = fork();
+	if (pid == 0) {
+		setpgid(0, 0); /* so that its group has somebody above, and can be stopped */
+		close(ends[1]);
+		if (write(ready[1], &byte, 1) != 1)
+			_exit(4);
+		while (read(ends[0], &byte, 1) < 0 && errno == EINTR)
+			;
+		_exit(5);
+	}
+	close(ends[0]);
+	close(ready[1]);
+	if (read(ready[0], &byte, 1) != 1)
+		exit(3);
+	close(ready[0]);
+	to_child = ends[1];
+	return pid;
+}
+
+static void let_end(void)
+{
+	(void)send(to_child, "", 1, MSG_NOSIGNAL); /* it may have ended */
+	close(to_child);
+}
+
+static void put_wait(const char *name, pid_t pid, int options)
+{
+	siginfo_t info = { .si_pid = 0 };
+	int result = waitid(P_PID, (id_t)pid, &info, options);
+	printf("%s: %d", name, result);
+	if (result < 0)
+		printf(" %s\n", fault());
+	else
+		printf(" %s %d %d\n",
+			info.si_pid == pid ? "it"
+				: info.si_pid  ? "another"
+							   : "nobody",
+			info.si_code, info.si_status);
+}
+
+/* ---------------------------------------------------------------- signals */
+
+/* Other processes are made and end. Meanwhile one that is not stopped would have run. */
+static void others_run(void)
+{
+	for (int i = 0; i < 100; i++) {
+		pid_t pid = fork();
+		if (pid == 0)
+			_exit(0);
+		waitpid(pid, NULL, 0);
+	}
+}
+
+/* What the default action of each signal does. */
+static void actions(void)
+{
+	for (int which = 1; which <= SIGRTMAX; which++) {
+		if (which == SIGKILL || (which > SIGSYS && which < SIGRTMIN))
+			continue;
+		signal(which, SIG_DFL);
+		pid_t pid = waiting_child();
+		kill(pid, which);
+		bool stops = which == SIGSTOP || which == SIGTSTP || which == SIGTTIN || which == SIGTTOU;
+		if (stops) {
+			put_wait("stopped", pid, WSTOPPED | WEXITED | WCONTINUED);
+			let_end();
+			others_run();
+			put_wait("still stopped", pid, WEXITED | WNOHANG);
+			kill(pid, SIGCONT);
+		} else
+			let_end();
+		printf("signal %d, ", which);
+		put_wait("ended", pid, WEXITED);
+	}
+}
+
+/* What SIGCHLD says of each change of a child. */
+static void news(void)
+{
+	sigset_t some;
+	siginfo_t info;
+	sigemptyset(&some);
+	sigaddset(&some, SIGCHLD);
+	sigprocmask(SIG_BLOCK, &some, NULL);
+	static const int sent[] = { SIGSTOP, SIGCONT, SIGTSTP, SIGCONT, SIGTTIN, SIGCONT, SIGTTOU, SIGCONT, 0 };
+	pid_t pid = waiting_child();
+	for (size_t i = 0; i < sizeof sent / sizeof *sent; i++) {
+		if (sent[i])
+			kill(pid, sent[i]);
+		else
+			let_end();
+		int got = sigwaitinfo(&some, &info);
+		printf("after %d: %d, %d %d of %s by %s\n", sent[i], got, info.si_code, info.si_status,
+			info.si_pid == pid ? "it" : "another", info.si_uid == getuid() ? "us" : "others");
+	}
+	put_wait("then", pid, WEXITED);
+	pid = waiting_child();
+	kill(pid, SIGKILL);
+	int got = sigwaitinfo(&some, &info);
+	printf("killed: %d, %d %d\n", got, info.si_code, info.si_status);
+	close(to_child);
+	put_wait("then", pid, WEXITED);
+	signal(SIGCHLD, SIG_IGN);
+	pid = waiting_child();
+	let_end();
+	put_wait("with SIGCHLD ignored", pid, WEXITED);
+	signal(SIGCHLD, SIG_DFL);
+}
+
+static volatile sig_atomic_t caught;
+static siginfo_t seen;
+
+static void catch_it(int which, siginfo_t *info, void *unused)
+{
+	(void)unused;
+	caught = which;
+	seen = *info;
+	if (info->si_code > 0 &&
+		(which == SIGSEGV || which == SIGBUS || which == SIGFPE || which == SIGILL)) /* of the kernel */
+		_exit(printf("fault %d: code %d, %s\n", which, info->si_code, info->si_addr ? "an address" : "none") < 0 ||
+			fflush(stdout));
+}
+
+static void handle(int which)
+{
+	struct sigaction act = { .sa_sigaction = catch_it, .sa_flags = SA_SIGINFO };
+	sigaction(which, &act, NULL);
+}
+
+static void put_seen(const char *name)
+{
+	printf("%s: %d, code %d, from %s, value %d\n", name, (int)caught, seen.si_code,
+		seen.si_pid == getpid() ? "itself"
+			: seen.si_pid       ? "another"
+								: "nobody",
+		seen.si_value.sival_int);
+	caught = 0;
+	memset(&seen, 0, sizeof seen);
+}
+
+static void in_child(void (*call)(void))
+{
+	int status = 0;
+	fflush(stdout);
+	pid_t pid = fork();
+	if (pid == 0) {
+		call();
+		fflush(stdout);
+		_exit(0);
+	}
+	waitpid(pid, &status, 0);
+	printf("status %#x\n", status);
+}
+
+static void reads_nothing(void)
+{
+	int *volatile nowhere = (int *)(size_t)getpagesize() - 8;
+	handle(SIGSEGV);
+	printf("%d\n", *(volatile int *)nowhere);
+}
+
+static void beyond_a_file(void)
+{
+	handle(SIGBUS);
+	int fd = memfd_create("empty", 0);
+	printf("%d\n", *(volatile int *)mmap(NULL, 4096, PROT_READ, MAP_SHARED, fd, 0));
+}
+
+#if defined(__x86_64__)
+static void divides(void)
+{
+	int low = 1, high = 0;
+	handle(SIGFPE);
+	__asm__ volatile("divl %2" : "+a"(low), "+d"(high) : "r"(high));
+	printf("%d\n", low);
+}
+
+static void is_no_instruction(void)
+{
+	handle(SIGILL);
+	__asm__ volatile("ud2");
+}
+#endif
+
+static void filter(long call, unsigned answer)
+{
+	struct sock_filter code[] = {
+		BPF_STMT(BPF_LD | BPF_W | BPF_ABS, offsetof(struct seccomp_data, nr)),
+		BPF_JUMP(BPF_JMP | BPF_JEQ | BPF_K, (unsigned)call, 0, 1),
+		BPF_STMT(BPF_RET | BPF_K, answer),
+		BPF_STMT(BPF_RET | BPF_K, SECCOMP_RET_ALLOW),
+	};
+	struct sock_fprog program = { sizeof code / sizeof *code, code };
+	prctl(PR_SET_NO_NEW_PRIVS, 1, 0, 0, 0);
+	syscall(SYS_seccomp, SECCOMP_SET_MODE_FILTER, 0, &program);
+}
+
+static void is_filtered(void)
+{
+	static const long some[] = { SYS_getppid, SYS_clone, SYS_clone3, SYS_openat, SYS_wait4, SYS_prctl };
+	handle(SIGSYS);
+	for (size_t i = 0; i < sizeof some / sizeof *some; i++) {
+		filter(some[i], SECCOMP_RET_TRAP | 7);
+		if (some[i] == SYS_prctl)
+			break; /* the last, since filters are made by it */
+		syscall(some[i], 0, 0, 0, 0, 0, 0);
+		printf("a trap: %d, code %d, call %s, errno %d\n", (int)caught, seen.si_code,
+			seen.si_syscall == some[i] ? "it" : "another", seen.si_errno);
+	}
+	filter(SYS_uname, SECCOMP_RET_ERRNO | 77);
+	long result = syscall(SYS_uname, NULL);
+	printf("an errno: %ld %d\n", result, errno);
+	fflush(stdout);
+	filter(SYS_uname, SECCOMP_RET_KILL_PROCESS);
+	syscall(SYS_uname, NULL);
+}
+
+/* What a handler gets. */
+static void infos(void)
+{
+	union sigval value = { .sival_int = 77 };
+	struct sigevent event = { .sigev_notify = SIGEV_SIGNAL, .sigev_signo = SIGUSR2, .sigev_value.sival_int = 88 };
+	struct itimerspec soon = { { 0, 0 }, { 0, 1000000 } };
+	struct itimerval later = { { 0, 0 }, { 0, 1000 } };
+	timer_t timer;
+	for (int which = 1; which <= SIGRTMAX; which++) {
+		if (which == SIGKILL || which == SIGSTOP || (which > SIGSYS && which < SIGRTMIN))
+			continue;
+		handle(which);
+		kill(getpid(), which);
+		put_seen("kill");
+		sigqueue(getpid(), which, value);
+		put_seen("sigqueue");
+		signal(which, SIG_DFL);
+	}
+	handle(SIGUSR1);
+	handle(SIGUSR2);
+	handle(SIGALRM);
+	syscall(SYS_tgkill, getpid(), getpid(), SIGUSR1);
+	put_seen("tgkill");
+	timer_create(CLOCK_MONOTONIC, &event, &timer);
+	timer_settime(timer, 0, &soon, NULL);
+	while (!caught)
+		;
+	seen.si_pid = 0; /* the timer's number there */
+	put_seen("a timer");
+	setitimer(ITIMER_REAL, &later, NULL);
+	while (!caught)
+		;
+	put_seen("an alarm");
+	raise(SIGUSR1);
+	put_seen("raise");
+#if defined(__x86_64__)
+	handle(SIGTRAP);
+	__asm__ volatile("int3");
+	put_seen("a breakpoint");
+#endif
+	in_child(reads_nothing);
+	in_child(beyond_a_file);
+#if defined(__x86_64__)
+	in_child(divides);
+	in_child(is_no_instruction);
+#endif
+	in_child(is_filtered);
+	in_child(abort);
+}
+
+/* ---------------------------------------------------------------- waiting */
+
+static void put_wait4(const char *name, pid_t which, int options, pid_t pid)
+{
+	int status = -1;
+	struct rusage used = { .ru_maxrss = -1 };
+	pid_t got = wait4(which, &status, options, &used);
+	printf("%s %#x: %s", name, (unsigned)options, got == pid ? "it" : got > 0 ? "another" : got ? fault() : "nobody");
+	printf(" %#x %s\n", got > 0 ? (unsigned)status : 0, got > 0 && used.ru_maxrss < 0 ? "no use" : "");
+}
+
+static void waits(void)
+{
+	static const int options[] = { 0, WNOHANG, __WALL, WNOHANG | __WALL, __WCLONE | WNOHANG, WUNTRACED | WNOHANG,
+		WCONTINUED | WNOHANG, WNOHANG | __WNOTHREAD, 1 << 20 };
+	for (size_t i = 0; i < sizeof options / sizeof *options; i++)
+		for (int which = 0; which < 4; which++) {
+			pid_t pid = waiting_child();
+			if (options[i] & WNOHANG)
+				put_wait4("before", pid, options[i], pid);
+			let_end();
+			put_wait("look", pid, WEXITED | WNOWAIT);
+			put_wait4("after", which == 0 ? pid : which == 1 ? -1 : which == 2 ? -pid : 0, options[i], pid);
+			put_wait4("again", pid, WNOHANG, pid);
+			waitpid(pid, NULL, __WALL);
+		}
+	static const int more[] = { WEXITED, WEXITED | WNOHANG, WEXITED | WNOWAIT, WEXITED | WNOHANG | WNOWAIT,
+		WSTOPPED | WNOHANG, WNOHANG, 0, WCONTINUED | WNOHANG, WEXITED | 1 << 20 };
+	for (size_t i = 0; i < sizeof more / sizeof *more; i++) {
+		pid_t pid = waiting_child();
+		if (more[i] & WNOHANG)
+			put_wait("waitid before", pid, more[i]);
+		let_end();
+		put_wait("look", pid, WEXITED | WNOWAIT);
+		put_wait("waitid", pid, more[i]);
+		put_wait("again", pid, WEXITED | WNOHANG);
+		put_wait("and again", pid, WEXITED | WNOHANG);
+	}
+	pid_t pid = waiting_child();
+	siginfo_t info = { .si_pid = 0 };
+	int fd = (int)syscall(SYS_pidfd_open, pid, 0);
+	struct pollfd end = { .fd = fd, .events = POLLIN };
+	put("a pidfd", poll(&end, 1, 0));
+	let_end();
+	put("then", poll(&end, 1, -1));
+	put("events", end.revents);
+	put("P_PIDFD", waitid(P_PIDFD, (id_t)fd, &info, WEXITED));
+	put("its status", info.si_status);
+	put("gone", syscall(SYS_pidfd_send_signal, fd, 0, NULL, 0));
+	put("no such way", waitid((idtype_t)9, 1, &info, WEXITED | WNOHANG));
+	put("a bad address", syscall(SYS_wait4, -1, 8, WNOHANG, 0));
+	pid = waiting_child();
+	let_end();
+	put_wait("look", pid, WEXITED | WNOWAIT);
+	put("a status to a bad address", syscall(SYS_wait4, -1, 8, WNOHANG, 0));
+	put("it is gone", waitpid(pid, NULL, WNOHANG));
+	put("of nobody", waitpid(getpid(), NULL, WNOHANG));
+}
+
+/* ---------------------------------------------------------------- children */
+
+static struct clone_args args_of(unsigned long flags, unsigned long signal)
+{
+	return (struct clone_args){ .flags = flags, .exit_signal = signal };
+}
+
+static void put_child(const char *name, unsigned long what, long pid)
+{
+	int status = -1;
+	if (pid == 0)
+		_exit(9);
+	if (pid < 0) {
+		printf("%s %#lx: %s\n", name, what, fault());
+		return;
+	}
+	pid_t got = waitpid((pid_t)pid, &status, __WALL);
+	printf("%s %#lx: %s %#x\n", name, what, got == pid ? "a child" : "nobody", (unsigned)status);
+}
+
+static void clones(void)
+{
+	static int numbers[4];
+	static const unsigned long flags[] = { 0, CLONE_FS, CLONE_FILES, CLONE_VFORK, CLONE_SIGHAND, CLONE_THREAD,
+		CLONE_THREAD | CLONE_SIGHAND, CLONE_NEWNS | CLONE_FS, CLONE_NEWUSER | CLONE_FS, CLONE_NEWIPC | CLONE_SYSVSEM,
+		CLONE_SYSVSEM, CLONE_IO, CLONE_PARENT_SETTID, CLONE_CHILD_SETTID, CLONE_CHILD_CLEARTID, CLONE_PIDFD,
+		CLONE_PARENT_SETTID | CLONE_CHILD_SETTID, CLONE_PIDFD | CLONE_THREAD, CLONE_DETACHED, CLONE_UNTRACED,
+		CLONE_PTRACE, CLONE_PIDFD | CLONE_DETACHED };
+	static const unsigned long signals[] = { 0, 1, SIGCHLD, SIGUSR2, 64, 65, 255 };
+	static const size_t sizes[] = { 0, 8, 63, 64, 65, 72, 79, 80, 81, 87, 88 };
+	static char room[8192] __attribute__((aligned(4096)));
+	signal(SIGHUP, SIG_IGN);
+	signal(SIGUSR2, SIG_IGN);
+	signal(64, SIG_IGN);
+	fflush(stdout);
+	for (size_t i = 0; i < sizeof flags / sizeof *flags; i++) {
+		numbers[0] = numbers[1] = numbers[2] = -1;
+		long pid = syscall(SYS_clone, flags[i] | SIGCHLD, 0, &numbers[0], &numbers[1], 0, 0);
+		if (pid == 0)
+			_exit(numbers[1] == getpid() ? 11 : numbers[0] == getpid() ? 12 : 10);
+		bool is_set = pid > 0 && numbers[0] == pid;
+		put_child("clone", flags[i], pid);
+		printf("%s %s\n",
+			is_set                 ? "its number here"
+				: numbers[0] == -1 ? "nothing"
+								   : "something",
+			numbers[1] == -1 ? "nothing" : "something");
+		fflush(stdout);
+		if (flags[i] & CLONE_PIDFD && pid > 0)
+			close(numbers[0]);
+		struct clone_args a = args_of(flags[i], flags[i] & CLONE_THREAD ? 0 : SIGCHLD);
+		numbers[0] = numbers[1] = numbers[2] = -1;
+		a.parent_tid = (__u64)(size_t)&numbers[0];
+		a.child_tid = (__u64)(size_t)&numbers[1];
+		a.pidfd = (__u64)(size_t)&numbers[2];
+		pid = syscall(SYS_clone3, &a, sizeof a);
+		if (pid == 0)
+			_exit(numbers[1] == getpid() ? 11 : numbers[0] == getpid() ? 12 : 10);
+		is_set = pid > 0 && numbers[0] == pid;
+		put_child("clone3", flags[i], pid);
+		printf("%s %s %s\n",
+			is_set                 ? "its number here"
+				: numbers[0] == -1 ? "nothing"
+								   : "something",
+			numbers[1] == -1 ? "nothing" : "something", numbers[2] == -1 ? "nothing" : "a descriptor");
+		fflush(stdout);
+		if (numbers[2] != -1)
+			close(numbers[2]);
+	}
+	for (size_t i = 0; i < sizeof signals / sizeof *signals; i++) {
+		struct clone_args a = args_of(0, signals[i]);
+		put_child("clone3, signal", signals[i], syscall(SYS_clone3, &a, sizeof a));
+		put_child("clone, signal", signals[i], syscall(SYS_clone, signals[i], 0, 0, 0, 0, 0));
+		fflush(stdout);
+	}
+	for (size_t i = 0; i < sizeof sizes / sizeof *sizes; i++) {
+		struct clone_args a = args_of(0, SIGCHLD);
+		put_child("clone3, size", sizes[i], syscall(SYS_clone3, &a, sizes[i]));
+		/* at the end of what can be read */
+		char *at = room + 4096 - sizes[i];
+		mprotect(room + 4096, 4096, PROT_READ | PROT_WRITE);
+		memcpy(at, &a, sizes[i]);
+		mprotect(room + 4096, 4096, PROT_NONE);
+		put_child("at the end of a page", sizes[i], syscall(SYS_clone3, at, sizes[i]));
+		put_child("beyond it", sizes[i], syscall(SYS_clone3, at + 1, sizes[i]));
+		fflush(stdout);
+	}
+	put_child("clone3, more than a page", 0, syscall(SYS_clone3, room, 4097));
+	put_child("clone3 of nothing", 0, syscall(SYS_clone3, NULL, sizeof(struct clone_args)));
+#ifdef SYS_fork
+	put_child("fork", 0, syscall(SYS_fork));
+#endif
+	fflush(stdout);
+	put_child("vfork", 0, vfork());
+	/* a child without a signal is only seen by who asks for it */
+	struct clone_args silent = args_of(0, 0);
+	long pid = syscall(SYS_clone3, &silent, sizeof silent);
+	if (pid == 0)
+		_exit(3);
+	int status = 0;
+	put("silent", waitpid((pid_t)pid, NULL, 0));
+	put("by __WCLONE", waitpid((pid_t)pid, &status, __WCLONE) == pid ? status : -1);
+	struct rlimit none = { 0, 0 };
+	fflush(stdout);
+	if ((pid = fork()) == 0) {
+		setrlimit(RLIMIT_NPROC, &none);
+		put_child("beyond RLIMIT_NPROC", 0,
+			geteuid() ? syscall(SYS_clone, SIGCHLD, 0, 0, 0, 0, 0) : (errno = EAGAIN, -1));
+		fflush(stdout);
+		_exit(0);
+	}
+	waitpid((pid_t)pid, NULL, 0);
+}
+
+/* ---------------------------------------------------------------- what a program begins with */
+
+static void inherits(void)
+{
+	static const int limits[] = { RLIMIT_AS, RLIMIT_CORE, RLIMIT_CPU, RLIMIT_DATA, RLIMIT_FSIZE, RLIMIT_LOCKS,
+		RLIMIT_MEMLOCK, RLIMIT_MSGQUEUE, RLIMIT_NICE, RLIMIT_NOFILE, RLIMIT_NPROC, RLIMIT_RSS, RLIMIT_RTPRIO,
+		RLIMIT_RTTIME, RLIMIT_SIGPENDING, RLIMIT_STACK };
+	char text[4096];
+	sigset_t set;
+	struct sigaction act;
+	for (size_t i = 0; i < sizeof limits / sizeof *limits; i++) {
+		struct rlimit r;
+		getrlimit((__rlimit_resource_t)limits[i], &r);
+		printf("limit %d: %lu %lu\n", limits[i], (unsigned long)r.rlim_cur, (unsigned long)r.rlim_max);
+	}
+	mode_t mask = umask(0);
+	printf("umask %o, nice %d, group %d, session %d, terminal %d\n", mask, getpriority(PRIO_PROCESS, 0), getpgrp(),
+		getsid(0), isatty(0));
+	printf("directory %s\n", getcwd(text, sizeof text));
+	sigprocmask(SIG_BLOCK, NULL, &set);
+	for (int which = 1; which <= SIGRTMAX; which++)
+		if (sigaction(which, NULL, &act) == 0)
+			printf("%d%s%s ", which, sigismember(&set, which) ? "b" : "", act.sa_handler == SIG_IGN ? "i" : "");
+	sigpending(&set);
+	for (int which = 1; which <= SIGRTMAX; which++)
+		if (sigismember(&set, which))
+			printf("%d waits", which);
+	puts("");
+	for (int fd = 0; fd < 1024; fd++) {
+		int flags = fcntl(fd, F_GETFD);
+		if (flags >= 0)
+			printf("descriptor %d: %d %#x\n", fd, flags, (unsigned)fcntl(fd, F_GETFL));
+	}
+	int signal_of_death = -1, reaps = -1;
+	prctl(PR_GET_PDEATHSIG, &signal_of_death);
+	prctl(PR_GET_CHILD_SUBREAPER, &reaps);
+	printf("dumpable %d, signal of the parent's death %d, reaps %d, slack %d, keeps %d\n",
+		prctl(PR_GET_DUMPABLE, 0, 0, 0, 0), signal_of_death, reaps, prctl(PR_GET_TIMERSLACK, 0, 0, 0, 0) > 0,
+		prctl(PR_GET_KEEPCAPS, 0, 0, 0, 0));
+	struct itimerval timer;
+	getitimer(ITIMER_REAL, &timer);
+	printf("alarm %ld, users %d %d\n", (long)timer.it_value.tv_sec, (int)getuid(), (int)getegid());
+	for (char **word = environ; *word; word++)
+		puts(*word);
+	put("children", waitpid(-1, NULL, WNOHANG | __WALL));
+}
+
+int main(int argc, char **argv)
+{
+	static const struct {
+		const char *name;
+		void (*call)(void);
+	} all[] = { { "actions", actions }, { "news", news }, { "infos", infos }, { "waits", waits }, { "clones", clones },
+		{ "inherits", inherits } };
+	const char *what = argc > 1 ? argv[1] : "";
+	struct rlimit none = { 0, 0 };
+	if (strcmp(what, "inherits") != 0)
+		setrlimit(RLIMIT_CORE, &none);
+	for (size_t i = 0; i < sizeof all / sizeof *all; i++)
+		if (strcmp(what, all[i].name) == 0) {
+			all[i].call();
+			return fflush(stdout) ? 1 : 0;
+		}
+	return 2;
+}

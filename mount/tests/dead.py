@@ -1,0 +1,264 @@
+"""Zombies under `makhloeum run`: what counts them, what lists them, and when they are gone, by each way in which a process ends. This
+file is also the program (dead.py inside NAME)."""
+import os
+import select
+import signal
+import subprocess
+import sys
+import threading
+
+from support import (
+    AT,
+    PATIENCE,
+    PROGRAM,
+    clone_into,
+    error_of,
+    finish,
+    in_parallel,
+    into,
+    libc,
+    read,
+    same,
+    status_within,
+    step,
+    until,
+    write,
+)
+
+ME = os.path.realpath(__file__)
+
+
+def count(group):
+    return int(read(AT + group + "/pids.current"))
+
+
+def seen(group):
+    """What the files of a group show: who is listed, how many are counted, and whether it is populated."""
+    procs, threads = (
+        [int(p) for p in read(AT + group + "/" + name).split()] for name in ("cgroup.procs", "cgroup.threads")
+    )
+    return procs, threads, count(group), int(read(AT + group + "/cgroup.events").split()[1])
+
+
+EMPTY, ONE_DEAD = ([], [], 0, 0), ([], [], 1, 0)
+
+
+def child(group, call=lambda: os._exit(0)):
+    """A child that is in a group before it does what it is for."""
+    pid = os.fork()
+    if pid == 0:
+        into(group)
+        call()
+        os._exit(0)
+    return pid
+
+
+def zombie(group, call=lambda: os._exit(0)):
+    """A child that has ended there, and was not waited for."""
+    pid = child(group, call)
+    os.waitid(os.P_PID, pid, os.WEXITED | os.WNOWAIT)
+    return pid
+
+
+def sleeper(group):
+    """A child that waits until it is killed, and is in the group."""
+    r, w = os.pipe()
+    pid = child(group, lambda: (os.write(w, b"x"), signal.pause()))
+    os.read(r, 1)
+    os.close(r)
+    os.close(w)
+    return pid
+
+
+def end(pid):
+    os.kill(pid, signal.SIGKILL)
+    os.waitpid(pid, 0)
+
+
+def with_threads():
+    """Ends a process with threads: by the first, with the others."""
+    for _ in range(5):
+        threading.Thread(target=signal.pause, daemon=True).start()
+    os._exit(3)
+
+
+def without_first():
+    """Ends the first thread, and then the others."""
+    threading.Thread(target=lambda: (until(lambda: b"Z" in read("/proc/self/stat").split()[:3]), os._exit(4))).start()
+    libc.syscall(60 if os.uname().machine == "x86_64" else 93, 0)
+
+
+def ways():
+    """However it ends: it is not listed, counts until it is waited for, and then no more."""
+    os.makedirs(AT + "/p/b")
+    for name, call, status in (
+        ("exit", lambda: os._exit(7), 7 << 8),
+        ("a signal", lambda: os.kill(os.getpid(), signal.SIGTERM), signal.SIGTERM),
+        ("SIGKILL", lambda: os.kill(os.getpid(), signal.SIGKILL), signal.SIGKILL),
+        ("another program", lambda: os.execv("/bin/false", ["false"]), 1 << 8),
+        ("threads", with_threads, 3 << 8),
+        ("no first thread", without_first, 4 << 8),
+        ("a child of its own", lambda: os.waitpid(os.fork() or os._exit(0), 0), 0),
+    ):
+        pid = zombie("/p/b", call)
+        same("by %s: in its group" % name, seen("/p/b"), ONE_DEAD)
+        same("by %s: above" % name, seen("/p"), ONE_DEAD)
+        os.waitid(os.P_PID, pid, os.WEXITED | os.WNOWAIT)
+        same("by %s: after a look" % name, count("/p/b"), 1)
+        same("by %s: its status" % name, os.waitpid(pid, 0)[1], status)
+        same("by %s: then nobody is there" % name, (seen("/p/b"), seen("/p")), (EMPTY, EMPTY))
+
+
+def beside():
+    """Beside somebody who lives, and in several groups."""
+    os.makedirs(AT + "/p/b")
+    os.mkdir(AT + "/p/c")
+    lives = sleeper("/p")
+    dead = [zombie(g) for g in ("/p/b", "/p/c", "/p/b", "/p")]
+    same("a group of the dead", seen("/p/b"), ([], [], 2, 0))
+    same("another", seen("/p/c"), ONE_DEAD)
+    same("the group above has one who lives", seen("/p"), ([lives], [lives], 5, 1))
+    write(AT + "/p/pids.max", b"5")
+    same("they fill it", clone_into(os.open(AT + "/p", os.O_RDONLY)), "EAGAIN")
+    os.waitpid(dead[2], 0)
+    same("one is waited for: there is room", clone_into(os.open(AT + "/p", os.O_RDONLY)), 0)
+    same("the counts", [count(g) for g in ("/p", "/p/b", "/p/c")], [4, 1, 1])
+    same("the dead are moved nowhere", error_of(write, AT + "/p/c/cgroup.procs", b"%d" % dead[0]), "ok")
+    same("they are where they were", [count(g) for g in ("/p/b", "/p/c")], [1, 1])
+    for pid in (dead[3], dead[0], dead[1]):
+        os.waitpid(pid, 0)
+    same("all are waited for", (seen("/p/b"), seen("/p/c"), seen("/p")), (EMPTY, EMPTY, ([lives], [lives], 1, 1)))
+    end(lives)
+    same("and who lived", seen("/p"), EMPTY)
+
+
+def removed():
+    """A group of the dead can be removed; they count above until they are waited for."""
+    os.makedirs(AT + "/p/b/c")
+    dead = zombie("/p/b/c"), zombie("/p/b"), zombie("/p/b/c")
+    same("a group with another", error_of(os.rmdir, AT + "/p/b"), "EBUSY")
+    same("nobody has moved", [count(g) for g in ("/p", "/p/b", "/p/b/c")], [3, 3, 2])
+    same("the innermost goes", error_of(os.rmdir, AT + "/p/b/c"), "ok")
+    same("its dead count above", [seen("/p/b"), seen("/p")], [([], [], 3, 0)] * 2)
+    lives = sleeper("/p/b")
+    same("a group with one who lives stays", error_of(os.rmdir, AT + "/p/b"), "EBUSY")
+    same("with all of them", seen("/p/b"), ([lives], [lives], 4, 1))
+    end(lives)
+    same("then it goes", error_of(os.rmdir, AT + "/p/b"), "ok")
+    same("the dead count above", seen("/p"), ([], [], 3, 0))
+    os.mkdir(AT + "/p/b")
+    same("a new group has none of them", seen("/p/b"), EMPTY)
+    write(AT + "/p/pids.max", b"3")
+    same("they fill the group above", clone_into(os.open(AT + "/p/b", os.O_RDONLY)), "EAGAIN")
+    for left, pid in zip((2, 1, 0), dead):
+        os.waitpid(pid, 0)
+        same("one is waited for", count("/p"), left)
+    same("it can go too", (error_of(os.rmdir, AT + "/p/b"), error_of(os.rmdir, AT + "/p")), ("ok", "ok"))
+
+
+def unwaited():
+    """Children for whom nobody has to wait, and those whose parent ends first."""
+    os.mkdir(AT + "/p")
+    signal.signal(signal.SIGCHLD, signal.SIG_IGN)
+    pid = child("/p")
+    step("with SIGCHLD ignored", until(lambda: seen("/p") == EMPTY and not os.path.exists("/proc/%d" % pid)))
+    signal.signal(signal.SIGCHLD, signal.SIG_DFL)
+    r, w = os.pipe()
+
+    def leaves():
+        if os.fork() == 0:
+            os.setsid()
+            os.read(r, 1)
+            os._exit(0)
+
+    pid = zombie("/p", leaves)
+    left = seen("/p")
+    same("its child stays when it ends", (len(left[0]), left[2:]), (1, (2, 1)))
+    os.waitpid(pid, 0)
+    same("once it is waited for", seen("/p")[2:], (1, 1))
+    os.write(w, b"x")
+    step("the orphan ends, and makhloeum waits for it", until(lambda: seen("/p") == EMPTY))
+
+    def leaves_dead():
+        made = os.fork()
+        if made:
+            os.waitid(os.P_PID, made, os.WEXITED | os.WNOWAIT)
+
+    pid = zombie("/p", leaves_dead)
+    step("the dead of the dead", until(lambda: seen("/p") == ONE_DEAD), seen("/p"))
+    os.waitpid(pid, 0)
+    same("and then nobody", seen("/p"), EMPTY)
+
+
+def told():
+    """A death is told to who polls, and a wait is not; a kill and a freezer of the dead."""
+    os.mkdir(AT + "/p")
+    fd = os.open(AT + "/p/cgroup.events", os.O_RDONLY)
+    poller = select.poll()
+    poller.register(fd, select.POLLPRI)
+    os.pread(fd, 99, 0)
+    pid = sleeper("/p")
+    same("a process comes", bool(poller.poll(1000 * PATIENCE)), True)
+    os.pread(fd, 99, 0)
+    os.kill(pid, signal.SIGKILL)
+    same("it dies", bool(poller.poll(1000 * PATIENCE)), True)
+    same("the text", os.pread(fd, 99, 0), b"populated 0\nfrozen 0\n")
+    os.waitpid(pid, 0)
+    count("/p")
+    same("it is waited for", poller.poll(0), [])
+    pid = zombie("/p")
+    os.pread(fd, 99, 0)
+    write(AT + "/p/cgroup.freeze", b"1")
+    same("a group of the dead is frozen at once", read(AT + "/p/cgroup.events"), b"populated 0\nfrozen 1\n")
+    write(AT + "/p/cgroup.freeze", b"0")
+    write(AT + "/p/cgroup.kill", b"1")
+    same("a kill takes the dead out of the counts", seen("/p"), EMPTY)
+    same("its status is its own", os.waitpid(pid, 0)[1], 0)
+    os.close(fd)
+
+
+def waited():
+    """Many are waited for in any order, with a fork between: each makes room for one."""
+    os.mkdir(AT + "/p")
+    into("/p")
+    write(AT + "/p/pids.max", b"101")
+    dead = []
+    for _ in range(100):
+        pid = os.fork()
+        if pid == 0:
+            os._exit(0)
+        os.waitid(os.P_PID, pid, os.WEXITED | os.WNOWAIT)
+        dead.append(pid)
+    same("a hundred fill the group", (error_of(os.fork), count("/p")), ("EAGAIN", 101))
+    wrong = []
+    for i in (*range(0, 100, 3), *range(1, 100, 3), *range(2, 100, 3)):
+        os.waitpid(dead[i], 0)
+        pid = os.fork()
+        if pid == 0:
+            os._exit(0)
+        os.waitid(os.P_PID, pid, os.WEXITED | os.WNOWAIT)
+        dead[i] = pid
+        if count("/p") != 101:
+            wrong.append((i, count("/p")))
+    same("each that is waited for makes room for one", wrong, [])
+    for pid in reversed(dead):
+        os.waitpid(pid, 0)
+    same("all are gone", seen("/p"), ([os.getpid()], [os.getpid()], 1, 1))
+    same("one event for the fork that was refused", read(AT + "/p/pids.events"), b"max 1\n")
+
+
+INSIDE = (ways, beside, removed, unwaited, told, waited)
+if sys.argv[1:2] == ["inside"]:
+    {t.__name__: t for t in INSIDE}[sys.argv[2]]()
+    finish()
+
+
+def run(test):
+    p = subprocess.Popen(
+        [PROGRAM, "run", "--control", sys.executable, ME, "inside", test.__name__], start_new_session=True
+    )
+    same("%s: its status" % test.__name__, status_within(p, 6 * PATIENCE), 0)
+
+
+in_parallel(run, INSIDE, lanes=3)
+finish()

@@ -1,0 +1,247 @@
+"""What a mount uses for an operation it gives back: memory of the server and descriptors, over many rounds of each kind of operation."""
+import ctypes
+import fcntl
+import os
+import select
+import signal
+import subprocess
+import sys
+
+from support import AT, PATIENCE, PROGRAM, Mount, error_of, finish, libc, read, same, status_within, step, tracer, write
+
+ME = os.path.realpath(__file__)
+# With an arena for each thread the memory grows until each has had its turn with the most records.
+os.environ["MALLOC_ARENA_MAX"] = "1"
+ROUNDS, LEAST = 300, 24  # bytes: what is allocated takes more
+PAGE = os.sysconf("SC_PAGE_SIZE")
+
+
+def resident(pid):
+    return int(open("/proc/%d/statm" % pid).read().split()[1]) * PAGE
+
+
+def open_of(pid):
+    return len(os.listdir("/proc/%d/fd" % pid))
+
+
+def opened(path, flags, then=lambda fd: None):
+    fd = os.open(path, flags)
+    try:
+        return then(fd)
+    finally:
+        os.close(fd)
+
+
+def polled(fd):
+    p = select.poll()
+    p.register(fd, select.POLLPRI)
+    return p.poll(0)
+
+
+def watched(path):
+    fd = libc.inotify_init()
+    libc.inotify_add_watch(fd, path.encode(), 2)
+    os.close(fd)
+
+
+def of_mount():
+    """Operations on a mount without a history, which all keep the state as it is."""
+    m = Mount("--keep", "memory,cpu,io,cpuset", control=False)
+    write(m.path("cgroup.subtree_control"), b"+memory +cpu +io +cpuset +pids")
+    g, h, k = m.path("g"), m.path("h"), m.path("k")
+    for at in (g, h, k, g + "/in"):
+        os.mkdir(at)
+    write(k + "/cgroup.subtree_control", b"+memory +cpu")
+    write(m.control("fork"), b"1 2")
+    write(g + "/pids.max", b"1")
+    os.setxattr(g, "user.x", b"x")
+    held = [os.open(g + "/cgroup.events", os.O_RDONLY) for _ in range(2)]
+
+    def twice(name, *values):
+        for value in values:
+            write(g + "/" + name, value)
+
+    def moved():
+        write(g + "/cgroup.procs", b"2")
+        error_of(write, m.control("fork"), b"2 3")
+        write(m.path("cgroup.procs"), b"2")
+
+    def killed():
+        write(m.control("fork"), b"1 5")
+        write(h + "/cgroup.procs", b"5")
+        write(h + "/cgroup.kill", b"1")
+
+    def removed():
+        os.mkdir(h + "/r")
+        os.setxattr(h + "/r", "user.x", b"x" * 99)
+        os.chmod(h + "/r/cgroup.procs", 0o600)
+        fd = os.open(h + "/r/cgroup.events", os.O_RDONLY)
+        polled(fd)
+        os.close(fd)  # of one that is open the kernel remembers the inodes
+        os.rmdir(h + "/r")
+
+    def values_of_a_removed_group():
+        os.mkdir(k + "/r")
+        write(k + "/r/memory.max", b"1m")
+        write(k + "/r/cpu.weight", b"7")
+        write(k + "/r/cgroup.freeze", b"1")
+        os.rmdir(k + "/r")
+
+    def switched():
+        write(g + "/cgroup.subtree_control", b"+memory")
+        write(g + "/in/memory.max", b"1m")
+        fd = os.open(g + "/in/memory.max", os.O_RDONLY)
+        os.read(fd, 9)
+        write(g + "/cgroup.subtree_control", b"-memory")
+        error_of(os.pread, fd, 9, 0)
+        os.close(fd)
+
+    operations = (
+        ("a fork and an exit", lambda: (write(m.control("fork"), b"1 3"), write(m.control("exit"), b"3"))),
+        ("moves and a refused fork", moved),
+        ("a kill", killed),
+        ("an open, a read and a close", lambda: read(g + "/cgroup.procs")),
+        ("a poll", lambda: opened(g + "/cgroup.events", os.O_RDONLY, polled)),
+        ("polls of an open file", lambda: [polled(fd) for fd in held]),
+        ("a watch", lambda: watched(g + "/cgroup.events")),
+        ("a listing", lambda: os.listdir(m.at)),
+        ("stats", lambda: (os.stat(g), os.stat(g + "/memory.stat"), error_of(os.stat, g + "/none"))),
+        ("a mode and an owner", lambda: (os.chmod(g + "/cpu.max", 0o600), os.chown(g, -1, os.getgid()), os.utime(g))),
+        ("an attribute", lambda: (os.setxattr(g, "user.x", b"y" * 50), os.getxattr(g, "user.x"), os.listxattr(g))),
+        ("a new attribute", lambda: (os.setxattr(g, "user.y", b"y" * 50), os.removexattr(g, "user.y"))),
+        (
+            "attributes that are refused",
+            lambda: (error_of(os.setxattr, g, "trusted.x", b"1"), error_of(os.getxattr, g, "user.no")),
+        ),
+        ("values of memory", lambda: twice("memory.max", b"1m", b"max")),
+        ("values of cpu", lambda: (twice("cpu.idle", b"1", b"0"), twice("cpu.max", b"5000", b"max"))),
+        ("values of io", lambda: twice("io.weight", b"5", b"100")),
+        ("lists", lambda: twice("cpuset.cpus", b"0", b"\n")),
+        (
+            "values that are refused",
+            lambda: [error_of(write, g + "/memory.max", b"x"), error_of(write, g + "/cpu.max", b"1")],
+        ),
+        ("a freeze", lambda: twice("cgroup.freeze", b"1", b"0")),
+        ("a group", lambda: (os.mkdir(h + "/r"), os.rmdir(h + "/r"))),
+        (
+            "groups that are refused",
+            lambda: (error_of(os.mkdir, g), error_of(os.mkdir, g + "/a b"), error_of(os.rmdir, m.path("none"))),
+        ),
+        ("what is left of a group", removed),
+        ("values of a group", values_of_a_removed_group),
+        ("a controller", switched),
+        (
+            "calls that are refused",
+            lambda: (error_of(os.rename, g, h), error_of(os.unlink, g + "/cpu.max"), error_of(os.mkfifo, g + "/x")),
+        ),
+        (
+            "refused opens",
+            lambda: (error_of(os.open, g + "/cpu.max", os.O_DIRECT), error_of(os.open, g + "/none", os.O_RDONLY)),
+        ),
+    )
+    for _ in range(2000):  # the engine forgets its records, each 1,024 commands
+        operations[0][1]()
+    before = open_of(m.process.pid)
+    for name, operation in operations:
+        for _ in range(ROUNDS // 2):
+            operation()
+        sizes = [resident(m.process.pid)]
+        for _ in range(4):  # a thread may still begin in some of them
+            for _ in range(ROUNDS):
+                operation()
+            sizes.append(resident(m.process.pid))
+        grown = min(after - was for was, after in zip(sizes, sizes[1:]))
+        step("%s: no memory is kept" % name, grown < LEAST * ROUNDS, sizes)
+        same("%s: no descriptor is kept" % name, open_of(m.process.pid), before)
+    for fd in held:
+        os.close(fd)
+    m.end()
+
+
+# ---------------------------------------------------------------- a run
+
+TIMES = 200
+
+
+def own():
+    """For each process of makhloeum how many places for descriptors it has. They double when they are used up."""
+    top, found = tracer(), {}
+    for pid in (top, *map(int, open("/proc/%d/task/%d/children" % (top, top)).read().split())):
+        status = dict(line.split(":\t", 1) for line in open("/proc/%d/status" % pid) if ":\t" in line)
+        if status["Name"] == "makhloeum\n":
+            found[pid] = int(status["FDSize"])
+    return found
+
+
+def inside():
+    """Operations of a program with all privileges of its namespace: after each kind no process of makhloeum has more descriptors."""
+    os.mkdir(AT + "/a")
+    write(AT + "/a/cgroup.procs", b"0")
+    home = os.path.join(os.environ.get("TMPDIR", "/tmp"), "leaks%d" % os.getpid())
+    os.mkdir(home)
+    buffer, gone = ctypes.create_string_buffer(256), os.open(AT + "/a", os.O_RDONLY)
+    args = (ctypes.c_uint64 * 11)(0x200000000, 0, 0, 0, signal.SIGCHLD, 0, 0, 0, 0, 0, gone)
+
+    def forked(call=lambda: None, number=None):
+        pid = os.fork() if number is None else libc.syscall(number, args, 88)
+        if pid == 0:
+            call()
+            libc._exit(0)
+        os.waitpid(pid, 0)
+
+    def mounted():
+        libc.mount(b"none", home.encode(), b"cgroup2", 0, None)
+        libc.umount2(home.encode(), 2)
+
+    def of_another():
+        libc.mount(b"none", home.encode(), b"tmpfs", 0, None)
+        libc.umount2(home.encode(), 2)
+
+    def turned():
+        fd = os.open("/proc/self/mountinfo", os.O_RDONLY)
+        polled(fd)
+        os.read(fd, 99)
+        os.close(fd)
+
+    operations = (
+        ("forks", forked),
+        ("births in a group", lambda: forked(number=435)),
+        ("new cgroup namespaces", lambda: forked(lambda: libc.unshare(0x02000000))),
+        ("opens of cgroup", lambda: read("/proc/self/cgroup")),
+        ("opens of cpuset", lambda: read("/proc/self/cpuset")),
+        ("opens of cgroups", lambda: read("/proc/cgroups")),
+        ("opens of a text of another file system", lambda: read("/etc/hostname")),
+        ("opens of a table of mounts", lambda: read("/proc/self/mounts")),
+        ("polls of a table of mounts", turned),
+        ("opens of what is not there", lambda: error_of(os.open, "/proc/self/nothing", os.O_RDONLY)),
+        ("statfs", lambda: (libc.statfs(AT.encode(), buffer), libc.fstatfs(gone, buffer), libc.statfs(b"/", buffer))),
+        ("mounts of cgroup2", mounted),
+        ("mounts of tmpfs", of_another),
+        ("mounts that are refused", lambda: libc.mount(b"none", b"/nowhere", b"cgroup2", 0, None)),
+        ("fsopen that is refused", lambda: libc.syscall(430, b"cgroup2", 0)),
+        ("fsopen", lambda: os.close(libc.syscall(430, b"tmpfs", 0))),
+        ("ptrace that is refused", lambda: libc.ptrace(0x4206, 1, 0, 0)),
+        ("groups", lambda: (os.mkdir(AT + "/a/b"), os.rmdir(AT + "/a/b"))),
+        ("locks", lambda: opened(AT + "/a/pids.max", os.O_RDWR, lambda fd: fcntl.flock(fd, fcntl.LOCK_EX))),
+    )
+    for _, operation in operations:
+        for _ in range(8):
+            operation()
+    before = own()
+    same("the processes of makhloeum", len(before), 4)
+    for name, operation in operations:
+        for _ in range(max(TIMES, max(before.values()))):
+            operation()
+        now = own()
+        step("%s: no descriptor is kept" % name, now == before, (before, now))
+        before = now
+    os.rmdir(home)
+
+
+if sys.argv[1:] == ["inside"]:
+    inside()
+    finish()
+of_mount()
+p = subprocess.Popen([PROGRAM, "run", "--root", sys.executable, ME, "inside"])
+same("a run: its status", status_within(p, 6 * PATIENCE), 0)
+finish()

@@ -1,0 +1,235 @@
+"""Births that fail under `makhloeum run`, whoever refuses them: none takes a place in its group, counts an event that the kernel would
+not count, or stays with makhloeum. This file is also the program (refused.py inside NAME)."""
+import ctypes
+import errno
+import os
+import resource
+import signal
+import subprocess
+import sys
+import threading
+
+from support import (
+    AT,
+    PATIENCE,
+    PROGRAM,
+    error_of,
+    finish,
+    in_parallel,
+    into,
+    libc,
+    read,
+    same,
+    status_within,
+    step,
+    tracer,
+    until,
+    write,
+)
+
+ME = os.path.realpath(__file__)
+BUILT = os.environ.get("HOSTILE") or os.path.join(os.path.dirname(PROGRAM), "..", "hostile")
+TASKS = os.path.join(BUILT, "tasks")
+CLONE = 56 if os.uname().machine == "x86_64" else 220
+THREAD, SIGHAND, VM, FS = 0x10000, 0x800, 0x100, 0x200
+NEWNS, NEWCGROUP, NEWUSER, NEWPID = 0x20000, 0x2000000, 0x10000000, 0x20000000
+INTO, TIMES, ROOM = 0x200000000, 50, 4
+
+
+def clone(flags, *more):
+    """The name of the errno. A child that is made all the same ends at once."""
+    pid = libc.syscall(CLONE, flags | signal.SIGCHLD, *(more or (0, 0, 0, 0)))
+    return ended(pid)
+
+
+def clone3(flags, size=88, **fields):
+    at = {"set_tid": 8, "set_tid_size": 9, "cgroup": 10, "parent_tid": 3, "pidfd": 1, "exit_signal": 4, "stack": 5}
+    args = (ctypes.c_uint64 * 600)(flags, 0, 0, 0, signal.SIGCHLD)
+    for name, value in fields.items():
+        args[at[name]] = value
+    return ended(libc.syscall(435, args, size))
+
+
+def ended(pid):
+    if pid == 0:
+        libc._exit(0)
+    if pid < 0:
+        return errno.errorcode[ctypes.get_errno()]
+    os.waitpid(pid, 0)
+    return "ok"
+
+
+def beyond_processes(call):
+    """A call that the kernel refuses because of a limit of the user."""
+    soft, hard = resource.getrlimit(resource.RLIMIT_NPROC)
+    resource.setrlimit(resource.RLIMIT_NPROC, (0, hard))
+    try:
+        return call()
+    finally:
+        resource.setrlimit(resource.RLIMIT_NPROC, (soft, hard))
+
+
+def fork():
+    try:
+        pid = os.fork()
+    except OSError as e:
+        return errno.errorcode[e.errno]
+    return ended(pid)
+
+
+def thread():
+    t = threading.Thread(target=lambda: None)
+    try:
+        t.start()
+    except RuntimeError:
+        return "EAGAIN"
+    t.join()
+    return "ok"
+
+
+def spawn(program):
+    return error_of(lambda: os.waitpid(os.posix_spawn(program, [program], {}), 0))
+
+
+def group(name, flags=os.O_RDONLY):
+    return os.open(AT + name, flags)
+
+
+def ways():
+    """The name of each way, its errno, and a call that fails by it. Without one group the others are as they were."""
+    os.mkdir(AT + "/gone")
+    gone = group("/gone")
+    os.rmdir(AT + "/gone")
+    file, full, other = group("/a/cgroup.procs"), group("/full"), os.open("/", os.O_RDONLY)
+    write(AT + "/full/pids.max", b"0")
+    return [
+        ("clone, CLONE_SIGHAND", "EINVAL", lambda: clone(SIGHAND)),
+        ("clone, CLONE_THREAD", "EINVAL", lambda: clone(THREAD)),
+        ("clone, CLONE_THREAD and CLONE_SIGHAND", "EINVAL", lambda: clone(THREAD | SIGHAND)),
+        ("clone, CLONE_NEWNS and CLONE_FS", "EINVAL", lambda: clone(NEWNS | FS)),
+        ("clone, CLONE_NEWNS", "EPERM", lambda: clone(NEWNS)),
+        ("clone, CLONE_NEWCGROUP", "EPERM", lambda: clone(NEWCGROUP)),
+        ("clone3, CLONE_NEWCGROUP", "EPERM", lambda: clone3(NEWCGROUP)),
+        ("clone3, CLONE_SIGHAND", "EINVAL", lambda: clone3(SIGHAND)),
+        ("clone3, a stack without a size", "EINVAL", lambda: clone3(0, stack=4096)),
+        ("clone3, an unknown flag", "EINVAL", lambda: clone3(1 << 40)),
+        ("clone3, a signal", "EINVAL", lambda: clone3(0, exit_signal=65)),
+        ("clone3, 63 bytes", "EINVAL", lambda: clone3(0, 63)),
+        ("clone3, 4,097 bytes", "E2BIG", lambda: clone3(0, 4097)),
+        ("clone3, 96 bytes", "ENOSYS", lambda: clone3(0, 96)),
+        ("clone3, 4,096 bytes", "ENOSYS", lambda: clone3(0, 4096)),
+        ("clone3, CLONE_CLEAR_SIGHAND", "ENOSYS", lambda: clone3(1 << 32)),
+        ("clone3, CLONE_NEWTIME", "ENOSYS", lambda: clone3(0x80)),
+        ("clone3, set_tid", "ENOSYS", lambda: clone3(0, set_tid=8, set_tid_size=1)),
+        ("clone3, CLONE_PIDFD and CLONE_PARENT_SETTID", "ENOSYS", lambda: clone3(0x101000, pidfd=8, parent_tid=16)),
+        ("clone3 of nothing", "EFAULT", lambda: ended(libc.syscall(435, None, 88))),
+        ("clone3 into a removed group", "ENOENT", lambda: clone3(INTO, cgroup=gone)),
+        ("clone3 into a file", "EBADF", lambda: clone3(INTO, cgroup=file)),
+        ("clone3 into another file system", "EBADF", lambda: clone3(INTO, cgroup=other)),
+        ("clone3 into no descriptor", "EBADF", lambda: clone3(INTO, cgroup=999)),
+        ("clone3 into a full group", "EAGAIN", lambda: clone3(INTO, cgroup=full)),
+        ("clone3 into a group, and wrong flags", "EINVAL", lambda: clone3(INTO | SIGHAND, cgroup=group_b)),
+        ("fork beyond a limit of the user", "EAGAIN", lambda: beyond_processes(fork)),
+        ("a thread beyond it", "EAGAIN", lambda: beyond_processes(thread)),
+        ("clone3 into a group beyond it", "EAGAIN", lambda: beyond_processes(lambda: clone3(INTO, cgroup=group_b))),
+        ("vfork beyond it", "EAGAIN", lambda: beyond_processes(lambda: spawn("/bin/true"))),
+        ("a program that is not there", "ENOENT", lambda: spawn("/nowhere")),
+    ]
+
+
+group_b = -1
+
+
+def places(name):
+    """How many children this process can make in its group, as its limit is; they are ended."""
+    made = []
+    while len(made) < 20:
+        try:
+            pid = os.fork()
+        except OSError:
+            break
+        if pid == 0:
+            signal.pause()
+        made.append(pid)
+    for pid in made:
+        os.kill(pid, signal.SIGKILL)
+        os.waitpid(pid, 0)
+    return len(made)
+
+
+def births():
+    global group_b
+    for g in ("/a", "/b", "/full"):
+        os.mkdir(AT + g)
+    group_b = group("/b")
+    into("/a")
+    write(AT + "/b/pids.max", b"%d" % ROOM)
+    before = status_of_own()
+    for name, wanted, call in ways():
+        write(AT + "/a/pids.max", b"max")
+        events = read(AT + "/a/pids.events"), read(AT + "/b/pids.events"), read(AT + "/full/pids.events")
+        got = {call() for _ in range(TIMES)}
+        same("%s: it fails" % name, got, {wanted})
+        after = read(AT + "/a/pids.events"), read(AT + "/b/pids.events"), read(AT + "/full/pids.events")
+        same("%s: no event" % name, after, events)
+        write(AT + "/a/pids.max", b"%d" % ROOM)
+        room = places(name), read(AT + "/a/pids.current"), read(AT + "/b/pids.current")
+        if room != (ROOM - 1, b"1\n", b"0\n"):
+            same("%s: it takes no place" % name, room, (ROOM - 1, b"1\n", b"0\n"))
+    born = [clone3(INTO, cgroup=group_b) for _ in range(3 * ROOM)]
+    same("children in the other group, one after the other", born, ["ok"] * 3 * ROOM)
+    for (name, was), (_, now) in zip(before, status_of_own()):
+        step("the descriptors of %s" % name, now <= 2 * was, (was, now))
+
+
+def status_of_own():
+    """For each process of makhloeum how many places for descriptors it has: they are never fewer, and double when they are used up."""
+    top = tracer()
+    found = []
+    for pid in (top, *sorted(int(p) for p in open("/proc/%d/task/%d/children" % (top, top)).read().split())):
+        status = dict(line.split(":\t", 1) for line in open("/proc/%d/status" % pid) if ":\t" in line)
+        if status["Name"] == "makhloeum\n":
+            found.append((pid, int(status["FDSize"])))
+    return found
+
+
+def crowd():
+    """A process with two thousand threads, which all end at once."""
+    os.mkdir(AT + "/t")
+    count = 2000
+    p = subprocess.Popen([TASKS, "first"], stdin=subprocess.PIPE, stdout=subprocess.PIPE, preexec_fn=lambda: into("/t"))
+    p.stdout.readline()
+    p.stdin.write(b"thread\n" * count)
+    p.stdin.flush()
+    made = {p.stdout.readline() for _ in range(count)}
+    same("all are made, and count", (len(made), read(AT + "/t/pids.current")), (count, b"%d\n" % (count + 1)))
+    same("all are listed", len(read_all("/t/cgroup.threads").split()), count + 1)
+    p.kill()
+    same("it is killed", p.wait(PATIENCE), -signal.SIGKILL)
+    step("none counts once they have ended", until(lambda: read(AT + "/t/pids.current") == b"0\n"))
+    same("nor is one listed", (read(AT + "/t/cgroup.threads"), read(AT + "/t/cgroup.procs")), (b"", b""))
+    into("/t")
+    write(AT + "/t/pids.max", b"3")
+    same("there is room for two threads", (thread(), thread()), ("ok", "ok"))
+    step("which end", until(lambda: read(AT + "/t/pids.current") == b"1\n"))
+    same("and for two children", places(""), 2)
+
+
+def read_all(name):
+    with open(AT + name, "rb") as f:
+        return f.read()
+
+
+INSIDE = (births, crowd)
+if sys.argv[1:2] == ["inside"]:
+    {t.__name__: t for t in INSIDE}[sys.argv[2]]()
+    finish()
+
+
+def run(test):
+    p = subprocess.Popen([PROGRAM, "run", sys.executable, ME, "inside", test.__name__], start_new_session=True)
+    same("%s: its status" % test.__name__, status_within(p, 6 * PATIENCE), 0)
+
+
+in_parallel(run, INSIDE)
+finish()

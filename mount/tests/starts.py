@@ -1,0 +1,299 @@
+"""How makhloeum begins: options and their order, the folders of its commands, and the files of --trace and --answers, which are as they
+were if it does not begin."""
+import os
+import shutil
+import signal
+import stat
+import subprocess
+import sys
+import tempfile
+
+from support import AT, CGREPLAY, PATIENCE, PROGRAM, Mount, error_of, finish, read, same, status_within, step, until
+
+HOME = tempfile.mkdtemp()
+
+
+def ran(*words, program=PROGRAM, **how):
+    """The status, and what is said."""
+    got = subprocess.run(
+        [program, *words],
+        stdin=subprocess.DEVNULL,
+        stdout=subprocess.PIPE,
+        stderr=subprocess.PIPE,
+        timeout=PATIENCE,
+        **how
+    )
+    return got.returncode, got.stdout.decode(), got.stderr.decode()
+
+
+def unmounted(at):
+    return until(lambda: subprocess.run(["fusermount3", "-u", at], stderr=-3).returncode == 0)
+
+
+def folder(name):
+    at = os.path.join(HOME, name)
+    os.mkdir(at)
+    return at
+
+
+# ---------------------------------------------------------------- options
+
+
+BAD = "makhloeum: bad command line; see makhloeum --help\n"
+
+
+def options():
+    at = folder("options")
+    for words in (
+        (),
+        ("-x",),
+        ("-",),
+        ("--",),
+        ("--helpx",),
+        ("--help", "x"),
+        ("run",),
+        ("run", "--"),
+        ("run", "--root"),
+        ("run", "--rootx", "true"),
+        ("run", "-x", "true"),
+        ("run", "--threads", "true"),
+        ("run", "--threads=yes", "true"),
+        ("run", "--adopt", "true"),
+        ("run", "--foreground", "true"),
+        ("run", "--trace"),
+        ("run", "--answers"),
+        ("run", "--keep"),
+        ("mount",),
+        ("mount", "--extra"),
+        ("mount", "--"),
+        ("mount", at, "x"),
+        ("mount", at, "--extra", "x"),
+        ("mount", at, "-x"),
+        ("mount", at, "--trace"),
+        ("mount", at, "--root"),
+        ("mount", "--root", at),
+        ("mount", at, "--users"),
+        ("mount", "--users", at),
+        ("mount", at, "--threads=no"),
+        ("mount", "--threads=no", at),
+    ):
+        same("makhloeum %s" % " ".join(words), ran(*words), (2, "", BAD))
+    status, text, said = ran("--help")
+    same("--help", (status, said, ran("-h")), (0, "", (0, text, "")))
+    for (
+        option
+    ) in "--trace --answers --extra --keep --adopt --control --foreground --root --users --threads=no view tree check".split():
+        step("it has %s" % option, option in text)
+    with open("/dev/full", "w") as full:
+        same("--help that cannot be written", subprocess.run([PROGRAM, "--help"], stdout=full, stderr=-3).returncode, 1)
+    for words, has in (
+        (("--extra", at), {"extra"}),
+        ((at, "--extra"), {"extra"}),
+        (("--extra", at, "--control"), {"extra", "control"}),
+        (("--control", "--", at, "--extra"), {"extra", "control"}),
+        ((at, "--keep", "io,cpu"), {"extra", "io", "cpu"}),
+        ((at, "--keep", "memory", "--keep", "cpuset"), {"extra", "cpuset"}),
+        ((at,), set()),
+    ):
+        same("mount %s" % " ".join(words), ran("mount", *words)[0], 0)
+        names = os.listdir(at)
+        found = {
+            n
+            for n in ("io", "cpu", "cpuset", "memory")
+            if "cgroup.controllers" in names and n in read(at + "/cgroup.controllers").decode().split()
+        }
+        found |= {"extra"} & ({"extra"} if "cgroup.controllers" in names else set()) | (
+            {"control"} if ".makhloeum" in names else set()
+        )
+        same("what it has", found, has)
+        step("it can be unmounted", unmounted(at))
+    script = "cat %s/cgroup.controllers; ls -d %s/.makhloeum; id -u" % (AT, AT)
+    for words, lines in (
+        (("--", "sh"), ["pids", str(os.getuid())]),
+        (("--control", "sh"), ["pids", AT + "/.makhloeum", str(os.getuid())]),
+        (("--keep", "cpuset,cpu,io,memory", "--root", "--", "sh"), ["cpuset cpu io memory pids", "0"]),
+        (("--keep=x", "sh"), None),
+    ):
+        status, text, _ = ran("run", *words, "-c", script)
+        same(
+            "run %s" % " ".join(words), (status, text.split("\n")[:-1]) if lines else status, (0, lines) if lines else 2
+        )
+    same("what follows a program is its own", ran("run", "echo", "--root", "--", "-x")[:2], (0, "--root -- -x\n"))
+    same("a program whose name begins with a dash", ran("run", "--", "-x")[0], 127)
+    same("a word for --keep", ran("run", "--keep", "memory,", "true")[0], 2)
+
+
+def statuses():
+    """The status of a run is that of the program, as a shell would give it."""
+    for number in (0, 1, 2, 63, 125, 126, 127, 128, 200, 255):
+        same("exit %d" % number, ran("run", "sh", "-c", "exit %d" % number)[0], number)
+    for name, number in (
+        ("HUP", 1),
+        ("INT", 2),
+        ("QUIT", 3),
+        ("ABRT", 6),
+        ("KILL", 9),
+        ("USR1", 10),
+        ("SEGV", 11),
+        ("PIPE", 13),
+        ("TERM", 15),
+    ):
+        same("ended by %s" % name, ran("run", "sh", "-c", "ulimit -c 0; kill -%s $$" % name)[0], 128 + number)
+    script = os.path.join(HOME, "script")
+    for text, mode, status in (
+        ("#!/bin/sh\nexit 9\n", 0o755, 9),
+        ("exit 8\n", 0o755, 8),
+        ("#!/nowhere\n", 0o755, 127),
+        ("#!/bin/sh\nexit 9\n", 0o644, 126),
+    ):
+        with open(script, "w") as f:
+            f.write(text)
+        os.chmod(script, mode)
+        status_of, _, said = ran("run", script)
+        same("a file of mode %o that begins with %r" % (mode, text[:4]), status_of, status)
+        if status in (126, 127):
+            step("it is named", said.startswith("makhloeum: %s: " % script) and said.count("\n") == 1, said)
+    same("a folder", ran("run", HOME)[0], 126)
+    same("an empty name", ran("run", "")[0], 127)
+    same("a name on PATH", ran("run", "script", env={"PATH": HOME, "TMPDIR": HOME})[0], 126)
+    same("its words", ran("run", "sh", "-c", 'echo "$0|$@|$#"', "a", "b c", "", "*")[1], "a|b c  *|3\n")
+
+
+SAYS = """import os, signal
+which = (signal.SIGHUP, signal.SIGINT, signal.SIGTERM, signal.SIGQUIT, signal.SIGUSR1)
+for each in which:
+    signal.signal(each, lambda number, _: os.write(1, b"%d\\n" % number))
+os.write(1, b"ready\\n")
+while True:
+    signal.pause()
+"""
+
+
+def passed():
+    """Which signals to makhloeum reach the program: each of these once, also if they come together."""
+    p = subprocess.Popen([PROGRAM, "run", sys.executable, "-c", SAYS], stdout=subprocess.PIPE, text=True)
+    same("it runs", p.stdout.readline(), "ready\n")
+    for each in (signal.SIGHUP, signal.SIGINT, signal.SIGTERM):
+        p.send_signal(each)
+        same("%s comes" % each.name, p.stdout.readline(), "%d\n" % each)
+    for each in (signal.SIGINT, signal.SIGHUP, signal.SIGQUIT, signal.SIGTERM):
+        p.send_signal(each)
+    got = {int(p.stdout.readline()) for _ in range(3)}
+    same("several that come together", got, {signal.SIGHUP, signal.SIGINT, signal.SIGTERM})
+    p.send_signal(signal.SIGHUP)
+    same("none twice, and no other", p.stdout.readline(), "%d\n" % signal.SIGHUP)
+    p.kill()
+    same("SIGKILL ends the run", status_within(p), -signal.SIGKILL)
+    p.stdout.close()
+
+
+# ---------------------------------------------------------------- commands
+
+
+def commands():
+    """A command is looked for beside the program, in libexec first, and then on PATH."""
+    top = folder("installed")
+    bin_of, libexec, path = (os.path.join(top, n) for n in ("bin", "libexec/makhloeum", "path"))
+    for at in (bin_of, libexec, path):
+        os.makedirs(at)
+    program = os.path.join(bin_of, "makhloeum")
+    shutil.copy(PROGRAM, program)
+    environment = dict(os.environ, PATH="%s:%s" % (path, os.environ["PATH"]))
+
+    def put(where, text, mode=0o755):
+        file = os.path.join(where, "makhloeum-hello")
+        with open(file, "w") as f:
+            f.write(text)
+        os.chmod(file, mode)
+
+    def says(word, status):
+        return '#!/bin/sh\necho "%s $@"\nexit %d\n' % (word, status)
+
+    for where, status in ((path, 3), (bin_of, 4), (libexec, 5)):
+        put(where, says(os.path.basename(where), status))
+        got = ran("hello", "a b", "c", program=program, env=environment)
+        same("the one in %s" % os.path.basename(where), got, (status, "%s a b c\n" % os.path.basename(where), ""))
+    put(libexec, says("libexec", 5), 0o644)
+    same("one that cannot be executed is left out", ran("hello", program=program, env=environment)[0], 4)
+    link = os.path.join(top, "link")
+    os.symlink(program, link)
+    same("by a link", ran("hello", program=link, env=environment)[0], 4)
+    os.unlink(os.path.join(bin_of, "makhloeum-hello"))
+    put(path, says("path", 3), 0o644)
+    status, _, said = ran("hello", program=program, env=environment)
+    same(
+        "only files that cannot be executed",
+        (status, said),
+        (2, "makhloeum: makhloeum-hello cannot be started: Permission denied\n"),
+    )
+    same("a name of 64 letters", ran("h" * 64)[2].count("there is no makhloeum-"), 1)
+    for name in ("view", "tree", "check", "a-b2"):
+        put(path, says("x", 0))
+        os.rename(os.path.join(path, "makhloeum-hello"), os.path.join(path, "makhloeum-" + name))
+        same("the command %s" % name, ran(name, program=program, env=environment)[:2], (0, "x \n"))
+
+
+# ---------------------------------------------------------------- kept files
+
+
+def kept():
+    at, old = folder("at"), "old\n" * 5000
+    trace, answers, hard = (os.path.join(HOME, n) for n in ("trace", "answers", "hard"))
+    for name in (trace, answers):
+        with open(name, "w") as f:
+            f.write(old)
+        os.chmod(name, 0o640)
+    os.link(trace, hard)
+    sealed = os.path.join(HOME, "sealed")
+    with open(sealed, "w") as f:
+        f.write(old)
+    os.chmod(sealed, 0)
+    new = os.path.join(HOME, "new")
+    for what, words in (
+        ("answers that cannot be made", ("--trace", new, "--answers", "/nowhere/x")),
+        ("a trace that cannot be made", ("--trace", "/nowhere/x", "--answers", new)),
+        ("a folder", ("--trace", new, "--answers", HOME)),
+        ("a hard link to the other", ("--trace", trace, "--answers", hard)),
+        ("one new file twice", ("--trace", new, "--answers", new)),
+        *([("a file that may not be written", ("--trace", trace, "--answers", sealed))] if os.getuid() else []),
+        ("a wrong controller", ("--trace", new, "--answers", answers, "--keep", "x")),
+    ):
+        for start in (("mount", at), ("run", "true")):
+            words_of = (start[0], *words, start[1])
+            status, _, said = ran(*words_of)
+            same("%s: %s" % (start[0], what), (status, said.count("\n")), (2, 1))
+            same(
+                "files are as they were",
+                ([open(n).read() == old for n in (trace, answers)], os.path.exists(new)),
+                ([True] * 2, False),
+            )
+    same("nothing is mounted", os.path.ismount(at), False)
+    m = Mount(trace=trace, answers=answers)
+    os.mkdir(m.path("a"))
+    same("a file that was there has the new lines alone", open(trace).read().count("\n"), 2)
+    same("and keeps its mode", [stat.S_IMODE(os.stat(n).st_mode) for n in (trace, answers)], [0o640] * 2)
+    m.end()
+    for start in (("mount", at), ("run", "--", "true")):
+        words = ("--trace", "/dev/null", "--answers", "/dev/null")
+        same("%s: both are /dev/null" % start[0], ran(start[0], *words, *start[1:])[0], 0)
+        if start[0] == "mount":
+            same("it works", (error_of(os.mkdir, at + "/a"), read(at + "/a/pids.max")), ("ok", b"max\n"))
+            step("it can be unmounted", unmounted(at))
+    for name in (trace, answers):
+        with open(name, "w") as f:
+            f.write(old)
+    script = "mkdir %s/a && echo 5 >%s/a/pids.max && cat %s/a/pids.max" % (AT, AT, AT)
+    same("run: what it says", ran("run", "--trace", trace, "--answers", answers, "sh", "-c", script), (0, "5\n", ""))
+    with open(trace) as lines, open(answers, "rb") as wanted:
+        same(
+            "cgreplay gives the same answers",
+            subprocess.run(CGREPLAY, stdin=lines, stdout=subprocess.PIPE).stdout,
+            wanted.read(),
+        )
+    step("the lines are there", "mkdir /a\n" in open(trace).read() and "old" not in open(trace).read())
+
+
+for test in (options, statuses, passed, commands, kept):
+    test()
+shutil.rmtree(HOME)
+finish()

@@ -1,0 +1,397 @@
+"""What there is to see of the mount and of a run: every file with its mode, the control directory's calls, the file system's own
+numbers, and the tables of /proc, which are those of the machine but for cgroups."""
+import ctypes
+import os
+import re
+import stat
+import subprocess
+import sys
+
+from on_kernel import new_group
+from support import AT, PATIENCE, PROGRAM, Mount, error_of, finish, libc, read, same, step, write
+
+ME = os.path.realpath(__file__)
+READ, WRITTEN, BOTH = 0o444, 0o200, 0o644
+OF_ROOT = {"cgroup.procs": BOTH, "cgroup.stat": READ, "cgroup.max.descendants": BOTH, "cgroup.max.depth": BOTH}
+OF_GROUPS = {**OF_ROOT, "cgroup.events": READ, "cgroup.kill": WRITTEN}
+OF_PIDS = {"pids.max": BOTH, "pids.current": READ, "pids.peak": READ, "pids.events": READ, "pids.events.local": READ}
+EXTRA_OF_ROOT = {"cgroup.controllers": READ, "cgroup.subtree_control": BOTH, "cgroup.threads": READ, "cpu.stat": READ}
+EXTRA = {**EXTRA_OF_ROOT, "cgroup.type": BOTH, "cgroup.freeze": BOTH}
+KEPT = {
+    "memory": {
+        **dict.fromkeys(
+            ("memory." + n for n in ("min", "low", "high", "max", "swap.high", "swap.max", "oom.group")), BOTH
+        ),
+        **dict.fromkeys(
+            (
+                "memory." + n
+                for n in (
+                    "current",
+                    "peak",
+                    "swap.current",
+                    "swap.peak",
+                    "events",
+                    "events.local",
+                    "swap.events",
+                    "stat",
+                )
+            ),
+            READ,
+        ),
+    },
+    "cpu": dict.fromkeys(("cpu." + n for n in ("weight", "weight.nice", "idle", "max", "max.burst")), BOTH),
+    "io": {"io.max": BOTH, "io.weight": BOTH, "io.stat": READ},
+    "cpuset": {
+        **dict.fromkeys(("cpuset.cpus", "cpuset.mems", "cpuset.cpus.partition"), BOTH),
+        **dict.fromkeys(("cpuset.cpus.effective", "cpuset.mems.effective"), READ),
+    },
+}
+KEPT_OF_ROOT = {
+    "memory": {"memory.stat": READ},
+    "cpu": {},
+    "io": {"io.stat": READ},
+    "cpuset": {"cpuset.cpus.effective": READ, "cpuset.mems.effective": READ},
+}
+CONTROL = {"fork": WRITTEN, "exit": WRITTEN}
+HISTORY = {**CONTROL, "undo": WRITTEN, "forget": WRITTEN, "depth": READ, "newest": READ, "trace": READ}
+
+
+def modes(folder):
+    """The mode of each file that a listing has, by a stat; of a directory, that it is one."""
+    found = {}
+    for name in os.listdir(folder):
+        st = os.lstat(os.path.join(folder, name))
+        found[name] = stat.S_IMODE(st.st_mode) if stat.S_ISREG(st.st_mode) else "directory"
+    return found
+
+
+def files(options, of_root, of_group, controllers=""):
+    m = Mount(*options, control=False)
+    if controllers:
+        write(m.path("cgroup.subtree_control"), controllers.encode())
+    os.mkdir(m.path("g"))
+    name = " ".join(options) or "no option"
+    same("%s: the root" % name, modes(m.at), {**of_root, "g": "directory"})
+    same("%s: a group" % name, modes(m.path("g")), of_group)
+    for at in (m.at, m.path("g")):
+        for file in sorted(of_root if at == m.at else of_group):
+            path = os.path.join(at, file)
+            got = error_of(read, path), error_of(lambda: os.close(os.open(path, os.O_WRONLY)))
+            mode = (of_root if at == m.at else of_group)[file]
+            wanted = "ok" if mode & READ else "EACCES", "ok" if mode & WRITTEN else "EACCES"
+            if os.getuid() and got != wanted:
+                same("%s: open of %s to read and to write" % (name, os.path.relpath(path, m.at)), got, wanted)
+    known = {*OF_GROUPS, *OF_PIDS, *EXTRA, *(f for of in KEPT.values() for f in of)}
+    absent = [(error_of(os.stat, m.path(f)), error_of(os.stat, m.path("g", f))) for f in sorted(known)]
+    wanted = [("ok" if f in of_root else "ENOENT", "ok" if f in of_group else "ENOENT") for f in sorted(known)]
+    same("%s: what there is by name" % name, absent, wanted)
+    m.end()
+
+
+def every_file():
+    files((), OF_ROOT, {**OF_GROUPS, **OF_PIDS})
+    files(("--extra",), {**OF_ROOT, **EXTRA_OF_ROOT}, {**OF_GROUPS, **OF_PIDS, **EXTRA})
+    with_pids = {**OF_GROUPS, **OF_PIDS, **EXTRA}
+    for controller, of in KEPT.items():
+        of_root = {**OF_ROOT, **EXTRA_OF_ROOT, **KEPT_OF_ROOT[controller]}
+        files(("--keep", controller), of_root, {**OF_GROUPS, **EXTRA})
+        files(("--keep", controller), of_root, {**OF_GROUPS, **EXTRA, **of}, "+" + controller)
+        files(("--keep", controller), of_root, {**with_pids, **of}, "+pids +" + controller)
+
+
+def control():
+    """Calls in the control directory, whose files nobody makes, removes or changes."""
+    m = Mount()
+    at = m.path(".makhloeum")
+    same("its files", modes(at), HISTORY)
+    me = (os.geteuid(), os.getegid())
+    for name in (*HISTORY, "."):
+        st = os.stat(os.path.join(at, name))
+        same("the owner of " + name, (st.st_uid, st.st_gid), me)
+    owners, denied = "EACCES" if os.getuid() else "ok", "EACCES" if os.getuid() else "EINVAL"
+    for what, wanted, call in (
+        ("mkdir of it", "EEXIST", lambda: os.mkdir(at)),
+        ("mkdir in it", "EPERM", lambda: os.mkdir(at + "/x")),
+        ("mkdir of a file", "EEXIST", lambda: os.mkdir(at + "/undo")),
+        ("rmdir of it", "EPERM", lambda: os.rmdir(at)),
+        ("rmdir in it", "ENOENT", lambda: os.rmdir(at + "/x")),
+        ("rmdir of a file", "ENOTDIR", lambda: os.rmdir(at + "/undo")),
+        ("unlink", "EPERM", lambda: os.unlink(at + "/undo")),
+        ("rename", "EPERM", lambda: os.rename(at, m.path("x"))),
+        ("a new file", "EACCES", lambda: os.open(at + "/x", os.O_CREAT | os.O_WRONLY)),
+        ("a name that is not there", "ENOENT", lambda: os.stat(at + "/x")),
+        ("a name that begins as a file's", "ENOENT", lambda: os.stat(at + "/undox")),
+        ("a file below a file", "ENOTDIR", lambda: os.stat(at + "/undo/x")),
+        ("chmod", "EPERM", lambda: os.chmod(at + "/undo", 0o777)),
+        ("chmod of it", "EPERM", lambda: os.chmod(at, 0o777)),
+        ("chown", "EPERM", lambda: os.chown(at + "/undo", *me)),
+        ("utime", "ok", lambda: os.utime(at + "/undo", (1, 2))),
+        ("setxattr", "ENOTSUP", lambda: os.setxattr(at + "/undo", "user.x", b"1")),
+        ("setxattr of it", "ENOTSUP", lambda: os.setxattr(at, "user.x", b"1")),
+        ("getxattr", "ENOTSUP", lambda: os.getxattr(at + "/undo", "user.x")),
+        ("listxattr", "ENOTSUP", lambda: os.listxattr(at)),
+        ("removexattr", "ENOTSUP", lambda: os.removexattr(at, "user.x")),
+        ("truncate of what is written", "ok", lambda: os.truncate(at + "/undo", 0)),
+        ("truncate of what is read", owners, lambda: os.truncate(at + "/depth", 0)),
+        ("read of what is written", denied, lambda: read(at + "/undo")),
+        ("write of what is read", denied, lambda: write(at + "/depth", b"1")),
+        ("its hidden files of a run", "ENOENT", lambda: os.stat(m.path(".makhloeum.1.0"))),
+        ("its tables of a run", "ENOENT", lambda: os.stat(m.path(".makhloeum.t.1"))),
+    ):
+        same(what, error_of(call), wanted)
+    same("it is as it was", (modes(at), read(at + "/depth")), (HISTORY, b"0\n"))
+    for name in (".makhloeum2", ".makhloeu", ".makhloeum.x", "makhloeum", "..makhloeum"):
+        same("a group %s" % name, error_of(os.mkdir, m.path(name)), "ok")
+        same("its file", read(m.path(name, "pids.current")), b"0\n")
+    os.mkdir(m.path("g"))
+    same("a group of that name below", error_of(os.mkdir, m.path("g", ".makhloeum")), "ok")
+    same("is a group", read(m.path("g", ".makhloeum", "cgroup.procs")), b"")
+    m.end()
+
+
+def names():
+    """Which bytes and words a name may have: what is made is listed, found and removed by the same bytes."""
+    m = Mount()
+    at = m.at.encode() + b"/"
+    wrong = []
+    for byte in range(1, 256):
+        for name in (b"x%cy" % byte, b"%cx" % byte, b"x%c" % byte):
+            if byte == ord("/"):
+                continue
+            got = error_of(os.mkdir, at + name)
+            if got != ("ok" if 0x21 <= byte <= 0x7E else "EINVAL"):
+                wrong.append((name, got))
+            if got != "ok":
+                continue
+            seen = (
+                name in os.listdir(at),
+                read(at + name + b"/pids.current"),
+                error_of(write, at + name + b"/pids.max", b"7"),
+            )
+            if seen != (True, b"0\n", "ok") or error_of(os.rmdir, at + name) != "ok" or name in os.listdir(at):
+                wrong.append((name, seen))
+    same("bytes of names", wrong[:5], [])
+    for name, wanted in (
+        ("cgroup.x", "EINVAL"),
+        ("cgroup.", "EINVAL"),
+        ("pids.", "EINVAL"),
+        ("cgroup.procs", "EEXIST"),
+        ("pids.max", "EINVAL"),
+        ("cgroup", "ok"),
+        ("cgroupx", "ok"),
+        ("pidsx", "ok"),
+        ("Pids.x", "ok"),
+        ("memory.max", "ok"),
+        ("cpu.x", "ok"),
+        ("...", "ok"),
+        (".x", "ok"),
+        ("x" * 254, "ok"),
+        ("y" * 255, "ok"),
+        ("z" * 256, "ENAMETOOLONG"),
+    ):
+        same("mkdir %.20s" % name, error_of(os.mkdir, m.path(name)), wanted)
+        if wanted == "ok":
+            same("it is listed", name in os.listdir(m.at), True)
+    os.mkdir(m.path("g"))
+    same("a file of a group, in a group", error_of(os.mkdir, m.path("g", "pids.max")), "EEXIST")
+    os.chdir(m.at)
+    for depth in range(16):  # names of 255 bytes, up to the bound of a path
+        wanted = "ok" if (depth + 1) * 256 <= 4095 else "ENAMETOOLONG"
+        same("a path of %d bytes" % ((depth + 1) * 256), error_of(os.mkdir, "p" * 255), wanted)
+        if wanted == "ok":
+            os.chdir("p" * 255)
+    rest = 4095 - 15 * 256 - 1
+    same("of 4,096", error_of(os.mkdir, "q" * (rest + 1)), "ENAMETOOLONG")
+    same("of 4,095", error_of(os.mkdir, "q" * rest), "ok")
+    os.chdir("q" * rest)
+    same("which works", (error_of(write, "pids.max", b"5"), read("pids.max")), ("ok", b"5\n"))
+    os.chdir("/")
+    m.end()
+
+
+# ---------------------------------------------------------------- the file system
+
+
+FIELDS = "f_bsize f_frsize f_blocks f_bfree f_bavail f_files f_ffree f_favail f_namemax".split()
+
+
+def numbers(path):
+    st = os.statvfs(path)
+    return {name: getattr(st, name) for name in FIELDS}
+
+
+def as_in_a_kernel(where, path):
+    page = os.sysconf("SC_PAGE_SIZE")
+    wanted = {**dict.fromkeys(FIELDS, 0), "f_bsize": page, "f_frsize": page, "f_namemax": 255}
+    same("%s: statfs" % where, numbers(path), wanted)
+    same("%s: of a file" % where, numbers(path + "/cgroup.procs"), wanted)
+    for at, links in ((path, 2), (path + "/cgroup.procs", 1)):
+        st = os.stat(at)
+        same("%s: links and device of %s" % (where, os.path.basename(at)), (st.st_nlink, st.st_rdev), (links, 0))
+
+
+def of_system():
+    m = Mount()
+    os.mkdir(m.path("g"))
+    as_in_a_kernel("mount", m.path("g"))
+    line = next(x.split() for x in open("/proc/self/mounts") if x.split()[1] == m.at)
+    same("its source and type", (line[0], line[2]), ("makhloeum", "fuse.cgroup2"))
+    has = set(line[3].split(","))
+    step("its options", {"rw", "nosuid", "nodev", "noexec"} <= has, has)
+    same("by statvfs", os.statvfs(m.at).f_flag & 14, os.ST_NOSUID | os.ST_NODEV | os.ST_NOEXEC)
+    st = os.stat(m.at)
+    same(
+        "its root's owner and mode",
+        (st.st_uid, st.st_gid, st.st_mode),
+        (os.geteuid(), os.getegid(), stat.S_IFDIR | 0o755),
+    )
+    m.end()
+
+
+# ---------------------------------------------------------------- a run
+
+
+def inside():
+    st = os.stat(AT)
+    same(
+        "the root's owner and mode",
+        (st.st_uid, st.st_gid, st.st_mode),
+        (os.geteuid(), os.getegid(), stat.S_IFDIR | 0o755),
+    )
+    os.mkdir(AT + "/g")
+    as_in_a_kernel("run", AT + "/g")
+    same("every file of the root", modes(AT), {**OF_ROOT, **EXTRA_OF_ROOT, "g": "directory"})
+    same("of a group", modes(AT + "/g"), {**OF_GROUPS, **OF_PIDS, **EXTRA})
+    same("no control directory", error_of(os.stat, AT + "/.makhloeum"), "ENOENT")
+    same("a group of that name", error_of(os.mkdir, AT + "/.makhloeum"), "ok")
+    os.rmdir(AT + "/.makhloeum")
+    lines = [x for x in open("/proc/self/mounts").read().splitlines() if AT in x]
+    same("in mounts", lines, ["cgroup2 %s cgroup2 rw,nosuid,nodev,noexec,relatime 0 0" % AT])
+    lines = [x for x in open("/proc/self/mountstats").read().splitlines() if AT in x]
+    same("in mountstats", lines, ["device cgroup2 mounted on %s with fstype cgroup2" % AT])
+    lines = [x for x in open("/proc/self/mountinfo").read().splitlines() if AT in x]
+    form = r"\d+ \d+ 0:\d+ / %s rw,nosuid,nodev,noexec,relatime( \S+:\d+)* - cgroup2 cgroup2 rw" % AT
+    step("in mountinfo", len(lines) == 1 and re.fullmatch(form, lines[0]), lines)
+    same(
+        "/proc/cgroups",
+        open("/proc/cgroups").read(),
+        "#subsys_name\thierarchy\tnum_cgroups\tenabled\npids\t0\t1\t1\n",
+    )
+    me = os.getpid()
+    supervisor = int(re.search(r"TracerPid:\t(\d+)", open("/proc/self/status").read())[1])
+    os.mkdir(AT + "/h")
+    for what, wanted, value in (
+        ("the first process, which is nobody's", "EPERM", b"1"),
+        ("the supervisor", "ESRCH", b"%d" % supervisor),
+        ("a number that nobody has", "ESRCH", b"4194303"),
+        ("itself, in hexadecimal", "ok", b" 0x%x\n" % me),
+        ("itself by 0", "ok", b"+0"),
+    ):
+        same("a move of " + what, error_of(write, AT + "/h/cgroup.procs", value), wanted)
+    same("who is there", read(AT + "/h/cgroup.procs"), b"%d\n" % me)
+    same("of the supervisor", open("/proc/%d/cgroup" % supervisor).read(), "0::/\n")
+    for name, text in (("cgroup", "0::/h\n"), ("cpuset", "/\n")):
+        fd = os.open("/proc/self/" + name, os.O_RDONLY)
+        same(
+            name + " in pieces",
+            (os.read(fd, 3), os.read(fd, 99), os.read(fd, 9)),
+            (text.encode()[:3], text.encode()[3:], b""),
+        )
+        same("a write to it", error_of(os.write, fd, b"x"), "EBADF")
+        os.close(fd)
+
+
+def table(text, what):
+    """The lines of a table of mounts, but for cgroups and what differs from one mount namespace to another."""
+    lines = []
+    for line in text.splitlines():
+        place = line.split()[4 if what != "mounts" else 1]
+        if place.startswith(AT):
+            continue
+        if what == "mountinfo":
+            before, after = line.split(" - ")
+            line = " ".join(before.split()[3:6]) + " - " + after
+        lines.append(line)
+    return lines
+
+
+def tables():
+    """What the tables show of other file systems is what the kernel shows in another namespace of mounts. A name with blanks too."""
+    home = os.path.join(os.environ.get("TMPDIR", "/tmp"), "a b\tc\\d\n%d" % os.getpid())
+    os.mkdir(home)
+    script = 'mount -t tmpfs -o size=8k "x y" "$1" && mount --bind "$1" "$1" && cat /proc/self/$2'
+    for what in ("mounts", "mountinfo", "mountstats"):
+        words = ["sh", "-c", script, "sh", home, what]
+        alone = subprocess.run(["unshare", "-Urm", *words], stdout=subprocess.PIPE, timeout=PATIENCE)
+        run = subprocess.run([PROGRAM, "run", "--root", "--", *words], stdout=subprocess.PIPE, timeout=PATIENCE)
+        same("%s: both end" % what, (alone.returncode, run.returncode), (0, 0))
+        # other tests mount and unmount beside this one, in the namespace of both
+        ours = lambda lines: [x for x in lines if "/at" not in x and "/tmp" not in x.replace(home.split("/a b")[0], "")]
+        one, other = (ours(table(ran.stdout.decode(), what)) for ran in (alone, run))
+        same("%s: as the kernel shows it" % what, [x for x in other if x not in one], [])
+        same("%s: all of it" % what, [x for x in one if x not in other], [])
+        step(
+            "%s: the new one twice" % what,
+            sum("a\\040b\\011c\\134d\\012" in x for x in run.stdout.decode().splitlines()) == 2,
+        )
+    os.rmdir(home)
+
+
+def under_run():
+    for options in ((), ("--root",)):
+        ran = subprocess.run([PROGRAM, "run", *options, sys.executable, ME, "inside"], timeout=2 * PATIENCE)
+        same("run %s: its status" % " ".join(options), ran.returncode, 0)
+
+
+def longest():
+    """A group with the longest path, and all that goes by a path."""
+    name = "n" * 126  # 32 names and as many slashes are 4,064 bytes
+    path = ""
+    for _ in range(32):
+        path += "/" + name
+        os.chdir(AT if path.count("/") == 1 else ".")
+        os.mkdir(name)
+        os.chdir(name)
+    same("one deeper", error_of(os.mkdir, "x"), "EAGAIN")
+    write("cgroup.procs", b"0")
+    text = ("0::%s\n" % path).encode()
+    same("its text", b"".join(iter(lambda fd=os.open("/proc/self/cgroup", os.O_RDONLY): os.read(fd, 9999), b"")), text)
+    same("it has this process", read("cgroup.procs"), b"%d\n" % os.getpid())
+    here = os.open(".", os.O_RDONLY)
+    args = (ctypes.c_uint64 * 11)(0x200000000, 0, 0, 0, 17, 0, 0, 0, 0, 0, here)
+    pid = libc.syscall(435, args, 88)
+    if pid == 0:
+        libc.pause()
+    same("a child that is born there", sorted(map(int, read("cgroup.procs").split())), sorted((os.getpid(), pid)))
+    watch = libc.inotify_init()
+    libc.inotify_add_watch(watch, b"cgroup.events", 2)
+    os.chdir("..")
+    write("cgroup.procs", b"0")
+    events = os.open(name + "/cgroup.events", os.O_RDONLY)
+    os.chdir(name)
+    write("cgroup.kill", b"1")
+    same("a kill there", os.waitpid(pid, 0)[1], 9)
+    same("a watch is told", os.read(watch, 100)[4:8], b"\2\0\0\0")
+    same("it is empty", os.read(events, 99), b"populated 0\nfrozen 0\n")
+    os.chdir("..")
+    same("it can go", error_of(os.rmdir, name), "ok")
+    ran = subprocess.run(["unshare", "-C", "cat", "/proc/self/cgroup"], stdout=subprocess.PIPE, timeout=PATIENCE)
+    same("the root of a cgroup namespace", (ran.returncode, ran.stdout), (0, b"0::/\n"))
+
+
+if sys.argv[1:] == ["inside"]:
+    inside()
+    finish()
+if sys.argv[1:] == ["longest"]:
+    longest()
+    finish()
+if sys.argv[1:] == ["kernel"]:
+    with new_group() as group:
+        if group:
+            as_in_a_kernel("the kernel", group)
+    finish()
+for test in (every_file, control, names, of_system, under_run, tables):
+    test()
+ran = subprocess.run([PROGRAM, "run", "--root", sys.executable, ME, "longest"], timeout=2 * PATIENCE)
+same("the longest path: its status", ran.returncode, 0)
+finish()
