@@ -106,9 +106,7 @@ def test_a_child_waits_for_its_own_changes(hierarchy):
             def poll():
                 with open(f"{AT}/a/cgroup.events") as own:
                     own.read()
-                    threading.Timer(
-                        0.05, hierarchy.write, ["/a", "cgroup.procs", 1]
-                    ).start()
+                    threading.Timer(0.05, hierarchy.write, ["/a", "cgroup.procs", 1]).start()
                     waiting = select.poll()
                     waiting.register(own, select.POLLPRI)
                     return bool(waiting.poll(1000 * PATIENCE))
@@ -123,11 +121,7 @@ def test_a_child_has_its_own_notifications(hierarchy):
         with open(f"{AT}/a/cgroup.events") as file:
             waiting = select.poll()
             waiting.register(file, select.POLLPRI)
-            assert (
-                waiting.poll(1000 * PATIENCE)
-                and file.read() == "populated 0\nfrozen 0\n"
-                and not waiting.poll(0)
-            )
+            assert waiting.poll(1000 * PATIENCE) and file.read() == "populated 0\nfrozen 0\n" and not waiting.poll(0)
 
             def change():
                 own = select.poll()
