@@ -270,19 +270,10 @@ static long in_connect(void)
 	return connect(fd, (struct sockaddr *)&there, size);
 }
 
-static void fill_socket(void)
-{
-	static char bytes[1 << 20];
-	set_timeout(ends[0], SO_SNDTIMEO);
-	while (send(ends[0], bytes, sizeof bytes, MSG_DONTWAIT) > 0)
-		;
-}
-
 static long in_sendfile(void)
 {
 	int fd = open("/proc/self/exe", O_RDONLY);
 	fill_socket();
-	atomic_store(ready, 1);
 	return sendfile(ends[0], fd, NULL, 1);
 }
 
@@ -292,7 +283,6 @@ static long in_splice(void)
 	if (pipe(from) || write(from[1], "x", 1) != 1)
 		return -1;
 	fill_socket();
-	atomic_store(ready, 1);
 	return splice(from[0], NULL, ends[0], NULL, 1, 0);
 }
 
