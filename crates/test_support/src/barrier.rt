@@ -1,9 +1,11 @@
 //! A barrier at which the parts of a test hook wait for one another.
 
 use std::sync::atomic::{AtomicBool, Ordering};
+use std::thread::yield_now;
 
-/// A part polls another's flag at most this often.
-const TURNS: u32 = 100_000_000;
+/// A part polls another's flag at most this often. It lets other threads run after each look, so that a busy machine starts
+/// them all meanwhile.
+const TURNS: u32 = 20_000_000;
 
 /// The most parts.
 const MOST: usize = 9;
@@ -49,6 +51,7 @@ impl Barrier {
             if self.has_come(at) {
                 return true;
             }
+            yield_now();
         }
         self.missed.store(true, Ordering::SeqCst);
         false
