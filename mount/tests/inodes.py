@@ -392,6 +392,7 @@ def undone():
     os.rmdir(m.path("u"))
     write(m.control("undo"), b"1\n")
     step("it has another number", os.stat(m.path("u")).st_ino != number)
+    same("a listing of the old one", os.listdir(d), [])
     same("it is owned by the mount's user", owner(os.stat(m.path("u"))), (os.geteuid(), os.getegid()))
     os.close(d)
     m.end()

@@ -147,6 +147,10 @@ DETACH = 2
 
 def tables():
     """A table of mounts can be polled: it tells of each change once, and shows it when it is read again."""
+    fd, ready = os.open("/proc/self/mountstats", os.O_RDONLY), select.poll()
+    ready.register(fd, select.POLLIN)
+    same("mountstats tells of no change", ready.poll(0), [(fd, select.POLLIN)])
+    os.close(fd)
     home = tempfile.mkdtemp().encode()
     for name in ("mounts", "mountinfo"):
         fd = os.open("/proc/self/" + name, os.O_RDONLY)
