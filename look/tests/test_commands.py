@@ -45,6 +45,11 @@ def test_view_makes_a_page(tmp_path):
     assert run("view", "--help")[0] == 0
     trace.rename(tmp_path / "-o")
     assert run("view", "--", "-o", cwd=tmp_path) == (0, "-o.html: 2 commands, 1 refused\n", "")
+    (tmp_path / "one.trace").write_text("mkdir /a\n")
+    for name, make in (("symbolic", os.symlink), ("hard", os.link)):
+        make(tmp_path / "one.trace", tmp_path / name)
+        assert run("view", "one.trace", "-o", name, cwd=tmp_path)[0] == 2
+    assert (tmp_path / "one.trace").read_text() == "mkdir /a\n"
 
 
 def test_view_says_in_one_sentence_what_is_wrong(tmp_path):

@@ -2,6 +2,7 @@
 
 import errno
 import math
+import threading
 
 import pytest
 
@@ -65,6 +66,16 @@ def test_a_timeout_is_a_number_of_seconds(h):
     with pytest.raises(ValueError, match="nan"):
         h.wait(2, timeout=math.nan)
     assert h.wait(1, timeout=math.inf) == 2
+
+
+def test_a_timeout_of_zero_ends_at_once(h):
+    late = threading.Timer(30, h.mkdir, ["/late"])  # ends a wait that has no end
+    late.start()
+    try:
+        with pytest.raises(TimeoutError):
+            h.wait(h.changes(), timeout=0)
+    finally:
+        late.cancel()
 
 
 def test_a_mark_beyond_64_bits_undoes_nothing(h):

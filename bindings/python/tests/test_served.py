@@ -82,6 +82,20 @@ def test_no_file_of_a_removed_group_has_a_text(h):
     assert code(os.stat, f"{AT}/a/cgroup.type") == code(open, f"{AT}/a/cgroup.type") == "ENOENT"
 
 
+def test_no_file_of_a_removed_group_becomes_one_of_its_successor(h):
+    fd = os.open(f"{AT}/a/pids.max", os.O_RDONLY)
+    os.rmdir(f"{AT}/a")
+    os.mkdir(f"{AT}/other")
+    os.rmdir(f"{AT}/other")
+    os.mkdir(f"{AT}/a")
+    assert code(os.read, fd, 99) == "ENODEV"
+    os.close(fd)
+
+
+def test_a_file_opens_with_o_excl_alone(h):
+    os.close(os.open(f"{AT}/cgroup.procs", os.O_RDONLY | os.O_EXCL))
+
+
 @pytest.mark.parametrize("name", ["cgroup.kill", "cgroup.procs", "pids.current", ""])
 def test_access_is_that_of_a_real_file_with_this_mode(h, tmp_path, name):
     """For the superuser, whom a mode stops only from execution, and for everybody else."""
