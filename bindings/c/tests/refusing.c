@@ -35,7 +35,7 @@ void *__wrap_realloc(void *at, size_t size)
 	return refuses() ? NULL : __real_realloc(at, size);
 }
 
-/* A path takes memory if it has more than 23 bytes, and a text of /many if it is longer than the library's own buffer. */
+/* A path takes memory if it has more than 22 bytes, and a text of /many if it is longer than the library's own buffer. */
 #define LONG "/a-group-with-a-long-name-that-takes-memory"
 enum { MANY = 1500, FIRST = 1000 };
 

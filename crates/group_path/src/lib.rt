@@ -9,11 +9,10 @@
 //! list of bytes. Every path that a call takes or returns is in the grammar; `known` gives a caller its bounds.
 //!
 //! A path may use any allocator. A call that takes or makes a second path accepts another allocator for it. A text of up to
-//! 23 bytes is stored in the path itself. For longer texts `read`, `parent`, `front` and `child` allocate once, and `copy`
-//! twice. They return `OutOfMemory` or `AllocError` only if an allocation fails and nothing else is wrong. `share` makes the
-//! same path again in the same allocator. It allocates nothing if `copy` or `share` made the path, and as `copy` otherwise.
-//! Paths that share a text may be in different threads, and the last of them frees it. No other call allocates. Every call
-//! is at most linear in the texts.
+//! 22 bytes is stored in the path itself. For longer texts `read`, `parent`, `front`, `child` and `copy` allocate twice. They
+//! return `OutOfMemory` or `AllocError` only if an allocation fails and nothing else is wrong. `share` makes the same path
+//! again in the same allocator, and allocates nothing. Paths that share a text may be in different threads, and the last of
+//! them frees it. No other call allocates. Every call is at most linear in the texts.
 //!
 //! Paths are ordered name by name: a group comes before the groups below it, and these come before its next sibling. This is
 //! not the order of the texts.

@@ -171,7 +171,7 @@ impl<A: Allocator + Clone> GroupPath<A> {
         Ok(GroupPath { text })
     }
 
-    /// A copy of the path in another allocator. Its text is one that `share` of the copy can share. Linear in the text.
+    /// A copy of the path in another allocator. Linear in the text.
     ///
     /// # Errors
     ///
@@ -184,13 +184,12 @@ impl<A: Allocator + Clone> GroupPath<A> {
         Ok(GroupPath { text })
     }
 
-    /// The same path again, in the same allocator. If `copy` or `share` made this one, they share its text: that takes
-    /// constant time and allocates nothing. Any other text is copied as by `copy`.
+    /// The same path again, in the same allocator. A text that is not inline is shared. Takes constant time and allocates
+    /// nothing.
     ///
     /// # Errors
     ///
-    /// `AllocError` when out of memory, or if 2^63 paths share the text. A text of at most `INLINE_MAX` bytes needs no
-    /// allocation.
+    /// `AllocError` if 2^63 paths share the text.
     pub fn share(&self) -> Result<GroupPath<A>, AllocError>
         // The path is the same, and only a text that is not inline can run out of memory.
         ensures { MatchResult result (λ p. p ≡ self.now) (λ _. INLINE_MAX < length (path_text self.now)) }

@@ -5,7 +5,7 @@
 //! - `insert`, `set`, `replace_limit` and `remove` change one path and nothing else. A refusal changes nothing, even if
 //!   memory runs out in the middle of an insert.
 //! - Refusals come in a fixed order, and each names its cause. Only `insert`, `copy`, `new`, and a `chain` of more than
-//!   eight groups allocate. Each group has a block of its own, a name of more than 23 bytes needs another, and the parent's
+//!   eight groups allocate. Each group has a block of its own, a name of more than 22 bytes needs two others, and the parent's
 //!   list of children grows. That list has the first eight bytes of the names, as numbers, and the pointers to the blocks.
 //! - A look-up descends once, in O(depth · log children) comparisons, most of them of numbers. Each group records how many
 //!   groups are below it, so limits on descendants, and on the number of all groups, are tested without a walk. `admits` tests

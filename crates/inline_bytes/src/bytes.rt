@@ -2,12 +2,13 @@
 
 ghost use Rattle.std.specs.Prelude.{◌≡◌, ◌+◌, ◌<◌, ◌≤◌, ◌^◌, ◌∷◌, ◌++◌, IfOk, IsOk, length, take};
 
-use std::alloc::{AllocError, Allocator};
+use std::alloc::{AllocError, Allocator, Global};
 use std::marker::Model;
+use std::mem::size_of;
 use std::sync::Arc;
 
-/// The greatest number of bytes stored inline. With their length they fill the same space as a vector.
-pub const INLINE_MAX: usize = 23;
+/// The greatest number of bytes stored inline. With their length and the kind of storage they fill three words.
+pub const INLINE_MAX: usize = 22;
 
 /// Where the bytes are stored.
 #[derive(Drop)]
@@ -17,8 +18,6 @@ pub(crate) enum Storage<A: Allocator> {
         bytes: [u8; INLINE_MAX],
         len: u8,
     },
-    /// In an allocation of this value alone.
-    Heap(Vec<u8, A>),
     /// The first `len` bytes of a vector that several values can own. No call changes it.
     Shared {
         text: Arc<Vec<u8, A>, A>,
@@ -30,6 +29,9 @@ pub(crate) enum Storage<A: Allocator> {
 pub struct InlineBytes<A: Allocator> {
     pub(crate) storage: Storage<A>,
 }
+
+// A path is such a value, and each process and each recorded command has one.
+const _: () = prove!(size_of::<InlineBytes<Global>>() == 24);
 
 impl<A: Allocator> Model for InlineBytes<A> {
     ghost use Rattle.std.specs.Prelude.{ℕ, List};
@@ -50,29 +52,31 @@ impl<A: Allocator> Drop for InlineBytes<A> {
     }
 }
 
-impl<A: Allocator> InlineBytes<A> {
+impl<A: Allocator + Clone> InlineBytes<A> {
     /// Copies the bytes into a new value. Linear in their number.
     ///
     /// # Errors
     ///
-    /// `AllocError` if there are more than `INLINE_MAX` bytes and their allocation fails.
+    /// `AllocError` if there are more than `INLINE_MAX` bytes and one of the two allocations for them fails.
     pub fn copy_of(alloc: A, bytes: &[u8]) -> Result<InlineBytes<A>, AllocError>
         ensures same { IfOk result (λ b. b ≡ bytes.now) }
         ensures few { length bytes.now ≤ INLINE_MAX → IsOk result }
     {
-        if bytes.len() > INLINE_MAX {
-            let heap = Vec::from_slice(alloc, bytes)?;
-            let storage = Storage::Heap(heap);
-            return Ok(InlineBytes { storage });
+        let len = bytes.len();
+        if len <= INLINE_MAX {
+            return Ok(InlineBytes::inline(bytes));
         }
-        Ok(InlineBytes::inline(bytes))
+        let heap = Vec::from_slice(alloc.clone()?, bytes)?;
+        let text = Arc::new(alloc, heap)?;
+        let storage = Storage::Shared { text, len };
+        Ok(InlineBytes { storage })
     }
 
     /// Joins `front`, one byte and `back`. Linear in their length.
     ///
     /// # Errors
     ///
-    /// `AllocError` if the result has more than `INLINE_MAX` bytes and its allocation fails.
+    /// `AllocError` if the result has more than `INLINE_MAX` bytes and one of the two allocations for them fails.
     pub fn joined(
         alloc: A,
         front: &[u8],
@@ -85,27 +89,19 @@ impl<A: Allocator> InlineBytes<A> {
     {
         let len = front.len() + 1 + back.len();
         if len > INLINE_MAX {
-            let mut heap = Vec::with_capacity(alloc, len)?;
+            let mut heap = Vec::with_capacity(alloc.clone()?, len)?;
             heap.extend_from_slice(front)?;
             heap.push(between)?;
             heap.extend_from_slice(back)?;
-            let storage = Storage::Heap(heap);
+            let text = Arc::new(alloc, heap)?;
+            let storage = Storage::Shared { text, len };
             return Ok(InlineBytes { storage });
         }
         Ok(InlineBytes::inline_joined(front, between, back))
     }
+}
 
-    /// Converts a vector. At most `INLINE_MAX` bytes are moved inline and the vector is freed. Allocates nothing.
-    pub fn of_vec(bytes: Vec<u8, A>) -> InlineBytes<A>
-        ensures { result ≡ bytes.items }
-    {
-        if bytes.len() > INLINE_MAX {
-            let storage = Storage::Heap(bytes);
-            return InlineBytes { storage };
-        }
-        InlineBytes::inline(bytes.as_slice())
-    }
-
+impl<A: Allocator> InlineBytes<A> {
     /// Joins `front`, one byte and `back` inline, if they fit.
     fn inline_joined(front: &[u8], between: u8, back: &[u8]) -> InlineBytes<A>
         requires { length front.now + 1 + length back.now ≤ INLINE_MAX }
@@ -122,8 +118,8 @@ impl<A: Allocator> InlineBytes<A> {
         InlineBytes { storage }
     }
 
-    /// Stores a few bytes inline.
-    pub(crate) fn inline(few: &[u8]) -> InlineBytes<A>
+    /// Stores a few bytes inline. Allocates nothing.
+    pub fn inline(few: &[u8]) -> InlineBytes<A>
         requires { length few.now ≤ INLINE_MAX }
         ensures { result ≡ few.now }
     {
@@ -140,7 +136,6 @@ impl<A: Allocator> InlineBytes<A> {
     {
         match &self.storage {
             Storage::Inline { bytes, len } => &bytes[..usize::from(*len)],
-            Storage::Heap(heap) => heap.as_slice(),
             Storage::Shared { text, len } => &text.as_slice()[..*len],
         }
     }
@@ -156,7 +151,6 @@ impl<A: Allocator> InlineBytes<A> {
                     *len = n as u8;
                 }
             }
-            Storage::Heap(heap) => heap.truncate(n),
             Storage::Shared { text: _, len } => {
                 if n < *len {
                     *len = n;

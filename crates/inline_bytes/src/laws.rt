@@ -5,16 +5,13 @@ ghost use Rattle.std.specs.Arc.{arc_value};
 ghost use Rattle.std.specs.declared.sync.Arc.{Arc};
 ghost use Rattle.inline_bytes.specs.declared.bytes.TheConstants.{INLINE_MAX};
 ghost use Rattle.inline_bytes.specs.declared.bytes.Storage.{Storage};
-ghost use Rattle.inline_bytes.specs.declared.bytes.Storage.TheVariants.{Inline, Heap, Shared};
+ghost use Rattle.inline_bytes.specs.declared.bytes.Storage.TheVariants.{Inline, Shared};
 ghost use Rattle.inline_bytes.specs.Bytes.{bytes_in, IsSound};
 
-/// An inline value has the first `len` bytes of its array and no others, and so has a value of its shared vector; a value on
-/// the heap has all bytes of its vector. A value is sound exactly if it has as many bytes as it records.
+/// An inline value has the first `len` bytes of its array and no others, and so has a value of its shared vector. A value is sound exactly if it has as many bytes as it records.
 pub fn bytes_are_those_in_front()
     ensures in_front { (few behind : List ℕ) → bytes_in {A = Unit {0}} (Inline (few ++ behind) (length few)) ≡ few }
-    ensures heap { (v : Vec ℕ (Unit {0})) → bytes_in {A = Unit {0}} (Heap v) ≡ v.items }
     ensures sound { (bytes : List ℕ) (len : ℕ) → length bytes ≡ INLINE_MAX → IsSound {A = Unit {0}} (Inline bytes len) ↔ (length (bytes_in {A = Unit {0}} (Inline bytes len)) ≡ len) }
-    ensures sound_heap { (v : Vec ℕ (Unit {0})) → IsSound {A = Unit {0}} (Heap v) }
     ensures shared { (few behind : List ℕ) (text : Arc (Vec ℕ (Unit {0})) (Unit {0})) → (arc_value text).items ≡ few ++ behind → bytes_in (Shared text (length few)) ≡ few }
     ensures sound_shared { (text : Arc (Vec ℕ (Unit {0})) (Unit {0})) (len : ℕ) → IsSound (Shared text len) ↔ (length (bytes_in (Shared text len)) ≡ len) }
 {}

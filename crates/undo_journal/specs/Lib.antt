@@ -1,4 +1,5 @@
 pub mod CommandMeaning
+pub mod ReplyBytes
 pub mod Answer
 pub mod Beginning
 pub mod Headline

@@ -2,22 +2,37 @@
 
 ghost use Rattle.std.specs.Prelude.{◌≡◌, IfOk};
 
-use inline_bytes::InlineBytes;
+use inline_bytes::{INLINE_MAX, InlineBytes};
 use std::alloc::{AllocError, Allocator};
 use std::marker::Model;
 
 /// The bytes of a text.
-#[derive(Drop)]
 pub struct Bytes<A: Allocator + Clone> {
-    text: InlineBytes<A>,
+    text: Text<A>,
+}
+
+// Where they are: a few in the value itself, others in their vector.
+#[derive(Drop)]
+enum Text<A: Allocator + Clone> {
+    Few(InlineBytes<A>),
+    Many(Vec<u8, A>),
 }
 
 impl<A: Allocator + Clone> Model for Bytes<A> {
     ghost use Rattle.std.specs.Prelude.{ℕ, List};
+    ghost use Rattle.undo_journal.specs.ReplyBytes.{bytes_in};
 
     ghost Value = { List ℕ };
 
-    ghost view = { λ b. b.text };
+    ghost view = { λ b. bytes_in b.text };
+}
+
+// The explicit drop hides where the bytes are, so the proof of a function that drops such a value has one case instead of two.
+impl<A: Allocator + Clone> Drop for Bytes<A> {
+    fn drop(self) {
+        let Self { text } = self;
+        drop(text);
+    }
 }
 
 impl<A: Allocator + Clone> Bytes<A> {
@@ -25,7 +40,11 @@ impl<A: Allocator + Clone> Bytes<A> {
     pub fn of(text: Vec<u8, A>) -> Bytes<A>
         ensures { result ≡ text.items }
     {
-        let text = InlineBytes::of_vec(text);
+        if text.len() > INLINE_MAX {
+            let text = Text::Many(text);
+            return Bytes { text };
+        }
+        let text = Text::Few(InlineBytes::inline(text.as_slice()));
         Bytes { text }
     }
 
@@ -33,14 +52,17 @@ impl<A: Allocator + Clone> Bytes<A> {
     pub fn as_slice(&self) -> &[u8]
         ensures { result.now ≡ self.now }
     {
-        self.text.as_slice()
+        match &self.text {
+            Text::Few(text) => text.as_slice(),
+            Text::Many(text) => text.as_slice(),
+        }
     }
 
     /// Copies the bytes into another allocator.
     pub(crate) fn copy<B: Allocator + Clone>(&self, alloc: B) -> Result<Bytes<B>, AllocError>
         ensures { IfOk result (λ b. b ≡ self.now) }
     {
-        let text = InlineBytes::copy_of(alloc, self.text.as_slice())?;
+        let text = Text::Few(InlineBytes::copy_of(alloc, self.as_slice())?);
         Ok(Bytes { text })
     }
 }

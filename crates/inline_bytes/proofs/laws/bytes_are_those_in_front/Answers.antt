@@ -12,9 +12,7 @@ as_many bytes room len all = (λ few. length-take-le len bytes (omega arith), λ
 pub returns : goal.returns
 returns c = record {
   in_front = λ few behind. take-append_seam few behind;
-  heap = λ v. refl;
   sound = λ bytes len. as_many bytes INLINE_MAX len;
-  sound_heap = λ v. tt;
   shared = λ few behind text e. ap (take (length few)) e ∙ take-append_seam few behind;
   sound_shared = λ text len. as_many (arc_value text).items (length (arc_value text).items) len refl;
 }

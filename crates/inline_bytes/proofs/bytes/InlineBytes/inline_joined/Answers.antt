@@ -27,5 +27,5 @@ returns g c =
     rw (
       c.copy_from_slice.ensures.after,
       c.copy_from_slice-2.ensures.after,
-    ) (joined c.args.front.now c.args.back.now (replicate 23 0) c.args.between (length c.args.front.now
+    ) (joined c.args.front.now c.args.back.now (replicate 22 0) c.args.between (length c.args.front.now
     + 1 + length c.args.back.now - (length c.args.front.now + 1)) c.requires)
