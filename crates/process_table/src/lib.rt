@@ -12,7 +12,7 @@
 //! A page has the cells of 64 consecutive pids. It is allocated when the first of them is inserted, and freed when the
 //! last one is removed. A search is two loads, whatever the pids are. A hash table with a fixed seed would have a worst
 //! case: a trace that chooses its pids could make each search long. Ascending pids fill their pages; a lone pid takes a
-//! page of 3,584 bytes. Pages of row numbers over dense rows would take less memory for scattered pids, and one more
+//! page of 3,072 bytes. Pages of row numbers over dense rows would take less memory for scattered pids, and one more
 //! load for each search.
 //!
 //! Each slot has a list of its pids, in no order. A cell stores the index of its pid in that list. So a process leaves

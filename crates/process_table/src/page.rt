@@ -6,12 +6,15 @@ ghost use Rattle.std.specs.Option.{option_copied};
 ghost use Rattle.process_table.specs.Cells.{at_place};
 
 use crate::process::Cell;
-use std::alloc::{AllocError, Allocator};
+use std::alloc::{AllocError, Allocator, Global};
 use std::marker::Model;
-use std::mem;
+use std::mem::{self, size_of};
 
 // How many pids a page covers.
 pub(crate) const CELLS: usize = 64;
+
+// So a page takes 3,072 bytes.
+const _: () = prove!(size_of::<Option<Cell<Global>>>() == 48);
 
 fn are_all_empty<A: Allocator + Clone>(cells: &[Option<Cell<A>>]) -> bool
     ensures { IsTrue result → (k : ℕ) → k < length cells.now → slice_index_or cells.now k None ≡ None }
