@@ -18,6 +18,7 @@ mod Freed
 mod Starts
 mod Changes
 mod InRows
+mod Kept
 mod RowsRead
 mod RowsUp
 mod Read

@@ -1,5 +1,5 @@
--- The rows of groups: their attributes, by the numbers that the tree has in place of slots.
-use Rattle.std.specs.Prelude.{ℕ, ◌<◌, ◌≡◌, List, length, get_or, Some, IsSome}
+-- The rows of groups: their attributes and paths, by the numbers that the tree has in place of slots.
+use Rattle.std.specs.Prelude.{ℕ, ◌<◌, ◌≡◌, List, length, get_or, Option, Some, None, IsSome, option_map}
 use Rattle.std.specs.FinMap as fin
 use Rattle.flat_model.specs.Path.{Path}
 use Rattle.flat_model.specs.Mapped.{map_values}
@@ -28,6 +28,15 @@ pub record HasRows (tree : Groups) (rows : List Attr) : Type 0 where
   pub closed : IsClosed tree
   pub each : (p : Path) (a : Attr) → fin.get tree p ≡ Some a → IsInRow tree rows p a
   pub apart : (p q : Path) (a b : Attr) → fin.get tree p ≡ Some a → fin.get tree q ≡ Some b → a.slot ≡ b.slot → p ≡ q
+
+-- a row that keeps a path is the row of that path in the tree
+abbrev pub KeepsPaths : Groups → List (Option Path) → Type 0
+KeepsPaths tree kept = (row : ℕ) (p : Path) → get_or kept row None ≡ Some p → option_map (λ a. a.slot) (fin.get tree p) ≡ Some row
+
+-- both
+pub record HasTable (tree : Groups) (rows : List Attr) (kept : List (Option Path)) : Type 0 where
+  pub has_rows : HasRows tree rows
+  pub keeps_paths : KeepsPaths tree kept
 
 -- some group's processes are in this slot of their table
 pub record IsOfGroup (groups : Groups) (at : ℕ) : Type 0 where

@@ -17,7 +17,7 @@ use std::alloc::Allocator;
 
 // Sets the peaks of the group at the first names of the path, as many as there are peaks, and of those above it without the
 // root, from that group upward. `slot` is where its processes are in their table.
-pub(crate) fn set_peaks_up<M: Meter, T: Allocator, A: Allocator + Clone>(
+pub(crate) fn set_peaks_up<M: Meter, T: Allocator + Clone, A: Allocator + Clone>(
     tree: &mut GroupTable<T>,
     parents: &Parents<T>,
     path: &GroupPath<A>,
@@ -62,7 +62,7 @@ impl Change {
 
 // Changes the local total of the group at the first `n` names of the path, and the totals of it and of the groups above it
 // other than the root. `slot` is where its processes are in their table.
-pub(crate) fn change_totals<M: Meter, T: Allocator, A: Allocator + Clone>(
+pub(crate) fn change_totals<M: Meter, T: Allocator + Clone, A: Allocator + Clone>(
     tree: &mut GroupTable<T>,
     parents: &Parents<T>,
     path: &GroupPath<A>,
@@ -92,7 +92,7 @@ pub(crate) fn change_totals<M: Meter, T: Allocator, A: Allocator + Clone>(
 
 // Where the processes of the group at the first `n` names of a path are in their table. `slot` is where those of the path's
 // group are.
-pub(crate) fn slot_up<M: Meter, T: Allocator, A: Allocator + Clone>(
+pub(crate) fn slot_up<M: Meter, T: Allocator + Clone, A: Allocator + Clone>(
     tree: &GroupTable<T>,
     parents: &Parents<T>,
     path: &GroupPath<A>,

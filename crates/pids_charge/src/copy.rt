@@ -37,7 +37,7 @@ fn copy_slots<A: Allocator, B: Allocator>(
 }
 
 // Inserts one process into a table, charged along its path at its leaf modulo the leaves of the meter.
-fn copy_one<T: Allocator, M: Meter, A: Allocator + Clone, B: Allocator + Clone>(
+fn copy_one<T: Allocator + Clone, M: Meter, A: Allocator + Clone, B: Allocator + Clone>(
     tree: &GroupTable<T>,
     parents: &Parents<T>,
     table: &mut ProcessTable<B>,
@@ -64,7 +64,7 @@ fn copy_one<T: Allocator, M: Meter, A: Allocator + Clone, B: Allocator + Clone>(
 }
 
 // Inserts all processes into a table, each charged so.
-fn copy_each<T: Allocator, M: Meter, A: Allocator + Clone, B: Allocator + Clone>(
+fn copy_each<T: Allocator + Clone, M: Meter, A: Allocator + Clone, B: Allocator + Clone>(
     tree: &GroupTable<T>,
     parents: &Parents<T>,
     processes: &ProcessTable<A>,

@@ -60,7 +60,7 @@ fn admit<A: Allocator + Clone>(
 
 // Counts a fork that the group at the first `n` names of the path refused. `slot` is where the processes of the path's group
 // are in their table.
-fn count_refusal<M: Meter, T: Allocator, A: Allocator + Clone>(
+fn count_refusal<M: Meter, T: Allocator + Clone, A: Allocator + Clone>(
     tree: &mut GroupTable<T>,
     parents: &Parents<T>,
     path: &GroupPath<A>,
@@ -83,7 +83,7 @@ fn count_refusal<M: Meter, T: Allocator, A: Allocator + Clone>(
 }
 
 // Undoes the count of a fork that the group at the path refused. Descends the tree once.
-fn uncount_refusal<M: Meter, T: Allocator, A: Allocator + Clone>(
+fn uncount_refusal<M: Meter, T: Allocator + Clone, A: Allocator + Clone>(
     tree: &mut GroupTable<T>,
     parents: &Parents<T>,
     path: &GroupPath<A>,

@@ -13,6 +13,7 @@ ghost use Rattle.group_tree.specs.declared.attr.Attr.{Attr};
 ghost use Rattle.pids_charge.specs.GroupRows.{IsOfGroup};
 ghost use Rattle.pids_charge.specs.Lists.{slot_at, table_slot};
 
+use crate::hints::KeptPaths;
 use group_path::GroupPath;
 use group_tree::{Admission, Attr, ChildNames, GroupTree, Limit, LimitFile, TreeFault};
 use std::alloc::{AllocError, Allocator};
@@ -34,16 +35,18 @@ fn lengthen<A: Allocator>(rows: &mut Vec<Attr, A>, row: u16) -> Result<(), Alloc
 // a group's row is the slot of its processes in their table: 0 for the root, and one more than its slot in the meter for
 // any other group. The tree has that number in place of the slot, and a copy of the limits, which `admits` tests. So
 // whoever knows a group's row reads and changes it without a descent. There are as many rows as the greatest number needs.
+// A row keeps the path of its group, and the path has a hint (`hints.rt`), by which it is found first.
 #[derive(Drop)]
-pub(crate) struct GroupTable<A: Allocator> {
+pub(crate) struct GroupTable<A: Allocator + Clone> {
     tree: GroupTree<A>,
     rows: Vec<Attr, A>,
+    kept: KeptPaths<A>,
 }
 
-impl<A: Allocator> Model for GroupTable<A> {
+impl<A: Allocator + Clone> Model for GroupTable<A> {
     ghost use Rattle.group_tree.specs.Groups.{Groups};
     ghost use Rattle.group_tree.specs.TreeCodes.{groups_code};
-    ghost use Rattle.pids_charge.specs.GroupRows.{HasRows, with_rows};
+    ghost use Rattle.pids_charge.specs.GroupRows.{HasTable, with_rows};
 
     ghost Value = { Groups };
 
@@ -51,10 +54,10 @@ impl<A: Allocator> Model for GroupTable<A> {
 
     ghost view = { λ g. with_rows g.tree g.rows.items };
 
-    ghost invariant = { λ g. HasRows g.tree g.rows.items };
+    ghost invariant = { λ g. HasTable g.tree g.rows.items g.kept };
 }
 
-impl<A: Allocator> GroupTable<A> {
+impl<A: Allocator + Clone> GroupTable<A> {
     // Gives callers what `GroupTree::known` gives of a tree. It is proof only.
     pub(crate) fn known(&self)
         ensures closed { IsClosed self.now }
@@ -65,21 +68,24 @@ impl<A: Allocator> GroupTable<A> {
         let _ = &self.rows;
     }
 
-    // The attributes of the group at the path. Costs one descent.
+    // The attributes of the group at the path. Costs one descent, unless there is a hint.
     pub(crate) fn find<B: Allocator + Clone>(&self, path: &GroupPath<B>) -> Option<&Attr>
         ensures { option_copied result ≡ fin.get self.now path.now }
     {
-        match self.tree.find(path) {
-            Some(found) => Some(&self.rows[usize::from(found.slot)]),
+        match self.find_row(path) {
+            Some(at) => Some(self.row(at)),
             None => None,
         }
     }
 
-    // The row of the group at the path. Costs one descent.
+    // The row of the group at the path. Costs one descent, unless there is a hint.
     pub(crate) fn find_row<B: Allocator + Clone>(&self, path: &GroupPath<B>) -> Option<u16>
         ensures { MatchOption result (fin.get self.now path.now ≡ None) (λ at. IsSome (fin.get self.now path.now) × (at ≡ table_slot self.now path.now)) }
     {
         let _ = &self.rows;
+        if let Some(row) = self.kept.hinted(path) {
+            return Some(row);
+        }
         match self.tree.find(path) {
             Some(found) => Some(found.slot),
             None => None,
@@ -189,7 +195,7 @@ impl<A: Allocator> GroupTable<A> {
     }
 
     // Removes a group that has no groups below it, and returns its attributes, as `GroupTree::remove` does. The row stays,
-    // and says nothing.
+    // says nothing, and keeps no path.
     pub(crate) fn remove<B: Allocator + Clone>(
         &mut self,
         path: &GroupPath<B>,
@@ -200,6 +206,7 @@ impl<A: Allocator> GroupTable<A> {
         match self.tree.remove(path) {
             Ok(removed) => {
                 self.tree.known();
+                self.kept.forget(removed.slot);
                 Ok(self.rows[usize::from(removed.slot)])
             }
             Err(fault) => Err(fault),
@@ -214,8 +221,9 @@ impl<A: Allocator> GroupTable<A> {
         ensures { IfOk result (λ g. g ≡ self.now) }
     {
         let rows = Vec::from_slice(alloc.clone()?, self.rows.as_slice())?;
+        let kept = self.kept.copy(alloc.clone()?)?;
         let tree = self.tree.copy(alloc)?;
-        Ok(GroupTable { tree, rows })
+        Ok(GroupTable { tree, rows, kept })
     }
 }
 
@@ -227,9 +235,10 @@ impl<A: Allocator + Clone> GroupTable<A> {
     {
         let tree = GroupTree::new(alloc.clone()?, root)?;
         tree.known();
-        let mut rows = Vec::new(alloc);
+        let mut rows = Vec::new(alloc.clone()?);
         rows.push(root)?;
-        Ok(GroupTable { tree, rows })
+        let kept = KeptPaths::new(alloc)?;
+        Ok(GroupTable { tree, rows, kept })
     }
 
     // Makes a group that there isn't, under one that there is, on a slot that no group has. Costs one descent.
@@ -249,12 +258,14 @@ impl<A: Allocator + Clone> GroupTable<A> {
         let _ = &self.tree;
         let row = attr.slot + 1;
         lengthen(&mut self.rows, row)?;
+        let copied = self.kept.admit(row, path)?;
         let numbered = Attr { slot: row, ..attr };
         if self.tree.insert(path, numbered).is_err() {
             return Err(AllocError);
         }
         self.tree.known();
         self.rows[usize::from(row)] = attr;
+        self.kept.keep(row, copied);
         Ok(())
     }
 }

@@ -43,7 +43,7 @@ struct Gathered<A: Allocator + Clone> {
 }
 
 // The pids at or below the path, ascending, and the charges of their processes.
-fn gather<M: Meter, T: Allocator, A: Allocator + Clone, B: Allocator + Clone>(
+fn gather<M: Meter, T: Allocator + Clone, A: Allocator + Clone, B: Allocator + Clone>(
     tree: &GroupTable<T>,
     parents: &Parents<T>,
     processes: &ProcessTable<A>,

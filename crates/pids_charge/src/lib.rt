@@ -19,12 +19,15 @@
 //!   `count_fork` only do what was decided. `try_process` is a fork that counts no refusal. They are for a caller that
 //!   allocates something of its own in between.
 //! - `exit`, `set_peaks`, `count_fork`, `uncount`, `rmdir`, `set_limit`, the readers and the calls that only decide allocate
-//!   nothing. `new` allocates the table of free slots and that of parents. Rows are allocated as groups are
-//!   made.
+//!   nothing. `new` allocates the tables of free slots, of parents and of hints. Rows, and the paths that they keep, are
+//!   allocated as groups are made.
 //! - The tree has the names of the groups, and a row for each has its attributes. A process knows the row of its group. A walk
 //!   up goes from the row of a group to that of its parent, so a fork, a refused fork and an exit cost O(depth) steps and
-//!   compare no names. Who is given a path descends the tree once, as a move does, by O(depth · log children) comparisons. A
-//!   process is found in constant time. A path has at most 32 names.
+//!   compare no names. A process is found in constant time. A path has at most 32 names.
+//! - Who is given a path, as a move is, finds its row by a hint: 2,048 hints are rows, by a hash of a path's text, and a row
+//!   keeps the path of its group. If the hint's row keeps another path, or none, one descent of the tree finds the row by
+//!   O(depth · log children) comparisons. So groups whose hashes collide cost a descent each, and no more. Paths of up to 23
+//!   bytes are kept in their rows, longer ones in an allocation.
 //! - The processes of a group share the text of a long path. A child takes it from its parent; a process that is moved, put
 //!   back or copied takes it from one that is in the group, if there is one, and else gets a copy.
 //! - `kill_by` and `place_all_by` are `kill` and `place_all` by a `Settler`: `Alone` settles on the calling thread and needs
@@ -37,7 +40,7 @@
 //!
 //! Not promised: which slot a group gets, and in which stripe of a meter an amount is stored.
 //!
-//! `specs/Recount.antt` says how meter, tree and table agree, `specs/GroupRows.antt` how tree and rows do. `specs/Answers.antt` says what a call that is a command
+//! `specs/Recount.antt` says how meter, tree and table agree, `specs/GroupRows.antt` how tree, rows and kept paths do. `specs/Answers.antt` says what a call that is a command
 //! returns and leaves. `specs/Events.antt` defines what a limit refuses and what is counted, `specs/Peaks.antt` to what
 //! peaks rise, and `specs/Parts.antt` what a settlement leaves in so many parts.
 #![tactic(auto)]
@@ -51,6 +54,7 @@ mod fault;
 mod fork;
 mod gate;
 mod groups;
+mod hints;
 mod kill;
 mod limit;
 mod lost;

@@ -89,7 +89,7 @@ fn is_full<M: Meter>(meter: &mut M, attr: &Attr) -> bool
 
 // The nearest group, from the path's upward, whose `pids.max` one more process would exceed, as its number of names. `slot`
 // is where the processes of the path's group are in their table. Does not descend the tree.
-pub(crate) fn nearest_full<T: Allocator, M: Meter, A: Allocator + Clone>(
+pub(crate) fn nearest_full<T: Allocator + Clone, M: Meter, A: Allocator + Clone>(
     tree: &GroupTable<T>,
     parents: &Parents<T>,
     meter: &mut M,
@@ -121,7 +121,7 @@ pub(crate) fn nearest_full<T: Allocator, M: Meter, A: Allocator + Clone>(
 }
 
 // Notes the group of a path and those above it, without the root. Does not descend the tree.
-pub(crate) fn note_up<M: Meter, T: Allocator, A: Allocator + Clone>(
+pub(crate) fn note_up<M: Meter, T: Allocator + Clone, A: Allocator + Clone>(
     tree: &GroupTable<T>,
     parents: &Parents<T>,
     path: &GroupPath<A>,

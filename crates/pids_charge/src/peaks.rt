@@ -177,7 +177,7 @@ fn reach<M: Meter>(meter: &mut M, slots: &[u16], peaks: &[u64], reached: &mut [u
 }
 
 // Sets the peaks of the groups from the path's own upward, unless they are these already. `peaks` has those that they are.
-fn raise_along<M: Meter, T: Allocator, A: Allocator + Clone>(
+fn raise_along<M: Meter, T: Allocator + Clone, A: Allocator + Clone>(
     tree: &mut GroupTable<T>,
     parents: &Parents<T>,
     path: &GroupPath<A>,
@@ -204,7 +204,7 @@ fn raise_along<M: Meter, T: Allocator, A: Allocator + Clone>(
 
 // Adds one charge at each group along the path, by their slots, and raises peaks that are lower than their counts. Does not
 // descend the tree.
-pub(crate) fn charge_noted<T: Allocator, M: Meter, A: Allocator + Clone>(
+pub(crate) fn charge_noted<T: Allocator + Clone, M: Meter, A: Allocator + Clone>(
     tree: &mut GroupTable<T>,
     parents: &Parents<T>,
     meter: &mut M,
@@ -237,7 +237,7 @@ pub(crate) fn charge_noted<T: Allocator, M: Meter, A: Allocator + Clone>(
 }
 
 // Charges and raises as `charge_noted` does, and notes the old peaks.
-pub(crate) fn charge_and_raise<T: Allocator, M: Meter, A: Allocator + Clone>(
+pub(crate) fn charge_and_raise<T: Allocator + Clone, M: Meter, A: Allocator + Clone>(
     tree: &mut GroupTable<T>,
     parents: &Parents<T>,
     meter: &mut M,
@@ -265,7 +265,7 @@ pub(crate) fn charge_and_raise<T: Allocator, M: Meter, A: Allocator + Clone>(
 }
 
 // How many first names of the path are a group, at most all of them, and where its processes are in their table.
-fn find_longest<T: Allocator, A: Allocator + Clone>(
+fn find_longest<T: Allocator + Clone, A: Allocator + Clone>(
     tree: &GroupTable<T>,
     path: &GroupPath<A>,
 ) -> (usize, u16)
@@ -286,7 +286,7 @@ fn find_longest<T: Allocator, A: Allocator + Clone>(
 }
 
 // Sets the peaks of the groups from the path's own upward. A missing group is skipped.
-fn set_along<M: Meter, T: Allocator, A: Allocator + Clone>(
+fn set_along<M: Meter, T: Allocator + Clone, A: Allocator + Clone>(
     tree: &mut GroupTable<T>,
     parents: &Parents<T>,
     path: &GroupPath<A>,

@@ -30,7 +30,7 @@ use std::sync::Wait;
 use std::thread::Threads;
 
 // A token for each charge of the listed processes.
-fn tokens_of<M: Meter, T: Allocator, A: Allocator + Clone, B: Allocator + Clone>(
+fn tokens_of<M: Meter, T: Allocator + Clone, A: Allocator + Clone, B: Allocator + Clone>(
     tree: &GroupTable<T>,
     parents: &Parents<T>,
     alloc: A,
@@ -53,7 +53,7 @@ fn tokens_of<M: Meter, T: Allocator, A: Allocator + Clone, B: Allocator + Clone>
 }
 
 // Inserts one listed process with a copy of its path.
-fn place_one<M: Meter, T: Allocator, A: Allocator + Clone, B: Allocator + Clone>(
+fn place_one<M: Meter, T: Allocator + Clone, A: Allocator + Clone, B: Allocator + Clone>(
     tree: &GroupTable<T>,
     processes: &mut ProcessTable<A>,
     alloc: &A,
@@ -72,7 +72,7 @@ fn place_one<M: Meter, T: Allocator, A: Allocator + Clone, B: Allocator + Clone>
 }
 
 // Inserts as many of the list's last processes as memory allows. Returns the index of the first of them.
-fn place_last<M: Meter, T: Allocator, A: Allocator + Clone, B: Allocator + Clone>(
+fn place_last<M: Meter, T: Allocator + Clone, A: Allocator + Clone, B: Allocator + Clone>(
     tree: &GroupTable<T>,
     processes: &mut ProcessTable<A>,
     alloc: &A,
@@ -110,7 +110,7 @@ fn take_out<A: Allocator + Clone, B: Allocator + Clone>(
 }
 
 // Inserts all of them, or none.
-fn place_each<M: Meter, T: Allocator, A: Allocator + Clone, B: Allocator + Clone>(
+fn place_each<M: Meter, T: Allocator + Clone, A: Allocator + Clone, B: Allocator + Clone>(
     tree: &GroupTable<T>,
     processes: &mut ProcessTable<A>,
     alloc: &A,

@@ -13,7 +13,7 @@ use std::alloc::Allocator;
 
 // The table's slot of a group: 0 for the root, and for any other group one more than its slot in the meter. None if there
 // is no such group. Costs one descent of the tree.
-pub(crate) fn find_slot<M: Meter, T: Allocator, A: Allocator + Clone>(
+pub(crate) fn find_slot<M: Meter, T: Allocator + Clone, A: Allocator + Clone>(
     tree: &GroupTable<T>,
     path: &GroupPath<A>,
 ) -> Option<u16>
@@ -24,7 +24,7 @@ pub(crate) fn find_slot<M: Meter, T: Allocator, A: Allocator + Clone>(
 }
 
 // The slot of a group that exists.
-pub(crate) fn slot_in<M: Meter, T: Allocator, A: Allocator + Clone>(
+pub(crate) fn slot_in<M: Meter, T: Allocator + Clone, A: Allocator + Clone>(
     tree: &GroupTable<T>,
     path: &GroupPath<A>,
 ) -> u16
@@ -39,7 +39,7 @@ pub(crate) fn slot_in<M: Meter, T: Allocator, A: Allocator + Clone>(
 }
 
 // The slot of a group's parent, which exists. Costs one descent of the tree, none for a child of the root.
-pub(crate) fn slot_above<M: Meter, T: Allocator, A: Allocator + Clone>(
+pub(crate) fn slot_above<M: Meter, T: Allocator + Clone, A: Allocator + Clone>(
     tree: &GroupTable<T>,
     path: &GroupPath<A>,
 ) -> u16

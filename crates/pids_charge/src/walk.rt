@@ -18,7 +18,7 @@ use std::alloc::{AllocError, Allocator};
 
 // Adds one charge at the group of a path and at each group above it other than the root. `slot` is where the processes of the
 // group are in their table. Does not descend the tree.
-pub(crate) fn charge_up<T: Allocator, M: Meter, A: Allocator + Clone>(
+pub(crate) fn charge_up<T: Allocator + Clone, M: Meter, A: Allocator + Clone>(
     tree: &GroupTable<T>,
     parents: &Parents<T>,
     meter: &mut M,
@@ -49,7 +49,7 @@ pub(crate) fn charge_up<T: Allocator, M: Meter, A: Allocator + Clone>(
 }
 
 // Removes the charges of a process, from its own group upward. Does not descend the tree.
-pub(crate) fn uncharge_up<T: Allocator, M: Meter, A: Allocator + Clone>(
+pub(crate) fn uncharge_up<T: Allocator + Clone, M: Meter, A: Allocator + Clone>(
     tree: &GroupTable<T>,
     parents: &Parents<T>,
     meter: &mut M,
@@ -78,7 +78,7 @@ pub(crate) fn uncharge_up<T: Allocator, M: Meter, A: Allocator + Clone>(
 }
 
 // Appends a token for the group of a path and for each group above it other than the root. Does not descend the tree.
-fn push_up<M: Meter, T: Allocator, A: Allocator + Clone, B: Allocator>(
+fn push_up<M: Meter, T: Allocator + Clone, A: Allocator + Clone, B: Allocator>(
     tree: &GroupTable<T>,
     parents: &Parents<T>,
     path: &GroupPath<A>,
@@ -111,7 +111,7 @@ fn push_up<M: Meter, T: Allocator, A: Allocator + Clone, B: Allocator>(
 }
 
 // The same for a path alone. Descends the tree once.
-pub(crate) fn push_tokens<M: Meter, T: Allocator, A: Allocator + Clone, B: Allocator>(
+pub(crate) fn push_tokens<M: Meter, T: Allocator + Clone, A: Allocator + Clone, B: Allocator>(
     tree: &GroupTable<T>,
     parents: &Parents<T>,
     path: &GroupPath<A>,
@@ -132,7 +132,7 @@ pub(crate) fn push_tokens<M: Meter, T: Allocator, A: Allocator + Clone, B: Alloc
 }
 
 // Appends a token for each charge of a process, from its own group upward. Does not descend the tree.
-pub(crate) fn push_charges<M: Meter, T: Allocator, A: Allocator + Clone, B: Allocator>(
+pub(crate) fn push_charges<M: Meter, T: Allocator + Clone, A: Allocator + Clone, B: Allocator>(
     tree: &GroupTable<T>,
     parents: &Parents<T>,
     process: &Process<A>,

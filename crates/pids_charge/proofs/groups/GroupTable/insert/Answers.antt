@@ -1,45 +1,69 @@
-use Rattle.std.proofs.Common.{◌<◌, ℕ, ◌+◌, length, sym, ap, ◌∙◌, subst, refl}
+use Rattle.std.proofs.Common.{◌<◌, Some, ℕ, ◌+◌, length, sym, ap, ◌∙◌, subst, refl}
 use Rattle.std.proofs.Math.ListN.{set}
 use Rattle.group_tree.specs.Groups.{Groups}
 use Rattle.group_tree.specs.declared.attr.Attr.{Attr}
-use Rattle.pids_charge.specs.GroupRows.{HasRows, with_rows}
+use Rattle.flat_model.specs.Path.{Path}
+use Rattle.pids_charge.specs.GroupRows.{HasRows, KeepsPaths, with_rows}
 use Rattle.pids_charge.proofs.Asked.{inserted}
 use Rattle.pids_charge.proofs.InRows.{in_any_case, long_is, long_rows, made_is, made_rows}
+use Rattle.pids_charge.proofs.Kept.{kept_alike, kept_made}
 use Rattle.pids_charge.proofs.RowsRead.{not_inserted}
 use Rattle.pids_charge.proofs.groups.GroupTable.insert.Goals as goal
 
 pub invariant_of-self : goal.invariant_of-self
-invariant_of-self g c =
-    long_rows c.self.inside.tree c.self.inside.rows.items c.self.invariant c.args.self.now c.self.view_is c.lengthen.new.rows.items c.lengthen.ensures.no_fewer c.lengthen.ensures.kept
+invariant_of-self g c = record {
+  has_rows = long_rows c.self.inside.tree c.self.inside.rows.items c.self.invariant.has_rows c.args.self.now c.self.view_is c.lengthen.new.rows.items c.lengthen.ensures.no_fewer c.lengthen.ensures.kept;
+  keeps_paths = c.self.invariant.keeps_paths;
+}
 
 pub returns-in_err-lengthen-clause-kept : goal.returns-in_err-lengthen-clause-kept
 returns-in_err-lengthen-clause-kept g c =
-    in_any_case c.from_residual.result (long_is c.self.inside.tree c.self.inside.rows.items c.self.invariant c.args.self.now c.self.view_is
+    in_any_case c.from_residual.result (long_is c.self.inside.tree c.self.inside.rows.items c.self.invariant.has_rows c.args.self.now c.self.view_is
+    c.lengthen.new.rows.items c.lengthen.ensures.no_fewer c.lengthen.ensures.kept)
+
+pub invariant_of-self-in_err-copied : goal.invariant_of-self-in_err-copied
+invariant_of-self-in_err-copied g c = record {
+  has_rows = long_rows c.self.inside.tree c.self.inside.rows.items c.self.invariant.has_rows c.args.self.now c.self.view_is c.lengthen.new.rows.items c.lengthen.ensures.no_fewer c.lengthen.ensures.kept;
+  keeps_paths = kept_alike c.self.inside.tree c.self.inside.kept c.admit.new.self c.admit.ensures.same c.self.invariant.keeps_paths;
+}
+
+pub returns-in_err-copied-clause-kept : goal.returns-in_err-copied-clause-kept
+returns-in_err-copied-clause-kept g c =
+    in_any_case c.from_residual-in_err-copied.result (long_is c.self.inside.tree c.self.inside.rows.items c.self.invariant.has_rows c.args.self.now c.self.view_is
     c.lengthen.new.rows.items c.lengthen.ensures.no_fewer c.lengthen.ensures.kept)
 
 pub invariant_of-self-then-is_err : goal.invariant_of-self-then-is_err
 invariant_of-self-then-is_err g c =
     let x : Attr = record { limits = c.args.attr.limits; local = c.args.attr.local; total = c.args.attr.total; peak = c.args.attr.peak; slot = c.args.attr.slot + 1 } in
     let gone = not_inserted c.self.inside.tree c.insert.new.self c.args.path.now x c.insert.result (sym c.is_err.ensures.value ∙ c.if-is_err.true) c.insert.ensures in
-    subst (λ (t : Groups). HasRows t c.lengthen.new.rows.items) (sym gone)
-    (long_rows c.self.inside.tree c.self.inside.rows.items c.self.invariant c.args.self.now c.self.view_is c.lengthen.new.rows.items c.lengthen.ensures.no_fewer c.lengthen.ensures.kept)
+    record {
+      has_rows = subst (λ (t : Groups). HasRows t c.lengthen.new.rows.items) (sym gone)
+          (long_rows c.self.inside.tree c.self.inside.rows.items c.self.invariant.has_rows c.args.self.now c.self.view_is c.lengthen.new.rows.items c.lengthen.ensures.no_fewer c.lengthen.ensures.kept);
+      keeps_paths = subst (λ (t : Groups). KeepsPaths t c.admit.new.self) (sym gone)
+          (kept_alike c.self.inside.tree c.self.inside.kept c.admit.new.self c.admit.ensures.same c.self.invariant.keeps_paths);
+    }
 
 pub returns-then-is_err-clause-kept : goal.returns-then-is_err-clause-kept
 returns-then-is_err-clause-kept g c =
     let x : Attr = record { limits = c.args.attr.limits; local = c.args.attr.local; total = c.args.attr.total; peak = c.args.attr.peak; slot = c.args.attr.slot + 1 } in
     let gone = not_inserted c.self.inside.tree c.insert.new.self c.args.path.now x c.insert.result (sym c.is_err.ensures.value ∙ c.if-is_err.true) c.insert.ensures in
     ap (λ (t : Groups). with_rows t c.lengthen.new.rows.items) gone
-    ∙ long_is c.self.inside.tree c.self.inside.rows.items c.self.invariant c.args.self.now c.self.view_is c.lengthen.new.rows.items c.lengthen.ensures.no_fewer c.lengthen.ensures.kept
+    ∙ long_is c.self.inside.tree c.self.inside.rows.items c.self.invariant.has_rows c.args.self.now c.self.view_is c.lengthen.new.rows.items c.lengthen.ensures.no_fewer c.lengthen.ensures.kept
 
 pub invariant_of-self-2 : goal.invariant_of-self-2
 invariant_of-self-2 g c =
     let x : Attr = record { limits = c.args.attr.limits; local = c.args.attr.local; total = c.args.attr.total; peak = c.args.attr.peak; slot = c.args.attr.slot + 1 } in
     let done = inserted c.self.inside.tree c.insert.new.self c.args.path.now x c.insert.result c.insert.ensures (sym c.is_err.ensures.value ∙ c.if-is_err.false) in
     let listed : c.args.attr.slot + 1 < length c.lengthen.new.rows.items = c.in_ok-lengthen.ensures.long in
-    subst (λ (k : ℕ). HasRows c.insert.new.self (set c.lengthen.new.rows.items k c.args.attr)) (sym c.from.ensures)
-    (made_rows c.self.inside.tree c.self.inside.rows.items c.self.invariant c.args.self.now c.self.view_is
-    c.lengthen.new.rows.items c.lengthen.ensures.no_fewer c.lengthen.ensures.kept
-    c.args.path.now x c.args.attr c.requires.below_root refl refl listed c.requires.free c.insert.new.self done.1 c.known.ensures.closed)
+    record {
+      has_rows = subst (λ (k : ℕ). HasRows c.insert.new.self (set c.lengthen.new.rows.items k c.args.attr)) (sym c.from.ensures)
+          (made_rows c.self.inside.tree c.self.inside.rows.items c.self.invariant.has_rows c.args.self.now c.self.view_is
+          c.lengthen.new.rows.items c.lengthen.ensures.no_fewer c.lengthen.ensures.kept
+          c.args.path.now x c.args.attr c.requires.below_root refl refl listed c.requires.free c.insert.new.self done.1 c.known.ensures.closed);
+      keeps_paths = subst (KeepsPaths c.insert.new.self) (sym (c.keep.ensures ∙ ap (λ (p : Path). set c.admit.new.self (c.args.attr.slot + 1) (Some p)) c.in_ok-copied.ensures.copied))
+          (kept_made c.self.inside.tree c.self.inside.kept c.self.invariant.keeps_paths c.args.path.now x done.0 c.insert.new.self done.1
+          c.admit.new.self c.admit.ensures.same c.in_ok-copied.ensures.long);
+    }
 
 pub returns-clause-made : goal.returns-clause-made
 returns-clause-made g c =
@@ -47,6 +71,6 @@ returns-clause-made g c =
     let done = inserted c.self.inside.tree c.insert.new.self c.args.path.now x c.insert.result c.insert.ensures (sym c.is_err.ensures.value ∙ c.if-is_err.false) in
     let listed : c.args.attr.slot + 1 < length c.lengthen.new.rows.items = c.in_ok-lengthen.ensures.long in
     ap (λ (k : ℕ). with_rows c.insert.new.self (set c.lengthen.new.rows.items k c.args.attr)) c.from.ensures
-    ∙ made_is c.self.inside.tree c.self.inside.rows.items c.self.invariant c.args.self.now c.self.view_is
+    ∙ made_is c.self.inside.tree c.self.inside.rows.items c.self.invariant.has_rows c.args.self.now c.self.view_is
     c.lengthen.new.rows.items c.lengthen.ensures.no_fewer c.lengthen.ensures.kept
     c.args.path.now x c.args.attr c.requires.below_root refl refl listed c.requires.free c.insert.new.self done.1

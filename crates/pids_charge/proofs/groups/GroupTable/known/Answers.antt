@@ -6,11 +6,11 @@ use Rattle.pids_charge.proofs.InRows.{closed_rows}
 use Rattle.pids_charge.proofs.groups.GroupTable.known.Goals as goal
 
 pub returns-clause-closed : goal.returns-clause-closed
-returns-clause-closed g c = subst (λ (m : Groups). IsClosed m) c.self.view_is (closed_rows c.self.inside.tree c.self.inside.rows.items c.self.invariant.closed)
+returns-clause-closed g c = subst (λ (m : Groups). IsClosed m) c.self.view_is (closed_rows c.self.inside.tree c.self.inside.rows.items c.self.invariant.has_rows.closed)
 
 pub returns-clause-prefixes : goal.returns-clause-prefixes
 returns-clause-prefixes g c = λ p q.
-    prefix_there c.args.self.now (subst (λ (m : Groups). IsClosed m) c.self.view_is (closed_rows c.self.inside.tree c.self.inside.rows.items c.self.invariant.closed)) p q
+    prefix_there c.args.self.now (subst (λ (m : Groups). IsClosed m) c.self.view_is (closed_rows c.self.inside.tree c.self.inside.rows.items c.self.invariant.has_rows.closed)) p q
 
 pub returns-clause-flat : goal.returns-clause-flat
 returns-clause-flat g c = counts_as_flat c.args.self.now
