@@ -26,7 +26,7 @@
 //!   compare no names. A process is found in constant time. A path has at most 32 names.
 //! - Who is given a path, as a move is, finds its row by a hint: 2,048 hints are rows, by a hash of a path's text, and a row
 //!   keeps the path of its group. If the hint's row keeps another path, or none, one descent of the tree finds the row by
-//!   O(depth · log children) comparisons. So groups whose hashes collide cost a descent each, and no more. Paths of up to 23
+//!   O(depth · log children) comparisons. So groups whose hashes collide cost a descent each, and no more. Paths of up to 22
 //!   bytes are kept in their rows, longer ones in an allocation.
 //! - The processes of a group share the text of a long path. A child takes it from its parent; a process that is moved, put
 //!   back or copied takes it from one that is in the group, if there is one, and else gets a copy.
