@@ -5,6 +5,7 @@ ghost use Rattle.std.specs.FinMap as fin;
 ghost use Rattle.flat_model.specs.Command.{Exit};
 ghost use Rattle.flat_model.specs.Step.{home_of, refusal};
 ghost use Rattle.flat_model.specs.Inverse.{back, Exited};
+ghost use Rattle.flat_model.specs.Path.{Path};
 ghost use Rattle.pids_charge.specs.Answers.{Does, refusal_of_fault, after_fault, names_in};
 
 use crate::charges::Charges;
@@ -18,12 +19,13 @@ use group_path::GroupPath;
 use std::alloc::Allocator;
 
 impl<A: Allocator + Clone, M: Meter> Charges<A, M> {
-    /// The refusal that `exit` would return. It is also that of a read of the process's group. Takes constant time.
+    /// The refusal that `exit` would return. It names no group. It is also that of a read of the process's group. Takes
+    /// constant time.
     pub fn refuses_exit(&self, pid: Pid) -> Option<ChargeFault>
-        ensures first { MatchOption result (refusal M.SLOTS self.now (Exit pid) ≡ None) (λ f. refusal M.SLOTS self.now (Exit pid) ≡ refusal_of_fault [] f) }
+        ensures first { MatchOption result (refusal M.SLOTS self.now (Exit pid) ≡ None) (λ f. (p : Path) → refusal M.SLOTS self.now (Exit pid) ≡ refusal_of_fault p f) }
         ensures inside { IfSome result (λ f. names_in f ≡ 0) }
         ensures no_memory { IfSome result (λ f. f ≢ ChargeFault.OutOfMemory) }
-        ensures kept { IfSome result (λ f. after_fault self.now (refusal_of_fault [] f) ≡ self.now) }
+        ensures kept { IfSome result (λ f. (p : Path) → after_fault self.now (refusal_of_fault p f) ≡ self.now) }
     {
         if !has_row(&self.processes, pid) {
             return Some(ChargeFault::NoProcess(pid));

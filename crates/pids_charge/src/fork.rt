@@ -159,6 +159,7 @@ impl<A: Allocator + Clone, M: Meter> Charges<A, M> {
     pub fn refuses_pids(&self, parent: Pid, child: Pid) -> Option<ChargeFault>
         ensures first { MatchOption result ((has_process self.now parent ≡ true) × (has_process self.now child ≡ false)) (λ f. (p : Path) → refusal M.SLOTS self.now (Fork parent child) ≡ refusal_of_fault p f) }
         ensures inside { IfSome result (λ f. names_in f ≡ 0) }
+        ensures no_limit { IfSome result (λ f. (n : ℕ) → f ≢ ChargeFault.PidsMax n) }
         ensures no_memory { IfSome result (λ f. f ≢ ChargeFault.OutOfMemory) }
         ensures kept { IfSome result (λ f. (p : Path) → after_fault self.now (refusal_of_fault p f) ≡ self.now) }
     {

@@ -4,7 +4,7 @@ use Rattle.pids_charge.proofs.Exited.{exit_no_process, exit_allowed}
 use Rattle.pids_charge.proofs.charges.Charges.refuses_exit.Goals as goal
 
 pub returns-then-not-has_row-clause-first : goal.returns-then-not-has_row-clause-first
-returns-then-not-has_row-clause-first g c =
+returns-then-not-has_row-clause-first g c = λ p.
     exit_no_process g.M.Meter.SLOTS c.args.self.now c.args.pid
     (process-is c.args.self.now c.self.inside.tree c.self.inside.processes c.self.view_is c.self.invariant.recounted.ordered c.args.pid ∙ sym c.has_row.ensures ∙ c.if-not-has_row.true)
 
