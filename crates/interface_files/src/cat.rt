@@ -1,24 +1,99 @@
 //! Reading a file of a group.
 
-ghost use Rattle.std.specs.Prelude.{◌≡◌, ◌&&◌, not};
+ghost use Rattle.std.specs.Prelude.{◌≡◌, true, None, IfOk, IfSome, IsSome, MatchOption, is_none, is_some};
+ghost use Rattle.flat_model.specs.Command.{Show};
 ghost use Rattle.flat_model.specs.Counts.{is_group};
-ghost use Rattle.flat_model.specs.File.{on_root, readable};
-ghost use Rattle.flat_model.specs.Path.{is_root};
+ghost use Rattle.flat_model.specs.FileText.{file_text};
+ghost use Rattle.flat_model.specs.File as model_file;
+ghost use Rattle.flat_model.specs.Step.{refusal};
 ghost use Rattle.interface_files.specs.FileMeaning.{file_of};
-ghost use Rattle.interface_files.specs.Shown.{Shows};
+ghost use Rattle.interface_files.specs.Shown.{Shows, refusal_of_show};
 
-use crate::fault::ShowFault::{self, NoGroup};
+use crate::fault::ShowFault;
 use crate::file::File;
 use crate::texts::{events_line, limit_line, number_line, pids_text, populated_text, stat_text};
 use group_path::GroupPath;
 use pids_charge::{Charges, Meter};
-use std::alloc::Allocator;
+use std::alloc::{AllocError, Allocator};
+
+/// The refusal that `render` would return, apart from memory. Costs one descent of the tree.
+pub fn refuses_show<A: Allocator + Clone, M: Meter, P: Allocator + Clone>(
+    charges: &Charges<A, M>,
+    path: &GroupPath<P>,
+    file: File,
+) -> Option<ShowFault>
+    ensures first { MatchOption result (refusal M.SLOTS charges.now (Show path.now (file_of file)) ≡ None) (λ f. refusal M.SLOTS charges.now (Show path.now (file_of file)) ≡ refusal_of_show path.now f) }
+    ensures refused { IfSome result (λ f. IsSome (refusal_of_show path.now f)) }
+{
+    if !file.readable() {
+        return Some(ShowFault::NotReadable);
+    }
+    if charges.attr(path).is_none() {
+        return Some(ShowFault::NoGroup);
+    }
+    if file.on_root() {
+        return None;
+    }
+    if path.depth() == 0 {
+        return Some(ShowFault::NoFile);
+    }
+    None
+}
+
+// `cgroup.procs` of a group that exists.
+fn procs_text<A: Allocator + Clone, M: Meter, B: Allocator + Clone, P: Allocator + Clone>(
+    alloc: B,
+    charges: &Charges<A, M>,
+    path: &GroupPath<P>,
+) -> Result<Vec<u8, B>, AllocError>
+    requires { is_group charges.now path.now ≡ true }
+    ensures { IfOk result (λ text. text.items ≡ file_text charges.now path.now model_file.Procs) }
+{
+    let Some(pids) = charges.members(alloc.clone()?, path)? else {
+        unreachable!()
+    };
+    pids_text(alloc, pids.as_slice())
+}
+
+// The text of a file, unless it is refused. One descent of the tree, two for `cgroup.procs`.
+fn text_of<A: Allocator + Clone, M: Meter, B: Allocator + Clone, P: Allocator + Clone>(
+    alloc: B,
+    charges: &mut Charges<A, M>,
+    path: &GroupPath<P>,
+    file: File,
+) -> Option<Result<Vec<u8, B>, AllocError>>
+    ensures refused { is_none result ≡ is_some (refusal M.SLOTS charges.old (Show path.now (file_of file))) }
+    ensures shown { IfSome result (λ r. IfOk r (λ text. text.items ≡ file_text charges.old path.now (file_of file))) }
+    ensures kept { charges.new ≡ charges.old }
+{
+    if path.depth() == 0 {
+        if !file.on_root() {
+            return None;
+        }
+    }
+    match file {
+        File::KillFile => None,
+        File::Procs => {
+            charges.attr(path)?;
+            Some(procs_text(alloc, charges, path))
+        }
+        File::Events => Some(populated_text(alloc, charges.populated(path)?)),
+        File::Stat => Some(stat_text(alloc, charges.descendants(path)?)),
+        File::MaxDescendants => Some(limit_line(alloc, charges.attr(path)?.limits.descendants)),
+        File::MaxDepth => Some(limit_line(alloc, charges.attr(path)?.limits.depth)),
+        File::PidsMax => Some(limit_line(alloc, charges.attr(path)?.limits.pids)),
+        File::PidsCurrent => Some(number_line(alloc, charges.current(path)?)),
+        File::PidsPeak => Some(number_line(alloc, charges.attr(path)?.peak)),
+        File::PidsEvents => Some(events_line(alloc, charges.attr(path)?.total)),
+        File::PidsEventsLocal => Some(events_line(alloc, charges.attr(path)?.local)),
+    }
+}
 
 /// The text of a file of the group at the path. It changes nothing; it borrows the charges mutably because reading a meter
 /// requires it.
 ///
-/// `cgroup.procs` costs O(n log n) for n processes of the group. Every other file, and every refusal, costs one descent of
-/// the tree, however many groups and processes there are.
+/// `cgroup.procs` costs O(n log n) for n processes of the group. Every other file costs one descent of the tree, and every
+/// refusal at most two, however many groups and processes there are.
 ///
 /// # Errors
 ///
@@ -33,41 +108,12 @@ pub fn render<A: Allocator + Clone, M: Meter, B: Allocator + Clone, P: Allocator
     ensures shown { Shows M.SLOTS charges.old path.now (file_of file) result }
     ensures kept { charges.new ≡ charges.old }
 {
-    if is_missing(charges, path, file) {
-        return Err(ShowFault::NoFile);
+    match text_of(alloc, charges, path, file) {
+        Some(Ok(text)) => Ok(text),
+        Some(Err(_)) => Err(ShowFault::OutOfMemory),
+        None => match refuses_show(charges, path, file) {
+            Some(fault) => Err(fault),
+            None => unreachable!(),
+        },
     }
-    match file {
-        File::KillFile => Err(ShowFault::NotReadable),
-        File::Procs => {
-            charges.attr(path).ok_or(NoGroup)?;
-            let pids = charges.members(alloc.clone()?, path)?.ok_or(NoGroup)?;
-            Ok(pids_text(alloc, pids.as_slice())?)
-        }
-        File::Events => Ok(populated_text(alloc, charges.populated(path).ok_or(NoGroup)?)?),
-        File::Stat => Ok(stat_text(alloc, charges.descendants(path).ok_or(NoGroup)?)?),
-        File::MaxDescendants => {
-            let attr = charges.attr(path).ok_or(NoGroup)?;
-            Ok(limit_line(alloc, attr.limits.descendants)?)
-        }
-        File::MaxDepth => Ok(limit_line(alloc, charges.attr(path).ok_or(NoGroup)?.limits.depth)?),
-        File::PidsMax => Ok(limit_line(alloc, charges.attr(path).ok_or(NoGroup)?.limits.pids)?),
-        File::PidsCurrent => Ok(number_line(alloc, charges.current(path).ok_or(NoGroup)?)?),
-        File::PidsPeak => Ok(number_line(alloc, charges.attr(path).ok_or(NoGroup)?.peak)?),
-        File::PidsEvents => Ok(events_line(alloc, charges.attr(path).ok_or(NoGroup)?.total)?),
-        File::PidsEventsLocal => Ok(events_line(alloc, charges.attr(path).ok_or(NoGroup)?.local)?),
-    }
-}
-
-// Whether the file could be read, and the group exists, but is the root and lacks the file.
-fn is_missing<A: Allocator + Clone, M: Meter, P: Allocator + Clone>(
-    charges: &Charges<A, M>,
-    path: &GroupPath<P>,
-    file: File,
-) -> bool
-    ensures { result ≡ (readable (file_of file) && not (on_root (file_of file)) && (is_root path.now && is_group charges.now path.now)) }
-{
-    if !file.readable() || file.on_root() {
-        return false;
-    }
-    path.depth() == 0 && charges.attr(path).is_some()
 }

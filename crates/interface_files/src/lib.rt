@@ -9,7 +9,7 @@
 //!   is out of range however many digits it has.
 //! - `render` returns the text of a file, and `render_home` that of `/proc/PID/cgroup`. Every line ends with one line feed.
 //!   Neither changes anything. Refusals come first, in a fixed order. Out of memory comes last, and only if an allocation
-//!   failed.
+//!   failed. `refuses_show` only decides whether a file is refused, and allocates nothing.
 //! - A number or a flag costs one descent of the tree, however many groups and processes there are. A home costs one
 //!   look-up. `cgroup.procs` costs O(n log n) for n processes of the group. A text is built once, in one buffer.
 //! - The names and the readers of values allocate nothing.
@@ -31,7 +31,7 @@ mod number;
 mod texts;
 mod value;
 
-pub use cat::render;
+pub use cat::{refuses_show, render};
 pub use fault::{ShowFault, ValueFault};
 pub use file::{File, Written};
 pub use home::render_home;

@@ -1,23 +1,38 @@
 //! The exit of a process, and its undo.
 
-ghost use Rattle.std.specs.Prelude.{◌≡◌, [], None, IsSome, IsOk, IfOk, IfErr, OnErr, OnOk};
+ghost use Rattle.std.specs.Prelude.{◌≡◌, ◌≢◌, [], None, IsSome, IsOk, IfSome, IfOk, IfErr, OnErr, OnOk, MatchOption};
 ghost use Rattle.std.specs.FinMap as fin;
 ghost use Rattle.flat_model.specs.Command.{Exit};
 ghost use Rattle.flat_model.specs.Step.{home_of, refusal};
 ghost use Rattle.flat_model.specs.Inverse.{back, Exited};
-ghost use Rattle.pids_charge.specs.Answers.{Does};
+ghost use Rattle.flat_model.specs.Path.{Path};
+ghost use Rattle.pids_charge.specs.Answers.{Does, refusal_of_fault, after_fault, names_in};
 
 use crate::charges::Charges;
 use crate::fault::ChargeFault;
 use crate::meter::Meter;
 use crate::pid::Pid;
-use crate::rows::{put_copy, take_row};
+use crate::rows::{has_row, put_copy, take_row};
 use crate::slot::slot_in;
 use crate::walk::{charge_up, uncharge_up};
 use group_path::GroupPath;
 use std::alloc::Allocator;
 
 impl<A: Allocator + Clone, M: Meter> Charges<A, M> {
+    /// The refusal that `exit` would return. It names no group. It is also that of a read of the process's group. Takes
+    /// constant time.
+    pub fn refuses_exit(&self, pid: Pid) -> Option<ChargeFault>
+        ensures first { MatchOption result (refusal M.SLOTS self.now (Exit pid) ≡ None) (λ f. (p : Path) → refusal M.SLOTS self.now (Exit pid) ≡ refusal_of_fault p f) }
+        ensures inside { IfSome result (λ f. names_in f ≡ 0) }
+        ensures no_memory { IfSome result (λ f. f ≢ ChargeFault.OutOfMemory) }
+        ensures kept { IfSome result (λ f. (p : Path) → after_fault self.now (refusal_of_fault p f) ≡ self.now) }
+    {
+        if !has_row(&self.processes, pid) {
+            return Some(ChargeFault::NoProcess(pid));
+        }
+        None
+    }
+
     /// Removes a process and returns its group, by the path that the table had. Allocates nothing, and does not descend the
     /// tree.
     ///

@@ -1,6 +1,6 @@
 //! Forks: making a process, counting a fork that a limit refuses, and undoing that count.
 
-ghost use Rattle.std.specs.Prelude.{◌≡◌, ◌≢◌, ℕ, ◌<◌, ◌≤◌, true, false, Some, None, Err, IfSome, IfOk, IfErr, OnOk, OnErr, IsSome, MatchOption, length, take};
+ghost use Rattle.std.specs.Prelude.{◌≡◌, ◌≢◌, ℕ, ◌<◌, ◌≤◌, true, false, Some, None, Err, IfSome, IfOk, IfErr, OnOk, OnErr, IsSome, is_some, MatchOption, length, take};
 ghost use Rattle.std.specs.BTreeMap.{insert_entry, is_at};
 ghost use Rattle.std.specs.FinMap as fin;
 ghost use Rattle.std.specs.List.Sorted.{IsStrictlySortedBy};
@@ -14,10 +14,12 @@ ghost use Rattle.flat_model.specs.Counts.{has_process};
 ghost use Rattle.flat_model.specs.Inverse.{back, Counted};
 ghost use Rattle.flat_model.specs.Step.{refusal, after, after_refusal, home_of, peaks_upward, at_each, count_up, count_down};
 ghost use Rattle.group_tree.specs.Refusals.{HasRoomForRefusals};
-ghost use Rattle.pids_charge.specs.Answers.{Does, refusal_of_fault, names_in};
+ghost use Rattle.flat_model.specs.State.{State};
+ghost use Rattle.group_tree.specs.Groups.{Groups};
+ghost use Rattle.pids_charge.specs.Answers.{Does, refusal_of_fault, after_fault, names_in};
 ghost use Rattle.pids_charge.specs.Events.{flat_of, HasRoomForEvents, HasEvents};
 ghost use Rattle.pids_charge.specs.Lists.{process_in, table_slot};
-ghost use Rattle.pids_charge.specs.Recount.{HasParents, SameSlots, SlotsBelow};
+ghost use Rattle.pids_charge.specs.Recount.{HasParents, SameSlots, SlotsBelow, state_of};
 
 use crate::above::{Change, change_totals, slot_up};
 use crate::charges::Charges;
@@ -31,8 +33,32 @@ use crate::pid::Pid;
 use crate::rows::{find_row, has_row, put_beside};
 use crate::slot::slot_in;
 use group_path::GroupPath;
-use process_table::ProcessTable;
+use process_table::{Process, ProcessTable};
 use std::alloc::{AllocError, Allocator};
+
+// The parent of a new process, if there is a parent and no such child. Else the refusal, which names no group.
+fn find_parent<A: Allocator + Clone>(
+    processes: &ProcessTable<A>,
+    parent: Pid,
+    child: Pid,
+) -> Result<&Process<A>, ChargeFault>
+    ensures parent { IfOk result (λ from. lookup (is_at (nat_cmp parent)) processes.now ≡ Some from.now) }
+    ensures child { OnOk result (is_some (lookup (is_at (nat_cmp child)) processes.now) ≡ false) }
+    ensures first { IfErr result (λ f. (slots : ℕ) (tree : Groups) (p : Path) → refusal slots (state_of tree processes.now) (Fork parent child) ≡ refusal_of_fault p f) }
+    ensures inside { IfErr result (λ f. names_in f ≡ 0) }
+    ensures no_limit { IfErr result (λ f. (n : ℕ) → f ≢ ChargeFault.PidsMax n) }
+    ensures no_memory { IfErr result (λ f. f ≢ ChargeFault.OutOfMemory) }
+    ensures kept { IfErr result (λ f. (s : State) (p : Path) → after_fault s (refusal_of_fault p f) ≡ s) }
+{
+    processes.known();
+    let Some(from) = find_row(processes, parent) else {
+        return Err(ChargeFault::NoProcess(parent));
+    };
+    if has_row(processes, child) {
+        return Err(ChargeFault::PidInUse(child));
+    }
+    Ok(from)
+}
 
 // All memory for a process in the group of its parent: its row of the table, and a list of the old peaks.
 fn admit<A: Allocator + Clone>(
@@ -111,12 +137,10 @@ impl<A: Allocator + Clone, M: Meter> Charges<A, M> {
         ensures no_memory { IfSome result (λ f. f ≢ ChargeFault.OutOfMemory) }
         ensures kept { self.new ≡ self.old }
     {
-        let Some(process) = find_row(&self.processes, parent) else {
-            return Some(ChargeFault::NoProcess(parent));
+        let process = match find_parent(&self.processes, parent, child) {
+            Ok(process) => process,
+            Err(fault) => return Some(fault),
         };
-        if has_row(&self.processes, child) {
-            return Some(ChargeFault::PidInUse(child));
-        }
         self.tree.known();
         if let Some(n) = nearest_full(
             &self.tree,
@@ -128,6 +152,21 @@ impl<A: Allocator + Clone, M: Meter> Charges<A, M> {
             return Some(ChargeFault::PidsMax(n));
         }
         None
+    }
+
+    /// The refusal that `fork` would return for its pids: `NoProcess` of the parent, or `PidInUse` of the child. It names no
+    /// group. Takes constant time.
+    pub fn refuses_pids(&self, parent: Pid, child: Pid) -> Option<ChargeFault>
+        ensures first { MatchOption result ((has_process self.now parent ≡ true) × (has_process self.now child ≡ false)) (λ f. (p : Path) → refusal M.SLOTS self.now (Fork parent child) ≡ refusal_of_fault p f) }
+        ensures inside { IfSome result (λ f. names_in f ≡ 0) }
+        ensures no_limit { IfSome result (λ f. (n : ℕ) → f ≢ ChargeFault.PidsMax n) }
+        ensures no_memory { IfSome result (λ f. f ≢ ChargeFault.OutOfMemory) }
+        ensures kept { IfSome result (λ f. (p : Path) → after_fault self.now (refusal_of_fault p f) ≡ self.now) }
+    {
+        match find_parent(&self.processes, parent, child) {
+            Ok(_) => None,
+            Err(fault) => Some(fault),
+        }
     }
 
     /// Makes a process in the group of its parent, charged at the leaf of `who`, unless a limit refuses it. Raises the peaks
@@ -252,11 +291,8 @@ impl<A: Allocator + Clone, M: Meter> Charges<A, M> {
         ensures inside { IfErr result (λ f. names_in f ≤ length (home_of self.old parent)) }
         ensures peaks { IfOk result (λ peaks. peaks ≡ peaks_upward self.old (home_of self.old parent)) }
     {
-        if !has_row(&self.processes, parent) {
-            return Err(ChargeFault::NoProcess(parent));
-        }
-        if has_row(&self.processes, child) {
-            return Err(ChargeFault::PidInUse(child));
+        if let Some(fault) = self.refuses_pids(parent, child) {
+            return Err(fault);
         }
         match self.try_process(who, parent, child) {
             Ok(peaks) => Ok(peaks),

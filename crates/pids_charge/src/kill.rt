@@ -1,6 +1,6 @@
 //! Killing all processes of a group.
 
-ghost use Rattle.std.specs.Prelude.{◌≡◌, ℕ, ◌+◌, ◌≤◌, ◌++◌, [], IfOk, IfErr, length};
+ghost use Rattle.std.specs.Prelude.{◌≡◌, ◌≢◌, ℕ, ◌+◌, ◌≤◌, ◌++◌, [], None, IfSome, IfOk, IfErr, MatchOption, length};
 ghost use Rattle.std.specs.List.{All, sum_by};
 ghost use Rattle.std.specs.List.Sorted.{IsStrictlySortedBy};
 ghost use Rattle.std.specs.Ordering.{nat_cmp};
@@ -11,7 +11,8 @@ ghost use Rattle.flat_model.specs.Command.{Kill};
 ghost use Rattle.flat_model.specs.CommandText.{IsPid};
 ghost use Rattle.flat_model.specs.Inverse as inverse;
 ghost use Rattle.process_table.specs.Chosen.{HaveOneHome};
-ghost use Rattle.pids_charge.specs.Answers.{Does, names_in};
+ghost use Rattle.flat_model.specs.Step.{refusal};
+ghost use Rattle.pids_charge.specs.Answers.{Does, refusal_of_fault, after_fault, names_in};
 ghost use Rattle.snzi_tokens.specs.Listed.{IsWithin, listed_at};
 ghost use Rattle.pids_charge.specs.Lists.{inside, lost_each, lost_one, without_each};
 ghost use Rattle.pids_charge.specs.Recount.{charges_of, HasParents, IsPlaced, SlotsBelow};
@@ -119,6 +120,22 @@ fn leave<A: Allocator + Clone>(
 }
 
 impl<A: Allocator + Clone, M: Meter> Charges<A, M> {
+    /// The refusal that `kill` would return, apart from memory. Costs one descent of the tree.
+    pub fn refuses_kill<B: Allocator + Clone>(&self, path: &GroupPath<B>) -> Option<ChargeFault>
+        ensures first { MatchOption result (refusal M.SLOTS self.now (Kill path.now) ≡ None) (λ f. refusal M.SLOTS self.now (Kill path.now) ≡ refusal_of_fault path.now f) }
+        ensures inside { IfSome result (λ f. names_in f ≤ length path.now) }
+        ensures no_memory { IfSome result (λ f. f ≢ ChargeFault.OutOfMemory) }
+        ensures kept { IfSome result (λ f. after_fault self.now (refusal_of_fault path.now f) ≡ self.now) }
+    {
+        if path.depth() == 0 {
+            return Some(ChargeFault::NoFile);
+        }
+        if self.tree.find(path).is_none() {
+            return Some(ChargeFault::NoGroup(path.depth()));
+        }
+        None
+    }
+
     /// Removes all processes at or below the group, and returns each with its path; pids ascend. Costs time in the number
     /// of these processes, plus one test of a path for each slot that has been used. Passes all charges to the meter at
     /// once. It may wait for the threads that do parts of the settlement.
@@ -155,11 +172,8 @@ impl<A: Allocator + Clone, M: Meter> Charges<A, M> {
         ensures inside { IfErr result (λ f. names_in f ≤ length path.now) }
         ensures taken { IfOk result (λ list. list ≡ inverse.lost self.old path.now) }
     {
-        if path.depth() == 0 {
-            return Err(ChargeFault::NoFile);
-        }
-        if self.tree.find(path).is_none() {
-            return Err(ChargeFault::NoGroup(path.depth()));
+        if let Some(fault) = self.refuses_kill(path) {
+            return Err(fault);
         }
         let Ok(Gathered { pids, tokens, room }) = gather::<M, _, _, _>(
             &self.tree,

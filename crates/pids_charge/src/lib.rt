@@ -15,7 +15,9 @@
 //! - Each command has an undo that tests no limit: `restore` for a removal, `place` for an exit, `place_all` for a kill,
 //!   `uncount` for a refused fork, `move_back` for a move, and `set_peaks` for the peaks that a fork or a move raised. A limit
 //!   is undone by setting the old one. None of them raises a peak.
-//! - `refuses_mkdir`, `refuses_rmdir` and `refuses_fork` only decide. `make_group`, `take_group`, `make_process` and
+//! - For each command one call only decides: `refuses_mkdir`, `refuses_rmdir`, `refuses_fork`, `refuses_exit`,
+//!   `refuses_move`, `refuses_limit` and `refuses_kill` return its first refusal, if there is one, and allocate nothing.
+//!   `refuses_pids` is the part of `refuses_fork` that looks at no limit. `make_group`, `take_group`, `make_process` and
 //!   `count_fork` only do what was decided. `try_process` is a fork that counts no refusal. They are for a caller that
 //!   allocates something of its own in between.
 //! - `exit`, `set_peaks`, `count_fork`, `uncount`, `rmdir`, `set_limit`, the readers and the calls that only decide allocate

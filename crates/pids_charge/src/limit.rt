@@ -1,12 +1,13 @@
 //! Setting limits. The undo sets the old limit.
 
-ghost use Rattle.std.specs.Prelude.{◌≡◌, ◌≤◌, ◌&&◌, None, IsOk, IfOk, IfErr, length};
+ghost use Rattle.std.specs.Prelude.{◌≡◌, ◌≢◌, ◌≤◌, ◌&&◌, None, IsOk, IfSome, IfOk, IfErr, MatchOption, length};
 ghost use Rattle.flat_model.specs.Path.{is_root};
 ghost use Rattle.flat_model.specs.File.{is_pids_max};
 ghost use Rattle.flat_model.specs.Command.{SetLimit};
+ghost use Rattle.flat_model.specs.State as flat;
 ghost use Rattle.flat_model.specs.Step.{limit_at, attr_of, refusal};
 ghost use Rattle.group_tree.specs.Flat.{limit_of, limit_file_of};
-ghost use Rattle.pids_charge.specs.Answers.{Does, names_in};
+ghost use Rattle.pids_charge.specs.Answers.{Does, refusal_of_fault, after_fault, names_in};
 
 use crate::charges::Charges;
 use crate::fault::ChargeFault;
@@ -27,6 +28,26 @@ fn is_missing<B: Allocator + Clone>(path: &GroupPath<B>, file: LimitFile) -> boo
 }
 
 impl<A: Allocator + Clone, M: Meter> Charges<A, M> {
+    /// The refusal that `set_limit` would return, whatever the limit. Costs one descent of the tree.
+    pub fn refuses_limit<B: Allocator + Clone>(
+        &self,
+        path: &GroupPath<B>,
+        file: LimitFile,
+    ) -> Option<ChargeFault>
+        ensures first { (value : flat.Limit) → MatchOption result (refusal M.SLOTS self.now (SetLimit path.now (limit_file_of file) value) ≡ None) (λ f. refusal M.SLOTS self.now (SetLimit path.now (limit_file_of file) value) ≡ refusal_of_fault path.now f) }
+        ensures inside { IfSome result (λ f. names_in f ≤ length path.now) }
+        ensures no_memory { IfSome result (λ f. f ≢ ChargeFault.OutOfMemory) }
+        ensures kept { IfSome result (λ f. after_fault self.now (refusal_of_fault path.now f) ≡ self.now) }
+    {
+        if is_missing(path, file) {
+            return Some(ChargeFault::NoFile);
+        }
+        if self.tree.find(path).is_none() {
+            return Some(ChargeFault::NoGroup(path.depth()));
+        }
+        None
+    }
+
     /// Sets a limit of a group, and returns the old one. A limit may be below the present count. Allocates nothing. Costs
     /// two descents of the tree.
     ///

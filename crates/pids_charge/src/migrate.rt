@@ -1,15 +1,19 @@
 //! Moving processes, and undoing a move.
 
-ghost use Rattle.std.specs.Prelude.{◌≡◌, ◌≤◌, true, length, IsSome, IfOk, IfErr, OnOk, OnErr};
+ghost use Rattle.std.specs.Prelude.{◌≡◌, ◌≢◌, ◌≤◌, true, length, None, IsSome, IfSome, IfOk, IfErr, OnOk, OnErr, MatchOption};
 ghost use Rattle.std.specs.FinMap as fin;
 ghost use Rattle.flat_model.specs.Command.{Move};
 ghost use Rattle.flat_model.specs.Counts.{has_process};
 ghost use Rattle.flat_model.specs.Inverse.{back, Exited};
-ghost use Rattle.flat_model.specs.Step.{home_of, peaks_upward};
-ghost use Rattle.pids_charge.specs.Answers.{Does, names_in};
+ghost use Rattle.flat_model.specs.State.{State};
+ghost use Rattle.flat_model.specs.Step.{home_of, peaks_upward, refusal};
+ghost use Rattle.pids_charge.specs.Answers.{Does, refusal_of_fault, after_fault, names_in};
+ghost use Rattle.pids_charge.specs.Lists.{table_slot};
+ghost use Rattle.pids_charge.specs.Recount.{SlotsBelow, state_of};
 
 use crate::charges::Charges;
 use crate::fault::ChargeFault;
+use crate::groups::GroupTable;
 use crate::meter::Meter;
 use crate::peaks::{Peaks, charge_and_raise, zero_peaks};
 use crate::pid::Pid;
@@ -17,6 +21,7 @@ use crate::rows::{has_row, put_copy};
 use crate::slot::{find_slot, slot_in};
 use crate::walk::{charge_up, uncharge_up};
 use group_path::GroupPath;
+use process_table::ProcessTable;
 use std::alloc::Allocator;
 
 /// What a move leaves behind: the old group of the process, and the old peaks of the groups along its new path.
@@ -26,7 +31,49 @@ pub struct Shifted<A: Allocator + Clone> {
     pub peaks: Peaks<A>,
 }
 
+// The slot of the group in the table of processes, if the process may move there. Else the refusal.
+fn slot_for<M: Meter, T: Allocator, A: Allocator + Clone, B: Allocator + Clone>(
+    tree: &GroupTable<T>,
+    processes: &ProcessTable<A>,
+    path: &GroupPath<B>,
+    pid: Pid,
+) -> Result<u16, ChargeFault>
+    requires { SlotsBelow M.SLOTS tree.now }
+    ensures allowed { OnOk result (refusal M.SLOTS (state_of tree.now processes.now) (Move path.now pid) ≡ None) }
+    ensures slot { IfOk result (λ slot. IsSome (fin.get tree.now path.now) × (slot ≡ table_slot tree.now path.now)) }
+    ensures first { IfErr result (λ f. refusal M.SLOTS (state_of tree.now processes.now) (Move path.now pid) ≡ refusal_of_fault path.now f) }
+    ensures inside { IfErr result (λ f. names_in f ≤ length path.now) }
+    ensures no_memory { IfErr result (λ f. f ≢ ChargeFault.OutOfMemory) }
+    ensures kept { IfErr result (λ f. (s : State) → after_fault s (refusal_of_fault path.now f) ≡ s) }
+{
+    processes.known();
+    let Some(slot) = find_slot::<M, _, _>(tree, path) else {
+        return Err(ChargeFault::NoGroup(path.depth()));
+    };
+    if !has_row(processes, pid) {
+        return Err(ChargeFault::NoProcess(pid));
+    }
+    Ok(slot)
+}
+
 impl<A: Allocator + Clone, M: Meter> Charges<A, M> {
+    /// The refusal that `migrate` would return, apart from memory. Costs one descent of the tree.
+    pub fn refuses_move<B: Allocator + Clone>(
+        &self,
+        path: &GroupPath<B>,
+        pid: Pid,
+    ) -> Option<ChargeFault>
+        ensures first { MatchOption result (refusal M.SLOTS self.now (Move path.now pid) ≡ None) (λ f. refusal M.SLOTS self.now (Move path.now pid) ≡ refusal_of_fault path.now f) }
+        ensures inside { IfSome result (λ f. names_in f ≤ length path.now) }
+        ensures no_memory { IfSome result (λ f. f ≢ ChargeFault.OutOfMemory) }
+        ensures kept { IfSome result (λ f. after_fault self.now (refusal_of_fault path.now f) ≡ self.now) }
+    {
+        match slot_for::<M, _, _, _>(&self.tree, &self.processes, path, pid) {
+            Ok(_) => None,
+            Err(fault) => Some(fault),
+        }
+    }
+
     /// Moves a process to the group, where it is charged at the leaf of `who`, and then raises the peaks of the group and of
     /// those above it other than the root. Returns its old group, by the path that the table had, and the old peaks of the
     /// groups along the new path. Tests no limit. Costs one descent of the tree.
@@ -45,12 +92,10 @@ impl<A: Allocator + Clone, M: Meter> Charges<A, M> {
         ensures old_home { IfOk result (λ shifted. shifted.path ≡ home_of self.old pid) }
         ensures peaks { IfOk result (λ shifted. shifted.peaks ≡ peaks_upward self.old path.now) }
     {
-        let Some(slot) = find_slot::<M, _, _>(&self.tree, path) else {
-            return Err(ChargeFault::NoGroup(path.depth()));
+        let slot = match slot_for::<M, _, _, _>(&self.tree, &self.processes, path, pid) {
+            Ok(slot) => slot,
+            Err(fault) => return Err(fault),
         };
-        if !has_row(&self.processes, pid) {
-            return Err(ChargeFault::NoProcess(pid));
-        }
         let Ok(mut peaks) = zero_peaks(&self.alloc, path) else {
             return Err(ChargeFault::OutOfMemory);
         };

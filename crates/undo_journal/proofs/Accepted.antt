@@ -1,9 +1,9 @@
 -- Whether a command has a refusal.
-use Rattle.std.specs.Prelude.{◌≡◌, ◌≢◌, refl, Bool, true, false, ◌&&◌, not, Option, None, Some, IfSome, MatchOption, is_none}
+use Rattle.std.specs.Prelude.{◌≡◌, ◌≢◌, refl, Bool, true, false, not, [], Option, None, Some, IfSome, MatchOption, is_none, is_some}
 use Rattle.std.proofs.Common.{sym, ap, ◌∙◌}
+use Rattle.std.proofs.lemmas.Bool.{false≢true}
 use Rattle.flat_model.specs.Path.{Path}
 use Rattle.flat_model.specs.Command as model
-use Rattle.flat_model.specs.Refuse.{refuse}
 use Rattle.pids_charge.specs.declared.fault.ChargeFault.{ChargeFault}
 use Rattle.pids_charge.specs.declared.fault.ChargeFault.TheVariants.{Exists, NoGroup, Descendants, Depth, NoSlot, RootFixed, HasChildren}
 use Rattle.pids_charge.specs.declared.fault.ChargeFault.TheVariants.{HasProcesses, NoProcess, PidInUse, PidsMax, OutOfMemory, NoFile}
@@ -30,11 +30,13 @@ pub decided : (p : Path) (o : Option ChargeFault) (r : Option model.Refusal) →
 decided p None r e n = sym (ap is_none e)
 decided p (Some f) r e n = sym (ap is_none e ∙ is_refusal p f n)
 
-pub one_test : {R : Type 0} (b : Bool) (x : R) → b ≡ is_none (refuse (not b) x None)
-one_test true x = refl
-one_test false x = refl
+-- the same for a fault that names no group, whatever the path
+pub decided_anywhere : (o : Option ChargeFault) (r : Option model.Refusal) → MatchOption o (r ≡ None) (λ f. (p : Path) → r ≡ refusal_of_fault p f) → IfSome o (λ f. f ≢ OutOfMemory) → is_none o ≡ is_none r
+decided_anywhere None r e n = sym (ap is_none e)
+decided_anywhere (Some f) r e n = sym (ap is_none (e []) ∙ is_refusal [] f n)
 
-pub two_tests : {R : Type 0} (a b : Bool) (x y : R) → is_none (refuse a x (refuse (not b) y None)) ≡ (not a && b)
-two_tests true b x y = refl
-two_tests false true x y = refl
-two_tests false false x y = refl
+pub none_of : {X : Type 0} (o : Option X) (b : Bool) → is_some o ≡ not b → b ≡ is_none o
+none_of None true e = refl
+none_of None false e = absurd (false≢true e)
+none_of (Some x) true e = absurd (false≢true (sym e))
+none_of (Some x) false e = refl

@@ -50,19 +50,24 @@ module _ (slots : ℕ) where
   uncounted s c model.NoFile e n = refl
   uncounted s c model.NotReadable e n = refl
 
-  -- the machine stays where a command but a fork or an undo is refused
-  pub refused_answers : {A : Type 0} (t : Timeline) (c : model.Command) (r : Refusal A) → model.is_undo c ≡ false → is_fork c ≡ false
+  -- the machine stays where a command but an undo is refused, if the refusal isn't counted
+  pub refused_uncounted : {A : Type 0} (t : Timeline) (c : model.Command) (r : Refusal A) → model.is_undo c ≡ false → model.is_counted (refusal_of r) ≡ false
       → refusal slots t.machine.state c ≡ Some (refusal_of r) → Answers {A = A} slots t c (Refused r) t
-  refused_answers t c r u n e =
+  refused_uncounted t c r u n e =
       let m = t.machine in
       let is : tick slots m c ≡ (m, model.Refused (refusal_of r)) =
       ap (λ b. cond b (undone m.state m.past) (outcome m c (refusal slots m.state c))) u
       ∙ ap (outcome m c) e
-      ∙ ap (λ b. (cond b (recorded m c (state_by m.state c (Some (refusal_of r)))) m, model.Refused (refusal_of r))) (uncounted m.state c (refusal_of r) e n) in
+      ∙ ap (λ b. (cond b (recorded m c (state_by m.state c (Some (refusal_of r)))) m, model.Refused (refusal_of r))) n in
       record {
         state = ap (becomes t) (sym (ap (λ x. x.0) is));
         reply_is = ap (λ x. Some x.1) (sym is);
       }
+
+  -- in particular where a command but a fork is refused
+  pub refused_answers : {A : Type 0} (t : Timeline) (c : model.Command) (r : Refusal A) → model.is_undo c ≡ false → is_fork c ≡ false
+      → refusal slots t.machine.state c ≡ Some (refusal_of r) → Answers {A = A} slots t c (Refused r) t
+  refused_answers t c r u n e = refused_uncounted t c r u (uncounted t.machine.state c (refusal_of r) e n) e
 
 -- ---- a fork
 
@@ -119,6 +124,29 @@ module _ (slots : ℕ) where
       → ((n : ℕ) → f ≡ PidInUse n → ⊥) → ((n : ℕ) → f ≡ PidsMax n → ⊥) → ⊥
   no_other_fault s from child p f e =
       other_fault p f (ap may_fork (sym e) ∙ may_refuse from child (not (has_process s from)) (has_process s child) (blocked_fork s (home_of s from)))
+
+  abbrev counts : Option model.Refusal → Bool
+  counts None = false
+  counts (Some r) = model.is_counted r
+
+  -- only the fault of a limit on processes is counted
+  no_count : (p : Path) (f : ChargeFault) → ((n : ℕ) → f ≡ PidsMax n → ⊥) → counts (charges.refusal_of_fault p f) ≡ false
+  no_count p (PidsMax n) h = absurd (h n refl)
+  no_count p Exists h = refl
+  no_count p (NoGroup n) h = refl
+  no_count p (Descendants n) h = refl
+  no_count p (Depth n) h = refl
+  no_count p NoSlot h = refl
+  no_count p RootFixed h = refl
+  no_count p HasChildren h = refl
+  no_count p HasProcesses h = refl
+  no_count p (NoProcess n) h = refl
+  no_count p (PidInUse n) h = refl
+  no_count p OutOfMemory h = refl
+  no_count p NoFile h = refl
+
+  pub fault_uncounted : (p : Path) (f : ChargeFault) (r : model.Refusal) → Some r ≡ charges.refusal_of_fault p f → ((n : ℕ) → f ≡ PidsMax n → ⊥) → model.is_counted r ≡ false
+  fault_uncounted p f r e h = ap counts e ∙ no_count p f h
 
   -- what the machine answers to a command whose first refusal is known
   pub answers_by : {A : Type 0} (t : Timeline) (c : model.Command) (o : Option model.Refusal) (reply : Reply A) (new : Timeline) → model.is_undo c ≡ false → refusal slots t.machine.state c ≡ o →

@@ -7,9 +7,10 @@ ghost use Rattle.undo_journal.specs.Answer.{Answers};
 
 use crate::bytes::Bytes;
 use crate::engine::Engine;
-use crate::reply::{Refusal, Reply};
+use crate::faults::refusal_to_show;
+use crate::reply::Reply;
 use group_path::GroupPath;
-use interface_files::{File, ShowFault, render};
+use interface_files::{File, render};
 use pids_charge::Meter;
 use std::alloc::{AllocError, Allocator};
 
@@ -24,16 +25,10 @@ impl<A: Allocator + Clone, M: Meter> Engine<A, M> {
     {
         match render(self.alloc.clone()?, &mut self.charges, path, file) {
             Ok(text) => Ok(Reply::Text(Bytes::of(text))),
-            Err(fault) => match fault {
-                ShowFault::NotReadable => Ok(Reply::Refused(Refusal::NotReadable)),
-                ShowFault::NoGroup => {
-                    let named = path.copy(self.alloc.clone()?)?;
-                    Ok(Reply::Refused(Refusal::NoGroup(named)))
-                }
-                ShowFault::NoFile => Ok(Reply::Refused(Refusal::NoFile)),
-                ShowFault::OutOfMemory => Err(AllocError),
-                ShowFault::NoProcess => unreachable!(),
-            },
+            Err(fault) => {
+                let refusal = refusal_to_show(&self.alloc, path, fault)?;
+                Ok(Reply::Refused(refusal))
+            }
         }
     }
 }

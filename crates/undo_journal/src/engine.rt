@@ -1,7 +1,6 @@
 //! The engine: answering one command, undoing one, and what is recorded.
 
 ghost use Rattle.std.specs.Prelude.{◌≡◌, ◌≢◌, [], true, None, IfOk, OnErr, MatchOption, length, option_map};
-ghost use Rattle.flat_model.specs.Counts.{is_group, has_process};
 ghost use Rattle.flat_model.specs.Command as model;
 ghost use Rattle.flat_model.specs.Machine.{new_machine};
 ghost use Rattle.pids_charge.specs.Content.{IsEmpty};
@@ -227,20 +226,6 @@ impl<A: Allocator + Clone, M: Meter> Engine<A, M> {
             Command::Locate(pid) => or_out_of_memory(self.locate(*pid)),
             Command::Undo => or_out_of_memory(self.take_newest_back(settler, who)),
         }
-    }
-
-    /// Whether the group exists.
-    pub(crate) fn has_group<B: Allocator + Clone>(&self, path: &GroupPath<B>) -> bool
-        ensures { result ≡ is_group self.now.machine.state path.now }
-    {
-        self.charges.attr(path).is_some()
-    }
-
-    /// Whether the process exists.
-    pub(crate) fn has_process(&self, pid: Pid) -> bool
-        ensures { result ≡ has_process self.now.machine.state pid }
-    {
-        self.charges.home(pid).is_some()
     }
 
     /// Makes the invariant of the engine visible to the prover. It is proof only.

@@ -12,10 +12,10 @@ ghost use Rattle.undo_journal.specs.Timeline.{becomes};
 
 use crate::command::Command;
 use crate::engine::Engine;
-use crate::faults::out_of_memory;
+use crate::faults::{out_of_memory, refusal_at};
 use crate::inverse::Inverse;
 use crate::journal::Entry;
-use crate::reply::{Refusal, Reply};
+use crate::reply::Reply;
 use group_path::GroupPath;
 use pids_charge::{Charges, Meter, Pid};
 use std::alloc::{AllocError, Allocator};
@@ -42,8 +42,9 @@ impl<A: Allocator + Clone, M: Meter> Engine<A, M> {
         ensures ok { IfOk result (λ reply. Answers M.SLOTS self.old (model.Exit pid) reply self.new) }
         ensures err { OnErr result (self.new ≡ self.old) }
     {
-        if !self.has_process(pid) {
-            return Ok(Reply::Refused(Refusal::NoProcess(pid)));
+        if let Some(fault) = self.charges.refuses_exit(pid) {
+            let refusal = refusal_at(&self.alloc, self.charges.home(pid), fault)?;
+            return Ok(Reply::Refused(refusal));
         }
         self.take_process(who, pid)?;
         Ok(Reply::Done)

@@ -11,26 +11,15 @@ ghost use Rattle.undo_journal.specs.History.{IsReady};
 
 use crate::command::Command;
 use crate::engine::Engine;
-use crate::faults::out_of_memory;
+use crate::faults::{front_of, out_of_memory, refusal_at};
 use crate::inverse::Inverse;
 use crate::journal::Entry;
-use crate::reply::{Refusal, Reply};
+use crate::reply::Reply;
 use group_path::GroupPath;
 use pids_charge::{ChargeFault, Charges, Meter, Peaks, Pid};
 use std::alloc::{AllocError, Allocator};
 
 impl<A: Allocator + Clone, M: Meter> Engine<A, M> {
-    /// The path of the first `n` names of the group that a process belongs to.
-    fn front_of_home(&self, pid: Pid, n: usize) -> Result<GroupPath<A>, AllocError>
-        requires { has_process self.now.machine.state pid ≡ true }
-        ensures { IfOk result (λ front. front ≡ take n (home_of self.now.machine.state pid)) }
-    {
-        let Some(home) = self.charges.home(pid) else {
-            unreachable!()
-        };
-        home.front(self.alloc.clone()?, n)
-    }
-
     /// Counts and records a refused fork. The group that refuses it has the first `n` names of the parent's group.
     fn count_fork(&mut self, parent: Pid, child: Pid, n: usize) -> Result<Reply<A>, AllocError>
         requires refused { refusal M.SLOTS self.old.machine.state (model.Fork parent child) ≡ Some (model.OverPidsMax (take n (home_of self.old.machine.state parent))) }
@@ -42,15 +31,16 @@ impl<A: Allocator + Clone, M: Meter> Engine<A, M> {
         if u64::MAX - self.forgotten <= self.journal.len() as u64 {
             return Err(AllocError);
         }
-        let limiting = self.front_of_home(parent, n)?;
-        let counted = limiting.copy(self.alloc.clone()?)?;
+        let home = self.charges.home(parent);
+        let refusal = refusal_at(&self.alloc, home, ChargeFault::PidsMax(n))?;
+        let counted = front_of(&self.alloc, home, n)?;
         self.journal.reserve(1)?;
         self.charges.count_fork(parent, n);
         self.journal.push(Entry {
             command: Command::Fork { parent, child },
             inverse: Inverse::Counted { path: counted },
         })?;
-        Ok(Reply::Refused(Refusal::PidsMax(limiting)))
+        Ok(Reply::Refused(refusal))
     }
 
     /// Makes a process in its parent's group, and records it with the peaks of that group and its ancestors as they were
@@ -81,11 +71,9 @@ impl<A: Allocator + Clone, M: Meter> Engine<A, M> {
         ensures ok { IfOk result (λ reply. Answers M.SLOTS self.old (model.Fork parent child) reply self.new) }
         ensures err { OnErr result (self.new ≡ self.old) }
     {
-        if !self.has_process(parent) {
-            return Ok(Reply::Refused(Refusal::NoProcess(parent)));
-        }
-        if self.has_process(child) {
-            return Ok(Reply::Refused(Refusal::PidInUse(child)));
+        if let Some(fault) = self.charges.refuses_pids(parent, child) {
+            let refusal = refusal_at(&self.alloc, self.charges.home(parent), fault)?;
+            return Ok(Reply::Refused(refusal));
         }
         self.try_process(who, parent, child)
     }

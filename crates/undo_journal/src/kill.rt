@@ -1,43 +1,26 @@
 //! A write to `cgroup.kill`: killing all processes at or below a group, its record and its undo.
 
-ghost use Rattle.std.specs.Prelude.{◌≡◌, None, IfOk, OnOk, OnErr, option_map};
+ghost use Rattle.std.specs.Prelude.{◌≡◌, None, IfOk, OnOk, OnErr};
 ghost use Rattle.flat_model.specs.Step.{refusal, after};
 ghost use Rattle.flat_model.specs.Inverse as model_inverse;
 ghost use Rattle.flat_model.specs.Inverse.{back};
 ghost use Rattle.flat_model.specs.Machine.{recorded};
 ghost use Rattle.flat_model.specs.Command as model;
-ghost use Rattle.undo_journal.specs.CommandMeaning.{refusal_of};
 ghost use Rattle.undo_journal.specs.Answer.{Answers};
 ghost use Rattle.undo_journal.specs.History.{IsReady};
 ghost use Rattle.undo_journal.specs.Timeline.{becomes};
 
 use crate::command::Command;
 use crate::engine::Engine;
-use crate::faults::out_of_memory;
+use crate::faults::{out_of_memory, refusal_at};
 use crate::inverse::Inverse;
 use crate::journal::Entry;
-use crate::reply::{Refusal, Reply};
+use crate::reply::Reply;
 use group_path::GroupPath;
 use pids_charge::{Charges, LostList, Meter, Settler};
 use std::alloc::{AllocError, Allocator};
 
 impl<A: Allocator + Clone, M: Meter> Engine<A, M> {
-    /// Why the group may not be killed, or None if it may.
-    pub(crate) fn refuses_kill<B: Allocator + Clone>(
-        &self,
-        path: &GroupPath<B>,
-    ) -> Result<Option<Refusal<A>>, AllocError>
-        ensures { IfOk result (λ r. option_map refusal_of r ≡ refusal M.SLOTS self.now.machine.state (model.Kill path.now)) }
-    {
-        if path.depth() == 0 {
-            return Ok(Some(Refusal::NoFile));
-        }
-        if !self.has_group(path) {
-            return Ok(Some(Refusal::NoGroup(path.copy(self.alloc.clone()?)?)));
-        }
-        Ok(None)
-    }
-
     /// Removes all processes of a group that may be killed, and records them with their groups.
     fn take_members<S: Settler, B: Allocator + Clone>(
         &mut self,
@@ -72,7 +55,8 @@ impl<A: Allocator + Clone, M: Meter> Engine<A, M> {
         ensures ok { IfOk result (λ reply. Answers M.SLOTS self.old (model.Kill path.now) reply self.new) }
         ensures err { OnErr result (self.new ≡ self.old) }
     {
-        if let Some(refusal) = self.refuses_kill(path)? {
+        if let Some(fault) = self.charges.refuses_kill(path) {
+            let refusal = refusal_at(&self.alloc, Some(path), fault)?;
             return Ok(Reply::Refused(refusal));
         }
         self.take_members(settler, who, path)?;

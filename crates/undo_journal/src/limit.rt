@@ -1,46 +1,28 @@
 //! A write to `pids.max`, `cgroup.max.descendants` or `cgroup.max.depth`: setting a limit, its record and its undo.
 
-ghost use Rattle.std.specs.Prelude.{◌≡◌, None, IfOk, OnOk, OnErr, option_map};
+ghost use Rattle.std.specs.Prelude.{◌≡◌, None, IfOk, OnOk, OnErr};
 ghost use Rattle.flat_model.specs.Step.{refusal, after};
 ghost use Rattle.flat_model.specs.Inverse as model_inverse;
 ghost use Rattle.flat_model.specs.Inverse.{back};
 ghost use Rattle.flat_model.specs.Machine.{recorded};
 ghost use Rattle.flat_model.specs.Command as model;
 ghost use Rattle.group_tree.specs.Flat.{limit_of, limit_file_of};
-ghost use Rattle.undo_journal.specs.CommandMeaning.{refusal_of};
 ghost use Rattle.undo_journal.specs.Answer.{Answers};
 ghost use Rattle.undo_journal.specs.History.{IsReady};
 ghost use Rattle.undo_journal.specs.Timeline.{becomes};
 
 use crate::command::Command;
 use crate::engine::Engine;
+use crate::faults::refusal_at;
 use crate::inverse::Inverse;
 use crate::journal::Entry;
-use crate::reply::{Refusal, Reply};
+use crate::reply::Reply;
 use group_path::GroupPath;
 use group_tree::{Limit, LimitFile};
 use pids_charge::{Charges, Meter};
 use std::alloc::{AllocError, Allocator};
 
 impl<A: Allocator + Clone, M: Meter> Engine<A, M> {
-    /// Why the limit may not be set, or None if it may.
-    fn refuses_limit<B: Allocator + Clone>(
-        &self,
-        path: &GroupPath<B>,
-        file: LimitFile,
-        value: Limit,
-    ) -> Result<Option<Refusal<A>>, AllocError>
-        ensures { IfOk result (λ r. option_map refusal_of r ≡ refusal M.SLOTS self.now.machine.state (model.SetLimit path.now (limit_file_of file) (limit_of value))) }
-    {
-        if path.depth() == 0 && file == LimitFile::PidsMax {
-            return Ok(Some(Refusal::NoFile));
-        }
-        if !self.has_group(path) {
-            return Ok(Some(Refusal::NoGroup(path.copy(self.alloc.clone()?)?)));
-        }
-        Ok(None)
-    }
-
     /// Sets a limit that may be set, and records the old one.
     fn write_limit<B: Allocator + Clone>(
         &mut self,
@@ -84,7 +66,8 @@ impl<A: Allocator + Clone, M: Meter> Engine<A, M> {
         ensures ok { IfOk result (λ reply. Answers M.SLOTS self.old (model.SetLimit path.now (limit_file_of file) (limit_of value)) reply self.new) }
         ensures err { OnErr result (self.new ≡ self.old) }
     {
-        if let Some(refusal) = self.refuses_limit(path, file, value)? {
+        if let Some(fault) = self.charges.refuses_limit(path, file) {
+            let refusal = refusal_at(&self.alloc, Some(path), fault)?;
             return Ok(Reply::Refused(refusal));
         }
         self.write_limit(path, file, value)?;

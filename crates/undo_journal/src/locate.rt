@@ -6,8 +6,9 @@ ghost use Rattle.undo_journal.specs.Answer.{Answers};
 
 use crate::bytes::Bytes;
 use crate::engine::Engine;
-use crate::reply::{Refusal, Reply};
-use interface_files::{ShowFault, render_home};
+use crate::faults::refusal_at;
+use crate::reply::Reply;
+use interface_files::render_home;
 use pids_charge::{Meter, Pid};
 use std::alloc::{AllocError, Allocator};
 
@@ -15,13 +16,13 @@ impl<A: Allocator + Clone, M: Meter> Engine<A, M> {
     pub(crate) fn locate(&self, pid: Pid) -> Result<Reply<A>, AllocError>
         ensures { IfOk result (λ reply. Answers M.SLOTS self.now (model.Locate pid) reply self.now) }
     {
+        if let Some(fault) = self.charges.refuses_exit(pid) {
+            let refusal = refusal_at(&self.alloc, self.charges.home(pid), fault)?;
+            return Ok(Reply::Refused(refusal));
+        }
         match render_home(self.alloc.clone()?, &self.charges, pid) {
             Ok(text) => Ok(Reply::Text(Bytes::of(text))),
-            Err(fault) => match fault {
-                ShowFault::NoProcess => Ok(Reply::Refused(Refusal::NoProcess(pid))),
-                ShowFault::OutOfMemory => Err(AllocError),
-                _ => unreachable!(),
-            },
+            Err(_) => Err(AllocError),
         }
     }
 }

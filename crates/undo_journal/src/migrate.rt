@@ -1,44 +1,26 @@
 //! A write to `cgroup.procs`: moving a process, its record and its undo.
 
-ghost use Rattle.std.specs.Prelude.{◌≡◌, None, IfOk, OnOk, OnErr, option_map};
+ghost use Rattle.std.specs.Prelude.{◌≡◌, None, IfOk, OnOk, OnErr};
 ghost use Rattle.flat_model.specs.Step.{refusal, after};
 ghost use Rattle.flat_model.specs.Inverse as model_inverse;
 ghost use Rattle.flat_model.specs.Inverse.{back};
 ghost use Rattle.flat_model.specs.Machine.{recorded};
 ghost use Rattle.flat_model.specs.Command as model;
-ghost use Rattle.undo_journal.specs.CommandMeaning.{refusal_of};
 ghost use Rattle.undo_journal.specs.Answer.{Answers};
 ghost use Rattle.undo_journal.specs.History.{IsReady};
 ghost use Rattle.undo_journal.specs.Timeline.{becomes};
 
 use crate::command::Command;
 use crate::engine::Engine;
-use crate::faults::out_of_memory;
+use crate::faults::{out_of_memory, refusal_at};
 use crate::inverse::Inverse;
 use crate::journal::Entry;
-use crate::reply::{Refusal, Reply};
+use crate::reply::Reply;
 use group_path::GroupPath;
 use pids_charge::{Charges, Meter, Peaks, Pid};
 use std::alloc::{AllocError, Allocator};
 
 impl<A: Allocator + Clone, M: Meter> Engine<A, M> {
-    /// Why the process may not move to the group, or None if it may.
-    fn refuses_move<B: Allocator + Clone>(
-        &self,
-        path: &GroupPath<B>,
-        pid: Pid,
-    ) -> Result<Option<Refusal<A>>, AllocError>
-        ensures { IfOk result (λ r. option_map refusal_of r ≡ refusal M.SLOTS self.now.machine.state (model.Move path.now pid)) }
-    {
-        if !self.has_group(path) {
-            return Ok(Some(Refusal::NoGroup(path.copy(self.alloc.clone()?)?)));
-        }
-        if !self.has_process(pid) {
-            return Ok(Some(Refusal::NoProcess(pid)));
-        }
-        Ok(None)
-    }
-
     /// Moves a process that may move there. Records its old group, and the old peaks along the path of the new one.
     fn record_move<B: Allocator + Clone>(
         &mut self,
@@ -77,7 +59,8 @@ impl<A: Allocator + Clone, M: Meter> Engine<A, M> {
         ensures ok { IfOk result (λ reply. Answers M.SLOTS self.old (model.Move path.now pid) reply self.new) }
         ensures err { OnErr result (self.new ≡ self.old) }
     {
-        if let Some(refusal) = self.refuses_move(path, pid)? {
+        if let Some(fault) = self.charges.refuses_move(path, pid) {
+            let refusal = refusal_at(&self.alloc, Some(path), fault)?;
             return Ok(Reply::Refused(refusal));
         }
         self.record_move(who, path, pid)?;

@@ -50,7 +50,7 @@ impl<A: Allocator + Clone, M: Meter> Engine<A, M> {
         ensures err { OnErr result (self.new ≡ self.old) }
     {
         if let Some(fault) = self.charges.refuses_mkdir(path) {
-            let refusal = refusal_at(&self.alloc, path, fault)?;
+            let refusal = refusal_at(&self.alloc, Some(path), fault)?;
             return Ok(Reply::Refused(refusal));
         }
         self.add_group(path)?;

@@ -51,7 +51,7 @@ impl<A: Allocator + Clone, M: Meter> Engine<A, M> {
         ensures err { OnErr result (self.new ≡ self.old) }
     {
         if let Some(fault) = self.charges.refuses_rmdir(path) {
-            let refusal = refusal_at(&self.alloc, path, fault)?;
+            let refusal = refusal_at(&self.alloc, Some(path), fault)?;
             return Ok(Reply::Refused(refusal));
         }
         self.take_group(path)?;

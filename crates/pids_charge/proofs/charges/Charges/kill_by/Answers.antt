@@ -1,4 +1,4 @@
-use Rattle.std.proofs.Common.{ℕ, ◌<◌, List, length, not, arith, refl, ap, ◌∙◌, sym, subst}
+use Rattle.std.proofs.Common.{ℕ, List, length, arith, ap, ◌∙◌, sym, subst}
 use Rattle.std.specs.Map.{values_of}
 use Rattle.std.specs.List.{All}
 use Rattle.flat_model.specs.CommandText.{IsPid}
@@ -16,22 +16,7 @@ use Rattle.pids_charge.proofs.Gathers.{left_rows, lost_rows}
 use Rattle.pids_charge.proofs.TableSlots.{one_home}
 use Rattle.pids_charge.proofs.Charged.{held_small, inside_there, killed}
 use Rattle.pids_charge.proofs.Listing.{lost-is, killed-is}
-use Rattle.pids_charge.proofs.Asked.{group-found, kill_no_group, kill_allowed}
 use Rattle.pids_charge.proofs.charges.Charges.kill_by.Goals as goal
-
-pub returns-then-is_none-clause-state : goal.returns-then-is_none-clause-state
-returns-then-is_none-clause-state g c =
-    let is = group-found c.args.self.now c.self.inside.tree c.self.inside.processes c.self.view_is c.args.path.now c.find.result
-    c.is_none.result c.find.ensures c.is_none.ensures ∙ ap not c.if-is_none.true in
-    let long : 0 < length c.args.path.now = omega arith in
-    (kill_no_group g.M.Meter.SLOTS c.args.self.now c.args.path.now c.depth-then-is_none.result long is c.depth-then-is_none.ensures, refl)
-
-pub returns-in_default-clause-state : goal.returns-in_default-clause-state
-returns-in_default-clause-state g c =
-    let is = group-found c.args.self.now c.self.inside.tree c.self.inside.processes c.self.view_is c.args.path.now c.find.result
-    c.is_none.result c.find.ensures c.is_none.ensures ∙ ap not c.if-is_none.false in
-    let long : 0 < length c.args.path.now = omega arith in
-    (kill_allowed g.M.Meter.SLOTS c.args.self.now c.args.path.now long is, refl)
 
 pub settle-requires-clause-charged : goal.settle-requires-clause-charged
 settle-requires-clause-charged g c = λ s j.
@@ -69,17 +54,14 @@ invariant_of-self g c =
     }
 
 pub returns-clause-state : goal.returns-clause-state
-returns-clause-state g c =
-    let is = group-found c.args.self.now c.self.inside.tree c.self.inside.processes c.self.view_is c.args.path.now c.find.result
-    c.is_none.result c.find.ensures c.is_none.ensures ∙ ap not c.if-is_none.false in
-    let long : 0 < length c.args.path.now = omega arith in (
-      kill_allowed g.M.Meter.SLOTS c.args.self.now c.args.path.now long is,
-      ap (state_of c.self.inside.tree) (c.leave-lost.ensures.stay
-          ∙ ap (λ (ks : List ℕ). without_each ks c.self.inside.processes) (c.as_slice-2.ensures.value ∙ (c.in-Ok.ensures).pids)
-          ∙ left_rows (is_inside c.args.path.now) c.self.inside.processes c.self.invariant.recounted.ordered)
-          ∙ killed-is c.self.inside.tree c.self.inside.processes c.self.invariant.recounted.ordered c.args.path.now
-          ∙ ap (λ (t : State). after t (Kill c.args.path.now)) c.self.view_is,
-    )
+returns-clause-state g c = (
+  c.in_default.ensures.first,
+  ap (state_of c.self.inside.tree) (c.leave-lost.ensures.stay
+      ∙ ap (λ (ks : List ℕ). without_each ks c.self.inside.processes) (c.as_slice-2.ensures.value ∙ (c.in-Ok.ensures).pids)
+      ∙ left_rows (is_inside c.args.path.now) c.self.inside.processes c.self.invariant.recounted.ordered)
+      ∙ killed-is c.self.inside.tree c.self.inside.processes c.self.invariant.recounted.ordered c.args.path.now
+      ∙ ap (λ (t : State). after t (Kill c.args.path.now)) c.self.view_is,
+)
 
 pub returns-clause-taken : goal.returns-clause-taken
 returns-clause-taken g c =
