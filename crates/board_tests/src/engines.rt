@@ -34,11 +34,19 @@ fn line(alloc: Global, case: &Case, from: usize) -> Result<Vec<u8>, AllocError> 
     Ok(line)
 }
 
-/// The command of the words from this one on.
-fn command(alloc: Global, case: &Case, from: usize) -> Result<Command<Global>, CaseFault> {
-    let line = line(alloc, case, from)?;
+/// A command, and the user who issues it.
+#[derive(Drop)]
+struct Issued {
+    who: u8,
+    command: Command<Global>,
+}
+
+/// What the words from this one on issue: the user's number, and a line.
+fn issued(alloc: Global, case: &Case, from: usize) -> Result<Issued, CaseFault> {
+    let who = case.number(from)?.min(255) as u8;
+    let line = line(alloc, case, from.saturating_add(1))?;
     match parse_line(alloc, line.as_slice())? {
-        Line::Run(command) => Ok(command),
+        Line::Run(command) => Ok(Issued { who, command }),
         _ => Err(CaseFault::Malformed),
     }
 }
@@ -50,19 +58,18 @@ impl BoardEngine {
         Ok(BoardEngine { engine })
     }
 
-    /// Applies the command of a line, whose user is the word with this index, with this test hook.
+    /// Applies the command with this test hook.
     fn apply<R: Threads + Wait + Sync>(
         &mut self,
         rt: &R,
         alloc: Global,
         gate: &(dyn Gate + Sync),
-        case: &Case,
-        at: usize,
+        issued: &Issued,
         said: &mut String,
     ) -> Result<(), CaseFault> {
-        let who = case.number(at)?.min(255) as u8;
-        let command = command(alloc, case, at.saturating_add(1))?;
-        let reply = self.engine.apply_gated(rt, gate, who, &command);
+        let reply = self
+            .engine
+            .apply_gated(rt, gate, issued.who, &issued.command);
         let mut bytes = Vec::new(alloc);
         put_reply(alloc, &mut bytes, 1, &reply)?;
         match bytes.as_slice() {
@@ -90,10 +97,14 @@ impl Subject for BoardEngine {
             }
             b"meet" => {
                 let meeting = Meeting::new(case.number(1)?.min(9) as usize);
-                self.apply(rt, alloc, &meeting, case, 2, said)?;
+                let issued = issued(alloc, case, 2)?;
+                self.apply(rt, alloc, &meeting, &issued, said)?;
                 said.push_str(meeting.said())?;
             }
-            _ => self.apply(rt, alloc, &OpenGate, case, 0, said)?,
+            _ => {
+                let issued = issued(alloc, case, 0)?;
+                self.apply(rt, alloc, &OpenGate, &issued, said)?;
+            }
         }
         Ok(Outcome::Answered)
     }

@@ -18,7 +18,7 @@ ghost use Rattle.board_tests.specs.Tokens.{Holds, board_content};
 
 use crate::drawn::{drawn, next};
 use crate::meeting::Meeting;
-use crate::swap::{Way, alike, counts, fits, swap};
+use crate::swap::{Exchange, Way, alike, counts, fits, swap};
 use board_meter::BoardMeter;
 use pids_charge::{Gate, LEAVES, OpenGate, PlainMeter, SLOTS, Token};
 use std::alloc::{AllocError, Global};
@@ -114,8 +114,14 @@ impl Meters {
         }
         let leaving = self.charges.as_slice();
         let arriving = charges.as_slice();
-        swap(rt, &mut self.plain, way, open, stripe, leaving, arriving);
-        swap(rt, &mut self.board, way, gate, stripe, leaving, arriving);
+        let exchange = Exchange {
+            way,
+            stripe,
+            leaving,
+            arriving,
+        };
+        swap(rt, &mut self.plain, open, &exchange);
+        swap(rt, &mut self.board, gate, &exchange);
         self.charges = charges;
         Some(alike(&mut self.plain, &mut self.board, SLOTS as u16))
     }

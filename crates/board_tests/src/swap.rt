@@ -50,22 +50,34 @@ pub(crate) enum Way {
     Settlement,
 }
 
+/// The charges to be removed, from this stripe, and those to be added, each by a call or all by a settlement.
+#[derive(Clone, Copy)]
+pub(crate) struct Exchange<'a> {
+    pub(crate) way: Way,
+    pub(crate) stripe: u8,
+    pub(crate) leaving: &'a [Token],
+    pub(crate) arriving: &'a [Token],
+}
+
 /// Removes the leaving charges, which are all that there are, and adds the arriving ones.
 pub(crate) fn swap<R: Threads, M: Meter>(
     rt: &R,
     meter: &mut M,
-    way: Way,
     gate: &(dyn Gate + Sync),
-    stripe: u8,
-    leaving: &[Token],
-    arriving: &[Token],
+    exchange: &Exchange,
 )
-    requires within { IsWithin M.SLOTS M.LEAVES leaving.now × IsWithin M.SLOTS M.LEAVES arriving.now }
-    requires stripe { stripe < M.LEAVES }
-    requires few { (length leaving.now ≤ 1000) × (length arriving.now ≤ 1000) }
-    requires held { Holds leaving.now (M.content meter.old) (M.held meter.old) }
-    ensures held { Holds arriving.now (M.content meter.new) (M.held meter.new) }
+    requires within { IsWithin M.SLOTS M.LEAVES exchange.now.leaving.now × IsWithin M.SLOTS M.LEAVES exchange.now.arriving.now }
+    requires stripe { exchange.now.stripe < M.LEAVES }
+    requires few { (length exchange.now.leaving.now ≤ 1000) × (length exchange.now.arriving.now ≤ 1000) }
+    requires held { Holds exchange.now.leaving.now (M.content meter.old) (M.held meter.old) }
+    ensures held { Holds exchange.now.arriving.now (M.content meter.new) (M.held meter.new) }
 {
+    let Exchange {
+        way,
+        stripe,
+        leaving,
+        arriving,
+    } = *exchange;
     match way {
         Way::Calls => {
             uncharge_each(meter, stripe, leaving);

@@ -25,7 +25,7 @@ use std::alloc::{AllocError, Global};
 use std::process::ExitCode;
 use std::sync::Wait;
 use std::thread::Threads;
-use test_support::{Group, Suite, Tally, run_ample, run_refused, run_suite, see_empty};
+use test_support::{Group, Suite, Tally, Twins, run_ample, run_refused, run_suite, see_empty};
 use values::Values;
 
 /// The subjects: a table of processes, values, or charges.
@@ -42,9 +42,10 @@ fn run_table<R: Threads + Wait + Sync>(
         return run_ample(rt, alloc, &mut ample, group, tally);
     };
     let heap = LocalHeap::new(alloc, size)?;
-    let mut table = Homed::new(alloc, &heap)?;
-    run_refused(rt, alloc, &heap, &mut table, &mut ample, group, tally)?;
-    drop(table);
+    let in_heap = Homed::new(alloc, &heap)?;
+    let mut twins = Twins { in_heap, ample };
+    run_refused(rt, alloc, &heap, &mut twins, group, tally)?;
+    drop(twins);
     see_empty(&heap, group, tally)
 }
 
@@ -59,9 +60,10 @@ fn run_charges<R: Threads + Wait + Sync>(
         return run_ample(rt, alloc, &mut ample, group, tally);
     };
     let heap = LocalHeap::new(alloc, size)?;
-    let mut charged = Charged::new(alloc, &heap)?;
-    run_refused(rt, alloc, &heap, &mut charged, &mut ample, group, tally)?;
-    drop(charged);
+    let in_heap = Charged::new(alloc, &heap)?;
+    let mut twins = Twins { in_heap, ample };
+    run_refused(rt, alloc, &heap, &mut twins, group, tally)?;
+    drop(twins);
     see_empty(&heap, group, tally)
 }
 

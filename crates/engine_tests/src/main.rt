@@ -31,22 +31,26 @@ use std::alloc::{AllocError, Allocator, Global};
 use std::process::ExitCode;
 use std::sync::Wait;
 use std::thread::Threads;
-use test_support::{Group, Suite, Tally, run_ample, run_refused, run_suite, see_empty};
+use test_support::{Group, Suite, Tally, Twins, run_ample, run_refused, run_suite, see_empty};
 
 /// Engines over plain meters.
 struct Engines;
 
-/// Makes the calls on the engine, in whose heap allocations are refused, and on one elsewhere.
+/// Makes the calls on the engine, in whose heap allocations are refused, and on one elsewhere, and drops both.
 fn run_beside_ample<E: Allocator + Clone, A: Allocator + Clone, R: Threads + Wait + Sync>(
     rt: &R,
     alloc: Global,
     heap: &LocalHeap,
-    tested: &mut Tested<E, A>,
+    tested: Tested<E, A>,
     group: &Group,
     tally: &mut Tally,
 ) -> Result<(), AllocError> {
-    let mut ample = Tested::new(alloc, alloc, alloc)?;
-    run_refused(rt, alloc, heap, tested, &mut ample, group, tally)
+    let ample = Tested::new(alloc, alloc, alloc)?;
+    let mut twins = Twins {
+        in_heap: tested,
+        ample,
+    };
+    run_refused(rt, alloc, heap, &mut twins, group, tally)
 }
 
 /// Makes the calls on an engine in this heap, and drops it. No allocation is refused but those that a case refuses.
@@ -69,8 +73,8 @@ fn run_copies<R: Threads + Wait + Sync>(
     group: &Group,
     tally: &mut Tally,
 ) -> Result<(), AllocError> {
-    let mut tested = Tested::new(alloc, alloc, heap)?;
-    run_beside_ample(rt, alloc, heap, &mut tested, group, tally)
+    let tested = Tested::new(alloc, alloc, heap)?;
+    run_beside_ample(rt, alloc, heap, tested, group, tally)
 }
 
 /// Makes the calls on an engine in this heap, and drops it.
@@ -81,8 +85,8 @@ fn run_in<R: Threads + Wait + Sync>(
     group: &Group,
     tally: &mut Tally,
 ) -> Result<(), AllocError> {
-    let mut tested = Tested::new(alloc, heap, heap)?;
-    run_beside_ample(rt, alloc, heap, &mut tested, group, tally)
+    let tested = Tested::new(alloc, heap, heap)?;
+    run_beside_ample(rt, alloc, heap, tested, group, tally)
 }
 
 /// Makes the calls on the subject of the group, and drops it.

@@ -42,16 +42,6 @@ kept_count attr kids b nm d is h =
     let one : length (below kids) ≡ fin.len b.groups - 1 = omega (arith, e) in
     h.counted ∙ ap (λ (x : ℕ). x % 2 ^ 64) one
 
--- ---- as the tree answers it
-
-pub beside_root : (m tree : Groups) (n : ℕ) → m ≡ tree → n ≡ (fin.len m - 1) % 2 ^ 64 → n ≡ (fin.len tree - 1) % 2 ^ 64
-beside_root m tree n is e = e ∙ ap (λ (x : Groups). (fin.len x - 1) % 2 ^ 64) is
-
-pub exact_beside_root : (m tree : Groups) (n : ℕ) → m ≡ tree → n ≡ (fin.len m - 1) % 2 ^ 64 → fin.len m ≢ 0 → fin.len tree < 2 ^ 64 → n + 1 ≡ fin.len tree
-exact_beside_root m tree n is e some few =
-    let same = ap fin.len is in
-    omega (arith, e, some, few, same)
-
 -- ---- along each change
 
 some_is : {A : Type 0} (o : Option A) (a : A) → o ≡ Some a → is_some o ≡ true

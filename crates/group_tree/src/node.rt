@@ -125,14 +125,6 @@ impl<A: Allocator> Node<A> {
         }
     }
 
-    /// How many groups are below it, modulo 2^64.
-    pub(crate) fn groups_below(&self) -> u64
-        ensures value { result ≡ (fin.len self.now.groups - 1) % 2 ^ 64 }
-        ensures whole { fin.len self.now.groups ≢ 0 }
-    {
-        self.inner.descendants
-    }
-
     /// The attributes of the group at these names from here.
     pub(crate) fn find(&self, names: Names<'_>) -> Option<&Attr>
         ensures { option_copied result ≡ fin.get self.now.groups names.entry }

@@ -147,15 +147,6 @@ impl<A: Allocator> GroupTree<A> {
         self.root.set_peaks(path.names(), peaks);
     }
 
-    /// How many groups there are besides the root. The number is stored, so this takes constant time. It is exact as long as
-    /// the tree has fewer than 2^64 groups.
-    pub fn groups_beside_root(&self) -> u64
-        ensures counted { result ≡ (fin.len self.now - 1) % 2 ^ 64 }
-        ensures exact { fin.len self.now < 2 ^ 64 → result + 1 ≡ fin.len self.now }
-    {
-        self.root.groups_below()
-    }
-
     /// How many groups are strictly below the group at the path; None if there is no such group. The number is stored, so
     /// this costs no more than `find`. It is exact as long as the tree has fewer than 2^64 groups.
     pub fn descendants<B: Allocator + Clone>(&self, path: &GroupPath<B>) -> Option<u64>

@@ -1,6 +1,7 @@
 //! A tree copied into an arena.
 
 use bumpalo::Bump;
+use group_path::GroupPath;
 use group_tree::GroupTree;
 use std::alloc::{AllocError, Allocator, Global};
 use std::mem;
@@ -12,9 +13,10 @@ pub(crate) fn copied_into_an_arena<A: Allocator>(
     tree: &GroupTree<A>,
     is_forgotten: bool,
 ) -> Result<(u64, bool), AllocError> {
+    let root = GroupPath::root(alloc)?;
     let mut arena = Bump::new(alloc);
     let copy = tree.copy(&arena)?;
-    let groups = copy.groups_beside_root();
+    let groups = copy.descendants(&root).unwrap_or(0);
     if is_forgotten {
         mem::forget(copy);
     } else {

@@ -29,7 +29,7 @@ use std::alloc::{AllocError, Global};
 use std::process::ExitCode;
 use std::sync::Wait;
 use std::thread::Threads;
-use test_support::{Group, Suite, Tally, run_ample, run_refused, run_suite, see_empty};
+use test_support::{Group, Suite, Tally, Twins, run_ample, run_refused, run_suite, see_empty};
 use trees::Trees;
 
 struct Hierarchy;
@@ -61,9 +61,10 @@ fn run_paths<R: Threads + Wait + Sync>(
         return run_ample(rt, alloc, &mut ample, group, tally);
     };
     let heap = LocalHeap::new(alloc, size)?;
-    let mut paths = Paths::new(alloc, &heap)?;
-    run_refused(rt, alloc, &heap, &mut paths, &mut ample, group, tally)?;
-    drop(paths);
+    let in_heap = Paths::new(alloc, &heap)?;
+    let mut twins = Twins { in_heap, ample };
+    run_refused(rt, alloc, &heap, &mut twins, group, tally)?;
+    drop(twins);
     see_empty(&heap, group, tally)
 }
 
@@ -79,9 +80,10 @@ fn run_trees<R: Threads + Wait + Sync>(
         return run_ample(rt, alloc, &mut ample, group, tally);
     };
     let heap = LocalHeap::new(alloc, size)?;
-    let mut trees = Trees::new(&heap)?;
-    run_refused(rt, alloc, &heap, &mut trees, &mut ample, group, tally)?;
-    drop(trees);
+    let in_heap = Trees::new(&heap)?;
+    let mut twins = Twins { in_heap, ample };
+    run_refused(rt, alloc, &heap, &mut twins, group, tally)?;
+    drop(twins);
     see_empty(&heap, group, tally)
 }
 

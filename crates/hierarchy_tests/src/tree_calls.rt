@@ -25,10 +25,9 @@ pub(crate) fn answer<A: Allocator + Copy>(
         return Err(CaseFault::Malformed);
     };
     match name {
-        "groups" => push_count(said, Some(tree.groups_beside_root()))?,
         "find" => push_attributes(said, tree.find(&path))?,
         "find_at" => push_attributes(said, tree.find_at(&path, prefix(words, &path)?))?,
-        "descendants" => push_count(said, tree.descendants(&path))?,
+        "groups" | "descendants" => push_count(said, tree.descendants(&path))?,
         "descendants_at" => push_count(said, tree.descendants_at(&path, prefix(words, &path)?))?,
         "find_with_descendants" => match tree.find_with_descendants(&path) {
             Some((attr, below)) => {

@@ -25,7 +25,7 @@ use std::alloc::{AllocError, Global};
 use std::process::ExitCode;
 use std::sync::Wait;
 use std::thread::Threads;
-use test_support::{Group, Suite, Tally, run_ample, run_refused, run_suite, see_empty};
+use test_support::{Group, Suite, Tally, Twins, run_ample, run_refused, run_suite, see_empty};
 
 /// The subjects: cores and boards.
 struct Indicators;
@@ -41,21 +41,16 @@ fn run_cores<R: Threads + Wait + Sync>(
         return run_ample(rt, alloc, &mut Cores::new(alloc), group, tally);
     };
     let heap = LocalHeap::new(alloc, size)?;
-    let mut cores = Cores::new(&heap);
+    let mut twins = Twins {
+        in_heap: Cores::new(&heap),
+        ample: Cores::new(alloc),
+    };
     if group.subject.as_str() == "small" {
-        run_ample(rt, alloc, &mut cores, group, tally)?;
+        run_ample(rt, alloc, &mut twins.in_heap, group, tally)?;
     } else {
-        run_refused(
-            rt,
-            alloc,
-            &heap,
-            &mut cores,
-            &mut Cores::new(alloc),
-            group,
-            tally,
-        )?;
+        run_refused(rt, alloc, &heap, &mut twins, group, tally)?;
     }
-    drop(cores);
+    drop(twins);
     see_empty(&heap, group, tally)
 }
 

@@ -3,7 +3,7 @@
 ghost use Rattle.std.specs.Prelude.{◌≡◌, false};
 
 use replay_main::{ReplayFault, Sink, Source, Summary, rehearse_trace, replay};
-use shell_main::{Options, ShellFault, shell, shell_by, strict_shell};
+use shell_main::{Options, ShellFault, shell_by};
 use std::alloc::{AllocError, Global};
 use std::sync::Wait;
 use std::thread::Threads;
@@ -58,24 +58,6 @@ pub(crate) fn way_of(word: &[u8]) -> Option<Way> {
     }
 }
 
-/// Answers a trace by a shell.
-fn by_a_shell<R: Threads + Wait + Sync, S: Source, W: Sink>(
-    rt: &R,
-    alloc: Global,
-    options: Options,
-    source: &mut S,
-    sink: &mut W,
-) -> Result<Summary, ShellFault>
-    requires reader { S.is_failed source.old ≡ false }
-    requires writer { W.is_failed sink.old ≡ false }
-{
-    match (options.is_strict, options.keeps_history) {
-        (false, true) => shell(rt, alloc, source, sink),
-        (true, true) => strict_shell(rt, alloc, source, sink),
-        (_, false) => shell_by(rt, alloc, options, source, sink),
-    }
-}
-
 /// Answers a trace.
 pub(crate) fn answer<R: Threads + Wait + Sync, S: Source, W: Sink>(
     rt: &R,
@@ -91,7 +73,7 @@ pub(crate) fn answer<R: Threads + Wait + Sync, S: Source, W: Sink>(
         Way::Workers(workers @ 1..=8) => replay(rt, alloc, source, sink, workers),
         Way::Workers(_) | Way::Rehearsal => rehearse_trace(rt, alloc, source, sink),
         Way::Shell(options) => {
-            return match by_a_shell(rt, alloc, options, source, sink) {
+            return match shell_by(rt, alloc, options, source, sink) {
                 Ok(summary) => Ok(summary),
                 Err(fault) => Err(Fault::Shell(fault)),
             };

@@ -132,12 +132,30 @@ fn serve_all<R: Threads + Wait + Sync, G: Gate>(
             for worker in 1..seats.len() {
                 let work = move ||
                     requires { (worker < length seats.now) × (length seats.now ≤ 8) }
-                { work_for(rt, gate, desk, seats, commands, is_short, &only(worker)) };
+                {
+                    work_for(
+                        rt,
+                        gate,
+                        &Shared {
+                            desk,
+                            seats,
+                            commands,
+                            is_short,
+                        },
+                        &only(worker),
+                    )
+                };
                 if scope.spawn(work).is_err() {
                     is_mine[worker] = true;
                 }
             }
-            work_for(rt, gate, desk, seats, commands, is_short, &is_mine);
+            let shared = Shared {
+                desk,
+                seats,
+                commands,
+                is_short,
+            };
+            work_for(rt, gate, &shared, &is_mine);
         },
     );
 }
@@ -163,32 +181,38 @@ fn run_length(len: usize, workers: usize) -> usize
     len.saturating_sub(1) / (8 * workers) + 1
 }
 
+/// What all workers share.
+#[derive(Clone, Copy)]
+struct Shared<'a> {
+    desk: &'a Desk,
+    seats: &'a [Mutex<Session>],
+    commands: &'a [Command<Global>],
+    is_short: &'a AtomicBool,
+}
+
 /// The work of these workers, in the order of the turns: run r is that of worker r mod their number.
 fn work_for<R: Threads + Wait + Sync, G: Gate>(
     rt: &R,
     gate: &G,
-    desk: &Desk,
-    seats: &[Mutex<Session>],
-    commands: &[Command<Global>],
-    is_short: &AtomicBool,
+    shared: &Shared,
     is_mine: &[bool; 8],
 )
-    requires { (1 ≤ length seats.now) × (length seats.now ≤ 8) }
+    requires { (1 ≤ length shared.now.seats.now) × (length shared.now.seats.now ≤ 8) }
 {
-    let workers = seats.len();
+    let workers = shared.seats.len();
     for worker in 0..workers {
         if is_mine[worker] {
             gate.pass((workers + worker + 1) as u8);
         }
     }
-    let size = run_length(commands.len(), workers);
-    for (run, turns) in commands.chunks(size).enumerate() {
+    let size = run_length(shared.commands.len(), workers);
+    for (run, turns) in shared.commands.chunks(size).enumerate() {
         let worker = run % workers;
         if !is_mine[worker] {
             continue;
         }
         let first = run.saturating_mul(size);
-        if !run_turns(rt, desk, seats, worker, first, turns, is_short) {
+        if !run_turns(rt, shared, worker, first, turns) {
             break;
         }
     }
@@ -198,22 +222,25 @@ fn work_for<R: Threads + Wait + Sync, G: Gate>(
 /// desk is halted. No seat is held during the wait, since the runs before need the sessions.
 fn run_turns<R: Threads + Wait + Sync>(
     rt: &R,
-    desk: &Desk,
-    seats: &[Mutex<Session>],
+    shared: &Shared,
     worker: usize,
     first: usize,
     commands: &[Command<Global>],
-    is_short: &AtomicBool,
 ) -> bool
-    requires { (worker < length seats.now) × (length seats.now ≤ 8) }
+    requires { (worker < length shared.now.seats.now) × (length shared.now.seats.now ≤ 8) }
 {
-    if desk.wait_for(rt, worker as u8, first as u64).is_none() {
+    let seats = shared.seats;
+    if shared
+        .desk
+        .wait_for(rt, worker as u8, first as u64)
+        .is_none()
+    {
         return false;
     }
     for (place, command) in commands.iter().enumerate() {
         let turn = first.saturating_add(place);
         let seat = &seats[turn % seats.len()];
-        if !run_one(rt, &mut seat.lock(rt), turn, command, is_short) {
+        if !run_one(rt, &mut seat.lock(rt), turn, command, shared.is_short) {
             return false;
         }
     }

@@ -106,17 +106,24 @@ pub(crate) fn race<R: Threads + Wait + Sync>(
     Ok(())
 }
 
+/// A desk to be closed, and the sessions that are handed in.
+#[derive(Drop)]
+struct Closing {
+    desk: Desk,
+    handed: Vec<Session>,
+}
+
 /// Whether a desk that is closed while this session does its job is closed over an empty log, and the session is halted; or
 /// is not closed without the session's one receipt, and then closed with it.
 fn is_before_or_after<R: Threads + Wait + Sync>(
     rt: &R,
     alloc: Global,
-    desk: Desk,
-    handed: Vec<Session>,
+    closing: Closing,
     session: Session,
     job: &str,
     pace: Pace,
 ) -> bool {
+    let Closing { desk, handed } = closing;
     let ((session, did), answer) = join(
         rt,
         || finished(rt, alloc, session, job, pace),
@@ -145,7 +152,8 @@ fn is_closed_beside<R: Threads + Wait + Sync>(
     let desk = Desk::new(alloc, 3)?;
     let handed = vec![in alloc; desk.session(0)?, desk.session(1)?]?;
     let session = desk.session(2)?;
-    Ok(is_before_or_after(rt, alloc, desk, handed, session, job, pace))
+    let closing = Closing { desk, handed };
+    Ok(is_before_or_after(rt, alloc, closing, session, job, pace))
 }
 
 /// `close_beside TIMES PAUSES JOB`: TIMES new desks of three sessions are closed while the last session does this job. The

@@ -22,6 +22,13 @@ pub(crate) struct Pace {
     pub(crate) sessions: u64,
 }
 
+/// A round of a job: the number that stands for `#`, and the pauses.
+#[derive(Clone, Copy)]
+struct Round {
+    number: u64,
+    pace: Pace,
+}
+
 /// How many commands ran, each at its turn if it had one, and why the last one that did not run did not.
 #[derive(Clone, Copy)]
 pub(crate) struct Did {
@@ -104,13 +111,12 @@ fn take_steps<R: Threads + Wait + Sync>(
     alloc: Global,
     session: &mut Session,
     steps: &str,
-    number: u64,
-    pace: Pace,
+    round: Round,
     did: &mut Did,
 ) -> Result<(), CaseFault> {
     for step in steps.split(',') {
-        let step = numbered(alloc, step, number)?;
-        take_step(rt, alloc, session, step.as_str(), pace, did)?;
+        let step = numbered(alloc, step, round.number)?;
+        take_step(rt, alloc, session, step.as_str(), round.pace, did)?;
     }
     Ok(())
 }
@@ -131,11 +137,12 @@ pub(crate) fn work<R: Threads + Wait + Sync>(
         ran: 0,
         fault: None,
     };
-    for round in 0..times {
-        let number = round
+    for time in 0..times {
+        let number = time
             .saturating_mul(pace.sessions)
             .saturating_add(u64::from(session.number));
-        if take_steps(rt, alloc, session, steps, number, pace, &mut did).is_err() {
+        let round = Round { number, pace };
+        if take_steps(rt, alloc, session, steps, round, &mut did).is_err() {
             did.fault = Some(RunFault::OutOfMemory);
         }
     }

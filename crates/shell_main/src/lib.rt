@@ -1,6 +1,6 @@
 //! A shell over the trace language: all lines that one read brought are answered before the next bytes are read.
 //!
-//! `shell` reads lines from a `Source` to its end. It answers the lines of each read, writes their output to a `Sink` and
+//! `shell_by` reads lines from a `Source` to its end. It answers the lines of each read, writes their output to a `Sink` and
 //! flushes it before it reads on. So a program in any language can send a line, look at the output, and send the next.
 //!
 //! - The output is that of `replay_main`, byte for byte: `answers` of `flat_model`. So are the two counts of the `Summary`.
@@ -8,9 +8,9 @@
 //! - A fault of a shell says what failed. Before each fault but `Write`, exactly the output for whole lines was written;
 //!   before `Write`, a prefix of the output. A line of more than `TRACE_MAX` bytes is too long. Out of memory ends the
 //!   shell.
-//! - `strict_shell` also stops after the first line that is not a command; its answer is the last output.
-//! - `shell_by` takes both options. Without a history each `undo` has nothing to undo, and any other line is answered as if
-//!   the undos before it were not there.
+//! - A strict shell also stops after the first line that is not a command; its answer is the last output.
+//! - Without a history each `undo` has nothing to undo, and any other line is answered as if the undos before it were not
+//!   there.
 //! - `run_program` does what the program's arguments request: a shell, or the help text or the version. `exit_status` is the
 //!   program's exit status. The text of a fault is its message.
 //! - `PipeSink` writes to standard output, and knows a closed pipe from other faults. No clause says that.
@@ -37,4 +37,4 @@ pub use fault::ShellFault;
 pub use options::Options;
 pub use pipe::PipeSink;
 pub use program::{ProgramFault, exit_status, run_program, with_closed_pipe};
-pub use serving::{shell, shell_by, strict_shell};
+pub use serving::shell_by;

@@ -13,71 +13,22 @@ use std::sync::Wait;
 use std::thread::Threads;
 use trace_talk::{Summary, Talk};
 
-/// Reads lines to the end of the source, and answers those of each read before the next read.
+/// Reads lines to the end of the source, and answers those of each read before the next read. A strict shell stops after the
+/// first line that is neither a command nor skipped. A shell without a history keeps no records, and nothing can be undone.
 ///
 /// The output for the lines of one read is written and flushed at once, before more is read; long output is written in
 /// parts. The writer is also flushed before the first read. It may wait for its devices, but for nothing else. It keeps the
 /// engine with its journal, of the input only the last read and the line that has not ended, and of the output only what is
-/// not written yet. Apart from what the engine takes for each command, it is linear in the lines and their output.
+/// not written yet. Apart from what the engine takes for each command, it is linear in the lines and their output. Without
+/// a history it also drops each record.
 ///
 /// # Errors
 ///
 /// `Read` if a read failed; exactly the whole lines that were read are answered. `InputTooLong` if the next line has more
 /// than `TRACE_MAX` bytes, or no number is left for it. `OutOfMemory`. For all these, exactly the output for whole lines was
 /// written and flushed. `Write` if a write or a flush failed or a write took no bytes; then a prefix of the output was
-/// written.
-pub fn shell<R: Threads + Wait + Sync, S: Source, W: Sink>(
-    rt: &R,
-    alloc: Global,
-    reader: &mut S,
-    writer: &mut W,
-) -> Result<Summary, ShellFault>
-    requires reader { S.is_failed reader.old ≡ false }
-    requires writer { W.is_failed writer.old ≡ false }
-    ensures { Shelled true (S.left reader.old)
-        (record { left = S.left reader.new; failed = S.is_failed reader.new }) (W.taken writer.old)
-        (record { taken = W.taken writer.new; failed = W.is_failed writer.new; flushed = W.is_flushed writer.new })
-        result }
-{
-    let options = Options {
-        is_strict: false,
-        keeps_history: true,
-    };
-    shell_by(rt, alloc, options, reader, writer)
-}
-
-/// As `shell`, but stops after the first line that is neither a command nor skipped.
-///
-/// # Errors
-///
-/// Those of `shell`; before `Write`, no line after the first such line was answered. `NotACommand` after such a line: its
-/// answer, and those of the lines before it, are all that was written, and flushed.
-pub fn strict_shell<R: Threads + Wait + Sync, S: Source, W: Sink>(
-    rt: &R,
-    alloc: Global,
-    reader: &mut S,
-    writer: &mut W,
-) -> Result<Summary, ShellFault>
-    requires reader { S.is_failed reader.old ≡ false }
-    requires writer { W.is_failed writer.old ≡ false }
-    ensures { ShelledBy (record { is_strict = true; keeps_history = true }) (S.left reader.old)
-        (record { left = S.left reader.new; failed = S.is_failed reader.new }) (W.taken writer.old)
-        (record { taken = W.taken writer.new; failed = W.is_failed writer.new; flushed = W.is_flushed writer.new })
-        result }
-{
-    let options = Options {
-        is_strict: true,
-        keeps_history: true,
-    };
-    shell_by(rt, alloc, options, reader, writer)
-}
-
-/// A shell with these options: strict or not, with a history or without. Without one it costs what `shell` costs and
-/// dropping each record, and its memory holds no records.
-///
-/// # Errors
-///
-/// Those of `shell`, and those of `strict_shell` if it is strict.
+/// written, and a strict shell answered no line after the first that is not a command. `NotACommand` after such a line, in
+/// a strict shell: its answer, and those of the lines before it, are all that was written, and flushed.
 pub fn shell_by<R: Threads + Wait + Sync, S: Source, W: Sink>(
     rt: &R,
     alloc: Global,

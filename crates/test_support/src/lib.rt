@@ -52,9 +52,10 @@
 //!             return run_ample(rt, alloc, &mut ample, group, tally);
 //!         };
 //!         let heap = LocalHeap::new(alloc, size)?;
-//!         let mut tree = Tree::new(&heap)?;
-//!         run_refused(rt, alloc, &heap, &mut tree, &mut ample, group, tally)?;
-//!         drop(tree);
+//!         let in_heap = Tree::new(&heap)?;
+//!         let mut twins = Twins { in_heap, ample };
+//!         run_refused(rt, alloc, &heap, &mut twins, group, tally)?;
+//!         drop(twins);
 //!         see_empty(&heap, group, tally)
 //!     }
 //! }
@@ -80,6 +81,6 @@ pub use barrier::Barrier;
 pub use cases::{Case, CaseFault, Group};
 pub use escapes::push_escaped;
 pub use paths::path;
-pub use refused::{Outcome, Subject, run_ample, run_refused, see_empty};
+pub use refused::{Outcome, Subject, Twins, run_ample, run_refused, see_empty};
 pub use room::{BLOCK_SIZE, BLOCKS_MAX, Tried, all_but};
 pub use suite::{Suite, Tally, run_suite};

@@ -45,6 +45,20 @@ pub trait Subject {
     fn show(&mut self, alloc: Global, text: &mut String) -> Result<(), AllocError>;
 }
 
+/// A subject in a heap where allocations are refused, and one elsewhere on which the same calls are made.
+#[derive(Drop)]
+pub struct Twins<S: Drop, T: Drop> {
+    pub in_heap: S,
+    pub ample: T,
+}
+
+/// The heap, and how many blocks of room are left out: from the first number to before the second.
+#[derive(Clone, Copy)]
+struct Room<'a> {
+    heap: &'a LocalHeap,
+    gap: (usize, usize),
+}
+
 /// Makes the call. Words that are not those of a call are answered by `malformed`.
 fn make<S: Subject, R: Threads + Wait + Sync>(
     rt: &R,
@@ -120,12 +134,12 @@ pub fn run_ample<S: Subject, R: Threads + Wait + Sync>(
 fn refusals<S: Subject, R: Threads + Wait + Sync>(
     rt: &R,
     alloc: Global,
-    heap: &LocalHeap,
+    room: Room,
     subject: &mut S,
-    gap: (usize, usize),
     case: &Case,
     tally: &mut Tally,
 ) -> Result<Option<usize>, AllocError> {
+    let Room { heap, gap } = room;
     let before = shown(alloc, subject)?;
     let mut blocks = all_but(alloc, heap, 0)?;
     for room in 0..BLOCKS_MAX {
@@ -160,17 +174,15 @@ fn refusals<S: Subject, R: Threads + Wait + Sync>(
 }
 
 /// Whether the call passes in the heap, and with ample memory, and leaves both subjects alike.
-fn passes_both<S: Subject, T: Subject, R: Threads + Wait + Sync>(
+fn passes_both<S: Subject + Drop, T: Subject + Drop, R: Threads + Wait + Sync>(
     rt: &R,
     alloc: Global,
-    heap: &LocalHeap,
-    subject: &mut S,
-    ample: &mut T,
-    gap: (usize, usize),
+    room: Room,
+    twins: &mut Twins<S, T>,
     case: &Case,
     tally: &mut Tally,
 ) -> Result<bool, AllocError> {
-    let Some(refused) = refusals(rt, alloc, heap, subject, gap, case, tally)? else {
+    let Some(refused) = refusals(rt, alloc, room, &mut twins.in_heap, case, tally)? else {
         return Ok(false);
     };
     if (refused == 0) != case.is_free {
@@ -181,10 +193,11 @@ fn passes_both<S: Subject, T: Subject, R: Threads + Wait + Sync>(
         tally.fail(case, what, "")?;
         return Ok(false);
     }
-    if !passes(rt, alloc, ample, case, tally)? {
+    if !passes(rt, alloc, &mut twins.ample, case, tally)? {
         return Ok(false);
     }
-    let (in_heap, with_ample) = (shown(alloc, subject)?, shown(alloc, ample)?);
+    let in_heap = shown(alloc, &mut twins.in_heap)?;
+    let with_ample = shown(alloc, &mut twins.ample)?;
     let is_alike = in_heap.as_str() == with_ample.as_str();
     if !is_alike {
         tally.fail(
@@ -196,24 +209,27 @@ fn passes_both<S: Subject, T: Subject, R: Threads + Wait + Sync>(
     Ok(is_alike)
 }
 
-/// Makes the calls in order on a subject in the heap with each allocation refused, and on another with ample memory, up to
-/// the first that fails.
+/// Makes the calls in order on the subject in this heap with each allocation refused, and on its twin with ample memory, up
+/// to the first that fails.
 ///
 /// # Errors
 ///
 /// `AllocError` if something beside the subjects cannot be allocated.
-pub fn run_refused<S: Subject, T: Subject, R: Threads + Wait + Sync>(
+pub fn run_refused<S: Subject + Drop, T: Subject + Drop, R: Threads + Wait + Sync>(
     rt: &R,
     alloc: Global,
     heap: &LocalHeap,
-    subject: &mut S,
-    ample: &mut T,
+    twins: &mut Twins<S, T>,
     group: &Group,
     tally: &mut Tally,
 ) -> Result<(), AllocError> {
+    let room = Room {
+        heap,
+        gap: group.gap,
+    };
     for case in group.cases.iter() {
         tally.count();
-        if !passes_both(rt, alloc, heap, subject, ample, group.gap, case, tally)? {
+        if !passes_both(rt, alloc, room, twins, case, tally)? {
             return Ok(());
         }
     }
