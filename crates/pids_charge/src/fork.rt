@@ -79,7 +79,7 @@ fn admit<A: Allocator + Clone>(
 {
     processes.known();
     child.get();
-    let list = Peaks::copy_of(alloc.clone()?, peaks)?;
+    let list = Peaks::copy_of(alloc, peaks)?;
     put_beside(processes, parent, child, leaf)?;
     Ok(list)
 }

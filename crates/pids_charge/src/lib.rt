@@ -10,19 +10,20 @@
 //!   group above it other than the root. Moves are never refused by a limit, and a limit may be set below what there is.
 //! - The peak of a group other than the root is the most processes that were at or below it at once. A fork and a move raise
 //!   the peaks along the new path of the process, once it is there, and return the old peaks. A refused fork raises no peak.
-//!   Only `set_peaks` lowers one.
+//!   Only `set_peaks` and `restore_peaks` lower one.
 //! - Refusals come in a fixed order, out of memory last, and change nothing but those totals.
 //! - Each command has an undo that tests no limit: `restore` for a removal, `place` for an exit, `place_all` for a kill,
-//!   `uncount` for a refused fork, `move_back` for a move, and `set_peaks` for the peaks that a fork or a move raised. A limit
-//!   is undone by setting the old one. None of them raises a peak.
+//!   `uncount` for a refused fork, `move_back` for a move, and `restore_peaks` for the peaks that a fork or a move raised. A
+//!   limit is undone by setting the old one. None of them raises a peak.
 //! - For each command one call only decides: `refuses_mkdir`, `refuses_rmdir`, `refuses_fork`, `refuses_exit`,
 //!   `refuses_move`, `refuses_limit` and `refuses_kill` return its first refusal, if there is one, and allocate nothing.
 //!   `refuses_pids` is the part of `refuses_fork` that looks at no limit. `make_group`, `take_group`, `make_process` and
 //!   `count_fork` only do what was decided. `try_process` is a fork that counts no refusal. They are for a caller that
 //!   allocates something of its own in between.
-//! - `exit`, `set_peaks`, `count_fork`, `uncount`, `rmdir`, `set_limit`, the readers and the calls that only decide allocate
-//!   nothing. `new` allocates the tables of free slots, of parents and of hints. Rows, and the paths that they keep, are
-//!   allocated as groups are made.
+//! - `exit`, `set_peaks`, `restore_peaks`, `count_fork`, `uncount`, `rmdir`, `set_limit`, the readers and the calls that only
+//!   decide allocate nothing. `new` allocates the tables of free slots, of parents and of hints. Rows, and the paths that they
+//!   keep, are allocated as groups are made. The list of old peaks of a fork or a move takes memory only if it has more than
+//!   `INLINE_PEAKS`, or one of 2^32 or more.
 //! - The tree has the names of the groups, and a row for each has its attributes. A process knows the row of its group. A walk
 //!   up goes from the row of a group to that of its parent, so a fork, a refused fork and an exit cost O(depth) steps and
 //!   compare no names. A process is found in constant time. A path has at most 32 names.

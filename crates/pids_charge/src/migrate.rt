@@ -15,7 +15,8 @@ use crate::charges::Charges;
 use crate::fault::ChargeFault;
 use crate::groups::GroupTable;
 use crate::meter::Meter;
-use crate::peaks::{Peaks, charge_and_raise, zero_peaks};
+use crate::notes::note_up;
+use crate::peaks::{Peaks, charge_noted};
 use crate::pid::Pid;
 use crate::rows::{has_row, put_copy};
 use crate::slot::{find_slot, slot_in};
@@ -32,7 +33,7 @@ pub struct Shifted<A: Allocator + Clone> {
 }
 
 // The slot of the group in the table of processes, if the process may move there. Else the refusal.
-fn slot_for<M: Meter, T: Allocator, A: Allocator + Clone, B: Allocator + Clone>(
+fn slot_for<M: Meter, T: Allocator + Clone, A: Allocator + Clone, B: Allocator + Clone>(
     tree: &GroupTable<T>,
     processes: &ProcessTable<A>,
     path: &GroupPath<B>,
@@ -96,7 +97,8 @@ impl<A: Allocator + Clone, M: Meter> Charges<A, M> {
             Ok(slot) => slot,
             Err(fault) => return Err(fault),
         };
-        let Ok(mut peaks) = zero_peaks(&self.alloc, path) else {
+        let notes = note_up::<M, _, _>(&self.tree, &self.parents, path, slot);
+        let Ok(peaks) = Peaks::copy_of(&self.alloc, notes.peaks()) else {
             return Err(ChargeFault::OutOfMemory);
         };
         self.tree.known();
@@ -109,25 +111,22 @@ impl<A: Allocator + Clone, M: Meter> Charges<A, M> {
             unreachable!()
         };
         uncharge_up(&self.tree, &self.parents, &mut self.meter, &before, leaf);
-        let mut table = [0; 32];
-        let earlier = &mut table[..path.depth()];
-        charge_and_raise(
+        charge_noted(
             &mut self.tree,
             &self.parents,
             &mut self.meter,
             path,
             slot,
             leaf,
-            earlier,
+            &notes,
         );
-        peaks.fill(earlier);
         Ok(Shifted {
             path: before.home,
             peaks,
         })
     }
 
-    /// Puts a process into another group, charged at the leaf of `who`, and raises no peak. Together with `set_peaks` it
+    /// Puts a process into another group, charged at the leaf of `who`, and raises no peak. Together with `restore_peaks` it
     /// undoes a move. Returns its old group, by the path that the table had. Tests no limit. Costs one descent of the
     /// tree.
     ///

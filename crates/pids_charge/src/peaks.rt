@@ -1,6 +1,6 @@
 //! The peaks of groups: raised along a path when a process enters, and set again by an undo.
 
-ghost use Rattle.std.specs.Prelude.{◌≡◌, ℕ, ◌+◌, ◌<◌, ◌≤◌, max, length, get_or, take, None, IfOk, IsOk, IsSome, option_map};
+ghost use Rattle.std.specs.Prelude.{◌≡◌, ◌↔◌, ℕ, ◌+◌, ◌^◌, ◌<◌, ◌≤◌, max, length, get_or, take, None, IfOk, IsOk, IsSome, IsTrue, option_map};
 ghost use Rattle.std.specs.List.{All, sum_by};
 ghost use Rattle.std.specs.FinMap as fin;
 ghost use Rattle.std.specs.Ordering.{nat_cmp};
@@ -17,33 +17,35 @@ use crate::above::set_peaks_up;
 use crate::charges::Charges;
 use crate::groups::GroupTable;
 use crate::meter::{HELD_MAX, Meter};
-use crate::notes::{DEPTH_MAX, Notes, note_up};
+use crate::notes::{DEPTH_MAX, Notes};
 use crate::parents::Parents;
 use group_path::GroupPath;
-use group_tree::Attr;
 use std::alloc::{AllocError, Allocator, Global};
 use std::marker::Model;
 use std::mem::size_of;
 
-/// The greatest number of peaks stored inline. With their number they fill the same space as the attributes of a group.
-pub const INLINE_PEAKS: usize = 6;
+/// The greatest number of peaks stored inline. With their number they fill the same space as a vector.
+pub const INLINE_PEAKS: usize = 7;
 
 // Where the peaks are stored.
 #[derive(Drop)]
 enum Storage<A: Allocator + Clone> {
     // Inline: the first `len` of these. The length is first, beside the tag.
-    Inline { len: u8, peaks: [u64; INLINE_PEAKS] },
-    Heap(Vec<u64, A>),
+    Few { len: u8, peaks: [u32; INLINE_PEAKS] },
+    // More than `INLINE_PEAKS`, each below 2^32.
+    Many(Vec<u32, A>),
+    // As `of` was given them, or copies of which one is 2^32 or more, or that are more than a path has names.
+    Wide(Vec<u64, A>),
 }
 
 /// The peaks of groups along a path, from the path's own group upward, without the root. Contracts see a list of numbers. Up
-/// to `INLINE_PEAKS` of them are stored in the value itself.
+/// to `INLINE_PEAKS` of them, each below 2^32, are stored in the value itself. More of them take 4 bytes each.
 pub struct Peaks<A: Allocator + Clone> {
     storage: Storage<A>,
 }
 
-// So the record of a move takes no more space than that of a removal.
-const _: () = prove!(size_of::<Peaks<Global>>() == size_of::<Attr>());
+// The space of a vector and a tag.
+const _: () = prove!(size_of::<Peaks<Global>>() == 32);
 
 impl<A: Allocator + Clone> Model for Peaks<A> {
     ghost use Rattle.std.specs.Prelude.{ℕ, List};
@@ -59,7 +61,7 @@ impl<A: Allocator + Clone> Model for Peaks<A> {
     ghost invariant = { λ p. IsSound p.storage };
 }
 
-// The explicit drop hides the storage, so the proof of a function that drops such a value has one case instead of two.
+// The explicit drop hides the storage, so the proof of a function that drops such a value has one case instead of three.
 impl<A: Allocator + Clone> Drop for Peaks<A> {
     fn drop(self) {
         let Self { storage } = self;
@@ -67,85 +69,132 @@ impl<A: Allocator + Clone> Drop for Peaks<A> {
     }
 }
 
+// Writes the peaks into a table of 32-bit numbers. Returns whether they fit: each is below 2^32.
+fn narrow(peaks: &[u64], table: &mut [u32]) -> bool
+    requires { length table.old ≡ length peaks.now }
+    ensures fit { IsTrue result ↔ All (λ p. p < 2 ^ 32) peaks.now }
+    ensures same { IsTrue result → table.new ≡ peaks.now }
+{
+    for i in 0..peaks.len() {
+        let peak = peaks[i];
+        if peak > u64::from(u32::MAX) {
+            return false;
+        }
+        table[i] = peak as u32;
+    }
+    true
+}
+
 impl<A: Allocator + Clone> Peaks<A> {
     /// Makes the list of these. Allocates nothing.
     pub fn of(items: Vec<u64, A>) -> Peaks<A>
         ensures { result ≡ items.items }
     {
-        let storage = Storage::Heap(items);
+        let storage = Storage::Wide(items);
         Peaks { storage }
     }
 
-    // Copies the peaks into a new list. Out of memory only if there are more than `INLINE_PEAKS`.
-    pub(crate) fn copy_of(alloc: A, peaks: &[u64]) -> Result<Peaks<A>, AllocError>
+    // Copies the peaks into a new list. Out of memory only if there are more than `INLINE_PEAKS`, or if one of them is 2^32
+    // or more.
+    pub(crate) fn copy_of(alloc: &A, peaks: &[u64]) -> Result<Peaks<A>, AllocError>
         ensures same { IfOk result (λ p. p ≡ peaks.now) }
-        ensures few { length peaks.now ≤ INLINE_PEAKS → IsOk result }
+        ensures few { length peaks.now ≤ INLINE_PEAKS → All (λ p. p < 2 ^ 32) peaks.now → IsOk result }
     {
-        if peaks.len() > INLINE_PEAKS {
-            let heap = Vec::from_slice(alloc, peaks)?;
-            let storage = Storage::Heap(heap);
+        if peaks.len() > DEPTH_MAX {
+            return Peaks::wide(alloc, peaks);
+        }
+        let mut table = [0; DEPTH_MAX];
+        let front = &mut table[..peaks.len()];
+        if !narrow(peaks, front) {
+            return Peaks::wide(alloc, peaks);
+        }
+        if front.len() > INLINE_PEAKS {
+            let many = Vec::from_slice(alloc.clone()?, front)?;
+            let storage = Storage::Many(many);
             return Ok(Peaks { storage });
         }
-        Ok(Peaks::inline(peaks))
+        Ok(Peaks::few(front))
     }
 
     // Stores a few peaks inline.
-    fn inline(few: &[u64]) -> Peaks<A>
+    fn few(few: &[u32]) -> Peaks<A>
         requires { length few.now ≤ INLINE_PEAKS }
         ensures { result ≡ few.now }
     {
-        let mut peaks = [0u64; INLINE_PEAKS];
+        let mut peaks = [0; INLINE_PEAKS];
         peaks[..few.len()].copy_from_slice(few);
         let len = few.len() as u8;
-        let storage = Storage::Inline { len, peaks };
+        let storage = Storage::Few { len, peaks };
         Peaks { storage }
     }
 
-    /// The peaks, in the order of the list.
-    pub fn as_slice(&self) -> &[u64]
-        ensures { result.now ≡ self.now }
+    // Copies any peaks into an allocation.
+    fn wide(alloc: &A, peaks: &[u64]) -> Result<Peaks<A>, AllocError>
+        ensures { IfOk result (λ p. p ≡ peaks.now) }
+    {
+        let wide = Vec::from_slice(alloc.clone()?, peaks)?;
+        let storage = Storage::Wide(wide);
+        Ok(Peaks { storage })
+    }
+
+    /// How many peaks there are.
+    pub fn len(&self) -> usize
+        ensures { result ≡ length self.now }
     {
         match &self.storage {
-            Storage::Inline { len, peaks } => &peaks[..usize::from(*len)],
-            Storage::Heap(heap) => heap.as_slice(),
+            Storage::Few { len, peaks: _ } => usize::from(*len),
+            Storage::Many(many) => many.len(),
+            Storage::Wide(wide) => wide.len(),
         }
     }
 
-    // Overwrites the peaks.
-    pub(crate) fn fill(&mut self, peaks: &[u64])
-        requires { length peaks.now ≡ length self.old }
-        ensures { self.new ≡ peaks.now }
+    /// The peak at this index of the list.
+    pub fn peak(&self, i: usize) -> u64
+        requires { i < length self.now }
+        ensures { result ≡ get_or self.now i 0 }
     {
-        if let Storage::Heap(heap) = &mut self.storage {
-            heap.as_mut_slice().copy_from_slice(peaks);
-            return;
+        match &self.storage {
+            Storage::Few { len: _, peaks } => u64::from(peaks[i]),
+            Storage::Many(many) => u64::from(many[i]),
+            Storage::Wide(wide) => wide[i],
         }
-        *self = Peaks::inline(peaks);
+    }
+
+    // Writes the peaks into a table.
+    fn copy_to(&self, table: &mut [u64])
+        requires { length table.old ≡ length self.now }
+        ensures { table.new ≡ self.now }
+    {
+        for i in 0..table.len() {
+            table[i] = self.peak(i);
+        }
     }
 
     /// Copies the list into another allocator.
     ///
     /// # Errors
     ///
-    /// `AllocError` if there are more than `INLINE_PEAKS` and their allocation fails.
+    /// `AllocError` if there are more than `INLINE_PEAKS`, or one of them is 2^32 or more, and their allocation fails.
     pub fn copy<B: Allocator + Clone>(&self, alloc: B) -> Result<Peaks<B>, AllocError>
         ensures same { IfOk result (λ p. p ≡ self.now) }
-        ensures few { length self.now ≤ INLINE_PEAKS → IsOk result }
+        ensures few { length self.now ≤ INLINE_PEAKS → All (λ p. p < 2 ^ 32) self.now → IsOk result }
     {
-        Peaks::copy_of(alloc, self.as_slice())
+        match &self.storage {
+            Storage::Few { len, peaks } => {
+                let storage = Storage::Few {
+                    len: *len,
+                    peaks: *peaks,
+                };
+                Ok(Peaks { storage })
+            }
+            Storage::Many(many) => {
+                let many = Vec::from_slice(alloc, many.as_slice())?;
+                let storage = Storage::Many(many);
+                Ok(Peaks { storage })
+            }
+            Storage::Wide(wide) => Peaks::copy_of(&alloc, wide.as_slice()),
+        }
     }
-}
-
-// As many zeros as the path has names: room for the peaks along it.
-pub(crate) fn zero_peaks<A: Allocator + Clone, B: Allocator + Clone>(
-    alloc: &A,
-    path: &GroupPath<B>,
-) -> Result<Peaks<A>, AllocError>
-    ensures { IfOk result (λ peaks. length peaks ≡ length path.now) }
-{
-    path.known();
-    let zeros = [0; 32];
-    Peaks::copy_of(alloc.clone()?, &zeros[..path.depth()])
 }
 
 // Adds one charge at each slot.
@@ -236,34 +285,6 @@ pub(crate) fn charge_noted<T: Allocator + Clone, M: Meter, A: Allocator + Clone>
     raise_along::<M, _, _>(tree, parents, path, slot, peaks, reached);
 }
 
-// Charges and raises as `charge_noted` does, and notes the old peaks.
-pub(crate) fn charge_and_raise<T: Allocator + Clone, M: Meter, A: Allocator + Clone>(
-    tree: &mut GroupTable<T>,
-    parents: &Parents<T>,
-    meter: &mut M,
-    path: &GroupPath<A>,
-    slot: u16,
-    leaf: u8,
-    earlier: &mut [u64],
-)
-    requires leaf_below { leaf < M.LEAVES }
-    requires home { IsSome (fin.get tree.old path.now) }
-    requires slot { slot ≡ table_slot tree.old path.now }
-    requires slots { SlotsBelow M.SLOTS tree.old }
-    requires parents { HasParents M.SLOTS tree.old parents.now }
-    requires room { M.held meter.old + length path.now ≤ HELD_MAX }
-    requires many { length earlier.old ≡ length path.now }
-    ensures content { (s j : ℕ) → M.content meter.new s j ≡ with_charges tree.old path.now leaf (M.content meter.old) s j }
-    ensures held { M.held meter.new ≡ M.held meter.old + length path.now }
-    ensures raised { (q : Path) → fin.get tree.new q ≡ option_map (raised_by M.LEAVES (with_charges tree.old path.now leaf (M.content meter.old)) path.now q) (fin.get tree.old q) }
-    ensures earlier { AreUpward peak_of tree.old path.now earlier.new }
-    ensures slots { SameSlots tree.old tree.new }
-{
-    let notes = note_up::<M, _, _>(tree, parents, path, slot);
-    charge_noted(tree, parents, meter, path, slot, leaf, &notes);
-    earlier.copy_from_slice(notes.peaks());
-}
-
 // How many first names of the path are a group, at most all of them, and where its processes are in their table.
 fn find_longest<T: Allocator + Clone, A: Allocator + Clone>(
     tree: &GroupTable<T>,
@@ -312,5 +333,17 @@ impl<A: Allocator + Clone, M: Meter> Charges<A, M> {
         ensures { self.new ≡ flat.set_peaks path.now peaks.now self.old }
     {
         set_along::<M, _, _>(&mut self.tree, &self.parents, path, peaks);
+    }
+    /// Sets the peaks of the group at the path and of the groups above it to those of the list, as `set_peaks` does.
+    /// Allocates nothing. Costs one descent of the tree.
+    pub fn restore_peaks<B: Allocator + Clone>(&mut self, path: &GroupPath<B>, peaks: &Peaks<B>)
+        requires { length peaks.now ≡ length path.now }
+        ensures { self.new ≡ flat.set_peaks path.now peaks.now self.old }
+    {
+        path.known();
+        let mut table = [0; DEPTH_MAX];
+        let front = &mut table[..peaks.len()];
+        peaks.copy_to(front);
+        self.set_peaks(path, front);
     }
 }

@@ -92,7 +92,7 @@ pub(crate) fn undo_fork<A: Allocator + Clone, M: Meter>(
     let Ok(home) = charges.exit(who, pid) else {
         unreachable!()
     };
-    charges.set_peaks(&home, peaks.as_slice());
+    charges.restore_peaks(&home, peaks);
 }
 
 /// Subtracts a fork that this group's limit refused from the counts of refused forks.

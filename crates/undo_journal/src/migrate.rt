@@ -82,7 +82,7 @@ pub(crate) fn undo_move<A: Allocator + Clone, M: Meter>(
 {
     match charges.move_back(who, pid, path) {
         Ok(left) => {
-            charges.set_peaks(&left, peaks.as_slice());
+            charges.restore_peaks(&left, peaks);
             Ok(())
         }
         Err(fault) => Err(out_of_memory(fault)),

@@ -44,6 +44,8 @@ pub(crate) fn print<R: Print>(rt: &R) -> anyhow::Result<()> {
         "number\tNODES\t{}\tnodes of a group's indicator",
         2 * LEAVES - 1
     )?;
-    println!(rt; "number\tINLINE_PEAKS\t{INLINE_PEAKS}\tpeaks that a record keeps without memory")?;
+    println!(rt;
+        "number\tINLINE_PEAKS\t{INLINE_PEAKS}\tpeaks below 2^32 that a record keeps without memory"
+    )?;
     Ok(())
 }
