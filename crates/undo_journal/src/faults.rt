@@ -11,8 +11,8 @@ use interface_files::ShowFault;
 use pids_charge::ChargeFault;
 use std::alloc::{AllocError, Allocator};
 
-/// The path of the first `n` names. The root's, if there is no path.
-pub(crate) fn front_of<A: Allocator + Clone, B: Allocator + Clone>(
+// The path of the first `n` names. The root's, if there is no path.
+fn front_of<A: Allocator + Clone, B: Allocator + Clone>(
     alloc: &B,
     path: Option<&GroupPath<A>>,
     n: usize,

@@ -11,15 +11,26 @@ ghost use Rattle.undo_journal.specs.History.{IsReady};
 
 use crate::command::Command;
 use crate::engine::Engine;
-use crate::faults::{front_of, out_of_memory, refusal_at};
+use crate::faults::{out_of_memory, refusal_at};
 use crate::inverse::Inverse;
 use crate::journal::Entry;
-use crate::reply::Reply;
+use crate::reply::{Refusal, Reply};
 use group_path::GroupPath;
 use pids_charge::{ChargeFault, Charges, Meter, Peaks, Pid};
 use std::alloc::{AllocError, Allocator};
 
 impl<A: Allocator + Clone, M: Meter> Engine<A, M> {
+    /// The path of the first `n` names of the group that a process belongs to.
+    fn front_of_home(&self, pid: Pid, n: usize) -> Result<GroupPath<A>, AllocError>
+        requires { has_process self.now.machine.state pid ≡ true }
+        ensures { IfOk result (λ front. front ≡ take n (home_of self.now.machine.state pid)) }
+    {
+        let Some(home) = self.charges.home(pid) else {
+            unreachable!()
+        };
+        home.front(self.alloc.clone()?, n)
+    }
+
     /// Counts and records a refused fork. The group that refuses it has the first `n` names of the parent's group.
     fn count_fork(&mut self, parent: Pid, child: Pid, n: usize) -> Result<Reply<A>, AllocError>
         requires refused { refusal M.SLOTS self.old.machine.state (model.Fork parent child) ≡ Some (model.OverPidsMax (take n (home_of self.old.machine.state parent))) }
@@ -31,16 +42,15 @@ impl<A: Allocator + Clone, M: Meter> Engine<A, M> {
         if u64::MAX - self.forgotten <= self.journal.len() as u64 {
             return Err(AllocError);
         }
-        let home = self.charges.home(parent);
-        let refusal = refusal_at(&self.alloc, home, ChargeFault::PidsMax(n))?;
-        let counted = front_of(&self.alloc, home, n)?;
+        let limiting = self.front_of_home(parent, n)?;
+        let counted = limiting.copy(self.alloc.clone()?)?;
         self.journal.reserve(1)?;
         self.charges.count_fork(parent, n);
         self.journal.push(Entry {
             command: Command::Fork { parent, child },
             inverse: Inverse::Counted { path: counted },
         })?;
-        Ok(Reply::Refused(refusal))
+        Ok(Reply::Refused(Refusal::PidsMax(limiting)))
     }
 
     /// Makes a process in its parent's group, and records it with the peaks of that group and its ancestors as they were

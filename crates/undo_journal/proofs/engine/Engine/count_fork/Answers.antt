@@ -1,4 +1,4 @@
-use Rattle.std.proofs.Common.{◌≡◌, [], ◌∷◌, ◌++◌, true, take, Option, Some, option_map, unwrap_or, refl, sym, ap, subst, ◌∙◌, ◌≤◌, length, arith}
+use Rattle.std.proofs.Common.{◌≡◌, [], ◌∷◌, ◌++◌, true, take, Some, refl, sym, ap, subst, ◌∙◌, ◌≤◌, length, arith}
 use Rattle.flat_model.specs.Path.{Path}
 use Rattle.flat_model.specs.Command as model
 use Rattle.flat_model.specs.Counts.{has_process}
@@ -11,12 +11,15 @@ use Rattle.undo_journal.specs.declared.journal.Entry.{Entry}
 use Rattle.undo_journal.specs.declared.command.Command.TheVariants.{Fork}
 use Rattle.undo_journal.specs.declared.inverse.Inverse.TheVariants.{Counted}
 use Rattle.undo_journal.specs.declared.reply.Reply.TheVariants.{Refused}
-use Rattle.undo_journal.specs.CommandMeaning.{refusal_of}
+use Rattle.undo_journal.specs.declared.reply.Refusal.TheVariants.{PidsMax}
 use Rattle.undo_journal.proofs.Histories.{recorded_is, recorded_history, records_length}
 use Rattle.undo_journal.proofs.Totals.{countable}
 use Rattle.undo_journal.proofs.Answering.{parent_there, answers_by}
 use Rattle.undo_journal.proofs.engine.Engine.count_fork.Goals as goal
 use Rattle.undo_journal.proofs.engine.Engine.count_fork.Goals.{In_ok-push}
+
+pub front_of_home-requires : goal.front_of_home-requires
+front_of_home-requires g c = parent_there g.M.Meter.SLOTS c.args.self.now.machine.state c.args.parent c.args.child _ c.requires.refused
 
 pub count_fork-requires-clause-parent : goal.count_fork-requires-clause-parent
 count_fork-requires-clause-parent g c =
@@ -41,14 +44,8 @@ refused : (g : _) (c : In_ok-push g) → refusal g.M.Meter.SLOTS c.self.inside.c
 refused g c = subst (λ (t : Timeline). refusal g.M.Meter.SLOTS t.machine.state (model.Fork c.args.parent c.args.child)
     ≡ Some (model.OverPidsMax (take c.args.n (home_of t.machine.state c.args.parent)))) (sym c.self.view_is) c.requires.refused
 
-home_is : (g : _) (c : In_ok-push g) → unwrap_or (option_map (λ p. p.now) c.home-home.result) [] ≡ home_of c.self.inside.charges c.args.parent
-home_is g c = ap (λ (o : Option Path). unwrap_or o []) c.home-home.ensures
-
-counted_is : (g : _) (c : In_ok-push g) → c.in_ok-counted.counted ≡ limiting g c
-counted_is g c = c.in_ok-counted.ensures ∙ ap (take c.args.n) (home_is g c)
-
-refusal_is : (g : _) (c : In_ok-push g) → Some (refusal_of c.in_ok-refusal.refusal) ≡ Some (model.OverPidsMax (limiting g c))
-refusal_is g c = c.in_ok-refusal.ensures ∙ ap (λ q. Some (model.OverPidsMax (take c.args.n q))) (home_is g c)
+limiting_is : (g : _) (c : In_ok-push g) → c.in_ok-limiting.limiting ≡ limiting g c
+limiting_is g c = c.in_ok-limiting.ensures ∙ ap (λ (t : Timeline). take c.args.n (home_of t.machine.state c.args.parent)) (sym c.self.view_is)
 
 abbrev entry : (g : _) (c : In_ok-push g) → Entry g.row.A.Denot
 entry g c = record { command = Fork c.args.parent c.args.child; inverse = Counted c.in_ok-counted.counted }
@@ -57,7 +54,7 @@ journal_is : (g : _) (c : In_ok-push g) → c.push.new.self.items ≡ c.self.ins
 journal_is g c = c.in_ok-push.ensures.items ∙ ap (λ js. js ++ entry g c ∷ []) c.reserve.ensures.items
 
 entry_is : (g : _) (c : In_ok-push g) → ◌≡◌ {A = model.Command × model_inverse.Inverse} (journal_entry (entry g c)) (model.Fork c.args.parent c.args.child, model_inverse.Counted (limiting g c))
-entry_is g c = λ i. (model.Fork c.args.parent c.args.child, model_inverse.Counted (counted_is g c i))
+entry_is g c = λ i. (model.Fork c.args.parent c.args.child, model_inverse.Counted ((c.in_ok-counted.ensures ∙ limiting_is g c) i))
 
 pub invariant_of-self-2 : goal.invariant_of-self-2
 invariant_of-self-2 g c =
@@ -71,8 +68,8 @@ returns-clause-ok g c =
     let s = c.self.inside.charges in
     let command = model.Fork c.args.parent c.args.child in
     let over = Some (model.OverPidsMax (limiting g c)) in
-    subst (λ (t : Timeline). Answers {A = g.row.A.Denot} g.M.Meter.SLOTS t command (Refused c.in_ok-refusal.refusal) (timeline_of c.self.inside.forgotten c.count_fork.new.self c.push.new.self.items)) c.self.view_is
-    (answers_by g.M.Meter.SLOTS (timeline_of c.self.inside.forgotten s c.self.inside.journal.items) command over (Refused c.in_ok-refusal.refusal)
+    subst (λ (t : Timeline). Answers {A = g.row.A.Denot} g.M.Meter.SLOTS t command (Refused (PidsMax c.in_ok-limiting.limiting)) (timeline_of c.self.inside.forgotten c.count_fork.new.self c.push.new.self.items)) c.self.view_is
+    (answers_by g.M.Meter.SLOTS (timeline_of c.self.inside.forgotten s c.self.inside.journal.items) command over (Refused (PidsMax c.in_ok-limiting.limiting))
     (timeline_of c.self.inside.forgotten c.count_fork.new.self c.push.new.self.items) refl (refused g c)
     ((λ i. timeline_of c.self.inside.forgotten c.count_fork.new.self (journal_is g c i))
     ∙ (λ i. record {
@@ -80,4 +77,4 @@ returns-clause-ok g c =
           (model_inverse.Counted (limiting g c)) over (entry_is g c) (refused g c) refl c.count_fork.ensures i;
       forgotten = c.self.inside.forgotten;
     }))
-    (ap (option_map model.Refused) (refusal_is g c)))
+    (λ i. Some (model.Refused (model.OverPidsMax (limiting_is g c i)))))
