@@ -68,9 +68,10 @@ pub(crate) fn say_limit(
 }
 
 /// Old peaks, from the group upward.
-fn push_peaks(said: &mut String, peaks: &[u64]) -> Result<(), AllocError> {
+fn push_peaks<A: Allocator + Clone>(said: &mut String, peaks: &Peaks<A>) -> Result<(), AllocError> {
     said.push_str("peaks")?;
-    for peak in peaks {
+    for i in 0..peaks.len() {
+        let peak = peaks.peak(i);
         write!(said, " {peak}")?;
     }
     Ok(())
@@ -82,7 +83,7 @@ pub(crate) fn say_peaks<A: Allocator + Clone>(
 ) -> Result<Outcome, AllocError> {
     match made {
         Err(fault) => return say_fault(said, fault),
-        Ok(peaks) => push_peaks(said, peaks.as_slice())?,
+        Ok(peaks) => push_peaks(said, &peaks)?,
     }
     Ok(Outcome::Answered)
 }
@@ -98,7 +99,7 @@ pub(crate) fn say_moved<A: Allocator + Clone>(
             said.push_str("from ")?;
             push_escaped(said, moved.path.text())?;
             said.push(' ')?;
-            push_peaks(said, moved.peaks.as_slice())?;
+            push_peaks(said, &moved.peaks)?;
         }
     }
     Ok(Outcome::Answered)
