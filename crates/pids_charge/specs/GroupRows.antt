@@ -33,7 +33,7 @@ pub record HasRows (tree : Groups) (rows : List Attr) : Type 0 where
 abbrev pub KeepsPaths : Groups → List (Option Path) → Type 0
 KeepsPaths tree kept = (row : ℕ) (p : Path) → get_or kept row None ≡ Some p → option_map (λ a. a.slot) (fin.get tree p) ≡ Some row
 
--- both
+-- groups, rows and kept paths agree
 pub record HasTable (tree : Groups) (rows : List Attr) (kept : List (Option Path)) : Type 0 where
   pub has_rows : HasRows tree rows
   pub keeps_paths : KeepsPaths tree kept

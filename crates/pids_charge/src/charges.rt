@@ -60,7 +60,7 @@ fn all_slots<A: Allocator>(alloc: A, slots: u16) -> Result<Vec<u16, A>, AllocErr
 
 impl<A: Allocator + Clone, M: Meter + Drop> Charges<A, M> {
     /// The root with process 1 in it, over an empty meter. All slots are free. It allocates the root, the table of
-    /// processes, a table of free slots and one of parents for the meter's slots, and 4,096 bytes of hints.
+    /// processes, and tables of free slots, of parents and of hints.
     ///
     /// # Errors
     ///
