@@ -1,3 +1,3 @@
 pub mod Excess
 pub mod Roles
-pub mod Fanned
+pub mod HelperParts

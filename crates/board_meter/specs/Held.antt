@@ -34,8 +34,8 @@ pub record Settled (w l : ℕ) (leaving arriving : List Token) (h k : Holding) :
   pub in_step : InStep w l h k
 
 -- main may have this many more helpers
-abbrev pub HasRoomFor : ℕ → Holding → Type 0
-HasRoomFor helpers h = (main_weight h.role ≡ 1) × (out h.role + helpers ≤ helper_cap)
+abbrev pub HasRoomForHelpers : ℕ → Holding → Type 0
+HasRoomForHelpers helpers h = (main_weight h.role ≡ 1) × (out h.role + helpers ≤ helper_cap)
 
 -- the hand h is split: k has the share, and m the rest
 pub record CutOff (w l : ℕ) (share : List Token) (h m k : Holding) : Type 0 where

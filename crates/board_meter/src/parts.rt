@@ -2,7 +2,7 @@
 ghost use Rattle.std.specs.Prelude.{◌-◌, ◌<◌, ◌≤◌};
 ghost use Rattle.snzi_tree.specs.Contents.{AtLeaves};
 ghost use Rattle.snzi_tree.specs.Hands.{IsHandOf, holds, SameHand};
-ghost use Rattle.board_meter.specs.Held.{CanSettle, HasRoomFor, Settled};
+ghost use Rattle.board_meter.specs.Held.{CanSettle, HasRoomForHelpers, Settled};
 
 use crate::hands::{hand_out, join_back};
 use crate::part::do_part;
@@ -27,7 +27,7 @@ pub(crate) fn settle_parts<R: Threads, A: Gate, const G: usize, const W: usize, 
     requires here { IsHandOf board.now main.old }
     requires few { parts ≤ 24 }
     requires can { CanSettle G W L stripe leaving.now arriving.now (holds main.old) }
-    requires main { HasRoomFor parts (holds main.old) }
+    requires main { HasRoomForHelpers parts (holds main.old) }
     requires at_leaves { AtLeaves W L (holds main.old) }
     ensures hand { SameHand main.old main.new }
     ensures settled { Settled W L leaving.now arriving.now (holds main.old) (holds main.new) }
@@ -57,7 +57,7 @@ pub(crate) fn settle_parts<R: Threads, A: Gate, const G: usize, const W: usize, 
     let ours = &mut *main;
     let mut rest = move ||
         requires { IsHandOf board.now ours.now × CanSettle G W L stripe rest_leaving.now rest_arriving.now (holds ours.now)
-            × HasRoomFor (parts - 1) (holds ours.now) × AtLeaves W L (holds ours.now) × (1 < parts) × (parts ≤ 24) }
+            × HasRoomForHelpers (parts - 1) (holds ours.now) × AtLeaves W L (holds ours.now) × (1 < parts) × (parts ≤ 24) }
         ensures { SameHand ours.entry.now ours.exit.now × Settled W L rest_leaving.entry.now rest_arriving.entry.now (holds ours.entry.now) (holds ours.exit.now) }
     {
         settle_parts(

@@ -12,5 +12,5 @@ abbrev pub board_content : Holding → Content
 board_content h = content_of (LEAVES + LEAVES - 1) LEAVES h
 
 -- there is one charge for each of the tokens
-abbrev pub Holds : List Token → Content → ℕ → Type 0
-Holds tokens at count = ((s j : ℕ) → at s j ≡ listed_at tokens s j) × (count ≡ length tokens)
+abbrev pub HoldsTokens : List Token → Content → ℕ → Type 0
+HoldsTokens tokens at count = ((s j : ℕ) → at s j ≡ listed_at tokens s j) × (count ≡ length tokens)

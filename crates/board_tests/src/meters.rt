@@ -14,7 +14,7 @@ ghost use Rattle.snzi_core.specs.Holding.{held};
 ghost use Rattle.snzi_tokens.specs.Listed.{IsWithin};
 ghost use Rattle.pids_charge.specs.Table.{table_at, table_held};
 ghost use Rattle.pids_charge.specs.declared.plain.TheConstants.{SLOTS, LEAVES};
-ghost use Rattle.board_tests.specs.Tokens.{Holds, board_content};
+ghost use Rattle.board_tests.specs.Tokens.{HoldsTokens, board_content};
 
 use crate::drawn::{drawn, next};
 use crate::meeting::Meeting;
@@ -34,8 +34,8 @@ pub(crate) struct Meters {
     charges: Vec<Token>,
     ghost within: { IsWithin SLOTS LEAVES charges.items },
     ghost few: { length charges.items ≤ 1000 },
-    ghost plain_holds: { Holds charges.items (table_at plain) (table_held plain) },
-    ghost board_holds: { Holds charges.items (board_content board) (held board) },
+    ghost plain_holds: { HoldsTokens charges.items (table_at plain) (table_held plain) },
+    ghost board_holds: { HoldsTokens charges.items (board_content board) (held board) },
 }
 
 /// The token that a word is.

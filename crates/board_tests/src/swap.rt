@@ -1,7 +1,7 @@
 //! Removing the charges of one list from a meter and adding those of another, and what two meters answer.
 ghost use Rattle.std.specs.Prelude.{◌≡◌, ℕ, ◌+◌, ◌<◌, ◌≤◌, length, IsTrue};
 ghost use Rattle.snzi_tokens.specs.Listed.{IsWithin, listed_at};
-ghost use Rattle.board_tests.specs.Tokens.{Holds};
+ghost use Rattle.board_tests.specs.Tokens.{HoldsTokens};
 
 use pids_charge::{Gate, HELD_MAX, LEAVES, Meter, SLOTS, Token};
 use std::thread::Threads;
@@ -69,8 +69,8 @@ pub(crate) fn swap<R: Threads, M: Meter>(
     requires within { IsWithin M.SLOTS M.LEAVES exchange.now.leaving.now × IsWithin M.SLOTS M.LEAVES exchange.now.arriving.now }
     requires stripe { exchange.now.stripe < M.LEAVES }
     requires few { (length exchange.now.leaving.now ≤ 1000) × (length exchange.now.arriving.now ≤ 1000) }
-    requires held { Holds exchange.now.leaving.now (M.content meter.old) (M.held meter.old) }
-    ensures held { Holds exchange.now.arriving.now (M.content meter.new) (M.held meter.new) }
+    requires held { HoldsTokens exchange.now.leaving.now (M.content meter.old) (M.held meter.old) }
+    ensures held { HoldsTokens exchange.now.arriving.now (M.content meter.new) (M.held meter.new) }
 {
     let Exchange {
         way,

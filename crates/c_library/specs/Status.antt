@@ -69,9 +69,9 @@ IsOpened (Some e) status new = (status ≡ 6) × (new ≡ Some e)
 IsOpened None status None = status ≡ 4
 IsOpened None status (Some e) = (status ≡ 0) × (e.engine ≡ from_start new_machine)
 
-abbrev pub IsClosed : Option LineEngine → ℕ → Option LineEngine → Type 0
-IsClosed None status new = (status ≡ 6) × (new ≡ None)
-IsClosed (Some e) status new = (status ≡ 0) × (new ≡ None)
+abbrev pub ClosesHandle : Option LineEngine → ℕ → Option LineEngine → Type 0
+ClosesHandle None status new = (status ≡ 6) × (new ≡ None)
+ClosesHandle (Some e) status new = (status ≡ 0) × (new ≡ None)
 
 abbrev pub DepthAt : Option LineEngine → ℕ → ℕ → Option LineEngine → Type 0
 DepthAt None status depth new = (status ≡ 6) × (depth ≡ 0) × (new ≡ None)

@@ -3,7 +3,7 @@
 ghost use Rattle.std.specs.Prelude.{◌≡◌, codes};
 ghost use Rattle.flat_model.specs.PathText.{read_path};
 ghost use Rattle.flat_model.specs.Trace.{read_line};
-ghost use Rattle.c_library.specs.Status.{IsOpened, IsClosed, AnswersAt, CopiesAt, DepthAt, ForgetsAt, ListsAt, FindsAt, TellsChildrenOf, TellsGroupsOf, TellsSubtreeOf, TellsHistoryOf};
+ghost use Rattle.c_library.specs.Status.{IsOpened, ClosesHandle, AnswersAt, CopiesAt, DepthAt, ForgetsAt, ListsAt, FindsAt, TellsChildrenOf, TellsGroupsOf, TellsSubtreeOf, TellsHistoryOf};
 ghost use Rattle.c_library.specs.Status.{told, too_small, status_of, status_of_code, info_of, listing_status, listing_info, found_status, found_info};
 
 use crate::handle::Handle;
@@ -150,7 +150,7 @@ pub extern "C" fn mk0_open(alloc: Global, h: &mut Handle) -> u32
 /// Frees the engine, if there is one.
 #[unsafe(no_mangle)]
 pub extern "C" fn mk0_close(alloc: Global, h: &mut Handle) -> u32
-    ensures { IsClosed h.old.seal.held result h.new.seal.held }
+    ensures { ClosesHandle h.old.seal.held result h.new.seal.held }
 {
     match h.take(alloc) {
         Some(_engine) => DONE,

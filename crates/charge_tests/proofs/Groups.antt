@@ -8,7 +8,7 @@ use Rattle.flat_model.specs.State.{State}
 use Rattle.flat_model.specs.Counts.{is_group, descendant_count}
 use Rattle.flat_model.proofs.PathLaws.{path_cmp-IsTotalOrder, path_cmp-IsAntisymmetric, same_path_is, same_path_itself}
 use Rattle.flat_model.proofs.Sums.{count_by-cons}
-use Rattle.flat_model.proofs.Counting.{once_among}
+use Rattle.flat_model.proofs.GroupCounts.{once_among}
 
 one_of_two : (b : Bool) → ◌≡◌ {A = ℕ} (cond b 1 0 + cond (not b) 1 0) 1
 one_of_two true = refl

@@ -1,4 +1,4 @@
 mod Apart
 mod Groups
 pub mod OneHome
-mod UpTo
+mod CallBounds

@@ -60,7 +60,7 @@ fn make_new<A: Allocator + Clone>(
 }
 
 /// Makes the call, and appends its answer.
-#[tactic(auto, using(crate::proofs::UpTo::up_more))]
+#[tactic(auto, using(crate::proofs::CallBounds::up_more))]
 fn answer<R: Threads, A: Allocator + Clone>(
     rt: &R,
     alloc: Global,

@@ -9,7 +9,7 @@ use Rattle.std.specs.FinMap.{FinMap, IsAntisymmetric, nat_cmp-IsAntisymmetric, g
 use Rattle.std.specs.FinMap.{entries-insert, entries_sorted, get-entries, get-insert, get-remove}
 use Rattle.std.specs.FinMap.Entries.{put, by_order, below_all}
 use Rattle.flat_model.proofs.Maps.{insert_remove, key_of}
-use Rattle.flat_model.proofs.Counting.{find_behind, find_first}
+use Rattle.flat_model.proofs.GroupCounts.{find_behind, find_first}
 use Rattle.flat_model.proofs.Sums.{count_by-cons}
 use Rattle.flat_model.proofs.Booleans.{both}
 

@@ -23,7 +23,7 @@ use Rattle.flat_model.proofs.PathLaws.{path_cmp-IsTotalOrder, path_cmp-IsAntisym
 use Rattle.flat_model.proofs.Maps.{get-each}
 use Rattle.flat_model.proofs.Options.{not_some_is_none}
 use Rattle.flat_model.proofs.Nearest.{first_path_found, first_path_none, first_is_nearest}
-use Rattle.flat_model.proofs.Kept.{counted}
+use Rattle.flat_model.proofs.WellFormedSteps.{counted}
 use Rattle.flat_model.proofs.Booleans.{both_by, not_and_false}
 
 -- ---- tests of a limit

@@ -12,7 +12,7 @@ use Rattle.flat_model.specs.Machine.{Machine, new_machine, recorded, outcome, un
 use Rattle.flat_model.specs.WellFormed.{WellFormed, PastWellFormed, MachineWellFormed}
 use Rattle.flat_model.proofs.PathLaws.{path_cmp-IsTotalOrder, path_cmp-IsAntisymmetric}
 use Rattle.flat_model.proofs.Maps.{get-own, key_of}
-use Rattle.flat_model.proofs.Kept.{kept}
+use Rattle.flat_model.proofs.WellFormedSteps.{kept}
 use Rattle.flat_model.proofs.Limits.{kept_refused}
 
 -- the root is the only group at the start

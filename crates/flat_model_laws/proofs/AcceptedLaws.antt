@@ -17,9 +17,9 @@ use Rattle.flat_model.specs.Step.{refusal, after, home_of, blocked_make}
 use Rattle.flat_model.specs.Limiting.{IsWithinPids, HasRoomBelow}
 use Rattle.flat_model.proofs.PathLaws.{same_path_is, same_path_itself, root_is_empty}
 use Rattle.flat_model.proofs.Sums.{count_by-cons}
-use Rattle.flat_model.proofs.Counting.{found_by, counted_by}
+use Rattle.flat_model.proofs.GroupCounts.{found_by, counted_by}
 use Rattle.flat_model.proofs.Booleans.{apart}
-use Rattle.flat_model.proofs.Refusing.{passed, beyond, neither}
+use Rattle.flat_model.proofs.RefusalTests.{passed, beyond, neither}
 use Rattle.flat_model.proofs.Limits.{fork_passed, fork_within}
 use Rattle.flat_model_laws.proofs.LimitsExact.{accepted_is}
 use Rattle.flat_model_laws.proofs.HierarchyLimitsExact.{free_is}

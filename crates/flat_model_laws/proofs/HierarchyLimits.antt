@@ -11,7 +11,7 @@ use Rattle.flat_model.specs.Refuse.{refuse}
 use Rattle.flat_model.specs.Step.{refusal, limit_met, first_refusal, blocked_make}
 use Rattle.flat_model.specs.Limiting.{HasRoomFor, HasRoomBelow, MeetsDescendants, MeetsDepth}
 use Rattle.flat_model.proofs.PathMembers.{upward_are}
-use Rattle.flat_model.proofs.Refusing.{passed, beyond}
+use Rattle.flat_model.proofs.RefusalTests.{passed, beyond}
 use Rattle.flat_model.proofs.Nearest.{first_path_found, first_path_none, first_is_nearest}
 use Rattle.flat_model.proofs.Limits.{met_by, room_by, asked_by, asked_no}
 use Rattle.flat_model.proofs.Options.{not_some_is_none}

@@ -4,7 +4,7 @@ use Rattle.std.proofs.lemmas.List.{map-append, same_from_push}
 use Rattle.flat_model.specs.Command.{Command, Reply}
 use Rattle.flat_model.specs.Machine.{tick, replies, end_of, new_machine}
 use Rattle.flat_model.specs.Log.{Entry, IsLegal, log_end}
-use Rattle.flat_model.proofs.Runs.{end_of-push, replies-push}
+use Rattle.flat_model.proofs.MachineRuns.{end_of-push, replies-push}
 
 abbrev commands : List Entry → List Command
 commands log = map (λ e. e.command) log

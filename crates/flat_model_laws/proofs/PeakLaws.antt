@@ -16,8 +16,8 @@ use Rattle.flat_model.proofs.PathLaws.{path_cmp-IsTotalOrder, path_cmp-IsAntisym
 use Rattle.flat_model.proofs.Maps.{get-each, key_of}
 use Rattle.flat_model.proofs.Peaks.{peak_there}
 use Rattle.flat_model.proofs.Reachable.{reached_well}
-use Rattle.flat_model.proofs.Kept.{limit_peak}
-use Rattle.flat_model_laws.proofs.Events.{counts_above, counts_else}
+use Rattle.flat_model.proofs.WellFormedSteps.{limit_peak}
+use Rattle.flat_model_laws.proofs.EventLaws.{counts_above, counts_else}
 
 module _ (s : State) (pid : ℕ) (a : Path) where
   come : State

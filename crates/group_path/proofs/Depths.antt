@@ -5,7 +5,7 @@ use Rattle.flat_model.specs.Path.{Name, Path}
 use Rattle.flat_model.specs.PathText.{is_slash, spelled, names_in, path_fault}
 use Rattle.flat_model.proofs.PathTextLaws.{NoSlash, cleans}
 use Rattle.flat_model.proofs.Sums.{count_by-cons, count_by-append}
-use Rattle.group_path.proofs.Texts.{path_is, long_text}
+use Rattle.group_path.proofs.PathTexts.{path_is, long_text}
 
 none_in : (name : Name) → NoSlash name → count_by is_slash name ≡ 0
 none_in [] h = refl

@@ -1,10 +1,10 @@
-mod Cuts
+mod NextNames
 mod Slashes
 mod Scans
-mod Texts
-mod Fronts
-mod Answered
-mod Below
+mod PathTexts
+mod PrefixTexts
+mod GrammarTests
+mod NameWalk
 mod SameTexts
 mod TooLong
 mod Depths

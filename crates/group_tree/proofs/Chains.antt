@@ -9,7 +9,7 @@ use Rattle.group_tree.specs.declared.attr.Attr.{Attr}
 use Rattle.group_tree.specs.Groups.{Groups, slot_of, groups_upward, chain_of}
 use Rattle.group_tree.specs.Node.{Branch, groups_of, HasAscendingNames, place_of}
 use Rattle.group_tree.proofs.Walk.{find_down}
-use Rattle.group_tree.proofs.Steps.{root_is_some}
+use Rattle.group_tree.proofs.NodeSteps.{root_is_some}
 use Rattle.flat_model.proofs.Lists.{reverse_map}
 
 reverse_first : (p : Path) (ps : List Path) → reverse (p ∷ ps) ≡ reverse ps ++ p ∷ []

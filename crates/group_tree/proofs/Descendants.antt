@@ -16,7 +16,7 @@ use Rattle.group_tree.specs.Node.{Branch, GroupEntry, under, below, groups_of, A
 use Rattle.group_tree.specs.Sorted.{entries_of_node}
 use Rattle.group_tree.proofs.Children.{later_ok, above_tied}
 use Rattle.group_tree.proofs.Walk.{find_down}
-use Rattle.group_tree.proofs.Steps.{root_is_some}
+use Rattle.group_tree.proofs.NodeSteps.{root_is_some}
 
 -- the entries strictly below p
 abbrev pub count_in : Path → List GroupEntry → ℕ

@@ -1,30 +1,30 @@
-mod Boxed
+mod NodeBoxes
 mod Calls
 pub mod Parents
-mod Places
+mod NameSearch
 mod Children
 mod Walk
 mod NamesBelow
 mod ChildEdits
-mod Steps
-mod Inserted
-mod SetTo
-mod Removed
-mod Maps
+mod NodeSteps
+mod NodeInsertion
+mod NodeAttributes
+mod NodeRemoval
+mod PathMaps
 mod NameNumbers
-mod Closed
-mod Counted
+mod ParentClosure
+mod NodeCounts
 mod Descendants
 mod Chains
 pub mod Downward
-pub mod Changed
-pub mod Refused
-mod PeaksSet
-mod Copies
+pub mod PathChanges
+pub mod NodeTotals
+mod NodePeaks
+mod NodeCopies
 pub mod Flat
-pub mod Prefixes
-mod Upward
-mod LimitsMet
+pub mod GroupPrefixes
+mod UpwardSearch
+mod NodeLimits
 mod LimitsUpward
-mod Admitted
+mod AdmissionWalk
 mod InPlace

@@ -20,8 +20,8 @@ use Rattle.group_tree.specs.Groups.{Groups, descendant_count}
 use Rattle.group_tree.specs.Limits.{without_processes, refusal_along, names_of, met_here, first_along, first_met}
 use Rattle.group_tree.proofs.Descendants.{count_le, small_mod}
 use Rattle.group_tree.proofs.Flat.{same_count}
-use Rattle.group_tree.proofs.LimitsMet.{kept}
-use Rattle.group_tree.proofs.Upward.{first_alike, map-first_along, first_met-here, first_met-below}
+use Rattle.group_tree.proofs.NodeLimits.{kept}
+use Rattle.group_tree.proofs.UpwardSearch.{first_alike, map-first_along, first_met-here, first_met-below}
 
 -- ---- one group on the way
 

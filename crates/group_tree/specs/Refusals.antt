@@ -16,8 +16,8 @@ counted_by g a q attr = record attr {
 }
 
 -- each group has its totals changed so, and no group is added or removed
-abbrev pub Counts : (ℕ → ℕ) → Groups → Groups → Path → Type 0
-Counts g old new a = (q : Path) → get new q ≡ option_map (counted_by g a q) (get old q)
+abbrev pub CountsRefusals : (ℕ → ℕ) → Groups → Groups → Path → Type 0
+CountsRefusals g old new a = (q : Path) → get new q ≡ option_map (counted_by g a q) (get old q)
 
 -- no event total is the greatest u64
 abbrev pub HasRoomForRefusals : Groups → Type 0

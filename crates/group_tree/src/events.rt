@@ -2,7 +2,7 @@
 
 ghost use Rattle.std.specs.Prelude.{◌≡◌, [], true};
 ghost use Rattle.group_tree.specs.Node.{NodeSets};
-ghost use Rattle.group_tree.specs.Refusals.{Counts, stepped};
+ghost use Rattle.group_tree.specs.Refusals.{CountsRefusals, stepped};
 
 use crate::attr::Attr;
 use crate::node::{Node, place};
@@ -43,7 +43,7 @@ impl<A: Allocator> Node<A> {
     /// changed.
     pub(crate) fn count(&mut self, names: Names<'_>, change: Change)
         ensures name { self.new.name ≡ self.old.name }
-        ensures counts { Counts (stepped change) self.old.groups self.new.groups names.entry }
+        ensures counts { CountsRefusals (stepped change) self.old.groups self.new.groups names.entry }
     {
         let mut names = names;
         match names.next() {

@@ -7,7 +7,7 @@ ghost use Rattle.flat_model.specs.Path.{Path, at_or_below};
 ghost use Rattle.group_tree.specs.Flat.{CountsAsFlat};
 ghost use Rattle.group_tree.specs.Along.{along_of};
 ghost use Rattle.group_tree.specs.ChildNames.{NamesChildren};
-ghost use Rattle.group_tree.specs.Refusals.{Counts};
+ghost use Rattle.group_tree.specs.Refusals.{CountsRefusals};
 ghost use Rattle.group_tree.specs.PeaksAlong.{SetsPeaks};
 ghost use Rattle.group_tree.specs.Admission.{Admits};
 ghost use Rattle.group_tree.specs.Settings.{ReplacesLimit};
@@ -124,7 +124,7 @@ impl<A: Allocator> GroupTree<A> {
     pub fn count_refusal<B: Allocator + Clone>(&mut self, path: &GroupPath<B>, n: usize)
         requires at { n ≤ length path.now }
         requires beside_root { 0 < n }
-        ensures { Counts (λ m. min (m + 1) (2 ^ 64 - 1)) self.old self.new (take n path.now) }
+        ensures { CountsRefusals (λ m. min (m + 1) (2 ^ 64 - 1)) self.old self.new (take n path.now) }
     {
         self.root.count(path.first_names(n), Change::Raise);
     }
@@ -133,7 +133,7 @@ impl<A: Allocator> GroupTree<A> {
     /// and allocates nothing.
     pub fn uncount_refusal<B: Allocator + Clone>(&mut self, path: &GroupPath<B>, n: usize)
         requires at { n ≤ length path.now }
-        ensures { Counts (λ m. m - 1) self.old self.new (take n path.now) }
+        ensures { CountsRefusals (λ m. m - 1) self.old self.new (take n path.now) }
     {
         self.root.count(path.first_names(n), Change::Lower);
     }

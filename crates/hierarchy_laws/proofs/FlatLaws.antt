@@ -21,7 +21,7 @@ use Rattle.group_tree.specs.declared.limits.MetLimit.TheVariants.{Descendants, D
 use Rattle.group_tree.specs.Groups.{Groups, slot_of, chain_of}
 use Rattle.group_tree.specs.Along.{along_of}
 use Rattle.group_tree.specs.Flat.{limit_of, limits_of, group_of}
-use Rattle.group_tree.specs.Refusals.{Counts, HasRoomForRefusals, counted_by}
+use Rattle.group_tree.specs.Refusals.{CountsRefusals, HasRoomForRefusals, counted_by}
 use Rattle.group_tree.specs.PeaksAlong.{SetsPeaks, peaked_by}
 use Rattle.group_tree.specs.Limits.{refusal_along, names_of, without_processes}
 
@@ -115,11 +115,11 @@ each_down : (o : Option Attr) (a q : Path) → option_map group_of (option_map (
 each_down None a q = refl
 each_down (Some x) a q = ap Some (counted_down a q x)
 
-pub all_up_is : (old new : Groups) (a q : Path) → HasRoomForRefusals old → Counts (raised) old new a → get (map_values group_of new) q ≡ option_map (count_up a q) (get (map_values group_of old) q)
+pub all_up_is : (old new : Groups) (a q : Path) → HasRoomForRefusals old → CountsRefusals (raised) old new a → get (map_values group_of new) q ≡ option_map (count_up a q) (get (map_values group_of old) q)
 all_up_is old new a q room c =
     get-map_values group_of new q ∙ ap (option_map group_of) (c q) ∙ each_up (get old q) a q (room q) ∙ ap (option_map (count_up a q)) (sym (get-map_values group_of old q))
 
-pub all_down_is : (old new : Groups) (a q : Path) → Counts (lowered) old new a → get (map_values group_of new) q ≡ option_map (count_down a q) (get (map_values group_of old) q)
+pub all_down_is : (old new : Groups) (a q : Path) → CountsRefusals (lowered) old new a → get (map_values group_of new) q ≡ option_map (count_down a q) (get (map_values group_of old) q)
 all_down_is old new a q c =
     get-map_values group_of new q ∙ ap (option_map group_of) (c q) ∙ each_down (get old q) a q ∙ ap (option_map (count_down a q)) (sym (get-map_values group_of old q))
 

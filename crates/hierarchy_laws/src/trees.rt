@@ -18,7 +18,7 @@ ghost use Rattle.group_tree.specs.declared.limits.MetLimit.{MetLimit};
 ghost use Rattle.group_tree.specs.Groups.{Groups, IsClosed, only_root, HasBelow, HasNoneBelow, Inserts, Sets, Removes, chain_of};
 ghost use Rattle.group_tree.specs.Along.{groups_down, along_of};
 ghost use Rattle.group_tree.specs.Flat.{limit_of, limit_file_of, group_of};
-ghost use Rattle.group_tree.specs.Refusals.{Counts, HasRoomForRefusals, counted_by};
+ghost use Rattle.group_tree.specs.Refusals.{CountsRefusals, HasRoomForRefusals, counted_by};
 ghost use Rattle.group_tree.specs.PeaksAlong.{SetsPeaks, peaked_by};
 ghost use Rattle.group_tree.specs.Limits.{refusal_along, names_of, without_processes};
 
@@ -83,9 +83,9 @@ pub fn refusals_are_counted()
     ensures slot { (g : ℕ → ℕ) (a q : Path) (x : Attr) → (counted_by g a q x).slot ≡ x.slot }
     ensures peak { (g : ℕ → ℕ) (a q : Path) (x : Attr) → (counted_by g a q x).peak ≡ x.peak }
     ensures greatest { (n : ℕ) → min (n + 1) (2 ^ 64 - 1) < 2 ^ 64 }
-    ensures all_up { (old new : Groups) (a q : Path) → HasRoomForRefusals old → Counts (λ m. min (m + 1) (2 ^ 64 - 1)) old new a
+    ensures all_up { (old new : Groups) (a q : Path) → HasRoomForRefusals old → CountsRefusals (λ m. min (m + 1) (2 ^ 64 - 1)) old new a
         → get (map_values group_of new) q ≡ option_map (count_up a q) (get (map_values group_of old) q) }
-    ensures all_down { (old new : Groups) (a q : Path) → Counts (λ m. m - 1) old new a → get (map_values group_of new) q ≡ option_map (count_down a q) (get (map_values group_of old) q) }
+    ensures all_down { (old new : Groups) (a q : Path) → CountsRefusals (λ m. m - 1) old new a → get (map_values group_of new) q ≡ option_map (count_down a q) (get (map_values group_of old) q) }
 {}
 
 /// Peaks are set as in the flat state. Everything else of a group stays, and so does the root. Of three groups along a path,

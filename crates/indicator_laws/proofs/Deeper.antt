@@ -4,7 +4,7 @@ use mathlib.Core.Logic.{dite}
 use native.Mathlib.Decide.{ℕ_discrete}
 use Rattle.snzi_core.specs.Balance.{here, below}
 use Rattle.snzi_tree.specs.Depths.{halved, OnPath, depth}
-use Rattle.snzi_tree.proofs.Paths.{depth_up}
+use Rattle.snzi_tree.proofs.NodePaths.{depth_up}
 
 from_root : (n k : ℕ) → k ≤ n → OnPath k 0
 from_root zero k l = subst (λ (j : ℕ). OnPath j 0) (omega (arith, l)) here

@@ -13,11 +13,11 @@ use Rattle.snzi_core.specs.declared.holding.Role.TheVariants.{Spent}
 use Rattle.snzi_core.specs.declared.unlawful.Unlawful.{Unlawful}
 use Rattle.snzi_core.specs.declared.unlawful.Unlawful.TheVariants.{NoNode, NoToken, Cap}
 use Rattle.snzi_core.specs.Holding.{out, gain, lose, raise, empty, rejoined}
-use Rattle.snzi_core.specs.CoreState.{State as Core, hand_of, node_of, parent_of, root_of, stripe_of}
+use Rattle.snzi_core.specs.CoreState.{CoreState as Core, hand_of, node_of, parent_of, root_of, stripe_of}
 use Rattle.snzi_core.specs.Lawful.{refuse, refusal, refuses_split, has_token, main_has, is_zero, passes_up, is_crowded}
 use Rattle.snzi_core.specs.Effect.{after, arrived, descended, departed, ascended, Runs}
 use Rattle.snzi_tree.specs.BoardEvents.{CanSplit, IsLawful, Comes}
-use Rattle.snzi_tree.proofs.Events.{passed, below_cap}
+use Rattle.snzi_tree.proofs.StepEvents.{passed, below_cap}
 
 split_done : (k : Core) (share : List Token) → CanSplit k share → length k.hands < 2 ^ 32 - 1 → refuses_split k share ≡ None
 split_done k share can room =

@@ -1,7 +1,7 @@
-mod Told
-mod Counted
+mod EventRuns
+mod HandShares
 mod Deeper
 mod Rows
 mod NoEvent
 mod LawfulRuns
-mod Unmoved
+mod EmptyRuns

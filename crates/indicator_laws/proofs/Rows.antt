@@ -3,7 +3,7 @@ use Rattle.std.proofs.Common.{◌≡◌, ℕ, zero, suc, ◌+◌, ◌-◌, ◌*�
 use Rattle.std.proofs.Math.Nat.{pow-suc, mul-suc, suc-mul}
 use Rattle.std.proofs.lemmas.Nat.{pow_pos}
 use Rattle.snzi_tree.specs.Depths.{halved, depth, leaf_depth, triangle, arrive_steps, depart_steps}
-use Rattle.snzi_tree.proofs.Paths.{depth_up}
+use Rattle.snzi_tree.proofs.NodePaths.{depth_up}
 
 pub one_more : (n : ℕ) → suc n ≡ n + 1
 one_more n = omega arith

@@ -4,10 +4,10 @@ use Rattle.snzi_core.specs.declared.event.At.{At}
 use Rattle.snzi_tokens.specs.declared.token.Token.{Token}
 use Rattle.snzi_core.specs.declared.holding.Holding.{Holding}
 use Rattle.snzi_core.specs.declared.holding.Role.TheVariants.{Main, Helper}
-use Rattle.snzi_core.specs.CoreState.{State}
+use Rattle.snzi_core.specs.CoreState.{CoreState}
 
 -- one slot of three nodes and two stripes: main has n helpers out and these tokens, and hand 1 is a helper with those
-abbrev pub core : List ℕ → ℕ → List ℕ → List ℕ → State
+abbrev pub core : List ℕ → ℕ → List ℕ → List ℕ → CoreState
 core words n mine theirs = record {
   slots = 1;
   nodes = 3;
@@ -26,14 +26,14 @@ abbrev pub full : ℕ
 full = 1099511627776
 
 -- main and the helper have as many tokens at each node as the cap, and no more helpers may be out; with all words zero, and with all words 1
-abbrev pub crowded : State
+abbrev pub crowded : CoreState
 crowded = core (0 ∷ 0 ∷ 0 ∷ 0 ∷ 0 ∷ []) 65535 (full ∷ full ∷ full ∷ 0 ∷ 0 ∷ []) (full ∷ full ∷ full ∷ 0 ∷ 0 ∷ [])
 
-abbrev pub filled : State
+abbrev pub filled : CoreState
 filled = core (1 ∷ 1 ∷ 1 ∷ 0 ∷ 0 ∷ []) 65535 (full ∷ full ∷ full ∷ 0 ∷ 0 ∷ []) (full ∷ full ∷ full ∷ 0 ∷ 0 ∷ [])
 
 -- main may have one more token at each node, and one more helper may be out; the helper has a token at each leaf
-abbrev pub roomy : State
+abbrev pub roomy : CoreState
 roomy = core (1 ∷ 1 ∷ 1 ∷ 0 ∷ 0 ∷ []) 65534 (1099511627775 ∷ 1099511627775 ∷ 1099511627775 ∷ 0 ∷ 0 ∷ []) (0 ∷ 1 ∷ 1 ∷ 0 ∷ 0 ∷ [])
 
 -- main with n helpers out

@@ -8,7 +8,7 @@ ghost use Rattle.snzi_core.specs.declared.holding.Holding.{Holding};
 ghost use Rattle.snzi_core.specs.declared.holding.Role.TheVariants.{Main, Helper, Spent};
 ghost use Rattle.snzi_core.specs.declared.unlawful.Unlawful.{Unlawful};
 ghost use Rattle.snzi_core.specs.declared.unlawful.Unlawful.TheVariants.{NoHand, NoToken, Cap, StillHolding, OutOfMemory, NoNode, ZeroNode};
-ghost use Rattle.snzi_core.specs.CoreState.{State, IsRuled, hand_of, start};
+ghost use Rattle.snzi_core.specs.CoreState.{CoreState, IsRuled, hand_of, start};
 ghost use Rattle.snzi_core.specs.Holding.{put, added, merged, without, wrapped, held, gain, lose, raise, empty, main_weight, helper_weight, out, keeper, helper_with, rejoined};
 ghost use Rattle.snzi_core.specs.Kept.{HasTables, IsCore};
 ghost use Rattle.snzi_core.specs.Lawful.{refusal, refuses_split};
@@ -18,14 +18,14 @@ ghost use Rattle.indicator_laws.specs.Cores.{core, at, token, full, crowded, fil
 /// A result means one thing only. The refusal that an event meets is returned, and no other. If it
 /// meets none, only out of memory may be returned, and only for a split, which alone makes a hand.
 pub fn refusals_are_told_apart()
-    ensures told { (k : State) (e : Event) (u : Unlawful) → refusal k e ≡ Some u → Refuses u k e }
-    ensures one { (k : State) (e : Event) (u v : Unlawful) → Refuses u k e → Refuses v k e → u ≡ v }
-    ensures lawful { (k : State) (e : Event) (u : Unlawful) → refusal k e ≡ None → Refuses u k e
+    ensures told { (k : CoreState) (e : Event) (u : Unlawful) → refusal k e ≡ Some u → Refuses u k e }
+    ensures one { (k : CoreState) (e : Event) (u v : Unlawful) → Refuses u k e → Refuses v k e → u ≡ v }
+    ensures lawful { (k : CoreState) (e : Event) (u : Unlawful) → refusal k e ≡ None → Refuses u k e
         → (u ≡ OutOfMemory) × (is_split e ≡ true) }
-    ensures memory { (k : State) (e : Event) → refusal k e ≡ None → is_split e ≡ true
+    ensures memory { (k : CoreState) (e : Event) → refusal k e ≡ None → is_split e ≡ true
         → Refuses OutOfMemory k e }
-    ensures never { (k : State) (e : Event) → refusal k e ≢ Some OutOfMemory }
-    ensures makes { (k : State) (e : Event)
+    ensures never { (k : CoreState) (e : Event) → refusal k e ≢ Some OutOfMemory }
+    ensures makes { (k : CoreState) (e : Event)
         → is_split e ≡ true ↔ length (after k e).hands ≡ length k.hands + 1 }
 {}
 
@@ -76,29 +76,29 @@ pub fn refusals_come_in_order()
 /// A split is refused for a token outside the shape, then for one that main lacks, then if 65,535
 /// helpers are out or 2^32 - 1 hands were made.
 pub fn splits_are_refused_in_order()
-    ensures share { (k : State) (share : Bor (List Token))
+    ensures share { (k : CoreState) (share : Bor (List Token))
         → refusal k (Split share) ≡ refuses_split k share.now }
     ensures node { (refuses_split crowded (token 0 0 ∷ token 0 2 ∷ []) ≡ Some NoNode)
         × (refuses_split crowded (token 1 0 ∷ []) ≡ Some NoNode) }
-    ensures token { (one_each : State) → one_each ≡ core (2 ∷ 1 ∷ 1 ∷ 0 ∷ 0 ∷ []) 65535 (0 ∷ 1 ∷ 1 ∷ 0 ∷ 0 ∷ []) []
+    ensures token { (one_each : CoreState) → one_each ≡ core (2 ∷ 1 ∷ 1 ∷ 0 ∷ 0 ∷ []) 65535 (0 ∷ 1 ∷ 1 ∷ 0 ∷ 0 ∷ []) []
         → (refuses_split one_each (token 0 1 ∷ token 0 0 ∷ token 0 1 ∷ []) ≡ Some NoToken)
         × (refuses_split one_each (token 0 1 ∷ token 0 0 ∷ []) ≡ Some Cap) }
     ensures helpers { (refuses_split crowded [] ≡ Some Cap) × (refuses_split roomy (token 0 1 ∷ token 0 0 ∷ []) ≡ None) }
-    ensures hands { (k : State) → length k.hands ≡ 4294967295 → refuses_split k [] ≡ Some Cap }
-    ensures room { (k : State) → length k.hands ≡ 4294967294 → out (hand_of k 0).role ≡ 65534 → refuses_split k [] ≡ None }
+    ensures hands { (k : CoreState) → length k.hands ≡ 4294967295 → refuses_split k [] ≡ Some Cap }
+    ensures room { (k : CoreState) → length k.hands ≡ 4294967294 → out (hand_of k 0).role ≡ 65534 → refuses_split k [] ≡ None }
 {}
 
 /// A list of events leads to one core. If it stops at an index, the core and the refusal are
 /// unique. A list whose events are all lawful stops only when out of memory.
 pub fn lists_are_told_apart()
-    ensures runs { (k a b : State) (es : List Event) → Runs k es a → Runs k es b → a ≡ b }
-    ensures stops { (k a b : State) (es : List Event) (i : ℕ) (u v : Unlawful) → Stops k es i u a
+    ensures runs { (k a b : CoreState) (es : List Event) → Runs k es a → Runs k es b → a ≡ b }
+    ensures stops { (k a b : CoreState) (es : List Event) (i : ℕ) (u v : Unlawful) → Stops k es i u a
         → Stops k es i v b → (u ≡ v) × (a ≡ b) }
-    ensures lawful { (k a b : State) (es : List Event) (i : ℕ) (u : Unlawful) → Runs k es b
+    ensures lawful { (k a b : CoreState) (es : List Event) (i : ℕ) (u : Unlawful) → Runs k es b
         → Stops k es i u a → u ≡ OutOfMemory }
-    ensures first { (k a b : State) (es : List Event) (i j : ℕ) (u v : Unlawful) → Stops k es i u a
+    ensures first { (k a b : CoreState) (es : List Event) (i j : ℕ) (u v : Unlawful) → Stops k es i u a
         → Stops k es j v b → i < j → u ≡ OutOfMemory }
-    ensures inside { (k a : State) (es : List Event) (i : ℕ) (u : Unlawful) → Stops k es i u a
+    ensures inside { (k a : CoreState) (es : List Event) (i : ℕ) (u : Unlawful) → Stops k es i u a
         → i < length es }
 {}
 
@@ -132,10 +132,10 @@ pub fn hands_change()
 
 /// A core has an odd number of nodes in a slot, and words and tables to match; hand 0 is main.
 pub fn cores_are_exact()
-    ensures words { (k : State) → IsCore k → length k.words ≡ k.slots * (k.nodes + (k.nodes + 1) / 2) }
-    ensures odd { (k : State) → IsCore k → (k.nodes % 2 ≡ 1) × (length k.hands < 2 ^ 32) }
-    ensures main { (k : State) → IsCore k → (n : ℕ) × ((hand_of k 0).role ≡ Main n) × (n ≤ 65535) }
-    ensures rule { (k : State) → IsCore k → IsRuled k }
+    ensures words { (k : CoreState) → IsCore k → length k.words ≡ k.slots * (k.nodes + (k.nodes + 1) / 2) }
+    ensures odd { (k : CoreState) → IsCore k → (k.nodes % 2 ≡ 1) × (length k.hands < 2 ^ 32) }
+    ensures main { (k : CoreState) → IsCore k → (n : ℕ) × ((hand_of k 0).role ≡ Main n) × (n ≤ 65535) }
+    ensures rule { (k : CoreState) → IsCore k → IsRuled k }
     ensures tables { (n : ℕ) (h : Holding) → HasTables n h → h.role ≢ Spent → (length h.tokens ≡ n) × (length h.amounts ≡ n) }
     ensures spent { (n : ℕ) → HasTables n (empty Spent) }
     ensures start { (slots nodes : ℕ) → (nodes ≡ 1) ⊎ (nodes ≡ 3) ⊎ (nodes ≡ 7) ⊎ (nodes ≡ 15) → IsCore (start slots nodes) }

@@ -13,7 +13,7 @@ ghost use Rattle.snzi_core.specs.declared.unlawful.Unlawful.TheVariants.{Cap};
 ghost use Rattle.snzi_core.specs.Caps.{token_cap, helper_cap};
 ghost use Rattle.snzi_core.specs.declared.holding.Holding.{Holding};
 ghost use Rattle.snzi_core.specs.Holding.{tokens_at, amount_at, held, main_weight, out};
-ghost use Rattle.snzi_core.specs.CoreState.{State as Core};
+ghost use Rattle.snzi_core.specs.CoreState.{CoreState as Core};
 ghost use Rattle.snzi_core.specs.Lawful.{refusal};
 ghost use Rattle.snzi_core.specs.Effect.{after, Runs};
 ghost use Rattle.snzi_tree.specs.declared.board.View.{View};

@@ -6,14 +6,14 @@ use Rattle.flat_model.specs.Inverse.{Inverse, back, inverse}
 use Rattle.flat_model.specs.Step.{refusal, after}
 use Rattle.flat_model.specs.Machine.{Machine, new_machine, tick, end_of, after_all, undos}
 use Rattle.flat_model.proofs.Reachable.{reached_well}
-use Rattle.flat_model.proofs.TakenBack.{back_accepted}
+use Rattle.flat_model.proofs.InverseLaws.{back_accepted}
 use Rattle.undo_journal.specs.Answer.{IsNewest, record_by, record_of, state_after}
 use Rattle.undo_journal.specs.Beginning.{first_state, beginning}
 use Rattle.undo_journal.specs.Headline.{IsReached, KeepsHistory}
 use Rattle.undo_journal.specs.History.{IsHistory}
 use Rattle.undo_journal.specs.Timeline.{Timeline, from_start}
 use Rattle.undo_journal.proofs.Beginnings.{tick_begins}
-use Rattle.undo_journal.proofs.Undone.{keeps_history}
+use Rattle.undo_journal.proofs.MachineSteps.{keeps_history}
 use Rattle.undo_journal.proofs.Histories.{taken_by}
 use Rattle.journal_laws.specs.Runs.{KeepsEach}
 

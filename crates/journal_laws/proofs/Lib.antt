@@ -1,5 +1,5 @@
 mod FileMeanings
 mod HistoryLaws
 mod MeaningLaws
-mod Said
-mod Forgetting
+mod LineFaults
+mod ForgetLaws

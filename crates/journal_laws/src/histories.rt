@@ -63,7 +63,7 @@ ghost use Rattle.flat_model.specs.Path.{Path, at_or_below, parent};
 ghost use Rattle.flat_model.specs.State.{Attr, Limit, State, start};
 ghost use Rattle.flat_model.specs.Step.{after, refusal};
 ghost use Rattle.flat_model.specs.WellFormed.{MachineWellFormed};
-ghost use Rattle.undo_journal.specs.declared.journal.Entry.{Entry};
+ghost use Rattle.undo_journal.specs.declared.journal.JournalEntry.{JournalEntry};
 ghost use Rattle.undo_journal.specs.declared.reply.Reply.{Reply};
 ghost use Rattle.undo_journal.specs.Answer.{
   Answers,
@@ -270,19 +270,19 @@ pub fn records_are_of_what_changes()
 /// A journal is read with its newest entry first, and it describes a machine that commands reach. If nothing was forgotten,
 /// it begins at the start. A whole journal can be forgotten.
 pub fn journals_are_histories()
-    ensures newest_first { (journal : List (Entry Global)) (e : Entry Global)
+    ensures newest_first { (journal : List (JournalEntry Global)) (e : JournalEntry Global)
         → records (journal ++ e ∷ []) ≡ (command_of e.command, inverse_of e.inverse) ∷ records journal }
     ensures empty { records {A = Global} [] ≡ [] }
     ensures start { (slots : ℕ) (s : State) → IsHistory slots 0 s [] ↔ (s ≡ start) }
     ensures forgotten { (slots gone : ℕ) (s : State) (es : List (model.Command × Inverse))
         → IsHistory slots gone s es → gone + length es < 2 ^ 64 - 1
         → IsHistory slots (gone + length es) s [] }
-    ensures state { (s : State) (journal : List (Entry Global)) → (machine_of s journal).state ≡ s }
-    ensures past { (s : State) (journal : List (Entry Global)) (e : Entry Global)
+    ensures state { (s : State) (journal : List (JournalEntry Global)) → (machine_of s journal).state ≡ s }
+    ensures past { (s : State) (journal : List (JournalEntry Global)) (e : JournalEntry Global)
         → (machine_of s (journal ++ e ∷ [])).past
         ≡ (command_of e.command, back (inverse_of e.inverse) s)
         ∷ (machine_of (back (inverse_of e.inverse) s) journal).past }
-    ensures reached { (slots gone : ℕ) (s : State) (journal : List (Entry Global))
+    ensures reached { (slots gone : ℕ) (s : State) (journal : List (JournalEntry Global))
         → IsHistory slots gone s (records journal) → IsReached slots (timeline_of gone s journal) }
 {}
 

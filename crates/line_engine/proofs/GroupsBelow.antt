@@ -6,7 +6,7 @@ use Rattle.flat_model.specs.PathText.{path_text}
 use Rattle.flat_model.specs.State.{State}
 use Rattle.flat_model.specs.Counts.{is_group}
 use Rattle.line_engine.specs.Listings.{TellsAll, TellsSubtreeAt, names_below, groups_from, paths_bytes, subtree}
-use Rattle.line_engine.proofs.Told.{told_all}
+use Rattle.line_engine.proofs.ListingBytes.{told_all}
 use Rattle.line_engine.specs.declared.listing.Listing.{Listing}
 use Rattle.line_engine.specs.declared.listing.Listing.TheVariants as listing
 

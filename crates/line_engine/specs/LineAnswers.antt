@@ -30,7 +30,7 @@ AnswersFault n f out (TooSmall needed) = LacksRoom out needed (fault_bytes n f)
 AnswersFault n f out OutOfMemory = Unit {0}
 
 -- the machine has run the command as the n-th, the first len bytes of the buffer are its output, and this is its code
-pub record Ran (old : Timeline) (n : ℕ) (c : Command) (out : List ℕ) (len code : ℕ) (next : Timeline) : Type 0 where
+pub record AnswersCommand (old : Timeline) (n : ℕ) (c : Command) (out : List ℕ) (len code : ℕ) (next : Timeline) : Type 0 where
   pub goes : next ≡ becomes old (tick slots old.machine c).0
   pub answered : Holds out len (reply_bytes n (tick slots old.machine c).1)
   pub code_is : code ≡ reply_code (tick slots old.machine c).1
@@ -40,7 +40,7 @@ pub record Ran (old : Timeline) (n : ℕ) (c : Command) (out : List ℕ) (len co
 -- the command has run so; or the engine is unchanged, because the output is longer than the buffer or when out of memory
 abbrev pub AnswersRun : Timeline → ℕ → Command → List ℕ → Answer → Timeline → Type 0
 AnswersRun old n c out Skipped next = ⊥
-AnswersRun old n c out (Answered len code) next = Ran old n c out len code next
+AnswersRun old n c out (Answered len code) next = AnswersCommand old n c out len code next
 AnswersRun old n c out (TooSmall needed) next = (next ≡ old) × LacksRoom out needed (reply_bytes n (tick slots old.machine c).1)
 AnswersRun old n c out OutOfMemory next = next ≡ old
 

@@ -48,10 +48,10 @@ abbrev pub lines_bytes : List Command → List ℕ
 lines_bytes cs = flat_map (λ c. line (command_text c)) cs
 
 -- the path of the grammar; otherwise no path, or out of memory
-abbrev pub ReadsPath : Result Path Unread → Result Path PathFault → Type 0
-ReadsPath (Ok path) m = m ≡ Ok path
-ReadsPath (Err unread.BadPath) m = IsErr m
-ReadsPath (Err unread.OutOfMemory) m = IsOk m
+abbrev pub ReadsListedPath : Result Path Unread → Result Path PathFault → Type 0
+ReadsListedPath (Ok path) m = m ≡ Ok path
+ReadsListedPath (Err unread.BadPath) m = IsErr m
+ReadsListedPath (Err unread.OutOfMemory) m = IsOk m
 
 -- the first len bytes of the buffer are the names of the group's children, of which there are `count`; or there is no
 -- such group; or the names are longer than the buffer

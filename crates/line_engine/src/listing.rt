@@ -2,7 +2,7 @@
 
 ghost use Rattle.std.specs.Prelude.{◌≡◌, IfOk, length};
 ghost use Rattle.flat_model.specs.PathText.{read_path};
-ghost use Rattle.line_engine.specs.Listings.{ReadsPath, TellsChildren, TellsChildrenAt, TellsGroup, TellsAll, names_bytes};
+ghost use Rattle.line_engine.specs.Listings.{ReadsListedPath, TellsChildren, TellsChildrenAt, TellsGroup, TellsAll, names_bytes};
 
 use crate::engine::LineEngine;
 use crate::writing::put_out;
@@ -56,7 +56,7 @@ pub(crate) enum Unread {
 }
 
 pub(crate) fn read(alloc: Global, text: &[u8]) -> Result<GroupPath<Global>, Unread>
-    ensures { ReadsPath result (read_path text.now) }
+    ensures { ReadsListedPath result (read_path text.now) }
 {
     match GroupPath::read(alloc, text) {
         Ok(path) => Ok(path),

@@ -14,7 +14,7 @@ use Rattle.group_tree.specs.ChildNames.{last_name, is_child}
 use Rattle.line_engine.specs.Listings.{all_groups, subtree, groups_from, names_below}
 use Rattle.listing_laws.proofs.Members.{Among, contains_among, among_contains, flat_among, map_among, among_filter, filter_among}
 use Rattle.listing_laws.proofs.Order.{Ascends, ascends_keys, ascends_filter, ascends_flat, same_lists}
-use Rattle.listing_laws.proofs.Listed.{child_is, there, stands, listed_stands, standing_listed, listed_are}
+use Rattle.listing_laws.proofs.AllGroups.{child_is, there, stands, listed_stands, standing_listed, listed_are}
 
 -- ---- the order of paths behind the same names
 

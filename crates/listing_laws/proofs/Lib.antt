@@ -1,5 +1,5 @@
 mod InOrder
-mod Listed
+mod AllGroups
 mod Members
 mod Order
-mod Reached
+mod DepthBounds

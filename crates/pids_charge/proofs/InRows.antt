@@ -13,7 +13,7 @@ use Rattle.flat_model.proofs.PathLaws.{path_cmp-IsTotalOrder, path_cmp-IsAntisym
 use Rattle.group_tree.specs.Flat.{limits_of}
 use Rattle.group_tree.specs.Groups.{Groups, IsClosed, slot_of}
 use Rattle.group_tree.specs.declared.attr.Attr.{Attr}
-use Rattle.group_tree.proofs.Changed.{closed_changes}
+use Rattle.group_tree.proofs.PathChanges.{closed_changes}
 use Rattle.pids_charge.specs.GroupRows.{in_row, with_rows, IsInRow, HasRows}
 use Rattle.pids_charge.specs.Lists.{slot_at, table_slot}
 use Rattle.pids_charge.proofs.Changes.{which}

@@ -1,34 +1,34 @@
-mod Below
+mod PositiveSums
 pub mod Tokens
 pub mod InParts
 pub mod Entries
 mod TableSlots
-mod Listing
-mod Listed
-mod Charged
-mod ChildrenTold
-mod Copied
+mod KillLists
+mod ListedProcesses
+mod MeterContents
+mod FlatChildren
+mod TableCopies
 mod OneMore
-mod Upward
+mod ParentSteps
 mod Gathers
-mod Asked
+mod FlatGroups
 mod Slots
-mod Counted
-mod Freed
-mod Starts
+mod PathCharges
+mod FreeSlots
+mod StartState
 mod Changes
 mod InRows
-mod Kept
-mod RowsRead
+mod PathRows
+mod RowReads
 mod RowsUp
-mod Read
-mod Limited
-mod Exited
-mod Walked
-mod Totals
-mod PeaksRaised
-mod Noted
-mod Forked
+mod GroupReads
+mod LimitWrites
+mod ProcessExits
+mod FullGroupWalk
+mod FlatTotals
+mod PeakRises
+mod WalkNotes
+mod ForkOutcomes
 mod Removals
 mod Empty
 pub mod MemoryFault

@@ -33,8 +33,8 @@ use Rattle.pids_charge.specs.Lists.{slot_at}
 use Rattle.pids_charge.specs.Recount.{HasParents, HasSlots, Recounted, IsPlaced, state_of}
 use Rattle.pids_charge.proofs.TableSlots.{table_slot_same}
 use Rattle.process_table.specs.declared.process.Process.{Process}
-use Rattle.pids_charge.proofs.Asked.{nonroot, refuse_none, is_there, group-is}
-use Rattle.pids_charge.proofs.Charged.{all_both, regrouped}
+use Rattle.pids_charge.proofs.FlatGroups.{nonroot, refuse_none, is_there, group-is}
+use Rattle.pids_charge.proofs.MeterContents.{all_both, regrouped}
 use Rattle.pids_charge.proofs.Entries.{home_rows, to_sorted}
 
 -- ---- the refusals

@@ -18,7 +18,7 @@ use Rattle.pids_charge.specs.Lists.{table_slot}
 use Rattle.pids_charge.specs.Recount.{HasParents, SlotsBelow}
 use Rattle.pids_charge.proofs.Changes.{which}
 use Rattle.pids_charge.proofs.TableSlots.{table_slot_same}
-use Rattle.pids_charge.proofs.Upward.{own_slot, step_by}
+use Rattle.pids_charge.proofs.ParentSteps.{own_slot, step_by}
 
 -- the first n groups from p upward, changed by f from their places on the way
 abbrev pub up_by : Path → (ℕ → Attr → Attr) → ℕ → Path → Attr → Attr

@@ -10,7 +10,7 @@ peaks_in (Many v) = v.items
 peaks_in (Wide v) = v.items
 
 -- the table has its capacity, and no more peaks are recorded in it; narrow peaks in an allocation are more than that
-abbrev pub IsSound : {A : Type 0} → Storage A → Type 0
-IsSound (Few len peaks) = (len ≤ INLINE_PEAKS) × (length peaks ≡ INLINE_PEAKS)
-IsSound (Many v) = INLINE_PEAKS < length v.items
-IsSound (Wide v) = Unit {0}
+abbrev pub FitsInline : {A : Type 0} → Storage A → Type 0
+FitsInline (Few len peaks) = (len ≤ INLINE_PEAKS) × (length peaks ≡ INLINE_PEAKS)
+FitsInline (Many v) = INLINE_PEAKS < length v.items
+FitsInline (Wide v) = Unit {0}

@@ -3,7 +3,7 @@
 ghost use Rattle.std.specs.Prelude.{◌≡◌, ◌≤◌, length, take, IsSome};
 ghost use Rattle.std.specs.FinMap as fin;
 ghost use Rattle.group_tree.specs.PeaksAlong.{SetsPeaks};
-ghost use Rattle.group_tree.specs.Refusals.{Counts};
+ghost use Rattle.group_tree.specs.Refusals.{CountsRefusals};
 ghost use Rattle.pids_charge.specs.Events.{stepped};
 ghost use Rattle.pids_charge.specs.Lists.{table_slot};
 ghost use Rattle.pids_charge.specs.Recount.{HasParents, SlotsBelow};
@@ -75,7 +75,7 @@ pub(crate) fn change_totals<M: Meter, T: Allocator + Clone, A: Allocator + Clone
     requires slot { slot ≡ table_slot tree.old (take n path.now) }
     requires slots { SlotsBelow M.SLOTS tree.old }
     requires parents { HasParents M.SLOTS tree.old parents.now }
-    ensures { Counts (stepped change) tree.old tree.new (take n path.now) }
+    ensures { CountsRefusals (stepped change) tree.old tree.new (take n path.now) }
 {
     tree.known();
     let mut at = slot;

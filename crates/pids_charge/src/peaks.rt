@@ -50,7 +50,7 @@ const _: () = prove!(size_of::<Peaks<Global>>() == 32);
 impl<A: Allocator + Clone> Model for Peaks<A> {
     ghost use Rattle.std.specs.Prelude.{ℕ, List};
     ghost use Rattle.std.specs.Coded.{coded_ℕ, coded_list};
-    ghost use Rattle.pids_charge.specs.PeakStorage.{peaks_in, IsSound};
+    ghost use Rattle.pids_charge.specs.PeakStorage.{peaks_in, FitsInline};
 
     ghost Value = { List ℕ };
 
@@ -58,7 +58,7 @@ impl<A: Allocator + Clone> Model for Peaks<A> {
 
     ghost view = { λ p. peaks_in p.storage };
 
-    ghost invariant = { λ p. IsSound p.storage };
+    ghost invariant = { λ p. FitsInline p.storage };
 }
 
 // The explicit drop hides the storage, so the proof of a function that drops such a value has one case instead of three.

@@ -1,7 +1,7 @@
-pub mod Gathered
+pub mod ChosenPids
 pub mod Outcomes
-pub mod Paged
+pub mod PageChanges
 pub mod RowLaws
 pub mod SameNumbers
 pub mod Tables
-pub mod Tying
+pub mod CellTies

@@ -17,10 +17,10 @@ use Rattle.process_table.specs.SlotPids.{list_at, IsAt}
 use Rattle.process_table.specs.Rows.{rows_from, pid_count, process_of, process_at, table_of}
 use Rattle.process_table.specs.Tied.{in_slot, IsTied}
 use Rattle.process_table.proofs.RowLaws.{counted, alike, rows_ascend, rows_found, rows_counted, rows_put, rows_taken}
-use Rattle.process_table.proofs.Gathered.{has_cell}
-use Rattle.process_table.proofs.Paged.{no_page}
+use Rattle.process_table.proofs.ChosenPids.{has_cell}
+use Rattle.process_table.proofs.PageChanges.{no_page}
 use Rattle.process_table.proofs.SameNumbers.{same_numbers, up_from_sort, count-IsPermutation}
-use Rattle.process_table.proofs.Tying.{written, unwritten}
+use Rattle.process_table.proofs.CellTies.{written, unwritten}
 
 pub small : (q : ℕ) → q < 2 ^ 32 → q < pid_count
 unfolding pid_count

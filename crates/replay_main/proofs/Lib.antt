@@ -1,7 +1,7 @@
-pub mod Answered
-pub mod CommandLines
+pub mod PhaseAnswers
+pub mod ReplayCommandLine
 pub mod RunJoins
 pub mod ScriptLaws
-pub mod Passes
+pub mod LinePasses
 pub mod Rehearsals
 pub mod TurnSteps

@@ -51,15 +51,15 @@ abbrev pub HasFault : Kinds → Type 0
 HasFault kinds = (k : ErrorKind) × IsAmong k kinds × (k ≢ kind.DisplayHelp)
 
 -- a run if there is no fault and 1 to 8 workers are asked for; help if it is asked for; a bad line on another fault or another number
-abbrev pub Asks : List Text → Result Ask LineFault → Type 0
-Asks words (Ok (Run workers rehearse)) = (fault_of app words ≡ []) × (workers_in words ≡ Some workers) × (1 ≤ workers) × (workers ≤ 8) × (rehearse ≡ rehearsal_in words)
-Asks words (Ok (Help text)) = IsAmong kind.DisplayHelp (fault_of app words)
-Asks words (Err Bad) = HasFault (fault_of app words) ⊎ ((fault_of app words ≡ []) × (workers_in words ≡ None))
-Asks words (Err OutOfMemory) = Unit {0}
+abbrev pub AsksReplay : List Text → Result Ask LineFault → Type 0
+AsksReplay words (Ok (Run workers rehearse)) = (fault_of app words ≡ []) × (workers_in words ≡ Some workers) × (1 ≤ workers) × (workers ≤ 8) × (rehearse ≡ rehearsal_in words)
+AsksReplay words (Ok (Help text)) = IsAmong kind.DisplayHelp (fault_of app words)
+AsksReplay words (Err Bad) = HasFault (fault_of app words) ⊎ ((fault_of app words ≡ []) × (workers_in words ≡ None))
+AsksReplay words (Err OutOfMemory) = Unit {0}
 
 -- the result for an error of this kind
-abbrev pub IsAskedBy : ErrorKind → Result Ask LineFault → Type 0
-IsAskedBy k (Ok (Run workers rehearse)) = ⊥
-IsAskedBy k (Ok (Help text)) = k ≡ kind.DisplayHelp
-IsAskedBy k (Err Bad) = (k ≢ kind.DisplayHelp) × (k ≢ kind.OutOfMemory)
-IsAskedBy k (Err OutOfMemory) = Unit {0}
+abbrev pub AsksReplayBy : ErrorKind → Result Ask LineFault → Type 0
+AsksReplayBy k (Ok (Run workers rehearse)) = ⊥
+AsksReplayBy k (Ok (Help text)) = k ≡ kind.DisplayHelp
+AsksReplayBy k (Err Bad) = (k ≢ kind.DisplayHelp) × (k ≢ kind.OutOfMemory)
+AsksReplayBy k (Err OutOfMemory) = Unit {0}

@@ -7,12 +7,12 @@ use Rattle.replay_main.specs.declared.fault.ReplayFault.TheVariants as replay
 use Rattle.replay_main.specs.declared.program.ProgramFault.{ProgramFault}
 use Rattle.replay_main.specs.declared.program.ProgramFault.TheVariants.{Line, Replay}
 use Rattle.trace_talk.specs.declared.summary.Summary.{Summary}
-use Rattle.replay_main.specs.ReplayArguments.{Asks, app, rehearsal_in, workers_in}
+use Rattle.replay_main.specs.ReplayArguments.{AsksReplay, app, rehearsal_in, workers_in}
 use Rattle.program_io.specs.Device.{IsUnread, IsUnwritten, TakesFront}
 use Rattle.replay_main.specs.Replayed.{IsWhole, Replayed}
 
 -- the command line asks for help; nothing was read, and a whole text was written and flushed
-pub record IsHelped (words : List Text) (left rest : Option (List ℕ)) (read_failed : Bool) (before after : Option (List ℕ)) (write_failed flushed : Bool) : Type 0 where
+pub record IsReplayHelp (words : List Text) (left rest : Option (List ℕ)) (read_failed : Bool) (before after : Option (List ℕ)) (write_failed flushed : Bool) : Type 0 where
   pub called : IsAmong kind.DisplayHelp (fault_of app words)
   pub unread : IsUnread left rest read_failed
   pub text : List ℕ
@@ -33,13 +33,13 @@ pub record IsReplayed (words : List Text) (left before after : Option (List ℕ)
   pub whole : IsWhole left before after read_failed write_failed flushed summary
 
 -- by the words of the command line, what the program leaves of a source that had `left` and of a sink that had `before`, and why it ended before its end; a rehearsal closes no desk
-abbrev pub Ran : List Text → Option (List ℕ) → Option (List ℕ) → Bool → Option (List ℕ) → Option (List ℕ) → Bool → Bool → Result (Unit {0}) ProgramFault → Type 0
-Ran words left rest read_failed before after write_failed flushed (Ok u) =
+abbrev pub EndsReplay : List Text → Option (List ℕ) → Option (List ℕ) → Bool → Option (List ℕ) → Option (List ℕ) → Bool → Bool → Result (Unit {0}) ProgramFault → Type 0
+EndsReplay words left rest read_failed before after write_failed flushed (Ok u) =
     IsReplayed words left before after read_failed write_failed flushed
-    ⊎ IsHelped words left rest read_failed before after write_failed flushed
-Ran words left rest read_failed before after write_failed flushed (Err (Line fault)) =
-    Asks words (Err fault) × IsUnread left rest read_failed × IsUnwritten before after write_failed
-Ran words left rest read_failed before after write_failed flushed (Err (Replay fault)) =
+    ⊎ IsReplayHelp words left rest read_failed before after write_failed flushed
+EndsReplay words left rest read_failed before after write_failed flushed (Err (Line fault)) =
+    AsksReplay words (Err fault) × IsUnread left rest read_failed × IsUnwritten before after write_failed
+EndsReplay words left rest read_failed before after write_failed flushed (Err (Replay fault)) =
     (CallsReplay words × Replayed left read_failed before after write_failed flushed (Err fault) × (rehearsal_in words ≡ true → fault ≢ replay.Close))
     ⊎ (IsAmong kind.DisplayHelp (fault_of app words) × IsUnread left rest read_failed × (fault ≡ replay.Write) × (write_failed ≡ true))
 

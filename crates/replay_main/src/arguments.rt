@@ -2,7 +2,7 @@
 
 ghost use Rattle.std.specs.Prelude.{◌≡◌, ◌≤◌, drop, map, option_map, string_bytes, IfOk, IfSome};
 ghost use Rattle.clap.specs.Words.{app_of, kind_of};
-ghost use Rattle.replay_main.specs.ReplayArguments.{Asks, IsAskedBy, app, digit_said, rehearsal_said, workers_said};
+ghost use Rattle.replay_main.specs.ReplayArguments.{AsksReplay, AsksReplayBy, app, digit_said, rehearsal_said, workers_said};
 
 use clap::error::ErrorKind;
 use clap::{Arg, ArgAction, Command, Error};
@@ -31,14 +31,14 @@ pub enum Ask {
 ///
 /// `Bad` for any other words; `OutOfMemory` when out of memory.
 pub fn command_line(alloc: Global, words: &[&str]) -> Result<Ask, LineFault>
-    ensures { Asks (map (λ word. word.now) words.now) result }
+    ensures { AsksReplay (map (λ word. word.now) words.now) result }
 {
     read_words(alloc, words)
 }
 
 /// Reads the program's arguments, of which the first is its name.
 pub(crate) fn read_arguments(alloc: Global, args: &[String]) -> Result<Ask, LineFault>
-    ensures { Asks (map string_bytes (drop 1 args.now)) result }
+    ensures { AsksReplay (map string_bytes (drop 1 args.now)) result }
 {
     read_words(alloc, without_name(args))
 }
@@ -62,7 +62,7 @@ fn program<'a>(alloc: Global) -> Result<Command<'a>, AllocError>
 }
 
 fn read_words<S: AsStr>(alloc: Global, words: &[S]) -> Result<Ask, LineFault>
-    ensures { Asks (map S.text words.now) result }
+    ensures { AsksReplay (map S.text words.now) result }
 {
     let Ok(command) = program(alloc) else {
         return Err(LineFault::OutOfMemory);
@@ -111,7 +111,7 @@ fn read_digit(text: &[u8]) -> Option<u8>
 }
 
 fn asked_by(alloc: Global, error: &Error) -> Result<Ask, LineFault>
-    ensures { IsAskedBy (kind_of error.now) result }
+    ensures { AsksReplayBy (kind_of error.now) result }
 {
     match error.kind() {
         ErrorKind::DisplayHelp => match format!(in alloc; "{error}") {

@@ -4,7 +4,7 @@ ghost use Rattle.std.specs.Prelude.{◌≡◌, ◌≢◌, ◌≤◌, drop, true,
 ghost use Rattle.program_io.specs.declared.arguments.LineFault.{LineFault};
 ghost use Rattle.replay_main.specs.declared.fault.ReplayFault.TheVariants.{Close};
 ghost use Rattle.replay_main.specs.declared.program.ProgramFault.TheVariants.{Line};
-ghost use Rattle.replay_main.specs.ReplayProgram.{Ran, status_of};
+ghost use Rattle.replay_main.specs.ReplayProgram.{EndsReplay, status_of};
 ghost use Rattle.replay_main.specs.Replayed.{Replayed};
 
 use crate::arguments::{Ask, read_arguments};
@@ -43,7 +43,7 @@ pub fn run_program<R: Threads + Wait + Sync, S: Source, W: Sink>(
 ) -> Result<(), ProgramFault>
     requires reader { S.is_failed reader.old ≡ false }
     requires writer { W.is_failed writer.old ≡ false }
-    ensures ran { Ran (map string_bytes (drop 1 args.now))
+    ensures ran { EndsReplay (map string_bytes (drop 1 args.now))
         (S.left reader.old) (S.left reader.new) (S.is_failed reader.new)
         (W.taken writer.old) (W.taken writer.new) (W.is_failed writer.new) (W.is_flushed writer.new)
         result }

@@ -43,7 +43,7 @@ ghost use Rattle.sessions.specs.declared.fault.RunFault.{RunFault};
 ghost use Rattle.sessions.specs.declared.fault.RunFault.TheVariants as run_fault;
 ghost use Rattle.sessions.specs.Faults.{IsFirstFault};
 ghost use Rattle.sessions.specs.SessionMeaning.{slots, answer_of};
-ghost use Rattle.sessions.specs.Ran.{Last, LastAt, Ran, RanAt};
+ghost use Rattle.sessions.specs.Receipts.{Last, LastAt, AddsReceipt, AddsReceiptAt};
 ghost use Rattle.sessions.specs.Marks.{AllClear, IsFirstClear};
 ghost use Rattle.sessions.specs.Served.{
   Answer,
@@ -64,13 +64,13 @@ ghost use Rattle.sessions.specs.Served.{
 /// that was run. A call that failed leaves the session unchanged.
 pub fn receipts_of_a_call()
     ensures ran { (c : model.Command) (before after : Session) (r : Bor Receipt)
-        → Ran c before after (Ok r) ↔ ((after.number ≡ before.number)
+        → AddsReceipt c before after (Ok r) ↔ ((after.number ≡ before.number)
         × (after.receipts ≡ before.receipts ++ r.now ∷ []) × (r.now.command ≡ c)) }
     ensures one_more { (c : model.Command) (before after : Session) (r : Bor Receipt)
-        → Ran c before after (Ok r)
+        → AddsReceipt c before after (Ok r)
         → length after.receipts ≡ length before.receipts + 1 }
     ensures failed { (c : model.Command) (before after : Session) (e : RunFault)
-        → Ran c before after (Err e)
+        → AddsReceipt c before after (Err e)
         ↔ ((after.number ≡ before.number) × (after.receipts ≡ before.receipts)) }
     ensures last { (c : model.Command) (before after : Session)
         → Last c before after ↔ ((n : ℕ) × (answer : model.Reply)
@@ -84,13 +84,13 @@ pub fn receipts_of_a_call()
 /// A call at a turn leaves the same, and the receipt's number is the turn.
 pub fn receipts_of_a_call_at_a_turn()
     ensures ran { (turn : ℕ) (c : model.Command) (before after : Session) (r : Bor Receipt)
-        → RanAt turn c before after (Ok r) ↔ ((after.number ≡ before.number)
+        → AddsReceiptAt turn c before after (Ok r) ↔ ((after.number ≡ before.number)
         × (after.receipts ≡ before.receipts ++ r.now ∷ [])
         × (r.now ≡ record { number = turn; command = c; reply = r.now.reply })) }
     ensures one_more { (turn : ℕ) (c : model.Command) (before after : Session) (r : Bor Receipt)
-        → RanAt turn c before after (Ok r) → Ran c before after (Ok r) }
+        → AddsReceiptAt turn c before after (Ok r) → AddsReceipt c before after (Ok r) }
     ensures failed { (turn : ℕ) (c : model.Command) (before after : Session) (e : RunFault)
-        → RanAt turn c before after (Err e)
+        → AddsReceiptAt turn c before after (Err e)
         ↔ ((after.number ≡ before.number) × (after.receipts ≡ before.receipts)) }
     ensures last { (turn : ℕ) (c : model.Command) (before after : Session)
         → LastAt turn c before after ↔ ((answer : model.Reply)

@@ -49,8 +49,8 @@ ghost use Rattle.replay_main.specs.declared.program.ProgramFault.TheVariants as 
 ghost use Rattle.trace_talk.specs.declared.summary.Summary.{Summary};
 ghost use Rattle.sessions.specs.SessionMeaning.{slots};
 ghost use Rattle.replay_main.specs.ReplayArguments.{
-  Asks,
-  IsAskedBy,
+  AsksReplay,
+  AsksReplayBy,
   app,
   digit_said,
   rehearsal_in,
@@ -61,7 +61,7 @@ ghost use Rattle.replay_main.specs.ReplayArguments.{
 ghost use Rattle.program_io.specs.Arguments.{Collects};
 ghost use Rattle.program_io.specs.Device.{TakesFront, WholeWrite};
 ghost use Rattle.replay_main.specs.WholeInput.{WholeRead};
-ghost use Rattle.replay_main.specs.ReplayProgram.{Ran, status_of};
+ghost use Rattle.replay_main.specs.ReplayProgram.{EndsReplay, status_of};
 ghost use Rattle.replay_main.specs.Replayed.{EndsWork, IsAnswered, Replayed};
 
 /// If source and sink report their bytes, a replay that succeeded has appended to the sink exactly the output for all that
@@ -173,34 +173,34 @@ pub fn writes_that_are_told()
 pub fn runs_that_are_told()
     ensures replayed { (words : List Text) (workers : ℕ) (left rest before after : Option (List ℕ)) (read_failed write_failed flushed : Bool) (u : Unit {0})
         → fault_of app words ≡ [] → workers_in words ≡ Some workers
-        → Ran words left rest read_failed before after write_failed flushed (Ok u)
+        → EndsReplay words left rest read_failed before after write_failed flushed (Ok u)
         ↔ ((summary : Summary) × Replayed left read_failed before after write_failed flushed (Ok summary)) }
     ensures helped { (words : List Text) (left rest after : Option (List ℕ)) (before : List ℕ) (read_failed write_failed flushed : Bool) (u : Unit {0})
         → IsAmong kind.DisplayHelp (fault_of app words)
-        → Ran words left rest read_failed (Some before) after write_failed flushed (Ok u)
+        → EndsReplay words left rest read_failed (Some before) after write_failed flushed (Ok u)
         ↔ ((rest ≡ left) × (read_failed ≡ false) × (write_failed ≡ false) × (flushed ≡ true)
         × ((text : List ℕ) × (after ≡ Some (before ++ text)))) }
     ensures never { (words : List Text) (left rest before after : Option (List ℕ)) (read_failed write_failed flushed : Bool) (u : Unit {0})
         → fault_of app words ≡ [] → workers_in words ≡ None
-        → Ran words left rest read_failed before after write_failed flushed (Ok u) → ⊥ }
+        → EndsReplay words left rest read_failed before after write_failed flushed (Ok u) → ⊥ }
     ensures refused { (words : List Text) (left rest before after : Option (List ℕ)) (read_failed write_failed flushed : Bool) (f : LineFault)
-        → Ran words left rest read_failed before after write_failed flushed (Err (program.Line f))
-        ↔ (Asks words (Err f) × (rest ≡ left) × (read_failed ≡ false)
+        → EndsReplay words left rest read_failed before after write_failed flushed (Err (program.Line f))
+        ↔ (AsksReplay words (Err f) × (rest ≡ left) × (read_failed ≡ false)
         × (after ≡ before) × (write_failed ≡ false)) }
     ensures ended { (words : List Text) (left rest before after : Option (List ℕ)) (read_failed write_failed flushed : Bool) (f : ReplayFault)
         → fault_of app words ≡ []
-        → Ran words left rest read_failed before after write_failed flushed (Err (program.Replay f))
+        → EndsReplay words left rest read_failed before after write_failed flushed (Err (program.Replay f))
         → Replayed left read_failed before after write_failed flushed (Err f) }
     ensures without_workers { (words : List Text) (left rest before after : Option (List ℕ)) (read_failed write_failed flushed : Bool) (f : ReplayFault)
         → fault_of app words ≡ [] → workers_in words ≡ None
-        → Ran words left rest read_failed before after write_failed flushed (Err (program.Replay f)) → ⊥ }
+        → EndsReplay words left rest read_failed before after write_failed flushed (Err (program.Replay f)) → ⊥ }
     ensures never_close { (words : List Text) (left rest before after : Option (List ℕ)) (read_failed write_failed flushed : Bool)
         → rehearsal_in words ≡ true
-        → Ran words left rest read_failed before after write_failed flushed (Err (program.Replay fault.Close))
+        → EndsReplay words left rest read_failed before after write_failed flushed (Err (program.Replay fault.Close))
         → ⊥ }
     ensures unwritten_help { (words : List Text) (left rest before after : Option (List ℕ)) (read_failed write_failed flushed : Bool) (f : ReplayFault)
         → IsAmong kind.DisplayHelp (fault_of app words)
-        → Ran words left rest read_failed before after write_failed flushed (Err (program.Replay f))
+        → EndsReplay words left rest read_failed before after write_failed flushed (Err (program.Replay f))
         ↔ ((f ≡ fault.Write) × (rest ≡ left) × (read_failed ≡ false) × (write_failed ≡ true)) }
 {}
 
@@ -235,54 +235,54 @@ pub fn digits_that_are_said()
 /// alone changes nothing. A number that is not from 1 to 8, an unknown word, a missing number and a repeated one are a bad
 /// line. `--help` requests help.
 pub fn words_that_ask()
-    ensures none { Asks [] (Ok (ask.Run 1 false)) }
-    ensures workers { Asks (codes "--workers" ∷ codes "3" ∷ []) (Ok (ask.Run 3 false)) }
-    ensures joined { Asks (codes "--workers=8" ∷ []) (Ok (ask.Run 8 false)) }
-    ensures rehearse { Asks (codes "--rehearse" ∷ []) (Ok (ask.Run 1 true)) }
-    ensures both { Asks (codes "--rehearse" ∷ codes "--workers" ∷ codes "2" ∷ []) (Ok (ask.Run 2 true)) }
-    ensures nine { Asks (codes "--workers" ∷ codes "9" ∷ []) (Err line.Bad) }
-    ensures nought { Asks (codes "--workers" ∷ codes "0" ∷ []) (Err line.Bad) }
-    ensures ten { Asks (codes "--workers" ∷ codes "10" ∷ []) (Err line.Bad) }
-    ensures unknown { Asks (codes "--bogus" ∷ []) (Err line.Bad) }
-    ensures stray { Asks (codes "trace.txt" ∷ []) (Err line.Bad) }
-    ensures left_out { Asks (codes "--workers" ∷ []) (Err line.Bad) }
-    ensures joined_three { Asks (codes "--workers=3" ∷ []) (Ok (ask.Run 3 false)) }
-    ensures dashes { Asks (codes "--" ∷ []) (Ok (ask.Run 1 false)) }
-    ensures twice { Asks (codes "--workers" ∷ codes "2" ∷ codes "--workers" ∷ codes "3" ∷ []) (Err line.Bad) }
-    ensures help { (text : String Global) → Asks (codes "--help" ∷ []) (Ok (ask.Help text)) }
-    ensures help_alone { Asks (codes "--help" ∷ []) (Err line.Bad) → ⊥ }
+    ensures none { AsksReplay [] (Ok (ask.Run 1 false)) }
+    ensures workers { AsksReplay (codes "--workers" ∷ codes "3" ∷ []) (Ok (ask.Run 3 false)) }
+    ensures joined { AsksReplay (codes "--workers=8" ∷ []) (Ok (ask.Run 8 false)) }
+    ensures rehearse { AsksReplay (codes "--rehearse" ∷ []) (Ok (ask.Run 1 true)) }
+    ensures both { AsksReplay (codes "--rehearse" ∷ codes "--workers" ∷ codes "2" ∷ []) (Ok (ask.Run 2 true)) }
+    ensures nine { AsksReplay (codes "--workers" ∷ codes "9" ∷ []) (Err line.Bad) }
+    ensures nought { AsksReplay (codes "--workers" ∷ codes "0" ∷ []) (Err line.Bad) }
+    ensures ten { AsksReplay (codes "--workers" ∷ codes "10" ∷ []) (Err line.Bad) }
+    ensures unknown { AsksReplay (codes "--bogus" ∷ []) (Err line.Bad) }
+    ensures stray { AsksReplay (codes "trace.txt" ∷ []) (Err line.Bad) }
+    ensures left_out { AsksReplay (codes "--workers" ∷ []) (Err line.Bad) }
+    ensures joined_three { AsksReplay (codes "--workers=3" ∷ []) (Ok (ask.Run 3 false)) }
+    ensures dashes { AsksReplay (codes "--" ∷ []) (Ok (ask.Run 1 false)) }
+    ensures twice { AsksReplay (codes "--workers" ∷ codes "2" ∷ codes "--workers" ∷ codes "3" ∷ []) (Err line.Bad) }
+    ensures help { (text : String Global) → AsksReplay (codes "--help" ∷ []) (Ok (ask.Help text)) }
+    ensures help_alone { AsksReplay (codes "--help" ∷ []) (Err line.Bad) → ⊥ }
 {}
 
 /// Words that request a run request only that run: they are not a bad line and don't request help, and the number of workers
 /// is from 1 to 8. Out of memory is possible for any words.
 pub fn words_ask_for_one_run()
     ensures exactly { (words : List Text) (workers : ℕ) (rehearse : Bool)
-        → Asks words (Ok (ask.Run workers rehearse))
+        → AsksReplay words (Ok (ask.Run workers rehearse))
         ↔ ((fault_of app words ≡ []) × (workers_in words ≡ Some workers)
         × (rehearsal_in words ≡ rehearse)) }
     ensures bounds { (words : List Text) (workers : ℕ) (rehearse : Bool)
-        → Asks words (Ok (ask.Run workers rehearse)) → (1 ≤ workers) × (workers ≤ 8) }
+        → AsksReplay words (Ok (ask.Run workers rehearse)) → (1 ≤ workers) × (workers ≤ 8) }
     ensures one { (words : List Text) (workers more : ℕ) (rehearse again : Bool)
-        → Asks words (Ok (ask.Run workers rehearse)) → Asks words (Ok (ask.Run more again))
+        → AsksReplay words (Ok (ask.Run workers rehearse)) → AsksReplay words (Ok (ask.Run more again))
         → (workers ≡ more) × (rehearse ≡ again) }
     ensures not_bad { (words : List Text) (workers : ℕ) (rehearse : Bool)
-        → Asks words (Ok (ask.Run workers rehearse)) → Asks words (Err line.Bad) → ⊥ }
+        → AsksReplay words (Ok (ask.Run workers rehearse)) → AsksReplay words (Err line.Bad) → ⊥ }
     ensures no_help { (words : List Text) (workers : ℕ) (rehearse : Bool) (text : String Global)
-        → Asks words (Ok (ask.Run workers rehearse)) → Asks words (Ok (ask.Help text)) → ⊥ }
-    ensures help { (words : List Text) (text : String Global) → Asks words (Ok (ask.Help text))
+        → AsksReplay words (Ok (ask.Run workers rehearse)) → AsksReplay words (Ok (ask.Help text)) → ⊥ }
+    ensures help { (words : List Text) (text : String Global) → AsksReplay words (Ok (ask.Help text))
         ↔ IsAmong kind.DisplayHelp (fault_of app words) }
-    ensures memory { (words : List Text) → Asks words (Err line.OutOfMemory) }
+    ensures memory { (words : List Text) → AsksReplay words (Err line.OutOfMemory) }
 {}
 
 /// An error is a request for help or makes a bad line, never both. Out of memory is not a bad line.
 pub fn errors_that_ask()
     ensures no_run { (k : ErrorKind) (workers : ℕ) (rehearse : Bool)
-        → IsAskedBy k (Ok (ask.Run workers rehearse)) → ⊥ }
+        → AsksReplayBy k (Ok (ask.Run workers rehearse)) → ⊥ }
     ensures help { (k : ErrorKind) (text : String Global)
-        → IsAskedBy k (Ok (ask.Help text)) ↔ (k ≡ kind.DisplayHelp) }
-    ensures unknown { IsAskedBy kind.UnknownArgument (Err line.Bad) }
-    ensures no_bad_help { IsAskedBy kind.DisplayHelp (Err line.Bad) → ⊥ }
-    ensures no_bad_memory { IsAskedBy kind.OutOfMemory (Err line.Bad) → ⊥ }
+        → AsksReplayBy k (Ok (ask.Help text)) ↔ (k ≡ kind.DisplayHelp) }
+    ensures unknown { AsksReplayBy kind.UnknownArgument (Err line.Bad) }
+    ensures no_bad_help { AsksReplayBy kind.DisplayHelp (Err line.Bad) → ⊥ }
+    ensures no_bad_memory { AsksReplayBy kind.OutOfMemory (Err line.Bad) → ⊥ }
 {}
 
 /// The collected arguments are exactly those that were given, in order. If they could be collected, the line is not bad on

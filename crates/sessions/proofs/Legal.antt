@@ -4,7 +4,7 @@ use Rattle.std.proofs.lemmas.List.{map-append}
 use Rattle.flat_model.specs.Command.{Command}
 use Rattle.flat_model.specs.Machine.{Machine, tick, new_machine}
 use Rattle.flat_model.specs.Log.{Entry, IsLegal, log_end}
-use Rattle.flat_model.proofs.Runs.{end_of-push, replies-push}
+use Rattle.flat_model.proofs.MachineRuns.{end_of-push, replies-push}
 use Rattle.undo_journal.specs.Timeline.{Timeline, from_start, becomes}
 
 -- both facts of a book

@@ -3,4 +3,4 @@ mod AuditSteps
 mod DueTurns
 mod Legal
 pub mod SessionCrosses
-mod TakenBack
+mod CommandUndo

@@ -1,6 +1,6 @@
 pub mod SessionMeaning
 pub mod Served
-pub mod Ran
+pub mod Receipts
 pub mod Faults
 pub mod Marks
 pub mod Desks

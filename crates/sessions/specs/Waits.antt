@@ -16,13 +16,13 @@ abbrev pub IsLeft : Option ℕ → Option ℕ → Option ℕ → Type 0
 IsLeft reached before after = (IsDue reached before → after ≡ None) × ((IsDue reached before → ⊥) → after ≡ before)
 
 -- a session that waits for this turn is woken once it has come: this turn or an earlier one is noted
-abbrev pub IsNoted : ℕ → Option ℕ → Type 0
-IsNoted turn (Some noted) = noted ≤ turn
-IsNoted turn None = ⊥
+abbrev pub IsWoken : ℕ → Option ℕ → Type 0
+IsWoken turn (Some noted) = noted ≤ turn
+IsWoken turn None = ⊥
 
 -- the noted turn is still noted, or an earlier one
 abbrev pub IsNoLater : Option ℕ → Option ℕ → Type 0
-IsNoLater (Some turn) after = IsNoted turn after
+IsNoLater (Some turn) after = IsWoken turn after
 IsNoLater None after = Unit {0}
 
 -- no turn of these is earlier than this one; without one there is none

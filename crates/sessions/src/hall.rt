@@ -14,7 +14,7 @@ ghost use Rattle.sessions.specs.Served.{
   log_in,
   reached_of,
 };
-ghost use Rattle.sessions.specs.Waits.{AreDue, AreLeft, IsNoLater, IsNoted};
+ghost use Rattle.sessions.specs.Waits.{AreDue, AreLeft, IsNoLater, IsWoken};
 
 use crate::auditing::audit;
 use crate::book::Book;
@@ -50,7 +50,7 @@ impl Hall {
         ensures early { IsTrue result ↔ IsEarly self.new turn }
         ensures same { IsBut self.old self.new }
         ensures noted { IsTrue result
-            → IsNoted turn (slice_index_or self.new.waits (session % 8) None) }
+            → IsWoken turn (slice_index_or self.new.waits (session % 8) None) }
         ensures others { (at : ℕ) → IsNoLater (slice_index_or self.old.waits at None)
             (slice_index_or self.new.waits at None) }
     {

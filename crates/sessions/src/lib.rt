@@ -31,7 +31,7 @@
 //! was halted or closed.
 //!
 //! `flat_model` defines logs, receipts and their faults (`specs/Log.antt`, `specs/Audit.antt`).
-//! `specs/Ran.antt` says how a call leaves its session, and `specs/Served.antt` how it leaves the
+//! `specs/Receipts.antt` says how a call leaves its session, and `specs/Served.antt` how it leaves the
 //! value behind the lock. `specs/Waits.antt` defines which awaited turns have come. `session_laws`
 //! has the laws that follow from these definitions.
 #![tactic(auto)]

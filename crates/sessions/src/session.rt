@@ -4,7 +4,7 @@ ghost use Rattle.std.specs.Prelude.{◌≡◌, IfErr, MatchResult};
 ghost use Rattle.std.specs.Borrow.{sem};
 ghost use Rattle.std.specs.Io.BufRead.{Rests};
 ghost use Rattle.undo_journal.specs.CommandMeaning.{command_of};
-ghost use Rattle.sessions.specs.Ran.{Ran, RanAt, Last, LastAt};
+ghost use Rattle.sessions.specs.Receipts.{AddsReceipt, AddsReceiptAt, Last, LastAt};
 ghost use Rattle.sessions.specs.Served.{IsLate, NamesNoTurn};
 
 use crate::shared::Shared;
@@ -48,7 +48,7 @@ impl Session {
         cmd: &Command<B>,
     ) -> Result<&Receipt, RunFault>
         ensures* after { sem 𝓛 (Rests the_row self.entry
-            (λ new. Ran (command_of cmd.now) self.old new result)) }
+            (λ new. AddsReceipt (command_of cmd.now) self.old new result)) }
         ensures fault { IfErr result (λ e. NamesNoTurn e) }
     {
         self.serve(rt, cmd)?;
@@ -70,7 +70,7 @@ impl Session {
         cmd: &Command<B>,
     ) -> Result<&Receipt, RunFault>
         ensures* after { sem 𝓛 (Rests the_row self.entry
-            (λ new. RanAt turn (command_of cmd.now) self.old new result)) }
+            (λ new. AddsReceiptAt turn (command_of cmd.now) self.old new result)) }
         ensures late { IfErr result (λ e. IsLate turn e) }
     {
         self.serve_at(rt, turn, cmd)?;

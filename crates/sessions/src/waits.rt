@@ -1,7 +1,7 @@
 //! The turns that sessions wait for.
 
 ghost use Rattle.std.specs.Prelude.{◌≡◌, ◌↔◌, ◌≤◌, ◌%◌, ℕ, IsTrue, IfSome, Some, None, slice_index_or, true};
-ghost use Rattle.sessions.specs.Waits.{AreDue, AreLeft, AreNoEarlier, IsDue, IsLeft, IsNoLater, IsNoted};
+ghost use Rattle.sessions.specs.Waits.{AreDue, AreLeft, AreNoEarlier, IsDue, IsLeft, IsNoLater, IsWoken};
 
 use std::marker::Model;
 
@@ -39,7 +39,7 @@ impl Waits {
 
     /// Notes that the session waits for this turn.
     pub(crate) fn note(&mut self, session: u8, turn: u64)
-        ensures noted { IsNoted turn (slice_index_or self.new (session % 8) None) }
+        ensures noted { IsWoken turn (slice_index_or self.new (session % 8) None) }
         ensures others { (at : ℕ) → IsNoLater (slice_index_or self.old at None)
             (slice_index_or self.new at None) }
     {

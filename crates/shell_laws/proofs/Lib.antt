@@ -1,4 +1,4 @@
 pub mod Shorts
-pub mod Prefixes
+pub mod OutputPrefixes
 pub mod Stricts
-pub mod Dropped
+pub mod EmptiedPasts

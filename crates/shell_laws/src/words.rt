@@ -6,7 +6,7 @@ ghost use Rattle.clap.specs.declared.error.kind.ErrorKind.TheVariants as kind;
 ghost use Rattle.program_io.specs.declared.arguments.LineFault.TheVariants as line;
 ghost use Rattle.shell_main.specs.declared.fault.ShellFault.{ShellFault};
 ghost use Rattle.shell_main.specs.declared.program.ProgramFault.TheVariants as program;
-ghost use Rattle.shell_main.specs.Asks.{Asks, app, file_in, no_undo_in, options_in, strict_in};
+ghost use Rattle.shell_main.specs.ShellArguments.{AsksShell, app, file_in, no_undo_in, options_in, strict_in};
 ghost use Rattle.shell_main.specs.Program.{status_of};
 
 /// Without words a shell is requested; `--` alone changes nothing. One word names a file; `--strict` requests a strict shell,
@@ -16,7 +16,7 @@ pub fn words_that_ask()
     ensures none { fault_of app [] ≡ [] }
     ensures dashes { fault_of app (codes "--" ∷ []) ≡ [] }
     ensures help { fault_of app (codes "--help" ∷ []) ≡ kind.DisplayHelp ∷ [] }
-    ensures help_alone { Asks (codes "--help" ∷ []) (Err line.Bad) → ⊥ }
+    ensures help_alone { AsksShell (codes "--help" ∷ []) (Err line.Bad) → ⊥ }
     ensures version { fault_of app (codes "--version" ∷ []) ≡ kind.DisplayVersion ∷ [] }
     ensures file { (fault_of app (codes "x" ∷ []) ≡ []) × (file_in (codes "x" ∷ []) ≡ Some (codes "x")) }
     ensures no_file { file_in [] ≡ None }
@@ -27,11 +27,11 @@ pub fn words_that_ask()
     ensures all { (fault_of app (codes "--no-undo" ∷ codes "x" ∷ codes "--strict" ∷ []) ≡ [])
         × (file_in (codes "--no-undo" ∷ codes "x" ∷ codes "--strict" ∷ []) ≡ Some (codes "x"))
         × (options_in (codes "--no-undo" ∷ codes "x" ∷ codes "--strict" ∷ []) ≡ record { is_strict = true; keeps_history = false }) }
-    ensures unknown { Asks (codes "--bogus" ∷ []) (Err line.Bad) }
-    ensures workers { Asks (codes "--workers" ∷ codes "3" ∷ []) (Err line.Bad) }
-    ensures second { Asks (codes "x" ∷ codes "y" ∷ []) (Err line.Bad) }
-    ensures twice { Asks (codes "--strict" ∷ codes "--strict" ∷ []) (Err line.Bad) }
-    ensures again { Asks (codes "--no-undo" ∷ codes "--no-undo" ∷ []) (Err line.Bad) }
+    ensures unknown { AsksShell (codes "--bogus" ∷ []) (Err line.Bad) }
+    ensures workers { AsksShell (codes "--workers" ∷ codes "3" ∷ []) (Err line.Bad) }
+    ensures second { AsksShell (codes "x" ∷ codes "y" ∷ []) (Err line.Bad) }
+    ensures twice { AsksShell (codes "--strict" ∷ codes "--strict" ∷ []) (Err line.Bad) }
+    ensures again { AsksShell (codes "--no-undo" ∷ codes "--no-undo" ∷ []) (Err line.Bad) }
 {}
 
 /// The program's status is 0 if everything was done, 2 for a bad command line, 141 for a closed pipe, and 1 for any other

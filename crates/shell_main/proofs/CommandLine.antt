@@ -10,7 +10,7 @@ use Rattle.program_io.specs.declared.arguments.LineFault.TheVariants.{Bad, OutOf
 use Rattle.program_io.proofs.CommandLines.{nameless, value_in, help_is_not_out_of_memory}
 use Rattle.shell_main.specs.declared.arguments.Ask.{Ask}
 use Rattle.shell_main.specs.declared.arguments.Ask.TheVariants.{Serve, Help, Version}
-use Rattle.shell_main.specs.Asks.{Asks, IsAskedBy, app, file_in, file_rule, flag_said, no_undo_rule, strict_rule}
+use Rattle.shell_main.specs.ShellArguments.{AsksShell, AsksShellBy, app, file_in, file_rule, flag_said, no_undo_rule, strict_rule}
 
 -- a command with a version
 abbrev pub versioned : App → App
@@ -38,7 +38,7 @@ flag_said_in a words m id value is h v = ap flag_said (value_in app app_simple a
 version_apart : kind.DisplayVersion ≡ kind.OutOfMemory → ⊥
 version_apart e = cc
 
-pub asks_by : (words : List Text) (k : ErrorKind) (r : Result Ask LineFault) → IsAskedBy k r → (k ≡ kind.OutOfMemory) ⊎ IsAmong k (fault_of app words) → Asks words r
+pub asks_by : (words : List Text) (k : ErrorKind) (r : Result Ask LineFault) → AsksShellBy k r → (k ≡ kind.OutOfMemory) ⊎ IsAmong k (fault_of app words) → AsksShell words r
 asks_by words k (Ok (Serve file options)) h b = absurd h
 asks_by words k (Ok (Help text)) h (inl e) = absurd (help_is_not_out_of_memory (sym h ∙ e))
 asks_by words k (Ok (Help text)) h (inr a) = subst (λ x. IsAmong x (fault_of app words)) h a

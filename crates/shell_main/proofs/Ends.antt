@@ -15,12 +15,12 @@ use Rattle.trace_talk.specs.Points.{Point, answers_on, number_max, start_point, 
 use Rattle.shell_main.specs.declared.options.Options.{Options}
 use Rattle.shell_main.specs.Devices.{SinkState, SourceState}
 use Rattle.shell_main.specs.Forgetful.{after_by, answers_by, output_of, refused_of}
-use Rattle.shell_main.specs.Talks.{Answered, Finishes, IsCutOff, IsOut, IsStruck, Serves, Stands, Stops}
+use Rattle.shell_main.specs.Talks.{Answered, Finishes, IsCutOff, IsOut, IsStruck, Serves, StandsBeforeRead, StopsShell}
 use Rattle.shell_main.specs.WholeLines.{HasCommandsOnly, IsClean, IsCleanBeforeLast}
 use Rattle.shell_main.proofs.ForgetfulCuts.{commands_by}
 use Rattle.shell_main.proofs.LineCuts.{with_feed, without_feed}
-use Rattle.shell_main.proofs.Standing.{both_written, came, read_cut, written_both, written_more}
-use Rattle.shell_main.proofs.Texts.{answers_both, answers_more, before_last_both, clean_both, clean_more, ends_both, last_any, point_both, point_more, short_both}
+use Rattle.shell_main.proofs.ReadStates.{both_written, came, read_cut, written_both, written_more}
+use Rattle.shell_main.proofs.WholeLineTexts.{answers_both, answers_more, before_last_both, clean_both, clean_more, ends_both, last_any, point_both, point_more, short_both}
 
 -- ---- the source
 
@@ -55,7 +55,7 @@ refused_at history lines now p = ap (λ q. q.refused) p
 -- ---- before a read
 
 pub nothing_owed : {how : Options} {start left before : Option (List ℕ)} {sink : SinkState} {now : Point} {lines line : List ℕ}
-    → Stands how start left before sink now lines line [] → NothingOwed how.keeps_history start left before sink lines line
+    → StandsBeforeRead how start left before sink now lines line [] → NothingOwed how.keeps_history start left before sink lines line
 nothing_owed {start} {left} {lines} {line} s = record {
   whole = s.whole;
   short = s.short;
@@ -68,7 +68,7 @@ nothing_owed {start} {left} {lines} {line} s = record {
 
 -- the read failed
 pub read_ended : {how : Options} {start left before : Option (List ℕ)} {sink : SinkState} {now : Point} {lines line : List ℕ} (source : SourceState)
-    → Stands how start left before sink now lines line [] → known.Keeps left source.left → source.failed ≡ true → ShelledBy how start source before sink (Err Read)
+    → StandsBeforeRead how start left before sink now lines line [] → known.Keeps left source.left → source.failed ≡ true → ShelledBy how start source before sink (Err Read)
 read_ended {start} {left} {lines} {line} source s k r =
     let n = nothing_owed s in (
       r,
@@ -98,7 +98,7 @@ record StoppedAt (how : Options) (start : Option (List ℕ)) (source : SourceSta
   read : Consumes start source.left (lines ++ more)
 
 stopped_at : {how : Options} {start before : Option (List ℕ)} {old sink : SinkState} {now new : Point} {lines line pending more out : List ℕ} (source : SourceState)
-    → Stands how start source.left before old now lines line pending → (a : Answered how now (line ++ pending) more out new) → IsOut old.taken out sink → source.failed ≡ false
+    → StandsBeforeRead how start source.left before old now lines line pending → (a : Answered how now (line ++ pending) more out new) → IsOut old.taken out sink → source.failed ≡ false
     → StoppedAt how start source before sink new (lines ++ a.text) more
 stopped_at {how} {start} {before} {old} {sink} {now} {new} {lines} {line} {pending} {more} source s a o r =
     let read = read_cut start source.left lines (line ++ pending) a.text more s.read a.is_front in
@@ -119,7 +119,7 @@ stopped_at {how} {start} {before} {old} {sink} {now} {new} {lines} {line} {pendi
 
 -- a write or a flush failed
 cut_off : {how : Options} {start before : Option (List ℕ)} {old sink : SinkState} {now : Point} {lines line pending : List ℕ} (source : SourceState)
-    → Stands how start source.left before old now lines line pending → IsCutOff how now (line ++ pending) old.taken sink → source.failed ≡ false
+    → StandsBeforeRead how start source.left before old now lines line pending → IsCutOff how now (line ++ pending) old.taken sink → source.failed ≡ false
     → (broken : IsBroken how.keeps_history start source before sink) × IsCleanBeforeLast how.is_strict broken.lines
 cut_off {how} {start} {before} {old} {sink} {now} {lines} {line} {pending} source s c r = (
   record {
@@ -141,7 +141,7 @@ strictly how lines e c = subst (λ b. IsClean b lines) e c
 
 -- a strict shell stopped after a line with its line feed
 struck : {how : Options} {start before : Option (List ℕ)} {old sink : SinkState} {now : Point} {lines line pending out : List ℕ} (source : SourceState)
-    → Stands how start source.left before old now lines line pending → IsStruck how now (line ++ pending) out → IsOut old.taken out sink → source.failed ≡ false
+    → StandsBeforeRead how start source.left before old now lines line pending → IsStruck how now (line ++ pending) out → IsOut old.taken out sink → source.failed ≡ false
     → IsBarred how.keeps_history start source before sink
 struck {how} {start} {before} {old} {sink} {now} {lines} {line} {pending} {out} source s h o r =
     let a = h.answered in
@@ -176,7 +176,7 @@ struck {how} {start} {before} {old} {sink} {now} {lines} {line} {pending} {out} 
 
 -- some of what came was answered; a fault ended that, or a write did
 pub stop_ended : {how : Options} {start before : Option (List ℕ)} {old : SinkState} {now : Point} {lines line pending : List ℕ} (source : SourceState) (fault : ShellFault) (sink : SinkState)
-    → Stands how start source.left before old now lines line pending → Stops how now (line ++ pending) old.taken sink fault → source.failed ≡ false
+    → StandsBeforeRead how start source.left before old now lines line pending → StopsShell how now (line ++ pending) old.taken sink fault → source.failed ≡ false
     → ShelledBy how start source before sink (Err fault)
 stop_ended source Read sink s h r = absurd h.1.0
 stop_ended source Write sink s h r = cut_off source s h r
@@ -208,12 +208,12 @@ stop_ended source NotACommand sink s h r = (h.1.0.is_strict, struck source s h.1
 -- ---- at the end of the source
 
 input_of : {how : Options} {start left before : Option (List ℕ)} {sink : SinkState} {now : Point} {lines line : List ℕ}
-    → Stands how start left before sink now lines line [] → IsAtEnd left → IsInput start (lines ++ line)
+    → StandsBeforeRead how start left before sink now lines line [] → IsAtEnd left → IsInput start (lines ++ line)
 input_of {start} {left} {lines} {line} s e = all_read start left (lines ++ line) (subst (λ x. Consumes start left (lines ++ x)) (append-nil line) s.read) e
 
 -- nothing was written after whole lines
 last_stopped : {how : Options} {start before : Option (List ℕ)} {old sink : SinkState} {now : Point} {lines line : List ℕ} (source : SourceState)
-    → Stands how start source.left before old now lines line [] → IsOut old.taken [] sink → source.failed ≡ false
+    → StandsBeforeRead how start source.left before old now lines line [] → IsOut old.taken [] sink → source.failed ≡ false
     → IsStopped how.keeps_history start source before sink lines
 last_stopped {how} {start} {before} {old} {sink} {lines} {line} source s o r = record {
   whole = s.whole;
@@ -226,7 +226,7 @@ last_stopped {how} {start} {before} {old} {sink} {lines} {line} source s o r = r
 }
 
 pub last_ended : {how : Options} {start before : Option (List ℕ)} {old : SinkState} {now : Point} {lines line : List ℕ} (source : SourceState) (fault : ShellFault) (sink : SinkState) (new : Point)
-    → Stands how start source.left before old now lines line [] → IsAtEnd source.left → (length line == 0) ≡ false → source.failed ≡ false
+    → StandsBeforeRead how start source.left before old now lines line [] → IsAtEnd source.left → (length line == 0) ≡ false → source.failed ≡ false
     → Finishes how now (read_line line) old.taken sink (Err fault) new → ShelledBy how start source before sink (Err fault)
 last_ended source Read sink new s e some r w = absurd w
 last_ended {how} {start} {before} {old} {now} {lines} {line} source Write sink new s e some r w =
@@ -277,7 +277,7 @@ last_ended {how} {before} {old} {now} {lines} {line} source NotACommand sink new
     )
 
 pub last_served : {how : Options} {start before : Option (List ℕ)} {old : SinkState} {now : Point} {lines line : List ℕ} (source : SourceState) (sink : SinkState) (new : Point) (u : Unit {0})
-    → Stands how start source.left before old now lines line [] → IsAtEnd source.left → (length line == 0) ≡ false → source.failed ≡ false
+    → StandsBeforeRead how start source.left before old now lines line [] → IsAtEnd source.left → (length line == 0) ≡ false → source.failed ≡ false
     → Finishes how now (read_line line) old.taken sink (Ok u) new → ShelledBy how start source before sink (Ok (summary_of new))
 last_served {how} {before} {old} {now} {lines} {line} source sink new u s e some r w =
     let text = lines ++ line in
@@ -302,7 +302,7 @@ none_left [] e = refl
 none_left (x ∷ line) e = let n : suc (length line) ≡ 0 = eqb-true (suc (length line)) 0 e in absurd (omega (arith, n))
 
 pub served : {how : Options} {start before : Option (List ℕ)} {sink : SinkState} {now : Point} {lines line : List ℕ} (source : SourceState)
-    → Stands how start source.left before sink now lines line [] → IsAtEnd source.left → (length line == 0) ≡ true → source.failed ≡ false
+    → StandsBeforeRead how start source.left before sink now lines line [] → IsAtEnd source.left → (length line == 0) ≡ true → source.failed ≡ false
     → ShelledBy how start source before sink (Ok (summary_of now))
 served {how} {start} {now} {lines} {line} source s e none r = (
   record {
@@ -323,10 +323,10 @@ served {how} {start} {now} {lines} {line} source s e none r = (
 
 -- nothing came: the source is at its end
 pub at_end : {how : Options} {start left before : Option (List ℕ)} {sink : SinkState} {now : Point} {lines line : List ℕ} (later : Option (List ℕ)) (buf : List ℕ) (count : ℕ)
-    → Stands how start left before sink now lines line [] → Consumes left later (take count buf) × (count ≡ 0 → 0 < length buf → IsAtEnd later) → count ≡ 0 → 0 < length buf
-    → Stands how start later before sink now lines line [] × IsAtEnd later
+    → StandsBeforeRead how start left before sink now lines line [] → Consumes left later (take count buf) × (count ≡ 0 → 0 < length buf → IsAtEnd later) → count ≡ 0 → 0 < length buf
+    → StandsBeforeRead how start later before sink now lines line [] × IsAtEnd later
 at_end {how} {start} {before} {sink} {now} {lines} {line} later buf count s c none room =
-    let P : ℕ → Type 0 = λ n. Stands how start later before sink now lines line (take n buf) in
+    let P : ℕ → Type 0 = λ n. StandsBeforeRead how start later before sink now lines line (take n buf) in
     (subst P none (came later (take count buf) s c.0), c.1 none room)
 
 -- the fault is handed on

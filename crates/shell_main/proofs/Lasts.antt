@@ -8,7 +8,7 @@ use Rattle.shell_main.specs.declared.fault.ShellFault.{ShellFault}
 use Rattle.shell_main.specs.declared.fault.ShellFault.TheVariants.{Read, Write, InputTooLong, OutOfMemory, NotACommand}
 use Rattle.shell_main.specs.declared.options.Options.{Options}
 use Rattle.shell_main.specs.Devices.{SinkState}
-use Rattle.shell_main.specs.Talks.{Finishes, IsOut, Says}
+use Rattle.shell_main.specs.Talks.{Finishes, IsOut, AnswersShellLine}
 
 -- exactly this output is out
 is_out : {out said : List ℕ} (before : Option (List ℕ)) (sink : SinkState) (u : Unit {0}) → out ≡ said
@@ -16,7 +16,7 @@ is_out : {out said : List ℕ} (before : Option (List ℕ)) (sink : SinkState) (
 is_out before sink u e w = record { written = subst (λ x. TakesFront before x [] sink.taken) e w.2; good = w.0; is_out = w.1 }
 
 pub finished : (r : Result (Unit {0}) ShellFault) (how : Options) (old new : Point) (line : Line) (out : List ℕ) (before : Option (List ℕ)) (sink : SinkState) (u : Unit {0})
-    → Says how old line [] out r new → WholeWrite before out sink.taken sink.failed sink.flushed (Ok u) → Finishes how old line before sink r new
+    → AnswersShellLine how old line [] out r new → WholeWrite before out sink.taken sink.failed sink.flushed (Ok u) → Finishes how old line before sink r new
 finished (Ok v) how old new line out before sink u s w = (s.0, is_out before sink u s.1 w, s.2)
 finished (Err NotACommand) how old new line out before sink u s w = (s.0, s.1, is_out before sink u s.2 w)
 finished (Err InputTooLong) how old new line out before sink u s w = (s.0, is_out before sink u s.1 w)
@@ -35,7 +35,7 @@ none_taken all rest (Some xs) None t = absurd t
 none_taken all rest (Some xs) (Some ys) t = ([], refl, t.2 ∙ ap (λ x. xs ++ x) (front_nil t.0 rest t.1))
 
 pub unfinished : (r : Result (Unit {0}) ShellFault) (how : Options) (old new : Point) (line : Line) (out : List ℕ) (before : Option (List ℕ)) (sink : SinkState) (e : DeviceFault)
-    → Says how old line [] out r new → WholeWrite before out sink.taken sink.failed sink.flushed (Err e) → Finishes how old line before sink (Err Write) new
+    → AnswersShellLine how old line [] out r new → WholeWrite before out sink.taken sink.failed sink.flushed (Err e) → Finishes how old line before sink (Err Write) new
 unfinished (Ok v) how old new line out before sink e s w = (w.0, (w.1.0, subst (λ x. TakesFront before x w.1.0 sink.taken) s.1 w.1.1))
 unfinished (Err NotACommand) how old new line out before sink e s w = (w.0, (w.1.0, subst (λ x. TakesFront before x w.1.0 sink.taken) s.2 w.1.1))
 unfinished (Err InputTooLong) how old new line out before sink e s w =

@@ -1,11 +1,11 @@
 pub mod LineCuts
 pub mod Feeds
 pub mod ForgetfulCuts
-pub mod Texts
-pub mod Lines
+pub mod WholeLineTexts
+pub mod ReadLines
 pub mod Outputs
 pub mod Lasts
-pub mod Standing
+pub mod ReadStates
 pub mod Ends
-pub mod Starts
+pub mod FirstFlush
 pub mod CommandLine

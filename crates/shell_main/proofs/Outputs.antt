@@ -10,9 +10,9 @@ use Rattle.shell_main.specs.declared.fault.ShellFault.TheVariants.{Read, Write, 
 use Rattle.shell_main.specs.declared.options.Options.{Options}
 use Rattle.shell_main.specs.Devices.{SinkState}
 use Rattle.shell_main.specs.Forgetful.{answers_by}
-use Rattle.shell_main.specs.Talks.{Answered, GoesOn, Halts, IsCutOff, IsUnended, Stops}
+use Rattle.shell_main.specs.Talks.{Answered, GoesOn, Halts, IsCutOff, IsUnended, StopsShell}
 use Rattle.shell_main.proofs.LineCuts.{ends_more, with_feed}
-use Rattle.shell_main.proofs.Texts.{answers_more, before_last, last_any}
+use Rattle.shell_main.proofs.WholeLineTexts.{answers_more, before_last, last_any}
 
 -- the output is out, and a shell goes on
 pub sent : {how : Options} {old new : Point} {bytes line rest out : List ℕ} (before : Option (List ℕ)) (sink : SinkState) (u : Unit {0})
@@ -26,7 +26,7 @@ sent {out} before sink u a l w = record {
 
 -- the output is out, and a shell stops
 pub stops : (fault : ShellFault) (how : Options) (old : Point) (bytes out : List ℕ) (before : Option (List ℕ)) (sink : SinkState) (u : Unit {0})
-    → Halts how old bytes out fault → WholeWrite before out sink.taken sink.failed sink.flushed (Ok u) → Stops how old bytes before sink fault
+    → Halts how old bytes out fault → WholeWrite before out sink.taken sink.failed sink.flushed (Ok u) → StopsShell how old bytes before sink fault
 stops Read how old bytes out before sink u h w = absurd h
 stops Write how old bytes out before sink u h w = absurd h
 stops InputTooLong how old bytes out before sink u h w = (out, (h, record { written = w.2; good = w.0; is_out = w.1 }))

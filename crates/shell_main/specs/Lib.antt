@@ -2,6 +2,6 @@ pub mod WholeLines
 pub mod Forgetful
 pub mod Shelled
 pub mod Talks
-pub mod Asks
+pub mod ShellArguments
 pub mod Devices
 pub mod Program

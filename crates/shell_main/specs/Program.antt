@@ -7,12 +7,12 @@ use Rattle.program_io.specs.Device.{IsUnread, IsUnwritten, TakesFront}
 use Rattle.shell_main.specs.declared.fault.ShellFault.TheVariants as shell
 use Rattle.shell_main.specs.declared.program.ProgramFault.{ProgramFault}
 use Rattle.shell_main.specs.declared.program.ProgramFault.TheVariants.{Line, Shell, Open, ClosedPipe}
-use Rattle.shell_main.specs.Asks.{Asks, RequestsText, app, options_in}
+use Rattle.shell_main.specs.ShellArguments.{AsksShell, RequestsText, app, options_in}
 use Rattle.shell_main.specs.Devices.{SinkState, SourceState}
 use Rattle.shell_main.specs.Shelled.{ShelledBy}
 
 -- help or the version is requested; nothing was read, and all of a text was written and flushed
-pub record IsHelped (words : List Text) (start : Option (List ℕ)) (source : SourceState) (before : Option (List ℕ)) (sink : SinkState) : Type 0 where
+pub record IsShellHelp (words : List Text) (start : Option (List ℕ)) (source : SourceState) (before : Option (List ℕ)) (sink : SinkState) : Type 0 where
   pub called : RequestsText words
   pub unread : IsUnread start source.left source.failed
   pub text : List ℕ
@@ -27,14 +27,14 @@ pub record IsShelled (words : List Text) (start : Option (List ℕ)) (source : S
   pub served : ShelledBy (options_in words) start source before sink (Ok summary)
 
 -- by the words of the command line: what the program leaves of a source that had `start` and of a sink that had `before`, and why it ended early
-abbrev pub Ran : List Text → Option (List ℕ) → SourceState → Option (List ℕ) → SinkState → Result (Unit {0}) ProgramFault → Type 0
-Ran words start source before sink (Ok u) = IsShelled words start source before sink ⊎ IsHelped words start source before sink
-Ran words start source before sink (Err (Line fault)) = Asks words (Err fault) × IsUnread start source.left source.failed × IsUnwritten before sink.taken sink.failed
-Ran words start source before sink (Err (Shell fault)) =
+abbrev pub EndsShell : List Text → Option (List ℕ) → SourceState → Option (List ℕ) → SinkState → Result (Unit {0}) ProgramFault → Type 0
+EndsShell words start source before sink (Ok u) = IsShelled words start source before sink ⊎ IsShellHelp words start source before sink
+EndsShell words start source before sink (Err (Line fault)) = AsksShell words (Err fault) × IsUnread start source.left source.failed × IsUnwritten before sink.taken sink.failed
+EndsShell words start source before sink (Err (Shell fault)) =
     ((fault_of app words ≡ []) × ShelledBy (options_in words) start source before sink (Err fault))
     ⊎ (RequestsText words × IsUnread start source.left source.failed × (fault ≡ shell.Write) × (sink.failed ≡ true))
-Ran words start source before sink (Err Open) = ⊥
-Ran words start source before sink (Err ClosedPipe) = ⊥
+EndsShell words start source before sink (Err Open) = ⊥
+EndsShell words start source before sink (Err ClosedPipe) = ⊥
 
 -- a failed write to a closed pipe is a separate fault
 abbrev pub told_apart : Bool → Result (Unit {0}) ProgramFault → Result (Unit {0}) ProgramFault

@@ -51,7 +51,7 @@ pub record IsStopped (history : Bool) (start : Option (List ℕ)) (source : Sour
   pub is_out : sink.flushed ≡ true
 
 -- The line after these has more bytes than a line may have, or no number is left for it.
-pub record IsTooLong (start : Option (List ℕ)) (lines line : List ℕ) : Type 0 where
+pub record IsLineTooLong (start : Option (List ℕ)) (lines line : List ℕ) : Type 0 where
   pub is_next : BeginsWith start (lines ++ line)
   pub unended : HasNoFeed line
   pub too_long : (trace_max < length line) ⊎ (number_max ≤ command_count (read_trace lines))
@@ -92,7 +92,7 @@ abbrev pub Shelled : Bool → Option (List ℕ) → SourceState → Option (List
 Shelled history start source before sink (Ok summary) = IsServed history start source before sink summary
 Shelled history start source before sink (Err Read) = (source.failed ≡ true) × ((lines line : List ℕ) × NothingOwed history start source.left before sink lines line)
 Shelled history start source before sink (Err Write) = IsBroken history start source before sink
-Shelled history start source before sink (Err InputTooLong) = (lines line : List ℕ) × (IsStopped history start source before sink lines × IsTooLong start lines line)
+Shelled history start source before sink (Err InputTooLong) = (lines line : List ℕ) × (IsStopped history start source before sink lines × IsLineTooLong start lines line)
 Shelled history start source before sink (Err OutOfMemory) = (lines : List ℕ) × IsStopped history start source before sink lines
 Shelled history start source before sink (Err NotACommand) = ⊥
 
@@ -103,6 +103,6 @@ ShelledBy how start source before sink (Err Read) = (source.failed ≡ true)
     × ((lines line : List ℕ) × NothingOwed how.keeps_history start source.left before sink lines line × IsClean how.is_strict lines)
 ShelledBy how start source before sink (Err Write) = (broken : IsBroken how.keeps_history start source before sink) × IsCleanBeforeLast how.is_strict broken.lines
 ShelledBy how start source before sink (Err InputTooLong) = (lines line : List ℕ)
-    × (IsStopped how.keeps_history start source before sink lines × IsTooLong start lines line × IsClean how.is_strict lines)
+    × (IsStopped how.keeps_history start source before sink lines × IsLineTooLong start lines line × IsClean how.is_strict lines)
 ShelledBy how start source before sink (Err OutOfMemory) = (lines : List ℕ) × (IsStopped how.keeps_history start source before sink lines × IsClean how.is_strict lines)
 ShelledBy how start source before sink (Err NotACommand) = (how.is_strict ≡ true) × IsBarred how.keeps_history start source before sink

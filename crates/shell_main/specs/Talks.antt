@@ -21,22 +21,22 @@ IsPassed false line = Unit {0}
 IsPassed true line = is_fault line ≡ false
 
 -- one line is answered, and its output is appended; otherwise nothing is appended, but for the line at which a strict shell stops
-abbrev pub Says : Options → Point → Line → List ℕ → List ℕ → Result (Unit {0}) ShellFault → Point → Type 0
-Says how old line before after (Ok u) new = (new ≡ remembered how.keeps_history (point_after old (line ∷ []))) × (after ≡ before ++ answers_on old (line ∷ [])) × IsPassed how.is_strict line
-Says how old line before after (Err NotACommand) new = (how.is_strict ≡ true) × (is_fault line ≡ true) × (after ≡ before ++ answers_on old (line ∷ []))
-Says how old line before after (Err InputTooLong) new = (number_max ≤ old.commands) × (after ≡ before) × (new ≡ old)
-Says how old line before after (Err OutOfMemory) new = after ≡ before
-Says how old line before after (Err Read) new = ⊥
-Says how old line before after (Err Write) new = ⊥
+abbrev pub AnswersShellLine : Options → Point → Line → List ℕ → List ℕ → Result (Unit {0}) ShellFault → Point → Type 0
+AnswersShellLine how old line before after (Ok u) new = (new ≡ remembered how.keeps_history (point_after old (line ∷ []))) × (after ≡ before ++ answers_on old (line ∷ [])) × IsPassed how.is_strict line
+AnswersShellLine how old line before after (Err NotACommand) new = (how.is_strict ≡ true) × (is_fault line ≡ true) × (after ≡ before ++ answers_on old (line ∷ []))
+AnswersShellLine how old line before after (Err InputTooLong) new = (number_max ≤ old.commands) × (after ≡ before) × (new ≡ old)
+AnswersShellLine how old line before after (Err OutOfMemory) new = after ≡ before
+AnswersShellLine how old line before after (Err Read) new = ⊥
+AnswersShellLine how old line before after (Err Write) new = ⊥
 
 -- bytes are appended to a line, unless it gets too long or memory runs out
-abbrev pub Keeps : List ℕ → List ℕ → Result (Unit {0}) ShellFault → List ℕ → Type 0
-Keeps old bytes (Ok u) new = (new ≡ old ++ bytes) × (length new ≤ trace_max)
-Keeps old bytes (Err InputTooLong) new = trace_max < length (old ++ bytes)
-Keeps old bytes (Err OutOfMemory) new = Unit {0}
-Keeps old bytes (Err Read) new = ⊥
-Keeps old bytes (Err Write) new = ⊥
-Keeps old bytes (Err NotACommand) new = ⊥
+abbrev pub KeepsBytes : List ℕ → List ℕ → Result (Unit {0}) ShellFault → List ℕ → Type 0
+KeepsBytes old bytes (Ok u) new = (new ≡ old ++ bytes) × (length new ≤ trace_max)
+KeepsBytes old bytes (Err InputTooLong) new = trace_max < length (old ++ bytes)
+KeepsBytes old bytes (Err OutOfMemory) new = Unit {0}
+KeepsBytes old bytes (Err Read) new = ⊥
+KeepsBytes old bytes (Err Write) new = ⊥
+KeepsBytes old bytes (Err NotACommand) new = ⊥
 
 -- a line that has not ended, and is not too long
 pub record IsUnended (line : List ℕ) : Type 0 where
@@ -104,9 +104,9 @@ pub record GoesOn (how : Options) (old : Point) (bytes : List ℕ) (before : Opt
   pub is_out : IsOut before out sink
 
 -- what a shell leaves that stops: also then the output is out, unless a write failed
-abbrev pub Stops : Options → Point → List ℕ → Option (List ℕ) → SinkState → ShellFault → Type 0
-Stops how old bytes before sink Write = IsCutOff how old bytes before sink
-Stops how old bytes before sink fault = (out : List ℕ) × (Halts how old bytes out fault × IsOut before out sink)
+abbrev pub StopsShell : Options → Point → List ℕ → Option (List ℕ) → SinkState → ShellFault → Type 0
+StopsShell how old bytes before sink Write = IsCutOff how old bytes before sink
+StopsShell how old bytes before sink fault = (out : List ℕ) × (Halts how old bytes out fault × IsOut before out sink)
 
 -- the last line, which has no line feed, is answered, and its output is out
 abbrev pub Finishes : Options → Point → Line → Option (List ℕ) → SinkState → Result (Unit {0}) ShellFault → Point → Type 0
@@ -121,7 +121,7 @@ Finishes how old line before sink (Err Read) new = ⊥
 -- ---- from the start
 
 -- These whole lines are answered, the output is flushed, and the talk is in the state after them; a line has not ended, and these are its bytes.
-pub record Stands (how : Options) (start left before : Option (List ℕ)) (sink : SinkState) (now : Point) (lines line pending : List ℕ) : Type 0 where
+pub record StandsBeforeRead (how : Options) (start left before : Option (List ℕ)) (sink : SinkState) (now : Point) (lines line pending : List ℕ) : Type 0 where
   pub whole : ends_line lines ≡ true
   pub short : HasShortLines lines
   pub clean : IsClean how.is_strict lines
@@ -134,6 +134,6 @@ pub record Stands (how : Options) (start left before : Option (List ℕ)) (sink 
 
 -- what one read leaves: false if there may be more to read, otherwise what a shell leaves
 abbrev pub Serves : Options → Option (List ℕ) → SourceState → Option (List ℕ) → SinkState → Result Bool ShellFault → Point → List ℕ → Type 0
-Serves how start source before sink (Ok false) now line = (lines : List ℕ) × Stands how start source.left before sink now lines line []
+Serves how start source before sink (Ok false) now line = (lines : List ℕ) × StandsBeforeRead how start source.left before sink now lines line []
 Serves how start source before sink (Ok true) now line = ShelledBy how start source before sink (Ok (summary_of now))
 Serves how start source before sink (Err fault) now line = ShelledBy how start source before sink (Err fault)

@@ -5,7 +5,7 @@ ghost use Rattle.std.specs.List.{position};
 ghost use Rattle.flat_model.specs.Replies.{is_fault};
 ghost use Rattle.flat_model.specs.Trace.{is_line_feed, read_line, trace_max};
 ghost use Rattle.shell_main.specs.Forgetful.{remembered};
-ghost use Rattle.shell_main.specs.Talks.{Answered, Finishes, GoesOn, Halts, IsUnended, Keeps, Says, Stops};
+ghost use Rattle.shell_main.specs.Talks.{Answered, Finishes, GoesOn, Halts, IsUnended, KeepsBytes, AnswersShellLine, StopsShell};
 
 use crate::{Options, ShellFault};
 use program_io::{Sink, write_whole};
@@ -34,7 +34,7 @@ pub(crate) fn answer_some<'a, W: Sink>(
         (W.taken writer.old)
         (record { taken = W.taken writer.new; failed = W.is_failed writer.new; flushed = W.is_flushed writer.new })
         talk.new line.new.items rest.now) }
-    ensures err { IfErr result (Stops options talk.old (line.old.items ++ bytes.now)
+    ensures err { IfErr result (StopsShell options talk.old (line.old.items ++ bytes.now)
         (W.taken writer.old)
         (record { taken = W.taken writer.new; failed = W.is_failed writer.new; flushed = W.is_flushed writer.new })) }
 {
@@ -109,7 +109,7 @@ fn line_end(bytes: &[u8]) -> Option<usize>
 /// Appends these bytes to the line that has not ended.
 fn keep(line: &mut Vec<u8>, bytes: &[u8]) -> Result<(), ShellFault>
     requires { length line.old.items ≤ trace_max }
-    ensures { Keeps line.old.items bytes.now result line.new.items }
+    ensures { KeepsBytes line.old.items bytes.now result line.new.items }
 {
     if bytes.len() > TRACE_MAX - line.len() {
         return Err(ShellFault::InputTooLong);
@@ -128,7 +128,7 @@ fn say(
     line: &[u8],
     out: &mut Vec<u8>,
 ) -> Result<(), ShellFault>
-    ensures { Says options talk.old (read_line line.now) out.old.items out.new.items result talk.new }
+    ensures { AnswersShellLine options talk.old (read_line line.now) out.old.items out.new.items result talk.new }
 {
     if talk.summary().commands == u64::MAX {
         return Err(ShellFault::InputTooLong);

@@ -2,7 +2,7 @@
 
 ghost use Rattle.std.specs.Prelude.{◌≡◌, ◌+◌, ℕ, drop, map, option_map, slice_get, string_bytes, take, Err, IfErr, IfOk, IfSome, IsTrue, Some};
 ghost use Rattle.clap.specs.Words.{app_of, kind_of};
-ghost use Rattle.shell_main.specs.Asks.{Asks, IsAskedBy, IsBad, Names, app, flag_said};
+ghost use Rattle.shell_main.specs.ShellArguments.{AsksShell, AsksShellBy, IsBad, Names, app, flag_said};
 
 use crate::Options;
 use clap::error::ErrorKind;
@@ -32,14 +32,14 @@ pub(crate) enum Ask<'a> {
 /// Reads the arguments of the program, whose first is its name: `--strict`, `--no-undo` and the name of a file, each
 /// optional; or `--help`, or `--version`.
 pub(crate) fn read_arguments<'a>(alloc: Global, args: &'a [String]) -> Result<Ask<'a>, LineFault>
-    ensures { Asks (map string_bytes (drop 1 args.entry.now)) result }
+    ensures { AsksShell (map string_bytes (drop 1 args.entry.now)) result }
 {
     read_words(alloc, without_name(args))
 }
 
 /// Reads the words after the name of the program.
 fn read_words<'a>(alloc: Global, words: &'a [String]) -> Result<Ask<'a>, LineFault>
-    ensures { Asks (map string_bytes words.entry.now) result }
+    ensures { AsksShell (map string_bytes words.entry.now) result }
 {
     let Ok(command) = program(alloc) else {
         return Err(LineFault::OutOfMemory);
@@ -64,7 +64,7 @@ fn read_words<'a>(alloc: Global, words: &'a [String]) -> Result<Ask<'a>, LineFau
 /// `Bad` if the arguments request nothing; `OutOfMemory` when out of memory.
 pub fn input_file<'a>(alloc: Global, args: &'a [String]) -> Result<Option<&'a str>, LineFault>
     ensures named { IfOk result (λ file. Names (map string_bytes (drop 1 args.entry.now)) (option_map (λ text. text.now) file)) }
-    ensures bad { IfErr result (λ fault. Asks (map string_bytes (drop 1 args.entry.now)) (Err fault)) }
+    ensures bad { IfErr result (λ fault. AsksShell (map string_bytes (drop 1 args.entry.now)) (Err fault)) }
 {
     match read_arguments(alloc, args) {
         Ok(Ask::Serve { file, .. }) => Ok(file),
@@ -131,7 +131,7 @@ fn is_true(value: Option<&str>) -> bool
 }
 
 fn asked_by<'a>(alloc: Global, error: &Error) -> Result<Ask<'a>, LineFault>
-    ensures { IsAskedBy (kind_of error.now) result }
+    ensures { AsksShellBy (kind_of error.now) result }
 {
     let kind = error.kind();
     match kind {

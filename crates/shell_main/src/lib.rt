@@ -19,7 +19,7 @@
 //!
 //! `specs/Shelled.antt` says what a shell leaves, `specs/Devices.antt` what a contract sees of source and sink,
 //! `specs/Forgetful.antt` what it answers without a history, `specs/WholeLines.antt` what whole lines are,
-//! `specs/Program.antt` what the program leaves, and `specs/Asks.antt` what a command line requests. The laws of these
+//! `specs/Program.antt` what the program leaves, and `specs/ShellArguments.antt` what a command line requests. The laws of these
 //! definitions are in `shell_laws`.
 #![tactic(auto)]
 

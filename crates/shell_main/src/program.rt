@@ -3,7 +3,7 @@
 ghost use Rattle.std.specs.Prelude.{◌≡◌, drop, false, map, string_bytes, Err};
 ghost use Rattle.program_io.specs.declared.arguments.LineFault.{LineFault};
 ghost use Rattle.shell_main.specs.declared.program.ProgramFault.TheVariants.{Line};
-ghost use Rattle.shell_main.specs.Program.{Ran, status_of, told_apart};
+ghost use Rattle.shell_main.specs.Program.{EndsShell, status_of, told_apart};
 
 use crate::ShellFault;
 use crate::arguments::{Ask, read_arguments};
@@ -48,7 +48,7 @@ pub fn run_program<R: Threads + Wait + Sync, S: Source, W: Sink>(
 ) -> Result<(), ProgramFault>
     requires reader { S.is_failed reader.old ≡ false }
     requires writer { W.is_failed writer.old ≡ false }
-    ensures ran { Ran (map string_bytes (drop 1 args.now))
+    ensures ran { EndsShell (map string_bytes (drop 1 args.now))
         (S.left reader.old)
         (record { left = S.left reader.new; failed = S.is_failed reader.new }) (W.taken writer.old)
         (record { taken = W.taken writer.new; failed = W.is_failed writer.new; flushed = W.is_flushed writer.new })

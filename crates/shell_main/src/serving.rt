@@ -2,7 +2,7 @@
 
 ghost use Rattle.std.specs.Prelude.{◌≡◌, ◌≤◌, ℕ, List, [], Bool, Option, false, true, OnOk};
 ghost use Rattle.shell_main.specs.Shelled.{Shelled, ShelledBy};
-ghost use Rattle.shell_main.specs.Talks.{Serves, Stands};
+ghost use Rattle.shell_main.specs.Talks.{Serves, StandsBeforeRead};
 
 use crate::answering::{answer_last, answer_some};
 use crate::reading::next_chunk;
@@ -63,7 +63,7 @@ fn serve<R: Threads + Wait + Sync, S: Source, W: Sink>(
 ) -> Result<Summary, ShellFault>
     ghost start: { Option (List ℕ) × Option (List ℕ) }
     requires good { S.is_failed reader.old ≡ false }
-    requires stands { (lines : List ℕ) × Stands options start.0 (S.left reader.old) start.1
+    requires stands { (lines : List ℕ) × StandsBeforeRead options start.0 (S.left reader.old) start.1
         (record { taken = W.taken writer.old; failed = W.is_failed writer.old; flushed = W.is_flushed writer.old })
         talk.old lines [] [] }
     ensures { ShelledBy options start.0
@@ -92,7 +92,7 @@ fn serve_read<S: Source, W: Sink>(
 ) -> Result<bool, ShellFault>
     ghost start: { Option (List ℕ) × Option (List ℕ) }
     requires good { S.is_failed reader.old ≡ false }
-    requires stands { (lines : List ℕ) × Stands options start.0 (S.left reader.old) start.1
+    requires stands { (lines : List ℕ) × StandsBeforeRead options start.0 (S.left reader.old) start.1
         (record { taken = W.taken writer.old; failed = W.is_failed writer.old; flushed = W.is_flushed writer.old })
         talk.old lines line.old.items [] }
     ensures good { OnOk result (S.is_failed reader.new ≡ false) }

@@ -6,8 +6,8 @@ use Rattle.snzi_core.specs.declared.holding.Role.{Role}
 use Rattle.snzi_core.specs.declared.holding.Role.TheVariants.{Helper}
 use Rattle.snzi_core.specs.Holding.{tokens_at, amount_at, held, gain, lose, raise, put, keeper, helper_with, rejoined, merged, main_weight}
 use Rattle.snzi_core.specs.Changes.{Gains, Loses, Moves, Raises, Parts, Unites}
-use Rattle.snzi_core.proofs.Lists.{at_put_same, at_put_else, added_put, at_within, put_inside, read_inside, at_without, at_merged}
-use Rattle.snzi_core.proofs.Rewriting.{at_wrapped}
+use Rattle.snzi_core.proofs.NumberLists.{at_put_same, at_put_else, added_put, at_within, put_inside, read_inside, at_without, at_merged}
+use Rattle.snzi_core.proofs.TableRewrites.{at_wrapped}
 
 pub gain_at : (h : Holding) (j : ℕ) → tokens_at j (gain h j) ≡ tokens_at j h + 1
 gain_at h j = at_put_same h.tokens j (slice_index h.tokens j + 1)

@@ -5,14 +5,14 @@ use Rattle.std.proofs.lemmas.Bool.{not-false, or_parts}
 use Rattle.snzi_core.specs.declared.event.At.{At}
 use Rattle.snzi_core.specs.declared.event.Event.TheVariants.{FastAdd, RootAdd, ChildAdd, Leave, StripeAdd, Join}
 use Rattle.snzi_core.specs.declared.unlawful.Unlawful.{Unlawful}
-use Rattle.snzi_core.specs.CoreState.{State, hand_of, node_of, parent_of, root_of}
+use Rattle.snzi_core.specs.CoreState.{CoreState, hand_of, node_of, parent_of, root_of}
 use Rattle.snzi_core.specs.Lawful.{refuse, refusal, has_node, has_stripe, is_live, is_zero, is_at_cap, lacks, passes_up, helps, some_word, overflows, stays}
 
 pub refuse_none : (t : Bool) (u : Unlawful) (rest : Option Unlawful) → refuse t u rest ≡ None → (t ≡ false) × (rest ≡ None)
 refuse_none true u rest e = absurd (cc)
 refuse_none false u rest e = (refl, e)
 
-module _ (k : State) where
+module _ (k : CoreState) where
   pub fast_add : (hand : ℕ) (at : At) → refusal k (FastAdd hand at) ≡ None → (has_node k at ≡ true) × (is_live k hand ≡ true)
       × (is_zero k (node_of k at) ≡ false) × (is_at_cap k hand (node_of k at) ≡ false)
   fast_add hand at e =

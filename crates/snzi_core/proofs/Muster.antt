@@ -7,9 +7,9 @@ use Rattle.snzi_core.specs.declared.holding.Holding.{Holding}
 use Rattle.snzi_core.specs.declared.holding.Role.{Role}
 use Rattle.snzi_core.specs.declared.holding.Role.TheVariants.{Main, Helper, Spent}
 use Rattle.snzi_core.specs.Holding.{tokens_at, amount_at, main_weight, helper_weight, out}
-use Rattle.snzi_core.specs.Shape.{Line, inner, leaf, stripe}
+use Rattle.snzi_core.specs.Shape.{WordKind, inner, leaf, stripe}
 use Rattle.snzi_core.specs.Balance.{total, up, Stands, mains, helpers, outs, Each, Within, Mustered, Ruled}
-use Rattle.snzi_core.proofs.Lists.{total_set, total_at}
+use Rattle.snzi_core.proofs.NumberLists.{total_set, total_at}
 
 module _ (P : Holding → Type 0) where
   pub each_set : (l : List Holding) (id : ℕ) (w : Holding) → Each P l → P w → Each P (set l id w)
@@ -54,7 +54,7 @@ total_capped [] i all = omega arith
 total_capped (x ∷ xs) i all = let a = capped_by x x.role i refl all.0 in let b = total_capped xs i all.1 in omega arith
 
 -- a node's word is far from the greatest number
-pub word_small : (kind : ℕ → Line) (words : List ℕ) (hands : List Holding) (i : ℕ) → kind i ≢ stripe → Ruled kind words hands → slice_index words i < 18446744073709551615
+pub word_small : (kind : ℕ → WordKind) (words : List ℕ) (hands : List Holding) (i : ℕ) → kind i ≢ stripe → Ruled kind words hands → slice_index words i < 18446744073709551615
 word_small kind words hands i node r = by_line (kind i) refl (r.0 i)
   where
     sum : total (tokens_at i) hands ≤ 1099511627776 * 65536
@@ -64,7 +64,7 @@ word_small kind words hands i node r = by_line (kind i) refl (r.0 i)
     up_le zero = omega arith
     up_le (suc n) = omega arith
 
-    by_line : (k : Line) → kind i ≡ k → Stands words hands i k → slice_index words i < 18446744073709551615
+    by_line : (k : WordKind) → kind i ≡ k → Stands words hands i k → slice_index words i < 18446744073709551615
     by_line (inner a b) is s = let t = sum in let x = up_le (slice_index words a) in let y = up_le (slice_index words b) in omega arith
     by_line leaf is s = let t = sum in omega arith
     by_line stripe is s = absurd (node is)

@@ -7,10 +7,10 @@ use native.Mathlib.Decide.{ℕ_discrete}
 use lib.ListN.{get_elem?}
 use Rattle.snzi_core.specs.declared.holding.Holding.{Holding}
 use Rattle.snzi_core.specs.Holding.{tokens_at, amount_at}
-use Rattle.snzi_core.specs.Shape.{Line, inner, leaf, stripe, Family}
+use Rattle.snzi_core.specs.Shape.{WordKind, inner, leaf, stripe, Family}
 use Rattle.snzi_core.specs.Balance.{total, up, Stands, Balanced}
 use Rattle.std.proofs.Math.Nat.{add-mod-mod, mod-add-mod}
-use Rattle.snzi_core.proofs.Lists.{total_set, total_at}
+use Rattle.snzi_core.proofs.NumberLists.{total_set, total_at}
 use Rattle.snzi_core.proofs.Shapes.{inner_stripe}
 
 pub lt_ne : (a b : ℕ) → a < b → a ≢ b
@@ -19,12 +19,12 @@ lt_ne a b h e = omega arith
 lt_trans2 : (a b c : ℕ) → a < b → b < c → a < c
 lt_trans2 a b c h k = omega arith
 
-abbrev first_child : Line → ℕ
+abbrev first_child : WordKind → ℕ
 first_child (inner a b) = a
 first_child leaf = 0
 first_child stripe = 0
 
-abbrev second_child : Line → ℕ
+abbrev second_child : WordKind → ℕ
 second_child (inner a b) = b
 second_child leaf = 0
 second_child stripe = 0
@@ -40,7 +40,7 @@ after_raise t a b n t' le e own = mod-add-mod t (2 ^ 64) n ∙ ap (λ (x : ℕ).
     whole : t - a + b ≡ t'
     whole = omega arith
 
-module _ (kind : ℕ → Line) (parent : ℕ → ℕ) (tree : Family kind parent) where
+module _ (kind : ℕ → WordKind) (parent : ℕ → ℕ) (tree : Family kind parent) where
   -- a node's step changes its word and one hand; of the hand's tokens, those at the node and its parent
   module _ (words : List ℕ) (hands : List Holding) (id j n : ℕ) (v w : Holding)
       (at : get_elem? hands id ≡ some v) (inside : j < length words) (node : kind j ≢ stripe)
@@ -63,7 +63,7 @@ module _ (kind : ℕ → Line) (parent : ℕ → ℕ) (tree : Family kind parent
     amount : (i : ℕ) → total (amount_at i) (set hands id w) ≡ total (amount_at i) hands
     amount i = let t = total_set (amount_at i) hands id v w at in let same : amount_at i w ≡ amount_at i v = ap (λ (l : List ℕ). slice_index l i) amounts in omega arith
 
-    at_node : (k : Line) → kind j ≡ k → Stands words hands j k → Stands (set words j n) (set hands id w) j k
+    at_node : (k : WordKind) → kind j ≡ k → Stands words hands j k → Stands (set words j n) (set hands id w) j k
     at_node (inner a b) is was =
         let c = tree.children j a b is in
         let t = tokens j in
@@ -76,7 +76,7 @@ module _ (kind : ℕ → Line) (parent : ℕ → ℕ) (tree : Family kind parent
     at_node leaf is was = let t = tokens j in let z = here in omega arith
     at_node stripe is was = absurd (node is)
 
-    at_parent : (k : Line) → parent j ≢ j → kind (parent j) ≡ k → Stands words hands (parent j) k → Stands (set words j n) (set hands id w) (parent j) k
+    at_parent : (k : WordKind) → parent j ≢ j → kind (parent j) ≡ k → Stands words hands (parent j) k → Stands (set words j n) (set hands id w) (parent j) k
     at_parent (inner a b) apart is was =
         let c = tree.children (parent j) a b is in
         let t = tokens (parent j) in
@@ -110,7 +110,7 @@ module _ (kind : ℕ → Line) (parent : ℕ → ℕ) (tree : Family kind parent
         ⊎_elim (λ (e : kind (parent j) ≡ inner (j) (tree.child j apart).0). absurd (inner_stripe _ _ (sym e ∙ is))) (λ (e : kind (parent j)
         ≡ inner (tree.child j apart).0 j). absurd (inner_stripe _ _ (sym e ∙ is))) (tree.child j apart).1
 
-    away : (k : Line) (i : ℕ) → i ≢ j → i ≢ parent j → kind i ≡ k → Stands words hands i k → Stands (set words j n) (set hands id w) i k
+    away : (k : WordKind) (i : ℕ) → i ≢ j → i ≢ parent j → kind i ≡ k → Stands words hands i k → Stands (set words j n) (set hands id w) i k
     away (inner a b) i apart off is was =
         let c = child_up i a b is off in
         let t = tokens i in
@@ -141,7 +141,7 @@ module _ (kind : ℕ → Line) (parent : ℕ → ℕ) (tree : Family kind parent
     not_child : (i a b : ℕ) → kind i ≡ inner a b → (a ≢ j) × (b ≢ j)
     not_child i a b is = let c = tree.children i a b is in ((λ e. c.4 (ap kind e ∙ striped)), (λ e. c.5 (ap kind e ∙ striped)))
 
-    at_else : (k : Line) (i m : ℕ) → i ≢ j → kind i ≡ k → Stands words hands i k → Stands (set words j m) (set hands id w) i k
+    at_else : (k : WordKind) (i m : ℕ) → i ≢ j → kind i ≡ k → Stands words hands i k → Stands (set words j m) (set hands id w) i k
     at_else (inner a b) i m apart is was =
         let c = not_child i a b is in
         let t = same_tokens i in
@@ -173,7 +173,7 @@ module _ (kind : ℕ → Line) (parent : ℕ → ℕ) (tree : Family kind parent
   module _ (words : List ℕ) (hands after : List Holding)
       (tokens : (i : ℕ) → total (tokens_at i) after ≡ total (tokens_at i) hands)
       (amounts : (i : ℕ) → total (amount_at i) after % 2 ^ 64 ≡ total (amount_at i) hands % 2 ^ 64) where
-    resums : (k : Line) (i : ℕ) → Stands words hands i k → Stands words after i k
+    resums : (k : WordKind) (i : ℕ) → Stands words hands i k → Stands words after i k
     resums (inner a b) i was = let t = tokens i in omega arith
     resums leaf i was = let t = tokens i in omega arith
     resums stripe i was = was ∙ sym (amounts i)

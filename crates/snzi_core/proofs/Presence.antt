@@ -8,9 +8,9 @@ use lib.ListN.{get_elem?}
 use Rattle.snzi_core.specs.declared.holding.Holding.{Holding}
 use Rattle.snzi_core.specs.declared.holding.Role.TheVariants.{Main}
 use Rattle.snzi_core.specs.Holding.{tokens_at, amount_at}
-use Rattle.snzi_core.specs.Shape.{Line, inner, leaf, stripe, Family}
+use Rattle.snzi_core.specs.Shape.{WordKind, inner, leaf, stripe, Family}
 use Rattle.snzi_core.specs.Balance.{total, up, Stands, Balanced, AtOrBelow, here, below, Covers, Present, Ruled}
-use Rattle.snzi_core.proofs.Lists.{total_at}
+use Rattle.snzi_core.proofs.NumberLists.{total_at}
 use Rattle.snzi_core.proofs.Muster.{alone_tokens, alone_amounts}
 
 up_pos : (n : ℕ) → 0 < n → up n ≡ 1
@@ -35,7 +35,7 @@ some_hand f (x ∷ xs) p = by_first (f x) refl (λ q. some_hand f xs q)
     by_first zero is next = let r = next (omega arith) in (suc r.0, r.1, r.2, r.3)
     by_first (suc n) is next = (0, x, refl, omega arith)
 
-module _ (kind : ℕ → Line) (parent : ℕ → ℕ) (tree : Family kind parent) (words : List ℕ) (hands : List Holding) (was : Balanced kind words hands) where
+module _ (kind : ℕ → WordKind) (parent : ℕ → ℕ) (tree : Family kind parent) (words : List ℕ) (hands : List Holding) (was : Balanced kind words hands) where
   rise : (j : ℕ) → parent j ≢ j → 0 < slice_index words j → 0 < slice_index words (parent j)
   rise j apart p =
       let d = tree.child j apart in
@@ -52,7 +52,7 @@ module _ (kind : ℕ → Line) (parent : ℕ → ℕ) (tree : Family kind parent
   at_token : (j : ℕ) → kind j ≢ stripe → 0 < total (tokens_at j) hands → 0 < slice_index words j
   at_token j node p = by_line (kind j) refl (was j)
     where
-      by_line : (k : Line) → kind j ≡ k → Stands words hands j k → 0 < slice_index words j
+      by_line : (k : WordKind) → kind j ≡ k → Stands words hands j k → 0 < slice_index words j
       by_line (inner a b) is s = omega arith
       by_line leaf is s = omega arith
       by_line stripe is s = absurd (node is)
@@ -93,7 +93,7 @@ module _ (kind : ℕ → Line) (parent : ℕ → ℕ) (tree : Family kind parent
   sink zero i far node p = let z = past_end words i (omega arith) in absurd (omega arith)
   sink (suc fuel) i far node p = by_line (kind i) refl (was i) (λ m f n q. sink fuel m f n q)
     where
-      by_line : (k : Line) → kind i ≡ k → Stands words hands i k → ((m : ℕ) → length words ≤ m + fuel → kind m ≢ stripe → 0 < slice_index words m → Present parent hands m) → Present parent hands i
+      by_line : (k : WordKind) → kind i ≡ k → Stands words hands i k → ((m : ℕ) → length words ≤ m + fuel → kind m ≢ stripe → 0 < slice_index words m → Present parent hands m) → Present parent hands i
       by_line (inner a b) is s next = let c = tree.children i a b is in dite (ℕ_discrete (up (slice_index words a)) 0)
           (λ za. dite (ℕ_discrete (up (slice_index words b)) 0)
           (λ zb. from_here i (omega arith))
@@ -106,12 +106,12 @@ module _ (kind : ℕ → Line) (parent : ℕ → ℕ) (tree : Family kind parent
   positive_present i node p = sink (length words) i (omega arith) node p
 
 -- main, with no helper out, knows each stripe
-pub main_sum : (kind : ℕ → Line) (words : List ℕ) (hands : List Holding) (id j : ℕ) (h : Holding) → Ruled kind words hands
+pub main_sum : (kind : ℕ → WordKind) (words : List ℕ) (hands : List Holding) (id j : ℕ) (h : Holding) → Ruled kind words hands
     → get_elem? hands id ≡ some h → h.role ≡ Main 0 → kind j ≡ stripe → slice_index words j ≡ amount_at j h % 2 ^ 64
 main_sum kind words hands id j h r at alone striped = subst (λ k. Stands words hands j k) striped (r.0 j) ∙ ap (λ (y : ℕ). y % 2 ^ 64) (alone_amounts hands id h r.1 at alone j)
 
 -- and where a token is present
-pub main_covers : (kind : ℕ → Line) (parent : ℕ → ℕ) (tree : Family kind parent) (words : List ℕ) (hands : List Holding) (id j : ℕ)
+pub main_covers : (kind : ℕ → WordKind) (parent : ℕ → ℕ) (tree : Family kind parent) (words : List ℕ) (hands : List Holding) (id j : ℕ)
     (h : Holding) → Ruled kind words hands → get_elem? hands id ≡ some h → h.role ≡ Main 0 → kind j ≢ stripe → 0 < slice_index words j
     ↔ Covers parent h j
 main_covers kind parent tree words hands id j h r at alone node = (

@@ -8,14 +8,14 @@ use Rattle.std.proofs.Math.Nat.{mod-lt}
 use native.Mathlib.Nat.{div-add-mod'}
 use mathlib.Core.Logic.{dite}
 use native.Mathlib.Decide.{ℕ_discrete}
-use Rattle.snzi_core.specs.Shape.{Line, inner, leaf, stripe, line_at, line, parent_at, parent, Family, IsShape}
+use Rattle.snzi_core.specs.Shape.{WordKind, inner, leaf, stripe, line_at, line, parent_at, parent, Family, IsShape}
 
-abbrev first_child : Line → ℕ
+abbrev first_child : WordKind → ℕ
 first_child (inner a b) = a
 first_child leaf = 0
 first_child stripe = 0
 
-abbrev second_child : Line → ℕ
+abbrev second_child : WordKind → ℕ
 second_child (inner a b) = b
 second_child leaf = 0
 second_child stripe = 0

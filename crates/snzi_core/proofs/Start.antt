@@ -4,7 +4,7 @@ use Rattle.std.proofs.lemmas.List.{length-replicate}
 use Rattle.std.specs.Prelude.{slice_index}
 use Rattle.snzi_core.specs.declared.holding.Role.TheVariants.{Main, Spent}
 use Rattle.snzi_core.specs.declared.holding.Holding.{Holding}
-use Rattle.snzi_core.specs.Shape.{Line, inner, leaf, stripe}
+use Rattle.snzi_core.specs.Shape.{WordKind, inner, leaf, stripe}
 use Rattle.snzi_core.specs.Balance.{Stands, up}
 use Rattle.snzi_core.specs.CoreState.{start, fresh, size, kind_of}
 use Rattle.snzi_core.specs.Kept.{IsCore}
@@ -30,7 +30,7 @@ start_core slots nodes odd = record {
     n : ℕ
     n = size slots nodes
 
-    stands : (i : ℕ) (k : Line) → Stands (replicate n 0) (fresh n (Main 0) ∷ []) i k
+    stands : (i : ℕ) (k : WordKind) → Stands (replicate n 0) (fresh n (Main 0) ∷ []) i k
     stands i (inner a b) = let z = zeros n i in let x : up (slice_index (replicate n 0) a) ≡ 0 = ap up (zeros n a) in let y : up (slice_index (replicate n 0) b) ≡ 0 = ap up (zeros n b) in omega arith
     stands i leaf = let z = zeros n i in omega arith
     stands i stripe = let z = zeros n i in omega arith

@@ -6,7 +6,7 @@ use Rattle.snzi_core.specs.declared.holding.Holding.{Holding}
 use Rattle.snzi_core.specs.declared.holding.Role.TheVariants.{Spent}
 use Rattle.snzi_core.specs.Holding.{tokens_at, amount_at, main_weight, helper_weight, out}
 use Rattle.snzi_core.specs.Caps.{token_cap, helper_cap}
-use Rattle.snzi_core.specs.Shape.{Line, inner, leaf, stripe}
+use Rattle.snzi_core.specs.Shape.{WordKind, inner, leaf, stripe}
 
 -- the sum over the hands
 abbrev pub total : (Holding → ℕ) → List Holding → ℕ
@@ -19,13 +19,13 @@ up zero = 0
 up (suc n) = 1
 
 -- the balance of one word: a node is the hands' tokens there plus its children that are not zero; a stripe is the hands' amounts
-abbrev pub Stands : List ℕ → List Holding → ℕ → Line → Type 0
+abbrev pub Stands : List ℕ → List Holding → ℕ → WordKind → Type 0
 Stands words hands i (inner a b) = slice_index words i ≡ total (tokens_at i) hands + (up (slice_index words a) + up (slice_index words b))
 Stands words hands i leaf = slice_index words i ≡ total (tokens_at i) hands
 Stands words hands i stripe = slice_index words i ≡ total (amount_at i) hands % 2 ^ 64
 
 -- every word is in balance
-abbrev pub Balanced : (ℕ → Line) → List ℕ → List Holding → Type 0
+abbrev pub Balanced : (ℕ → WordKind) → List ℕ → List Holding → Type 0
 Balanced kind words hands = (i : ℕ) → Stands words hands i (kind i)
 
 abbrev pub mains : Holding → ℕ
@@ -51,7 +51,7 @@ abbrev pub Mustered : List Holding → Type 0
 Mustered hands = (total mains hands ≡ 1) × (total outs hands ≡ total helpers hands) × (total helpers hands ≤ helper_cap) × Each Within hands
 
 -- the balance and the caps
-abbrev pub Ruled : (ℕ → Line) → List ℕ → List Holding → Type 0
+abbrev pub Ruled : (ℕ → WordKind) → List ℕ → List Holding → Type 0
 Ruled kind words hands = Balanced kind words hands × Mustered hands
 
 -- j is i or is below it

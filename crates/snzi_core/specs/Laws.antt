@@ -9,9 +9,9 @@ use Rattle.snzi_core.specs.declared.holding.Role.TheVariants.{Main, Spent}
 use Rattle.snzi_core.specs.Holding.{tokens_at, amount_at, empty, out}
 use Rattle.snzi_core.specs.Changes.{Gains, Loses, Moves, Raises, Parts, Unites}
 use Rattle.snzi_core.specs.Caps.{token_cap, helper_cap}
-use Rattle.snzi_core.specs.Shape.{Line, stripe, line, parent, IsShape}
+use Rattle.snzi_core.specs.Shape.{WordKind, stripe, line, parent, IsShape}
 use Rattle.snzi_core.specs.Balance.{Balanced, Mustered, Ruled, Present, Covers}
-use Rattle.snzi_core.specs.CoreState.{State, start, IsRuled}
+use Rattle.snzi_core.specs.CoreState.{CoreState, start, IsRuled}
 use Rattle.snzi_core.specs.Effect.{Runs}
 
 -- a law of one step, for each shape of w nodes among s words, and each hand id with h that acts on the word j
@@ -19,7 +19,7 @@ abbrev pub OfAHand : ((w s : ℕ) (words : List ℕ) (hands : List Holding) (id 
 OfAHand law = (w s : ℕ) (words : List ℕ) (hands : List Holding) (id j : ℕ) (h : Holding) → IsShape w s → get_elem? hands id ≡ some h → j < length words → law w s words hands id j h
 
 -- with x at the word j and the hand id as g, the balance is kept, and the caps too if there is room
-abbrev pub Keeps : (ℕ → Line) → List ℕ → List Holding → ℕ → ℕ → Holding → ℕ → Holding → Type 0 → Type 0
+abbrev pub Keeps : (ℕ → WordKind) → List ℕ → List Holding → ℕ → ℕ → Holding → ℕ → Holding → Type 0 → Type 0
 Keeps kind words hands id j h x g room =
     (Balanced kind words hands → Balanced kind (set words j x) (set hands id g)) × (Mustered hands → h.role ≢ Spent → room → Mustered (set hands id g))
 
@@ -79,8 +79,8 @@ MainKnows = (w s : ℕ) (words : List ℕ) (hands : List Holding) (id j : ℕ) (
 
 -- a node's word under the rule is far below the greatest u64
 abbrev pub WordsAreSmall : Type 0
-WordsAreSmall = (kind : ℕ → Line) (words : List ℕ) (hands : List Holding) (j : ℕ) → kind j ≢ stripe → Ruled kind words hands → slice_index words j < 2 ^ 64 - 1
+WordsAreSmall = (kind : ℕ → WordKind) (words : List ℕ) (hands : List Holding) (j : ℕ) → kind j ≢ stripe → Ruled kind words hands → slice_index words j < 2 ^ 64 - 1
 
 -- a new core, and each core after a list of lawful events, is in balance and within the caps
 abbrev pub ListsKeep : Type 0
-ListsKeep = (slots nodes : ℕ) (events : List Event) (k : State) → (nodes ≡ 1) ⊎ (nodes ≡ 3) ⊎ (nodes ≡ 7) ⊎ (nodes ≡ 15) → Runs (start slots nodes) events k → IsRuled k
+ListsKeep = (slots nodes : ℕ) (events : List Event) (k : CoreState) → (nodes ≡ 1) ⊎ (nodes ≡ 3) ⊎ (nodes ≡ 7) ⊎ (nodes ≡ 15) → Runs (start slots nodes) events k → IsRuled k

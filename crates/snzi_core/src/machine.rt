@@ -17,9 +17,9 @@ pub struct Core<A: Allocator + Clone> {
 }
 
 impl<A: Allocator + Clone> Model for Core<A> {
-    ghost use Rattle.snzi_core.specs.CoreState.{State};
+    ghost use Rattle.snzi_core.specs.CoreState.{CoreState};
 
-    ghost Value = { State };
+    ghost Value = { CoreState };
 
     ghost use Rattle.snzi_core.specs.Kept.{IsCore};
 

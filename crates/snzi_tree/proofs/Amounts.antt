@@ -9,7 +9,7 @@ use Rattle.snzi_core.specs.Changes.{Raises}
 use Rattle.snzi_core.specs.Holding.{amount_at}
 use Rattle.snzi_core.specs.Shape.{stripe_word}
 use Rattle.snzi_tree.specs.Contents.{amounts_to, only_in, AddsIn}
-use Rattle.snzi_tree.proofs.Places.{same_place}
+use Rattle.snzi_tree.proofs.WordPlaces.{same_place}
 
 -- modulo 2^64
 raised_left : (a b x n : ℕ) → a % 2 ^ 64 ≡ (b + n) % 2 ^ 64 → (a + x) % 2 ^ 64 ≡ (b + x + n) % 2 ^ 64

@@ -6,12 +6,12 @@ use native.Mathlib.Decide.{ℕ_discrete, dec_le}
 use Rattle.snzi_core.specs.declared.holding.Holding.{Holding}
 use Rattle.snzi_tokens.specs.declared.token.Token.{Token}
 use Rattle.snzi_core.specs.Holding.{added, put, held}
-use Rattle.snzi_core.proofs.Lists.{at_put_else, added_put}
+use Rattle.snzi_core.proofs.NumberLists.{at_put_else, added_put}
 use Rattle.snzi_core.specs.Changes.{Gains, Loses}
 use Rattle.snzi_core.specs.Shape.{node_word, leaf_word}
 use Rattle.snzi_tokens.specs.Listed.{one_at, over_leaves}
 use Rattle.snzi_tree.specs.Contents.{content_of, tokens_in, AtLeaves, HasIn, token_word}
-use Rattle.snzi_tree.proofs.Places.{leaf_same, leaf_not_above}
+use Rattle.snzi_tree.proofs.WordPlaces.{leaf_same, leaf_not_above}
 
 -- one token at one place
 pub one_here : (s j slot leaf : ℕ) → slot ≡ s → leaf ≡ j → one_at slot leaf s j ≡ 1

@@ -6,7 +6,7 @@ use Rattle.snzi_core.specs.declared.holding.Holding.{Holding}
 use Rattle.snzi_core.specs.Caps.{token_cap}
 use Rattle.snzi_core.specs.Holding.{tokens_at, held, gain, lose, put}
 use Rattle.snzi_core.specs.Changes.{Gains, Loses, Moves}
-use Rattle.snzi_core.proofs.Lists.{at_put_else, added_put, at_within}
+use Rattle.snzi_core.proofs.NumberLists.{at_put_else, added_put, at_within}
 use Rattle.snzi_core.proofs.Hands.{gains as core_gains, loses as core_loses, gain_at, gain_else, gain_held, lose_at, lose_else, swap_held, pass_held}
 use Rattle.snzi_tree.specs.View.{Acts, with_holding}
 use Rattle.snzi_tree.specs.declared.board.View.{View}

@@ -10,9 +10,9 @@ use Rattle.snzi_core.specs.Caps.{token_cap}
 use Rattle.snzi_core.specs.Holding.{tokens_at, amount_at, held, added, put, out, main_weight, helper_weight, one_out, one_back, without, merged}
 use Rattle.snzi_core.specs.Changes.{Parts}
 use Rattle.snzi_core.proofs.Hands.{parts}
-use Rattle.snzi_core.proofs.Lists.{at_nothing, at_put_same, at_put_else, added_put, at_without, added_without, at_merged, added_merged}
-use Rattle.snzi_core.proofs.Passing.{not_spent, one_out_main, one_back_main, one_out_out, one_back_out}
-use Rattle.snzi_core.proofs.Rewriting.{at_wrapped}
+use Rattle.snzi_core.proofs.NumberLists.{at_nothing, at_put_same, at_put_else, added_put, at_without, added_without, at_merged, added_merged}
+use Rattle.snzi_core.proofs.SplitBalance.{not_spent, one_out_main, one_back_main, one_out_out, one_back_out}
+use Rattle.snzi_core.proofs.TableRewrites.{at_wrapped}
 use Rattle.snzi_tree.specs.declared.board.View.{View}
 use Rattle.snzi_tree.specs.View.{Acts, kept, given, joined}
 

@@ -12,7 +12,7 @@ use Rattle.snzi_tokens.specs.declared.token.Token.{Token}
 use Rattle.snzi_core.specs.declared.holding.Holding.{Holding}
 use Rattle.snzi_core.specs.Caps.{helper_cap}
 use Rattle.snzi_core.specs.Holding.{tokens_at, amount_at, out}
-use Rattle.snzi_core.specs.CoreState.{State as Core, hand_of}
+use Rattle.snzi_core.specs.CoreState.{CoreState as Core, hand_of}
 use Rattle.snzi_core.specs.Lawful.{refusal, has_token, main_has}
 use Rattle.snzi_core.specs.Effect.{after}
 use Rattle.snzi_tree.specs.declared.board.View.{View}

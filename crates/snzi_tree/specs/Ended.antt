@@ -7,7 +7,7 @@ use Rattle.snzi_core.specs.declared.holding.Role.TheVariants.{Main, Spent}
 use Rattle.snzi_core.specs.Holding.{amount_at}
 use Rattle.snzi_core.specs.Shape.{stripe, line, parent}
 use Rattle.snzi_core.specs.Balance.{Covers}
-use Rattle.snzi_core.specs.CoreState.{State as Core, hand_of, start}
+use Rattle.snzi_core.specs.CoreState.{CoreState as Core, hand_of, start}
 use Rattle.snzi_tree.specs.BoardEvents.{Comes, AlikeHands}
 use Rattle.snzi_tree.specs.Tallies.{Seated, events_in}
 

@@ -3,7 +3,7 @@ use Rattle.std.specs.Prelude.{◌≡◌, ℕ, ◌+◌, ◌*◌, List, [], ◌∷
 use Rattle.atomic_table.specs.Table.{State as Table, Step, Me}
 use Rattle.snzi_core.specs.declared.event.Event.{Event}
 use Rattle.snzi_core.specs.declared.holding.Role.TheVariants.{Spent}
-use Rattle.snzi_core.specs.CoreState.{State as Core, start}
+use Rattle.snzi_core.specs.CoreState.{CoreState as Core, start}
 use Rattle.snzi_tree.specs.declared.board.View.{View}
 use Rattle.snzi_tree.specs.declared.board.Tally.{Tally}
 use Rattle.snzi_tree.specs.View.{first_view, spent_view, kept, given, joined, BoardRule, Knows}

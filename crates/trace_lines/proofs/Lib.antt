@@ -1,4 +1,4 @@
-pub mod Cuts
+pub mod TextCuts
 pub mod Readings
 pub mod Actions
-mod Ordered
+mod FaultOrder

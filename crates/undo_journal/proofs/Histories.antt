@@ -7,14 +7,14 @@ use Rattle.flat_model.specs.Inverse.{Inverse, back, inverse, past_of}
 use Rattle.flat_model.specs.Step.{refusal, after}
 use Rattle.flat_model.specs.Machine.{recorded, end_of, undos}
 use Rattle.flat_model.specs.WellFormed.{WellFormed, PastWellFormed}
-use Rattle.flat_model.proofs.TakenBack.{back_accepted, back_refused}
-use Rattle.flat_model.proofs.Kept.{kept}
+use Rattle.flat_model.proofs.InverseLaws.{back_accepted, back_refused}
+use Rattle.flat_model.proofs.WellFormedSteps.{kept}
 use Rattle.flat_model.proofs.Limits.{kept_refused}
-use Rattle.undo_journal.specs.declared.journal.Entry.{Entry}
+use Rattle.undo_journal.specs.declared.journal.JournalEntry.{JournalEntry}
 use Rattle.undo_journal.specs.Answer.{record_of, record_by, state_after, state_by}
 use Rattle.undo_journal.specs.Beginning.{first_state}
 use Rattle.undo_journal.specs.Headline.{IsReached}
-use Rattle.undo_journal.specs.History.{journal_entry, records, machine_of, timeline_of, IsStep, IsHistory}
+use Rattle.undo_journal.specs.History.{journal_entry, records, machine_of, timeline_of, IsRecordedStep, IsHistory}
 use Rattle.undo_journal.specs.Timeline.{Timeline, becomes}
 
 module _ (slots : ℕ) where
@@ -23,7 +23,7 @@ module _ (slots : ℕ) where
   taken_by s c i None e is = back_accepted slots s c i e is
   taken_by s c i (Some r) e is = back_refused s r i is
 
-  step_by : (s : State) (c : model.Command) (i : Inverse) (o : Option model.Refusal) → refusal slots s c ≡ o → record_by s c o ≡ Some i → IsStep slots (state_by s c o) c i
+  step_by : (s : State) (c : model.Command) (i : Inverse) (o : Option model.Refusal) → refusal slots s c ≡ o → record_by s c o ≡ Some i → IsRecordedStep slots (state_by s c o) c i
   step_by s c i o e is =
       let b = taken_by s c i o e is in
       record {
@@ -58,7 +58,7 @@ module _ (slots : ℕ) where
   first_is_start forgotten s [] h z = h.unforgotten z
   first_is_start forgotten s (e ∷ es) h z = first_is_start forgotten (back e.1 s) es h.1 z
 
-  pub reached : {A : Type 0} (forgotten : ℕ) (s : State) (journal : List (Entry A)) → IsHistory slots forgotten s (records journal) → IsReached slots (timeline_of forgotten s journal)
+  pub reached : {A : Type 0} (forgotten : ℕ) (s : State) (journal : List (JournalEntry A)) → IsHistory slots forgotten s (records journal) → IsReached slots (timeline_of forgotten s journal)
   reached forgotten s journal h = record {
     well_formed = (history_well forgotten s (records journal) h, past_well forgotten s (records journal) h);
     all_undone = all_undone s (records journal);
@@ -67,11 +67,11 @@ module _ (slots : ℕ) where
 
 -- ---- a record put in front
 
-pub records_push : {A : Type 0} (journal : List (Entry A)) (e : Entry A) → records (journal ++ e ∷ []) ≡ journal_entry e ∷ records journal
+pub records_push : {A : Type 0} (journal : List (JournalEntry A)) (e : JournalEntry A) → records (journal ++ e ∷ []) ≡ journal_entry e ∷ records journal
 records_push journal e = ap reverse (map-append journal_entry journal (e ∷ [])) ∙ reverse-append (map journal_entry journal) (journal_entry e ∷ [])
 
 -- a command that is recorded, with the record and the state that the model gives it
-module _ {A : Type 0} (slots : ℕ) (s new : State) (journal : List (Entry A)) (e : Entry A) (c : model.Command) (i : Inverse) (o : Option model.Refusal)
+module _ {A : Type 0} (slots : ℕ) (s new : State) (journal : List (JournalEntry A)) (e : JournalEntry A) (c : model.Command) (i : Inverse) (o : Option model.Refusal)
     (e_is : ◌≡◌ {A = model.Command × Inverse} (journal_entry e) (c, i)) (first : refusal slots s c ≡ o) (i_is : record_by s c o ≡ Some i)
     (new_is : new ≡ state_by s c o) where
   records_are : records (journal ++ e ∷ []) ≡ (c, i) ∷ records journal
@@ -92,11 +92,11 @@ module _ {A : Type 0} (slots : ℕ) (s new : State) (journal : List (Entry A)) (
       (step_by slots s c i o first i_is, subst (λ (t : State). IsHistory slots forgotten t (records journal)) (sym taken) h))
 
 -- an entry is pushed behind the journal for a command that is accepted: the history goes on, and the machine has recorded the command
-pub record HasRecorded {A : Type 0} (slots forgotten : ℕ) (t : Timeline) (new : State) (items : List (Entry A)) (c : model.Command) : Type 0 where
+pub record HasRecorded {A : Type 0} (slots forgotten : ℕ) (t : Timeline) (new : State) (items : List (JournalEntry A)) (c : model.Command) : Type 0 where
   pub history : IsHistory slots forgotten new (records items)
   pub timeline : timeline_of forgotten new items ≡ becomes t (recorded t.machine c (after t.machine.state c))
 
-pub has_recorded : {A : Type 0} {room : List (Entry A)} (slots forgotten : ℕ) (t : Timeline) (s new : State) (journal items : List (Entry A)) (e : Entry A) (c : model.Command) (i : Inverse)
+pub has_recorded : {A : Type 0} {room : List (JournalEntry A)} (slots forgotten : ℕ) (t : Timeline) (s new : State) (journal items : List (JournalEntry A)) (e : JournalEntry A) (c : model.Command) (i : Inverse)
     → timeline_of forgotten s journal ≡ t → IsHistory slots forgotten s (records journal) → room ≡ journal → items ≡ room ++ e ∷ []
     → ◌≡◌ {A = model.Command × Inverse} (journal_entry e) (c, i) → refusal slots t.machine.state c ≡ None → inverse s c ≡ Some i → new ≡ after s c
     → HasRecorded slots forgotten t new items c
@@ -116,8 +116,8 @@ past_length : (s : State) (es : List (model.Command × Inverse)) → length (pas
 past_length s [] = refl
 past_length s (e ∷ es) = ap suc (past_length (back e.1 s) es)
 
-pub records_length : {A : Type 0} (journal : List (Entry A)) → length (records journal) ≡ length journal
+pub records_length : {A : Type 0} (journal : List (JournalEntry A)) → length (records journal) ≡ length journal
 records_length journal = length-reverse (map journal_entry journal) ∙ length-map journal journal_entry
 
-pub depth_is : {A : Type 0} (s : State) (journal : List (Entry A)) → length journal ≡ length (past_of s (records journal))
+pub depth_is : {A : Type 0} (s : State) (journal : List (JournalEntry A)) → length journal ≡ length (past_of s (records journal))
 depth_is s journal = sym (past_length s (records journal) ∙ records_length journal)

@@ -1,13 +1,13 @@
 pub mod Histories
-pub mod Totals
+pub mod TotalBounds
 pub mod Beginnings
-mod Killing
-pub mod Ready
+mod KillUndo
+pub mod RecordUndo
 mod Undos
 mod Newest
-pub mod Undone
-mod Alls
-mod Answering
-mod Accepted
-mod Copies
-mod Recorded
+pub mod MachineSteps
+mod UndoSeries
+mod RefusalReplies
+mod Acceptance
+mod EngineCopies
+mod CommandRecords

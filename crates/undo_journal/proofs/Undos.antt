@@ -7,13 +7,13 @@ use Rattle.flat_model.specs.State.{State}
 use Rattle.flat_model.specs.Command as model
 use Rattle.flat_model.specs.Inverse.{Inverse, back, past_of}
 use Rattle.flat_model.specs.Machine.{undone, tick}
-use Rattle.undo_journal.specs.declared.journal.Entry.{Entry}
+use Rattle.undo_journal.specs.declared.journal.JournalEntry.{JournalEntry}
 use Rattle.undo_journal.specs.Answer.{Answers, needs_no_memory, undoes_without_memory}
 use Rattle.undo_journal.specs.declared.reply.Reply.TheVariants.{NothingToUndo}
 use Rattle.undo_journal.specs.History.{journal_entry, records, machine_of, timeline_of, IsHistory, IsReady}
 use Rattle.undo_journal.specs.Timeline.{becomes}
 use Rattle.undo_journal.proofs.Histories.{records_push, history_well}
-use Rattle.undo_journal.proofs.Ready.{step_ready}
+use Rattle.undo_journal.proofs.RecordUndo.{step_ready}
 
 pub on_err : {X E P : Type 0} (r : Result X E) → P → OnErr r P
 on_err (Ok x) h = tt
@@ -60,15 +60,15 @@ empty_of xs (y ∷ ys) same e = absurd (let h : None ≡ Some (get_or (y ∷ ys)
 -- ---- the machine behind
 
 -- where nothing is recorded there is nothing to undo
-pub nothing_undone : {A : Type 0} (slots forgotten : ℕ) (s : State) (journal : List (Entry A)) → journal ≡ []
+pub nothing_undone : {A : Type 0} (slots forgotten : ℕ) (s : State) (journal : List (JournalEntry A)) → journal ≡ []
     → Answers {A = A} slots (timeline_of forgotten s journal) model.Undo NothingToUndo (timeline_of forgotten s journal)
 nothing_undone {A} slots forgotten s journal e =
-    subst (λ (js : List (Entry A)). Answers {A = A} slots (timeline_of forgotten s js) model.Undo NothingToUndo (timeline_of forgotten s js)) (sym e)
+    subst (λ (js : List (JournalEntry A)). Answers {A = A} slots (timeline_of forgotten s js) model.Undo NothingToUndo (timeline_of forgotten s js)) (sym e)
     (record { state = refl; reply_is = refl })
 
-module _ {A : Type 0} (slots : ℕ) (s : State) (journal rest : List (Entry A)) (e : Entry A) (is : journal ≡ rest ++ e ∷ []) where
+module _ {A : Type 0} (slots : ℕ) (s : State) (journal rest : List (JournalEntry A)) (e : JournalEntry A) (is : journal ≡ rest ++ e ∷ []) where
   records_are : records journal ≡ journal_entry e ∷ records rest
-  records_are = ap (λ (js : List (Entry A)). records js) is ∙ records_push rest e
+  records_are = ap (λ (js : List (JournalEntry A)). records js) is ∙ records_push rest e
 
   -- the last record can be taken back
   pub last_ready : (forgotten : ℕ) → IsHistory slots forgotten s (records journal) → IsReady slots s (journal_entry e).1

@@ -12,28 +12,28 @@ use Rattle.flat_model.specs.Machine.{Machine}
 use Rattle.flat_model.specs.WellFormed.{WellFormed}
 use Rattle.flat_model.specs.EventTotals.{HasEventsUpTo}
 use Rattle.pids_charge.specs.Events.{HasEvents}
-use Rattle.undo_journal.specs.declared.journal.Entry.{Entry}
+use Rattle.undo_journal.specs.declared.journal.JournalEntry.{JournalEntry}
 use Rattle.undo_journal.specs.CommandMeaning.{command_of, inverse_of}
 use Rattle.undo_journal.specs.Answer.{record_of, state_after}
 use Rattle.undo_journal.specs.Timeline.{Timeline}
 
 -- ---- the journal
 
-abbrev pub journal_entry : {A : Type 0} → Entry A → model.Command × model_inverse.Inverse
+abbrev pub journal_entry : {A : Type 0} → JournalEntry A → model.Command × model_inverse.Inverse
 journal_entry e = (command_of e.command, inverse_of e.inverse)
 
 -- newest first
-abbrev pub records : {A : Type 0} → List (Entry A) → List (model.Command × model_inverse.Inverse)
+abbrev pub records : {A : Type 0} → List (JournalEntry A) → List (model.Command × model_inverse.Inverse)
 records journal = reverse (map journal_entry journal)
 
-abbrev pub machine_of : {A : Type 0} → State → List (Entry A) → Machine
+abbrev pub machine_of : {A : Type 0} → State → List (JournalEntry A) → Machine
 machine_of s journal = record { state = s; past = past_of s (records journal) }
 
-abbrev pub timeline_of : {A : Type 0} → ℕ → State → List (Entry A) → Timeline
+abbrev pub timeline_of : {A : Type 0} → ℕ → State → List (JournalEntry A) → Timeline
 timeline_of forgotten s journal = record { machine = machine_of s journal; forgotten = forgotten }
 
 -- the command c led to the state s and left the record i, which restores the state before it
-pub record IsStep (slots : ℕ) (s : State) (c : model.Command) (i : model_inverse.Inverse) : Type 0 where
+pub record IsRecordedStep (slots : ℕ) (s : State) (c : model.Command) (i : model_inverse.Inverse) : Type 0 where
   pub record_is : record_of slots (back i s) c ≡ Some i
   pub state_is : state_after slots (back i s) c ≡ s
 
@@ -48,7 +48,7 @@ pub record IsFirst (slots forgotten : ℕ) (s : State) : Type 0 where
 -- the recorded commands led to the state s, from the start or from the state at which this many were forgotten
 abbrev pub IsHistory : ℕ → ℕ → State → List (model.Command × model_inverse.Inverse) → Type 0
 IsHistory slots forgotten s [] = IsFirst slots forgotten s
-IsHistory slots forgotten s (e ∷ es) = IsStep slots s e.0 e.1 × IsHistory slots forgotten (back e.1 s) es
+IsHistory slots forgotten s (e ∷ es) = IsRecordedStep slots s e.0 e.1 × IsHistory slots forgotten (back e.1 s) es
 
 -- ---- the condition for undoing a record
 

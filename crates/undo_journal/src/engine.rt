@@ -11,7 +11,7 @@ ghost use Rattle.undo_journal.specs.Timeline.{from_start};
 
 use crate::command::Command;
 use crate::inverse::Inverse;
-use crate::journal::Entry;
+use crate::journal::JournalEntry;
 use crate::reply::Reply;
 use pids_charge::{Alone, Charges, Gate, Meter, OpenGate, Settler, with_threads};
 use std::alloc::{AllocError, Allocator};
@@ -25,7 +25,7 @@ use std::thread::Threads;
 pub struct Engine<A: Allocator + Clone, M: Meter> {
     pub(crate) alloc: A,
     pub(crate) charges: Charges<A, M>,
-    pub(crate) journal: Vec<Entry<A>, A>,
+    pub(crate) journal: Vec<JournalEntry<A>, A>,
     pub(crate) forgotten: u64,
 }
 

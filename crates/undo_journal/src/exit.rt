@@ -14,7 +14,7 @@ use crate::command::Command;
 use crate::engine::Engine;
 use crate::faults::{out_of_memory, refusal_at};
 use crate::inverse::Inverse;
-use crate::journal::Entry;
+use crate::journal::JournalEntry;
 use crate::reply::Reply;
 use group_path::GroupPath;
 use pids_charge::{Charges, Meter, Pid};
@@ -31,7 +31,7 @@ impl<A: Allocator + Clone, M: Meter> Engine<A, M> {
         let Ok(path) = self.charges.exit(who, pid) else {
             unreachable!()
         };
-        self.journal.push(Entry {
+        self.journal.push(JournalEntry {
             command: Command::Exit(pid),
             inverse: Inverse::Exited { pid, path },
         })?;

@@ -13,7 +13,7 @@ use crate::command::Command;
 use crate::engine::Engine;
 use crate::faults::{out_of_memory, refusal_at};
 use crate::inverse::Inverse;
-use crate::journal::Entry;
+use crate::journal::JournalEntry;
 use crate::reply::{Refusal, Reply};
 use group_path::GroupPath;
 use pids_charge::{ChargeFault, Charges, Meter, Peaks, Pid};
@@ -46,7 +46,7 @@ impl<A: Allocator + Clone, M: Meter> Engine<A, M> {
         let counted = limiting.copy(self.alloc.clone()?)?;
         self.journal.reserve(1)?;
         self.charges.count_fork(parent, n);
-        self.journal.push(Entry {
+        self.journal.push(JournalEntry {
             command: Command::Fork { parent, child },
             inverse: Inverse::Counted { path: counted },
         })?;
@@ -64,7 +64,7 @@ impl<A: Allocator + Clone, M: Meter> Engine<A, M> {
         self.journal.reserve(1)?;
         match self.charges.try_process(who, parent, child) {
             Ok(peaks) => {
-                self.journal.push(Entry {
+                self.journal.push(JournalEntry {
                     command: Command::Fork { parent, child },
                     inverse: Inverse::Forked { pid: child, peaks },
                 })?;

@@ -15,7 +15,7 @@ use crate::command::Command;
 use crate::engine::Engine;
 use crate::faults::refusal_at;
 use crate::inverse::Inverse;
-use crate::journal::Entry;
+use crate::journal::JournalEntry;
 use crate::reply::Reply;
 use group_path::GroupPath;
 use group_tree::{Limit, LimitFile};
@@ -42,7 +42,7 @@ impl<A: Allocator + Clone, M: Meter> Engine<A, M> {
         let Ok(older) = self.charges.set_limit(path, file, value) else {
             unreachable!()
         };
-        self.journal.push(Entry {
+        self.journal.push(JournalEntry {
             command: Command::SetLimit {
                 path: named,
                 file,

@@ -14,7 +14,7 @@ use crate::command::Command;
 use crate::engine::Engine;
 use crate::faults::{out_of_memory, refusal_at};
 use crate::inverse::Inverse;
-use crate::journal::Entry;
+use crate::journal::JournalEntry;
 use crate::reply::Reply;
 use group_path::GroupPath;
 use pids_charge::{Charges, Meter, Peaks, Pid};
@@ -36,7 +36,7 @@ impl<A: Allocator + Clone, M: Meter> Engine<A, M> {
         self.journal.reserve(1)?;
         match self.charges.migrate(who, pid, path) {
             Ok(left) => {
-                self.journal.push(Entry {
+                self.journal.push(JournalEntry {
                     command: Command::Move { path: named, pid },
                     inverse: Inverse::Moved {
                         pid,

@@ -14,7 +14,7 @@ use crate::command::Command;
 use crate::engine::Engine;
 use crate::faults::{out_of_memory, refusal_at};
 use crate::inverse::Inverse;
-use crate::journal::Entry;
+use crate::journal::JournalEntry;
 use crate::reply::Reply;
 use group_path::GroupPath;
 use pids_charge::{Charges, Meter};
@@ -32,7 +32,7 @@ impl<A: Allocator + Clone, M: Meter> Engine<A, M> {
         self.journal.reserve(1)?;
         match self.charges.make_group(path) {
             Ok(()) => {
-                self.journal.push(Entry {
+                self.journal.push(JournalEntry {
                     command: Command::MakeGroup(named),
                     inverse: Inverse::Made { path: made },
                 })?;

@@ -8,7 +8,7 @@ ghost use Rattle.undo_journal.specs.History.{journal_entry};
 
 use crate::command::Command;
 use crate::engine::Engine;
-use crate::journal::Entry;
+use crate::journal::JournalEntry;
 use crate::reply::Reply;
 use pids_charge::{Meter, PlainMeter};
 use std::alloc::{AllocError, Allocator, Global};
@@ -16,21 +16,21 @@ use std::sync::Wait;
 use std::thread::Threads;
 
 fn copy_entry<A: Allocator + Clone, B: Allocator + Clone>(
-    entry: &Entry<A>,
+    entry: &JournalEntry<A>,
     alloc: B,
-) -> Result<Entry<B>, AllocError>
+) -> Result<JournalEntry<B>, AllocError>
     ensures { IfOk result (λ e. journal_entry e ≡ journal_entry entry.now) }
 {
     let command = entry.command.copy(alloc.clone()?)?;
     let inverse = entry.inverse.copy(alloc)?;
-    Ok(Entry { command, inverse })
+    Ok(JournalEntry { command, inverse })
 }
 
 // Copies the entries, in the same order.
 fn copy_journal<A: Allocator + Clone, B: Allocator + Clone>(
-    journal: &[Entry<A>],
+    journal: &[JournalEntry<A>],
     alloc: B,
-) -> Result<Vec<Entry<B>, B>, AllocError>
+) -> Result<Vec<JournalEntry<B>, B>, AllocError>
     ensures { IfOk result (λ entries. map journal_entry entries.items ≡ map journal_entry journal.now) }
 {
     let mut entries = Vec::with_capacity(alloc.clone()?, journal.len())?;

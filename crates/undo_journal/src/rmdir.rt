@@ -15,7 +15,7 @@ use crate::command::Command;
 use crate::engine::Engine;
 use crate::faults::{out_of_memory, refusal_at};
 use crate::inverse::Inverse;
-use crate::journal::Entry;
+use crate::journal::JournalEntry;
 use crate::reply::Reply;
 use group_path::GroupPath;
 use group_tree::Attr;
@@ -33,7 +33,7 @@ impl<A: Allocator + Clone, M: Meter> Engine<A, M> {
         let removed = named.share()?;
         self.journal.reserve(1)?;
         let attr = self.charges.take_group(path);
-        self.journal.push(Entry {
+        self.journal.push(JournalEntry {
             command: Command::RemoveGroup(named),
             inverse: Inverse::Removed {
                 path: removed,

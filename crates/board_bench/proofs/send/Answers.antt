@@ -1,6 +1,6 @@
 use Rattle.std.proofs.Common.{◌∙◌, ap}
 use Rattle.snzi_core.specs.Holding.{out, main_weight}
-use Rattle.snzi_core.proofs.Passing.{one_out_main, one_out_out}
+use Rattle.snzi_core.proofs.SplitBalance.{one_out_main, one_out_out}
 use Rattle.snzi_tree.specs.Hands.{holds}
 use Rattle.board_bench.proofs.send.Goals as goal
 

@@ -1,8 +1,8 @@
 use Rattle.std.proofs.Common.{rules, ap, ◌∙◌, arith}
 use Rattle.snzi_core.specs.Holding.{out, main_weight}
-use Rattle.snzi_core.proofs.Passing.{one_out_main, one_out_out}
+use Rattle.snzi_core.proofs.SplitBalance.{one_out_main, one_out_out}
 use Rattle.snzi_tree.specs.Hands.{holds}
-use Rattle.board_meter.proofs.Fanned.{settled_both}
+use Rattle.board_meter.proofs.HelperParts.{settled_both}
 use Rattle.board_meter.proofs.parts.+fn-settle_parts-rest+settle_parts.Goals as goal
 
 pub join_mut-requires-after_bounds : goal.join_mut-requires-after_bounds

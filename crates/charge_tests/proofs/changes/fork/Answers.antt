@@ -1,7 +1,7 @@
 use Rattle.flat_model.specs.Command.{Fork}
 use Rattle.flat_model.specs.Step.{home_of}
 use Rattle.pids_charge.specs.declared.plain.TheConstants.{SLOTS}
-use Rattle.charge_tests.proofs.UpTo.{up_does}
+use Rattle.charge_tests.proofs.CallBounds.{up_does}
 use Rattle.charge_tests.proofs.changes.fork.Goals as goal
 
 pub returns : goal.returns

@@ -1,6 +1,6 @@
 use Rattle.flat_model.specs.Command.{Kill}
 use Rattle.pids_charge.specs.declared.plain.TheConstants.{SLOTS}
-use Rattle.charge_tests.proofs.UpTo.{up_does}
+use Rattle.charge_tests.proofs.CallBounds.{up_does}
 use Rattle.charge_tests.proofs.changes.kill.Goals as goal
 
 pub returns : goal.returns

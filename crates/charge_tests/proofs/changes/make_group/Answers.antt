@@ -1,5 +1,5 @@
 use Rattle.flat_model.specs.Command.{MakeGroup}
-use Rattle.charge_tests.proofs.UpTo.{up_halves}
+use Rattle.charge_tests.proofs.CallBounds.{up_halves}
 use Rattle.charge_tests.proofs.changes.make_group.Goals as goal
 
 pub returns-in-None : goal.returns-in-None

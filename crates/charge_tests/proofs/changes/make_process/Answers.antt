@@ -1,7 +1,7 @@
 use Rattle.std.proofs.Common.{subst, sym}
 use Rattle.flat_model.specs.Command.{Fork}
 use Rattle.flat_model.specs.EventTotals.{HasEventsUpTo}
-use Rattle.charge_tests.proofs.UpTo.{up_halves}
+use Rattle.charge_tests.proofs.CallBounds.{up_halves}
 use Rattle.charge_tests.proofs.changes.make_process.Goals as goal
 
 pub returns-in-None : goal.returns-in-None

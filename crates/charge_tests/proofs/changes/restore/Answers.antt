@@ -2,7 +2,7 @@ use Rattle.std.proofs.Common.{◌≡◌, ◌≤◌, Some, sym, ap, ◌∙◌, op
 use Rattle.std.specs.FinMap.{get}
 use Rattle.std.proofs.lemmas.Bool.Decides.{nat_tests}
 use Rattle.group_tree.specs.Flat.{group_of}
-use Rattle.charge_tests.proofs.UpTo.{up_restored}
+use Rattle.charge_tests.proofs.CallBounds.{up_restored}
 use Rattle.charge_tests.proofs.changes.restore.Goals as goal
 
 pub returns : goal.returns

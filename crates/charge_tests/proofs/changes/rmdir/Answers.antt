@@ -1,7 +1,7 @@
 use Rattle.std.proofs.Common.{Ok}
 use Rattle.flat_model.specs.Command.{RemoveGroup}
 use Rattle.pids_charge.specs.declared.plain.TheConstants.{SLOTS}
-use Rattle.charge_tests.proofs.UpTo.{up_does}
+use Rattle.charge_tests.proofs.CallBounds.{up_does}
 use Rattle.charge_tests.proofs.changes.rmdir.Goals as goal
 
 pub returns-in-Ok : goal.returns-in-Ok

@@ -1,7 +1,7 @@
 use Rattle.flat_model.specs.Command.{SetLimit}
 use Rattle.group_tree.specs.Flat.{limit_of, limit_file_of}
 use Rattle.pids_charge.specs.declared.plain.TheConstants.{SLOTS}
-use Rattle.charge_tests.proofs.UpTo.{up_does}
+use Rattle.charge_tests.proofs.CallBounds.{up_does}
 use Rattle.charge_tests.proofs.changes.set_limit.Goals as goal
 
 pub returns : goal.returns

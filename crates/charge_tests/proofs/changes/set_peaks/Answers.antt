@@ -1,4 +1,4 @@
-use Rattle.charge_tests.proofs.UpTo.{up_set}
+use Rattle.charge_tests.proofs.CallBounds.{up_set}
 use Rattle.charge_tests.proofs.changes.set_peaks.Goals as goal
 
 pub returns : goal.returns

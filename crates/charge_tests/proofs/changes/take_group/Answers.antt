@@ -1,5 +1,5 @@
 use Rattle.flat_model.specs.Command.{RemoveGroup}
-use Rattle.charge_tests.proofs.UpTo.{up_taken}
+use Rattle.charge_tests.proofs.CallBounds.{up_taken}
 use Rattle.charge_tests.proofs.changes.take_group.Goals as goal
 
 pub returns-in-None : goal.returns-in-None

@@ -2,7 +2,7 @@ use Rattle.std.proofs.Common.{◌≡◌, ◌<◌, Some, sym, ap, ◌∙◌, opti
 use Rattle.std.specs.FinMap.{get}
 use Rattle.std.proofs.lemmas.Bool.Decides.{nat_tests}
 use Rattle.group_tree.specs.Flat.{group_of}
-use Rattle.charge_tests.proofs.UpTo.{has_events, up_uncounted}
+use Rattle.charge_tests.proofs.CallBounds.{has_events, up_uncounted}
 use Rattle.charge_tests.proofs.changes.uncount.Goals as goal
 
 pub uncount-requires : goal.uncount-requires

@@ -1,4 +1,4 @@
-use Rattle.flat_model_laws.proofs.GivenBack.{well_formed_is, events_are, own_is}
+use Rattle.flat_model_laws.proofs.PastLaws.{well_formed_is, events_are, own_is}
 use Rattle.flat_model_laws.proofs.machine.past_is_given_back.Goals as goal
 
 pub returns : goal.returns

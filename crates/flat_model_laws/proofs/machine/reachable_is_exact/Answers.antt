@@ -1,6 +1,6 @@
 use Rattle.flat_model.specs.Machine.{after_all}
-use Rattle.flat_model.proofs.Counting.{current_is, populated_is}
-use Rattle.flat_model_laws.proofs.Descendants.{descendants_are}
+use Rattle.flat_model.proofs.GroupCounts.{current_is, populated_is}
+use Rattle.flat_model_laws.proofs.DescendantLaws.{descendants_are}
 use Rattle.flat_model.proofs.Reachable.{tick_well, reached_well}
 use Rattle.flat_model_laws.proofs.machine.reachable_is_exact.Goals as goal
 

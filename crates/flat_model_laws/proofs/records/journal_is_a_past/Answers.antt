@@ -1,6 +1,6 @@
 use Rattle.std.proofs.Common.{◌∷◌}
 use Rattle.flat_model.specs.Inverse.{past_of}
-use Rattle.flat_model.proofs.TakenBack.{back_accepted, back_refused}
+use Rattle.flat_model.proofs.InverseLaws.{back_accepted, back_refused}
 use Rattle.flat_model_laws.proofs.records.journal_is_a_past.Goals as goal
 
 pub returns-clause-accepted : goal.returns-clause-accepted

@@ -1,4 +1,4 @@
-use Rattle.flat_model_laws.proofs.Events.{counted_is}
+use Rattle.flat_model_laws.proofs.EventLaws.{counted_is}
 use Rattle.flat_model_laws.proofs.refusals.events_are_counted_exactly.Goals as goal
 
 pub returns : goal.returns

@@ -1,5 +1,5 @@
-use Rattle.flat_model.proofs.Counting.{current_is, populated_is}
-use Rattle.flat_model_laws.proofs.Descendants.{descendants_are}
+use Rattle.flat_model.proofs.GroupCounts.{current_is, populated_is}
+use Rattle.flat_model_laws.proofs.DescendantLaws.{descendants_are}
 use Rattle.flat_model_laws.proofs.states.counts_are_exact.Goals as goal
 
 pub returns : goal.returns

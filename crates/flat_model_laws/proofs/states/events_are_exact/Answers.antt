@@ -1,5 +1,5 @@
 use Rattle.std.proofs.Common.{refl}
-use Rattle.flat_model_laws.proofs.Events.{counted, none_counted, others_change_nothing}
+use Rattle.flat_model_laws.proofs.EventLaws.{counted, none_counted, others_change_nothing}
 use Rattle.flat_model_laws.proofs.states.events_are_exact.Goals as goal
 
 pub returns : goal.returns

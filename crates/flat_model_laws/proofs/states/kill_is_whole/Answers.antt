@@ -1,4 +1,4 @@
-use Rattle.flat_model_laws.proofs.Killing.{nobody_left, others_stay}
+use Rattle.flat_model_laws.proofs.KillLaws.{nobody_left, others_stay}
 use Rattle.flat_model_laws.proofs.states.kill_is_whole.Goals as goal
 
 pub returns : goal.returns

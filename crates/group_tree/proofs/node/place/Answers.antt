@@ -2,7 +2,7 @@ use Rattle.std.proofs.Common.{◌≡◌, sym, ap, refl, ◌∙◌}
 use Rattle.group_tree.proofs.Calls.{answers_by}
 use Rattle.flat_model.specs.Path.{name_cmp}
 use Rattle.group_tree.specs.Node.{Branch}
-use Rattle.group_tree.proofs.Places.{searched}
+use Rattle.group_tree.proofs.NameSearch.{searched}
 use Rattle.group_tree.proofs.node.place.Goals as goal
 
 -- the closure compares a child's name with the one that is looked for, and keeps that one

@@ -1,4 +1,4 @@
-use Rattle.group_tree.proofs.Removed.{there_is, leaf_is}
+use Rattle.group_tree.proofs.NodeRemoval.{there_is, leaf_is}
 use Rattle.group_tree.proofs.remove.take_out.Goals as goal
 
 pub returns-then-leaf : goal.returns-then-leaf

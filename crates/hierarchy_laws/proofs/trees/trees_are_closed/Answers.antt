@@ -1,5 +1,5 @@
 use Rattle.hierarchy_laws.proofs.ClosedLaws.{alone_is, root_is_there}
-use Rattle.group_tree.proofs.Prefixes.{prefix_there}
+use Rattle.group_tree.proofs.GroupPrefixes.{prefix_there}
 use Rattle.hierarchy_laws.proofs.trees.trees_are_closed.Goals as goal
 
 pub returns : goal.returns

@@ -1,4 +1,4 @@
-use Rattle.indicator_laws.proofs.Told.{runs_one, stops_one, stops_memory, stops_first, stops_inside}
+use Rattle.indicator_laws.proofs.EventRuns.{runs_one, stops_one, stops_memory, stops_first, stops_inside}
 use Rattle.indicator_laws.proofs.answers.lists_are_told_apart.Goals as goal
 
 pub returns : goal.returns

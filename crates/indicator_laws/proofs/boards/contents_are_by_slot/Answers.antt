@@ -1,4 +1,4 @@
-use Rattle.indicator_laws.proofs.Counted.{nothing_at, nothing_to}
+use Rattle.indicator_laws.proofs.HandShares.{nothing_at, nothing_to}
 use Rattle.snzi_tree.proofs.Leaves.{in_positive, positive_in}
 use Rattle.indicator_laws.proofs.boards.contents_are_by_slot.Goals as goal
 

@@ -1,7 +1,7 @@
 use Rattle.std.proofs.Common.{◌∙◌}
 use Rattle.snzi_core.specs.Balance.{here}
 use Rattle.snzi_tree.specs.Depths.{halved, depth}
-use Rattle.snzi_tree.proofs.Paths.{depth_up}
+use Rattle.snzi_tree.proofs.NodePaths.{depth_up}
 use Rattle.indicator_laws.proofs.Deeper.{root_first, path_smaller, path_higher}
 use Rattle.indicator_laws.proofs.Rows.{one_more}
 use Rattle.indicator_laws.proofs.boards.depths_follow_parents.Goals as goal

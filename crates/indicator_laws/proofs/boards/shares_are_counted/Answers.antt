@@ -1,7 +1,7 @@
 use Rattle.std.proofs.Common.{[], ◌∷◌, arith}
 use Rattle.indicator_laws.specs.Boards.{token}
-use Rattle.indicator_laws.proofs.Counted.{from_range}
-use Rattle.snzi_tree.proofs.Given.{in_range, count_leaf}
+use Rattle.indicator_laws.proofs.HandShares.{from_range}
+use Rattle.snzi_tree.proofs.TokenLists.{in_range, count_leaf}
 use Rattle.indicator_laws.proofs.boards.shares_are_counted.Goals as goal
 
 pub returns-clause-same : goal.returns-clause-same

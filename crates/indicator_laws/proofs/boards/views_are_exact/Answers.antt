@@ -1,7 +1,7 @@
 use Rattle.std.proofs.Common.{[], ◌+◌, refl}
 use Rattle.std.specs.Prelude.{slice_index}
 use Rattle.snzi_core.proofs.Hands.{parts, unites}
-use Rattle.snzi_core.proofs.Lists.{at_put_same, at_put_else}
+use Rattle.snzi_core.proofs.NumberLists.{at_put_same, at_put_else}
 use Rattle.indicator_laws.proofs.boards.views_are_exact.Goals as goal
 
 pub returns-clause-planned : goal.returns-clause-planned

@@ -1,7 +1,7 @@
 use Rattle.std.proofs.Common.{ap}
 use Rattle.snzi_tree.specs.View.{holding}
-use Rattle.snzi_tree.proofs.Events.{load_makes, root_add_makes, child_add_makes, exchange_makes, leave_makes, stripe_add_makes}
-use Rattle.snzi_tree.proofs.Shared.{split_makes, join_makes}
+use Rattle.snzi_tree.proofs.StepEvents.{load_makes, root_add_makes, child_add_makes, exchange_makes, leave_makes, stripe_add_makes}
+use Rattle.snzi_tree.proofs.SplitEvents.{split_makes, join_makes}
 use Rattle.indicator_laws.proofs.events.steps_are_events.Goals as goal
 
 pub returns-clause-looked : goal.returns-clause-looked

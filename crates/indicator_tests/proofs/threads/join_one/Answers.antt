@@ -1,6 +1,6 @@
 use Rattle.std.proofs.Common.{◌∙◌, ap, arith}
 use Rattle.snzi_core.specs.Holding.{main_weight}
-use Rattle.snzi_core.proofs.Passing.{one_back_main}
+use Rattle.snzi_core.proofs.SplitBalance.{one_back_main}
 use Rattle.snzi_tree.specs.Hands.{holds}
 use Rattle.indicator_tests.proofs.threads.join_one.Goals as goal
 

@@ -1,5 +1,5 @@
 use Rattle.std.proofs.Common.{◌≡◌, ◌+◌, length, arith}
-use Rattle.journal_laws.proofs.Forgetting.{forgets_alike, empty}
+use Rattle.journal_laws.proofs.ForgetLaws.{forgets_alike, empty}
 use Rattle.journal_laws.proofs.histories.forgetting_keeps_the_state.Goals as goal
 
 pub returns-clause-well_formed : goal.returns-clause-well_formed

@@ -1,6 +1,6 @@
 use Rattle.std.proofs.Common.{refl, ◌+◌, length, arith}
 use Rattle.undo_journal.proofs.Histories.{reached}
-use Rattle.undo_journal.proofs.Totals.{start_first, first_again}
+use Rattle.undo_journal.proofs.TotalBounds.{start_first, first_again}
 use Rattle.journal_laws.proofs.histories.journals_are_histories.Goals as goal
 
 pub returns-clause-start : goal.returns-clause-start

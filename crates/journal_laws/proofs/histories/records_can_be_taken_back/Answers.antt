@@ -1,6 +1,6 @@
 use Rattle.flat_model.specs.Inverse.{back}
 use Rattle.undo_journal.proofs.Histories.{history_well}
-use Rattle.undo_journal.proofs.Ready.{step_ready}
+use Rattle.undo_journal.proofs.RecordUndo.{step_ready}
 use Rattle.journal_laws.proofs.histories.records_can_be_taken_back.Goals as goal
 
 pub returns-clause-newest : goal.returns-clause-newest

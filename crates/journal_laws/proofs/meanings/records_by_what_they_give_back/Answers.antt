@@ -1,7 +1,7 @@
 use Rattle.std.proofs.Common.{refl}
 use Rattle.flat_model.specs.Command as model
 use Rattle.flat_model.specs.Inverse.{Counted}
-use Rattle.flat_model.proofs.TakenBack.{back_refused}
+use Rattle.flat_model.proofs.InverseLaws.{back_refused}
 use Rattle.journal_laws.proofs.meanings.records_by_what_they_give_back.Goals as goal
 
 pub returns-clause-counted : goal.returns-clause-counted

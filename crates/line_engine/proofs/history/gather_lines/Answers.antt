@@ -1,7 +1,7 @@
 use Rattle.std.proofs.Common.{rules, ◌∙◌}
 use Rattle.undo_journal.specs.CommandMeaning.{command_of}
 use Rattle.line_engine.specs.Listings.{history_from, lines_bytes}
-use Rattle.line_engine.proofs.Lines.{line_more, lines_all}
+use Rattle.line_engine.proofs.HistoryLines.{line_more, lines_all}
 use Rattle.line_engine.proofs.history.gather_lines.Goals as goal
 
 pub loop-place-preserved : goal.loop-place-preserved

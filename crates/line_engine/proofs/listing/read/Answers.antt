@@ -1,5 +1,5 @@
 use Rattle.flat_model.specs.PathText.{read_path}
-use Rattle.line_engine.proofs.Paths.{good_path}
+use Rattle.line_engine.proofs.GrammarPaths.{good_path}
 use Rattle.line_engine.proofs.listing.read.Goals as goal
 
 pub returns-in-Ok : goal.returns-in-Ok

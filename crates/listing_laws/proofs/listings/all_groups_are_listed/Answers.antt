@@ -1,4 +1,4 @@
-use Rattle.listing_laws.proofs.Listed.{listed_are}
+use Rattle.listing_laws.proofs.AllGroups.{listed_are}
 use Rattle.listing_laws.proofs.listings.all_groups_are_listed.Goals as goal
 
 pub returns : goal.returns

@@ -1,4 +1,4 @@
-use Rattle.listing_laws.proofs.Reached.{forgotten_well, forgotten_shallow}
+use Rattle.listing_laws.proofs.DepthBounds.{forgotten_well, forgotten_shallow}
 use Rattle.listing_laws.proofs.listings.forgetting_keeps_the_lists.Goals as goal
 
 pub returns : goal.returns

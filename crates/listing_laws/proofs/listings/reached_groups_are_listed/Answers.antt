@@ -1,4 +1,4 @@
-use Rattle.listing_laws.proofs.Reached.{reached_shallow, reached_keys}
+use Rattle.listing_laws.proofs.DepthBounds.{reached_shallow, reached_keys}
 use Rattle.listing_laws.proofs.listings.reached_groups_are_listed.Goals as goal
 
 pub returns : goal.returns

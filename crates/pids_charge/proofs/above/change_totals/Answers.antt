@@ -5,7 +5,7 @@ use Rattle.flat_model.specs.Path.{Path}
 use Rattle.group_tree.specs.declared.attr.Attr.{Attr}
 use Rattle.pids_charge.specs.Events.{stepped}
 use Rattle.pids_charge.proofs.RowsUp.{begun, further, step_at, still_there, table_slots_kept, total_by, totals_changed, up_by}
-use Rattle.pids_charge.proofs.Upward.{at_own}
+use Rattle.pids_charge.proofs.ParentSteps.{at_own}
 use Rattle.pids_charge.proofs.above.change_totals.Goals as goal
 
 pub loop-up-init : goal.loop-up-init

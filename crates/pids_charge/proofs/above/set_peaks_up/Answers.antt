@@ -5,7 +5,7 @@ use Rattle.flat_model.specs.Path.{Path}
 use Rattle.group_tree.specs.declared.attr.Attr.{Attr}
 use Rattle.pids_charge.proofs.InRows.{read_inside}
 use Rattle.pids_charge.proofs.RowsUp.{begun, further, peak_by, peaks_set, step_at, up_by}
-use Rattle.pids_charge.proofs.Upward.{at_own}
+use Rattle.pids_charge.proofs.ParentSteps.{at_own}
 use Rattle.pids_charge.proofs.above.set_peaks_up.Goals as goal
 
 pub loop-i-init : goal.loop-i-init

@@ -1,7 +1,7 @@
 use Rattle.std.proofs.Common.{ℕ, ◌+◌, ◌-◌, length, take, arith, ◌∙◌}
 use Rattle.std.proofs.lemmas.List.{length-take-le}
 use Rattle.flat_model.specs.Path.{Path}
-use Rattle.pids_charge.proofs.Upward.{own_slot, step_by}
+use Rattle.pids_charge.proofs.ParentSteps.{own_slot, step_by}
 use Rattle.pids_charge.proofs.above.slot_up.Goals as goal
 
 pub overflow_sub-at : goal.overflow_sub-at

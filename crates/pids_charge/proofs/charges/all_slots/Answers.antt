@@ -1,5 +1,5 @@
 use Rattle.std.proofs.Common.{◌≡◌, ◌-◌, List, ℕ, arith, sym, subst}
-use Rattle.pids_charge.proofs.Freed.{AreFreeFrom, none_free, one_more_free, all_free}
+use Rattle.pids_charge.proofs.FreeSlots.{AreFreeFrom, none_free, one_more_free, all_free}
 use Rattle.pids_charge.proofs.charges.all_slots.Goals as goal
 
 pub loop-slot-init : goal.loop-slot-init

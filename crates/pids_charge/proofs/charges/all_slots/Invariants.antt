@@ -1,6 +1,6 @@
 use Rattle.std.proofs.Common.{◌≤◌}
 use Rattle.std.specs.Vec.{vec_capacity}
-use Rattle.pids_charge.proofs.Freed.{AreFreeFrom}
+use Rattle.pids_charge.proofs.FreeSlots.{AreFreeFrom}
 use Rattle.pids_charge.proofs.charges.all_slots.Given as goal
 
 abbrev pub invariant-loop-slot : goal.invariant-loop-slot

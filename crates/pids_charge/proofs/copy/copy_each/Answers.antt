@@ -9,7 +9,7 @@ use Rattle.flat_model.specs.Path.{Path}
 use Rattle.pids_charge.specs.Lists.{Row, inside, is_inside, row_below, table_slot}
 use Rattle.pids_charge.specs.Recount.{charges_at}
 use Rattle.process_table.specs.declared.process.Process.{Process}
-use Rattle.pids_charge.proofs.Copied.{one_more_row, one_more_summed, all_rows, all_summed}
+use Rattle.pids_charge.proofs.TableCopies.{one_more_row, one_more_summed, all_rows, all_summed}
 use Rattle.pids_charge.proofs.Gathers.{is_found, next_row, none_left, all_inside}
 use Rattle.pids_charge.proofs.TableSlots.{found_value}
 use Rattle.pids_charge.proofs.copy.copy_each.Goals as goal

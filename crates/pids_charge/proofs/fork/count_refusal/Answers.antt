@@ -1,8 +1,8 @@
 use Rattle.std.proofs.Common.{◌+◌, take}
 use Rattle.flat_model.specs.Step.{count_up}
 use Rattle.flat_model.proofs.PathLaws.{take_above}
-use Rattle.group_tree.proofs.Refused.{raised}
-use Rattle.pids_charge.proofs.Totals.{flat-counts, same_slots, up_each}
+use Rattle.group_tree.proofs.NodeTotals.{raised}
+use Rattle.pids_charge.proofs.FlatTotals.{flat-counts, same_slots, up_each}
 use Rattle.pids_charge.proofs.fork.count_refusal.Goals as goal
 
 pub change_totals-requires-clause-group : goal.change_totals-requires-clause-group

@@ -1,8 +1,8 @@
 use Rattle.std.proofs.Common.{is_some, option_copied, refl, sym, ap, ◌∙◌}
 use Rattle.flat_model.specs.State.{State}
 use Rattle.pids_charge.specs.Recount.{state_of}
-use Rattle.pids_charge.proofs.Asked.{process-is}
-use Rattle.pids_charge.proofs.Forked.{fork_no_process, fork_in_use}
+use Rattle.pids_charge.proofs.FlatGroups.{process-is}
+use Rattle.pids_charge.proofs.ForkOutcomes.{fork_no_process, fork_in_use}
 use Rattle.pids_charge.proofs.fork.find_parent.Goals as goal
 
 pub returns-in_default-clause-first : goal.returns-in_default-clause-first

@@ -3,9 +3,9 @@ use Rattle.std.proofs.Math.Seq.{take-length}
 use Rattle.std.specs.FinMap as fin
 use Rattle.flat_model.specs.Path.{Path}
 use Rattle.flat_model.specs.Step.{count_down}
-use Rattle.group_tree.specs.Refusals.{Counts}
+use Rattle.group_tree.specs.Refusals.{CountsRefusals}
 use Rattle.pids_charge.specs.Lists.{table_slot}
-use Rattle.pids_charge.proofs.Totals.{flat-counts, same_slots, down_each}
+use Rattle.pids_charge.proofs.FlatTotals.{flat-counts, same_slots, down_each}
 use Rattle.pids_charge.proofs.fork.uncount_refusal.Goals as goal
 
 pub change_totals-requires-clause-group : goal.change_totals-requires-clause-group
@@ -21,11 +21,11 @@ change_totals-requires-clause-slot g c =
 pub returns-clause-counted : goal.returns-clause-counted
 returns-clause-counted g c =
     let whole : take c.depth.result c.args.path.now ≡ c.args.path.now = ap (λ n. take n c.args.path.now) c.depth.ensures ∙ take-length c.args.path.now in
-    let counts = subst (λ (q : Path). Counts (λ n. n - 1) c.args.tree.now c.change_totals.new.tree q) whole c.change_totals.ensures in
+    let counts = subst (λ (q : Path). CountsRefusals (λ n. n - 1) c.args.tree.now c.change_totals.new.tree q) whole c.change_totals.ensures in
     flat-counts (λ n. n - 1) c.args.tree.now c.change_totals.new.tree c.args.path.now counts count_down down_each
 
 pub returns-clause-slots : goal.returns-clause-slots
 returns-clause-slots g c =
     let whole : take c.depth.result c.args.path.now ≡ c.args.path.now = ap (λ n. take n c.args.path.now) c.depth.ensures ∙ take-length c.args.path.now in
-    let counts = subst (λ (q : Path). Counts (λ n. n - 1) c.args.tree.now c.change_totals.new.tree q) whole c.change_totals.ensures in
+    let counts = subst (λ (q : Path). CountsRefusals (λ n. n - 1) c.args.tree.now c.change_totals.new.tree q) whole c.change_totals.ensures in
     same_slots (λ n. n - 1) c.args.tree.now c.change_totals.new.tree c.args.path.now counts c.known.ensures.closed

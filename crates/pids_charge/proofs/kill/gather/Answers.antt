@@ -3,7 +3,7 @@ use Rattle.std.specs.BTreeMap.{is_at}
 use Rattle.std.specs.Ordering.{nat_cmp}
 use Rattle.pids_charge.specs.Lists.{Row, inside, is_inside}
 use Rattle.pids_charge.specs.Recount.{IsPlaced, charges_of}
-use Rattle.pids_charge.proofs.Copied.{one_more_summed}
+use Rattle.pids_charge.proofs.TableCopies.{one_more_summed}
 use Rattle.pids_charge.proofs.Gathers.{is_found, next_row}
 use Rattle.pids_charge.proofs.TableSlots.{found_value}
 use Rattle.pids_charge.proofs.kill.gather.Goals as goal

@@ -6,8 +6,8 @@ use Rattle.group_tree.specs.Groups.{Groups, slot_of}
 use Rattle.group_tree.specs.declared.attr.Attr.{Attr}
 use Rattle.pids_charge.specs.Content.{Content}
 use Rattle.pids_charge.specs.Events.{full_by, longest}
-use Rattle.pids_charge.proofs.Upward.{of_group, own_below, step_up, at_own}
-use Rattle.pids_charge.proofs.Walked.{longest-yes, longest-no}
+use Rattle.pids_charge.proofs.ParentSteps.{of_group, own_below, step_up, at_own}
+use Rattle.pids_charge.proofs.FullGroupWalk.{longest-yes, longest-no}
 use Rattle.pids_charge.proofs.notes.nearest_full.Goals as goal
 
 pub loop-up-init : goal.loop-up-init

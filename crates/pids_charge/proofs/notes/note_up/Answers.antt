@@ -3,8 +3,8 @@ use Rattle.flat_model.specs.Path.{Path}
 use Rattle.flat_model.proofs.PathLaws.{take_above}
 use Rattle.group_tree.specs.Groups.{slot_of}
 use Rattle.pids_charge.specs.Peaks.{Noted, peak_of}
-use Rattle.pids_charge.proofs.Noted.{AreUpTo, none_up, one_up, all_up}
-use Rattle.pids_charge.proofs.Upward.{of_group, step_up, at_own, at_root}
+use Rattle.pids_charge.proofs.WalkNotes.{AreUpTo, none_up, one_up, all_up}
+use Rattle.pids_charge.proofs.ParentSteps.{of_group, step_up, at_own, at_root}
 use Rattle.pids_charge.proofs.notes.note_up.Goals as goal
 
 pub loop-up-init : goal.loop-up-init

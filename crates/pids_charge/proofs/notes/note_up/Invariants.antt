@@ -2,7 +2,7 @@ use Rattle.std.proofs.Common.{◌≡◌, ◌-◌, ◌≤◌, length, take}
 use Rattle.group_tree.specs.Groups.{slot_of}
 use Rattle.pids_charge.specs.Lists.{table_slot}
 use Rattle.pids_charge.specs.Peaks.{peak_of}
-use Rattle.pids_charge.proofs.Noted.{AreUpTo}
+use Rattle.pids_charge.proofs.WalkNotes.{AreUpTo}
 use Rattle.pids_charge.proofs.notes.note_up.Given as goal
 
 abbrev pub invariant-loop-up : goal.invariant-loop-up

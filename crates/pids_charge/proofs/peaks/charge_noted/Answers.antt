@@ -2,8 +2,8 @@ use Rattle.std.proofs.Common.{◌≡◌, ℕ, length, sum_by, ap, ◌∙◌, ari
 use Rattle.snzi_tokens.specs.Listed.{one_at}
 use Rattle.pids_charge.specs.Content.{Content}
 use Rattle.pids_charge.specs.Recount.{with_charges}
-use Rattle.pids_charge.proofs.Noted.{below_noted, charges_noted, reached_noted}
-use Rattle.pids_charge.proofs.PeaksRaised.{raised_set}
+use Rattle.pids_charge.proofs.WalkNotes.{below_noted, charges_noted, reached_noted}
+use Rattle.pids_charge.proofs.PeakRises.{raised_set}
 use Rattle.pids_charge.proofs.peaks.charge_noted.Goals as goal
 
 pub charge_slots-requires-clause-slots_below : goal.charge_slots-requires-clause-slots_below

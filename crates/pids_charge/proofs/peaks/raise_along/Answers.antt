@@ -6,8 +6,8 @@ use Rattle.std.specs.FinMap as fin
 use Rattle.flat_model.specs.Path.{Path}
 use Rattle.group_tree.specs.PeaksAlong.{peaked_by, SetsPeaks}
 use Rattle.pids_charge.specs.Lists.{table_slot}
-use Rattle.pids_charge.proofs.PeaksRaised.{none_set}
-use Rattle.pids_charge.proofs.Totals.{slots_changed}
+use Rattle.pids_charge.proofs.PeakRises.{none_set}
+use Rattle.pids_charge.proofs.FlatTotals.{slots_changed}
 use Rattle.pids_charge.proofs.peaks.raise_along.Goals as goal
 
 pub returns-then-eq-clause-set : goal.returns-then-eq-clause-set

@@ -3,7 +3,7 @@ use Rattle.std.proofs.lemmas.List.{length-drop, take_all}
 use Rattle.flat_model.specs.Step.{set_peak}
 use Rattle.group_tree.specs.PeaksAlong.{peaked_by, SetsPeaks}
 use Rattle.pids_charge.proofs.RowsUp.{front_set}
-use Rattle.pids_charge.proofs.Totals.{flat_changed, slots_changed}
+use Rattle.pids_charge.proofs.FlatTotals.{flat_changed, slots_changed}
 use Rattle.pids_charge.proofs.peaks.set_along.Goals as goal
 
 pub returns-clause-set : goal.returns-clause-set

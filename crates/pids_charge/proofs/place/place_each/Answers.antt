@@ -1,7 +1,7 @@
 use Rattle.std.proofs.Common.{drop, ap, ◌∙◌}
 use Rattle.pids_charge.specs.Lists.{without}
 use Rattle.pids_charge.proofs.Entries.{to_sorted}
-use Rattle.pids_charge.proofs.Listed.{taken_out, new_drop, to_new}
+use Rattle.pids_charge.proofs.ListedProcesses.{taken_out, new_drop, to_new}
 use Rattle.pids_charge.proofs.place.place_each.Goals as goal
 
 pub returns-then-at-gt0-clause-kept : goal.returns-then-at-gt0-clause-kept

@@ -7,7 +7,7 @@ use Rattle.flat_model.specs.CommandText.{IsPid}
 use Rattle.pids_charge.specs.Lists.{Row, with_lost, placed_at}
 use Rattle.pids_charge.specs.declared.lost.Lost.{Lost}
 use Rattle.pids_charge.proofs.Entries.{of_ok}
-use Rattle.pids_charge.proofs.Listed.{one_before}
+use Rattle.pids_charge.proofs.ListedProcesses.{one_before}
 use Rattle.pids_charge.proofs.place.place_last.Goals as goal
 
 pub loop-at-preserved : goal.loop-at-preserved

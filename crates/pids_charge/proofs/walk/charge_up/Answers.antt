@@ -1,7 +1,7 @@
 use Rattle.std.proofs.Common.{◌≡◌, ℕ, ◌+◌, ◌-◌, length, ap, arith, ◌∙◌}
 use Rattle.flat_model.specs.Path.{Path}
 use Rattle.pids_charge.specs.Recount.{chain_at}
-use Rattle.pids_charge.proofs.Upward.{step_up, at_own}
+use Rattle.pids_charge.proofs.ParentSteps.{step_up, at_own}
 use Rattle.pids_charge.proofs.walk.charge_up.Goals as goal
 
 pub loop-up-init : goal.loop-up-init

@@ -5,7 +5,7 @@ use Rattle.snzi_tokens.specs.declared.token.Token.{Token}
 use Rattle.snzi_tokens.specs.Listed.{IsWithin, listed_at}
 use Rattle.pids_charge.specs.Recount.{chain_at}
 use Rattle.pids_charge.proofs.OneMore.{one_token_more}
-use Rattle.pids_charge.proofs.Upward.{step_up, at_own, at_root}
+use Rattle.pids_charge.proofs.ParentSteps.{step_up, at_own, at_root}
 use Rattle.pids_charge.proofs.walk.push_up.Goals as goal
 
 pub loop-up-init : goal.loop-up-init

@@ -2,7 +2,7 @@ use Rattle.std.proofs.Common.{◌≡◌, ℕ, ◌+◌, ◌-◌, length, ap, arit
 use Rattle.flat_model.specs.Path.{Path}
 use Rattle.pids_charge.specs.Recount.{chain_at}
 use Rattle.pids_charge.proofs.OneMore.{one_at-here}
-use Rattle.pids_charge.proofs.Upward.{step_up, at_own}
+use Rattle.pids_charge.proofs.ParentSteps.{step_up, at_own}
 use Rattle.pids_charge.proofs.walk.uncharge_up.Goals as goal
 
 pub loop-up-init : goal.loop-up-init

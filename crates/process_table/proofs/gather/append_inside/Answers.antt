@@ -1,7 +1,7 @@
 use Rattle.std.proofs.Common.{◌+◌, cond, eqb, count_by, sym, ap, ◌∙◌}
 use Rattle.process_table.specs.Cells.{cell_at}
 use Rattle.process_table.specs.SlotPids.{list_at}
-use Rattle.process_table.proofs.Gathered.{appended}
+use Rattle.process_table.proofs.ChosenPids.{appended}
 use Rattle.process_table.proofs.Outcomes.{on_ok}
 use Rattle.process_table.proofs.gather.append_inside.Goals as goal
 use Rattle.flat_model.proofs.Sums.{count_by-append}

@@ -1,7 +1,7 @@
 use Rattle.std.proofs.Common.{sym, ap, ◌∙◌}
 use Rattle.std.specs.Option.{option_copied}
 use Rattle.process_table.specs.Cells.{cell_at}
-use Rattle.process_table.proofs.Gathered.{has_cell, answers}
+use Rattle.process_table.proofs.ChosenPids.{has_cell, answers}
 use Rattle.process_table.proofs.gather.are_inside.Goals as goal
 
 pub returns-in_default-get : goal.returns-in_default-get

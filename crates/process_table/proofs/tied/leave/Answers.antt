@@ -1,7 +1,7 @@
 use Rattle.std.proofs.Common.{get_or}
 use Rattle.process_table.specs.Cells.{cell_at}
 use Rattle.process_table.specs.SlotPids.{list_at}
-use Rattle.process_table.proofs.Tying.{left_alone, left_moved}
+use Rattle.process_table.proofs.CellTies.{left_alone, left_moved}
 use Rattle.process_table.proofs.tied.leave.Goals as goal
 
 pub returns-in_default-clause-tied : goal.returns-in_default-clause-tied

@@ -3,7 +3,7 @@ use Rattle.process_table.specs.declared.process.Cell.{Cell}
 use Rattle.process_table.specs.Cells.{cell_at}
 use Rattle.process_table.specs.Tied.{Owes}
 use Rattle.process_table.proofs.Tables.{small}
-use Rattle.process_table.proofs.Tying.{new_tied, new_owes}
+use Rattle.process_table.proofs.CellTies.{new_tied, new_owes}
 use Rattle.process_table.proofs.tied.put_in.Goals as goal
 
 pub returns-in_default-clause-tied : goal.returns-in_default-clause-tied

@@ -1,7 +1,7 @@
 use Rattle.std.proofs.Common.{◌≡◌, Some, subst, sym, ◌∙◌}
 use Rattle.process_table.specs.Cells.{cell_at}
 use Rattle.process_table.specs.Tied.{Owes}
-use Rattle.process_table.proofs.Tying.{taken_owes}
+use Rattle.process_table.proofs.CellTies.{taken_owes}
 use Rattle.process_table.proofs.tied.take_out.Goals as goal
 
 pub leave-requires : goal.leave-requires

@@ -2,7 +2,7 @@ use Rattle.std.proofs.Common.{rules, ◌≡◌, ap}
 use Rattle.clap.specs.Words.{app_of, rule_of}
 use Rattle.clap.specs.Simple.{app_of_fields}
 use Rattle.replay_main.specs.ReplayArguments.{rehearse_rule, workers_rule}
-use Rattle.replay_main.proofs.CommandLines.{app_is}
+use Rattle.replay_main.proofs.ReplayCommandLine.{app_is}
 use Rattle.replay_main.proofs.arguments.program.Goals as goal
 
 pub returns : goal.returns

@@ -1,7 +1,7 @@
 use Rattle.std.proofs.Common.{◌≡◌, ◌∙◌, true, [], sym, subst, inr, map, option_map}
 use Rattle.clap.specs.Words.{HasKind, app_of, fault_of, is_simple_and_free, kind_of}
 use Rattle.replay_main.specs.ReplayArguments.{rehearsal_in, rehearsal_said, workers_in, workers_said}
-use Rattle.replay_main.proofs.CommandLines.{app_free, asks_by, rehearsal_said_in, said_in}
+use Rattle.replay_main.proofs.ReplayCommandLine.{app_free, asks_by, rehearsal_said_in, said_in}
 use Rattle.replay_main.proofs.arguments.read_words.Goals as goal
 
 pub returns-in-Some : goal.returns-in-Some

@@ -1,7 +1,7 @@
 use Rattle.std.proofs.Common.{rules, ◌≡◌, ◌∙◌, ◌+◌, ◌≤◌, List, [], ◌∷◌, ◌++◌, ℕ, length, map, ap, sym, subst}
 use Rattle.flat_model.specs.Trace.{lines_in, read_line, read_trace, trace_max}
 use Rattle.trace_talk.specs.Points.{IsSaid, answers_on, point_after, start_point}
-use Rattle.replay_main.proofs.Passes.{bytes_more, few_at_start, few_more, point_on}
+use Rattle.replay_main.proofs.LinePasses.{bytes_more, few_at_start, few_more, point_on}
 use Rattle.replay_main.proofs.one_pass.answer_in_one_pass.Goals as goal
 
 pub loop-line-init : goal.loop-line-init

@@ -6,7 +6,7 @@ use Rattle.flat_model.specs.Replies.{is_refused}
 use Rattle.undo_journal.specs.CommandMeaning.{command_of}
 use Rattle.sessions.specs.SessionMeaning.{slots}
 use Rattle.replay_main.specs.Script.{answers_from, place_of}
-use Rattle.replay_main.proofs.Answered.{few_places, is_answered}
+use Rattle.replay_main.proofs.PhaseAnswers.{few_places, is_answered}
 use Rattle.replay_main.proofs.trace.answer_at_a_desk.Goals as goal
 
 pub answers_of-requires-clause-few : goal.answers_of-requires-clause-few

@@ -2,7 +2,7 @@ use Rattle.std.proofs.Common.{arith, ◌≡◌, ◌≢◌, ◌<◌, ◌≤◌, �
 use Rattle.undo_journal.specs.CommandMeaning.{command_of, reply_of}
 use Rattle.undo_journal.specs.Timeline.{Timeline}
 use Rattle.sessions.specs.SessionMeaning.{slots}
-use Rattle.sessions.proofs.TakenBack.{left, answered, certain_at}
+use Rattle.sessions.proofs.CommandUndo.{left, answered, certain_at}
 use Rattle.sessions.proofs.step.apply_twice.Goals.{then-depth, else-depth}
 use Rattle.sessions.proofs.step.apply_twice.Goals as goal
 

@@ -1,6 +1,6 @@
 use Rattle.std.proofs.Common.{refl}
 use Rattle.flat_model.specs.Command.{Undo}
-use Rattle.shell_laws.proofs.Dropped.{other_answer, undo_answer}
+use Rattle.shell_laws.proofs.EmptiedPasts.{other_answer, undo_answer}
 use Rattle.shell_laws.proofs.forgetful.each_answer.Goals as goal
 
 pub returns-clause-undo : goal.returns-clause-undo

@@ -1,6 +1,6 @@
 use Rattle.flat_model.specs.Trace.{read_trace}
 use Rattle.trace_talk.specs.Points.{start_point}
-use Rattle.shell_laws.proofs.Dropped.{no_difference}
+use Rattle.shell_laws.proofs.EmptiedPasts.{no_difference}
 use Rattle.shell_laws.proofs.forgetful.no_undo_no_difference.Goals as goal
 
 pub returns : goal.returns

@@ -1,7 +1,7 @@
 use Rattle.std.proofs.Common.{refl}
 use Rattle.flat_model.specs.Machine.{new_machine}
 use Rattle.trace_talk.specs.Points.{start_point}
-use Rattle.shell_laws.proofs.Dropped.{dropped}
+use Rattle.shell_laws.proofs.EmptiedPasts.{dropped}
 use Rattle.shell_laws.proofs.forgetful.undos_are_dropped.Goals as goal
 
 pub returns : goal.returns

@@ -1,4 +1,4 @@
-use Rattle.shell_laws.proofs.Prefixes.{written_prefix}
+use Rattle.shell_laws.proofs.OutputPrefixes.{written_prefix}
 use Rattle.shell_laws.proofs.shells.a_prefix_of_all_answers.Goals as goal
 
 pub returns : goal.returns

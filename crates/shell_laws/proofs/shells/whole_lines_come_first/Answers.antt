@@ -1,7 +1,7 @@
 use Rattle.flat_model.specs.Trace.{read_trace}
 use Rattle.trace_talk.specs.Points.{start_point}
 use Rattle.shell_main.specs.Forgetful.{after_by, answers_by}
-use Rattle.shell_laws.proofs.Prefixes.{output_cut}
+use Rattle.shell_laws.proofs.OutputPrefixes.{output_cut}
 use Rattle.shell_laws.proofs.shells.whole_lines_come_first.Goals as goal
 
 pub returns : goal.returns

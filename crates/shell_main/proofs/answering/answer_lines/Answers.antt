@@ -1,9 +1,9 @@
 use Rattle.std.proofs.Common.{◌∙◌, ◌+◌, ◌-◌, ◌++◌, ◌∷◌, ◌≤◌, [], ℕ, List, Ok, Err, length, take, drop, sym, subst, append-nil, arith}
 use Rattle.std.proofs.lemmas.List.{length-drop, take_rest}
 use Rattle.flat_model.specs.Trace.{read_line}
-use Rattle.shell_main.specs.Talks.{Answered, IsUnended, Says}
+use Rattle.shell_main.specs.Talks.{Answered, IsUnended, AnswersShellLine}
 use Rattle.shell_main.proofs.Feeds.{at_feed, no_feed}
-use Rattle.shell_main.proofs.Lines.{handed_halts, keep_halts, kept, kept_unended, nothing_unended, said, say_halts}
+use Rattle.shell_main.proofs.ReadLines.{handed_halts, keep_halts, kept, kept_unended, nothing_unended, said, say_halts}
 use Rattle.shell_main.proofs.answering.answer_lines.Goals as goal
 
 -- ---- a line that ends
@@ -33,7 +33,7 @@ returns-in_err-say-clause-err c =
     let P : List ℕ → Type 0 = λ x. Answered c.args.options c.args.talk.now bytes (c.loop-end.line.items ++ x) c.loop-end.out.items c.loop-end.talk in
     let a = kept c.args.options c.args.talk.now c.loop-end.talk bytes c.loop-end.line.items (take end rest) (0x0A ∷ drop (end + 1) rest)
     line c.loop-end.out.items (subst P feed.0 inv.0) c.in_ok-keep.ensures.0 in
-    let Q : List ℕ → Type 0 = λ x. Says c.args.options c.loop-end.talk (read_line x) c.loop-end.out.items c.say.new.out.items (Err fault) c.say.new.talk in
+    let Q : List ℕ → Type 0 = λ x. AnswersShellLine c.args.options c.loop-end.talk (read_line x) c.loop-end.out.items c.say.new.out.items (Err fault) c.say.new.talk in
     handed_halts c.from_residual-in_err-say.result fault c.args.options c.args.talk.now bytes c.say.new.out.items c.from_residual-in_err-say.ensures.1
     (say_halts fault c.args.options c.args.talk.now c.loop-end.talk c.say.new.talk bytes line (drop (end + 1) rest) c.loop-end.out.items c.say.new.out.items
     a (kept_unended c.loop-end.line.items (take end rest) line inv.1 feed.1 c.in_ok-keep.ensures) (subst Q c.as_slice.ensures.value c.in_err-say.ensures))
@@ -49,7 +49,7 @@ returns-then-len-ge-OUTPUT_MAX-clause-ok c =
     let P : List ℕ → Type 0 = λ x. Answered c.args.options c.args.talk.now bytes (c.loop-end.line.items ++ x) c.loop-end.out.items c.loop-end.talk in
     let a = kept c.args.options c.args.talk.now c.loop-end.talk bytes c.loop-end.line.items (take end rest) (0x0A ∷ drop (end + 1) rest)
     line c.loop-end.out.items (subst P feed.0 inv.0) c.in_ok-keep.ensures.0 in
-    let Q : List ℕ → Type 0 = λ x. Says c.args.options c.loop-end.talk (read_line x) c.loop-end.out.items c.say.new.out.items (Ok tt) c.say.new.talk in
+    let Q : List ℕ → Type 0 = λ x. AnswersShellLine c.args.options c.loop-end.talk (read_line x) c.loop-end.out.items c.say.new.out.items (Ok tt) c.say.new.talk in
     let next = said c.args.options c.args.talk.now c.loop-end.talk c.say.new.talk bytes line (drop (end + 1) rest) c.loop-end.out.items c.say.new.out.items tt
     a (kept_unended c.loop-end.line.items (take end rest) line inv.1 feed.1 c.in_ok-keep.ensures) (subst Q c.as_slice.ensures.value c.in_ok-say.ensures) in
     let R : List ℕ → List ℕ → Type 0 = λ x y. Answered c.args.options c.args.talk.now bytes (x ++ y) c.say.new.out.items c.say.new.talk in
@@ -66,7 +66,7 @@ loop-end-preserved c =
     let P : List ℕ → Type 0 = λ x. Answered c.args.options c.args.talk.now bytes (c.loop-end.line.items ++ x) c.loop-end.out.items c.loop-end.talk in
     let a = kept c.args.options c.args.talk.now c.loop-end.talk bytes c.loop-end.line.items (take end rest) (0x0A ∷ drop (end + 1) rest)
     line c.loop-end.out.items (subst P feed.0 inv.0) c.in_ok-keep.ensures.0 in
-    let Q : List ℕ → Type 0 = λ x. Says c.args.options c.loop-end.talk (read_line x) c.loop-end.out.items c.say.new.out.items (Ok tt) c.say.new.talk in
+    let Q : List ℕ → Type 0 = λ x. AnswersShellLine c.args.options c.loop-end.talk (read_line x) c.loop-end.out.items c.say.new.out.items (Ok tt) c.say.new.talk in
     let next = said c.args.options c.args.talk.now c.loop-end.talk c.say.new.talk bytes line (drop (end + 1) rest) c.loop-end.out.items c.say.new.out.items tt
     a (kept_unended c.loop-end.line.items (take end rest) line inv.1 feed.1 c.in_ok-keep.ensures) (subst Q c.as_slice.ensures.value c.in_ok-say.ensures) in
     let R : List ℕ → List ℕ → Type 0 = λ x y. Answered c.args.options c.args.talk.now bytes (x ++ y) c.say.new.out.items c.say.new.talk in (

@@ -1,7 +1,7 @@
 use Rattle.std.proofs.Common.{rules, ◌≡◌, ap}
 use Rattle.clap.specs.Words.{app_of, rule_of}
 use Rattle.clap.specs.Simple.{app_of_fields}
-use Rattle.shell_main.specs.Asks.{file_rule, no_undo_rule, strict_rule}
+use Rattle.shell_main.specs.ShellArguments.{file_rule, no_undo_rule, strict_rule}
 use Rattle.shell_main.proofs.CommandLine.{app_is}
 use Rattle.shell_main.proofs.arguments.program.Goals as goal
 

@@ -1,8 +1,8 @@
 use Rattle.std.proofs.Common.{List, map, string_bytes, subst}
 use Rattle.std.specs.declared.alloc.Global.{Global}
 use Rattle.std.specs.declared.string.String.{String}
-use Rattle.shell_main.specs.Asks.{Asks}
+use Rattle.shell_main.specs.ShellArguments.{AsksShell}
 use Rattle.shell_main.proofs.arguments.read_arguments.Goals as goal
 
 pub returns : goal.returns
-returns c = subst (λ (words : List (String Global)). Asks (map string_bytes words) c.read_words.result) c.without_name.ensures c.read_words.ensures
+returns c = subst (λ (words : List (String Global)). AsksShell (map string_bytes words) c.read_words.result) c.without_name.ensures c.read_words.ensures

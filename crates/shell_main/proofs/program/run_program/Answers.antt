@@ -3,15 +3,15 @@ use Rattle.trace_talk.specs.declared.summary.Summary.{Summary}
 use Rattle.shell_main.specs.declared.arguments.Ask.{Ask}
 use Rattle.shell_main.specs.declared.fault.ShellFault.{ShellFault}
 use Rattle.shell_main.specs.declared.options.Options.{Options}
-use Rattle.shell_main.specs.Asks.{Asks}
+use Rattle.shell_main.specs.ShellArguments.{AsksShell}
 use Rattle.shell_main.specs.Shelled.{ShelledBy}
 use Rattle.shell_main.proofs.program.run_program.Goals as goal
 
 pub returns-in-Ok-clause-ran : goal.returns-in-Ok-clause-ran
 returns-in-Ok-clause-ran g c =
     let words = map string_bytes (drop 1 c.args.args.now) in
-    let P : Ask → Type 0 = λ a. Asks words (Ok a) in
-    let asks = subst P c.in-Ok-Serve.field-0-is (subst (Asks words) c.in-Ok-Serve.is c.read_arguments.ensures) in
+    let P : Ask → Type 0 = λ a. AsksShell words (Ok a) in
+    let asks = subst P c.in-Ok-Serve.field-0-is (subst (AsksShell words) c.in-Ok-Serve.is c.read_arguments.ensures) in
     let Q : Options → Result Summary ShellFault → Type 0 = λ b r. ShelledBy b (g.S.Source.left c.args.reader.now)
     (record { left = g.S.Source.left c.shell_by.new.reader; failed = g.S.Source.is_failed c.shell_by.new.reader }) (g.W.Sink.taken c.args.writer.now)
     (record { taken = g.W.Sink.taken c.shell_by.new.writer; failed = g.W.Sink.is_failed c.shell_by.new.writer; flushed = g.W.Sink.is_flushed c.shell_by.new.writer }) r in
@@ -24,8 +24,8 @@ returns-in-Ok-clause-ran g c =
 pub returns-in-Ok-Serve-clause-ran : goal.returns-in-Ok-Serve-clause-ran
 returns-in-Ok-Serve-clause-ran g c =
     let words = map string_bytes (drop 1 c.args.args.now) in
-    let P : Ask → Type 0 = λ a. Asks words (Ok a) in
-    let asks = subst P c.in-Ok-Serve.field-0-is (subst (Asks words) c.in-Ok-Serve.is c.read_arguments.ensures) in
+    let P : Ask → Type 0 = λ a. AsksShell words (Ok a) in
+    let asks = subst P c.in-Ok-Serve.field-0-is (subst (AsksShell words) c.in-Ok-Serve.is c.read_arguments.ensures) in
     let Q : Options → Result Summary ShellFault → Type 0 = λ b r. ShelledBy b (g.S.Source.left c.args.reader.now)
     (record { left = g.S.Source.left c.shell_by.new.reader; failed = g.S.Source.is_failed c.shell_by.new.reader }) (g.W.Sink.taken c.args.writer.now)
     (record { taken = g.W.Sink.taken c.shell_by.new.writer; failed = g.W.Sink.is_failed c.shell_by.new.writer; flushed = g.W.Sink.is_flushed c.shell_by.new.writer }) r in

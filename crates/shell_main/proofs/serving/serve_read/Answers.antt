@@ -1,9 +1,9 @@
 use Rattle.std.proofs.Common.{◌≡◌, ◌∙◌, ◌++◌, ◌==◌, [], ℕ, List, false, true, Ok, Err, length, subst, rules, ◌<◌}
 use Rattle.flat_model.specs.Trace.{read_line}
 use Rattle.shell_main.specs.Devices.{SinkState, SourceState}
-use Rattle.shell_main.specs.Talks.{Finishes, Stands}
+use Rattle.shell_main.specs.Talks.{Finishes, StandsBeforeRead}
 use Rattle.shell_main.proofs.Ends.{at_end, handed_on, last_ended, last_served, served, stop_ended}
-use Rattle.shell_main.proofs.Standing.{went_on}
+use Rattle.shell_main.proofs.ReadStates.{went_on}
 use Rattle.shell_main.proofs.serving.serve_read.Goals as goal
 
 -- ---- at the end of the source
@@ -19,7 +19,7 @@ returns-in_err-answer_last-clause-serves g c =
     let mark : source.failed ≡ false = c.in-Ok.ensures.mark ∙ good in
     let now = c.args.talk.now in
     let line = c.args.line.now.items in
-    let stands : (lines : List ℕ) × Stands how g.start.0 (g.S.Source.left c.args.reader.now) g.start.1 old now lines line [] = search rules in
+    let stands : (lines : List ℕ) × StandsBeforeRead how g.start.0 (g.S.Source.left c.args.reader.now) g.start.1 old now lines line [] = search rules in
     let room : 0 < length c.next_chunk.new.buf = search rules in
     let none : c.in-Ok.count ≡ 0 = search rules in
     let end = at_end source.left c.next_chunk.new.buf c.in-Ok.count stands.1 c.in-Ok.ensures.bytes none room in
@@ -41,7 +41,7 @@ returns-in_ok-answer_last-clause-serves g c =
     let mark : source.failed ≡ false = c.in-Ok.ensures.mark ∙ good in
     let now = c.args.talk.now in
     let line = c.args.line.now.items in
-    let stands : (lines : List ℕ) × Stands how g.start.0 (g.S.Source.left c.args.reader.now) g.start.1 old now lines line [] = search rules in
+    let stands : (lines : List ℕ) × StandsBeforeRead how g.start.0 (g.S.Source.left c.args.reader.now) g.start.1 old now lines line [] = search rules in
     let room : 0 < length c.next_chunk.new.buf = search rules in
     let none : c.in-Ok.count ≡ 0 = search rules in
     let end = at_end source.left c.next_chunk.new.buf c.in-Ok.count stands.1 c.in-Ok.ensures.bytes none room in
@@ -59,7 +59,7 @@ returns-else-not-is_empty-clause-serves g c =
     let mark : source.failed ≡ false = c.in-Ok.ensures.mark ∙ good in
     let now = c.args.talk.now in
     let line = c.args.line.now.items in
-    let stands : (lines : List ℕ) × Stands how g.start.0 (g.S.Source.left c.args.reader.now) g.start.1 sink now lines line [] = search rules in
+    let stands : (lines : List ℕ) × StandsBeforeRead how g.start.0 (g.S.Source.left c.args.reader.now) g.start.1 sink now lines line [] = search rules in
     let room : 0 < length c.next_chunk.new.buf = search rules in
     let none : c.in-Ok.count ≡ 0 = search rules in
     let end = at_end source.left c.next_chunk.new.buf c.in-Ok.count stands.1 c.in-Ok.ensures.bytes none room in

@@ -1,7 +1,7 @@
 use Rattle.std.proofs.Common.{◌∙◌, [], sym, rules}
 use Rattle.shell_main.specs.Devices.{SinkState, SourceState}
-use Rattle.shell_main.proofs.Starts.{after_flush, flushed_by, unflushed, unstarted}
-use Rattle.shell_main.proofs.Standing.{at_start}
+use Rattle.shell_main.proofs.FirstFlush.{after_flush, flushed_by, unflushed, unstarted}
+use Rattle.shell_main.proofs.ReadStates.{at_start}
 use Rattle.shell_main.proofs.serving.shell_by.Goals as goal
 
 pub returns-then-is_err : goal.returns-then-is_err

@@ -3,7 +3,7 @@ use Rattle.snzi_core.specs.Shape.{line, parent}
 use Rattle.snzi_core.proofs.Shapes.{is_family}
 use Rattle.std.specs.Prelude.{slice_index}
 use Rattle.snzi_core.specs.Changes.{Gains, Moves}
-use Rattle.snzi_core.proofs.Steps.{add_balance, first_balance, gain_muster, move_muster}
+use Rattle.snzi_core.proofs.BalanceSteps.{add_balance, first_balance, gain_muster, move_muster}
 use Rattle.snzi_core.proofs.laws.child_add_keeps.Goals as goal
 
 pub returns : goal.returns

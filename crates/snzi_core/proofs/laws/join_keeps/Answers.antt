@@ -1,6 +1,6 @@
 use Rattle.snzi_core.specs.Shape.{line, parent}
 use Rattle.snzi_core.proofs.Shapes.{is_family}
-use Rattle.snzi_core.proofs.Passing.{join_balance, join_muster}
+use Rattle.snzi_core.proofs.SplitBalance.{join_balance, join_muster}
 use Rattle.snzi_core.proofs.laws.join_keeps.Goals as goal
 
 pub returns : goal.returns

@@ -3,7 +3,7 @@ use Rattle.snzi_core.specs.Shape.{line, parent}
 use Rattle.snzi_core.proofs.Shapes.{is_family}
 use Rattle.std.specs.Prelude.{slice_index}
 use Rattle.snzi_core.specs.Changes.{Loses, Moves}
-use Rattle.snzi_core.proofs.Steps.{leave_balance, last_balance, loss_muster, move_muster}
+use Rattle.snzi_core.proofs.BalanceSteps.{leave_balance, last_balance, loss_muster, move_muster}
 use Rattle.snzi_core.proofs.laws.leave_keeps.Goals as goal
 
 pub returns : goal.returns

@@ -1,6 +1,6 @@
 use Rattle.std.proofs.Common.{ℕ, List, sym, subst}
 use Rattle.snzi_core.specs.Shape.{line}
-use Rattle.snzi_core.proofs.Lists.{set_again}
+use Rattle.snzi_core.proofs.NumberLists.{set_again}
 use Rattle.std.proofs.lemmas.List.{set-get_or}
 use Rattle.snzi_core.specs.declared.holding.Holding.{Holding}
 use Rattle.snzi_core.specs.Balance.{Balanced, Mustered}

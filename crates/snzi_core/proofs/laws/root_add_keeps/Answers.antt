@@ -1,6 +1,6 @@
 use Rattle.snzi_core.specs.Shape.{line, parent}
 use Rattle.snzi_core.proofs.Shapes.{is_family}
-use Rattle.snzi_core.proofs.Steps.{add_balance, gain_muster}
+use Rattle.snzi_core.proofs.BalanceSteps.{add_balance, gain_muster}
 use Rattle.snzi_core.proofs.laws.root_add_keeps.Goals as goal
 
 pub returns : goal.returns

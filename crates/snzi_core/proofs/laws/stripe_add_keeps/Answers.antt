@@ -1,7 +1,7 @@
 use Rattle.snzi_core.specs.Shape.{line, parent}
 use Rattle.snzi_core.proofs.Shapes.{is_family}
 use Rattle.snzi_core.proofs.OneWord.{stripe_law}
-use Rattle.snzi_core.proofs.Steps.{raise_muster}
+use Rattle.snzi_core.proofs.BalanceSteps.{raise_muster}
 use Rattle.snzi_core.proofs.laws.stripe_add_keeps.Goals as goal
 
 pub returns : goal.returns

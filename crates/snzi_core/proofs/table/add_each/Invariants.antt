@@ -1,5 +1,5 @@
 use Rattle.std.proofs.Common.{ℕ, ◌+◌}
-use Rattle.snzi_core.proofs.Rewriting.{IsRewritten}
+use Rattle.snzi_core.proofs.TableRewrites.{IsRewritten}
 use Rattle.snzi_core.proofs.table.add_each.Given as goal
 
 abbrev pub invariant-loop-i : goal.invariant-loop-i

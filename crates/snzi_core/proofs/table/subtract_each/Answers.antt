@@ -1,5 +1,5 @@
 use Rattle.std.proofs.Common.{arith}
-use Rattle.snzi_core.proofs.Rewriting.{is_without}
+use Rattle.snzi_core.proofs.TableRewrites.{is_without}
 use Rattle.snzi_core.proofs.table.subtract_each.Goals as goal
 
 pub returns : goal.returns

@@ -1,5 +1,5 @@
 use Rattle.std.proofs.Common.{arith}
-use Rattle.snzi_core.proofs.Rewriting.{is_wrapped}
+use Rattle.snzi_core.proofs.TableRewrites.{is_wrapped}
 use Rattle.snzi_core.proofs.table.wrapping_add_each.Goals as goal
 
 pub returns : goal.returns

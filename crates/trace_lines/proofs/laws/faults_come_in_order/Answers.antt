@@ -2,7 +2,7 @@ use Rattle.std.proofs.Common.{[], refl, ap, ◌∙◌, Ok, Err}
 use Rattle.flat_model.specs.Refuse.{and_then}
 use Rattle.trace_lines.specs.Action.{action_at}
 use Rattle.trace_lines.specs.LineMeaning.{text_fault_of}
-use Rattle.trace_lines.proofs.Ordered.{only_fault, only_memory, memory_last}
+use Rattle.trace_lines.proofs.FaultOrder.{only_fault, only_memory, memory_last}
 use Rattle.trace_lines.proofs.laws.faults_come_in_order.Goals as goal
 
 pub returns-clause-path : goal.returns-clause-path

@@ -1,5 +1,5 @@
 use Rattle.std.proofs.Common.{◌∙◌, sym}
-use Rattle.trace_lines.proofs.Cuts.{behind_some_slice, behind_none}
+use Rattle.trace_lines.proofs.TextCuts.{behind_some_slice, behind_none}
 use Rattle.trace_lines.proofs.words.behind_blanks.Goals as goal
 
 pub returns-in-Some-clause-words : goal.returns-in-Some-clause-words

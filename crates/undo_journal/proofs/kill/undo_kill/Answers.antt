@@ -3,7 +3,7 @@ use Rattle.std.specs.Prelude.{IsSome}
 use Rattle.std.specs.List.{All, IsDistinct}
 use Rattle.std.specs.FinMap.{get}
 use Rattle.flat_model.specs.Path.{Path}
-use Rattle.undo_journal.proofs.Killing.{each_row, pids_of}
+use Rattle.undo_journal.proofs.KillUndo.{each_row, pids_of}
 use Rattle.undo_journal.proofs.kill.undo_kill.Goals as goal
 
 pub place_all_by-requires-clause-homes : goal.place_all_by-requires-clause-homes

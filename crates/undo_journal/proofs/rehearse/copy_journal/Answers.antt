@@ -1,5 +1,5 @@
 use Rattle.undo_journal.specs.History.{journal_entry}
-use Rattle.undo_journal.proofs.Copies.{one_more, all_entries}
+use Rattle.undo_journal.proofs.EngineCopies.{one_more, all_entries}
 use Rattle.undo_journal.proofs.rehearse.copy_journal.Goals as goal
 
 pub loop-entry-preserved : goal.loop-entry-preserved

@@ -27,7 +27,7 @@ use Rattle.std_alloc.proofs.BoxSteps.Steps.{box_out, box_in}
 use Rattle.std.specs.Prelude.{◌≡◌, true, Option, is_some}
 use Rattle.line_engine.specs.contracts.engine.LineEngine as LineEngine
 use Rattle.c_library.specs.contracts.seal.Seal as Seal
-use Rattle.c_library.proofs.Filled.{what_is_there}
+use Rattle.c_library.proofs.OptionValues.{what_is_there}
 use Rattle.c_library.proofs.AsBox.{E, FromSeal as From}
 use Rattle.c_library.specs.contracts.seal.Seal.into_parts as F
 use Rattle.c_library.specs.contracts.seal.Seal.into_parts.Key.{name as #self}

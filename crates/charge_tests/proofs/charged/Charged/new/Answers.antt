@@ -1,4 +1,4 @@
-use Rattle.flat_model.proofs.UpTo.{start_up}
+use Rattle.flat_model.proofs.EventBounds.{start_up}
 use Rattle.charge_tests.proofs.charged.Charged.new.Goals as goal
 
 pub invariant_of-result : goal.invariant_of-result

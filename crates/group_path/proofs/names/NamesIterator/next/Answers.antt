@@ -1,6 +1,6 @@
 use Rattle.std.proofs.Common.{◌∙◌, ap, sym, arith, length, ℕ, List, option_map, Bor}
 use Rattle.std.proofs.lemmas.Grind.{common_steps}
-use Rattle.group_path.proofs.Cuts.{cut_slice, last_name}
+use Rattle.group_path.proofs.NextNames.{cut_slice, last_name}
 use Rattle.group_path.proofs.names.NamesIterator.next.Goals as goal
 
 pub returns-in-Some-clause-steps : goal.returns-in-Some-clause-steps

@@ -1,5 +1,5 @@
 use Rattle.std.proofs.Common.{◌∙◌, sym, ap, arith, length, List, ℕ}
-use Rattle.group_path.proofs.Answered.{child_long, child_passes}
+use Rattle.group_path.proofs.GrammarTests.{child_long, child_passes}
 use Rattle.group_path.proofs.path.GroupPath.check_child.Goals as goal
 
 pub returns-then-spelled-name-gt-TEXT_MAX : goal.returns-then-spelled-name-gt-TEXT_MAX

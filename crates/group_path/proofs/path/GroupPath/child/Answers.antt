@@ -1,8 +1,8 @@
 use Rattle.std.proofs.Common.{◌≤◌, ◌+◌, ◌∙◌, ◌∷◌, ◌++◌, List, ℕ, ap, sym, subst, arith, length}
 use Rattle.inline_bytes.specs.declared.bytes.TheConstants.{INLINE_MAX}
 use Rattle.flat_model.specs.PathText.{child_fault}
-use Rattle.group_path.proofs.Answered.{child_short, child_few, child_faultless, child_names, answers_path}
-use Rattle.group_path.proofs.Texts.{path_is}
+use Rattle.group_path.proofs.GrammarTests.{child_short, child_few, child_faultless, child_names, answers_path}
+use Rattle.group_path.proofs.PathTexts.{path_is}
 use Rattle.group_path.proofs.path.GroupPath.child.Goals as goal
 
 pub joined-requires : goal.joined-requires

@@ -1,5 +1,5 @@
-use Rattle.group_path.proofs.Fronts.{front_faultless, front_names}
-use Rattle.group_path.proofs.Texts.{text_is, path_is}
+use Rattle.group_path.proofs.PrefixTexts.{front_faultless, front_names}
+use Rattle.group_path.proofs.PathTexts.{text_is, path_is}
 use Rattle.group_path.proofs.path.GroupPath.cut.Goals as goal
 
 pub invariant_of-self : goal.invariant_of-self

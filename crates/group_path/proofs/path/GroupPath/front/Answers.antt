@@ -1,5 +1,5 @@
-use Rattle.group_path.proofs.Fronts.{front_faultless, front_names}
-use Rattle.group_path.proofs.Texts.{path_is}
+use Rattle.group_path.proofs.PrefixTexts.{front_faultless, front_names}
+use Rattle.group_path.proofs.PathTexts.{path_is}
 use Rattle.group_path.proofs.path.GroupPath.front.Goals as goal
 
 pub invariant_of-result : goal.invariant_of-result

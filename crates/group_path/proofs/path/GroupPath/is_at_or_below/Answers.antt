@@ -1,5 +1,5 @@
 use Rattle.std.proofs.Common.{true, false, sym, ◌∙◌}
-use Rattle.group_path.proofs.Below.{at_or_below_step}
+use Rattle.group_path.proofs.NameWalk.{at_or_below_step}
 use Rattle.group_path.proofs.path.GroupPath.is_at_or_below.Goals as goal
 
 pub loop-theirs-preserved : goal.loop-theirs-preserved

@@ -1,4 +1,4 @@
-use Rattle.group_path.proofs.Texts.{path_is}
+use Rattle.group_path.proofs.PathTexts.{path_is}
 use Rattle.group_path.proofs.path.GroupPath.known.Goals as goal
 
 pub returns : goal.returns

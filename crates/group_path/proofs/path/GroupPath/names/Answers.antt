@@ -1,5 +1,5 @@
 use Rattle.std.proofs.Common.{◌∙◌}
-use Rattle.group_path.proofs.Texts.{path_is, all_names}
+use Rattle.group_path.proofs.PathTexts.{path_is, all_names}
 use Rattle.group_path.proofs.path.GroupPath.names.Goals as goal
 
 pub returns : goal.returns

@@ -1,4 +1,4 @@
-use Rattle.group_path.proofs.Fronts.{some_parent}
+use Rattle.group_path.proofs.PrefixTexts.{some_parent}
 use Rattle.group_path.proofs.path.GroupPath.parent.Goals as goal
 
 pub returns-clause-group : goal.returns-clause-group

@@ -2,7 +2,7 @@ use Rattle.std.proofs.Common.{◌≡◌, ◌∙◌, ◌≤◌, ap, sym, arith, s
 use Rattle.flat_model.specs.Path.{Path}
 use Rattle.flat_model.specs.PathText.{spelled, path_text}
 use Rattle.flat_model.proofs.PathTextLawsChild.{length-path_text-take}
-use Rattle.group_path.proofs.Texts.{path_is, short_front, length_is}
+use Rattle.group_path.proofs.PathTexts.{path_is, short_front, length_is}
 use Rattle.group_path.proofs.path.GroupPath.prefix_len.Goals as goal
 
 pub loop-name-init : goal.loop-name-init

@@ -1,5 +1,5 @@
 use Rattle.std.proofs.Common.{◌∙◌, sym}
-use Rattle.group_path.proofs.Answered.{read_found, read_only, read_faulty}
+use Rattle.group_path.proofs.GrammarTests.{read_found, read_only, read_faulty}
 use Rattle.group_path.proofs.path.GroupPath.read.Goals as goal
 
 pub returns-in_err-check_text-clause-only : goal.returns-in_err-check_text-clause-only

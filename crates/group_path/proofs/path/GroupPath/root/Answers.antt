@@ -1,6 +1,6 @@
 use Rattle.std.proofs.Common.{ap}
 use Rattle.flat_model.specs.PathText.{names_in}
-use Rattle.group_path.proofs.Texts.{root_faultless}
+use Rattle.group_path.proofs.PathTexts.{root_faultless}
 use Rattle.group_path.proofs.path.GroupPath.root.Goals as goal
 
 pub invariant_of-result : goal.invariant_of-result

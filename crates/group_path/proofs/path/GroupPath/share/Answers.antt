@@ -1,7 +1,7 @@
 use Rattle.std.proofs.Common.{◌≡◌, ◌≤◌, ℕ, true, false, List, subst, length}
 use Rattle.inline_bytes.specs.declared.bytes.TheConstants.{INLINE_MAX}
 use Rattle.flat_model.specs.PathText.{path_text}
-use Rattle.group_path.proofs.Texts.{text_is}
+use Rattle.group_path.proofs.PathTexts.{text_is}
 use Rattle.group_path.proofs.path.GroupPath.share.Goals as goal
 use Rattle.group_path.proofs.TooLong.{too_long}
 

@@ -1,5 +1,5 @@
 use Rattle.std.proofs.Common.{ℕ, List, ◌∙◌, ◌<◌, length, subst}
-use Rattle.group_path.proofs.Texts.{long_text}
+use Rattle.group_path.proofs.PathTexts.{long_text}
 use Rattle.group_path.proofs.path.GroupPath.spelled.Goals as goal
 
 pub returns-then-text-gt1 : goal.returns-then-text-gt1

@@ -1,5 +1,5 @@
 use Rattle.std.proofs.Common.{◌∙◌}
-use Rattle.group_path.proofs.Texts.{text_is}
+use Rattle.group_path.proofs.PathTexts.{text_is}
 use Rattle.group_path.proofs.path.GroupPath.text.Goals as goal
 
 pub returns : goal.returns

@@ -2,9 +2,9 @@ use Rattle.std.proofs.Common.{◌∙◌, sym, ap, subst, refl, arith, length, Op
 use Rattle.std.proofs.lemmas.Grind.{common_steps}
 use Rattle.group_tree.specs.Along.{along_from}
 use Rattle.group_tree.specs.Node.{Branch, HasAscendingNames}
-use Rattle.group_tree.proofs.Boxed.{opened}
+use Rattle.group_tree.proofs.NodeBoxes.{opened}
 use Rattle.group_tree.proofs.Downward.{goes_down, ends_there}
-use Rattle.group_tree.proofs.Steps.{own_attr}
+use Rattle.group_tree.proofs.NodeSteps.{own_attr}
 use Rattle.group_tree.proofs.along.AlongIterator.next.Goals as goal
 
 pub place-requires : goal.place-requires

@@ -1,9 +1,9 @@
 use Rattle.std.proofs.Common.{rules, arith, ap, length}
 use Rattle.group_tree.specs.declared.admission.Admission.TheVariants.{Free}
-use Rattle.group_tree.proofs.Copies.{child_at_smaller}
-use Rattle.group_tree.proofs.Steps.{root_is_some}
-use Rattle.group_tree.proofs.Admitted.{admits_itself, admits_none, admits_child, admits_down, admits_decided}
-use Rattle.group_tree.proofs.Boxed.{opened}
+use Rattle.group_tree.proofs.NodeCopies.{child_at_smaller}
+use Rattle.group_tree.proofs.NodeSteps.{root_is_some}
+use Rattle.group_tree.proofs.AdmissionWalk.{admits_itself, admits_none, admits_child, admits_down, admits_decided}
+use Rattle.group_tree.proofs.NodeBoxes.{opened}
 use Rattle.group_tree.proofs.node.Node.+admits.Goals as goal
 
 pub admits-requires : goal.admits-requires

@@ -1,9 +1,9 @@
 use Rattle.std.proofs.Common.{rules, sym, subst, arith}
 use Rattle.group_tree.specs.Node.{HasAscendingNames}
-use Rattle.group_tree.proofs.Copies.{falls_child, child_at_smaller}
+use Rattle.group_tree.proofs.NodeCopies.{falls_child, child_at_smaller}
 use Rattle.group_tree.proofs.Walk.{find_none}
 use Rattle.group_tree.proofs.NamesBelow.{names_here, names_down}
-use Rattle.group_tree.proofs.Boxed.{opened}
+use Rattle.group_tree.proofs.NodeBoxes.{opened}
 use Rattle.group_tree.proofs.node.Node.+child_names.Goals as goal
 
 pub returns-in-None : goal.returns-in-None

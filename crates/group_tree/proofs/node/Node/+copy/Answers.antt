@@ -1,7 +1,7 @@
 use Rattle.std.proofs.Common.{rules, arith}
 use Rattle.std.proofs.lemmas.Grind.{common_steps}
-use Rattle.group_tree.proofs.Copies.{falls_child, child_smaller, copied_node}
-use Rattle.group_tree.proofs.Boxed.{opened, still_node, still_named, copied_named}
+use Rattle.group_tree.proofs.NodeCopies.{falls_child, child_smaller, copied_node}
+use Rattle.group_tree.proofs.NodeBoxes.{opened, still_node, still_named, copied_named}
 use Rattle.group_tree.proofs.node.Node.+copy.Goals as goal
 
 pub loop-child-init : goal.loop-child-init

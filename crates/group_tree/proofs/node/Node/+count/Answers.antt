@@ -1,9 +1,9 @@
 use Rattle.std.proofs.Common.{ap, ◌∙◌}
 use Rattle.group_tree.specs.Refusals.{counted_by, stepped}
-use Rattle.group_tree.proofs.Changed.{child_changes, changes_at, changes_down, changes_none, changed_node}
-use Rattle.group_tree.proofs.Refused.{counted_along, counts_here}
-use Rattle.group_tree.proofs.Steps.{edited_at}
-use Rattle.group_tree.proofs.Boxed.{opened, children_of, still_named}
+use Rattle.group_tree.proofs.PathChanges.{child_changes, changes_at, changes_down, changes_none, changed_node}
+use Rattle.group_tree.proofs.NodeTotals.{counted_along, counts_here}
+use Rattle.group_tree.proofs.NodeSteps.{edited_at}
+use Rattle.group_tree.proofs.NodeBoxes.{opened, children_of, still_named}
 use Rattle.group_tree.proofs.node.Node.+count.Goals as goal
 
 pub invariant_of-self-in-Ok : goal.invariant_of-self-in-Ok

@@ -1,7 +1,7 @@
 use Rattle.std.proofs.Common.{sym, ◌∙◌}
 use Rattle.group_tree.proofs.Walk.{find_here, find_down, find_none}
 use Rattle.group_tree.proofs.Descendants.{counts_here, counts_down}
-use Rattle.group_tree.proofs.Boxed.{opened}
+use Rattle.group_tree.proofs.NodeBoxes.{opened}
 use Rattle.group_tree.proofs.node.Node.+find_with_descendants.Goals as goal
 
 pub returns-in-None-clause-found : goal.returns-in-None-clause-found

@@ -1,10 +1,10 @@
 use Rattle.std.proofs.Common.{ap, sym, refl, is_some, Ok, Err, ◌+◌, ◌%◌, ◌^◌}
 use Rattle.group_tree.specs.Node.{NodeInserts}
 use Rattle.group_tree.proofs.Walk.{find_here}
-use Rattle.group_tree.proofs.Steps.{root_is_some, edited_at}
-use Rattle.group_tree.proofs.Inserted.{inserts_at, inserts_down, adds_leaf, no_parent, leaf_ok, leaf_err}
-use Rattle.group_tree.proofs.Counted.{grown_node, refused_node}
-use Rattle.group_tree.proofs.Boxed.{opened, children_of, still_node, still_groups, still_named}
+use Rattle.group_tree.proofs.NodeSteps.{root_is_some, edited_at}
+use Rattle.group_tree.proofs.NodeInsertion.{inserts_at, inserts_down, adds_leaf, no_parent, leaf_ok, leaf_err}
+use Rattle.group_tree.proofs.NodeCounts.{grown_node, refused_node}
+use Rattle.group_tree.proofs.NodeBoxes.{opened, children_of, still_node, still_groups, still_named}
 use Rattle.group_tree.proofs.node.Node.+insert.Goals as goal
 
 pub invariant_of-self : goal.invariant_of-self

@@ -2,8 +2,8 @@ use Rattle.std.proofs.Common.{rules, sym, ◌∙◌}
 use Rattle.group_tree.proofs.Walk.{find_none, find_down}
 use Rattle.group_tree.proofs.Chains.{chain_here, chain_step, at_false, at_true, not_both}
 use Rattle.group_tree.proofs.InPlace.{pushes_below, refused_below, pushes_one, push_refused}
-use Rattle.group_tree.proofs.Copies.{falls_child, child_at_smaller}
-use Rattle.group_tree.proofs.Boxed.{opened}
+use Rattle.group_tree.proofs.NodeCopies.{falls_child, child_at_smaller}
+use Rattle.group_tree.proofs.NodeBoxes.{opened}
 use Rattle.group_tree.proofs.node.Node.+push_chain.Goals as goal
 
 pub push_chain-requires : goal.push_chain-requires

@@ -1,10 +1,10 @@
 use Rattle.std.proofs.Common.{sym, refl, Ok, Err, [], ◌∷◌, ◌+◌, ◌-◌, ◌%◌, ◌^◌}
 use Rattle.group_tree.specs.Node.{NodeRemoves}
 use Rattle.group_tree.proofs.Walk.{find_none}
-use Rattle.group_tree.proofs.Steps.{edited_at}
-use Rattle.group_tree.proofs.Removed.{removes_at, removes_down, removes_here, taken}
-use Rattle.group_tree.proofs.Counted.{shrunk_node, stayed_node}
-use Rattle.group_tree.proofs.Boxed.{opened, children_of, still_node, still_groups, still_named}
+use Rattle.group_tree.proofs.NodeSteps.{edited_at}
+use Rattle.group_tree.proofs.NodeRemoval.{removes_at, removes_down, removes_here, taken}
+use Rattle.group_tree.proofs.NodeCounts.{shrunk_node, stayed_node}
+use Rattle.group_tree.proofs.NodeBoxes.{opened, children_of, still_node, still_groups, still_named}
 use Rattle.group_tree.proofs.node.Node.+remove.Goals as goal
 
 pub invariant_of-self : goal.invariant_of-self

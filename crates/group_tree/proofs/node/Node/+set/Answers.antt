@@ -1,9 +1,9 @@
 use Rattle.std.proofs.Common.{sym, refl}
 use Rattle.group_tree.proofs.Walk.{find_none}
-use Rattle.group_tree.proofs.Steps.{edited_at}
-use Rattle.group_tree.proofs.SetTo.{sets_here_by, sets_down_by}
-use Rattle.group_tree.proofs.Counted.{set_node}
-use Rattle.group_tree.proofs.Boxed.{opened, children_of, still_named}
+use Rattle.group_tree.proofs.NodeSteps.{edited_at}
+use Rattle.group_tree.proofs.NodeAttributes.{sets_here_by, sets_down_by}
+use Rattle.group_tree.proofs.NodeCounts.{set_node}
+use Rattle.group_tree.proofs.NodeBoxes.{opened, children_of, still_named}
 use Rattle.group_tree.proofs.node.Node.+set.Goals as goal
 
 pub invariant_of-self-in-Ok : goal.invariant_of-self-in-Ok

@@ -1,10 +1,10 @@
 use Rattle.std.proofs.Common.{rules, arith, refl, ◌∙◌}
 use Rattle.group_tree.specs.PeaksAlong.{peaked_by}
-use Rattle.group_tree.proofs.Copies.{child_at_smaller}
-use Rattle.group_tree.proofs.Changed.{child_changes, changes_at, changes_down, changes_none, changed_node}
-use Rattle.group_tree.proofs.PeaksSet.{split_peaks, peaked_along}
-use Rattle.group_tree.proofs.Steps.{edited_at}
-use Rattle.group_tree.proofs.Boxed.{opened, children_of, still_named}
+use Rattle.group_tree.proofs.NodeCopies.{child_at_smaller}
+use Rattle.group_tree.proofs.PathChanges.{child_changes, changes_at, changes_down, changes_none, changed_node}
+use Rattle.group_tree.proofs.NodePeaks.{split_peaks, peaked_along}
+use Rattle.group_tree.proofs.NodeSteps.{edited_at}
+use Rattle.group_tree.proofs.NodeBoxes.{opened, children_of, still_named}
 use Rattle.group_tree.proofs.node.Node.+set_peaks.Goals as goal
 
 pub set_peaks-requires : goal.set_peaks-requires

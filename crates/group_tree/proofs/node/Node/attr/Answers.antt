@@ -1,5 +1,5 @@
-use Rattle.group_tree.proofs.Steps.{own_attr}
-use Rattle.group_tree.proofs.Boxed.{opened}
+use Rattle.group_tree.proofs.NodeSteps.{own_attr}
+use Rattle.group_tree.proofs.NodeBoxes.{opened}
 use Rattle.group_tree.proofs.node.Node.attr.Goals as goal
 
 pub returns : goal.returns

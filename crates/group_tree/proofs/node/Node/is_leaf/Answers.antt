@@ -1,6 +1,6 @@
 use Rattle.std.proofs.Common.{sym}
-use Rattle.group_tree.proofs.Removed.{has_child}
-use Rattle.group_tree.proofs.Boxed.{opened}
+use Rattle.group_tree.proofs.NodeRemoval.{has_child}
+use Rattle.group_tree.proofs.NodeBoxes.{opened}
 use Rattle.group_tree.proofs.node.Node.is_leaf.Goals as goal
 
 pub returns-else-is_empty : goal.returns-else-is_empty

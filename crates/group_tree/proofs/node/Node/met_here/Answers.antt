@@ -1,8 +1,8 @@
 use Rattle.std.proofs.Common.{true, false, refl}
 use Rattle.flat_model.specs.Counts.{reaches}
 use Rattle.group_tree.specs.Flat.{limit_of}
-use Rattle.group_tree.proofs.LimitsMet.{met_by}
-use Rattle.group_tree.proofs.Boxed.{opened}
+use Rattle.group_tree.proofs.NodeLimits.{met_by}
+use Rattle.group_tree.proofs.NodeBoxes.{opened}
 use Rattle.group_tree.proofs.node.Node.met_here.Goals as goal
 
 pub returns-then-is_reached : goal.returns-then-is_reached

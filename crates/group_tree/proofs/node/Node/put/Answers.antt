@@ -1,6 +1,6 @@
-use Rattle.group_tree.proofs.SetTo.{sets_here}
+use Rattle.group_tree.proofs.NodeAttributes.{sets_here}
 use Rattle.std.proofs.Common.{refl}
-use Rattle.group_tree.proofs.Boxed.{opened}
+use Rattle.group_tree.proofs.NodeBoxes.{opened}
 use Rattle.group_tree.proofs.node.Node.put.Goals as goal
 
 pub returns-clause-groups : goal.returns-clause-groups

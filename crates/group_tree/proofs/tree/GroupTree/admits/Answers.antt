@@ -1,4 +1,4 @@
-use Rattle.group_tree.proofs.Admitted.{admits_at}
+use Rattle.group_tree.proofs.AdmissionWalk.{admits_at}
 use Rattle.group_tree.proofs.tree.GroupTree.admits.Goals as goal
 
 pub returns : goal.returns

@@ -1,6 +1,6 @@
 use Rattle.std.proofs.Common.{subst}
 use Rattle.group_tree.specs.Groups.{Groups, IsClosed}
-use Rattle.group_tree.proofs.Prefixes.{prefix_there}
+use Rattle.group_tree.proofs.GroupPrefixes.{prefix_there}
 use Rattle.group_tree.proofs.Flat.{counts_as_flat}
 use Rattle.group_tree.proofs.tree.GroupTree.known.Goals as goal
 

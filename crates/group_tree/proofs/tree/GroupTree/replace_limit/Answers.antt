@@ -3,8 +3,8 @@ use Rattle.flat_model.specs.Path.{Path}
 use Rattle.group_tree.specs.declared.set.Setting.TheVariants.{OneLimit}
 use Rattle.group_tree.specs.Groups.{Groups}
 use Rattle.group_tree.specs.Settings.{ReplacesAt}
-use Rattle.group_tree.proofs.Closed.{closed_sets}
-use Rattle.group_tree.proofs.Maps.{replaces}
+use Rattle.group_tree.proofs.ParentClosure.{closed_sets}
+use Rattle.group_tree.proofs.PathMaps.{replaces}
 use Rattle.group_tree.proofs.tree.GroupTree.replace_limit.Goals as goal
 
 pub invariant_of-self : goal.invariant_of-self

@@ -2,8 +2,8 @@ use Rattle.std.proofs.Common.{subst, take, sym}
 use Rattle.flat_model.specs.Path.{Path}
 use Rattle.group_tree.specs.declared.set.Setting.TheVariants.{Whole}
 use Rattle.group_tree.specs.Groups.{Groups, Sets}
-use Rattle.group_tree.proofs.Closed.{closed_sets}
-use Rattle.group_tree.proofs.Maps.{sets}
+use Rattle.group_tree.proofs.ParentClosure.{closed_sets}
+use Rattle.group_tree.proofs.PathMaps.{sets}
 use Rattle.group_tree.proofs.tree.GroupTree.set_at.Goals as goal
 
 pub invariant_of-self : goal.invariant_of-self

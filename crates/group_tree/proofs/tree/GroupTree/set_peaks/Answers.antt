@@ -1,5 +1,5 @@
 use Rattle.group_tree.specs.PeaksAlong.{peaked_by}
-use Rattle.group_tree.proofs.Changed.{closed_changes}
+use Rattle.group_tree.proofs.PathChanges.{closed_changes}
 use Rattle.group_tree.proofs.tree.GroupTree.set_peaks.Goals as goal
 
 pub invariant_of-self : goal.invariant_of-self

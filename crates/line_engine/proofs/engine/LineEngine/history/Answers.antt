@@ -1,7 +1,7 @@
 use Rattle.std.proofs.Common.{◌∙◌, ap, length, ◌-◌}
 use Rattle.line_engine.specs.Listings.{history_from, lines_bytes}
-use Rattle.line_engine.proofs.Lines.{length-history}
-use Rattle.line_engine.proofs.Told.{told_all}
+use Rattle.line_engine.proofs.HistoryLines.{length-history}
+use Rattle.line_engine.proofs.ListingBytes.{told_all}
 use Rattle.line_engine.proofs.engine.LineEngine.history.Goals as goal
 
 pub returns : goal.returns

@@ -4,7 +4,7 @@ use Rattle.undo_journal.specs.CommandMeaning.{command_of}
 use Rattle.undo_journal.specs.Timeline.{Timeline}
 use Rattle.line_engine.specs.LineAnswers.{AnswersRun}
 use Rattle.line_engine.specs.Ready.{ready_reply}
-use Rattle.line_engine.proofs.Runs.{by_reply, certain_back}
+use Rattle.line_engine.proofs.CommandAnswers.{by_reply, certain_back}
 use Rattle.line_engine.proofs.engine.LineEngine.run.Goals as goal
 
 pub take_untold_back-requires : goal.take_untold_back-requires

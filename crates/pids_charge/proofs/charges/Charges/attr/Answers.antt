@@ -1,6 +1,6 @@
 use Rattle.std.proofs.Common.{option_map, ap, ◌∙◌}
 use Rattle.group_tree.specs.Flat.{group_of}
-use Rattle.pids_charge.proofs.Asked.{group-get}
+use Rattle.pids_charge.proofs.FlatGroups.{group-get}
 use Rattle.pids_charge.proofs.charges.Charges.attr.Goals as goal
 
 pub returns : goal.returns

@@ -1,4 +1,4 @@
-use Rattle.pids_charge.proofs.ChildrenTold.{children-told}
+use Rattle.pids_charge.proofs.FlatChildren.{children-told}
 use Rattle.pids_charge.proofs.charges.Charges.child_names.Goals as goal
 
 pub returns : goal.returns

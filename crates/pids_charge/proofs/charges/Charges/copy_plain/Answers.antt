@@ -8,9 +8,9 @@ use Rattle.pids_charge.specs.Lists.{Row, table_slot}
 use Rattle.pids_charge.specs.Recount.{IsPlaced, SlotsBelow, HasParents, HasSlots, Recounted, state_of}
 use Rattle.pids_charge.specs.Table.{table_at, table_held}
 use Rattle.pids_charge.specs.declared.plain.TheConstants.{SLOTS, LEAVES}
-use Rattle.pids_charge.proofs.Charged.{held_small}
+use Rattle.pids_charge.proofs.MeterContents.{held_small}
 use Rattle.pids_charge.proofs.TableSlots.{one_home}
-use Rattle.pids_charge.proofs.Copied.{same_state, recounted}
+use Rattle.pids_charge.proofs.TableCopies.{same_state, recounted}
 use Rattle.pids_charge.proofs.charges.Charges.copy_plain.Goals as goal
 
 pub copy_each-requires-clause-one : goal.copy_each-requires-clause-one

@@ -5,10 +5,10 @@ use Rattle.flat_model.specs.State.{State}
 use Rattle.flat_model.specs.Step.{home_of, at_each, count_up}
 use Rattle.group_tree.specs.Flat.{group_of}
 use Rattle.pids_charge.specs.Recount.{state_of}
-use Rattle.pids_charge.proofs.Asked.{group-at, process-is}
+use Rattle.pids_charge.proofs.FlatGroups.{group-at, process-is}
 use Rattle.pids_charge.proofs.Changes.{parents_stay, slots_stay, charges_stay}
-use Rattle.pids_charge.proofs.Charged.{found_placed}
-use Rattle.pids_charge.proofs.Forked.{home_at}
+use Rattle.pids_charge.proofs.MeterContents.{found_placed}
+use Rattle.pids_charge.proofs.ForkOutcomes.{home_at}
 use Rattle.pids_charge.proofs.charges.Charges.count_fork.Goals as goal
 
 pub unreachable-requires : goal.unreachable-requires

@@ -3,8 +3,8 @@ use Rattle.std.specs.FinMap as fin
 use Rattle.flat_model.specs.State.{State}
 use Rattle.flat_model.specs.Counts as flat
 use Rattle.pids_charge.specs.Recount.{state_of}
-use Rattle.pids_charge.proofs.Asked.{group-is}
-use Rattle.pids_charge.proofs.Read.{matched}
+use Rattle.pids_charge.proofs.FlatGroups.{group-is}
+use Rattle.pids_charge.proofs.GroupReads.{matched}
 use Rattle.pids_charge.proofs.charges.Charges.descendants.Goals as goal
 
 pub returns-clause-some : goal.returns-clause-some

@@ -1,9 +1,9 @@
 use Rattle.std.proofs.Common.{◌≡◌, true, false, Option, [], is_some, unwrap_or, option_map, sym, ap, ◌∙◌}
 use Rattle.flat_model.specs.Path.{Path}
 use Rattle.pids_charge.specs.Recount.{state_of}
-use Rattle.pids_charge.proofs.Asked.{home-is, process-is}
-use Rattle.pids_charge.proofs.Charged.{one_there, found_placed, taken}
-use Rattle.pids_charge.proofs.Exited.{exit_no_process, exit_allowed, exited-is}
+use Rattle.pids_charge.proofs.FlatGroups.{home-is, process-is}
+use Rattle.pids_charge.proofs.MeterContents.{one_there, found_placed, taken}
+use Rattle.pids_charge.proofs.ProcessExits.{exit_no_process, exit_allowed, exited-is}
 use Rattle.pids_charge.proofs.charges.Charges.exit.Goals as goal
 
 pub returns-in_default-clause-state : goal.returns-in_default-clause-state

@@ -1,5 +1,5 @@
 use Rattle.std.proofs.Common.{option_map, option_copied, sym, ap, ◌∙◌}
-use Rattle.pids_charge.proofs.Asked.{home-is}
+use Rattle.pids_charge.proofs.FlatGroups.{home-is}
 use Rattle.pids_charge.proofs.charges.Charges.home.Goals as goal
 
 pub returns-in-Some : goal.returns-in-Some

@@ -14,8 +14,8 @@ use Rattle.process_table.specs.declared.process.Process.{Process}
 use Rattle.pids_charge.proofs.Entries.{kept_keys}
 use Rattle.pids_charge.proofs.Gathers.{left_rows, lost_rows}
 use Rattle.pids_charge.proofs.TableSlots.{one_home}
-use Rattle.pids_charge.proofs.Charged.{held_small, inside_there, killed}
-use Rattle.pids_charge.proofs.Listing.{lost-is, killed-is}
+use Rattle.pids_charge.proofs.MeterContents.{held_small, inside_there, killed}
+use Rattle.pids_charge.proofs.KillLists.{lost-is, killed-is}
 use Rattle.pids_charge.proofs.charges.Charges.kill_by.Goals as goal
 
 pub settle-requires-clause-charged : goal.settle-requires-clause-charged

@@ -1,4 +1,4 @@
-use Rattle.pids_charge.proofs.Asked.{make_open}
+use Rattle.pids_charge.proofs.FlatGroups.{make_open}
 use Rattle.pids_charge.proofs.charges.Charges.make_group.Goals as goal
 
 pub restore-requires-clause-new : goal.restore-requires-clause-new

@@ -1,6 +1,6 @@
 use Rattle.std.proofs.Common.{sym, ◌∙◌}
 use Rattle.flat_model.specs.Step.{home_of}
-use Rattle.pids_charge.proofs.Forked.{fork_there, fork_free}
+use Rattle.pids_charge.proofs.ForkOutcomes.{fork_there, fork_free}
 use Rattle.pids_charge.proofs.MemoryFault.{out_of_memory_only}
 use Rattle.pids_charge.proofs.charges.Charges.make_process.Goals as goal
 

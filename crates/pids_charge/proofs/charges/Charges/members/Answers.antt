@@ -4,11 +4,11 @@ use Rattle.std.specs.Map.{keys_of, lookup}
 use Rattle.std.specs.Ordering.{nat_cmp}
 use Rattle.std.proofs.lemmas.List.Elements.{All-weaker}
 use Rattle.std.proofs.lemmas.Bool.{false≢true}
-use Rattle.pids_charge.proofs.Asked.{group-is}
+use Rattle.pids_charge.proofs.FlatGroups.{group-is}
 use Rattle.pids_charge.proofs.TableSlots.{members_by_slot, found_key}
 use Rattle.flat_model.specs.CommandText.{IsPid}
 use Rattle.pids_charge.specs.Lists.{Row}
-use Rattle.pids_charge.proofs.Read.{members-is}
+use Rattle.pids_charge.proofs.GroupReads.{members-is}
 use Rattle.pids_charge.proofs.charges.Charges.members.Goals as goal
 
 pub returns-in_default-clause-listed : goal.returns-in_default-clause-listed

@@ -5,8 +5,8 @@ use Rattle.pids_charge.specs.Lists.{Row, process_in}
 use Rattle.std.specs.Vec.{vec_capacity}
 use Rattle.pids_charge.specs.Recount.{IsWhole}
 use Rattle.process_table.specs.declared.process.Process.{Process}
-use Rattle.pids_charge.proofs.Charged.{held_small, one_there, found_placed, moved}
-use Rattle.pids_charge.proofs.Asked.{home-is, process-is, moved-is, there-is}
+use Rattle.pids_charge.proofs.MeterContents.{held_small, one_there, found_placed, moved}
+use Rattle.pids_charge.proofs.FlatGroups.{home-is, process-is, moved-is, there-is}
 use Rattle.pids_charge.proofs.charges.Charges.move_back.Goals as goal
 
 pub unreachable-requires : goal.unreachable-requires

@@ -6,7 +6,7 @@ use Rattle.process_table.specs.declared.process.Process.{Process}
 use Rattle.std.specs.BTreeMap.{insert_entry}
 use Rattle.std.specs.Ordering.{nat_cmp}
 use Rattle.std.specs.Vec.{vec_capacity}
-use Rattle.pids_charge.proofs.Starts.{start-is, started}
+use Rattle.pids_charge.proofs.StartState.{start-is, started}
 use Rattle.pids_charge.proofs.charges.Charges.new.Goals as goal
 
 pub invariant_of-result : goal.invariant_of-result

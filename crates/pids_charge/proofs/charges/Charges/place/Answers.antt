@@ -3,8 +3,8 @@ use Rattle.pids_charge.specs.Lists.{Row, process_in}
 use Rattle.pids_charge.specs.Recount.{IsWhole}
 use Rattle.process_table.specs.declared.process.Process.{Process}
 use Rattle.std.specs.Vec.{vec_capacity}
-use Rattle.pids_charge.proofs.Asked.{there-is, no_home, moved-is}
-use Rattle.pids_charge.proofs.Charged.{held_small, added}
+use Rattle.pids_charge.proofs.FlatGroups.{there-is, no_home, moved-is}
+use Rattle.pids_charge.proofs.MeterContents.{held_small, added}
 use Rattle.pids_charge.proofs.charges.Charges.place.Goals as goal
 
 pub slot_in-slot-requires-clause-group : goal.slot_in-slot-requires-clause-group

@@ -11,10 +11,10 @@ use Rattle.pids_charge.specs.Content.{Content}
 use Rattle.pids_charge.specs.Lists.{rows_of}
 use Rattle.pids_charge.specs.Recount.{state_of, charges_at}
 use Rattle.snzi_tokens.specs.declared.token.Token.{Token}
-use Rattle.pids_charge.proofs.Charged.{held_small, placed}
+use Rattle.pids_charge.proofs.MeterContents.{held_small, placed}
 use Rattle.pids_charge.proofs.Entries.{home_rows, to_sorted, not_found, find_new}
-use Rattle.pids_charge.proofs.Listed.{placed-is}
-use Rattle.pids_charge.proofs.Asked.{there-is}
+use Rattle.pids_charge.proofs.ListedProcesses.{placed-is}
+use Rattle.pids_charge.proofs.FlatGroups.{there-is}
 use Rattle.pids_charge.proofs.charges.Charges.place_listed.Goals as goal
 
 pub place_each-requires-clause-new : goal.place_each-requires-clause-new

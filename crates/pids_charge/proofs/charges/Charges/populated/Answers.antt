@@ -4,9 +4,9 @@ use Rattle.flat_model.specs.State.{State}
 use Rattle.flat_model.specs.Counts.{current}
 use Rattle.group_tree.specs.Groups.{slot_of}
 use Rattle.snzi_tokens.specs.Listed.{over_leaves}
-use Rattle.pids_charge.proofs.Asked.{group-by, asked}
-use Rattle.pids_charge.proofs.Read.{is_positive}
-use Rattle.pids_charge.proofs.Counted.{current-is}
+use Rattle.pids_charge.proofs.FlatGroups.{group-by, asked}
+use Rattle.pids_charge.proofs.GroupReads.{is_positive}
+use Rattle.pids_charge.proofs.PathCharges.{current-is}
 use Rattle.pids_charge.proofs.charges.Charges.populated.Goals as goal
 
 pub returns-in_default-clause-some : goal.returns-in_default-clause-some

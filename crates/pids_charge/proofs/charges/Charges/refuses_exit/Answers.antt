@@ -1,6 +1,6 @@
 use Rattle.std.proofs.Common.{sym, ◌∙◌}
-use Rattle.pids_charge.proofs.Asked.{process-is}
-use Rattle.pids_charge.proofs.Exited.{exit_no_process, exit_allowed}
+use Rattle.pids_charge.proofs.FlatGroups.{process-is}
+use Rattle.pids_charge.proofs.ProcessExits.{exit_no_process, exit_allowed}
 use Rattle.pids_charge.proofs.charges.Charges.refuses_exit.Goals as goal
 
 pub returns-then-not-has_row-clause-first : goal.returns-then-not-has_row-clause-first

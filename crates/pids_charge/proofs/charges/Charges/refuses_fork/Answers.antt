@@ -4,9 +4,9 @@ use Rattle.flat_model.specs.Path.{Path}
 use Rattle.flat_model.specs.State.{State}
 use Rattle.flat_model.specs.Step.{refusal, home_of}
 use Rattle.pids_charge.specs.Answers.{refusal_of_fault}
-use Rattle.pids_charge.proofs.Asked.{process-is}
-use Rattle.pids_charge.proofs.Charged.{found_placed}
-use Rattle.pids_charge.proofs.Forked.{home_at, fork_asks}
+use Rattle.pids_charge.proofs.FlatGroups.{process-is}
+use Rattle.pids_charge.proofs.MeterContents.{found_placed}
+use Rattle.pids_charge.proofs.ForkOutcomes.{home_at, fork_asks}
 use Rattle.pids_charge.proofs.charges.Charges.refuses_fork.Goals as goal
 
 pub nearest_full-requires-clause-home : goal.nearest_full-requires-clause-home

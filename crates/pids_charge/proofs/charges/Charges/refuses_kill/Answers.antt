@@ -1,5 +1,5 @@
 use Rattle.std.proofs.Common.{◌<◌, length, not, arith, ap, ◌∙◌}
-use Rattle.pids_charge.proofs.Asked.{group-found, kill_no_group, kill_allowed}
+use Rattle.pids_charge.proofs.FlatGroups.{group-found, kill_no_group, kill_allowed}
 use Rattle.pids_charge.proofs.charges.Charges.refuses_kill.Goals as goal
 
 pub returns-then-is_none-clause-first : goal.returns-then-is_none-clause-first

@@ -1,7 +1,7 @@
 use Rattle.std.proofs.Common.{not, sym, ap, ◌∙◌}
 use Rattle.group_tree.specs.Flat.{limit_file_of}
-use Rattle.pids_charge.proofs.Asked.{group-found}
-use Rattle.pids_charge.proofs.Limited.{limit_no_file, limit_no_group, limit_allowed}
+use Rattle.pids_charge.proofs.FlatGroups.{group-found}
+use Rattle.pids_charge.proofs.LimitWrites.{limit_no_file, limit_no_group, limit_allowed}
 use Rattle.pids_charge.proofs.charges.Charges.refuses_limit.Goals as goal
 
 pub returns-then-is_missing-clause-first : goal.returns-then-is_missing-clause-first

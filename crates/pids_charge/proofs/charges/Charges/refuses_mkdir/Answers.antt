@@ -4,7 +4,7 @@ use Rattle.flat_model.specs.Path.{parent}
 use Rattle.flat_model.specs.Counts.{is_group}
 use Rattle.flat_model.specs.Command as model
 use Rattle.group_tree.specs.Limits.{refusal_along}
-use Rattle.pids_charge.proofs.Asked.{group-is, stands-is, len-is, make_exists, make_no_parent, make_blocked, make_full, make_allowed}
+use Rattle.pids_charge.proofs.FlatGroups.{group-is, stands-is, len-is, make_exists, make_no_parent, make_blocked, make_full, make_allowed}
 use Rattle.pids_charge.proofs.charges.Charges.refuses_mkdir.Goals as goal
 
 pub returns-in-Exists-clause-first : goal.returns-in-Exists-clause-first

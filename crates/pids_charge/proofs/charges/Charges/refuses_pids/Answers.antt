@@ -3,7 +3,7 @@ use Rattle.flat_model.specs.Command.{Fork}
 use Rattle.flat_model.specs.State.{State}
 use Rattle.flat_model.specs.Step.{refusal}
 use Rattle.pids_charge.specs.Answers.{refusal_of_fault}
-use Rattle.pids_charge.proofs.Asked.{process-is}
+use Rattle.pids_charge.proofs.FlatGroups.{process-is}
 use Rattle.pids_charge.proofs.charges.Charges.refuses_pids.Goals as goal
 
 pub returns-in-Ok-clause-first : goal.returns-in-Ok-clause-first

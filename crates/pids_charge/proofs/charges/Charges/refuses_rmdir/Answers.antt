@@ -7,8 +7,8 @@ use Rattle.flat_model.specs.State.{State}
 use Rattle.flat_model.specs.Counts.{current, descendant_count, populated}
 use Rattle.group_tree.specs.Groups.{slot_of}
 use Rattle.snzi_tokens.specs.Listed.{over_leaves}
-use Rattle.pids_charge.proofs.Counted.{current-is}
-use Rattle.pids_charge.proofs.Read.{is_positive}
+use Rattle.pids_charge.proofs.PathCharges.{current-is}
+use Rattle.pids_charge.proofs.GroupReads.{is_positive}
 use Rattle.pids_charge.proofs.Removals.{any-count, processes-are, group-here, group-gone, below-is, remove_no_group, remove_children, remove_processes, remove_allowed}
 use Rattle.pids_charge.proofs.charges.Charges.refuses_rmdir.Goals as goal
 

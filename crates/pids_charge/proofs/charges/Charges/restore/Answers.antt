@@ -8,9 +8,9 @@ use Rattle.pids_charge.specs.Recount.{HasParents, HasSlots}
 use Rattle.group_tree.specs.Flat.{group_of}
 use Rattle.pids_charge.proofs.InRows.{in_that_case}
 use Rattle.pids_charge.proofs.Slots.{has_names, has_slots, has_parents, not_mapped, not_used, was_free, last-is, kept}
-use Rattle.pids_charge.proofs.Charged.{grown_tree}
-use Rattle.pids_charge.proofs.Asked.{group-get, len-is, there-is}
-use Rattle.pids_charge.proofs.Limited.{written-is}
+use Rattle.pids_charge.proofs.MeterContents.{grown_tree}
+use Rattle.pids_charge.proofs.FlatGroups.{group-get, len-is, there-is}
+use Rattle.pids_charge.proofs.LimitWrites.{written-is}
 use Rattle.pids_charge.proofs.charges.Charges.restore.Goals as goal
 
 pub overflow_sub-last : goal.overflow_sub-last

@@ -4,9 +4,9 @@ use Rattle.flat_model.specs.Step.{limit_at}
 use Rattle.group_tree.specs.Flat.{limit_file_of, limit_of}
 use Rattle.group_tree.specs.Groups.{Groups, IsClosed}
 use Rattle.pids_charge.specs.Recount.{SameSlots, IsWhole, state_of}
-use Rattle.pids_charge.proofs.Asked.{group-is}
+use Rattle.pids_charge.proofs.FlatGroups.{group-is}
 use Rattle.pids_charge.proofs.Changes.{changed_slots, parents_stay, slots_stay, charges_stay}
-use Rattle.pids_charge.proofs.Limited.{limit_no_group, limit_allowed, attr-is, limited-is}
+use Rattle.pids_charge.proofs.LimitWrites.{limit_no_group, limit_allowed, attr-is, limited-is}
 use Rattle.pids_charge.proofs.charges.Charges.set_limit.Goals as goal
 
 pub invariant_of-self : goal.invariant_of-self

@@ -8,7 +8,7 @@ use Rattle.flat_model.proofs.PathLaws.{path_cmp-IsTotalOrder, path_cmp-IsAntisym
 use Rattle.group_tree.specs.Flat.{group_of}
 use Rattle.group_tree.specs.Groups.{Groups, IsClosed}
 use Rattle.pids_charge.specs.Recount.{HasParents, HasSlots, Recounted, state_of}
-use Rattle.pids_charge.proofs.Asked.{group-at}
+use Rattle.pids_charge.proofs.FlatGroups.{group-at}
 use Rattle.pids_charge.proofs.Removals.{MayGo, remove_may, is_group_there, not_refused, has_below, not_root, freed, parents_left, room, nobody}
 use Rattle.pids_charge.proofs.charges.Charges.take_group.Goals as goal
 

@@ -7,11 +7,11 @@ use Rattle.pids_charge.specs.Lists.{Row, table_slot}
 use Rattle.pids_charge.specs.Peaks.{IsNoted, raised_by}
 use Rattle.pids_charge.specs.Recount.{Recounted, with_charges}
 use Rattle.process_table.specs.declared.process.Process.{Process}
-use Rattle.pids_charge.proofs.Asked.{process-is}
+use Rattle.pids_charge.proofs.FlatGroups.{process-is}
 use Rattle.pids_charge.proofs.Changes.{parents_stay, slots_stay}
-use Rattle.pids_charge.proofs.Charged.{held_small, found_placed, same_meter}
-use Rattle.pids_charge.proofs.Forked.{home_at, fork_asks, not_there, made_recounted, made_state}
-use Rattle.pids_charge.proofs.PeaksRaised.{noted}
+use Rattle.pids_charge.proofs.MeterContents.{held_small, found_placed, same_meter}
+use Rattle.pids_charge.proofs.ForkOutcomes.{home_at, fork_asks, not_there, made_recounted, made_state}
+use Rattle.pids_charge.proofs.PeakRises.{noted}
 use Rattle.pids_charge.proofs.charges.Charges.try_process.Goals as goal
 
 pub unreachable-requires : goal.unreachable-requires

@@ -2,7 +2,7 @@ use Rattle.std.proofs.Common.{ap, ◌∙◌}
 use Rattle.flat_model.specs.State.{State}
 use Rattle.flat_model.specs.Inverse.{back, Counted}
 use Rattle.pids_charge.specs.Recount.{state_of}
-use Rattle.pids_charge.proofs.Asked.{there-is}
+use Rattle.pids_charge.proofs.FlatGroups.{there-is}
 use Rattle.pids_charge.proofs.Changes.{parents_stay, slots_stay, charges_stay}
 use Rattle.pids_charge.proofs.charges.Charges.uncount.Goals as goal
 

@@ -1,4 +1,4 @@
-use Rattle.pids_charge.proofs.RowsRead.{admits_too}
+use Rattle.pids_charge.proofs.RowReads.{admits_too}
 use Rattle.pids_charge.proofs.groups.GroupTable.admits.Goals as goal
 
 pub returns : goal.returns

@@ -1,4 +1,4 @@
-use Rattle.pids_charge.proofs.RowsRead.{names_too}
+use Rattle.pids_charge.proofs.RowReads.{names_too}
 use Rattle.pids_charge.proofs.groups.GroupTable.child_names.Goals as goal
 
 pub returns : goal.returns

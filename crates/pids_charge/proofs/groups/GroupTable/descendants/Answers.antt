@@ -1,4 +1,4 @@
-use Rattle.pids_charge.proofs.RowsRead.{counted_too, exact_too}
+use Rattle.pids_charge.proofs.RowReads.{counted_too, exact_too}
 use Rattle.pids_charge.proofs.groups.GroupTable.descendants.Goals as goal
 
 pub returns-clause-counted : goal.returns-clause-counted

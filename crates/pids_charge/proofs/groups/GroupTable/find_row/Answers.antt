@@ -1,7 +1,7 @@
 use Rattle.std.proofs.Common.{option_copied, sym, ap, ◌∙◌}
 use Rattle.std.specs.FinMap as fin
 use Rattle.pids_charge.proofs.InRows.{number_is, absent_is}
-use Rattle.pids_charge.proofs.Kept.{numbered}
+use Rattle.pids_charge.proofs.PathRows.{numbered}
 use Rattle.pids_charge.proofs.groups.GroupTable.find_row.Goals as goal
 
 pub returns-in-Some : goal.returns-in-Some

@@ -1,6 +1,6 @@
 use Rattle.std.proofs.Common.{get_or, arith, sym, ap, ◌∙◌}
 use Rattle.pids_charge.proofs.InRows.{found_is, absent_is}
-use Rattle.pids_charge.proofs.RowsRead.{below_too, exact_below}
+use Rattle.pids_charge.proofs.RowReads.{below_too, exact_below}
 use Rattle.pids_charge.proofs.groups.GroupTable.find_with_descendants.Goals as goal
 
 pub index-requires : goal.index-requires

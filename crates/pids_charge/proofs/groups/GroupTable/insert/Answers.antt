@@ -4,10 +4,10 @@ use Rattle.group_tree.specs.Groups.{Groups}
 use Rattle.group_tree.specs.declared.attr.Attr.{Attr}
 use Rattle.flat_model.specs.Path.{Path}
 use Rattle.pids_charge.specs.GroupRows.{HasRows, KeepsPaths, with_rows}
-use Rattle.pids_charge.proofs.Asked.{inserted}
+use Rattle.pids_charge.proofs.FlatGroups.{inserted}
 use Rattle.pids_charge.proofs.InRows.{in_any_case, long_is, long_rows, made_is, made_rows}
-use Rattle.pids_charge.proofs.Kept.{kept_alike, kept_made}
-use Rattle.pids_charge.proofs.RowsRead.{not_inserted}
+use Rattle.pids_charge.proofs.PathRows.{kept_alike, kept_made}
+use Rattle.pids_charge.proofs.RowReads.{not_inserted}
 use Rattle.pids_charge.proofs.groups.GroupTable.insert.Goals as goal
 
 pub invariant_of-self : goal.invariant_of-self

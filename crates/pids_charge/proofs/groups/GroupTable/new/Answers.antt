@@ -1,8 +1,8 @@
 use Rattle.std.proofs.Common.{[], ◌∷◌, ◌++◌, List, ap, sym, ◌∙◌, subst}
 use Rattle.group_tree.specs.declared.attr.Attr.{Attr}
 use Rattle.pids_charge.specs.GroupRows.{HasRows, with_rows}
-use Rattle.pids_charge.proofs.Kept.{none_kept}
-use Rattle.pids_charge.proofs.RowsRead.{alone_is, alone_rows}
+use Rattle.pids_charge.proofs.PathRows.{none_kept}
+use Rattle.pids_charge.proofs.RowReads.{alone_is, alone_rows}
 use Rattle.pids_charge.proofs.groups.GroupTable.new.Goals as goal
 
 pub invariant_of-result : goal.invariant_of-result

@@ -2,8 +2,8 @@ use Rattle.std.proofs.Common.{get_or, arith, sym, ap, ◌∙◌, subst}
 use Rattle.group_tree.specs.Groups.{Groups}
 use Rattle.pids_charge.specs.GroupRows.{HasTable, with_rows}
 use Rattle.pids_charge.proofs.InRows.{absent_is, found_is, left_is, left_rows}
-use Rattle.pids_charge.proofs.Kept.{kept_left}
-use Rattle.pids_charge.proofs.RowsRead.{not_removed, refused_too}
+use Rattle.pids_charge.proofs.PathRows.{kept_left}
+use Rattle.pids_charge.proofs.RowReads.{not_removed, refused_too}
 use Rattle.pids_charge.proofs.groups.GroupTable.remove.Goals as goal
 
 pub index-requires : goal.index-requires

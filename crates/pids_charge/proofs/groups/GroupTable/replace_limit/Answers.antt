@@ -5,8 +5,8 @@ use Rattle.group_tree.specs.Flat.{limit_of, limit_file_of, limits_of}
 use Rattle.group_tree.specs.declared.attr.Attr.{Attr}
 use Rattle.pids_charge.specs.GroupRows.{HasRows, in_row, with_rows}
 use Rattle.pids_charge.proofs.InRows.{absent_is, found_is, limited_is, limited_rows, read_inside, same_attr}
-use Rattle.pids_charge.proofs.Kept.{kept_limited}
-use Rattle.pids_charge.proofs.RowsRead.{limits_alike}
+use Rattle.pids_charge.proofs.PathRows.{kept_limited}
+use Rattle.pids_charge.proofs.RowReads.{limits_alike}
 use Rattle.pids_charge.proofs.groups.GroupTable.replace_limit.Goals as goal
 
 pub returns-in_default : goal.returns-in_default

@@ -1,6 +1,6 @@
 use Rattle.std.proofs.Common.{◌<◌, ◌≤◌, rules, tests}
 use Rattle.std.proofs.lemmas.Iterator.{cases_from_any, YieldsList-from_slice}
-use Rattle.pids_charge.proofs.Below.{sum_positive}
+use Rattle.pids_charge.proofs.PositiveSums.{sum_positive}
 use Rattle.pids_charge.proofs.plain.Row.populated.Goals as goal
 
 pub returns : goal.returns

@@ -1,5 +1,5 @@
 use Rattle.std.proofs.Common.{◌/◌, ◌<◌, ◌≤◌, length, sym, ◌∙◌, arith}
-use Rattle.process_table.proofs.Paged.{cell_here, no_page}
+use Rattle.process_table.proofs.PageChanges.{cell_here, no_page}
 use Rattle.process_table.proofs.pages.Pages.get.Goals as goal
 
 pub returns-then-page-len : goal.returns-then-page-len

@@ -1,6 +1,6 @@
 use Rattle.std.proofs.Common.{◌/◌, ◌<◌, length, ap, ◌∙◌}
 use Rattle.process_table.specs.Cells.{cell_at}
-use Rattle.process_table.proofs.Paged.{same_cells, wrote_alike}
+use Rattle.process_table.proofs.PageChanges.{same_cells, wrote_alike}
 use Rattle.process_table.proofs.pages.Pages.grow.Goals as goal
 
 pub returns-in_err-lengthen-clause-same : goal.returns-in_err-lengthen-clause-same

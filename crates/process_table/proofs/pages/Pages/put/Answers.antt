@@ -1,7 +1,7 @@
 use Rattle.std.proofs.Common.{◌/◌, ◌%◌, ◌<◌, [], Some, length, subst, sym, ◌∙◌}
 use Rattle.std.proofs.lemmas.List.{get_or_read}
 use Rattle.process_table.specs.Cells.{HasPage}
-use Rattle.process_table.proofs.Paged.{cell_here, wrote, kept_within}
+use Rattle.process_table.proofs.PageChanges.{cell_here, wrote, kept_within}
 use Rattle.process_table.proofs.pages.Pages.put.Goals as goal
 
 pub returns-clause-before : goal.returns-clause-before

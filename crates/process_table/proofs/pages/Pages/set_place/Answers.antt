@@ -1,6 +1,6 @@
 use Rattle.std.proofs.Common.{◌/◌, ◌%◌, ◌<◌, ◌≤◌, None, length, option_map, get_or, refl, ap, arith}
 use Rattle.process_table.specs.Cells.{at_place}
-use Rattle.process_table.proofs.Paged.{cell_here, wrote, kept_read, no_page, none_there}
+use Rattle.process_table.proofs.PageChanges.{cell_here, wrote, kept_read, no_page, none_there}
 use Rattle.process_table.proofs.pages.Pages.set_place.Goals as goal
 
 pub returns-then-page-len : goal.returns-then-page-len

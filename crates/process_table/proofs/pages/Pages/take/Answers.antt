@@ -1,5 +1,5 @@
 use Rattle.std.proofs.Common.{◌/◌, ◌%◌, ◌<◌, ◌≤◌, None, length, refl, sym, ◌∙◌, arith}
-use Rattle.process_table.proofs.Paged.{cell_here, wrote_as, kept_read, no_page, none_there}
+use Rattle.process_table.proofs.PageChanges.{cell_here, wrote_as, kept_read, no_page, none_there}
 use Rattle.process_table.proofs.pages.Pages.take.Goals as goal
 
 pub returns-then-page-len-clause-before : goal.returns-then-page-len-clause-before

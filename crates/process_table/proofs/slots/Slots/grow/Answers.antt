@@ -1,5 +1,5 @@
 use Rattle.std.proofs.Common.{[], ◌∙◌}
-use Rattle.process_table.proofs.Paged.{read-padded}
+use Rattle.process_table.proofs.PageChanges.{read-padded}
 use Rattle.process_table.proofs.slots.Slots.grow.Goals as goal
 
 pub loop-self-preserved : goal.loop-self-preserved

@@ -1,7 +1,7 @@
 use Rattle.std.proofs.Common.{◌∙◌}
 use Rattle.flat_model.specs.Path.{at_or_below}
 use Rattle.process_table.specs.Cells.{cell_at}
-use Rattle.process_table.proofs.Gathered.{chosen_is}
+use Rattle.process_table.proofs.ChosenPids.{chosen_is}
 use Rattle.process_table.proofs.Tables.{one_home_now, listed_now}
 use Rattle.process_table.proofs.table.ProcessTable.inside.Goals as goal
 

@@ -1,7 +1,7 @@
 use Rattle.std.proofs.Common.{ℕ, List, eqb, count_by, ap, ◌∙◌}
 use Rattle.process_table.specs.Cells.{cell_at}
 use Rattle.process_table.specs.SlotPids.{list_at}
-use Rattle.process_table.proofs.Gathered.{member_counted}
+use Rattle.process_table.proofs.ChosenPids.{member_counted}
 use Rattle.process_table.proofs.Tables.{listed_now, each_found}
 use Rattle.process_table.proofs.table.ProcessTable.unordered.Goals as goal
 

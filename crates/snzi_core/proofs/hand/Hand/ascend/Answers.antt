@@ -1,6 +1,6 @@
 use Rattle.std.proofs.Common.{◌-◌, arith}
 use Rattle.std.specs.Prelude.{slice_index}
-use Rattle.snzi_core.proofs.Lists.{put_length}
+use Rattle.snzi_core.proofs.NumberLists.{put_length}
 use Rattle.snzi_core.proofs.Hands.{lose_else}
 use Rattle.snzi_core.proofs.hand.Hand.ascend.Goals as goal
 

@@ -2,7 +2,7 @@ use Rattle.std.proofs.Common.{◌≡◌, ℕ, true, false, sym, ap, ◌∙◌, s
 use Rattle.snzi_core.specs.CoreState.{node_of, parent_of}
 use Rattle.snzi_core.specs.Lawful.{is_zero}
 use Rattle.snzi_core.specs.Kept.{IsCore}
-use Rattle.snzi_core.proofs.Ready.{Arrives, Descends, ready_first, ready_child}
+use Rattle.snzi_core.proofs.LawfulSteps.{Arrives, Descends, ready_first, ready_child}
 use Rattle.snzi_core.proofs.machine.Core.child_add.Goals as goal
 
 pub descend-requires : goal.descend-requires

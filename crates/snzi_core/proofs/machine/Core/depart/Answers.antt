@@ -2,7 +2,7 @@ use Rattle.std.proofs.Common.{ℕ, ◌-◌, sym, subst}
 use Rattle.snzi_core.specs.declared.holding.Holding.{Holding}
 use Rattle.snzi_core.specs.Holding.{lose}
 use Rattle.snzi_core.specs.Kept.{IsCore}
-use Rattle.snzi_core.proofs.Stepped.{closing}
+use Rattle.snzi_core.proofs.CoreSteps.{closing}
 use Rattle.snzi_core.proofs.machine.Core.depart.Goals as goal
 
 pub invariant_of-self : goal.invariant_of-self

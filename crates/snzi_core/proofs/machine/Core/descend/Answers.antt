@@ -1,14 +1,14 @@
 use Rattle.std.proofs.Common.{ℕ, ◌+◌, ◌^◌, ◌<◌, sym, subst}
 use Rattle.snzi_core.specs.declared.holding.Holding.{Holding}
 use Rattle.snzi_core.specs.Holding.{tokens_at, gain, lose}
-use Rattle.snzi_core.specs.CoreState.{State}
+use Rattle.snzi_core.specs.CoreState.{CoreState}
 use Rattle.snzi_core.specs.Kept.{IsCore}
-use Rattle.snzi_core.proofs.Stepped.{closing, found, found_tables}
+use Rattle.snzi_core.proofs.CoreSteps.{closing, found, found_tables}
 use Rattle.snzi_core.proofs.machine.Core.descend.Goals as goal
 
 pub descend-requires : goal.descend-requires
 descend-requires g c =
-    let k : State = record { slots = c.self.inside.slots; nodes = c.self.inside.nodes; words = c.self.inside.words.items; hands = c.self.inside.hands.items } in
+    let k : CoreState = record { slots = c.self.inside.slots; nodes = c.self.inside.nodes; words = c.self.inside.words.items; hands = c.self.inside.hands.items } in
     let is = found k c.args.self.now c.args.hand c.index_mut-2.result.now c.self.view_is c.requires.live c.index_mut-2.ensures.value in
     let tables = found_tables k c.args.self.now c.args.hand c.index_mut-2.result.now c.self.view_is c.requires.live c.index_mut-2.ensures.value c.self.invariant in
     record {

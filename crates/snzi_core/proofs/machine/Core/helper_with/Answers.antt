@@ -1,5 +1,5 @@
 use Rattle.std.proofs.Common.{rules, arith, ◌∙◌}
-use Rattle.snzi_core.proofs.Splitting.{share_none, share_more, share_room, token_inside}
+use Rattle.snzi_core.proofs.CoreSplits.{share_none, share_more, share_room, token_inside}
 use Rattle.snzi_core.proofs.machine.Core.helper_with.Goals as goal
 
 pub loop-token-init : goal.loop-token-init

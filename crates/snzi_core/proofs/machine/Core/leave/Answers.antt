@@ -1,7 +1,7 @@
 use Rattle.std.proofs.Common.{ℕ, sym, ◌∙◌, subst}
 use Rattle.snzi_core.specs.CoreState.{parent_of}
 use Rattle.snzi_core.specs.Kept.{IsCore}
-use Rattle.snzi_core.proofs.Ready.{Departs, Ascends, ready_last, ready_leave}
+use Rattle.snzi_core.proofs.LawfulSteps.{Departs, Ascends, ready_last, ready_leave}
 use Rattle.snzi_core.proofs.machine.Core.leave.Goals as goal
 
 pub ascend-requires : goal.ascend-requires

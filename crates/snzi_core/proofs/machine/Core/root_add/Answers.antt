@@ -1,6 +1,6 @@
 use Rattle.std.proofs.Common.{ℕ, sym, subst}
 use Rattle.snzi_core.specs.Kept.{IsCore}
-use Rattle.snzi_core.proofs.Ready.{Arrives, ready_root}
+use Rattle.snzi_core.proofs.LawfulSteps.{Arrives, ready_root}
 use Rattle.snzi_core.proofs.machine.Core.root_add.Goals as goal
 
 pub arrive-requires : goal.arrive-requires

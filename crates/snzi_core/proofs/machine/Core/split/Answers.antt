@@ -1,17 +1,17 @@
 use Rattle.std.proofs.Common.{◌≡◌, List, length, arith, sym, ap, ◌∙◌, subst}
 use Rattle.snzi_core.specs.declared.holding.Holding.{Holding}
 use Rattle.snzi_core.specs.Holding.{tokens_at}
-use Rattle.snzi_core.specs.CoreState.{State}
+use Rattle.snzi_core.specs.CoreState.{CoreState}
 use Rattle.snzi_core.specs.Kept.{IsCore}
-use Rattle.snzi_core.proofs.Stepped.{found}
-use Rattle.snzi_core.proofs.Joining.{first_tables}
-use Rattle.snzi_core.proofs.Splitting.{split_lawful, split_core, split_is, main_live, length_counts, fits}
+use Rattle.snzi_core.proofs.CoreSteps.{found}
+use Rattle.snzi_core.proofs.CoreJoins.{first_tables}
+use Rattle.snzi_core.proofs.CoreSplits.{split_lawful, split_core, split_is, main_live, length_counts, fits}
 use Rattle.snzi_core.proofs.machine.Core.split.Goals as goal
 
 pub give-requires-clause-len : goal.give-requires-clause-len
 give-requires-clause-len g c =
-    let now : State = c.args.self.now in
-    let k : State = record { slots = c.self.inside.slots; nodes = c.self.inside.nodes; words = c.self.inside.words.items; hands = c.reserve.new.self.items } in
+    let now : CoreState = c.args.self.now in
+    let k : CoreState = record { slots = c.self.inside.slots; nodes = c.self.inside.nodes; words = c.self.inside.words.items; hands = c.reserve.new.self.items } in
     let same : k ≡ now = ap (λ (hs : List Holding). record {
       slots = c.self.inside.slots;
       nodes = c.self.inside.nodes;
@@ -24,8 +24,8 @@ give-requires-clause-len g c =
 
 pub give-requires-clause-enough : goal.give-requires-clause-enough
 give-requires-clause-enough g c = λ i.
-    let now : State = c.args.self.now in
-    let k : State = record { slots = c.self.inside.slots; nodes = c.self.inside.nodes; words = c.self.inside.words.items; hands = c.reserve.new.self.items } in
+    let now : CoreState = c.args.self.now in
+    let k : CoreState = record { slots = c.self.inside.slots; nodes = c.self.inside.nodes; words = c.self.inside.words.items; hands = c.reserve.new.self.items } in
     let same : k ≡ now = ap (λ (hs : List Holding). record {
       slots = c.self.inside.slots;
       nodes = c.self.inside.nodes;
@@ -40,8 +40,8 @@ give-requires-clause-enough g c = λ i.
 
 pub invariant_of-self-2 : goal.invariant_of-self-2
 invariant_of-self-2 g c =
-    let now : State = c.args.self.now in
-    let k : State = record { slots = c.self.inside.slots; nodes = c.self.inside.nodes; words = c.self.inside.words.items; hands = c.reserve.new.self.items } in
+    let now : CoreState = c.args.self.now in
+    let k : CoreState = record { slots = c.self.inside.slots; nodes = c.self.inside.nodes; words = c.self.inside.words.items; hands = c.reserve.new.self.items } in
     let same : k ≡ now = ap (λ (hs : List Holding). record {
       slots = c.self.inside.slots;
       nodes = c.self.inside.nodes;

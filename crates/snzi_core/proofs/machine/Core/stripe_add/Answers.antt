@@ -1,6 +1,6 @@
 use Rattle.std.proofs.Common.{ℕ, sym, subst}
 use Rattle.snzi_core.specs.Kept.{IsCore}
-use Rattle.snzi_core.proofs.Ready.{Sums, ready_stripe}
+use Rattle.snzi_core.proofs.LawfulSteps.{Sums, ready_stripe}
 use Rattle.snzi_core.proofs.machine.Core.stripe_add.Goals as goal
 
 pub add-requires : goal.add-requires

@@ -2,7 +2,7 @@ use Rattle.std.proofs.Common.{ℕ, ◌<◌, subst}
 use Rattle.snzi_core.specs.Shape.{leaves}
 use Rattle.snzi_core.specs.Kept.{IsCore}
 use Rattle.snzi_core.proofs.Words.{sum_more}
-use Rattle.snzi_core.proofs.Stepped.{word_read}
+use Rattle.snzi_core.proofs.CoreSteps.{word_read}
 use Rattle.snzi_core.proofs.machine.Core.sum.Goals as goal
 
 pub loop-stripe-preserved : goal.loop-stripe-preserved

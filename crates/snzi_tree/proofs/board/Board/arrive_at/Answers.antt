@@ -3,7 +3,7 @@ use Rattle.snzi_core.specs.Changes.{Moves}
 use Rattle.snzi_core.specs.Shape.{node_word}
 use Rattle.snzi_tree.specs.Hands.{holds}
 use Rattle.snzi_tree.proofs.OneToken.{gains_moved}
-use Rattle.snzi_tree.proofs.Paths.{down_next}
+use Rattle.snzi_tree.proofs.NodePaths.{down_next}
 use Rattle.snzi_tree.proofs.board.Board.arrive_at.Goals as goal
 
 pub down-preserved : goal.down-preserved

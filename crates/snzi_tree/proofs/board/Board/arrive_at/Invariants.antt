@@ -3,7 +3,7 @@ use Rattle.snzi_core.specs.Changes.{Gains}
 use Rattle.snzi_core.specs.Shape.{node_word}
 use Rattle.snzi_tree.specs.Depths.{depth, OnPath}
 use Rattle.snzi_tree.specs.Hands.{holds, joined_events, counted, SameHand}
-use Rattle.snzi_tree.proofs.Paths.{down_steps}
+use Rattle.snzi_tree.proofs.NodePaths.{down_steps}
 use Rattle.snzi_tree.proofs.board.Board.arrive_at.Given as goal
 
 abbrev pub invariant-down : goal.invariant-down

@@ -6,7 +6,7 @@ use Rattle.snzi_core.specs.Changes.{Gains}
 use Rattle.snzi_core.specs.Shape.{node_word}
 use Rattle.snzi_tree.specs.Hands.{holds}
 use Rattle.snzi_tree.proofs.OneToken.{gains}
-use Rattle.snzi_tree.proofs.Paths.{depth_up, path_up}
+use Rattle.snzi_tree.proofs.NodePaths.{depth_up, path_up}
 use Rattle.snzi_tree.proofs.board.Board.climb.Goals as goal
 
 pub returns-then-at-eq0-clause-token : goal.returns-then-at-eq0-clause-token

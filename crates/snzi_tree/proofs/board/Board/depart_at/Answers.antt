@@ -4,7 +4,7 @@ use Rattle.snzi_core.specs.Changes.{Loses}
 use Rattle.snzi_core.specs.Shape.{node_word}
 use Rattle.snzi_tree.specs.Hands.{holds}
 use Rattle.snzi_tree.proofs.OneToken.{loses, loses_passed, passed_has}
-use Rattle.snzi_tree.proofs.Paths.{depth_up}
+use Rattle.snzi_tree.proofs.NodePaths.{depth_up}
 use Rattle.snzi_tree.proofs.board.Board.depart_at.Goals as goal
 
 pub returns-then-not-leave-clause-token : goal.returns-then-not-leave-clause-token

@@ -5,7 +5,7 @@ use Rattle.snzi_core.specs.Shape.{node_word}
 use Rattle.snzi_tree.specs.Depths.{halved}
 use Rattle.snzi_tree.specs.Hands.{holds}
 use Rattle.snzi_tree.proofs.OneToken.{moves_used, moves_back, back_has}
-use Rattle.snzi_tree.proofs.Paths.{depth_up}
+use Rattle.snzi_tree.proofs.NodePaths.{depth_up}
 use Rattle.snzi_tree.proofs.board.Board.descend.Goals as goal
 
 pub depart_at-requires : goal.depart_at-requires

@@ -1,5 +1,5 @@
 use Rattle.std.proofs.Common.{ℕ, ◌+◌, ◌*◌, ◌<◌, subst, sym, arith}
-use Rattle.snzi_tree.proofs.Ended.{ends}
+use Rattle.snzi_tree.proofs.LastLoads.{ends}
 use Rattle.snzi_tree.proofs.Shares.{pos_mul}
 use Rattle.snzi_tree.proofs.board.Board.end.Goals as goal
 

@@ -1,6 +1,6 @@
 use Rattle.std.proofs.Common.{rules, ◌+◌, ◌*◌, ◌<◌, subst, ap}
 use Rattle.snzi_tree.proofs.Loads.{stages}
-use Rattle.snzi_tree.proofs.Events.{load_makes}
+use Rattle.snzi_tree.proofs.StepEvents.{load_makes}
 use Rattle.snzi_tree.specs.View.{holding}
 use Rattle.snzi_tree.specs.Tallies.{known}
 use mathlib.Core.Option.{none}

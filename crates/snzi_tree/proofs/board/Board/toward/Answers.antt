@@ -1,6 +1,6 @@
 use Rattle.std.proofs.Common.{arith}
 use Rattle.snzi_core.specs.Balance.{here}
-use Rattle.snzi_tree.proofs.Paths.{path_up, path_in, path_pos}
+use Rattle.snzi_tree.proofs.NodePaths.{path_up, path_in, path_pos}
 use Rattle.snzi_tree.proofs.board.Board.toward.Goals as goal
 
 pub up-init : goal.up-init

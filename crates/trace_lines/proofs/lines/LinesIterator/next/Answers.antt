@@ -1,6 +1,6 @@
 use Rattle.std.proofs.Common.{◌∙◌, ap, sym, arith, length}
 use Rattle.std.proofs.lemmas.Grind.{common_steps}
-use Rattle.trace_lines.proofs.Cuts.{lines_at_slice, last_line}
+use Rattle.trace_lines.proofs.TextCuts.{lines_at_slice, last_line}
 use Rattle.trace_lines.proofs.lines.LinesIterator.next.Goals as goal
 
 pub returns-in-Some-clause-steps : goal.returns-in-Some-clause-steps

@@ -1,6 +1,6 @@
 use Rattle.std.proofs.Common.{◌∙◌, ap, sym, arith, length}
 use Rattle.std.proofs.lemmas.Grind.{common_steps}
-use Rattle.trace_lines.proofs.Cuts.{word_at_slice, last_word}
+use Rattle.trace_lines.proofs.TextCuts.{word_at_slice, last_word}
 use Rattle.trace_lines.proofs.words.WordsIterator.next.Goals as goal
 
 pub returns-in-Some-clause-steps : goal.returns-in-Some-clause-steps

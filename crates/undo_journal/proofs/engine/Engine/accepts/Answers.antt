@@ -6,7 +6,7 @@ use Rattle.undo_journal.specs.CommandMeaning.{command_of}
 use Rattle.undo_journal.specs.Timeline.{Timeline}
 use Rattle.undo_journal.specs.declared.command.Command.{Command}
 use Rattle.undo_journal.specs.declared.command.Command.TheVariants.{Exit, Locate}
-use Rattle.undo_journal.proofs.Accepted.{decided, decided_anywhere, none_of}
+use Rattle.undo_journal.proofs.Acceptance.{decided, decided_anywhere, none_of}
 use Rattle.undo_journal.proofs.engine.Engine.accepts.Goals as goal
 
 at_either : {X : Type 0} (f : X → Bool) (x a b : X) (r : Bool) → (x ≡ a) ⊎ (x ≡ b) → r ≡ f a → r ≡ f b → r ≡ f x

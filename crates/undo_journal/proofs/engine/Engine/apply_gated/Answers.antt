@@ -1,5 +1,5 @@
 use Rattle.undo_journal.specs.CommandMeaning.{command_of}
-use Rattle.undo_journal.proofs.Undone.{keeps_history}
+use Rattle.undo_journal.proofs.MachineSteps.{keeps_history}
 use Rattle.undo_journal.proofs.engine.Engine.apply_gated.Goals as goal
 
 pub returns-clause-headline : goal.returns-clause-headline

@@ -1,6 +1,6 @@
 use Rattle.std.proofs.Common.{◌≡◌, ℕ, map, ◌∙◌, subst}
 use Rattle.undo_journal.specs.History.{journal_entry, records, IsHistory}
-use Rattle.undo_journal.proofs.Copies.{same_timeline, same_history}
+use Rattle.undo_journal.proofs.EngineCopies.{same_timeline, same_history}
 use Rattle.pids_charge.specs.declared.plain.TheConstants.{SLOTS}
 use Rattle.undo_journal.proofs.engine.Engine.copy.Goals as goal
 

@@ -7,14 +7,14 @@ use Rattle.flat_model.specs.Step.{refusal, home_of}
 use Rattle.undo_journal.specs.Answer.{Answers}
 use Rattle.undo_journal.specs.History.{timeline_of, journal_entry, records}
 use Rattle.undo_journal.specs.Timeline.{Timeline}
-use Rattle.undo_journal.specs.declared.journal.Entry.{Entry}
+use Rattle.undo_journal.specs.declared.journal.JournalEntry.{JournalEntry}
 use Rattle.undo_journal.specs.declared.command.Command.TheVariants.{Fork}
 use Rattle.undo_journal.specs.declared.inverse.Inverse.TheVariants.{Counted}
 use Rattle.undo_journal.specs.declared.reply.Reply.TheVariants.{Refused}
 use Rattle.undo_journal.specs.declared.reply.Refusal.TheVariants.{PidsMax}
 use Rattle.undo_journal.proofs.Histories.{recorded_is, recorded_history, records_length}
-use Rattle.undo_journal.proofs.Totals.{countable}
-use Rattle.undo_journal.proofs.Answering.{parent_there, answers_by}
+use Rattle.undo_journal.proofs.TotalBounds.{countable}
+use Rattle.undo_journal.proofs.RefusalReplies.{parent_there, answers_by}
 use Rattle.undo_journal.proofs.engine.Engine.count_fork.Goals as goal
 use Rattle.undo_journal.proofs.engine.Engine.count_fork.Goals.{In_ok-push}
 
@@ -47,7 +47,7 @@ refused g c = subst (λ (t : Timeline). refusal g.M.Meter.SLOTS t.machine.state 
 limiting_is : (g : _) (c : In_ok-push g) → c.in_ok-limiting.limiting ≡ limiting g c
 limiting_is g c = c.in_ok-limiting.ensures ∙ ap (λ (t : Timeline). take c.args.n (home_of t.machine.state c.args.parent)) (sym c.self.view_is)
 
-abbrev entry : (g : _) (c : In_ok-push g) → Entry g.row.A.Denot
+abbrev entry : (g : _) (c : In_ok-push g) → JournalEntry g.row.A.Denot
 entry g c = record { command = Fork c.args.parent c.args.child; inverse = Counted c.in_ok-counted.counted }
 
 journal_is : (g : _) (c : In_ok-push g) → c.push.new.self.items ≡ c.self.inside.journal.items ++ entry g c ∷ []

@@ -3,7 +3,7 @@ use Rattle.std.specs.Prelude.{min}
 use Rattle.undo_journal.specs.Beginning.{forgets}
 use Rattle.undo_journal.specs.History.{records, timeline_of}
 use Rattle.undo_journal.proofs.Histories.{records_length, depth_is}
-use Rattle.undo_journal.proofs.Totals.{first_again}
+use Rattle.undo_journal.proofs.TotalBounds.{first_again}
 use Rattle.undo_journal.proofs.engine.Engine.forget.Goals as goal
 
 pub invariant_of-self : goal.invariant_of-self

@@ -3,7 +3,7 @@ use Rattle.flat_model.specs.Command as model
 use Rattle.flat_model.specs.Step.{refusal}
 use Rattle.undo_journal.specs.CommandMeaning.{refusal_of}
 use Rattle.undo_journal.specs.Timeline.{Timeline}
-use Rattle.undo_journal.proofs.Answering.{refused_answers}
+use Rattle.undo_journal.proofs.RefusalReplies.{refused_answers}
 use Rattle.undo_journal.proofs.engine.Engine.kill.Goals as goal
 
 pub returns-in-Some-clause-ok : goal.returns-in-Some-clause-ok

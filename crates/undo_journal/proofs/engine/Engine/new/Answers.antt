@@ -1,4 +1,4 @@
-use Rattle.undo_journal.proofs.Totals.{start_first}
+use Rattle.undo_journal.proofs.TotalBounds.{start_first}
 use Rattle.undo_journal.proofs.engine.Engine.new.Goals as goal
 
 pub invariant_of-result : goal.invariant_of-result

@@ -1,7 +1,7 @@
 use Rattle.std.proofs.Common.{ℕ, Some, map, sym, ap, ◌∙◌}
 use Rattle.flat_model.specs.Machine.{replies}
 use Rattle.undo_journal.specs.CommandMeaning.{command_of}
-use Rattle.undo_journal.proofs.Copies.{one_said, all_said}
+use Rattle.undo_journal.proofs.EngineCopies.{one_said, all_said}
 use Rattle.pids_charge.specs.declared.plain.TheConstants.{SLOTS}
 use Rattle.undo_journal.proofs.engine.Engine.rehearse.Goals as goal
 

@@ -5,7 +5,7 @@ use Rattle.group_tree.specs.Flat.{limit_of, limit_file_of}
 use Rattle.undo_journal.specs.CommandMeaning.{refusal_of}
 use Rattle.undo_journal.specs.Timeline.{Timeline}
 use Rattle.undo_journal.specs.declared.reply.Reply.TheVariants.{Done}
-use Rattle.undo_journal.proofs.Answering.{answers_by, refused_answers}
+use Rattle.undo_journal.proofs.RefusalReplies.{answers_by, refused_answers}
 use Rattle.undo_journal.proofs.engine.Engine.set_limit.Goals as goal
 
 pub returns-in-Some-clause-ok : goal.returns-in-Some-clause-ok

@@ -8,7 +8,7 @@ use Rattle.flat_model.specs.State.{State}
 use Rattle.undo_journal.specs.CommandMeaning.{inverse_of}
 use Rattle.undo_journal.specs.History.{timeline_of, records, IsHistory}
 use Rattle.undo_journal.specs.Timeline.{Timeline, becomes}
-use Rattle.undo_journal.specs.declared.journal.Entry.{Entry}
+use Rattle.undo_journal.specs.declared.journal.JournalEntry.{JournalEntry}
 use Rattle.undo_journal.proofs.Undos.{on_err, empty_of, nothing_undone, snoc_of, popped, read_through, last_ready, needs_none, undone_is, reply_is, undone_history}
 use Rattle.undo_journal.proofs.engine.Engine.take_newest_back.Goals as goal
 use Rattle.undo_journal.proofs.engine.Engine.take_newest_back.Goals.{Joined-newest}
@@ -40,7 +40,7 @@ invariant_of-self g c = subst (λ (s : State). IsHistory g.M.Meter.SLOTS c.self.
 new_is : (g : _) (c : Joined-newest g) → c.take_back.new.charges ≡ back (inverse_of c.in-Some-pop.newest.inverse) c.self.inside.charges
 new_is g c =
     c.in_ok-take_back.ensures.ok
-    ∙ ap (λ (e : Entry g.row.A.Denot). back (inverse_of e.inverse) c.self.inside.charges)
+    ∙ ap (λ (e : JournalEntry g.row.A.Denot). back (inverse_of e.inverse) c.self.inside.charges)
     (sym (popped c.self.inside.journal.items c.pop.new.self.items c.in-Some-pop.newest c.in-Some.entry.now c.in-Some-pop.ensures.items
     (read_through c.self.inside.journal.items c.deref.result.now c.in-Some.entry.now c.deref.ensures.value c.in-Some.ensures.value)))
 

@@ -9,7 +9,7 @@ use Rattle.undo_journal.specs.declared.command.Command.TheVariants.{Fork}
 use Rattle.undo_journal.specs.declared.inverse.Inverse.TheVariants.{Forked}
 use Rattle.undo_journal.specs.declared.reply.Reply.TheVariants.{Done}
 use Rattle.undo_journal.proofs.Histories.{HasRecorded, has_recorded}
-use Rattle.undo_journal.proofs.Answering.{answers_by}
+use Rattle.undo_journal.proofs.RefusalReplies.{answers_by}
 use Rattle.undo_journal.proofs.engine.Engine.try_process.Goals as goal
 
 -- what was pushed is the record of the command

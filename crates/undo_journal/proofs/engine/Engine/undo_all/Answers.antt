@@ -2,7 +2,7 @@ use Rattle.std.proofs.Common.{ap, ◌∙◌, arith}
 use Rattle.flat_model.specs.Command as model
 use Rattle.flat_model.specs.Machine.{tick}
 use Rattle.undo_journal.specs.Timeline.{Timeline, becomes}
-use Rattle.undo_journal.proofs.Alls.{undos_next}
+use Rattle.undo_journal.proofs.UndoSeries.{undos_next}
 use Rattle.undo_journal.proofs.engine.Engine.undo_all.Goals as goal
 
 pub loop-undone-preserved : goal.loop-undone-preserved

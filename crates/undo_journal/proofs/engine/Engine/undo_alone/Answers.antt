@@ -1,5 +1,5 @@
 use Rattle.flat_model.specs.Command as model
-use Rattle.undo_journal.proofs.Undone.{keeps_history, answered_by, certain_by}
+use Rattle.undo_journal.proofs.MachineSteps.{keeps_history, answered_by, certain_by}
 use Rattle.undo_journal.proofs.engine.Engine.undo_alone.Goals as goal
 
 pub returns-clause-headline : goal.returns-clause-headline

@@ -1,0 +1,96 @@
+-- The pids of chosen slots are the chosen pids.
+use Rattle.std.proofs.Common.{◌≡◌, ◌≢◌, ℕ, ◌+◌, ◌<◌, ◌≤◌, Bool, true, false, cond, eqb, ltb, Option, Some, None, List, [], length, count_by, refl, sym, ap, ◌∙◌, subst, arith}
+use Rattle.std.proofs.lemmas.Bool.{eqb-true, eqb-false, lt-ltb, le-ltb, ltb-true, ltb-false}
+use Rattle.std.proofs.lemmas.List.{get_or_past}
+use Rattle.flat_model.specs.Path.{Path, at_or_below}
+use Rattle.process_table.specs.declared.process.Cell.{Cell}
+use Rattle.process_table.specs.declared.process.Process.{Process}
+use Rattle.process_table.specs.Chosen.{HaveOneHome, chosen_at, chosen_below}
+use Rattle.process_table.specs.SlotPids.{list_at, IsAt}
+use Rattle.process_table.specs.Rows.{process_of}
+use Rattle.process_table.specs.Tied.{in_slot, IsTied}
+use Rattle.process_table.proofs.RowLaws.{counted}
+use Rattle.process_table.proofs.CellTies.{count-at, its_slot, one_if, same_either_way}
+
+-- a slot more
+one_more : (a n t : ℕ) → cond (ltb a (n + 1)) t 0 ≡ cond (ltb a n) t 0 + cond (eqb a n) t 0
+one_more a n t =
+    let choose : Bool → ℕ = λ b. cond b t 0 in
+    elim (eqb a n) as (λ b. eqb a n ≡ b → choose (ltb a (n + 1)) ≡ choose (ltb a n) + choose (eqb a n)) [
+      | true ↦ λ e. let same : a ≡ n = eqb-true a n e in omega (arith, ap choose (lt-ltb a (n + 1) (omega arith)), ap choose (le-ltb a n (omega arith)), ap choose e)
+      | false ↦ λ e.
+          let ne : a ≢ n = eqb-false a n e in
+          elim (ltb a n) as (λ b. ltb a n ≡ b → choose (ltb a (n + 1)) ≡ choose (ltb a n) + choose (eqb a n)) [
+            | true ↦ λ f. let lt : a < n = ltb-true a n f in omega (arith, ap choose (lt-ltb a (n + 1) (omega arith)), ap choose f, ap choose e)
+            | false ↦ λ f. let ge : n ≤ a = ltb-false a n f in omega (arith, ap choose (le-ltb a (n + 1) (omega arith)), ap choose f, ap choose e)
+          ] refl
+    ] refl
+
+module _ {A : Type 0} where
+  pub chosen_start : (g : Path) (o : Option (Process A)) → chosen_below 0 g o ≡ 0
+  chosen_start g None = refl
+  chosen_start g (Some x) = let choose : Bool → ℕ = λ b. cond b (cond (at_or_below x.home g) 1 0) 0 in ap choose (le-ltb x.slot 0 (omega arith))
+
+  pub chosen_more : (n : ℕ) (g : Path) (o : Option (Process A)) → chosen_below (n + 1) g o ≡ chosen_below n g o + chosen_at n g o
+  chosen_more n g None = omega arith
+  chosen_more n g (Some x) = one_more x.slot n (cond (at_or_below x.home g) 1 0)
+
+  -- the cell of a process
+  its_cell : (o : Option (Cell A)) (x : Process A) → process_of o ≡ Some x → (c : Cell A) × (o ≡ Some c) × (c.process ≡ x)
+  its_cell None x e = cc
+  its_cell (Some c) x e = (c, refl, cc)
+
+  module _ (cells : ℕ → Option (Cell A)) (lists : List (List ℕ)) (t : IsTied cells lists) where
+    -- a process is in the list of its slot
+    listed : (q : ℕ) (x : Process A) → process_of (cells q) ≡ Some x → 0 < length (list_at lists x.slot)
+    listed q x is =
+        let cell = its_cell (cells q) x is in
+        let at = t.placed q cell.0 cell.1 in
+        subst (λ (x : Process A). 0 < length (list_at lists x.slot)) cell.2 (omega (arith, at.within))
+
+    pub no_members : (slot : ℕ) → length (list_at lists slot) ≤ 0 → (q : ℕ) (x : Process A) → process_of (cells q) ≡ Some x → x.slot ≡ slot → ⊥
+    no_members slot none q x is same = let some : 0 < length (list_at lists slot) = subst (λ s. 0 < length (list_at lists s)) same (listed q x is) in omega (arith, none)
+
+    pub has_cell : (slot place p : ℕ) → IsAt (list_at lists slot) place p → cells p ≡ None → ⊥
+    has_cell slot place p at none = let some = count-at (list_at lists slot) place p at in omega (arith, some, t.counted slot p, ap (in_slot slot) none)
+
+    pub in_its_slot : (slot place p : ℕ) (c : Cell A) → IsAt (list_at lists slot) place p → cells p ≡ Some c → c.process.slot ≡ slot
+    in_its_slot slot place p c at is = its_slot slot c (subst (λ n. 0 < n) (t.counted slot p ∙ ap (in_slot slot) is) (count-at (list_at lists slot) place p at))
+
+    -- the first process of a slot answers for all
+    pub answers : (slot p : ℕ) (c : Cell A) (g : Path) → HaveOneHome (λ q. process_of (cells q)) → IsAt (list_at lists slot) 0 p
+        → cells p ≡ Some c → (q : ℕ) (x : Process A) → process_of (cells q) ≡ Some x → x.slot ≡ slot
+        → at_or_below c.process.home g ≡ at_or_below x.home g
+    answers slot p c g homes at is q x there same = ap (λ h. at_or_below h g) (homes p q c.process x (ap process_of is) there (in_its_slot slot 0 p c at is ∙ sym same))
+
+    module _ (slot : ℕ) (g : Path) (b : Bool) (says : (q : ℕ) (x : Process A) → process_of (cells q) ≡ Some x → x.slot ≡ slot → b ≡ at_or_below x.home g) where
+      by_cell : (q : ℕ) (o : Option (Cell A)) → cells q ≡ o → cond b (in_slot slot o) 0 ≡ chosen_at slot g (process_of o)
+      by_cell q None is = same_either_way b 0
+      by_cell q (Some c) is =
+          elim (eqb c.process.slot slot) as (λ e. eqb c.process.slot slot ≡ e → cond b (one_if e) 0 ≡ cond e (one_if (at_or_below c.process.home g)) 0) [
+            | true ↦ λ e. ap one_if (says q c.process (ap process_of is) (eqb-true c.process.slot slot e))
+            | false ↦ λ e. same_either_way b 0
+          ] refl
+
+      pub appended : (q : ℕ) → cond b (count_by (eqb q) (list_at lists slot)) 0 ≡ chosen_at slot g (process_of (cells q))
+      appended q = ap (λ n. cond b n 0) (t.counted slot q) ∙ by_cell q (cells q) refl
+
+    -- all slots are listed
+    slot_listed : (s : ℕ) → 0 < length (list_at lists s) → s < length lists
+    slot_listed s h =
+        elim (ltb s (length lists)) as (λ b. ltb s (length lists) ≡ b → s < length lists) [
+          | true ↦ λ e. ltb-true s (length lists) e
+          | false ↦ λ e. let none = ap length (get_or_past lists s [] (ltb-false s (length lists) e)) in absurd (omega (arith, h, none))
+        ] refl
+
+    chosen_all : (g : Path) (q : ℕ) (o : Option (Process A)) → process_of (cells q) ≡ o → chosen_below (length lists) g o ≡ counted (λ e. at_or_below e.1.home g) q o
+    chosen_all g q None is = refl
+    chosen_all g q (Some x) is = ap (λ b. cond b (cond (at_or_below x.home g) 1 0) 0) (lt-ltb x.slot (length lists) (slot_listed x.slot (listed q x is)))
+
+    pub chosen_is : (g : Path) (q : ℕ) → chosen_below (length lists) g (process_of (cells q)) ≡ counted (λ e. at_or_below e.1.home g) q (process_of (cells q))
+    chosen_is g q = chosen_all g q (process_of (cells q)) refl
+
+  -- the members of a slot
+  pub member_counted : (s q : ℕ) (o : Option (Cell A)) → in_slot s o ≡ counted (λ e. eqb e.1.slot s) q (process_of o)
+  member_counted s q None = refl
+  member_counted s q (Some c) = refl
