@@ -2,7 +2,7 @@
 
 use group_tree::Attr;
 use interface_files::{limit_file_name, limit_text};
-use pids_charge::LostList;
+use pids_charge::{LostList, Peaks};
 use std::alloc::{AllocError, Allocator, Global};
 use test_support::push_escaped;
 use undo_journal::Inverse;
@@ -23,9 +23,10 @@ fn push_attr(alloc: Global, text: &mut String, attr: &Attr) -> Result<(), AllocE
 }
 
 /// Appends old peaks.
-fn push_peaks(text: &mut String, peaks: &[u64]) -> Result<(), AllocError> {
+fn push_peaks<A: Allocator + Clone>(text: &mut String, peaks: &Peaks<A>) -> Result<(), AllocError> {
     text.push_str(", peaks")?;
-    for peak in peaks {
+    for i in 0..peaks.len() {
+        let peak = peaks.peak(i);
         write!(text, " {peak}")?;
     }
     Ok(())
@@ -62,7 +63,7 @@ pub(crate) fn push_record<A: Allocator + Clone>(
         }
         Inverse::Forked { pid, peaks } => {
             write!(text, "forked {}", pid.get())?;
-            push_peaks(text, peaks.as_slice())
+            push_peaks(text, peaks)
         }
         Inverse::Exited { pid, path } => {
             write!(text, "exited {} from ", pid.get())?;
@@ -71,7 +72,7 @@ pub(crate) fn push_record<A: Allocator + Clone>(
         Inverse::Moved { pid, path, peaks } => {
             write!(text, "moved {} from ", pid.get())?;
             push_escaped(text, path.text())?;
-            push_peaks(text, peaks.as_slice())
+            push_peaks(text, peaks)
         }
         Inverse::Limited { path, file, value } => {
             text.push_str("limited ")?;
