@@ -110,6 +110,9 @@ test("a path has steps, and gaps where there is no number", () => {
   assert.strictEqual(path([0, -1], [4, -1]), "");
   assert.strictEqual(path([0, 2], [3, 0], [6, 5]), "M0 2V2H3H3V0V0H6H6V5V5H9", "0 is a number");
   assert.strictEqual(path([2, 1], [2.1, 7], [2.2, 4]), "M2 1V1V7V4H9", "three in one column");
+  assert.strictEqual(path([2, -1], [2.1, 5]), "M2 5V5H9", "the first number of a column that begins without one");
+  assert.strictEqual(path([0, 3], [2, -1], [2.1, 5]), "M0 3V3H2H2V5V5H9");
+  assert.strictEqual(path([0, 3], [2, 4], [2.1, -1], [6, 1]), "M0 3V3H2H2V4M6 1V1H9");
 });
 
 test("marks in one column are one, at the last moment", () => {
