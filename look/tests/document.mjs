@@ -41,6 +41,10 @@ export class Element {
     return this.nodes[0];
   }
 
+  get lastElementChild() {
+    return this.children.at(-1);
+  }
+
   get lastChild() {
     return this.nodes.at(-1);
   }
@@ -77,10 +81,25 @@ export class Element {
     return other === this || [...this.all()].includes(other);
   }
 
-  // Of selectors only a class, a tag and [data-key].
-  querySelectorAll(selector) {
-    const is = (one) => (selector === "[data-key]" ? "key" in one.dataset : selector[0] === "." ? one.classList.contains(selector.slice(1)) : one.tag === selector);
-    return [...this.all()].filter(is);
+  // Of selectors only tags, classes, [data-name] and tag[type=search], with commas between them.
+  matches(selectors) {
+    return selectors.split(", ").some((selector) => {
+      const [, tag, kind, data, type] = /^([a-z0-9]*)(?:\.([a-z-]+))?(?:\[data-([a-z]+)\])?(?:\[type=([a-z]+)\])?$/.exec(selector);
+      return (!tag || tag === this.tag) && (!kind || this.classList.contains(kind)) && (!data || data in this.dataset) && (!type || type === this.type);
+    });
+  }
+
+  querySelectorAll(selectors) {
+    return [...this.all()].filter((one) => one.matches(selectors));
+  }
+
+  querySelector(selectors) {
+    return this.querySelectorAll(selectors)[0] ?? null;
+  }
+
+  closest(selectors) {
+    for (let one = this; one; one = one.parent) if (one.matches(selectors)) return one;
+    return null;
   }
 
   setAttribute(name, value) {
@@ -97,9 +116,17 @@ export class Element {
   }
 
   dispatch(kind, event = {}) {
-    const all = { prevented: false, stopped: false, preventDefault: () => (all.prevented = true), stopPropagation: () => (all.stopped = true), ...event };
+    const all = { prevented: false, stopped: false, ...event };
+    Object.assign(all, { preventDefault: () => (all.prevented = true), stopPropagation: () => (all.stopped = true) });
     for (const act of this.listeners[kind] ?? []) act(all);
     return all;
+  }
+
+  // As dispatch, and then for what is around it up to the document.
+  bubble(kind, event = {}) {
+    let told = { target: this, ...event };
+    for (let one = this; one && !told.stopped; one = one.parent) told = one.dispatch(kind, told);
+    return told.stopped ? told : document.dispatch(kind, told);
   }
 
   getBoundingClientRect() {
@@ -118,7 +145,9 @@ export class Element {
 
 export const observed = []; // [element, what is called when its size changes]
 
-globalThis.document = { createElement: (tag) => new Element(tag), createElementNS: (_, tag) => new Element(tag), activeElement: null };
+globalThis.document = Object.assign(new Element("document"), {
+  createElement: (tag) => new Element(tag), createElementNS: (_, tag) => new Element(tag), activeElement: null,
+});
 globalThis.innerWidth = 1000;
 globalThis.ResizeObserver = class {
   constructor(act) {
