@@ -211,6 +211,11 @@ test("what a line changes is marked, on both of its sides", async () => {
   assert.deepStrictEqual(marked(), [["row", ""], ["row changed chosen", ""], ["row changed", ""]], "a group that is made");
   key("b");
   assert.deepStrictEqual(marked(), [["row", ""], ["row changed chosen", ""]], "and that isn't there before");
+  key("ArrowLeft");
+  key("ArrowLeft");
+  assert.deepStrictEqual([fresh(), rows("tree").map((row) => row.lastElementChild.textContent)], [["", ""], ["12", ""]], "a process that will be moved");
+  key("b");
+  assert.deepStrictEqual(fresh(), ["", "2"]);
 });
 
 test("the tree says how deep it is", async () => {

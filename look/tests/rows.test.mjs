@@ -170,4 +170,6 @@ test("a kill ends those that are there, in the group and below it, and none besi
   assert.deepStrictEqual([8, 9, 10, 11].map((moment) => [...run.go(moment).fresh]), [[], [1], [], [1, 6, 8]], "those that the last command brought");
   assert.deepStrictEqual([0, 4].map((moment) => [...run.go(moment).fresh]), [[], [5]]);
   assert.deepStrictEqual([run.isKill(9), run.isKill(10), run.isKill(0)], [true, false, false]);
+  const none = runOf(["a", "b"], [0, 0], [[0, 1], [], [2, 5, 1, 0, 2]]);
+  assert.deepStrictEqual([0, 1, 2].map((command) => none.isKill(command)), [false, false, false], "a command that changes nothing, before one of five numbers");
 });
