@@ -238,8 +238,5 @@ int main(void)
 	int (*const parts[])(void) = { commands, reads, small, codes, statuses, faults_of_paths, digits, constants };
 	if (mk_open(&h) != MK_DONE)
 		return 1;
-	int failed = run_all(parts, sizeof parts / sizeof *parts);
-	if (failed == 0 && mk_close(&h) != MK_DONE)
-		return 1;
-	return failed;
+	return run_and_close(parts, sizeof parts / sizeof *parts);
 }
