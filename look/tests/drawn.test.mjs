@@ -50,9 +50,14 @@ test("the axes of a plot", () => {
   const across = [0, 2, 4, 6, 8, 10].map((at) => [String(at), String(46 + 30 * at), "104", "middle"]);
   assert.deepStrictEqual(texts(plot(run())), [...upward, ...across]);
   assert.deepStrictEqual(plot(run()).of("grid"), ["M46 88H346", "M46 69H346", "M46 50H346", "M46 31H346", "M46 12H346"]);
-  const seconds = texts(plot(run([1, 1, 1, 1, 1, 1, 1, 1, 1, 1]))).slice(5);
-  assert.deepStrictEqual(seconds, across.map(([text, ...more]) => [`${text} s`, ...more]));
+  const timed = texts(plot(run([1, 1, 1, 1, 1, 1, 1, 1, 1, 1]))).slice(5);
+  assert.deepStrictEqual(timed, across.map(([text, ...more]) => [`${text} s`, ...more]));
   assert.strictEqual(plot(run(), 100).svg.getAttribute("viewBox"), "0 0 320 108", "it has a least width");
+  // at most four steps upward, eight across
+  const nine = new Run({ lines: "mkdir /a\nx", names: ["/", "a"], parents: [0, 0], notes: {}, times: null, answers: ["ok"], answer: [0, 0], steps: [2, 0, 1, 5, 8, PEAK, 1, 1, 9] });
+  assert.deepStrictEqual(texts(plot(nine)).filter(([, , , anchor]) => anchor === "end").map(([text]) => text), ["0", "5"]);
+  const seconds = (most) => texts(plot(run([1, 1, 1, 1, 1, 1, 1, 1, 1, most - 9]))).slice(5).map(([text]) => text);
+  assert.deepStrictEqual([seconds(40), seconds(45)], [[0, 5, 10, 15, 20, 25, 30, 35, 40].map((at) => `${at} s`), [0, 10, 20, 30, 40].map((at) => `${at} s`)]);
 });
 
 test("marks of a plot, and the line at the shown moment", () => {
@@ -110,7 +115,7 @@ test("the caption of a plot", () => {
   assert.deepStrictEqual([name.tag, name.textContent, caption.tag], ["strong", "/a", "figcaption"]);
   const keys = [["current", "pids.current"], ["limit", "pids.max"], ["peak", "pids.peak"], ["refused", "refused fork"], ["kill", "kill"]];
   assert.deepStrictEqual(rest.map((one) => [one.className, one.textContent]), keys.map(([kind, text]) => [`key key-${kind}`, text]));
-  assert.deepStrictEqual([button.textContent, button.title, button.ariaLabel, button.dataset.key], ["✕", "Take this plot off", "Take the plot of /a off", 1]);
+  assert.deepStrictEqual([button.textContent, button.title, button.ariaLabel, button.dataset.key], ["✕", "Remove this plot", "Remove the plot of /a", 1]);
   button.onclick();
   assert.deepStrictEqual(off, [1]);
 });
@@ -130,6 +135,7 @@ test("the cells of a row", () => {
   assert.deepStrictEqual([root.ariaExpanded, a.ariaExpanded, root.ariaSelected, a.ariaSelected], ["true", undefined, "true", "false"]);
   assert.deepStrictEqual([root.ariaLabel, a.ariaLabel], ["/: 4 processes in all", "a: pids.current 3, pids.max 3, pids.peak 3, refused here 1, in all 1"]);
   assert.deepStrictEqual([a.firstChild.title, a.className, root.className], ["/a", "row", "row chosen"]);
+  assert.strictEqual(texts(rowsOf(its, 4)[1])[4], "● yes", "one process is enough");
   const [, before] = rowsOf(its, 1);
   assert.deepStrictEqual(texts(before), ["a", "", "0 / max", "0", "○ no", "0 / 0", ""]);
   assert.deepStrictEqual(before.children.map((one) => one.className), ["name", "bar free", "number-cell", "number-cell", "no", "number-cell", ""]);
@@ -169,7 +175,7 @@ test("bars end at the limit, or without one at the peak", () => {
   assert.deepStrictEqual(bar(-1, 3, 4), ["bar free", "75%", "calc(100% - 2px)"]);
   assert.deepStrictEqual(bar(-1, 0, 0), ["bar free", "0%", null]);
   assert.deepStrictEqual(bar(0, 0, 0), ["bar full", "0%", null]);
-  assert.deepStrictEqual(bar(0, 1, 1), ["bar full", "100%", "calc(100% - 2px)"]);
+  assert.deepStrictEqual(bar(0, 1, 4), ["bar full", "100%", "calc(100% - 2px)"]);
 });
 
 test("a long name has its last twelve letters in a part of its own", () => {
@@ -306,6 +312,11 @@ test("a list whose box gets another size shows the row that was reached", () => 
   box.clientHeight = 44;
   resized();
   assert.deepStrictEqual([box.scrollTop, shown()], [176, range(6, 12)]);
+  list.show(1000, 0);
+  box.scrollTop = 440;
+  box.dispatch("scroll");
+  resized();
+  assert.deepStrictEqual([box.scrollTop, shown()], [0, range(0, 6)], "also the first");
   const other = listOf();
   other.list.show(1000);
   other.box.clientHeight = 44;

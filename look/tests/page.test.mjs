@@ -404,7 +404,7 @@ test("the details of a group", async () => {
 
 test("plots of the busiest groups, and of those that are chosen", async () => {
   const { at, key, click, rows } = await open(DATA, "#line=7"), plotted = () => at("plots").querySelectorAll("strong").map((one) => one.textContent);
-  assert.deepStrictEqual([plotted(), at("plot-it").textContent], [["/a"], "Take off the plots"]);
+  assert.deepStrictEqual([plotted(), at("plot-it").textContent], [["/a"], "Remove the plot"]);
   assert.strictEqual(at("plots").querySelector("svg").getAttribute("viewBox"), "0 0 400 108");
   const cursor = () => at("plots").querySelectorAll(".cursor").map((one) => one.getAttribute("d"));
   assert.deepStrictEqual(cursor(), ["M245.5 8V92"], "seven of twelve commands on 342 pixels after 46");
@@ -416,7 +416,7 @@ test("plots of the busiest groups, and of those that are chosen", async () => {
   rows("tree")[2].bubble("click");
   assert.strictEqual(at("plot-it").textContent, "Plot");
   key("p");
-  assert.deepStrictEqual([plotted(), at("plot-it").textContent], [["/a", "/a/b"], "Take off the plots"]);
+  assert.deepStrictEqual([plotted(), at("plot-it").textContent], [["/a", "/a/b"], "Remove the plot"]);
   click("plot-it");
   assert.deepStrictEqual(plotted(), ["/a"]);
   at("plots").querySelector("button").onclick();

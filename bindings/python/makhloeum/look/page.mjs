@@ -79,7 +79,7 @@ function showGroup() {
   at("path").textContent = run.paths[chosen];
   at("refusals").textContent = refused.moments.length > 0 ? `First of ${many(refused.moments.length, "refusal")}` : "No refusals";
   at("refusals").disabled = refused.moments.length === 0;
-  at("plot-it").textContent = plotted.includes(chosen) ? "Take off the plots" : "Plot";
+  at("plot-it").textContent = plotted.includes(chosen) ? "Remove the plot" : "Plot";
   at("plot-it").hidden = chosen === 0;
   refill(at("group"), table);
 }
