@@ -385,6 +385,25 @@ test("the arrow keys go on in the order of the rows where some are folded away",
   assert.deepStrictEqual([down.at("path").textContent, after(down, "ArrowDown"), after(down, "ArrowDown"), after(down, "ArrowUp")], ["/a/g19", "/a/g20", "/a/g21", "/a/g20"]);
 });
 
+test("the group that is chosen is in sight, and a step leaves the tree where it is", async () => {
+  const below = Array.from({ length: 40 }, (_, at) => `g${at + 10}`);
+  const data = {
+    ...DATA, lines: below.map((name) => `mkdir /${name}`).join("\n"), names: ["/", ...below], notes: {}, answer: below.map(() => 0), parents: Array(41).fill(0),
+    steps: below.flatMap((_, at) => [2, 0, at + 1]),
+  };
+  const { at, key, search } = await open(data, "#line=40", 220), tree = at("tree");
+  // ten of 41 rows have room: the last is the end of the box
+  assert.deepStrictEqual([at("path").textContent, tree.scrollTop, tree.getAttribute("aria-activedescendant")], ["/g49", 41 * 22 - 220, "tree-40"]);
+  tree.scrollTop = 0;
+  tree.dispatch("scroll");
+  key("ArrowLeft");
+  assert.strictEqual(tree.scrollTop, 0);
+  search("/g30");
+  assert.deepStrictEqual([at("path").textContent, tree.scrollTop], ["/g30", 0], "a search goes to a command");
+  key("ArrowUp", { target: tree });
+  assert.deepStrictEqual([at("path").textContent, tree.getAttribute("aria-activedescendant"), tree.scrollTop], ["/g29", "tree-20", 22 * 22 - 220], "the end of 22 rows");
+});
+
 test("the details of a group", async () => {
   const { at, key, search, rows } = await open(DATA, "#line=8"), lines = () => at("group").querySelectorAll("tr").map((row) => row.children.map((one) => one.textContent));
   assert.deepStrictEqual(lines(), [["cgroup.procs", "234"], ["pids.max", "3"], ["pids.current", "3"], ["pids.peak", "3"], ["pids.events", "max 1"], ["pids.events.local", "max 1"],
