@@ -82,7 +82,7 @@ test("the summary, the slider and the moment at first", async () => {
 test("a link to a moment, and the link that the page gives itself", async () => {
   for (const [hash, wanted, path] of [["#line=4", "after 4 of 12", "/a"], ["#before=4", "before 4 of 12", "/a"], ["#line=0", "after 0 of 12", "/"], ["#line=3", "after 3 of 12", "/"],
     ["#line=99", "after 12 of 12", "/a"], ["#line=7", "after 7 of 12", "/a"], ["#line=10", "after 10 of 12", "/a/b"], ["#LINE=4", "after 12 of 12", "/a"], ["#line=4 ", "after 12 of 12", "/a"],
-    ["#line=1234567890", "after 12 of 12", "/a"], ["#before=", "after 12 of 12", "/a"], ["x#line=4", "after 12 of 12", "/a"]]) {
+    ["#line=1234567890", "after 12 of 12", "/a"], ["#line=000000004", "after 4 of 12", "/a"], ["#line=999999999", "after 12 of 12", "/a"], ["#before=", "after 12 of 12", "/a"], ["x#line=4", "after 12 of 12", "/a"]]) {
     const { at } = await open(DATA, hash);
     assert.deepStrictEqual([at("moment").textContent, at("path").textContent], [wanted, path], hash);
   }
@@ -137,6 +137,18 @@ test("the whole answer", async () => {
   assert.strictEqual(at("answer").textContent, "9 write /a cgroup.kill 1\nok");
   key("ArrowLeft");
   assert.deepStrictEqual([at("answer").textContent, at("answer").querySelectorAll("span")[0].className], ["8 fork 2 5\nrefused pidsmax /a", "refused"]);
+});
+
+test("the row of the line is the one that a screen reader is told of, and in sight", async () => {
+  const { at, key } = await open(DATA, "#line=8", 88), told = () => at("list").getAttribute("aria-activedescendant");
+  // four of twelve rows have room
+  assert.deepStrictEqual([told(), at("list").scrollTop], ["list-7", 7 * 22 - 44]);
+  key("ArrowRight");
+  assert.deepStrictEqual([told(), at("list").scrollTop], ["list-8", 8 * 22 - 44]);
+  key("ArrowRight");
+  assert.deepStrictEqual([told(), at("list").scrollTop], ["list-9", 9 * 22 - 44]);
+  key("Home");
+  assert.deepStrictEqual([told(), at("list").scrollTop], ["list-0", 0]);
 });
 
 test("a click on a command", async () => {
@@ -306,6 +318,9 @@ test("a search for a process shows its life", async () => {
   assert.deepStrictEqual([rows(), at("life").querySelectorAll("a").map((one) => one.href)], [[["start", "born /", ""]], ["#line=0"]]);
   search("77");
   assert.strictEqual(at("life").textContent, "Process 77There is no such process in this run.");
+  const early = await open({ ...DATA, lines: "fork 1 2", steps: [3, 2, 2, 0], answer: [0], notes: {}, names: ["/"], parents: [0] });
+  early.search("2");
+  assert.deepStrictEqual(early.at("life").querySelectorAll("td").map((one) => one.textContent), ["line 1", "born /", "fork 1 2"]);
 });
 
 test("the refusals of a group", async () => {
