@@ -35,23 +35,32 @@ def test_each_limit_is_drawn(drawn):
     assert hypothesis.find(limits(4), lambda limit: limit == drawn, settings=FEW) == drawn
 
 
-DEEP = settings(FEW, max_examples=3000)
+DEEP = settings(FEW, max_examples=1000)
 
 
-@pytest.mark.parametrize("most, wanted", [(0, 0), (3, 3), (32, 32), (40, 32)])
+def bounds_of(strategy):
+    """Long lists and texts are hardly ever drawn, so their bound is read from what Hypothesis says of the strategy."""
+    return [int(most) for most in re.findall(r"max_size=(\d+)", repr(strategy))]
+
+
+@pytest.mark.parametrize("most, wanted", [(1, 1), (31, 31), (32, 32), (33, 32), (40, 32), (1000, 32)])
 def test_a_path_has_at_most_as_many_names_as_a_group_can_have(most, wanted):
+    assert bounds_of(paths(most, st.just("a"))) == [wanted]
+
+
+@pytest.mark.parametrize("most", [0, 1, 3])
+def test_paths_of_up_to_so_many_names(most):
     drawn = paths(most, st.just("a"))
-    longest = "/" + "/".join(["a"] * wanted)
-    assert hypothesis.find(drawn, lambda path: path == longest, settings=DEEP) == longest
-    assert hypothesis.find(drawn, lambda path: path == "/", settings=DEEP) == "/"
+    for count in range(most + 1):
+        path = "/" + "/".join(["a"] * count)
+        assert hypothesis.find(drawn, lambda it, wanted=path: it == wanted, settings=FEW) == path
     with pytest.raises(hypothesis.errors.NoSuchExample):
-        hypothesis.find(drawn, lambda path: path.count("a") > wanted, settings=DEEP)
+        hypothesis.find(drawn, lambda it: it.count("a") > most, settings=FEW)
 
 
 @pytest.mark.parametrize("given, wanted", [(1, 1), (12, 12), (255, 255), (256, 255), (1000, 255)])
 def test_a_name_has_at_most_255_letters(given, wanted):
-    """Longer ones are hardly ever drawn, so the bound is read from what Hypothesis says of the strategy."""
-    assert re.findall(r"max_size=(\d+)", repr(names(given))) == [str(wanted)]
+    assert bounds_of(names(given)) == [wanted]
 
 
 @pytest.mark.parametrize("most", [1, 4])
@@ -68,7 +77,7 @@ def test_what_is_drawn_without_bounds():
         assert hypothesis.find(drawn, lambda it, n=number: it == n, settings=DEEP) == number
         with pytest.raises(hypothesis.errors.NoSuchExample):
             hypothesis.find(drawn, lambda it, n=number: it > n, settings=FEW)
-    assert re.findall(r"max_size=(\d+)", repr(names()))[:1] == ["12"]
+    assert bounds_of(names()) == [12]
     assert hypothesis.find(paths(name=st.just("a")), lambda it: it.count("a") == 4, settings=FEW) == "/a/a/a/a"
     with pytest.raises(hypothesis.errors.NoSuchExample):
         hypothesis.find(paths(name=st.just("a")), lambda it: it.count("a") > 4, settings=FEW)
@@ -92,8 +101,8 @@ FORMS = [
 def test_each_kind_of_command_is_drawn(drawn):
     kinds = collections.Counter()
 
-    @FEW
-    @given(st.lists(drawn, min_size=5, max_size=20))
+    @settings(FEW, max_examples=60)
+    @given(st.lists(drawn, min_size=10, max_size=15))
     def count(lines):
         for line in lines:
             [form] = [form for form in FORMS if re.fullmatch(form, line)]
