@@ -246,28 +246,23 @@ func isFile(name string) bool {
 // Mkdir makes the group of that name, as os.Mkdir does. The error is that of Hierarchy.Mkdir, or an errno of a mount for a name that
 // no group can have, such as syscall.ENAMETOOLONG. It moves 16 bytes for each group with the same parent.
 func (f FS) Mkdir(name string) error {
-	if isFile(name) {
-		if _, err := f.find("mkdir", name); err != nil {
-			return err
-		}
-		return &fs.PathError{Op: "mkdir", Path: name, Err: syscall.EEXIST}
-	}
-	return f.change("mkdir", name, f.h.Mkdir)
+	return f.change("mkdir", name, f.h.Mkdir, syscall.EEXIST)
 }
 
 // Remove removes the group of that name, as os.Remove does. The error is that of Hierarchy.Rmdir, and syscall.EPERM for a file. It
 // moves 16 bytes for each group with the same parent.
 func (f FS) Remove(name string) error {
-	if isFile(name) {
-		if _, err := f.find("remove", name); err != nil {
-			return err
-		}
-		return &fs.PathError{Op: "remove", Path: name, Err: syscall.EPERM}
-	}
-	return f.change("remove", name, f.h.Rmdir)
+	return f.change("remove", name, f.h.Rmdir, syscall.EPERM)
 }
 
-func (f FS) change(operation, name string, change func(string) error) error {
+// change makes or removes a group; ofFile is the error for the name of a file that is there.
+func (f FS) change(operation, name string, change func(string) error, ofFile syscall.Errno) error {
+	if isFile(name) {
+		if _, err := f.find(operation, name); err != nil {
+			return err
+		}
+		return &fs.PathError{Op: operation, Path: name, Err: ofFile}
+	}
 	if !fs.ValidPath(name) {
 		return &fs.PathError{Op: operation, Path: name, Err: fs.ErrInvalid}
 	}

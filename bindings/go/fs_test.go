@@ -2,6 +2,7 @@ package makhloeum
 
 import (
 	"errors"
+	"io"
 	"io/fs"
 	"sort"
 	"strings"
@@ -166,5 +167,101 @@ func TestPartsOfAListingAreTheCallers(t *testing.T) {
 	}
 	for i, entry := range whole {
 		says(t, entry.Name(), all[i].Name(), nil)
+	}
+}
+
+// As fs.ReadDirFile says: with a positive number at most that many, and io.EOF at the end; else the rest, and no error at the end.
+func TestHowManyEntriesAreRead(t *testing.T) {
+	h := open(t)
+	do(t, h, "mkdir /a", "mkdir /a/b")
+	all, err := h.FS().ReadDir("a")
+	if err != nil {
+		t.Fatal(err)
+	}
+	type step struct {
+		n, want int
+		err     error
+	}
+	for _, steps := range [][]step{
+		{{3, 3, nil}, {1, 1, nil}, {0, len(all) - 4, nil}, {-1, 0, nil}, {1, 0, io.EOF}, {0, 0, nil}},
+		{{len(all) + 5, len(all), nil}, {1, 0, io.EOF}, {1, 0, io.EOF}}, {{len(all), len(all), nil}, {-1, 0, nil}},
+		{{-1, len(all), nil}, {2, 0, io.EOF}}, {{len(all) - 1, len(all) - 1, nil}, {2, 1, nil}, {2, 0, io.EOF}},
+	} {
+		opened, err := h.FS().Open("a")
+		if err != nil {
+			t.Fatal(err)
+		}
+		at := 0
+		for _, it := range steps {
+			part, err := opened.(fs.ReadDirFile).ReadDir(it.n)
+			if len(part) != it.want || err != it.err {
+				t.Fatal(it, len(part), err)
+			}
+			for _, entry := range part {
+				says(t, all[at].Name(), entry.Name(), nil)
+				at++
+			}
+		}
+	}
+}
+
+func TestAnOpenGroup(t *testing.T) {
+	h := open(t)
+	do(t, h, "mkdir /a")
+	opened, err := h.FS().Open("a")
+	if err != nil {
+		t.Fatal(err)
+	}
+	var failed *fs.PathError
+	if _, err := opened.Read(make([]byte, 9)); !errors.As(err, &failed) || failed.Op != "read" || failed.Path != "a" || failed.Err != syscall.EISDIR {
+		t.Error(err)
+	}
+	do(t, h, "rmdir /a")
+	folder := opened.(fs.ReadDirFile)
+	if _, err := folder.ReadDir(-1); !errors.Is(err, fs.ErrNotExist) {
+		t.Error(err)
+	}
+	// one that couldn't be listed is asked for again
+	do(t, h, "mkdir /a")
+	if entries, err := folder.ReadDir(-1); err != nil || len(entries) < 10 {
+		t.Error(len(entries), err)
+	}
+	// a listing is that of its first part
+	do(t, h, "mkdir /a/later")
+	if entries, err := folder.ReadDir(-1); err != nil || len(entries) != 0 {
+		t.Error(len(entries), err)
+	}
+	info, err := opened.Stat()
+	if err != nil || info.Name() != "a" || !info.IsDir() || info.Mode() != fs.ModeDir|0o755 || info.Size() != 0 || !info.ModTime().IsZero() || info.Sys() != nil {
+		t.Error(info, err)
+	}
+	if err := opened.Close(); err != nil {
+		t.Error(err)
+	}
+}
+
+// Info of an entry is that of the time at which it is asked.
+func TestEntriesOfAListing(t *testing.T) {
+	h := open(t)
+	do(t, h, "mkdir /a", "mkdir /a/b")
+	entries, err := h.FS().ReadDir("a")
+	if err != nil {
+		t.Fatal(err)
+	}
+	do(t, h, "write /a pids.max 12345", "rmdir /a/b")
+	for _, entry := range entries {
+		info, err := entry.Info()
+		if entry.Name() == "b" {
+			if !errors.Is(err, fs.ErrNotExist) || !entry.IsDir() || entry.Type() != fs.ModeDir {
+				t.Error(entry, err)
+			}
+			continue
+		}
+		if err != nil || info.Name() != entry.Name() || info.IsDir() || entry.Type() != 0 {
+			t.Error(entry, err)
+		}
+		if entry.Name() == "pids.max" && info.Size() != 6 {
+			t.Error(info.Size())
+		}
 	}
 }

@@ -17,17 +17,24 @@ func listed(told []byte, err error) ([]string, error) {
 	return strings.Split(string(told[:len(told)-1]), "\x00"), nil
 }
 
+// askedOf returns the bytes that a call of C returns for a path.
+func (h *Hierarchy) askedOf(c *call, operation, path string, do func(text *C.uint8_t, size C.size_t) C.uint32_t) ([]byte, error) {
+	text := []byte(path)
+	told, err := c.told(command{text: operation + " " + path, path: path, hasPath: true}, func() C.uint32_t {
+		return do(at(text), C.size_t(len(text)))
+	})
+	runtime.KeepAlive(h)
+	return told, err
+}
+
 // Children returns the names of the groups one name below the group path, in the order of their bytes. It is refused with NoGroup. It
 // takes time for each of them.
 func (h *Hierarchy) Children(path string) ([]string, error) {
 	c := newCall()
 	defer c.end()
-	text := []byte(path)
-	told, err := c.told(command{text: "children " + path, path: path, hasPath: true}, func() C.uint32_t {
-		return C.mk_children(&h.handle, at(text), C.size_t(len(text)), at(c.out), C.size_t(len(c.out)), &c.info)
-	})
-	runtime.KeepAlive(h)
-	return listed(told, err)
+	return listed(h.askedOf(c, "children", path, func(text *C.uint8_t, size C.size_t) C.uint32_t {
+		return C.mk_children(&h.handle, text, size, at(c.out), C.size_t(len(c.out)), &c.info)
+	}))
 }
 
 // Groups returns the paths of the group path and of all below it, each before those below it. It is refused with NoGroup. It takes
@@ -35,23 +42,18 @@ func (h *Hierarchy) Children(path string) ([]string, error) {
 func (h *Hierarchy) Groups(path string) ([]string, error) {
 	c := newCall()
 	defer c.end()
-	text := []byte(path)
-	told, err := c.told(command{text: "groups " + path, path: path, hasPath: true}, func() C.uint32_t {
-		return C.mk_subtree(&h.handle, at(text), C.size_t(len(text)), at(c.out), C.size_t(len(c.out)), &c.info)
-	})
-	runtime.KeepAlive(h)
-	return listed(told, err)
+	return listed(h.askedOf(c, "groups", path, func(text *C.uint8_t, size C.size_t) C.uint32_t {
+		return C.mk_subtree(&h.handle, text, size, at(c.out), C.size_t(len(c.out)), &c.info)
+	}))
 }
 
 // HasGroup says whether there is a group path. It is refused with BadPath if the text is not a path.
 func (h *Hierarchy) HasGroup(path string) (bool, error) {
 	c := newCall()
 	defer c.end()
-	text := []byte(path)
-	_, err := c.told(command{text: "has_group " + path, path: path, hasPath: true}, func() C.uint32_t {
-		return C.mk_has_group(&h.handle, at(text), C.size_t(len(text)), &c.info)
+	_, err := h.askedOf(c, "has_group", path, func(text *C.uint8_t, size C.size_t) C.uint32_t {
+		return C.mk_has_group(&h.handle, text, size, &c.info)
 	})
-	runtime.KeepAlive(h)
 	var refused *Refused
 	if errors.As(err, &refused) && refused.Code == NoGroup {
 		return false, nil

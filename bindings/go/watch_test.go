@@ -177,9 +177,15 @@ func TestAWaitEndsWithItsContext(t *testing.T) {
 
 // A hierarchy that nothing refers to any more is freed: the memory of many would be more than this.
 func TestAForgottenHierarchyIsFreed(t *testing.T) {
+	first := newWithGroup(t)
+	defer first.Close()
 	forget := func(rounds int) {
 		for i := 0; i < rounds; i++ {
-			newWithGroup(t)
+			if i%2 == 0 {
+				newWithGroup(t)
+			} else if _, err := first.Copy(); err != nil {
+				t.Fatal(err)
+			}
 			if i%50 == 0 {
 				runtime.GC()
 				time.Sleep(5 * time.Millisecond) // the finalizers run in a goroutine

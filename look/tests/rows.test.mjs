@@ -110,6 +110,9 @@ test("a path has steps, and gaps where there is no number", () => {
   assert.strictEqual(path([0, -1], [4, -1]), "");
   assert.strictEqual(path([0, 2], [3, 0], [6, 5]), "M0 2V2H3H3V0V0H6H6V5V5H9", "0 is a number");
   assert.strictEqual(path([2, 1], [2.1, 7], [2.2, 4]), "M2 1V1V7V4H9", "three in one column");
+  assert.strictEqual(path([2, -1], [2.1, 5]), "M2 5V5H9", "the first number of a column that begins without one");
+  assert.strictEqual(path([0, 3], [2, -1], [2.1, 5]), "M0 3V3H2H2V5V5H9");
+  assert.strictEqual(path([0, 3], [2, 4], [2.1, -1], [6, 1]), "M0 3V3H2H2V4M6 1V1H9");
 });
 
 test("marks in one column are one, at the last moment", () => {
@@ -131,4 +134,42 @@ test("a moment far away and back has the same numbers", () => {
   for (const moment of all) seen.set(moment, run.go(moment).groups.get(1)?.numbers[CURRENT]);
   for (const moment of [...all].reverse()) assert.strictEqual(run.go(moment).groups.get(1)?.numbers[CURRENT], seen.get(moment), `moment ${moment}`);
   for (const moment of [3001, 1, 1500, 501, 500, 0, 2999]) assert.strictEqual(run.go(moment).groups.get(1)?.numbers[CURRENT], seen.get(moment), `moment ${moment}`);
+  const kept = run.checkpoints.map(({ moment }) => moment), gaps = kept.slice(1).map((moment, at) => moment - kept[at]);
+  assert.ok(kept[0] === 0 && kept.length > 3 && kept.length < 60 && Math.max(...gaps, 3001 - kept.at(-1)) <= 1000 && Math.min(...gaps) > 9, kept.join());
+});
+
+// ---- differences
+
+test("each kind of difference may follow each other one in a command", () => {
+  // what each does on its own to the group 1 and process 5, from a state in which it can be done; all are seen in the numbers below
+  const start = [[0, 1], [0, 2], [0, 3], [2, 5, 1], [2, 6, 2], [2, 7, 3], [5, 3]];
+  const kinds = {
+    make: [0, 4], gone: [1, 3], born: [2, 8, 1], died: [3, 6], move: [4, 5, 2], kill: [5, 2], back: [6, 6], set: [7, LIMIT, 1, 9], add: [8, LOCAL, 2, 2, 3],
+  };
+  const told = (...steps) => {
+    const run = runOf(["a", "b", "c", "d"], [0, 1, 0, 0], [...start, ...steps]), state = run.go(start.length + steps.length);
+    return [...state.groups.values()].sort((a, b) => a.id - b.id).map((group) => [group.id, group.own, ...group.numbers, state.pidsOf(group).join()].join(" "));
+  };
+  for (const [first, one] of Object.entries(kinds)) {
+    for (const [second, two] of Object.entries(kinds)) {
+      if (first === second || (first === "gone" && second === "back") || (first === "back" && second === "gone") || /kill|died/.test(first) && /kill|died/.test(second)) continue;
+      assert.deepStrictEqual(told([...one, ...two]), told(one, two), `${first} and ${second}`);
+    }
+  }
+  assert.deepStrictEqual(told([...kinds.set, ...kinds.add, ...kinds.born, ...kinds.move]), ["0 1 -1 -1 -1 4 4 0 0 1", "1 1 -1 -1 9 3 3 0 3 8", "2 2 -1 -1 -1 2 2 0 3 5,6", "3 0 -1 -1 -1 0 1 0 0 "]);
+});
+
+test("a kill ends those that are there, in the group and below it, and none beside it", () => {
+  const start = [[0, 1], [0, 2], [0, 3], [2, 5, 1], [2, 6, 2], [2, 7, 3], [2, 8, 1], [3, 5], [4, 1, 1]], run = runOf(["a", "b", "ab"], [0, 1, 0], [...start, [5, 1], [6, start.length]]);
+  const homes = (moment) => [...run.go(moment).home];
+  assert.deepStrictEqual([...run.pids], [1, 5, 6, 7, 8]);
+  assert.deepStrictEqual([homes(9), homes(10), homes(11), homes(10), homes(9)], [[1, -1, 2, 3, 1], [-1, -1, -1, 3, -1], [1, -1, 2, 3, 1], [-1, -1, -1, 3, -1], [1, -1, 2, 3, 1]]);
+  const counts = (moment) => [...run.go(moment).groups.values()].map((group) => [group.own, group.numbers[CURRENT], group.numbers[PEAK]]);
+  assert.deepStrictEqual(counts(10), [[0, 1, 5], [0, 0, 3], [0, 0, 1], [1, 1, 1]]);
+  assert.deepStrictEqual(counts(11), [[0, 4, 5], [2, 3, 3], [1, 1, 1], [1, 1, 1]]);
+  assert.deepStrictEqual([8, 9, 10, 11].map((moment) => [...run.go(moment).fresh]), [[], [1], [], [1, 6, 8]], "those that the last command brought");
+  assert.deepStrictEqual([0, 4].map((moment) => [...run.go(moment).fresh]), [[], [5]]);
+  assert.deepStrictEqual([run.isKill(9), run.isKill(10), run.isKill(0)], [true, false, false]);
+  const none = runOf(["a", "b"], [0, 0], [[0, 1], [], [2, 5, 1, 0, 2]]);
+  assert.deepStrictEqual([0, 1, 2].map((command) => none.isKill(command)), [false, false, false], "a command that changes nothing, before one of five numbers");
 });

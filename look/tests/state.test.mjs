@@ -130,6 +130,19 @@ test("the group of a command", () => {
   );
   const wanted = ["/", "/a", "/a/b", "/", "/a/b", "/a", "/a/b", "/", "/a", "/a/b", "/a/b", "/a/b", "/a/b", "/a", "/"];
   assert.deepStrictEqual(wanted.map((_, moment) => group(moment, there)), wanted);
+  const back = answered(
+    ["mkdir /a", "ok", 0, 1], ["mkdir /a/b", "ok", 0, 2], ["fork 1 2", "ok", 2, 2, 0], ["write /a/b cgroup.procs 2", "ok", 4, 2, 2], ["write /a cgroup.procs 2", "ok", 4, 2, 1],
+    ["undo", "ok\n| write /a cgroup.procs 2", 4, 2, 2], ["fork 1 2", "refused pidinuse 2"], ["fork 9 2", "refused noprocess 9"], ["exit 2", "ok", 3, 2],
+    ["undo", "ok\n| exit 2", 2, 2, 2], ["write /a/b cgroup.kill 1", "ok", 5, 2], ["undo", "ok\n| write /a/b cgroup.kill 1", 6, 10], ["undo", "refused nothing"],
+  );
+  const told = ["/", "/a", "/a/b", "/", "/a/b", "/a", "/a", "/", "/a/b", "/a/b", "/a/b", "/a/b", "/a/b", "/"];
+  assert.deepStrictEqual(told.map((_, moment) => group(moment, back)), told, "an undo is about what the undone command names");
+});
+
+test("a pid is found with each digit, also where a command was refused", () => {
+  const lines = ["fork 1 1234567", "fork 1 890", "exit 890", "write /a cgroup.procs 890", "where 1234567", "cat /a pids.max", "write /a pids.max 890", "write / cgroup.procs 1234567"];
+  const there = answered(...lines.map((line) => [line, "refused noprocess"]));
+  assert.deepStrictEqual(["1234567", "890", "0890", "89", "/a", "/A"].map((query) => search(there, query)), [[1, 5, 8], [2, 3, 4], [], [], [4, 6, 7], [4, 6, 7]]);
 });
 
 test("series with marks, and times", () => {

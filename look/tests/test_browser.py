@@ -373,7 +373,7 @@ def test_everything_can_be_reached_by_the_keyboard(shown):
         "refusals",
         "plot-it",
         "pid",
-        "Take this plot off",
+        "Remove this plot",
     ):
         assert wanted in seen, (wanted, seen)
 

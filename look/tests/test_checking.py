@@ -5,14 +5,17 @@ import os
 import re
 import signal
 import socket
+import struct
 import subprocess
+import threading
+import time
 import types
 
 import pytest
 from support import HERE
 
 from makhloeum._table import PID_MAX
-from makhloeum.check import command, directory, known, opening
+from makhloeum.check import command, directory, known, opening, watching
 from makhloeum.check.differences import CONTRADICTION, difference
 from makhloeum.check.directory import remove_groups
 from makhloeum.check.engine import Answer, Engine
@@ -116,6 +119,114 @@ def test_an_answer_that_comes_in_parts():
     theirs.close()
     assert (lines.get(1), lines.get(1)) == ([2, 3], None)
     ours.close()
+
+
+# ---- what poll and inotify report
+
+
+def event(mask, name=b""):
+    """An event of inotify, as the kernel lays it out."""
+    return struct.pack("iIII", 1, mask, 0, len(name)) + name
+
+
+MODIFIED, IGNORED = event(0x2), event(0x8000)
+
+
+class Told(watching.Watch):
+    """A watch of a socket, on which a byte out of band is a POLLPRI, and of a pipe with events of inotify. `later` has what comes
+    after each read of the file."""
+
+    def __init__(self, now, *later):
+        near, self.far = socket.socketpair()
+        self._file = near.detach()
+        self._inotify, self.events = os.pipe2(os.O_NONBLOCK)
+        self.later, self.reads = list(later), 0
+        self.come(now)
+
+    def come(self, what):
+        for one in what:
+            if one == "poll":
+                self.far.send(b"!", socket.MSG_OOB)
+            else:
+                os.write(self.events, one)
+
+    def _see(self):
+        self.reads += 1
+        near = socket.socket(fileno=os.dup(self._file))
+        with near:
+            for kind in (socket.MSG_OOB, 0):
+                try:
+                    near.recv(1, kind | socket.MSG_DONTWAIT)
+                except OSError:
+                    pass
+        self.come(self.later.pop(0) if self.later else ())
+
+    def close(self):
+        super().close()
+        self.far.close()
+        os.close(self.events)
+
+
+@pytest.mark.parametrize(
+    "now, again, wanted, reads",
+    [
+        ([], [], "nothing", 0),
+        (["poll"], [], "poll", 1),
+        ([MODIFIED], [], "inotify", 1),
+        (["poll", MODIFIED], [], "poll inotify", 1),
+        (["poll", MODIFIED + MODIFIED], [], "poll inotify", 1),
+        (["poll", MODIFIED], ["poll"], "poll inotify, again poll", 2),
+        (["poll", MODIFIED], [MODIFIED], "poll inotify, again inotify", 2),
+        (["poll", MODIFIED], ["poll", MODIFIED], "poll inotify, again poll inotify", 2),
+        (["poll"], ["poll"], "poll, again poll", 2),
+        ([MODIFIED], ["poll"], "inotify, again poll", 2),
+        ([IGNORED], [], "nothing", 0),
+        (["poll", IGNORED], [], "poll", 1),
+        (["poll", IGNORED + event(0x2, b"file" + bytes(12))], [], "poll inotify", 1),
+        (["poll", event(0x8000, b"file" + bytes(12)) + MODIFIED], [], "poll inotify", 1),
+        (["poll", event(0x2 | 0x40000000)], [], "poll inotify", 1),
+    ],
+)
+def test_what_came_of_a_change(now, again, wanted, reads):
+    watch = Told(now, again)
+    try:
+        assert (watch.take(True, 0.2), watch.reads) == (wanted, reads)
+        assert (watch.take(True, 0.05), watch.reads) == ("nothing", reads), "each is told once"
+    finally:
+        watch.close()
+
+
+def test_a_change_that_is_due_is_waited_for_and_no_other():
+    watch = Told([])
+    try:
+        began = time.monotonic()
+        assert watch.take(False, 3600) == "nothing" and time.monotonic() - began < 600
+        late = threading.Timer(0.2, watch.come, (["poll", MODIFIED],))
+        late.start()
+        assert watch.take(True, 600) == "poll inotify", "it waits no longer once both have come"
+        assert time.monotonic() - began < 600
+        late.join()
+        watch.come(["poll"])
+        assert watch.take(False, 0) == "poll"
+    finally:
+        watch.close()
+
+
+def test_a_watch_of_a_file(tmp_path):
+    """A file elsewhere has no POLLPRI, but inotify tells of a write."""
+    file = tmp_path / "cgroup.events"
+    file.write_text("populated 0\n")
+    before = len(os.listdir("/proc/self/fd"))
+    watch = watching.Watch(str(file))
+    assert watch._modified() is False
+    with open(file, "a", encoding="ascii") as it:
+        it.write("frozen 0\n")
+    assert watch._modified() is True and watch._modified() is False
+    watch.close()
+    assert len(os.listdir("/proc/self/fd")) == before
+    with pytest.raises(FileNotFoundError):
+        watching.Watch(str(tmp_path / "none"))
+    assert len(os.listdir("/proc/self/fd")) == before
 
 
 # ---- removing groups

@@ -38,7 +38,7 @@ def test_buttons_have_names(shown):
     buttons = names(b, "button")
     assert len(buttons) == len(set(buttons)) >= 13, buttons
     for name in ("Play", "Play backwards", "One command forward", "One command back", "To the start", "To the end", "The next match",
-                 "The match before", "State before this line", "First of 3 refusals", "Take the plot of /batch off"):  # fmt: skip
+                 "The match before", "State before this line", "First of 3 refusals", "Remove the plot of /batch"):  # fmt: skip
         assert name in buttons, (name, buttons)
     assert all(any(letter.isascii() and letter.isalpha() for letter in name) for name in buttons)
     assert names(b, "combobox") == ["commands a second"]

@@ -86,7 +86,7 @@ def test_the_details_of_a_group(opened):
         ("cgroup.max.descendants", "max"),
         ("nr_descendants", "0"),
     ]
-    assert (b.text("#refusals"), b.text("#plot-it")) == ("First of 1 refusal", "Take off the plots")
+    assert (b.text("#refusals"), b.text("#plot-it")) == ("First of 1 refusal", "Remove the plot")
     choose(b, "/")
     rest = [("cgroup.max.depth", "max"), ("cgroup.max.descendants", "max"), ("nr_descendants", "2")]
     assert details(b) == [("cgroup.procs", "1"), *rest] and b.text("#refusals") == "No refusals"

@@ -1,8 +1,11 @@
 """The tree as text: bars, columns and numbers, each by a table; and the words of `view` and `tree`."""
 
+import os
+
 import pytest
 import support  # noqa: F401: it puts the package on the path
 
+from makhloeum import PidsMax, mounted_at
 from makhloeum.look import tree, view
 from makhloeum.look.tree import Node, draw, of_directory
 
@@ -199,3 +202,72 @@ def test_the_words_of_tree(words, wanted):
 )
 def test_the_words_of_view(words, wanted):
     assert view._words(words) == wanted
+
+
+# ---- what --watch waits for
+
+
+@pytest.fixture
+def followed():
+    """A hierarchy with files that tell of changes, and what waits for those of the groups that there are."""
+    with mounted_at("/cg") as h:
+        h.mkdir("/a")
+        h.mkdir("/a/b")
+        watch = tree.Watch("/cg")
+        watch.follow(of_directory("/cg"))
+        watch.wait(0)  # each file is ready before its first read
+        yield h, watch
+        watch.close()
+        assert watch.files == {}
+
+
+def ready(watch):
+    return sorted(path for path, file in watch.files.items() if file in [it for it, _ in watch.poll.poll(0)])
+
+
+def test_the_event_files_of_each_group_are_watched(followed):
+    h, watch = followed
+    wanted = {f"/cg{group}/{file}" for group in ("/a", "/a/b") for file in ("cgroup.events", "pids.events")}
+    assert set(watch.files) == wanted, "the root has none"
+    before, descriptors = dict(watch.files), len(os.listdir("/proc/self/fd"))
+    watch.follow(of_directory("/cg"))
+    assert watch.files == before, "no file is opened twice"
+    h.mkdir("/c")
+    h.rmdir("/a/b")
+    watch.follow(of_directory("/cg"))
+    assert set(watch.files) == {f"/cg/{group}/{file}" for group in "ac" for file in ("cgroup.events", "pids.events")}
+    assert len(os.listdir("/proc/self/fd")) == descriptors, "those of a group that is gone are closed"
+
+
+def test_a_wait_ends_with_a_change_and_takes_it(followed):
+    h, watch = followed
+    assert ready(watch) == []
+    with open("/cg/a/b/cgroup.procs", "w") as file:
+        file.write("1")
+    assert ready(watch) == ["/cg/a/b/cgroup.events", "/cg/a/cgroup.events"]
+    watch.wait(3600)
+    assert ready(watch) == [], "a file that was read waits for the next change"
+    h.write("/a", "pids.max", 1)
+    with pytest.raises(PidsMax):
+        h.fork(1, 2)
+    watch.wait(3600)
+    watch.wait(0)
+    assert ready(watch) == []
+
+
+def test_a_group_that_is_gone_is_watched_no_more(followed):
+    h, watch = followed
+    os.rmdir("/cg/a/b")
+    watch.wait(3600)
+    assert set(watch.files) == {"/cg/a/cgroup.events", "/cg/a/pids.events"}
+
+
+def test_at_most_so_many_groups_are_watched(monkeypatch):
+    monkeypatch.setattr(tree, "WATCHED_MOST", 3)
+    with mounted_at("/cg") as h:
+        for name in "abcd":
+            h.mkdir(f"/{name}")
+        watch = tree.Watch("/cg")
+        watch.follow(of_directory("/cg"))
+        assert {os.path.dirname(path) for path in watch.files} == {"/cg/a", "/cg/b"}, "the root is one of them"
+        watch.close()

@@ -99,8 +99,5 @@ int main(void)
 	int (*const parts[])(void) = { pids, other_files, paths, history };
 	if (mk_open(&h) != MK_DONE)
 		return 1;
-	int failed = run_all(parts, sizeof parts / sizeof *parts);
-	if (failed == 0 && mk_close(&h) != MK_DONE)
-		return 1;
-	return failed;
+	return run_and_close(parts, sizeof parts / sizeof *parts);
 }

@@ -38,4 +38,11 @@ static inline int run_all(int (*const parts[])(void), size_t count)
 	return 0;
 }
 
+/* As run_all, with an open handle that it closes. */
+static inline int run_and_close(int (*const parts[])(void), size_t count)
+{
+	int failed = run_all(parts, count);
+	return failed == 0 && mk_close(&h) != MK_DONE ? 1 : failed;
+}
+
 #endif

@@ -158,6 +158,42 @@ static int faults_of_paths(void)
 	return 0;
 }
 
+/* ---- the table of files: which the root has, and which can be read and written, by what the calls answer */
+
+static bool root_has(const char *file)
+{
+	return mk_read(&h, "/", file, text, sizeof text, &info) == MK_DONE;
+}
+
+/* Those of a mount that a hierarchy has not are here by hand. */
+static const mk_file added[] = { { "cgroup.controllers", true, true, false, "pids\n" },
+	{ "cgroup.freeze", false, true, true, "0\n" }, { "cgroup.subtree_control", true, true, true, "pids\n" },
+	{ "cgroup.type", false, true, true, "domain\n" },
+	{ "cpu.stat", true, true, false, "usage_usec 0\nuser_usec 0\nsystem_usec 0\n" } };
+
+static int files(void)
+{
+	const mk_file *it;
+	size_t count = 0, constants = 0;
+	for (; (it = mk_file_at(count)) != NULL; count++) {
+		CHECK(count == 0 || strcmp(mk_file_at(count - 1)->name, it->name) < 0);
+		if (it->constant != NULL) {
+			const mk_file *want = &added[constants++];
+			CHECK(strcmp(it->name, want->name) == 0 && strcmp(it->constant, want->constant) == 0 &&
+				it->on_root == want->on_root && it->readable == want->readable && it->writable == want->writable);
+			continue;
+		}
+		uint32_t status = mk_read(&h, "/a", it->name, text, sizeof text, &info);
+		CHECK(it->readable == (status == MK_DONE) && (it->readable || info.code == MK_DIRECTION));
+		CHECK(root_has(it->name) == (it->on_root && it->readable));
+		status = mk_write(&h, "/a", it->name, "x", &info);
+		CHECK(status == MK_FAULT && info.code == (it->writable ? MK_VALUE : MK_DIRECTION));
+	}
+	CHECK(count == 16 && constants == sizeof added / sizeof *added && mk_file_at(count + 1) == NULL &&
+		mk_file_at(SIZE_MAX) == NULL);
+	return 0;
+}
+
 /* ---- what mk_put takes */
 
 static uint32_t put(const char *file, const char *data, size_t size)
@@ -235,11 +271,8 @@ static int constants(void)
 
 int main(void)
 {
-	int (*const parts[])(void) = { commands, reads, small, codes, statuses, faults_of_paths, digits, constants };
+	int (*const parts[])(void) = { commands, reads, small, codes, statuses, faults_of_paths, files, digits, constants };
 	if (mk_open(&h) != MK_DONE)
 		return 1;
-	int failed = run_all(parts, sizeof parts / sizeof *parts);
-	if (failed == 0 && mk_close(&h) != MK_DONE)
-		return 1;
-	return failed;
+	return run_and_close(parts, sizeof parts / sizeof *parts);
 }

@@ -250,8 +250,5 @@ int main(void)
 		return 1;
 	if (mk_fork(&h, 1, 2, &info) != MK_DONE || mk_attach(&h, "/a", 2, &info) != MK_DONE)
 		return 1;
-	int failed = run_all(parts, sizeof parts / sizeof *parts);
-	if (failed == 0 && mk_close(&h) != MK_DONE)
-		return 1;
-	return failed;
+	return run_and_close(parts, sizeof parts / sizeof *parts);
 }

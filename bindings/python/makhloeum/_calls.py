@@ -245,7 +245,7 @@ class Calls:
             node.check()
         elif flags & os.O_DIRECTORY:
             node.check()
-            raise error(errno.ENOTDIR, node.shown)
+            raise error(errno.EISDIR if node.file is None else errno.ENOTDIR, node.shown)
         else:
             makes = bool(flags & os.O_CREAT)
             opened = self._opened(
@@ -392,14 +392,14 @@ class Calls:
 
         def call(*words: Any, **more: Any) -> Any:
             one = more.get("dir_fd")
-            fds = [more.get("src_dir_fd", one), more.get("dst_dir_fd", one)] if name in _TWO_PATHS else [one]
+            fds = [more.get("src_dir_fd"), more.get("dst_dir_fd", one)] if name in _TWO_PATHS else [one]
             given = [*words, *(more[key] for key in ("path", "fd", "src", "dst") if key in more)]
             nodes = [self.node(word, fd) for word, fd in zip(given, fds)]
             if not any(nodes):
                 return self.was[name](*words, **more)
             if nodes[0] is not None and name in _MADE:
                 self._opened(nodes[0], False, False, True, True)
-            elif nodes[0] is not None:
+            elif nodes[0] is not None and name != "symlink":  # whose first path is a text that nobody looks up
                 nodes[0].check()
             if name in _REFUSED:
                 raise error(_REFUSED[name], str(given[0]) if isinstance(given[0], int) else os.fsdecode(given[0]))

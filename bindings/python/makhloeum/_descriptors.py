@@ -98,32 +98,39 @@ class Shared(io.RawIOBase):
             if self._closes:
                 self._table.close(self._fd)
 
+    def _file(self) -> RawFile:
+        """The open file, while this object isn't closed; others may be open still."""
+        if self.closed:
+            raise ValueError("I/O operation on closed file")
+        return self._raw
+
     def fileno(self) -> int:
+        self._file()
         return self._fd
 
     def readable(self) -> bool:
-        return self._raw.readable()
+        return self._file().readable()
 
     def writable(self) -> bool:
-        return self._raw.writable()
+        return self._file().writable()
 
     def seekable(self) -> bool:
-        return True
+        return self._file().seekable()
 
     def seek(self, offset: int, whence: int = os.SEEK_SET) -> int:
-        return self._raw.seek(offset, whence)
+        return self._file().seek(offset, whence)
 
     def tell(self) -> int:
-        return self._raw.tell()
+        return self._file().tell()
 
     def truncate(self, size: int | None = None) -> int:
-        return self._raw.truncate(size)
+        return self._file().truncate(size)
 
     def readinto(self, buffer: Any) -> int:
-        return self._raw.readinto(buffer)
+        return self._file().readinto(buffer)
 
     def write(self, data: Any) -> int:
-        return self._raw.write(data)
+        return self._file().write(data)
 
 
 def at_position(raw: RawFile, offset: int, call: Callable[[], Any]) -> Any:

@@ -88,6 +88,40 @@ def test_a_closed_hierarchy_is_not_copied(way):
     gc.collect()
 
 
+class Named(Hierarchy):
+    """A subclass with a field and a way of its own to begin."""
+
+    def __init__(self, name):
+        super().__init__()
+        self.name = name
+
+    def copies(self):
+        return self.name
+
+
+@pytest.mark.parametrize("way", WAYS)
+def test_a_copy_of_a_subclass_is_a_plain_hierarchy(way):
+    with Named("first") as h:
+        h.mkdir("/a")
+        with way(h) as other:
+            assert type(other) is Hierarchy and story(other) == story(h)
+            assert not hasattr(other, "name") and not other.closed and not h.closed
+
+
+def test_a_copy_is_entered_and_closed_by_itself():
+    with filled() as h:
+        other = h.copy()
+        with other:
+            with pytest.raises(RuntimeError):
+                other.__enter__()
+            assert not other.closed
+        assert other.closed and not h.closed
+        other.close()
+        assert h.has_group("/a")
+        with h.copy() as third, third.copy() as fourth:
+            assert story(fourth) == story(h)
+
+
 def test_a_copy_in_a_list():
     with filled() as h:
         first, second = copy.deepcopy([h, h])

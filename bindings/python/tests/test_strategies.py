@@ -1,6 +1,7 @@
 """The Hypothesis strategies, and the state machine beside the plain model."""
 
 import collections
+import re
 
 import pytest
 
@@ -32,6 +33,83 @@ def test_names_are_names(first, second):
 @pytest.mark.parametrize("drawn", ["max", "0", "1", "4"])
 def test_each_limit_is_drawn(drawn):
     assert hypothesis.find(limits(4), lambda limit: limit == drawn, settings=FEW) == drawn
+
+
+DEEP = settings(FEW, max_examples=1000)
+
+
+def bounds_of(strategy):
+    """Long lists and texts are hardly ever drawn, so their bound is read from what Hypothesis says of the strategy."""
+    return [int(most) for most in re.findall(r"max_size=(\d+)", repr(strategy))]
+
+
+@pytest.mark.parametrize("most, wanted", [(1, 1), (31, 31), (32, 32), (33, 32), (40, 32), (1000, 32)])
+def test_a_path_has_at_most_as_many_names_as_a_group_can_have(most, wanted):
+    assert bounds_of(paths(most, st.just("a"))) == [wanted]
+
+
+@pytest.mark.parametrize("most", [0, 1, 3])
+def test_paths_of_up_to_so_many_names(most):
+    drawn = paths(most, st.just("a"))
+    for count in range(most + 1):
+        path = "/" + "/".join(["a"] * count)
+        assert hypothesis.find(drawn, lambda it, wanted=path: it == wanted, settings=FEW) == path
+    with pytest.raises(hypothesis.errors.NoSuchExample):
+        hypothesis.find(drawn, lambda it: it.count("a") > most, settings=FEW)
+
+
+@pytest.mark.parametrize("given, wanted", [(1, 1), (12, 12), (255, 255), (256, 255), (1000, 255)])
+def test_a_name_has_at_most_255_letters(given, wanted):
+    assert bounds_of(names(given)) == [wanted]
+
+
+@pytest.mark.parametrize("most", [1, 4])
+def test_bounds_of_numbers(most):
+    for drawn, least in ((pids(most), 1), (limits(most).filter(lambda it: it != "max").map(int), 0)):
+        for number in (least, most):
+            assert hypothesis.find(drawn, lambda it, n=number: it == n, settings=FEW) == number
+        with pytest.raises(hypothesis.errors.NoSuchExample):
+            hypothesis.find(drawn, lambda it, n=least: it < n or it > most, settings=FEW)
+
+
+def test_what_is_drawn_without_bounds():
+    for drawn, number in ((pids(), 4194303), (limits().filter(lambda it: it != "max").map(int), 4194304)):
+        assert hypothesis.find(drawn, lambda it, n=number: it == n, settings=DEEP) == number
+        with pytest.raises(hypothesis.errors.NoSuchExample):
+            hypothesis.find(drawn, lambda it, n=number: it > n, settings=FEW)
+    assert bounds_of(names()) == [12]
+    assert hypothesis.find(paths(name=st.just("a")), lambda it: it.count("a") == 4, settings=FEW) == "/a/a/a/a"
+    with pytest.raises(hypothesis.errors.NoSuchExample):
+        hypothesis.find(paths(name=st.just("a")), lambda it: it.count("a") > 4, settings=FEW)
+
+
+FORMS = [
+    r"mkdir /\S*",
+    r"rmdir /\S*",
+    r"fork [0-9]+ [0-9]+",
+    r"exit [0-9]+",
+    r"write /\S* cgroup.procs [0-9]+",
+    r"write /\S* pids.max (max|[0-6])",
+    r"write /\S* cgroup.max.depth (max|[0-6])",
+    r"write /\S* cgroup.max.descendants (max|[0-6])",
+    r"write /\S* cgroup.kill 1",
+    "undo",
+]
+
+
+@pytest.mark.parametrize("drawn", [commands(), commands(paths(3, st.sampled_from("ab")), pids(8))])
+def test_each_kind_of_command_is_drawn(drawn):
+    kinds = collections.Counter()
+
+    @settings(FEW, max_examples=60)
+    @given(st.lists(drawn, min_size=10, max_size=15))
+    def count(lines):
+        for line in lines:
+            [form] = [form for form in FORMS if re.fullmatch(form, line)]
+            kinds[form] += 1
+
+    count()
+    assert sorted(kinds) == sorted(FORMS)
 
 
 @FEW

@@ -54,7 +54,7 @@ export function plotOf(run, series, wide, tip, go, off) {
   });
   svg.addEventListener("pointerleave", () => (tip.hidden = true));
   svg.addEventListener("click", (event) => go(pointed(event)));
-  const button = make("button", { title: "Take this plot off", ariaLabel: `Take the plot of ${name} off`, onclick: () => off(series.id) }, "✕");
+  const button = make("button", { title: "Remove this plot", ariaLabel: `Remove the plot of ${name}`, onclick: () => off(series.id) }, "✕");
   button.dataset.key = series.id;
   const key = Object.entries(KEY).map(([kind, text]) => make("span", { className: `key key-${kind}` }, text));
   const caption = make("figcaption", {}, make("strong", {}, name), ...key, button);

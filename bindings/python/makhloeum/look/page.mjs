@@ -79,7 +79,7 @@ function showGroup() {
   at("path").textContent = run.paths[chosen];
   at("refusals").textContent = refused.moments.length > 0 ? `First of ${many(refused.moments.length, "refusal")}` : "No refusals";
   at("refusals").disabled = refused.moments.length === 0;
-  at("plot-it").textContent = plotted.includes(chosen) ? "Take off the plots" : "Plot";
+  at("plot-it").textContent = plotted.includes(chosen) ? "Remove the plot" : "Plot";
   at("plot-it").hidden = chosen === 0;
   refill(at("group"), table);
 }
@@ -230,7 +230,10 @@ function onTreeKey(event) {
   const index = rowOf(view.chosen), by = { ArrowUp: -1, ArrowDown: 1 }[event.key];
   if (by) {
     let next = index + by;
-    if (rows[next] && rows[next].rest > 0) fold(rows[next]);
+    if (rows[next] && rows[next].rest > 0) {
+      fold(rows[next]);
+      next = rowOf(view.chosen) + by;
+    }
     if (rows[next] && !rows[next].group) next += by;
     if (rows[next]) choose(rows[next].group.id);
   } else if (event.key === "Enter" && index >= 0) fold(rows[index]);

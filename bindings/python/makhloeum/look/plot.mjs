@@ -33,15 +33,13 @@ export function stepPath(points, field, x, y, end) {
     if (!column || column.at !== at) {
       const starts = !column || column.last < 0;
       flush(starts ? undefined : at);
-      column = { at, starts, drawn: false, low: Infinity, high: -Infinity, first: value, last: value };
+      column = { at, starts, drawn: false, low: Infinity, high: -Infinity, last: value };
     }
     if (value >= 0) {
       if (!column.drawn) column.first = value;
       column.drawn = true;
       column.low = Math.min(column.low, value);
       column.high = Math.max(column.high, value);
-    } else if (column.last >= 0 && !column.drawn) {
-      column.last = value;
     }
     column.last = value;
   }

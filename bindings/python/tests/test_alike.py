@@ -1,0 +1,435 @@
+"""Served files beside real ones: each call is made on both, and answers alike. What a cgroup file does otherwise is in tables."""
+
+import errno
+import os
+import pathlib
+import stat
+import tempfile
+
+import pytest
+
+from makhloeum import mounted_at
+
+AT = "/sys/fs/cgroup"
+NAMES = {errno.EOPNOTSUPP: "EOPNOTSUPP"}  # it has two
+
+
+@pytest.fixture
+def h(at_cgroup):
+    return at_cgroup
+
+
+@pytest.fixture
+def real(tmp_path):
+    """A real folder with a file of the same name, length and text."""
+    (tmp_path / "a").mkdir()
+    (tmp_path / "a" / "pids.max").write_text("max\n")
+    return str(tmp_path)
+
+
+def told(call, *words, **more):
+    """What a call returns, or the errno and the path of its error."""
+    try:
+        return call(*words, **more)
+    except OSError as failure:
+        return NAMES.get(failure.errno, errno.errorcode[failure.errno]), failure.filename
+
+
+def code(call, *words, **more):
+    it = told(call, *words, **more)
+    return it[0] if isinstance(it, tuple) else "ok"
+
+
+# ---- ways to open
+
+
+@pytest.mark.parametrize(
+    "mode",
+    [
+        "r",
+        "w",
+        "a",
+        "x",
+        "r+",
+        "w+",
+        "a+",
+        "x+",
+        "rb",
+        "wb",
+        "ab",
+        "xb",
+        "r+b",
+        "wb+",
+        "at",
+    ],
+)
+def test_an_opener_is_given_the_flags_that_a_real_file_has(h, tmp_path, mode):
+    given = []
+
+    def opener(path, flags):
+        given.append((path, flags))
+        raise KeyError
+
+    for path in (f"{AT}/a/pids.max", f"{tmp_path}/f"):
+        with pytest.raises(KeyError):
+            open(path, mode, opener=opener)
+    (served, flags), (_, wanted) = given
+    assert served == f"{AT}/a/pids.max" and flags == wanted
+
+
+FLAGS = [
+    os.O_RDONLY,
+    os.O_WRONLY,
+    os.O_RDWR,
+    os.O_RDONLY | os.O_CREAT,
+    os.O_WRONLY | os.O_CREAT,
+    os.O_RDWR | os.O_CREAT | os.O_EXCL,
+    os.O_RDONLY | os.O_CREAT | os.O_EXCL,
+    os.O_WRONLY | os.O_EXCL,
+    os.O_WRONLY | os.O_TRUNC,
+    os.O_RDONLY | os.O_DIRECTORY,
+    os.O_WRONLY | os.O_DIRECTORY,
+    os.O_RDWR | os.O_APPEND,
+    os.O_RDONLY | os.O_NOFOLLOW | os.O_CLOEXEC,
+]
+
+
+@pytest.mark.parametrize("flags", FLAGS)
+@pytest.mark.parametrize("name", ["a/pids.max", "a", "a/pids.max/x", "b/pids.max"])
+def test_a_file_or_group_is_opened_as_a_real_one(h, real, name, flags):
+    found = []
+    for top in (AT, real):
+        try:
+            fd = os.open(f"{top}/{name}", flags)
+        except OSError as failure:
+            found.append((errno.errorcode[failure.errno], failure.filename.replace(real, AT)))
+            continue
+        found.append((stat.S_IFMT(os.fstat(fd).st_mode), os.get_inheritable(fd)))
+        os.close(fd)
+    assert found[0] == found[1]
+
+
+def test_only_the_kernels_own_files_can_be_made(h):
+    for flags in (
+        os.O_WRONLY | os.O_CREAT,
+        os.O_RDONLY | os.O_CREAT,
+        os.O_RDWR | os.O_CREAT | os.O_EXCL,
+    ):
+        assert told(os.open, f"{AT}/a/new", flags) == ("EACCES", f"{AT}/a/new")
+        assert told(os.open, f"{AT}/none/new", flags) == ("ENOENT", f"{AT}/none/new")
+    assert told(os.open, f"{AT}/a", os.O_RDWR | os.O_TMPFILE) == (
+        "EOPNOTSUPP",
+        f"{AT}/a",
+    )
+    assert told(os.open, f"{AT}/a/new", os.O_RDONLY) == ("ENOENT", f"{AT}/a/new")
+
+
+def test_descriptors_are_inherited_as_those_of_real_files(h, real):
+    for top in (AT, real):
+        fd = os.open(f"{top}/a/pids.max", os.O_RDONLY)
+        copy, over, apart = (
+            os.dup(fd),
+            os.open("/dev/null", os.O_RDONLY),
+            os.open("/dev/null", os.O_RDONLY),
+        )
+        assert [os.dup2(fd, over), os.dup2(fd, apart, False)] == [over, apart]
+        assert [os.get_inheritable(it) for it in (fd, copy, over, apart)] == [
+            False,
+            False,
+            True,
+            False,
+        ]
+        assert os.dup2(over, over) == over and os.pread(over, 9, 0) == os.pread(apart, 9, 1).rjust(4, b"m") == b"max\n"
+        for it in (fd, copy, over, apart):
+            os.close(it)
+    assert code(os.dup2, fd, over) == code(os.dup, fd) == "EBADF"
+
+
+# ---- reading and writing
+
+
+def test_bytes_from_each_place(h, real):
+    for top in (AT, real):
+        fd = os.open(f"{top}/a/pids.max", os.O_RDWR)
+        assert [os.pread(fd, size, at) for size, at in ((0, 0), (2, 0), (2, 1), (99, 3), (9, 4), (9, 99))] == [
+            b"",
+            b"ma",
+            b"ax",
+            b"\n",
+            b"",
+            b"",
+        ]
+        assert [os.read(fd, size) for size in (0, 1, 2, 99, 99)] == [
+            b"",
+            b"m",
+            b"ax",
+            b"\n",
+            b"",
+        ]
+        assert [
+            os.lseek(fd, 2, os.SEEK_SET),
+            os.lseek(fd, -1, os.SEEK_CUR),
+            os.lseek(fd, 0, os.SEEK_CUR),
+        ] == [2, 1, 1]
+        assert code(os.lseek, fd, -2, os.SEEK_CUR) == code(os.pread, fd, 1, -1) == "EINVAL"
+        assert os.lseek(fd, 0, os.SEEK_CUR) == 1 and os.write(fd, b"") == 0 and os.lseek(fd, 0, os.SEEK_CUR) == 1
+        assert os.lseek(fd, 0, os.SEEK_SET) == 0 and os.write(fd, b"12\n") == 3 and os.lseek(fd, 0, os.SEEK_CUR) == 3
+        assert os.pwrite(fd, b"", 1) == 0 and os.lseek(fd, 0, os.SEEK_CUR) == 3
+        os.close(fd)
+
+
+def test_a_file_object_has_a_position(h, real):
+    for top in (AT, real):
+        with open(f"{top}/a/pids.max", "r+b", buffering=0) as file:
+            assert (
+                file.tell(),
+                file.read(1),
+                file.tell(),
+                file.seek(3),
+                file.read(),
+                file.tell(),
+            ) == (0, b"m", 1, 3, b"\n", 4)
+            assert (
+                file.seek(-2, os.SEEK_CUR),
+                file.tell(),
+                file.seek(0, os.SEEK_END),
+            ) == (2, 2, 4)
+            assert file.seek(1) == 1 and file.readall() == b"ax\n" and file.readall() == b""
+            assert file.fileno() > 2 and file.closed is False
+            file.close()
+            file.close()
+            assert file.closed
+            calls = [
+                file.read,
+                file.readall,
+                file.tell,
+                file.truncate,
+                file.fileno,
+                file.readable,
+                file.writable,
+                file.seekable,
+            ]
+            for call in (*calls, lambda: file.write(b"1"), lambda: file.seek(0), lambda: file.readinto(bytearray(1))):
+                with pytest.raises(ValueError):
+                    call()
+
+
+def test_a_cgroup_file_is_not_truncated(h):
+    with open(f"{AT}/a/pids.max", "r+b", buffering=0) as file:
+        assert file.truncate(2) == 2 and file.read(3) == b"max" and file.truncate() == 3
+        assert file.seek(0) == 0 and file.read() == b"max\n"
+    assert os.truncate(f"{AT}/a/pids.max", 1) is None and h.read("/a", "pids.max") == "max\n"
+    with open(f"{AT}/a/pids.max", "w"):
+        pass
+    assert h.limit("/a") is None and h.changes() == 1
+
+
+@pytest.mark.parametrize("flags, call", [(os.O_RDONLY, "write"), (os.O_WRONLY, "read")])
+def test_a_file_that_is_open_in_one_way(h, real, flags, call):
+    words = {"write": (b"1",), "read": (9,)}[call]
+    for top in (AT, real):
+        fd = os.open(f"{top}/a/pids.max", flags)
+        assert code(getattr(os, call), fd, *words) == "EBADF"
+        assert code(getattr(os, "p" + call), fd, *words, 0) == "EBADF"
+        os.close(fd)
+
+
+# ---- paths beside a descriptor of a folder
+
+
+def test_names_beside_a_descriptor(h, real):
+    for top in (AT, real):
+        fd = os.open(top, os.O_RDONLY | os.O_DIRECTORY)
+        assert os.stat("a", dir_fd=fd).st_ino == os.stat(f"{top}/a").st_ino == os.lstat("a", dir_fd=fd).st_ino
+        assert os.stat("./a/../a/pids.max", dir_fd=fd).st_size == 4 and os.access("a/pids.max", os.R_OK, dir_fd=fd)
+        assert not os.access("b", os.F_OK, dir_fd=fd) and code(os.stat, "b", dir_fd=fd) == "ENOENT"
+        assert (
+            os.mkdir("b", dir_fd=fd) is None
+            and os.path.isdir(f"{top}/b")
+            and code(os.mkdir, "b", dir_fd=fd) == "EEXIST"
+        )
+        inner = os.open("b", os.O_RDONLY, dir_fd=fd)
+        assert os.mkdir("c", 0o700, dir_fd=inner) is None and os.path.isdir(f"{top}/b/c")
+        assert code(os.readlink, "c", dir_fd=inner) == "EINVAL" and code(os.readlink, "d", dir_fd=inner) == "ENOENT"
+        assert os.chmod("c", 0o700, dir_fd=inner) is None and code(os.chmod, "d", 0o700, dir_fd=inner) == "ENOENT"
+        assert os.utime("c", dir_fd=inner) is None and code(os.rmdir, "b", dir_fd=fd) in ("EBUSY", "ENOTEMPTY")
+        assert (
+            os.rmdir("c", dir_fd=inner) is None and os.rmdir("b", dir_fd=fd) is None and not os.path.exists(f"{top}/b")
+        )
+        # an absolute path doesn't look at the descriptor
+        assert os.stat(f"{AT}/a", dir_fd=fd).st_ino == os.stat(f"{AT}/a").st_ino
+        assert os.stat(f"{real}/a", dir_fd=fd).st_ino == os.stat(f"{real}/a").st_ino
+        os.close(inner)
+        os.close(fd)
+    assert code(os.stat, "a", dir_fd=fd) == "EBADF"
+
+
+def test_a_file_is_no_folder(h, real):
+    for top in (AT, real):
+        fd = os.open(f"{top}/a/pids.max", os.O_RDONLY)
+        for call in (os.stat, os.lstat, os.mkdir, os.rmdir, os.readlink):
+            assert code(call, "x", dir_fd=fd) == "ENOTDIR", call
+        assert code(os.listdir, fd) == code(os.scandir, fd) == code(os.listdir, f"{top}/a/pids.max") == "ENOTDIR"
+        assert not os.access("x", os.F_OK, dir_fd=fd)
+        os.close(fd)
+
+
+def test_two_paths_beside_descriptors(h, real):
+    served, folder = os.open(f"{AT}/a", os.O_RDONLY), os.open(real, os.O_RDONLY)
+    for call in (os.rename, os.replace, os.link):
+        assert code(call, "pids.max", "x", src_dir_fd=served, dst_dir_fd=folder) == "EPERM"
+        assert code(call, "a/pids.max", "x", src_dir_fd=folder, dst_dir_fd=served) == "EPERM"
+    assert code(os.symlink, "elsewhere", "x", dir_fd=served) == code(os.unlink, "pids.max", dir_fd=served) == "EPERM"
+    assert code(os.unlink, "none", dir_fd=served) == "ENOENT" and code(os.mkfifo, "x", dir_fd=served) == "EACCES"
+    os.rename("a/pids.max", "moved", src_dir_fd=folder, dst_dir_fd=folder)
+    os.symlink("moved", "link", dir_fd=folder)
+    assert os.readlink("link", dir_fd=folder) == "moved" and sorted(os.listdir(real)) == ["a", "link", "moved"]
+    for fd in (served, folder):
+        os.close(fd)
+
+
+# ---- what is refused, and what does nothing
+
+REFUSED = [
+    ("EPERM", os.unlink, ()),
+    ("EPERM", os.remove, ()),
+    ("EPERM", os.rename, ("/tmp/x",)),
+    ("EPERM", os.replace, ("/tmp/x",)),
+    ("EPERM", os.link, ("/tmp/x",)),
+    ("EOPNOTSUPP", os.getxattr, ("user.x",)),
+    ("EOPNOTSUPP", os.setxattr, ("user.x", b"1")),
+    ("EOPNOTSUPP", os.listxattr, ()),
+    ("EOPNOTSUPP", os.removexattr, ("user.x",)),
+    ("EOPNOTSUPP", os.chdir, ()),
+    ("EOPNOTSUPP", os.chroot, ()),
+    ("EOPNOTSUPP", os.statvfs, ()),
+    ("EOPNOTSUPP", os.pathconf, ("PC_NAME_MAX",)),
+]
+
+
+@pytest.mark.parametrize("number, early, more", REFUSED)
+def test_what_is_refused(h, number, early, more):
+    call = getattr(os, early.__name__)
+    for kind in (str, os.fsencode, pathlib.Path):
+        assert told(call, kind(f"{AT}/a/pids.max"), *more) == (
+            number,
+            f"{AT}/a/pids.max",
+        )
+        assert told(call, kind(f"{AT}/a"), *more) == (number, f"{AT}/a")
+        assert code(call, kind(f"{AT}/none"), *more) == "ENOENT"
+    assert h.groups() == ["/", "/a"] and h.changes() == 1
+
+
+WITHOUT_EFFECT = [
+    (os.chmod, (0o600,)),
+    (os.chown, (0, 0)),
+    (os.lchown, (0, 0)),
+    (os.utime, ()),
+    (os.truncate, (0,)),
+]
+
+
+@pytest.mark.parametrize("early, more", WITHOUT_EFFECT)
+def test_what_does_nothing(h, early, more):
+    call = getattr(os, early.__name__)
+    before = [os.stat(f"{AT}/a/pids.max"), os.stat(f"{AT}/a")]
+    assert call(f"{AT}/a/pids.max", *more) is None and call(os.fsencode(f"{AT}/a"), *more) is None
+    assert [os.stat(f"{AT}/a/pids.max"), os.stat(f"{AT}/a")] == before
+    assert told(call, f"{AT}/none/pids.max", *more) == ("ENOENT", f"{AT}/none/pids.max")
+
+
+def test_calls_of_a_descriptor_that_do_nothing(h):
+    fd = os.open(f"{AT}/a/pids.max", os.O_RDWR)
+    assert [
+        os.fchmod(fd, 0o600),
+        os.fchown(fd, 0, 0),
+        os.ftruncate(fd, 0),
+        os.utime(fd),
+    ] == [None] * 4
+    assert os.pread(fd, 9, 0) == b"max\n" and stat.S_IMODE(os.fstat(fd).st_mode) == 0o644
+    os.close(fd)
+    assert code(os.fchmod, fd, 0o600) == code(os.ftruncate, fd, 0) == "EBADF"
+
+
+def test_real_files_change_meanwhile(h, real):
+    file = f"{real}/a/pids.max"
+    os.chmod(file, 0o640)
+    os.truncate(file, 2)
+    os.utime(file, (1, 2))
+    os.setxattr(file, "user.x", b"1") if code(os.setxattr, file, "user.x", b"0") == "ok" else None
+    it = os.stat(file)
+    assert (stat.S_IMODE(it.st_mode), it.st_mtime, it.st_size) == (
+        0o640,
+        2,
+        2,
+    ) and os.statvfs(real).f_bsize > 0
+    os.mkfifo(f"{real}/fifo")
+    os.link(file, f"{real}/linked")
+    os.symlink(file, f"{real}/link")
+    assert os.readlink(f"{real}/link") == file and stat.S_ISFIFO(os.lstat(f"{real}/fifo").st_mode)
+    for name in ("fifo", "linked", "link", "a/pids.max"):
+        os.unlink(f"{real}/{name}")
+    os.rmdir(f"{real}/a")
+    assert os.listdir(real) == []
+    with tempfile.TemporaryFile(dir=real) as temporary:
+        assert temporary.write(b"x") == 1
+
+
+# ---- listings
+
+
+def test_a_listing_ends_once(h, real):
+    for top in (AT, real):
+        scan = os.scandir(f"{top}/a")
+        names = [entry.name for entry in scan]
+        assert names == os.listdir(f"{top}/a") and list(scan) == []
+        with pytest.raises(StopIteration):
+            next(scan)
+        scan.close()
+        scan.close()
+        with os.scandir(f"{top}/a") as scan:
+            next(scan)
+        assert list(scan) == []
+
+
+def test_a_relative_name_is_that_of_the_working_directory(h, real, monkeypatch):
+    monkeypatch.chdir(real)
+    assert os.listdir() == os.listdir(".") == ["a"] and os.listdir(b".") == [b"a"] and os.listdir(None) == ["a"]
+    assert [entry.path for entry in os.scandir()] == ["./a"] and os.path.isdir("a") and not os.path.exists("b")
+    with open("a/pids.max") as file:
+        assert file.read() == "max\n"
+
+
+def test_a_place_in_the_working_directory(tmp_path, monkeypatch):
+    (tmp_path / "top").mkdir()
+    monkeypatch.chdir(tmp_path / "top")
+    with mounted_at(tmp_path / "top") as h:
+        os.mkdir("a")
+        assert (
+            h.groups() == ["/", "/a"] and "a" in os.listdir() and "a" in os.listdir(None) and b"a" in os.listdir(b".")
+        )
+        assert "./a" in [entry.path for entry in os.scandir()] and os.path.isdir("a/../a")
+        with open("a/pids.max", "w") as file:
+            file.write("7")
+        assert h.limit("/a") == 7 and os.stat("a/pids.max").st_size == 2
+
+
+# ---- errors name the path as it was given
+
+
+@pytest.mark.parametrize("spelling", [f"{AT}/none", f"{AT}//none/", f"{AT}/./a/../none"])
+def test_an_error_has_the_path_that_was_given(h, spelling):
+    for call in (
+        os.stat,
+        os.lstat,
+        os.listdir,
+        os.scandir,
+        os.rmdir,
+        os.readlink,
+        open,
+    ):
+        assert told(call, spelling) == ("ENOENT", spelling), call
+    assert told(os.mkdir, f"{spelling}/x") == ("ENOENT", f"{spelling}/x")
+    with pytest.raises(FileNotFoundError) as failed:
+        os.stat(spelling)
+    assert failed.value.strerror == os.strerror(errno.ENOENT) and failed.value.filename2 is None
