@@ -181,6 +181,27 @@ def in_parallel(run, of, lanes=2):
         list(pool.map(guarded, of))
 
 
+# ---- for tests that are also the program of a run
+
+
+def inside(*tests):
+    """In the run that `run_each` starts: makes the test that is meant, and ends."""
+    if sys.argv[1:2] == ["inside"]:
+        {t.__name__: t for t in tests}[sys.argv[2]](*sys.argv[3:])
+        finish()
+
+
+def run_each(tests, lanes=2):
+    """Makes each of these tests, or those that the command line names, in a run of its own. `tests` has the options of each run."""
+
+    def run(test):
+        words = [PROGRAM, "run", *tests[test], sys.executable, os.path.realpath(sys.argv[0]), "inside", test.__name__]
+        p = subprocess.Popen(words, start_new_session=True)
+        same("%s: its status" % test.__name__, status_within(p, 6 * PATIENCE), 0)
+
+    in_parallel(run, [t for t in tests if t.__name__ in sys.argv[1:] or not sys.argv[1:]], lanes)
+
+
 # ---- for programs under `run`: their hierarchy is at AT
 
 AT = "/sys/fs/cgroup"
