@@ -54,6 +54,17 @@ def numbers():
     os.rmdir(b)
     os.mkdir(b)
     same("a new group of that name", (frozen(b), read(b + "/cgroup.freeze")), (THAWED, b"0\n"))
+    for at in (b, c):
+        write(at + "/cgroup.freeze", b"1\n")
+    os.rmdir(b)
+    same("one of two frozen groups is removed", frozen(c), FROZEN)
+    os.mkdir(b)
+    write(c + "/cgroup.freeze", b"1\n")
+    write(b + "/cgroup.freeze", b"1\n")
+    write(m.control("undo"), b"\n")
+    same("or its mkdir is undone", (error_of(os.stat, b), frozen(c)), ("ENOENT", FROZEN))
+    write(c + "/cgroup.freeze", b"0\n")
+    same("then no group is frozen", [frozen(g) for g in (a, c)], [THAWED] * 2)
     step("the engine has none of it", "freeze" not in open(m.trace).read())
     m.end()
 

@@ -223,7 +223,10 @@ def long_trace():
         os.pread(fd, 1, 0)
     step("the trace is longer", os.path.getsize(m.trace) > TRACE_MAX)
     same("that is said once", m.words().count("\n"), 1)
-    step("with the program that takes it", "cgshell" in m.words() and "16,777,216" in m.words(), m.words())
+    said = "makhloeum: %s is longer than 16,777,216 bytes, which cgreplay refuses: replay it by cgshell < %s\n"
+    same("with the program that takes it", m.words(), said % (m.trace, m.trace))
+    mark = "# This trace is longer than 16,777,216 bytes: use cgshell, not cgreplay.\n"
+    same("and marked in the trace", open(m.trace).read().count(mark), 1)
     os.close(fd)
     os.chdir("/")
     step("it can be unmounted", m.unmounted())

@@ -22,8 +22,14 @@ CLONE_NEWCGROUP = 0x02000000
 
 
 def said(*words, program=READERS):
-    """What a program in /a prints, as numbers."""
-    ran = subprocess.run([program, *words], stdout=subprocess.PIPE, timeout=4 * PATIENCE, preexec_fn=lambda: into("/a"))
+    """What a program in /a prints, as numbers. It may have as many descriptors as it wants."""
+
+    def before():
+        into("/a")
+        most = resource.getrlimit(resource.RLIMIT_NOFILE)[1]
+        resource.setrlimit(resource.RLIMIT_NOFILE, (most, most))
+
+    ran = subprocess.run([program, *words], stdout=subprocess.PIPE, timeout=4 * PATIENCE, preexec_fn=before)
     return [int(n) for n in ran.stdout.split()] or ran.returncode
 
 
@@ -298,7 +304,10 @@ def tables():
 
 
 INSIDE = (unshares, crowds, unread, writers, stopped, limited, flooded, passed_on, untold, calls, lists, tables)
-LIMITS = {tables: ((resource.RLIMIT_NOFILE, (256, 256)),)}
+LIMITS = {
+    tables: ((resource.RLIMIT_NOFILE, (256, 256)),),
+    crowds: ((resource.RLIMIT_NOFILE, (40, 4096)),),  # of its processes makhloeum raises it
+}
 if sys.argv[1:2] == ["inside"]:
     os.mkdir(AT + "/a")
     {t.__name__: t for t in INSIDE}[sys.argv[2]]()

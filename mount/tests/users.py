@@ -85,6 +85,17 @@ if sys.argv[1:2] == ["refused"]:
 maps = ";".join(
     "%d,%d" % (numbers(which)[0][0], sum(c for _, _, c in numbers(which))) for which in ("uid_map", "gid_map")
 )
-sys.exit(
-    subprocess.run([PROGRAM, "run", "--users", sys.executable, ME, "inside", maps], timeout=6 * PATIENCE).returncode
-)
+ran = subprocess.run([PROGRAM, "run", "--users", sys.executable, ME, "inside", maps], timeout=6 * PATIENCE)
+same("a run with all users: its status", ran.returncode, 0)
+# another group than that of the user's number
+script = """id -u; id -g; cat /proc/self/uid_map /proc/self/gid_map /proc/self/setgroups; cd /sys/fs/cgroup; mkdir g
+stat -c %u:%g . g g/pids.max; echo 0 >g/cgroup.procs; cat /proc/self/cgroup"""
+for user, group in ((3, 4), (5, 2)):
+    as_user = ["setpriv", "--reuid", str(user), "--regid", str(group), "--clear-groups", PROGRAM, "run"]
+    for options, own in (([], (user, group)), (["--root"], (0, 0))):
+        status, text, said_too = said(*as_user, *options, "--", "sh", "-c", script, cwd="/")
+        lines = [line.split() for line in text.splitlines()]
+        maps = ([str(n), str(n) if not options else "0", "1"] for n in own)
+        wanted = [[str(own[0])], [str(own[1])], *maps, ["deny"], *[["%d:%d" % own]] * 3, ["0::/g"]]
+        same("user %d, group %d %s" % (user, group, options), (status, lines, said_too), (0, wanted, ""))
+finish()
