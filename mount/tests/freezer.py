@@ -10,7 +10,7 @@ import sys
 import tempfile
 
 from support import AT, PATIENCE, PROGRAM, Mount
-from support import error_of, finish, in_parallel, libc, line_of, read, same, step, until, write
+from support import error_of, finish, in_parallel, libc, line_of, read, rests, same, step, until, write
 
 ME = os.path.realpath(__file__)
 THAWED, FROZEN = b"frozen 0\n", b"frozen 1\n"
@@ -273,6 +273,7 @@ def kinds():
         else:
             step("%d freezes of one with %s" % (rounds, name), True)
             one.end()
+            step("the supervisor rests after them", rests())
             continue
         step("freezes of one with " + name, False, read(AT + group + "/cgroup.events"))
         write(AT + group + "/cgroup.kill", b"1\n")

@@ -73,6 +73,7 @@ static int registers(void)
 	} some[] = {
 		{ "fork", SYS_fork, { 11, 12, 13, 14, 15, 16 }, 0 },
 		{ "clone", SYS_clone, { SIGCHLD, 0, 23, 24, 25, 26 }, 0 },
+		{ "clone,CLONE_UNTRACED", SYS_clone, { CLONE_UNTRACED | SIGCHLD, 0, 23, 24, 25, 26 }, 0 },
 		{ "clone,CLONE_VFORK", SYS_clone, { CLONE_VFORK | SIGCHLD, 0, 23, 24, 25, 26 }, 0 },
 		{ "clone3", SYS_clone3, { (unsigned long)&args, sizeof args, 33, 34, 35, 36 }, 0 },
 		{ "clone,refused", SYS_clone, { CLONE_SIGHAND, 0, 43, 44, 45, 46 }, EINVAL },

@@ -9,8 +9,8 @@ import subprocess
 import threading
 import time
 
-from support import AT, BUILT, PATIENCE, error_of, finish, inside, into, libc, read, run_each, same, step, tracer, until
-from support import write
+from support import AT, BUILT, PATIENCE, error_of, finish, inside, into, libc, read, rests, run_each, same, step
+from support import tracer, until, write
 
 TASKS = os.path.join(BUILT, "tasks")
 CLONE = 56 if os.uname().machine == "x86_64" else 220
@@ -221,6 +221,7 @@ def orphaned():
     step("all of them end", until(lambda: read(AT + "/a/pids.current") == b"1\n"))
     write(AT + "/a/pids.max", b"%d" % ROOM)
     step("they take no place", until(lambda: places("") == ROOM - 1))
+    step("and nobody waits for them any more", rests())
 
 
 def unused():

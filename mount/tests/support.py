@@ -225,6 +225,21 @@ def tracer():
     return int(next(x for x in open("/proc/self/status") if x.startswith("TracerPid:")).split()[1])
 
 
+def rests():
+    """Whether the supervisor becomes idle: it wakes up for what happens, and not for what is over."""
+
+    def wakes():
+        line = next(x for x in open("/proc/%d/status" % tracer()) if x.startswith("voluntary_ctxt_switches"))
+        return int(line.split()[1])
+
+    def idle():
+        before = wakes()
+        time.sleep(0.25)
+        return wakes() - before <= 2
+
+    return until(idle)
+
+
 def is_alive(pid):
     """Whether there is such a process, and no zombie."""
     try:

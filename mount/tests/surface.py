@@ -399,8 +399,33 @@ def longest():
     same("the root of a cgroup namespace", (ran.returncode, ran.stdout), (0, b"0::/\n"))
 
 
+def other():
+    """A user whose group has another number."""
+    words = ["unshare", "-Um", "--map-user=3", "--map-group=4", "--keep-caps", sys.executable, ME, "other"]
+    same("as user 3 of group 4: the status", subprocess.run(words, timeout=6 * PATIENCE).returncode, 0)
+
+
+def made():
+    """Who owns what is made."""
+    m = Mount("--extra")
+    os.mkdir(m.path("g"))
+    write(m.control("undo"), b"1")
+    os.mkdir(m.path("g"))
+    os.rmdir(m.path("g"))
+    write(m.control("undo"), b"1")
+    for name in ("g", "g/pids.max", "cgroup.procs"):
+        st = os.stat(m.path(name))
+        same("the owner of " + name, (st.st_uid, st.st_gid), (os.geteuid(), os.getegid()))
+    m.end()
+
+
 if sys.argv[1:] == ["inside"]:
     inside()
+    finish()
+if sys.argv[1:] == ["other"]:
+    same("who this is", (os.geteuid(), os.getegid()), (3, 4))
+    for test in (control, of_system, made, under_run):
+        test()
     finish()
 if sys.argv[1:] == ["longest"]:
     longest()
@@ -410,7 +435,7 @@ if sys.argv[1:] == ["kernel"]:
         if group:
             as_in_a_kernel("the kernel", group)
     finish()
-for test in (every_file, control, names, most, of_system, under_run, tables):
+for test in (every_file, control, names, most, of_system, made, under_run, tables, other):
     test()
 ran = subprocess.run([PROGRAM, "run", "--root", sys.executable, ME, "longest"], timeout=2 * PATIENCE)
 same("the longest path: its status", ran.returncode, 0)

@@ -10,7 +10,7 @@ import sys
 from support import PATIENCE, PROGRAM, error_of, finish, libc, read, same, step
 
 ME = os.path.realpath(__file__)
-OTHER = 1
+OTHER, GROUP = 1, 2
 AT = b"/sys/fs/cgroup"
 
 
@@ -35,9 +35,9 @@ def inside(outside):
     at = os.path.join(os.environ["TMPDIR"], "users%d" % os.getpid())
     os.mkdir(at)
     os.chmod(at, 0o755)
-    os.chown(at, OTHER, OTHER)
-    same("a file of another user", (os.stat(at).st_uid, os.stat(at).st_gid), (OTHER, OTHER))
-    as_other = ["setpriv", "--reuid", str(OTHER), "--regid", str(OTHER), "--clear-groups"]
+    os.chown(at, OTHER, GROUP)
+    same("a file of another user", (os.stat(at).st_uid, os.stat(at).st_gid), (OTHER, GROUP))
+    as_other = ["setpriv", "--reuid", str(OTHER), "--regid", str(GROUP), "--clear-groups"]
     same("a process of another user", said(*as_other, "id", "-u"), (0, "%d\n" % OTHER, ""))
     tool = os.path.join(at, "id")
     shutil.copy(shutil.which("id"), tool)
@@ -49,7 +49,7 @@ def inside(outside):
     same(
         "who owns the group that it makes",
         said(*as_other, "sh", "-c", "cd /sys/fs/cgroup && mkdir o && stat -c %u:%g o o/pids.max"),
-        (0, "%d:%d\n" % (OTHER, OTHER) * 2, ""),
+        (0, "%d:%d\n" % (OTHER, GROUP) * 2, ""),
     )
     place = os.path.join(os.environ["TMPDIR"], "at%d" % os.getpid())
     os.mkdir(place)

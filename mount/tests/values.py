@@ -37,6 +37,12 @@ FRESH = {
     "cpuset.mems": "",
     "cpuset.cpus.partition": "member",
 }
+# As the kernel's guide has them (cgroup-v2.rst), in its order.
+OF_MEMORY = """anon file kernel kernel_stack pagetables sec_pagetables percpu sock vmalloc shmem zswap zswapped file_mapped file_dirty
+file_writeback swapcached anon_thp file_thp shmem_thp inactive_anon active_anon inactive_file active_file unevictable slab_reclaimable
+slab_unreclaimable slab workingset_refault_anon workingset_refault_file workingset_activate_anon workingset_activate_file
+workingset_restore_anon workingset_restore_file workingset_nodereclaim pgscan pgsteal pgscan_kswapd pgscan_direct pgsteal_kswapd
+pgsteal_direct pgfault pgmajfault pgrefill pgactivate pgdeactivate pglazyfree pglazyfreed thp_fault_alloc thp_collapse_alloc"""
 EMPTY = {"io.max", "io.stat"}
 ON_ROOT = ["cpu.stat", "cpuset.cpus.effective", "cpuset.mems.effective", "io.stat", "memory.stat"]
 
@@ -172,10 +178,8 @@ def fresh():
     for name in EMPTY:
         same("a new group's " + name, text_of(m, name), "")
     lines = [x.split() for x in text_of(m, "memory.stat").splitlines()]
-    step(
-        "memory.stat is all zero",
-        {"anon", "file", "pgfault", "slab"} < {k for k, _ in lines} and {v for _, v in lines} == {"0"},
-    )
+    same("the words of memory.stat", [k for k, _ in lines], OF_MEMORY.split())
+    same("which are all zero", {v for _, v in lines}, {"0"})
     there = {n for n in os.listdir(m.at) if n.partition(".")[0] in ("memory", "cpu", "io", "cpuset")}
     same("on the root", sorted(there), ON_ROOT)
     same(
