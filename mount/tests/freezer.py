@@ -404,7 +404,33 @@ def many():
     same("all are killed", {p.wait(PATIENCE) for p in all_of}, {-signal.SIGKILL})
 
 
-INSIDE = (stops, moves, kinds, vforked, signals, itself, told, many)
+def undone():
+    """An undo that moves a process into a frozen group stops it, and one that moves it out lets it go on."""
+    os.mkdir(AT + "/cold")
+    os.mkdir(AT + "/warm")
+    one = Counter("/warm")
+    while_others_run(1)  # this process is made before, since an undo takes the newest operation back
+    freeze("/cold", 1)
+    write(AT + "/cold/cgroup.procs", b"%d\n" % one.process.pid)
+    becomes("it stops", "/cold", FROZEN)
+    step("it rests", one.rests())
+    write(AT + "/.makhloeum/undo", b"\n")
+    same("where it was", read(AT + "/warm/cgroup.procs"), b"%d\n" % one.process.pid)
+    step("it runs again", one.counts())
+    write(AT + "/cold/cgroup.procs", b"%d\n" % one.process.pid)
+    becomes("it stops", "/cold", FROZEN)
+    write(AT + "/warm/cgroup.procs", b"%d\n" % one.process.pid)
+    step("it runs", one.counts())
+    write(AT + "/.makhloeum/undo", b"\n")
+    step("an undo moves it back", read(AT + "/cold/cgroup.procs") == b"%d\n" % one.process.pid)
+    becomes("and stops it", "/cold", FROZEN)
+    step("it rests then", one.rests())
+    freeze("/cold", 0)
+    step("and runs once it is thawed", one.counts())
+    one.end()
+
+
+INSIDE = (stops, moves, kinds, vforked, signals, itself, told, many, undone)
 if sys.argv[1:2] == ["inside"]:
     {t.__name__: t for t in INSIDE}[sys.argv[2]]()
     for one in runner:
@@ -415,9 +441,8 @@ notified()
 
 
 def run(test):
-    ran = subprocess.run(
-        [PROGRAM, "run", sys.executable, ME, "inside", test], timeout=6 * PATIENCE, stderr=subprocess.PIPE
-    )
+    words = [PROGRAM, "run", *(["--control"] if test == "undone" else []), sys.executable, ME, "inside", test]
+    ran = subprocess.run(words, timeout=6 * PATIENCE, stderr=subprocess.PIPE)
     same("the status of %s" % test, (ran.returncode, ran.stderr), (0, b""))
 
 

@@ -4,6 +4,7 @@ import ctypes
 import errno
 import os
 import resource
+import select
 import signal
 import subprocess
 import threading
@@ -239,7 +240,49 @@ def unused():
     same("is undone alone", read(AT + "/a/pids.events"), b"max 2\n")
 
 
-INSIDE = {births: [], crowd: [], orphaned: [], unused: ["--control"]}
+def told():
+    """Who polls is told of a refused fork or thread, in the group and above it, and of a birth in another group."""
+    for g in ("/a", "/a/b", "/c"):
+        os.mkdir(AT + g)
+    into("/a/b")
+    write(AT + "/a/b/pids.max", b"1")
+    names = [AT + g + "/" + name for g in ("/a", "/a/b", "/c") for name in ("pids.events", "pids.events.local")]
+    names += [AT + g + "/cgroup.events" for g in ("/a", "/a/b", "/c")]
+    fds = {os.open(name, os.O_RDONLY): name.replace(AT, "") for name in names}
+    poller = select.poll()
+    for fd in fds:
+        poller.register(fd, select.POLLPRI)
+
+    def changed(patience=0):
+        """Which of the files tell of a change; they are read."""
+        found = [fd for fd, _ in poller.poll(patience)]
+        for fd in found:
+            os.pread(fd, 99, 0)
+        return sorted(fds[fd] for fd in found)
+
+    same("at first", len(changed()), len(names))
+    wanted = ["/a/b/pids.events", "/a/b/pids.events.local", "/a/pids.events"]
+    for name, call in (("fork", fork), ("thread", thread), ("vfork", lambda: spawn("/bin/true"))):
+        same("a refused %s" % name, (call(), changed()), ("EAGAIN", wanted))
+    write(AT + "/a/b/pids.max", b"2")
+    same("one that fails otherwise", (clone(SIGHAND), changed()), ("EINVAL", []))
+    fd = group("/c")
+    args = (ctypes.c_uint64 * 11)(INTO, 0, 0, 0, signal.SIGCHLD, 0, 0, 0, 0, 0, fd)
+    pid = libc.syscall(435, args, 88)
+    if pid == 0:
+        libc.pause()
+    same("a birth in another group", changed(), ["/c/cgroup.events"])
+    pid_of_second = libc.syscall(435, args, 88)
+    if pid_of_second == 0:
+        libc.pause()
+    same("a second one", changed(), [])
+    for each, wanted in ((pid, []), (pid_of_second, ["/c/cgroup.events"])):
+        os.kill(each, signal.SIGKILL)
+        os.waitpid(each, 0)
+        same("an end", changed(), wanted)
+
+
+INSIDE = {births: [], crowd: [], orphaned: [], unused: ["--control"], told: []}
 inside(*INSIDE)
 run_each(INSIDE)
 finish()
