@@ -108,6 +108,9 @@ static void let_go(int *from, int *root)
 static void live(int from, const char *mountpoint, int root, pid_t parent)
 {
 	struct mounted m = { .at = mountpoint, .root = root };
+	/* before the second fork: who waits for the first child knows that these end the companion no more */
+	signal(SIGTERM, SIG_IGN);
+	signal(SIGINT, SIG_IGN);
 	if (root < 0 && fork())
 		_exit(0);
 	if (root >= 0 && (!own_dies_with(parent) || !space_stand_in_proc() || !beneath_identify(root, &m.is)))
@@ -116,8 +119,6 @@ static void live(int from, const char *mountpoint, int root, pid_t parent)
 		_exit(1);
 	setsid(); /* it fails only for the leader of a group, which a child is not */
 	let_go(&from, &m.root);
-	signal(SIGTERM, SIG_IGN);
-	signal(SIGINT, SIG_IGN);
 	serve(from, &m);
 	_exit(0);
 }

@@ -60,11 +60,6 @@ enum { X32 = 0x40000000 };
 
 #define STOPS (SECCOMP_RET_TRACE | FILTER_MARK)
 
-/* wait4 that names a process (a negative number is a group, or any) and does not wait. */
-#define SEEN_LOOKS(number, how)                                                                         \
-	UNLESS(number, 7), LOAD(args[0]), IF_ANY(0x80000000U, 1), ANSWER(SECCOMP_RET_ALLOW), LOAD(args[2]), \
-		IF_ANY(WNOHANG, 1), ANSWER(how), ANSWER(SECCOMP_RET_ALLOW)
-
 /* Mounts with these flags make no new file system. */
 static const unsigned other_mounts = MS_REMOUNT | MS_BIND | MS_MOVE | MS_SHARED | MS_PRIVATE | MS_SLAVE | MS_UNBINDABLE;
 /* Opens with these flags do not read a text of /proc. */
@@ -112,7 +107,7 @@ int filter_install(void)
 		SEEN_IF(__NR_prctl, 0, PR_SET_SECCOMP, STOPS),
 		SEEN_IF(__NR_seccomp, 0, SECCOMP_SET_MODE_STRICT, STOPS),
 		SEEN_WITH(__NR_waitid, 3, WNOHANG, STOPS),
-		SEEN_LOOKS(__NR_wait4, STOPS),
+		SEEN_WITH(__NR_wait4, 2, WNOHANG, STOPS),
 		SEEN(__NR_openat2, SECCOMP_RET_USER_NOTIF),
 		SEEN(__NR_statfs, SECCOMP_RET_USER_NOTIF),
 		SEEN(__NR_fstatfs, SECCOMP_RET_USER_NOTIF),
@@ -149,7 +144,7 @@ bool filter_stops(long call, const uint64_t args[6])
 	case __NR_waitid:
 		return args[3] & WNOHANG;
 	case __NR_wait4:
-		return (int)args[0] >= 0 && args[2] & WNOHANG;
+		return args[2] & WNOHANG;
 	default:
 		return false;
 	}

@@ -20,7 +20,7 @@ static int take_device(const char **at, char device[32])
 	if (!scan_decimal(at, &major) || **at != ':')
 		return -EINVAL;
 	++*at;
-	if (!(**at >= '0' && **at <= '9') || !scan_decimal(at, &minor) || !(**at == ' ' || (**at >= '\t' && **at <= '\r')))
+	if (!scan_decimal(at, &minor) || !(**at == ' ' || (**at >= '\t' && **at <= '\r')))
 		return -EINVAL;
 	snprintf(device, 32, "%u:%u", (unsigned)major, (unsigned)minor);
 	return machine_has_disk((unsigned)major, (unsigned)minor) ? 0 : -ENODEV;

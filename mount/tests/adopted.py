@@ -1,5 +1,6 @@
 """mount --adopt: real processes in the hierarchy, without a supervisor."""
 import os
+import resource
 import signal
 import subprocess
 import sys
@@ -73,7 +74,10 @@ signal.pause()
 """
     % CHILDREN
 )
+soft, hard = resource.getrlimit(resource.RLIMIT_NOFILE)
+resource.setrlimit(resource.RLIMIT_NOFILE, (200, hard))  # each has a descriptor: the mount raises what it may
 m = Mount("--adopt")
+resource.setrlimit(resource.RLIMIT_NOFILE, (soft, hard))
 os.mkdir(m.path("many"))
 parent = subprocess.Popen([sys.executable, "-c", FORKS], close_fds=True, stdout=subprocess.PIPE)
 parent.stdout.readline()

@@ -6,9 +6,8 @@ import subprocess
 import sys
 import tempfile
 
-from support import AT, PATIENCE, PROGRAM, finish, in_parallel, same, step
+from support import AT, BUILT, PATIENCE, PROGRAM, finish, in_parallel, same, step
 
-BUILT = os.environ.get("HOSTILE") or os.path.join(os.path.dirname(PROGRAM), "..", "hostile")
 ALIKE, OPENS = os.path.join(BUILT, "alike"), os.path.join(BUILT, "opens")
 TEXT = "0::/a\n"
 WHAT = ("actions", "news", "infos", "waits", "clones", "inherits", "opens")

@@ -4,7 +4,7 @@ import errno
 import os
 import stat
 
-from support import Mount, error_of, finish, libc, same, step, write
+from support import AT, Mount, error_of, finish, inside, libc, run_each, same, step, write
 
 
 def kept():
@@ -28,6 +28,9 @@ def kept():
         same("%s: the other is left" % name, os.listxattr(where), ["user.x"])
         step("%s: another name space" % name, error_of(os.setxattr, where, "security.x", b"1") in ("ENOTSUP", "EPERM"))
     same("an attribute of a group sends no line", "user" in open(m.trace).read(), False)
+    for name in ("use", "users.x", "system.x", "system.makhloeum.group", "makhloeum"):
+        for call, *value in ((os.setxattr, b"1"), (os.getxattr,), (os.removexattr,)):
+            same("%s of %s" % (call.__name__, name), error_of(call, m.path("a"), name, *value), "ENOTSUP")
     fd = os.open(m.path("a"), os.O_RDONLY)
     os.setxattr(fd, "user.fd", b"by descriptor")
     same("by an open directory", os.getxattr(m.path("a"), "user.fd"), b"by descriptor")
@@ -58,6 +61,11 @@ def bounds():
     same("128 names", (got[:128], got[128]), (["ok"] * 128, "ENOSPC"))
     same("they are listed", len(os.listxattr(m.path("b"))), 128)
     same("one of 128 gets another value", error_of(os.setxattr, m.path("b"), "user.n0", b"w"), "ok")
+    same("a file of the group has its own", error_of(os.setxattr, m.path("b", "pids.max"), "user.n", b"v"), "ok")
+    same("in a group that is full of bytes too", error_of(os.setxattr, m.path("a", "pids.max"), "user.n", b"v"), "ok")
+    got = [error_of(os.setxattr, m.path("b", "cgroup.procs"), "user.n%d" % i, b"v") for i in range(129)]
+    same("128 names of a file", (got[:128], got[128]), (["ok"] * 128, "ENOSPC"))
+    same("another file", error_of(os.setxattr, m.path("b", "cgroup.stat"), "user.n", b"v"), "ok")
     sized("a value", 65536, lambda to, size: libc.getxattr(m.path("a").encode(), b"user.large2", to, size))
     os.mkdir(m.path("c"))
     os.setxattr(m.path("c"), "user.x", b"1")
@@ -96,6 +104,25 @@ def removed():
     m.end()
 
 
+def hidden():
+    """Inside a run: the path of a group is an attribute of it, for a clone3 by a descriptor. No list shows it."""
+    name = "system.makhloeum.group"
+    os.makedirs(AT + "/a/b")
+    for path in ("/", "/a", "/a/b"):
+        same("of %s" % path, (os.getxattr(AT + path, name), os.listxattr(AT + path)), (path.encode(), []))
+    same("of a file", error_of(os.getxattr, AT + "/a/pids.max", name), "ENOTSUP")
+    same("nobody sets it", error_of(os.setxattr, AT + "/a", name, b"/"), "ENOTSUP")
+    same("nor removes it", error_of(os.removexattr, AT + "/a", name), "ENOTSUP")
+    sized("it", 4, lambda to, size: libc.getxattr((AT + "/a/b").encode(), name.encode(), to, size))
+    fd = os.open(AT + "/a/b", os.O_RDONLY)
+    os.rmdir(AT + "/a/b")
+    same("of a removed group", error_of(os.getxattr, fd, name), "ENOENT")
+    os.mkdir(AT + "/a/b")
+    same("also if its path is another's", error_of(os.getxattr, fd, name), "ENOENT")
+
+
+inside(hidden)
 for test in (kept, bounds, removed):
     test()
+run_each({hidden: []})
 finish()

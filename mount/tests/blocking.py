@@ -182,8 +182,15 @@ def waiting():
     same(
         "another clone3",
         subprocess.run([BLOCKING, "sixteen", PAGE], stdout=subprocess.PIPE, timeout=PATIENCE).stdout,
-        b"1\n",
+        b"ok\n",
     )
+    step("others still run", forks())
+
+
+def crowded():
+    """So many clone3 calls wait for memory that no more may: then C libraries use clone."""
+    ran = subprocess.run([BLOCKING, "full", PAGE], stdout=subprocess.PIPE, timeout=4 * PATIENCE)
+    same("the 512th clone3, the 513th, and a fork", ran.stdout, b"ok ENOSYS ok\n")
     step("others still run", forks())
 
 
@@ -298,6 +305,7 @@ INSIDE = {
     leaderless: [],
     ending: [],
     waiting: [],
+    crowded: [],
     stopped: [],
     stopping: [],
     elsewhere: ["--root"],

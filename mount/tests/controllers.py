@@ -37,6 +37,14 @@ def enabling():
         (".", "+hugetlb", "EINVAL", "cpuset cpu io memory pids"),
         (".", "+", "EINVAL", "cpuset cpu io memory pids"),
         (".", "*memory", "EINVAL", "cpuset cpu io memory pids"),
+        (".", "-memory\t-io", "EINVAL", "cpuset cpu io memory pids"),
+        (".", "-memory\n-io", "EINVAL", "cpuset cpu io memory pids"),
+        (".", "-memory x", "EINVAL", "cpuset cpu io memory pids"),
+        (".", "-memory + io", "EINVAL", "cpuset cpu io memory pids"),
+        (".", "-memoryx", "EINVAL", "cpuset cpu io memory pids"),
+        (".", "-memor", "EINVAL", "cpuset cpu io memory pids"),
+        (".", "-Memory", "EINVAL", "cpuset cpu io memory pids"),
+        (".", "\t +memory\v", "ok", "cpuset cpu io memory pids"),
         (".", "-io +rdma", "EINVAL", "cpuset cpu io memory pids"),
         (".", "-io -cpuset", "ok", "cpu memory pids"),
         (".", "-cpu +cpu", "ok", "cpu memory pids"),
@@ -210,6 +218,8 @@ def each_one():
         for call in (lambda fd: os.pread(fd, 99, 0), lambda fd: os.write(fd, b"x")):
             got = [error_of(call, fd) == "ENODEV" for fd in held]
             same("%s: which open files are gone" % name, got, [i == lost for i in range(5)])
+        again = [error_of(lambda: os.close(os.open("/proc/self/fd/%d" % fd, os.O_RDONLY))) for fd in held]
+        same("%s: which can be opened again" % name, again, ["ENODEV" if i == lost else "ok" for i in range(5)])
         change(m, ".", "+" + name)
         now = [read(m.path("a", f)) for f in files]
         same("%s is enabled: the values" % name, now, [fresh[i] if i == lost else values[i] for i in range(5)])

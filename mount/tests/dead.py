@@ -3,29 +3,10 @@ file is also the program (dead.py inside NAME)."""
 import os
 import select
 import signal
-import subprocess
-import sys
 import threading
 
-from support import (
-    AT,
-    PATIENCE,
-    PROGRAM,
-    clone_into,
-    error_of,
-    finish,
-    in_parallel,
-    into,
-    libc,
-    read,
-    same,
-    status_within,
-    step,
-    until,
-    write,
-)
-
-ME = os.path.realpath(__file__)
+from support import AT, PATIENCE, clone_into, error_of, finish, inside, into, libc, read, run_each, same, step, until
+from support import write
 
 
 def count(group):
@@ -248,17 +229,6 @@ def waited():
 
 
 INSIDE = (ways, beside, removed, unwaited, told, waited)
-if sys.argv[1:2] == ["inside"]:
-    {t.__name__: t for t in INSIDE}[sys.argv[2]]()
-    finish()
-
-
-def run(test):
-    p = subprocess.Popen(
-        [PROGRAM, "run", "--control", sys.executable, ME, "inside", test.__name__], start_new_session=True
-    )
-    same("%s: its status" % test.__name__, status_within(p, 6 * PATIENCE), 0)
-
-
-in_parallel(run, INSIDE, lanes=3)
+inside(*INSIDE)
+run_each(dict.fromkeys(INSIDE, ["--control"]), lanes=3)
 finish()

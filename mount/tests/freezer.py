@@ -10,7 +10,7 @@ import sys
 import tempfile
 
 from support import AT, PATIENCE, PROGRAM, Mount
-from support import error_of, finish, in_parallel, libc, line_of, read, same, step, until, write
+from support import error_of, finish, in_parallel, libc, line_of, read, rests, same, step, until, write
 
 ME = os.path.realpath(__file__)
 THAWED, FROZEN = b"frozen 0\n", b"frozen 1\n"
@@ -54,6 +54,17 @@ def numbers():
     os.rmdir(b)
     os.mkdir(b)
     same("a new group of that name", (frozen(b), read(b + "/cgroup.freeze")), (THAWED, b"0\n"))
+    for at in (b, c):
+        write(at + "/cgroup.freeze", b"1\n")
+    os.rmdir(b)
+    same("one of two frozen groups is removed", frozen(c), FROZEN)
+    os.mkdir(b)
+    write(c + "/cgroup.freeze", b"1\n")
+    write(b + "/cgroup.freeze", b"1\n")
+    write(m.control("undo"), b"\n")
+    same("or its mkdir is undone", (error_of(os.stat, b), frozen(c)), ("ENOENT", FROZEN))
+    write(c + "/cgroup.freeze", b"0\n")
+    same("then no group is frozen", [frozen(g) for g in (a, c)], [THAWED] * 2)
     step("the engine has none of it", "freeze" not in open(m.trace).read())
     m.end()
 
@@ -262,6 +273,7 @@ def kinds():
         else:
             step("%d freezes of one with %s" % (rounds, name), True)
             one.end()
+            step("the supervisor rests after them", rests())
             continue
         step("freezes of one with " + name, False, read(AT + group + "/cgroup.events"))
         write(AT + group + "/cgroup.kill", b"1\n")
@@ -392,7 +404,33 @@ def many():
     same("all are killed", {p.wait(PATIENCE) for p in all_of}, {-signal.SIGKILL})
 
 
-INSIDE = (stops, moves, kinds, vforked, signals, itself, told, many)
+def undone():
+    """An undo that moves a process into a frozen group stops it, and one that moves it out lets it go on."""
+    os.mkdir(AT + "/cold")
+    os.mkdir(AT + "/warm")
+    one = Counter("/warm")
+    while_others_run(1)  # this process is made before, since an undo takes the newest operation back
+    freeze("/cold", 1)
+    write(AT + "/cold/cgroup.procs", b"%d\n" % one.process.pid)
+    becomes("it stops", "/cold", FROZEN)
+    step("it rests", one.rests())
+    write(AT + "/.makhloeum/undo", b"\n")
+    same("where it was", read(AT + "/warm/cgroup.procs"), b"%d\n" % one.process.pid)
+    step("it runs again", one.counts())
+    write(AT + "/cold/cgroup.procs", b"%d\n" % one.process.pid)
+    becomes("it stops", "/cold", FROZEN)
+    write(AT + "/warm/cgroup.procs", b"%d\n" % one.process.pid)
+    step("it runs", one.counts())
+    write(AT + "/.makhloeum/undo", b"\n")
+    step("an undo moves it back", read(AT + "/cold/cgroup.procs") == b"%d\n" % one.process.pid)
+    becomes("and stops it", "/cold", FROZEN)
+    step("it rests then", one.rests())
+    freeze("/cold", 0)
+    step("and runs once it is thawed", one.counts())
+    one.end()
+
+
+INSIDE = (stops, moves, kinds, vforked, signals, itself, told, many, undone)
 if sys.argv[1:2] == ["inside"]:
     {t.__name__: t for t in INSIDE}[sys.argv[2]]()
     for one in runner:
@@ -403,9 +441,8 @@ notified()
 
 
 def run(test):
-    ran = subprocess.run(
-        [PROGRAM, "run", sys.executable, ME, "inside", test], timeout=6 * PATIENCE, stderr=subprocess.PIPE
-    )
+    words = [PROGRAM, "run", *(["--control"] if test == "undone" else []), sys.executable, ME, "inside", test]
+    ran = subprocess.run(words, timeout=6 * PATIENCE, stderr=subprocess.PIPE)
     same("the status of %s" % test, (ran.returncode, ran.stderr), (0, b""))
 
 

@@ -394,6 +394,7 @@ def undone():
     step("it has another number", os.stat(m.path("u")).st_ino != number)
     same("a listing of the old one", os.listdir(d), [])
     same("it is owned by the mount's user", owner(os.stat(m.path("u"))), (os.geteuid(), os.getegid()))
+    same("and has the usual mode", stat.S_IMODE(os.stat(m.path("u")).st_mode), 0o755)
     os.close(d)
     m.end()
 

@@ -169,6 +169,36 @@ def limited():
     recovers("only the answers", m, stop, lambda: limit_of(m, None))
 
 
+def without_history():
+    """Without a history records are dropped, but not in the middle of an operation: it fails as a whole, however many there were
+    before. Each try begins with one record more."""
+    m = Mount("--keep", "memory", control=False)
+    write(m.path("cgroup.subtree_control"), b"+pids")
+    limits = [m.path(g, "pids.max") for g in "xyz"]
+    for g in "xyz":
+        os.mkdir(m.path(g))
+    for limit in limits:
+        write(limit, b"7")
+    recorded, wrong = 6, []
+    while recorded < 1016:
+        write(m.control("fork"), b"1 2")
+        write(m.control("exit"), b"2")
+        recorded += 2
+    for room in range(60, 180, 10):  # for one line, two, or all three, of some fifty bytes
+        limit_of(m, os.path.getsize(m.trace) + room)
+        error = error_of(write, m.path("cgroup.subtree_control"), b"-pids")
+        limit_of(m, None)
+        if error == "ok":
+            write(m.path("cgroup.subtree_control"), b"+pids")
+            for limit in limits:
+                write(limit, b"7")
+        elif error not in ("EFBIG", "ENOSPC") or [read(limit) for limit in limits] != [b"7\n"] * 3:
+            wrong.append((room, error, [read(limit) for limit in limits]))
+        write(limits[0], b"7")  # a record, so that the next try begins after one more
+    same("limits that were changed by halves", wrong, [])
+    m.end()
+
+
 def small_device():
     """In new namespaces: a file system of 16 pages, filled and emptied."""
     disk = tempfile.mkdtemp()
@@ -223,7 +253,10 @@ def long_trace():
         os.pread(fd, 1, 0)
     step("the trace is longer", os.path.getsize(m.trace) > TRACE_MAX)
     same("that is said once", m.words().count("\n"), 1)
-    step("with the program that takes it", "cgshell" in m.words() and "16,777,216" in m.words(), m.words())
+    said = "makhloeum: %s is longer than 16,777,216 bytes, which cgreplay refuses: replay it by cgshell < %s\n"
+    same("with the program that takes it", m.words(), said % (m.trace, m.trace))
+    mark = "# This trace is longer than 16,777,216 bytes: use cgshell, not cgreplay.\n"
+    same("and marked in the trace", open(m.trace).read().count(mark), 1)
     os.close(fd)
     os.chdir("/")
     step("it can be unmounted", m.unmounted())
@@ -243,7 +276,7 @@ def long_trace():
 if sys.argv[1:] == ["small"]:
     small_device()
     finish()
-for test in (targets, modes, times, full_answers, limited, long_trace):
+for test in (targets, modes, times, full_answers, limited, without_history, long_trace):
     test()
 ran = subprocess.run(["unshare", "-Urm", sys.executable, ME, "small"], timeout=6 * PATIENCE)
 same("on a small device", ran.returncode, 0)

@@ -6,6 +6,7 @@ import select
 import signal
 import subprocess
 import sys
+import threading
 
 from support import AT, PATIENCE, PROGRAM, Mount, error_of, finish, libc, read, same, status_within, step, tracer, write
 
@@ -13,6 +14,7 @@ ME = os.path.realpath(__file__)
 # With an arena for each thread the memory grows until each has had its turn with the most records.
 os.environ["MALLOC_ARENA_MAX"] = "1"
 ROUNDS, LEAST = 300, 24  # bytes: what is allocated takes more
+CLONE = 56 if os.uname().machine == "x86_64" else 220
 PAGE = os.sysconf("SC_PAGE_SIZE")
 
 
@@ -203,10 +205,21 @@ def inside():
         os.read(fd, 99)
         os.close(fd)
 
+    def numbers():
+        """The number of a new process: tables have a place for each."""
+        pid = os.fork()
+        if pid == 0:
+            libc._exit(0)
+        return os.waitpid(pid, 0)[0]
+
     operations = (
         ("forks", forked),
         ("births in a group", lambda: forked(number=435)),
         ("new cgroup namespaces", lambda: forked(lambda: libc.unshare(0x02000000))),
+        ("cgroup namespaces that are not made", lambda: libc.unshare(0x02000001)),
+        ("forks that fail", lambda: libc.syscall(CLONE, 0x02000800 | signal.SIGCHLD, 0, 0, 0, 0)),
+        ("births that fail", lambda: libc.syscall(435, args, 8)),
+        ("threads", lambda: (thread := threading.Thread(target=int), thread.start(), thread.join())),
         ("opens of cgroup", lambda: read("/proc/self/cgroup")),
         ("opens of cpuset", lambda: read("/proc/self/cpuset")),
         ("opens of cgroups", lambda: read("/proc/cgroups")),
@@ -230,10 +243,17 @@ def inside():
     before = own()
     same("the processes of makhloeum", len(before), 4)
     for name, operation in operations:
-        for _ in range(max(TIMES, max(before.values()))):
-            operation()
+        grown = []
+        for _ in range(3):  # a thread may begin in some of them
+            sizes, first = {pid: resident(pid) for pid in before}, numbers()
+            for _ in range(max(TIMES, max(before.values()))):
+                operation()
+            new = LEAST * TIMES + 64 * max(0, numbers() - first)
+            grown.append({pid: resident(pid) - size - new for pid, size in sizes.items()})
         now = own()
         step("%s: no descriptor is kept" % name, now == before, (before, now))
+        least = {pid: min(each[pid] for each in grown) for pid in before}
+        step("%s: no memory is kept" % name, max(least.values()) < 0, grown)
         before = now
     os.rmdir(home)
 

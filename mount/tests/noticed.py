@@ -11,30 +11,22 @@ import subprocess
 import sys
 import tempfile
 
-from support import PATIENCE, PROGRAM, Beside, Mount, error_of, finish, in_parallel, libc, read, same, step, write
+from support import AT, BUILT, PATIENCE, PROGRAM, Beside, Mount
+from support import error_of, finish, in_parallel, inside, libc, line_of, read, same, step, write
 
-AT = "/sys/fs/cgroup"
 ME = os.path.realpath(__file__)
-BUILT = os.environ.get("HOSTILE") or os.path.join(os.path.dirname(PROGRAM), "..", "hostile")
-NOTICED = os.path.join(BUILT, "noticed")
+NOTICED, INTERRUPTS = os.path.join(BUILT, "noticed"), os.path.join(BUILT, "interrupts")
 
 
-def said(*words, before=None):
-    ran = subprocess.run([NOTICED, *map(str, words)], stdout=subprocess.PIPE, timeout=4 * PATIENCE, preexec_fn=before)
+def said(*words, before=None, program=NOTICED):
+    ran = subprocess.run([program, *map(str, words)], stdout=subprocess.PIPE, timeout=4 * PATIENCE, preexec_fn=before)
     return ran.stdout.split() if ran.returncode == 0 else ["status %d" % ran.returncode]
 
 
 def makhloeum():
     """The supervisor and its processes."""
-    line = read("/proc/%d/cmdline" % os.getppid())
-    return [int(p) for p in os.listdir("/proc") if p.isdigit() and line_of(p) == line]
-
-
-def line_of(pid):
-    try:
-        return read("/proc/%s/cmdline" % pid)
-    except OSError:
-        return b""
+    line = line_of(os.getppid())
+    return [int(p) for p in os.listdir("/proc") if p.isdigit() and line_of(int(p)) == line]
 
 
 # ---------------------------------------------------------------- inside
@@ -43,14 +35,17 @@ def line_of(pid):
 def interrupted():
     """A signal that a process ignores ends none of its calls, and one that it handles ends them."""
     for which in (signal.SIGUSR1, signal.SIGCHLD, signal.SIGWINCH):
-        same("calls that an ignored %s ends" % which.name, said("ignored", int(which)), [])
-    same("calls that a handled signal does not end", said("handled", int(signal.SIGUSR1)), [])
-    same("a stop ends epoll_wait; then an ignored signal does not", said("stops"), [b"1", b"1"])
+        got = said("ignored", int(which), program=INTERRUPTS)
+        same("calls that an ignored %s ends" % which.name, got, [])
+    got = said("handled", int(signal.SIGUSR1), program=INTERRUPTS)
+    same("calls that a handled signal does not end", got, [])
+    got = said("stops", program=INTERRUPTS)
+    same("a stop ends epoll_wait; then an ignored signal does not", got, [b"1", b"1"])
 
 
 def children():
     same("calls that change a register of the creator or of the child", said("registers"), [])
-    same("children without a status though their pidfd can be read", said("pidfds"), [b"0", b"0"])
+    same("children without a status though their pidfd can be read", said("pidfds"), [b"0"] * 4)
 
 
 def zombies():
@@ -64,9 +59,9 @@ def zombies():
 def filters():
     same("calls that a filter traces, and do not fail with ENOSYS", said("traces"), [])
     same(
-        "strict mode: exit, then calls that it forbids",
+        "strict mode: exit, calls that it forbids, and a handler; then calls that do not ask for it",
         said("strict"),
-        [b"5", b"1009", b"1009", b"1009", b"1009"] * 2 + [b"22"],
+        [b"5", b"1009", b"1009", b"1009", b"1009", b"6"] * 2 + [b"22", b"22", b"22", b"14"],
     )
 
 
@@ -201,9 +196,7 @@ def tables():
 
 
 INSIDE = (interrupted, children, zombies, filters, opens, tables)
-if sys.argv[1:2] == ["inside"]:
-    {t.__name__: t for t in INSIDE}[sys.argv[2]]()
-    finish()
+inside(*INSIDE)
 
 
 # ---------------------------------------------------------------- outside

@@ -47,4 +47,22 @@ step(
 )
 os.close(fd)
 m.end()
+
+# texts that are longer than the room for an answer is at first
+m = Mount()
+PIDS = range(2, 7000)
+fork = os.open(m.control("fork"), os.O_WRONLY)
+for pid in PIDS:
+    os.write(fork, b"1 %d" % pid)
+os.close(fork)
+for name, wanted in (
+    ("cgroup.procs", b"".join(b"%d\n" % pid for pid in (1, *PIDS))),
+    (".makhloeum/trace", b"".join(b"fork 1 %d\n" % pid for pid in PIDS)),
+):
+    same("%s: all of %d bytes" % (name, len(wanted)), read(m.path(name)) == wanted, True)
+    fd = os.open(m.path(name), os.O_RDONLY)
+    same("in pieces", b"".join(iter(lambda: os.read(fd, 999), b"")) == wanted, True)
+    same("its size", os.fstat(fd).st_size, len(wanted))
+    os.close(fd)
+m.end()
 finish()

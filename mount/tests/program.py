@@ -205,6 +205,7 @@ def clones():
         ("a signal beyond all", 0, {4: 256}),
         ("a signal in the flags", signal.SIGCHLD, {}),
         ("a signal of a thread", 0x00010900, {}),
+        ("a signal of a sibling", 0x00008000, {}),
         ("an unknown flag", 1 << 40, {}),
         ("CLONE_DETACHED", 0x00400000, {}),
         ("CLONE_SIGHAND and CLONE_CLEAR_SIGHAND", 0x100000900, {}),

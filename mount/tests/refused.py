@@ -4,31 +4,15 @@ import ctypes
 import errno
 import os
 import resource
+import select
 import signal
 import subprocess
-import sys
 import threading
+import time
 
-from support import (
-    AT,
-    PATIENCE,
-    PROGRAM,
-    error_of,
-    finish,
-    in_parallel,
-    into,
-    libc,
-    read,
-    same,
-    status_within,
-    step,
-    tracer,
-    until,
-    write,
-)
+from support import AT, BUILT, PATIENCE, error_of, finish, inside, into, libc, read, rests, run_each, same, step
+from support import tracer, until, write
 
-ME = os.path.realpath(__file__)
-BUILT = os.environ.get("HOSTILE") or os.path.join(os.path.dirname(PROGRAM), "..", "hostile")
 TASKS = os.path.join(BUILT, "tasks")
 CLONE = 56 if os.uname().machine == "x86_64" else 220
 THREAD, SIGHAND, VM, FS = 0x10000, 0x800, 0x100, 0x200
@@ -220,16 +204,85 @@ def read_all(name):
         return f.read()
 
 
-INSIDE = (births, crowd)
-if sys.argv[1:2] == ["inside"]:
-    {t.__name__: t for t in INSIDE}[sys.argv[2]]()
-    finish()
+def orphaned():
+    """Processes that are killed while they make children take no place in their group."""
+    os.mkdir(AT + "/a")
+    into("/a")
+    fd = group("/a")
+    ways = (os.fork, lambda: libc.syscall(CLONE, signal.SIGCHLD, 0, 0, 0, 0), lambda: clone3(INTO, cgroup=fd))
+    for turn in range(120):
+        way, pid = ways[turn % 3], os.fork()
+        while pid == 0:
+            if way() == 0:
+                libc._exit(0)
+        until(lambda: read(AT + "/a/pids.current") != b"1\n")
+        time.sleep(turn % 7 * 0.0003)
+        os.kill(pid, signal.SIGKILL)
+        os.waitpid(pid, 0)
+    step("all of them end", until(lambda: read(AT + "/a/pids.current") == b"1\n"))
+    write(AT + "/a/pids.max", b"%d" % ROOM)
+    step("they take no place", until(lambda: places("") == ROOM - 1))
+    step("and nobody waits for them any more", rests())
 
 
-def run(test):
-    p = subprocess.Popen([PROGRAM, "run", sys.executable, ME, "inside", test.__name__], start_new_session=True)
-    same("%s: its status" % test.__name__, status_within(p, 6 * PATIENCE), 0)
+def unused():
+    """The line of a fork that a limit refuses has a number that no process has: the greatest that is free."""
+    os.mkdir(AT + "/a")
+    into("/a")
+    write(AT + "/a/pids.max", b"1")
+    for times in (1, 2):
+        same("a fork", fork(), "EAGAIN")
+        newest = read(AT + "/.makhloeum/newest")
+        same("its line", newest, b"fork %d 4194303\n" % os.getpid())
+        same("an event", read(AT + "/a/pids.events"), b"max %d\n" % times)
+    same("a thread's", (thread(), read(AT + "/.makhloeum/newest")), ("EAGAIN", newest))
+    write(AT + "/.makhloeum/undo", b"1")
+    same("is undone alone", read(AT + "/a/pids.events"), b"max 2\n")
 
 
-in_parallel(run, INSIDE)
+def told():
+    """Who polls is told of a refused fork or thread, in the group and above it, and of a birth in another group."""
+    for g in ("/a", "/a/b", "/c"):
+        os.mkdir(AT + g)
+    into("/a/b")
+    write(AT + "/a/b/pids.max", b"1")
+    names = [AT + g + "/" + name for g in ("/a", "/a/b", "/c") for name in ("pids.events", "pids.events.local")]
+    names += [AT + g + "/cgroup.events" for g in ("/a", "/a/b", "/c")]
+    fds = {os.open(name, os.O_RDONLY): name.replace(AT, "") for name in names}
+    poller = select.poll()
+    for fd in fds:
+        poller.register(fd, select.POLLPRI)
+
+    def changed(patience=0):
+        """Which of the files tell of a change; they are read."""
+        found = [fd for fd, _ in poller.poll(patience)]
+        for fd in found:
+            os.pread(fd, 99, 0)
+        return sorted(fds[fd] for fd in found)
+
+    same("at first", len(changed()), len(names))
+    wanted = ["/a/b/pids.events", "/a/b/pids.events.local", "/a/pids.events"]
+    for name, call in (("fork", fork), ("thread", thread), ("vfork", lambda: spawn("/bin/true"))):
+        same("a refused %s" % name, (call(), changed()), ("EAGAIN", wanted))
+    write(AT + "/a/b/pids.max", b"2")
+    same("one that fails otherwise", (clone(SIGHAND), changed()), ("EINVAL", []))
+    fd = group("/c")
+    args = (ctypes.c_uint64 * 11)(INTO, 0, 0, 0, signal.SIGCHLD, 0, 0, 0, 0, 0, fd)
+    pid = libc.syscall(435, args, 88)
+    if pid == 0:
+        libc.pause()
+    same("a birth in another group", changed(), ["/c/cgroup.events"])
+    pid_of_second = libc.syscall(435, args, 88)
+    if pid_of_second == 0:
+        libc.pause()
+    same("a second one", changed(), [])
+    for each, wanted in ((pid, []), (pid_of_second, ["/c/cgroup.events"])):
+        os.kill(each, signal.SIGKILL)
+        os.waitpid(each, 0)
+        same("an end", changed(), wanted)
+
+
+INSIDE = {births: [], crowd: [], orphaned: [], unused: ["--control"], told: []}
+inside(*INSIDE)
+run_each(INSIDE)
 finish()

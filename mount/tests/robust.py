@@ -11,7 +11,8 @@ import tempfile
 import threading
 import time
 
-from support import PATIENCE, PROGRAM, Mount, error_of, finish, line_of, read, same, step, until
+from support import PATIENCE, PROGRAM, Beside, Mount
+from support import error_of, finish, libc, line_of, read, same, step, until, write
 
 CLIENT = """import os, sys
 at = sys.argv[1]
@@ -82,10 +83,24 @@ def unmounted_with_a_request_pending(preload):
     m.end()
 
 
+def companions_of(server):
+    """The processes beside the server, which have its command line."""
+    line = line_of(server)
+    return [int(n) for n in os.listdir("/proc") if n.isdigit() and int(n) != server and line_of(int(n)) == line]
+
+
 def ended_while_open(how, name):
     m = Mount()
     os.mkdir(m.path("a"))
     fd = os.open(m.path("a", "pids.max"), os.O_RDWR)
+    for companion in companions_of(m.process.pid):
+        os.kill(companion, signal.SIGTERM)  # as all processes of a session get them
+        os.kill(companion, signal.SIGINT)
+    watch = libc.inotify_init()
+    libc.inotify_add_watch(watch, m.path("a", "cgroup.events").encode(), 2)  # IN_MODIFY
+    write(m.path("a", "cgroup.procs"), b"1")
+    same("a signal ends no companion: a watch is told", (Beside(os.read, watch, 100).result() or b"")[4:8], b"\2\0\0\0")
+    os.close(watch)
     m.process.send_signal(how)
     m.ended()
     step(
@@ -189,10 +204,8 @@ def let_go():
     high = fcntl.fcntl(w, fcntl.F_DUPFD, 300)
     p = subprocess.Popen([PROGRAM, "mount", at, "--foreground"], pass_fds=(w, high))
     step("it is mounted", until(lambda: os.path.ismount(at)))
-    companions = [
-        n for n in os.listdir("/proc") if n.isdigit() and int(n) != p.pid and line_of(int(n)) == line_of(p.pid)
-    ]
-    held = [os.readlink(name) for n in companions for name in glob.glob("/proc/%s/fd/*" % n)]
+    companions = companions_of(p.pid)
+    held = [os.readlink(name) for n in companions for name in glob.glob("/proc/%d/fd/*" % n)]
     same("there is one companion", len(companions), 1)
     step("it does not have the pipe", held and os.readlink("/proc/self/fd/%d" % w) not in held, held)
     step("it can be unmounted", until(lambda: subprocess.run(["fusermount3", "-u", at], stderr=-3).returncode == 0))

@@ -1,6 +1,7 @@
 """Cgroup namespaces, and programs that mount cgroup2 themselves, under `makhloeum run`; this file is also the program."""
 import ctypes
 import errno
+import fcntl
 import os
 import signal
 import subprocess
@@ -8,7 +9,7 @@ import sys
 import tempfile
 import threading
 
-from support import AT, PATIENCE, PROGRAM, error_of, finish, into, libc, read, same, step
+from support import AT, PATIENCE, PROGRAM, error_of, finish, inside, into, libc, read, same, step, write
 
 ME = os.path.realpath(__file__)
 CLONE_NEWCGROUP = 0x02000000
@@ -50,6 +51,32 @@ def namespaces():
     into("")
     same("in the root", shell("cat /proc/self/cgroup", "unshare", "-C")[1], "0::/\n")
     same("the next one's root", shell("echo 0 > %s/d/cgroup.procs; unshare -C cat /proc/self/cgroup" % AT)[1], "0::/\n")
+
+
+MOVES = """import sys
+for group in sys.argv[1:]:
+    with open("/sys/fs/cgroup%s/cgroup.procs" % group, "w") as f:
+        f.write("0")
+    print(open("/proc/self/cgroup").read(), end="")
+"""
+
+
+def seen_from(root, group):
+    """The path of a group in a namespace with this root, as the kernel makes it: up to what both have in common, and down again."""
+    from_names, to_names = root.split("/")[1:], group.split("/")[1:]
+    common = len(os.path.commonprefix((from_names, to_names)))
+    return "/.." * (len(from_names) - common) + "".join("/" + n for n in to_names[common:]) or "/"
+
+
+def pairs():
+    """Each of these groups, as it is seen in a namespace that begins at each of them."""
+    groups = ("", "/a", "/a/b", "/a/b/c", "/a/bc", "/ab", "/ab/b", "/b")
+    for g in groups[1:]:
+        os.mkdir(AT + g)
+    for root in groups:
+        words = ["unshare", "-C", sys.executable, "-c", MOVES, *groups]
+        ran = subprocess.run(words, stdout=subprocess.PIPE, timeout=PATIENCE, preexec_fn=lambda: into(root))
+        same("from %s" % (root or "/"), ran.stdout.decode().split(), ["0::" + seen_from(root, g) for g in groups])
 
 
 def mounts():
@@ -101,7 +128,16 @@ grep " %s " /proc/self/mountinfo | cut -d ' ' -f 4-5""" % (
             (libc.syscall(457 if call == "statmount" else 458, None, None, 0, 0), ctypes.get_errno()),
             (-1, errno.ENOSYS),
         )
-    step("of another", libc.syscall(number, b"tmpfs", 0) >= 0)
+    for flags, closes in ((0, 0), (1, fcntl.FD_CLOEXEC)):
+        fd = libc.syscall(number, b"tmpfs", flags)
+        same("of another, flags %d" % flags, (fd >= 0, fcntl.fcntl(fd, fcntl.F_GETFD)), (True, closes))
+        os.close(fd)
+    for name, kind, flags, wanted in (
+        ("unknown flags", b"tmpfs", 2, errno.EINVAL),
+        ("no such type", b"nosuch", 0, errno.ENODEV),
+        ("a name that cannot be read", 8, 0, errno.EFAULT),
+    ):
+        same("fsopen, %s" % name, (libc.syscall(number, kind, flags), ctypes.get_errno()), (-1, wanted))
 
 
 def covered():
@@ -169,12 +205,31 @@ def others():
         ),
     ):
         same(name, shell(script, "unshare", how), (0, wanted, ""))
-    for name, kind, wanted in (
-        ("no such type", b"nosuch", errno.ENODEV),
-        ("no type", None, errno.EINVAL),
-        ("a type that cannot be read", 1, errno.EFAULT),
+    for name, source, target, kind, data, wanted in (
+        ("no such type", b"none", at.encode(), b"nosuch", None, errno.ENODEV),
+        ("no type", b"none", at.encode(), None, None, errno.EINVAL),
+        ("a type that cannot be read", b"none", at.encode(), 1, None, errno.EFAULT),
+        ("a source that cannot be read", 8, at.encode(), b"tmpfs", None, errno.EFAULT),
+        ("a place that cannot be read", b"none", 8, b"tmpfs", None, errno.EFAULT),
+        ("data that cannot be read", b"none", at.encode(), b"tmpfs", 8, errno.EFAULT),
+        ("no place", b"none", b"", b"tmpfs", None, errno.ENOENT),
+        ("a place that is not there", b"none", b"/nowhere", b"tmpfs", None, errno.ENOENT),
+        ("an option that it does not have", b"none", at.encode(), b"tmpfs", b"nosuch=1", errno.EINVAL),
     ):
-        same(name, (libc.mount(b"none", at.encode(), kind, 0, None), ctypes.get_errno()), (-1, wanted))
+        same(name, (libc.mount(source, target, kind, 0, data), ctypes.get_errno()), (-1, wanted))
+    same("without a source", libc.mount(None, at.encode(), b"tmpfs", 0, None), 0)
+    source = next(x.split()[0] for x in open("/proc/self/mounts") if x.split()[1] == at)
+    same("it has none", (source, libc.umount2(at.encode(), DETACH)), ("none", 0))
+    for flags, words in (
+        (0, ["rw"]),
+        (1, ["ro"]),
+        (2 | 4 | 8, ["rw", "nosuid", "nodev", "noexec"]),
+        (1024, ["rw", "noatime"]),
+    ):
+        libc.mount(b"none", at.encode(), b"tmpfs", flags, b"size=8k")
+        has = next(x.split()[3].split(",") for x in open("/proc/self/mounts") if x.split()[1] == at)
+        same("flags %d" % flags, has[: len(words)], words)
+        libc.umount2(at.encode(), DETACH)
     same(
         "an old mark in the flags",
         (libc.mount(b"x", at.encode(), b"tmpfs", 0xC0ED0000, None), libc.umount2(at.encode(), DETACH)),
@@ -346,18 +401,59 @@ def uncounted():
     same("its process does not", read("/proc/self/cgroup"), b"0::/a\n")
 
 
+def cpusets():
+    """The text has the nearest group with the controller, as a reader in this cgroup namespace sees it."""
+    write(AT + "/cgroup.subtree_control", b"+cpuset")
+    for g in ("/a", "/a/b", "/a/b/c", "/d"):
+        os.mkdir(AT + g)
+    me = os.getpid()
+    for group, nearest, inside_of in (
+        ("", "/", "/"),
+        ("/a", "/a", "/"),
+        ("/a/b", "/a", "/.."),
+        ("/a/b/c", "/a", "/../.."),
+    ):
+        into(group)
+        for name in ("self", "thread-self", "%d" % me, "self/task/%d" % me):
+            same("/proc/%s/cpuset in %s" % (name, group), read("/proc/%s/cpuset" % name).decode(), nearest + "\n")
+        got = shell("cat /proc/self/cpuset /proc/self/cgroup", "unshare", "-C")
+        same("in a namespace that begins at %s" % group, got, (0, inside_of + "\n0::/\n", ""))
+    write(AT + "/a/cgroup.subtree_control", b"+cpuset")
+    into("/a/b/c")
+    same("once a group below has it", read("/proc/self/cpuset"), b"/a/b\n")
+    got = shell("echo 0 > %s/d/cgroup.procs; cat /proc/self/cpuset" % AT, "unshare", "-C")
+    same("of a group outside the namespace", got, (0, "/../../../d\n", ""))
+
+
 def unprivileged():
     same("a mount without privileges", error_of(mount, "/tmp"), "EPERM")
+    for kind in (b"cgroup", b"tmpfs"):
+        got = libc.mount(b"none", b"/tmp", kind, 0, None), ctypes.get_errno()
+        same("of %s" % kind.decode(), got, (-1, errno.EPERM))
+    for kind, wanted in ((b"cgroup2", errno.ENOSYS), (b"tmpfs", errno.EPERM)):
+        same("fsopen of %s" % kind.decode(), (libc.syscall(430, kind, 0), ctypes.get_errno()), (-1, wanted))
     same("nor a namespace", (libc.unshare(CLONE_NEWCGROUP), ctypes.get_errno()), (-1, errno.EPERM))
     same("then all is as before", read("/proc/self/cgroup"), b"0::/\n")
 
 
-INSIDE = (namespaces, mounts, others, rewritten, covered, beneath, threads, confined, uncounted, unprivileged)
-if sys.argv[1:2] == ["inside"]:
-    {t.__name__: t for t in INSIDE}[sys.argv[2]]()
-    finish()
+INSIDE = (
+    namespaces,
+    pairs,
+    mounts,
+    others,
+    rewritten,
+    covered,
+    beneath,
+    threads,
+    confined,
+    cpusets,
+    uncounted,
+    unprivileged,
+)
+OPTIONS = {unprivileged: [], uncounted: ["--root", "--threads=no"], cpusets: ["--root", "--keep", "cpuset"]}
+inside(*INSIDE)
 for test in INSIDE:
-    how = {unprivileged: [], uncounted: ["--root", "--threads=no"]}.get(test, ["--root"])
+    how = OPTIONS.get(test, ["--root"])
     ran = subprocess.run(
         [PROGRAM, "run", *how, sys.executable, ME, "inside", test.__name__],
         timeout=6 * PATIENCE,

@@ -159,6 +159,24 @@ def statuses():
     same("its words", ran("run", "sh", "-c", 'echo "$0|$@|$#"', "a", "b c", "", "*")[1], "a|b c  *|3\n")
 
 
+def without_fuse():
+    """What is said where there is no /dev/fuse, and by mount of its directory."""
+    at = folder("no-fuse")
+    script = """mkdir "$1/dev" && touch "$1/dev/null" && mount --bind /dev/null "$1/dev/null" && mount --rbind "$1/dev" /dev
+shift; exec "$@" """
+    words = ["unshare", "-Urm", "sh", "-c", script, "sh", HOME]
+    for start in (("mount", at), ("run", "true")):
+        got = ran(*words[1:], PROGRAM, *start, program=words[0])
+        said = "makhloeum: this machine does not allow FUSE: /dev/fuse: No such file or directory\n"
+        same("%s without /dev/fuse" % start[0], got, (2, "", said))
+        shutil.rmtree(os.path.join(HOME, "dev"))
+    file = os.path.join(HOME, "file")
+    open(file, "w").close()
+    for where, why in ((file, "%s is not a directory"), (at + "/none", "%s: No such file or directory")):
+        same("mount on %s" % os.path.basename(where), ran("mount", where), (2, "", "makhloeum: " + why % where + "\n"))
+    same("nothing is mounted", (os.path.ismount(at), os.listdir(at)), (False, []))
+
+
 SAYS = """import os, signal
 which = (signal.SIGHUP, signal.SIGINT, signal.SIGTERM, signal.SIGQUIT, signal.SIGUSR1)
 for each in which:
@@ -248,26 +266,46 @@ def kept():
     with open(sealed, "w") as f:
         f.write(old)
     os.chmod(sealed, 0)
-    new = os.path.join(HOME, "new")
-    for what, words in (
-        ("answers that cannot be made", ("--trace", new, "--answers", "/nowhere/x")),
-        ("a trace that cannot be made", ("--trace", "/nowhere/x", "--answers", new)),
-        ("a folder", ("--trace", new, "--answers", HOME)),
-        ("a hard link to the other", ("--trace", trace, "--answers", hard)),
-        ("one new file twice", ("--trace", new, "--answers", new)),
-        *([("a file that may not be written", ("--trace", trace, "--answers", sealed))] if os.getuid() else []),
-        ("a wrong controller", ("--trace", new, "--answers", answers, "--keep", "x")),
+    new, fifo = os.path.join(HOME, "new"), os.path.join(HOME, "fifo")
+    os.mkfifo(fifo)
+    nowhere, twice = (
+        "/nowhere/x cannot be written: No such file or directory",
+        "--trace and --answers are the same file",
+    )
+    is_neither = " cannot keep lines: it is neither a regular file nor a character device"
+    for what, words, why in (
+        ("answers that cannot be made", ("--trace", new, "--answers", "/nowhere/x"), nowhere),
+        ("a trace that cannot be made", ("--trace", "/nowhere/x", "--answers", new), nowhere),
+        ("a folder", ("--trace", new, "--answers", HOME), HOME + " cannot be written: Is a directory"),
+        ("a FIFO without a reader", ("--trace", fifo), fifo + " cannot be written: No such device or address"),
+        ("a hard link to the other", ("--trace", trace, "--answers", hard), twice),
+        ("one new file twice", ("--trace", new, "--answers", new), twice),
+        (
+            "a file that may not be written",
+            ("--trace", trace, "--answers", sealed),
+            sealed + " cannot be written: Permission denied" if os.getuid() else None,
+        ),
+        (
+            "a wrong controller",
+            ("--trace", new, "--answers", answers, "--keep", "x"),
+            "--keep takes memory, cpu, io and cpuset, with commas between",
+        ),
     ):
-        for start in (("mount", at), ("run", "true")):
+        for start in (("mount", at), ("run", "true")) if why else ():
             words_of = (start[0], *words, start[1])
-            status, _, said = ran(*words_of)
-            same("%s: %s" % (start[0], what), (status, said.count("\n")), (2, 1))
+            got = ran(*words_of, preexec_fn=lambda: signal.signal(signal.SIGCHLD, signal.SIG_IGN))
+            same("%s: %s" % (start[0], what), got, (2, "", "makhloeum: %s\n" % why))
             same(
                 "files are as they were",
                 ([open(n).read() == old for n in (trace, answers)], os.path.exists(new)),
                 ([True] * 2, False),
             )
     same("nothing is mounted", os.path.ismount(at), False)
+    reader = os.open(fifo, os.O_RDONLY | os.O_NONBLOCK)
+    for start in (("mount", at), ("run", "true")):
+        got = ran(start[0], "--trace", fifo, start[1])
+        same("%s: a FIFO with a reader" % start[0], got, (2, "", "makhloeum: %s%s\n" % (fifo, is_neither)))
+    os.close(reader)
     m = Mount(trace=trace, answers=answers)
     os.mkdir(m.path("a"))
     same("a file that was there has the new lines alone", open(trace).read().count("\n"), 2)
@@ -293,7 +331,7 @@ def kept():
     step("the lines are there", "mkdir /a\n" in open(trace).read() and "old" not in open(trace).read())
 
 
-for test in (options, statuses, passed, commands, kept):
+for test in (options, statuses, without_fuse, passed, commands, kept):
     test()
 shutil.rmtree(HOME)
 finish()

@@ -181,6 +181,27 @@ def in_parallel(run, of, lanes=2):
         list(pool.map(guarded, of))
 
 
+# ---- for tests that are also the program of a run
+
+
+def inside(*tests):
+    """In the run that `run_each` starts: makes the test that is meant, and ends."""
+    if sys.argv[1:2] == ["inside"]:
+        {t.__name__: t for t in tests}[sys.argv[2]](*sys.argv[3:])
+        finish()
+
+
+def run_each(tests, lanes=2):
+    """Makes each of these tests, or those that the command line names, in a run of its own. `tests` has the options of each run."""
+
+    def run(test):
+        words = [PROGRAM, "run", *tests[test], sys.executable, os.path.realpath(sys.argv[0]), "inside", test.__name__]
+        p = subprocess.Popen(words, start_new_session=True)
+        same("%s: its status" % test.__name__, status_within(p, 6 * PATIENCE), 0)
+
+    in_parallel(run, [t for t in tests if t.__name__ in sys.argv[1:] or not sys.argv[1:]], lanes)
+
+
 # ---- for programs under `run`: their hierarchy is at AT
 
 AT = "/sys/fs/cgroup"
@@ -202,6 +223,21 @@ def into(group):
 def tracer():
     """The supervisor of this process."""
     return int(next(x for x in open("/proc/self/status") if x.startswith("TracerPid:")).split()[1])
+
+
+def rests():
+    """Whether the supervisor becomes idle: it wakes up for what happens, and not for what is over."""
+
+    def wakes():
+        line = next(x for x in open("/proc/%d/status" % tracer()) if x.startswith("voluntary_ctxt_switches"))
+        return int(line.split()[1])
+
+    def idle():
+        before = wakes()
+        time.sleep(0.25)
+        return wakes() - before <= 2
+
+    return until(idle)
 
 
 def is_alive(pid):

@@ -6,6 +6,7 @@ import re
 import stat
 import subprocess
 import sys
+import time
 
 from on_kernel import new_group
 from support import AT, PATIENCE, PROGRAM, Mount, error_of, finish, libc, read, same, step, write
@@ -101,6 +102,7 @@ def every_file():
 
 def control():
     """Calls in the control directory, whose files nobody makes, removes or changes."""
+    began = time.time_ns()
     m = Mount()
     at = m.path(".makhloeum")
     same("its files", modes(at), HISTORY)
@@ -108,6 +110,8 @@ def control():
     for name in (*HISTORY, "."):
         st = os.stat(os.path.join(at, name))
         same("the owner of " + name, (st.st_uid, st.st_gid), me)
+        times = {st.st_atime_ns, st.st_mtime_ns, st.st_ctime_ns}
+        step("its times are that of the mount", len(times) == 1 and began <= max(times) <= time.time_ns(), times)
     owners, denied = "EACCES" if os.getuid() else "ok", "EACCES" if os.getuid() else "EINVAL"
     for what, wanted, call in (
         ("mkdir of it", "EEXIST", lambda: os.mkdir(at)),
@@ -206,6 +210,22 @@ def names():
     os.chdir("q" * rest)
     same("which works", (error_of(write, "pids.max", b"5"), read("pids.max")), ("ok", b"5\n"))
     os.chdir("/")
+    m.end()
+
+
+def most():
+    """As many groups as there may be, with the longest names: the root and 1,024 others."""
+    m = Mount("--extra")
+    names = ["%04d%s" % (i, "n" * 251) for i in range(1024)]
+    wrong = [name[:4] for name in names if error_of(os.mkdir, m.path(name)) != "ok"]
+    same("groups that could not be made", wrong, [])
+    same("one more", error_of(os.mkdir, m.path("more")), "ENOSPC")
+    same("nor below another", error_of(os.mkdir, m.path(names[7], "more")), "ENOSPC")
+    same("all are listed", sorted(n for n in os.listdir(m.at) if len(n) == 255) == names, True)
+    same("and counted", read(m.path("cgroup.stat")), b"nr_descendants 1024\nnr_dying_descendants 0\n")
+    same("each is there", [n[:4] for n in names if read(m.path(n, "cgroup.freeze")) != b"0\n"], [])
+    os.rmdir(m.path(names[500]))
+    same("one for another", error_of(os.mkdir, m.path("more")), "ok")
     m.end()
 
 
@@ -379,8 +399,33 @@ def longest():
     same("the root of a cgroup namespace", (ran.returncode, ran.stdout), (0, b"0::/\n"))
 
 
+def other():
+    """A user whose group has another number."""
+    words = ["unshare", "-Um", "--map-user=3", "--map-group=4", "--keep-caps", sys.executable, ME, "other"]
+    same("as user 3 of group 4: the status", subprocess.run(words, timeout=6 * PATIENCE).returncode, 0)
+
+
+def made():
+    """Who owns what is made."""
+    m = Mount("--extra")
+    os.mkdir(m.path("g"))
+    write(m.control("undo"), b"1")
+    os.mkdir(m.path("g"))
+    os.rmdir(m.path("g"))
+    write(m.control("undo"), b"1")
+    for name in ("g", "g/pids.max", "cgroup.procs"):
+        st = os.stat(m.path(name))
+        same("the owner of " + name, (st.st_uid, st.st_gid), (os.geteuid(), os.getegid()))
+    m.end()
+
+
 if sys.argv[1:] == ["inside"]:
     inside()
+    finish()
+if sys.argv[1:] == ["other"]:
+    same("who this is", (os.geteuid(), os.getegid()), (3, 4))
+    for test in (control, of_system, made, under_run):
+        test()
     finish()
 if sys.argv[1:] == ["longest"]:
     longest()
@@ -390,7 +435,7 @@ if sys.argv[1:] == ["kernel"]:
         if group:
             as_in_a_kernel("the kernel", group)
     finish()
-for test in (every_file, control, names, of_system, under_run, tables):
+for test in (every_file, control, names, most, of_system, made, under_run, tables, other):
     test()
 ran = subprocess.run([PROGRAM, "run", "--root", sys.executable, ME, "longest"], timeout=2 * PATIENCE)
 same("the longest path: its status", ran.returncode, 0)

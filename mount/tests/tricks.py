@@ -9,24 +9,10 @@ import sys
 import tempfile
 import threading
 
-from support import (
-    AT,
-    PATIENCE,
-    PROGRAM,
-    error_of,
-    finish,
-    in_parallel,
-    into,
-    read,
-    same,
-    status_within,
-    step,
-    until,
-    write,
-)
+from support import AT, BUILT, PATIENCE, PROGRAM, error_of, finish, inside, into, read, run_each, same, step, until
+from support import write
 
 ME = os.path.realpath(__file__)
-BUILT = os.environ.get("HOSTILE") or os.path.join(os.path.dirname(PROGRAM), "..", "hostile")
 TRICKS = os.path.join(BUILT, "tricks")
 
 
@@ -204,17 +190,10 @@ print(json.dumps({
 }))"""
 
 INSIDE = {marks: [], signals: [], tables: [], peaks: [], storms: [], numbers: ["--root"]}
-if sys.argv[1:2] == ["inside"]:
-    {t.__name__: t for t in (*INSIDE, numbered)}[sys.argv[2]](*sys.argv[3:])
-    finish()
+inside(*INSIDE, numbered)
 
 
 # ---------------------------------------------------------------- outside
-
-
-def run(test):
-    p = subprocess.Popen([PROGRAM, "run", *INSIDE[test], sys.executable, ME, "inside", test.__name__])
-    same("%s: its status" % test.__name__, status_within(p, 6 * PATIENCE), 0)
 
 
 def inherited():
@@ -250,7 +229,7 @@ def inherited():
         same("inherited: %s" % key, there.get(key), wanted[key])
 
 
-in_parallel(run, [t for t in INSIDE if t.__name__ in sys.argv[1:] or not sys.argv[1:]])
+run_each(INSIDE)
 if "inherited" in sys.argv[1:] or not sys.argv[1:]:
     inherited()
 finish()

@@ -10,7 +10,7 @@ import sys
 from support import PATIENCE, PROGRAM, error_of, finish, libc, read, same, step
 
 ME = os.path.realpath(__file__)
-OTHER = 1
+OTHER, GROUP = 1, 2
 AT = b"/sys/fs/cgroup"
 
 
@@ -35,9 +35,9 @@ def inside(outside):
     at = os.path.join(os.environ["TMPDIR"], "users%d" % os.getpid())
     os.mkdir(at)
     os.chmod(at, 0o755)
-    os.chown(at, OTHER, OTHER)
-    same("a file of another user", (os.stat(at).st_uid, os.stat(at).st_gid), (OTHER, OTHER))
-    as_other = ["setpriv", "--reuid", str(OTHER), "--regid", str(OTHER), "--clear-groups"]
+    os.chown(at, OTHER, GROUP)
+    same("a file of another user", (os.stat(at).st_uid, os.stat(at).st_gid), (OTHER, GROUP))
+    as_other = ["setpriv", "--reuid", str(OTHER), "--regid", str(GROUP), "--clear-groups"]
     same("a process of another user", said(*as_other, "id", "-u"), (0, "%d\n" % OTHER, ""))
     tool = os.path.join(at, "id")
     shutil.copy(shutil.which("id"), tool)
@@ -49,7 +49,7 @@ def inside(outside):
     same(
         "who owns the group that it makes",
         said(*as_other, "sh", "-c", "cd /sys/fs/cgroup && mkdir o && stat -c %u:%g o o/pids.max"),
-        (0, "%d:%d\n" % (OTHER, OTHER) * 2, ""),
+        (0, "%d:%d\n" % (OTHER, GROUP) * 2, ""),
     )
     place = os.path.join(os.environ["TMPDIR"], "at%d" % os.getpid())
     os.mkdir(place)
@@ -85,6 +85,17 @@ if sys.argv[1:2] == ["refused"]:
 maps = ";".join(
     "%d,%d" % (numbers(which)[0][0], sum(c for _, _, c in numbers(which))) for which in ("uid_map", "gid_map")
 )
-sys.exit(
-    subprocess.run([PROGRAM, "run", "--users", sys.executable, ME, "inside", maps], timeout=6 * PATIENCE).returncode
-)
+ran = subprocess.run([PROGRAM, "run", "--users", sys.executable, ME, "inside", maps], timeout=6 * PATIENCE)
+same("a run with all users: its status", ran.returncode, 0)
+# another group than that of the user's number
+script = """id -u; id -g; cat /proc/self/uid_map /proc/self/gid_map /proc/self/setgroups; cd /sys/fs/cgroup; mkdir g
+stat -c %u:%g . g g/pids.max; echo 0 >g/cgroup.procs; cat /proc/self/cgroup"""
+for user, group in ((3, 4), (5, 2)):
+    as_user = ["setpriv", "--reuid", str(user), "--regid", str(group), "--clear-groups", PROGRAM, "run"]
+    for options, own in (([], (user, group)), (["--root"], (0, 0))):
+        status, text, said_too = said(*as_user, *options, "--", "sh", "-c", script, cwd="/")
+        lines = [line.split() for line in text.splitlines()]
+        maps = ([str(n), str(n) if not options else "0", "1"] for n in own)
+        wanted = [[str(own[0])], [str(own[1])], *maps, ["deny"], *[["%d:%d" % own]] * 3, ["0::/g"]]
+        same("user %d, group %d %s" % (user, group, options), (status, lines, said_too), (0, wanted, ""))
+finish()

@@ -4,7 +4,7 @@ import os
 import subprocess
 import sys
 
-from support import AT, PATIENCE, PROGRAM, Mount, error_of, finish, read, same, step, write
+from support import AT, PATIENCE, PROGRAM, Mount, error_of, finish, inside, read, same, step, write
 
 ME = os.path.realpath(__file__)
 PAGE = os.sysconf("SC_PAGE_SIZE")
@@ -37,6 +37,12 @@ FRESH = {
     "cpuset.mems": "",
     "cpuset.cpus.partition": "member",
 }
+# As the kernel's guide has them (cgroup-v2.rst), in its order.
+OF_MEMORY = """anon file kernel kernel_stack pagetables sec_pagetables percpu sock vmalloc shmem zswap zswapped file_mapped file_dirty
+file_writeback swapcached anon_thp file_thp shmem_thp inactive_anon active_anon inactive_file active_file unevictable slab_reclaimable
+slab_unreclaimable slab workingset_refault_anon workingset_refault_file workingset_activate_anon workingset_activate_file
+workingset_restore_anon workingset_restore_file workingset_nodereclaim pgscan pgsteal pgscan_kswapd pgscan_direct pgsteal_kswapd
+pgsteal_direct pgfault pgmajfault pgrefill pgactivate pgdeactivate pglazyfree pglazyfreed thp_fault_alloc thp_collapse_alloc"""
 EMPTY = {"io.max", "io.stat"}
 ON_ROOT = ["cpu.stat", "cpuset.cpus.effective", "cpuset.mems.effective", "io.stat", "memory.stat"]
 
@@ -172,10 +178,8 @@ def fresh():
     for name in EMPTY:
         same("a new group's " + name, text_of(m, name), "")
     lines = [x.split() for x in text_of(m, "memory.stat").splitlines()]
-    step(
-        "memory.stat is all zero",
-        {"anon", "file", "pgfault", "slab"} < {k for k, _ in lines} and {v for _, v in lines} == {"0"},
-    )
+    same("the words of memory.stat", [k for k, _ in lines], OF_MEMORY.split())
+    same("which are all zero", {v for _, v in lines}, {"0"})
     there = {n for n in os.listdir(m.at) if n.partition(".")[0] in ("memory", "cpu", "io", "cpuset")}
     same("on the root", sorted(there), ON_ROOT)
     same(
@@ -317,21 +321,124 @@ def of_disks():
         ("io.max", "8:1 rbps=10", "ENODEV", "7:1 rbps=max wbps=max riops=1000 wiops=max\n"),
         ("io.max", "8:10 rbps=10", "ENODEV", "7:1 rbps=max wbps=max riops=1000 wiops=max\n"),
         ("io.max", "7:1 riops=max", "ok", ""),
+        ("io.max", "10:7 rbps=10", "ENODEV", ""),
+        ("io.max", "9:1 rbps=10", "ENODEV", ""),
+        ("io.max", "9:2 rbps=10", "ENODEV", ""),
+        ("io.max", "8:0 rbps=2 wbps=3 riops=4 wiops=5", "ok", "8:0 rbps=2 wbps=3 riops=4 wiops=5\n"),
+        ("io.max", "8:0 wbps=7 rbps=max", "ok", "8:0 rbps=max wbps=7 riops=4 wiops=5\n"),
+        ("io.max", "8:0 rbps=6 wbps=1", "EINVAL", "8:0 rbps=max wbps=7 riops=4 wiops=5\n"),
+        ("io.max", "8:0 rbps=6 rbps=8", "ok", "8:0 rbps=8 wbps=7 riops=4 wiops=5\n"),
+        ("io.max", "8:0", "ok", "8:0 rbps=8 wbps=7 riops=4 wiops=5\n"),
+        ("io.max", "8:0rbps=9", "EINVAL", "8:0 rbps=8 wbps=7 riops=4 wiops=5\n"),
+        ("io.max", "8:0\trbps=9", "ok", "8:0 rbps=9 wbps=7 riops=4 wiops=5\n"),
+        ("io.max", " 08:00 rbps=10", "ok", "8:0 rbps=10 wbps=7 riops=4 wiops=5\n"),
+        ("io.max", "8: 0 rbps=11", "ok", "8:0 rbps=11 wbps=7 riops=4 wiops=5\n"),
+        ("io.max", "8: \t0 rbps=10", "ok", "8:0 rbps=10 wbps=7 riops=4 wiops=5\n"),
+        ("io.max", "8 :0 rbps=9", "EINVAL", "8:0 rbps=10 wbps=7 riops=4 wiops=5\n"),
+        ("io.max", "8::0 rbps=9", "EINVAL", "8:0 rbps=10 wbps=7 riops=4 wiops=5\n"),
+        ("io.max", "8:+0 rbps=9", "EINVAL", "8:0 rbps=10 wbps=7 riops=4 wiops=5\n"),
+        ("io.max", "8:0x0 rbps=9", "EINVAL", "8:0 rbps=10 wbps=7 riops=4 wiops=5\n"),
+        ("io.max", "8:0 RBPS=9", "EINVAL", "8:0 rbps=10 wbps=7 riops=4 wiops=5\n"),
+        ("io.max", "8:0 rbps=-9", "EINVAL", "8:0 rbps=10 wbps=7 riops=4 wiops=5\n"),
+        ("io.max", "8:0 rbps= 9", "EINVAL", "8:0 rbps=10 wbps=7 riops=4 wiops=5\n"),
+        ("io.max", "8:0 rbpsx=9", "EINVAL", "8:0 rbps=10 wbps=7 riops=4 wiops=5\n"),
+        (
+            "io.max",
+            "8:0 rbps=18446744073709551614 riops=4294967294 wiops=4294967295",
+            "ok",
+            "8:0 rbps=18446744073709551614 wbps=7 riops=4294967294 wiops=max\n",
+        ),
+        ("io.max", "8:0 rbps=18446744073709551615 riops=4294967296 wbps=max", "ok", ""),
         ("io.weight", "7:10 50", "ok", "default 100\n7:10 50\n"),
         ("io.weight", "7:1 60", "ok", "default 100\n7:10 50\n7:1 60\n"),
         ("io.weight", "7:10 default", "ok", "default 100\n7:1 60\n"),
         ("io.weight", "8:1 50", "ENODEV", "default 100\n7:1 60\n"),
+        ("io.weight", "7:1 0", "EINVAL", "default 100\n7:1 60\n"),
+        ("io.weight", "7:1 10001", "EINVAL", "default 100\n7:1 60\n"),
+        ("io.weight", "7:1 10000", "ok", "default 100\n7:1 10000\n"),
+        ("io.weight", "7:1 x", "EINVAL", "default 100\n7:1 10000\n"),
+        ("io.weight", "7:1 ", "EINVAL", "default 100\n7:1 10000\n"),
+        ("io.weight", "default 5", "ok", "default 5\n7:1 10000\n"),
+        ("io.weight", "8:0\t1", "ok", "default 5\n7:1 10000\n8:0 1\n"),
+        ("io.weight", "7:1 default", "ok", "default 5\n8:0 1\n"),
+        ("io.weight", "7:1 default", "ok", "default 5\n8:0 1\n"),
     ):
         file = AT + "/v/" + name
         same("%s: %s" % (name, words), error_of(write, file, words.encode() + b"\n"), error)
         same("%s then" % name, read(file).decode(), text)
 
 
+def elsewhere(what, script, keep, test):
+    """A run on a machine that looks as the script makes it."""
+    words = ["unshare", "-Urm", "sh", "-ec", script + '\ncd /\nexec "$0" run --keep %s -- "$@"' % keep]
+    ran = subprocess.run([*words, PROGRAM, sys.executable, ME, "inside", test.__name__], timeout=4 * PATIENCE)
+    same("the status of a run %s" % what, ran.returncode, 0)
+
+
 def disks():
-    script = """mount -t tmpfs none /sys/dev/block && cd /sys/dev/block && mkdir 7:1 7:10 8:0 8:1 && touch 8:1/partition && cd / &&
-exec "$0" run --keep io -- "$@" """
-    words = ["unshare", "-Urm", "sh", "-c", script, PROGRAM, sys.executable, ME, "inside"]
-    same("the status of a run with these disks", subprocess.run(words, timeout=4 * PATIENCE).returncode, 0)
+    script = """mount -t tmpfs none /sys/dev/block; cd /sys/dev/block
+mkdir 7:1 7:10 8:0 8:1 9:1x x 9:2:3 9; touch 8:1/partition"""
+    elsewhere("with these disks", script, "io", of_disks)
+
+
+PROCESSORS = """mount -t tmpfs none /sys/devices/system; cd /sys/devices/system; mkdir cpu node
+echo %s >cpu/possible; echo %s >cpu/online; echo %s >node/possible; echo %s >node/has_memory"""
+
+
+def processors():
+    elsewhere("with these processors", PROCESSORS % ("0-3,8", "0-1,8", "0-2", "0,2"), "cpuset", of_processors)
+    elsewhere("with none that it knows", "mount -t tmpfs none /sys/devices/system", "cpuset", of_none)
+    elsewhere("with what is no list", PROCESSORS % ("x", "0-", "''", "0-3x"), "cpuset", of_none)
+
+
+def tries(rows):
+    """Each row: a file, what is written, the errno; and the file and the text that are read then."""
+    for name, words, error, shown, text in rows:
+        same("%s: %s" % (name, words), error_of(write, AT + "/v/" + name, words.encode() + b"\n"), error)
+        same("%s then" % shown, read(AT + "/v/" + shown).decode(), text)
+
+
+def of_processors():
+    """Processors 0 to 3 and 8 are possible, and 0, 1 and 8 online; nodes 0 to 2 are possible, and 0 and 2 have memory."""
+    write(AT + "/cgroup.subtree_control", b"+cpuset")
+    os.mkdir(AT + "/v")
+    cpus, mems, all_cpus, all_mems = "cpuset.cpus", "cpuset.mems", "0-1,8\n", "0,2\n"
+    for group in ("", "/v"):
+        got = read(AT + group + "/cpuset.cpus.effective"), read(AT + group + "/cpuset.mems.effective")
+        same("those of %s" % (group or "the root"), got, (all_cpus.encode(), all_mems.encode()))
+    tries(
+        (
+            (cpus, "0-3,8", "ok", "cpuset.cpus.effective", all_cpus),
+            (cpus, "8", "ok", "cpuset.cpus.effective", "8\n"),
+            (cpus, "1-3", "ok", "cpuset.cpus.effective", "1\n"),
+            (cpus, "2-3", "ok", "cpuset.cpus.effective", all_cpus),
+            (cpus, "4", "EINVAL", cpus, "2-3\n"),
+            (cpus, "3-8", "EINVAL", cpus, "2-3\n"),
+            (cpus, "all", "EINVAL", cpus, "2-3\n"),
+            (cpus, "9", "ERANGE", cpus, "2-3\n"),
+            (cpus, "N", "ok", cpus, "8\n"),
+            (cpus, "0-N:1/8", "ok", cpus, "0,8\n"),
+            (mems, "0-2", "ok", "cpuset.mems.effective", all_mems),
+            (mems, "1-2", "ok", "cpuset.mems.effective", "2\n"),
+            (mems, "1", "ok", "cpuset.mems.effective", all_mems),
+            (mems, "3", "EINVAL", mems, "1\n"),
+            (mems, "N", "EINVAL", mems, "1\n"),
+            (mems, "1023", "EINVAL", mems, "1\n"),
+            (mems, "1024", "ERANGE", mems, "1\n"),
+            (mems, "", "ok", "cpuset.mems.effective", all_mems),
+        )
+    )
+
+
+def of_none():
+    """The machine does not say what it has: that counts as one processor and one node."""
+    write(AT + "/cgroup.subtree_control", b"+cpuset")
+    os.mkdir(AT + "/v")
+    for name, beyond in (("cpuset.cpus", "ERANGE"), ("cpuset.mems", "EINVAL")):
+        same(
+            name + ".effective", (read(AT + "/%s.effective" % name), read(AT + "/v/%s.effective" % name)), (b"0\n",) * 2
+        )
+        tries(((name, "0", "ok", name, "0\n"), (name, "1", beyond, name, "0\n")))
 
 
 def lives():
@@ -367,9 +474,7 @@ def lives():
     m.end()
 
 
-if sys.argv[1:] == ["inside"]:
-    of_disks()
-    finish()
-for test in (fresh, values, related, devices, disks, lives):
+inside(of_disks, of_processors, of_none)
+for test in (fresh, values, related, devices, disks, processors, lives):
     test()
 finish()

@@ -1,0 +1,233 @@
+"""Numbers of processes and threads that are used again at once. In a PID namespace of its own this test says which number comes next
+(ns_last_pid), so it does not wait for the numbers to wrap around. This file is also the program (reused.py inside NAME)."""
+import os
+import signal
+import socket
+import subprocess
+import sys
+import threading
+
+from support import AT, PATIENCE, PROGRAM, Mount
+from support import error_of, finish, inside, into, is_alive, read, same, status_within, step, until, write
+
+ME = os.path.realpath(__file__)
+TRIES = 50  # another process of the namespace may take the number
+asks = socket.socket(fileno=int(os.environ["ASKS"])) if "ASKS" in os.environ else None
+
+
+def next_is(number):
+    """The next process or thread of this namespace has this number, if it is free."""
+    if asks:
+        asks.send(b"%d" % number)
+        asks.recv(1)
+    else:
+        write("/proc/sys/kernel/ns_last_pid", b"%d" % (number - 1))
+
+
+def reused(name, before, after, undo):
+    """Whose number `before` returns has ended. `after` makes another and returns its number: they are the same, or it is undone."""
+    for _ in range(TRIES):
+        number = before()
+        next_is(number)
+        again = after()
+        if again == number:
+            return number
+        undo(again)
+    step("%s: the number is used again" % name, False)
+    return None
+
+
+# ---------------------------------------------------------------- inside
+
+
+def child(group, call=signal.pause):
+    """A child in a group, once it is there."""
+    r, w = os.pipe()
+    pid = os.fork()
+    if pid == 0:
+        into(group)
+        os.write(w, b"x")
+        call()
+        os._exit(0)
+    os.close(w)
+    os.read(r, 1)
+    os.close(r)
+    return pid
+
+
+def born(call=signal.pause):
+    """A child in the group of this process."""
+    pid = os.fork()
+    if pid == 0:
+        call()
+        os._exit(0)
+    return pid
+
+
+def end(pid):
+    os.kill(pid, signal.SIGKILL)
+    os.waitpid(pid, 0)
+    return pid
+
+
+class Thread:
+    """A thread that waits for its end."""
+
+    newest = None
+
+    def __init__(self):
+        begun, self.ends = threading.Event(), threading.Event()
+        self.thread = threading.Thread(target=lambda: (begun.set(), self.ends.wait()))
+        self.thread.start()
+        begun.wait()
+        self.number = self.thread.native_id
+        Thread.newest = self
+
+    def end(self):
+        self.ends.set()
+        self.thread.join()
+        until(lambda: not os.path.exists("/proc/self/task/%d" % self.number))
+        return self.number
+
+
+def numbers(group, name="cgroup.procs"):
+    return sorted(map(int, read(AT + group + "/" + name).split()))
+
+
+def count(group):
+    return int(read(AT + group + "/pids.current"))
+
+
+def processes():
+    """A process has the number of another that was in another group, or was killed there."""
+    for g in ("/a", "/b", "/c"):
+        os.mkdir(AT + g)
+    me = os.getpid()
+    into("/b")
+
+    def killed():
+        pid = child("/a")
+        write(AT + "/a/cgroup.kill", b"1")
+        os.waitpid(pid, 0)
+        return pid
+
+    def frozen():
+        pid = child("/c")
+        write(AT + "/c/cgroup.freeze", b"1")
+        until(lambda: read(AT + "/c/cgroup.events") == b"populated 1\nfrozen 1\n")
+        end(pid)
+        write(AT + "/c/cgroup.freeze", b"0")
+        return pid
+
+    for name, before in (("ended", lambda: end(child("/a"))), ("killed", killed), ("frozen", frozen)):
+        pid = reused(name, before, born, end)
+        same("%s: it is where it was born" % name, (numbers("/b"), count("/b")), (sorted((me, pid)), 2))
+        same("%s: and not there" % name, [(numbers(g), count(g)) for g in ("/a", "/c")], [([], 0)] * 2)
+        same("%s: its own group" % name, read("/proc/%d/cgroup" % pid), b"0::/b\n")
+        write(AT + "/a/cgroup.procs", b"%d" % pid)
+        same("%s: it moves" % name, (numbers("/a"), count("/a"), count("/b")), ([pid], 1, 1))
+        write(AT + "/a/cgroup.kill", b"1")
+        same("%s: a kill ends it" % name, os.waitpid(pid, 0)[1], signal.SIGKILL)
+        pid = reused(name, before, lambda: born(lambda: os._exit(os.waitpid(os.fork() or os._exit(3), 0)[1] >> 8)), end)
+        same("%s: another forks, and ends" % name, os.waitpid(pid, 0)[1], 3 << 8)
+        same("%s: it is gone" % name, (numbers("/b"), count("/b")), ([me], 1))
+        write(AT + "/b/pids.max", b"3")
+        same(
+            "%s: two fit" % name, [error_of(lambda: made.append(born())) for made in ([],) * 3], ["ok", "ok", "EAGAIN"]
+        )
+        write(AT + "/b/pids.max", b"max")
+        for pid in numbers("/b"):
+            if pid != me:
+                end(pid)
+
+
+def threads():
+    """A process has the number of a thread, and a thread that of a process."""
+    for g in ("/a", "/b"):
+        os.mkdir(AT + g)
+    me = os.getpid()
+    into("/a")
+    pid = reused("a process", lambda: Thread().end(), born, end)
+    same("a process with the number of a thread", (numbers("/a"), count("/a")), (sorted((me, pid)), 2))
+    same("it is a thread too, its own", numbers("/a", "cgroup.threads"), sorted((me, pid)))
+    write(AT + "/b/cgroup.procs", b"%d" % pid)
+    same("it moves alone", (numbers("/a"), numbers("/b"), count("/a"), count("/b")), ([me], [pid], 1, 1))
+    end(pid)
+    same("and ends alone", (count("/a"), count("/b")), (1, 0))
+    number = reused("a thread", lambda: end(child("/b")), lambda: Thread().number, lambda _: Thread.newest.end())
+    same("a thread with the number of a process", (numbers("/a"), count("/a")), ([me], 2))
+    same("is listed as one", numbers("/a", "cgroup.threads"), sorted((me, number)))
+    same("and is nowhere else", (numbers("/b"), numbers("/b", "cgroup.threads"), count("/b")), ([], [], 0))
+    write(AT + "/b/cgroup.procs", b"%d" % number)
+    same("its number moves its process", (numbers("/b"), numbers("/b", "cgroup.threads")), ([me], sorted((me, number))))
+    Thread.newest.end()
+    step("it ends", until(lambda: count("/b") == 1))
+    number = reused("another", lambda: Thread().end(), lambda: Thread().number, lambda _: Thread.newest.end())
+    same("a thread with the number of another", numbers("/b", "cgroup.threads"), sorted((me, number)))
+    Thread.newest.end()
+    pid = reused("a last", lambda: Thread().end(), lambda: born(lambda: os._exit(5)), end)
+    same("a process with its number ends", os.waitpid(pid, 0)[1], 5 << 8)
+    step("and nobody is left", until(lambda: (numbers("/b"), count("/b")) == ([me], 1)))
+
+
+INSIDE = (processes, threads)
+inside(*INSIDE)
+
+
+# ---------------------------------------------------------------- outside, in the namespace
+
+
+def run(test):
+    own, theirs = socket.socketpair(socket.AF_UNIX, socket.SOCK_SEQPACKET)
+    words = [PROGRAM, "run", sys.executable, ME, "inside", test.__name__]
+    env = dict(os.environ, ASKS=str(theirs.fileno()))
+    p = subprocess.Popen(words, pass_fds=(theirs.fileno(),), env=env)
+    theirs.close()
+    while number := own.recv(16):
+        next_is(int(number))
+        own.send(b"x")
+    same("%s: its status" % test.__name__, status_within(p, 6 * PATIENCE), 0)
+
+
+def adopted():
+    """With --adopt a number that another process has by now is nobody of the hierarchy."""
+    m = Mount("--adopt")
+    os.mkdir(m.path("a"))
+
+    def sleeper():
+        return subprocess.Popen(["sleep", "600"]).pid
+
+    def adopt_and_end():
+        pid = sleeper()
+        write(m.path("a", "cgroup.procs"), b"%d" % pid)
+        return end(pid)
+
+    def other():
+        pid = os.fork()
+        if pid == 0:
+            signal.pause()
+        return pid
+
+    pid = reused("a stranger", adopt_and_end, other, end)
+    write(m.path("a", "cgroup.kill"), b"1")
+    same("a kill does not reach the stranger", (is_alive(pid), read(m.path("a", "pids.current"))), (True, b"0\n"))
+    write(m.path("a", "cgroup.procs"), b"%d" % pid)
+    same("until it is adopted", read(m.path("a", "cgroup.procs")), b"%d\n" % pid)
+    write(m.path("a", "cgroup.kill"), b"1")
+    same("then it does", os.waitpid(pid, 0)[1], signal.SIGKILL)
+    m.end()
+
+
+if sys.argv[1:] == ["outside"]:
+    for test in INSIDE:
+        run(test)
+    adopted()
+    finish()
+space = ["unshare", "--user", "--map-root-user", "--mount", "--pid", "--fork", "--mount-proc", "--kill-child"]
+asked = subprocess.run([*space, "sh", "-c", "echo 100 >/proc/sys/kernel/ns_last_pid"], stderr=subprocess.PIPE)
+if asked.returncode:
+    step("this kernel does not let a namespace say which number is next: left out", True)
+    finish()
+ran = subprocess.run([*space, sys.executable, ME, "outside"], timeout=12 * PATIENCE)
+same("in a namespace of numbers: its status", ran.returncode, 0)
+finish()
