@@ -38,7 +38,7 @@ fn is_made_in(alloc: Global, size: usize) -> Result<bool, AllocError> {
 
 /// Makes an engine in heaps that are larger by a block each time, until one is large enough.
 pub(crate) fn makes_in_small_heaps(alloc: Global, said: &mut String) -> Result<Outcome, CaseFault> {
-    for blocks in 2..600usize {
+    for blocks in 2..900usize {
         if is_made_in(alloc, blocks * BLOCK_SIZE)? {
             said.push_str(if blocks > 2 {
                 "made after refusals"
@@ -213,8 +213,8 @@ fn in_texts(bytes: usize) -> &'static str {
     match bytes {
         0 => "none",
         1..=327 => "less than 2",
-        328..=1311 => "2 to 8",
-        _ => "more than 8",
+        328..=1967 => "2 to 12",
+        _ => "more than 12",
     }
 }
 

@@ -53,12 +53,12 @@ impl<A: Allocator + Clone> Model for KeptPaths<A> {
 }
 
 impl<A: Allocator + Clone> KeptPaths<A> {
-    // No path, and all hints are of the root's row, in one allocation.
+    // No path, but room for the first ones. All hints are of the root's row.
     pub(crate) fn new(alloc: A) -> Result<KeptPaths<A>, AllocError>
         ensures { IfOk result (λ p. (k : ℕ) → slice_index_or p k None ≡ None) }
     {
         let hints = vec![in alloc.clone()?; 0; HINTS]?;
-        let paths = Vec::new(alloc);
+        let paths = Vec::with_capacity(alloc, 8)?;
         Ok(KeptPaths { paths, hints })
     }
 
