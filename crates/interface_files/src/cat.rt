@@ -16,7 +16,7 @@ use group_path::GroupPath;
 use pids_charge::{Charges, Meter};
 use std::alloc::{AllocError, Allocator};
 
-/// The refusal that `render` would return, apart from memory. Costs one descent of the tree.
+/// The refusal that `render` would return, apart from memory. Costs at most one descent of the tree.
 pub fn refuses_show<A: Allocator + Clone, M: Meter, P: Allocator + Clone>(
     charges: &Charges<A, M>,
     path: &GroupPath<P>,

@@ -52,7 +52,7 @@ impl<A: Allocator + Clone, M: Meter> Charges<A, M> {
         Ok(process.home)
     }
 
-    /// Puts a process into a group, charged at the leaf of `who`. Tests no limit. Costs one descent of the tree.
+    /// Puts a process into a group, charged at the leaf of `who`. Tests no limit. Costs at most one descent of the tree.
     ///
     /// # Errors
     ///

@@ -306,7 +306,7 @@ impl<A: Allocator + Clone, M: Meter> Charges<A, M> {
     }
 
     /// Undoes the count of one refused fork. `path` is the group that refused it. Subtracts one from its local total, and
-    /// one from the totals of it and of the groups above it other than the root. Allocates nothing. Costs one descent of the
+    /// one from the totals of it and of the groups above it other than the root. Allocates nothing. Costs at most one descent of the
     /// tree.
     pub fn uncount<B: Allocator + Clone>(&mut self, path: &GroupPath<B>)
         requires { HasEvents self.old path.now }

@@ -120,7 +120,7 @@ fn leave<A: Allocator + Clone>(
 }
 
 impl<A: Allocator + Clone, M: Meter> Charges<A, M> {
-    /// The refusal that `kill` would return, apart from memory. Costs one descent of the tree.
+    /// The refusal that `kill` would return, apart from memory. Costs at most one descent of the tree.
     pub fn refuses_kill<B: Allocator + Clone>(&self, path: &GroupPath<B>) -> Option<ChargeFault>
         ensures first { MatchOption result (refusal M.SLOTS self.now (Kill path.now) ≡ None) (λ f. refusal M.SLOTS self.now (Kill path.now) ≡ refusal_of_fault path.now f) }
         ensures inside { IfSome result (λ f. names_in f ≤ length path.now) }

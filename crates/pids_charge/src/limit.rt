@@ -28,7 +28,7 @@ fn is_missing<B: Allocator + Clone>(path: &GroupPath<B>, file: LimitFile) -> boo
 }
 
 impl<A: Allocator + Clone, M: Meter> Charges<A, M> {
-    /// The refusal that `set_limit` would return, whatever the limit. Costs one descent of the tree.
+    /// The refusal that `set_limit` would return, whatever the limit. Costs at most one descent of the tree.
     pub fn refuses_limit<B: Allocator + Clone>(
         &self,
         path: &GroupPath<B>,

@@ -58,7 +58,7 @@ fn slot_for<M: Meter, T: Allocator + Clone, A: Allocator + Clone, B: Allocator +
 }
 
 impl<A: Allocator + Clone, M: Meter> Charges<A, M> {
-    /// The refusal that `migrate` would return, apart from memory. Costs one descent of the tree.
+    /// The refusal that `migrate` would return, apart from memory. Costs at most one descent of the tree.
     pub fn refuses_move<B: Allocator + Clone>(
         &self,
         path: &GroupPath<B>,
@@ -77,7 +77,7 @@ impl<A: Allocator + Clone, M: Meter> Charges<A, M> {
 
     /// Moves a process to the group, where it is charged at the leaf of `who`, and then raises the peaks of the group and of
     /// those above it other than the root. Returns its old group, by the path that the table had, and the old peaks of the
-    /// groups along the new path. Tests no limit. Costs one descent of the tree.
+    /// groups along the new path. Tests no limit. Costs at most one descent of the tree.
     ///
     /// # Errors
     ///
@@ -127,7 +127,7 @@ impl<A: Allocator + Clone, M: Meter> Charges<A, M> {
     }
 
     /// Puts a process into another group, charged at the leaf of `who`, and raises no peak. Together with `restore_peaks` it
-    /// undoes a move. Returns its old group, by the path that the table had. Tests no limit. Costs one descent of the
+    /// undoes a move. Returns its old group, by the path that the table had. Tests no limit. Costs at most one descent of the
     /// tree.
     ///
     /// # Errors

@@ -45,7 +45,7 @@ fn ascending<B: Allocator>(numbers: &[u32], alloc: B) -> Result<Vec<Pid, B>, All
 }
 
 impl<A: Allocator + Clone, M: Meter> Charges<A, M> {
-    /// The attributes of the group at the path; None if there is no such group. Costs one descent of the tree.
+    /// The attributes of the group at the path; None if there is no such group. Costs at most one descent of the tree.
     pub fn attr<B: Allocator + Clone>(&self, path: &GroupPath<B>) -> Option<&Attr>
         ensures { option_map group_of (option_copied result) ≡ fin.get self.now.groups path.now }
     {
@@ -53,7 +53,7 @@ impl<A: Allocator + Clone, M: Meter> Charges<A, M> {
     }
 
     /// How many groups are strictly below the group at the path; None if there is no such group. The number is stored, so
-    /// this costs one descent of the tree.
+    /// this costs at most one descent of the tree.
     pub fn descendants<B: Allocator + Clone>(&self, path: &GroupPath<B>) -> Option<u64>
         ensures some { is_some result ≡ is_group self.now path.now }
         ensures count { IfSome result (λ n. n ≡ flat.descendant_count self.now path.now) }
@@ -94,7 +94,7 @@ impl<A: Allocator + Clone, M: Meter> Charges<A, M> {
         Ok(Some(pids))
     }
 
-    /// How many processes are at or below a group; None for the root, and if there is no such group. Costs one descent of
+    /// How many processes are at or below a group; None for the root, and if there is no such group. Costs at most one descent of
     /// the tree.
     pub fn current<B: Allocator + Clone>(&mut self, path: &GroupPath<B>) -> Option<u64>
         ensures some { is_some result ≡ (not (is_root path.now) && is_group self.old path.now) }
@@ -112,7 +112,7 @@ impl<A: Allocator + Clone, M: Meter> Charges<A, M> {
         Some(self.meter.current(slot))
     }
 
-    /// Whether a process is at or below a group; None for the root, and if there is no such group. Costs one descent of the
+    /// Whether a process is at or below a group; None for the root, and if there is no such group. Costs at most one descent of the
     /// tree.
     pub fn populated<B: Allocator + Clone>(&mut self, path: &GroupPath<B>) -> Option<bool>
         ensures some { is_some result ≡ (not (is_root path.now) && is_group self.old path.now) }

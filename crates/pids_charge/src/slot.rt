@@ -12,7 +12,7 @@ use group_path::GroupPath;
 use std::alloc::Allocator;
 
 // The table's slot of a group: 0 for the root, and for any other group one more than its slot in the meter. None if there
-// is no such group. Costs one descent of the tree.
+// is no such group. Costs at most one descent of the tree.
 pub(crate) fn find_slot<M: Meter, T: Allocator + Clone, A: Allocator + Clone>(
     tree: &GroupTable<T>,
     path: &GroupPath<A>,

@@ -15,7 +15,7 @@ use pids_charge::Meter;
 use std::alloc::Allocator;
 
 impl<A: Allocator + Clone, M: Meter> Engine<A, M> {
-    /// How many processes are at or below a group. None for the root, and if the group doesn't exist. Costs one descent
+    /// How many processes are at or below a group. None for the root, and if the group doesn't exist. Costs at most one descent
     /// of the tree, and allocates nothing.
     pub fn current<B: Allocator + Clone>(&mut self, path: &GroupPath<B>) -> Option<u64>
         ensures some { is_some result ≡ (not (is_root path.now) && is_group self.old.machine.state path.now) }
@@ -25,7 +25,7 @@ impl<A: Allocator + Clone, M: Meter> Engine<A, M> {
         self.charges.current(path)
     }
 
-    /// Whether a process is at or below a group. None for the root, and if the group doesn't exist. Costs one descent
+    /// Whether a process is at or below a group. None for the root, and if the group doesn't exist. Costs at most one descent
     /// of the tree, and allocates nothing.
     pub fn populated<B: Allocator + Clone>(&mut self, path: &GroupPath<B>) -> Option<bool>
         ensures some { is_some result ≡ (not (is_root path.now) && is_group self.old.machine.state path.now) }
