@@ -213,8 +213,8 @@ fn in_texts(bytes: usize) -> &'static str {
     match bytes {
         0 => "none",
         1..=327 => "less than 2",
-        328..=1967 => "2 to 12",
-        _ => "more than 12",
+        328..=2623 => "2 to 16",
+        _ => "more than 16",
     }
 }
 
