@@ -42,7 +42,7 @@ struct Issued {
 }
 
 /// What the words from this one on issue: the user's number, and a line.
-fn issued(alloc: Global, case: &Case, from: usize) -> Result<Issued, CaseFault> {
+fn read_issued(alloc: Global, case: &Case, from: usize) -> Result<Issued, CaseFault> {
     let who = case.number(from)?.min(255) as u8;
     let line = line(alloc, case, from.saturating_add(1))?;
     match parse_line(alloc, line.as_slice())? {
@@ -97,12 +97,12 @@ impl Subject for BoardEngine {
             }
             b"meet" => {
                 let meeting = Meeting::new(case.number(1)?.min(9) as usize);
-                let issued = issued(alloc, case, 2)?;
+                let issued = read_issued(alloc, case, 2)?;
                 self.apply(rt, alloc, &meeting, &issued, said)?;
                 said.push_str(meeting.said())?;
             }
             _ => {
-                let issued = issued(alloc, case, 0)?;
+                let issued = read_issued(alloc, case, 0)?;
                 self.apply(rt, alloc, &OpenGate, &issued, said)?;
             }
         }
