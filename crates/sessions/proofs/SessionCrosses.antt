@@ -11,6 +11,7 @@ use Rattle.group_path.proofs.path.GroupPath.TheSendSync as group_path
 use Rattle.group_tree.proofs.attr.Attr.TheSendSync as attr
 use Rattle.group_tree.proofs.node.Node.TheLaws.TheKnot as knot
 use Rattle.std.proofs.alloc.Global.TheSendSync as global
+use Rattle.pids_charge.proofs.hints.KeptPaths.TheSendSync as kept_paths
 use Rattle.pids_charge.proofs.pid.Pid.TheSendSync as pid
 use Rattle.process_table.proofs.table.ProcessTable.TheSendSync as process_table
 use Rattle.undo_journal.proofs.command.Command.TheSendSync as command
@@ -35,6 +36,7 @@ book_send = search (
   inverse.the_field_send,
   meter.the_send,
   knot.crosses,
+  kept_paths.the_send,
   pid.the_send,
   process_table.the_send,
   attr.the_send,
