@@ -176,6 +176,14 @@ def subcommands():
     shutil.rmtree(folder)
 
 
+def session_of(pid):
+    """The session of a process, None if the process has just ended, as one that the start left."""
+    try:
+        return os.getsid(pid)
+    except ProcessLookupError:
+        return None
+
+
 def background(closed=""):
     """Without --foreground; `closed` are the shell's words for standard streams that are not there."""
     home = os.environ.get("TMPDIR", "/tmp")
@@ -189,7 +197,8 @@ def background(closed=""):
     same("and stays", (read(at + "/a/pids.current"), os.path.ismount(at)), (b"0\n", True))
     line = b"".join(word.encode() + b"\0" for word in (PROGRAM, "mount", at))
     ours = [int(n) for n in os.listdir("/proc") if n.isdigit() and line_of(int(n)) == line]
-    step("out of reach of the caller's terminal", ours and os.getsid(0) not in map(os.getsid, ours), ours)
+    sessions = {session_of(pid) for pid in ours} - {None}
+    step("out of reach of the caller's terminal", sessions and os.getsid(0) not in sessions, ours)
     step(
         "fusermount3 -u unmounts it",
         until(lambda: subprocess.run(["fusermount3", "-u", at], stderr=-3).returncode == 0),
