@@ -3,6 +3,7 @@ package makhloeum
 import (
 	"context"
 	"errors"
+	"fmt"
 	"runtime"
 	"strings"
 	"syscall"
@@ -130,6 +131,44 @@ func TestAWatchEndsWithItsContextAndWithoutAFile(t *testing.T) {
 	says(t, "populated 0\nfrozen 0\n", next(t, h.Watch(ctx, "/a", "cgroup.events")), nil)
 	if left, err := h.ClearFaults(); err != nil || left != 1 {
 		t.Error(left, err)
+	}
+}
+
+// The texts, paths and names of files of these watches would take more memory than the bound.
+func TestAWatchThatHasEndedLeavesNoMemory(t *testing.T) {
+	h := open(t)
+	const last = 4_010_000
+	do(t, h, "mkdir /a", "write /a cgroup.procs 1")
+	want := "1\n"
+	for pid := 4_000_000; pid < last; pid++ {
+		if err := h.Fork(1, pid); err != nil {
+			t.Fatal(err)
+		}
+		want += fmt.Sprintln(pid)
+	}
+	long := strings.Repeat("x", len(want))
+	use := func(rounds int) {
+		for i := 0; i < rounds; i++ {
+			ctx, stop := context.WithCancel(context.Background())
+			texts := h.Watch(ctx, "/a", "cgroup.procs")
+			says(t, want, next(t, texts), nil)
+			// a change, so that the watch doesn't wait when its context ends
+			do(t, h, fmt.Sprint("fork 1 ", last))
+			stop()
+			for next(t, texts) != "closed" {
+			}
+			do(t, h, fmt.Sprint("exit ", last))
+			// what is no path or no file ends a watch by itself
+			says(t, "closed", next(t, h.Watch(context.Background(), "/a", long)), nil)
+			says(t, "closed", next(t, h.Watch(context.Background(), long, "pids.max")), nil)
+		}
+	}
+	use(100)
+	before := memory(t)
+	use(500)
+	// the texts alone take 40,000,000 bytes, and so do the paths and the names
+	if grown := memory(t) - before; grown > 20_000_000 {
+		t.Errorf("%d bytes more", grown)
 	}
 }
 

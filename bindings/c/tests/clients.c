@@ -283,6 +283,35 @@ static int failing(void)
 	return 0;
 }
 
+/* An errno that is not positive is a fault of the value, and plans nothing; each that is positive is the errno of the call. */
+static int errnos(void)
+{
+	static const struct {
+		int32_t error;
+		uint32_t status, code;
+	} rows[] = {
+		{ INT32_MIN, MK_FAULT, MK_VALUE },
+		{ INT32_MIN + 1, MK_FAULT, MK_VALUE },
+		{ -4096, MK_FAULT, MK_VALUE },
+		{ -EIO, MK_FAULT, MK_VALUE },
+		{ -1, MK_FAULT, MK_VALUE },
+		{ 0, MK_FAULT, MK_VALUE },
+		{ 1, MK_DONE, 0 },
+		{ EIO, MK_DONE, 0 },
+		{ INT32_MAX, MK_DONE, 0 },
+	};
+	size_t left;
+	CHECK(mk_clear_faults(&h, &left) == MK_DONE && reads("/b", "pids.max", "max\n"));
+	for (size_t i = 0; i < sizeof rows / sizeof *rows; i++) {
+		CHECK(mk_fail(&h, "/b", 0, rows[i].error, &info) == MK_FAULT && info.code == MK_VALUE);
+		CHECK(mk_fail(&h, "/b", 1, rows[i].error, &info) == rows[i].status && info.code == rows[i].code);
+		CHECK(rows[i].status != MK_DONE ||
+			failed(mk_read(&h, "/b", "pids.max", text, sizeof text, &info), rows[i].error));
+		CHECK(reads("/b", "pids.max", "max\n") && mk_clear_faults(&h, &left) == MK_DONE && left == 0);
+	}
+	return 0;
+}
+
 /* Of several faults that are due at one call, the newest occurs, and the others are dropped. */
 static int one_at_a_time(void)
 {
@@ -359,7 +388,7 @@ static int vanishing(void)
 int main(void)
 {
 	int (*const parts[])(void) = { many, many_long, changes, closed_while_waiting, forked_while_waiting, failing,
-		one_at_a_time, vanishing };
+		errnos, one_at_a_time, vanishing };
 	if (mk_open(&h) != MK_DONE)
 		return 1;
 	return run_all(parts, sizeof parts / sizeof *parts);

@@ -16,6 +16,7 @@ from typing import Any, Callable, Iterator
 from . import _audit
 from ._descriptors import Descriptors, Shared, at_position, scatter
 from ._replace import Place, Replacement
+from ._table import TEXT_MAX
 from ._tree import Node, RawFile, Tree, error
 
 _SERVED = (
@@ -176,7 +177,11 @@ class Calls:
                 raise error(errno.ENOTDIR, shown)
             name = os.path.join(os.getcwd() if base is None else self._at(base.tree) + base.group, name)
         below = self._below(name)
-        return None if below is None else below[0].locate(below[1], shown)
+        if below is None:
+            return None
+        if len(os.fsencode(shown)) > TEXT_MAX:  # the kernel's own bound, before it looks up any name
+            raise error(errno.ENAMETOOLONG, shown)
+        return below[0].locate(below[1], shown)
 
     # ---- files
 

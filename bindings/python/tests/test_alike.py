@@ -414,6 +414,25 @@ def test_a_place_in_the_working_directory(tmp_path, monkeypatch):
         assert h.limit("/a") == 7 and os.stat("a/pids.max").st_size == 2
 
 
+def test_a_name_beside_a_real_folder_is_not_one_of_the_working_directory(real, tmp_path, monkeypatch):
+    """The working directory is a place of served files, and the descriptor is that of a real folder."""
+    (tmp_path / "top").mkdir()
+    monkeypatch.chdir(tmp_path / "top")
+    with mounted_at(tmp_path / "top") as h:
+        h.mkdir("/served")
+        fd = os.open(real, os.O_RDONLY | os.O_DIRECTORY)
+        assert os.stat("a", dir_fd=fd).st_ino == os.stat(f"{real}/a").st_ino and os.access("a", os.F_OK, dir_fd=fd)
+        assert told(os.stat, "served", dir_fd=fd) == told(os.rmdir, "served", dir_fd=fd) == ("ENOENT", "served")
+        os.mkdir("b", dir_fd=fd)
+        assert os.path.isdir(f"{real}/b") and h.groups() == ["/", "/served"]
+        os.rmdir("b", dir_fd=fd)
+        assert not os.path.exists(f"{real}/b")
+        inner = os.open("a/pids.max", os.O_RDONLY, dir_fd=fd)
+        assert os.read(inner, 9) == b"max\n"
+        os.close(inner)
+        os.close(fd)
+
+
 # ---- errors name the path as it was given
 
 
@@ -433,3 +452,67 @@ def test_an_error_has_the_path_that_was_given(h, spelling):
     with pytest.raises(FileNotFoundError) as failed:
         os.stat(spelling)
     assert failed.value.strerror == os.strerror(errno.ENOENT) and failed.value.filename2 is None
+
+
+# on a mount and elsewhere an error has the path that the caller gave, not what it is joined to
+RELATIVE = ["none", "./a/../none", "a/none"]
+
+
+@pytest.mark.parametrize("call", ["stat", "lstat", "rmdir", "readlink", "unlink", "chmod", "open"])
+@pytest.mark.parametrize("name", RELATIVE)
+def test_an_error_has_the_name_beside_a_descriptor(h, real, call, name):
+    more = {"chmod": (0o700,), "open": (os.O_RDONLY,)}.get(call, ())
+    for top in (AT, real):
+        fd = os.open(top, os.O_RDONLY | os.O_DIRECTORY)
+        assert told(getattr(os, call), name, *more, dir_fd=fd) == ("ENOENT", name)
+        os.close(fd)
+
+
+@pytest.mark.parametrize("name", RELATIVE)
+def test_an_error_has_the_name_in_the_working_directory(tmp_path, monkeypatch, name):
+    for place in ("served", "real"):
+        (tmp_path / place / "a").mkdir(parents=True)
+    for place in ("served", "real"):
+        monkeypatch.chdir(tmp_path / place)
+        with mounted_at(tmp_path / "served") as h:
+            h.mkdir("/a")
+            for call in (os.stat, os.lstat, os.listdir, os.scandir, os.rmdir, os.readlink, os.unlink, open):
+                assert told(call, name) == ("ENOENT", name), (place, call)
+            assert told(os.mkdir, f"{name}/x") == ("ENOENT", f"{name}/x")
+
+
+# ---- paths of more than 4,095 bytes, all of whose names are short
+
+OF_A_PATH = ["stat", "lstat", "listdir", "scandir", "mkdir", "rmdir", "readlink", "unlink", "chmod", "open"]
+
+
+@pytest.mark.parametrize("call", OF_A_PATH)
+@pytest.mark.parametrize("name", ["a", "b", ".", "x" * 250])
+def test_a_long_path_of_short_names(h, real, call, name):
+    more = {"chmod": (0o700,), "open": (os.O_RDONLY,)}.get(call, ())
+    for top in (AT, real):
+        path = f"{top}/{name}" + f"/{name}" * (4096 // (len(name) + 1))
+        for long in (path, f"{path}/pids.max", f"{top}/".ljust(4096, "/")):
+            assert told(getattr(os, call), long, *more) == ("ENAMETOOLONG", long)
+            assert told(open, long) == told(open, long, "w") == ("ENAMETOOLONG", long)
+            assert not os.access(long, os.F_OK) and not os.path.exists(long)
+        # one byte less
+        assert os.path.isdir(f"{top}/".ljust(4095, "/"))
+    assert h.groups() == ["/", "/a"]
+
+
+def test_a_name_that_makes_the_path_of_a_group_too_long(h):
+    """A path in the hierarchy has at most 4,095 bytes, also if the caller gives its last name alone."""
+    fd = os.open(AT, os.O_RDONLY)
+    for _ in range(15):
+        os.mkdir("x" * 255, dir_fd=fd)
+        above, fd = fd, os.open("x" * 255, os.O_RDONLY, dir_fd=fd)
+        os.close(above)
+    name = "y" * (4095 - 15 * 256 - 1)
+    for call in (os.stat, os.lstat, os.mkdir, os.rmdir, os.readlink, os.unlink):
+        assert told(call, name + "y", dir_fd=fd) == ("ENAMETOOLONG", name + "y"), call
+    assert told(os.open, name + "y", os.O_RDONLY, dir_fd=fd) == ("ENAMETOOLONG", name + "y")
+    assert told(os.stat, name, dir_fd=fd) == ("ENOENT", name)
+    assert os.mkdir(name, dir_fd=fd) is None and stat.S_ISDIR(os.stat(name, dir_fd=fd).st_mode)
+    assert len(h.groups()[-1]) == 4095
+    os.close(fd)

@@ -1,5 +1,6 @@
 """A child of a fork reads, opens and polls files under mounted_at, whatever the other threads did at the fork."""
 
+import fcntl
 import os
 import select
 import signal
@@ -142,3 +143,22 @@ def test_a_child_has_its_own_notifications(hierarchy):
             assert in_a_child(read) == 0 and waiting.poll(0)
             file.seek(0)
             assert file.read() == "populated 1\nfrozen 0\n" and not waiting.poll(0)
+
+
+def test_a_child_inherits_descriptors_as_before_the_fork(hierarchy):
+    """A new descriptor is closed on exec, a copy by dup2 isn't, and either can be set otherwise. A fork changes none of this."""
+    hierarchy.mkdir("/a")
+    with mounted_at(AT, hierarchy):
+        for file in ("cgroup.events", "pids.events", "pids.max"):
+            fds = [os.open(f"{AT}/a/{file}", os.O_RDONLY) for _ in range(2)] + [os.open("/dev/null", os.O_RDONLY)]
+            new, given, copy = fds
+            os.set_inheritable(given, True)
+            os.dup2(new, copy)
+
+            def flags():
+                return [fcntl.fcntl(fd, fcntl.F_GETFD) for fd in (new, given, copy)]
+
+            assert flags() == [fcntl.FD_CLOEXEC, 0, 0], file
+            assert in_a_child(lambda: flags() == [fcntl.FD_CLOEXEC, 0, 0]) == 0, file
+            for fd in fds:
+                os.close(fd)
