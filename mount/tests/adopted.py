@@ -5,7 +5,7 @@ import signal
 import subprocess
 import sys
 
-from support import PATIENCE, Mount, error_of, finish, read, same, step, until, write
+from support import PATIENCE, Mount, error_of, finish, libc, read, same, step, until, write
 
 
 def is_alive(pid):
@@ -162,6 +162,23 @@ child.send_signal(signal.SIGKILL)
 os.waitid(os.P_PID, child.pid, os.WEXITED | os.WNOWAIT)
 step("a zombie is gone", until(lambda: read(m.path("a", "pids.current")) == b"0\n"))
 child.wait()
+several = []
+for _ in range(40):
+    pid = os.fork()
+    if pid == 0:
+        libc.prctl(1, 9)  # it ends with its parent
+        signal.pause()
+        os._exit(0)
+    several.append(pid)
+    write(m.path("a", "cgroup.procs"), b"%d\n" % pid)
+same("forty processes", read(m.path("a", "pids.current")), b"40\n")
+for pid in several:
+    os.kill(pid, signal.SIGKILL)
+for pid in several:
+    os.waitid(os.P_PID, pid, os.WEXITED | os.WNOWAIT)
+same("all their deaths are seen at once", read(m.path("a", "pids.current")), b"0\n")
+for pid in several:
+    os.waitpid(pid, 0)
 same("who was never there lives", alive(stranger.pid), [True])
 stranger.kill()
 stranger.wait()

@@ -6,6 +6,8 @@ import glob
 import os
 import shutil
 import signal
+import socket
+import struct
 import subprocess
 import sys
 import tempfile
@@ -383,6 +385,50 @@ def stuck():
     shutil.rmtree(m.home)
 
 
+def queued():
+    """The changes that wait while the companion is stopped are all reported in the end, although the group whose change came last
+    is removed meanwhile. They are more than the socket to the companion has room for."""
+    m = Mount("--extra")
+    above = "/".join(["n" * 255] * 7)
+    with socket.socket(socket.AF_UNIX, socket.SOCK_SEQPACKET) as one:
+        room = one.getsockopt(socket.SOL_SOCKET, socket.SO_SNDBUF)
+    leaves = ["%s/%03d%s" % (above, i, "n" * 250) for i in range(room // len(above) + 10)]
+    for name in ("mark", "last", "next"):
+        os.mkdir(m.path(name))
+    os.makedirs(m.path(above))
+    watch, names = libc.inotify_init(), {}
+    for name in leaves:
+        os.mkdir(m.path(name))
+    for name in (*leaves, "next", "mark"):
+        names[libc.inotify_add_watch(watch, m.path(name, "cgroup.events").encode(), 2)] = name  # IN_MODIFY
+    os.stat(m.path("last", "cgroup.events"))
+    companions = own(m.process.pid)
+    for pid in companions:
+        os.kill(pid, signal.SIGSTOP)
+    step(
+        "a companion is stopped",
+        companions and until(lambda: all(stat_of(pid)[0] == b"T" for pid in companions)),
+        companions,
+    )
+    write(m.path(above, "cgroup.freeze"), b"1")
+    write(m.path("last", "cgroup.freeze"), b"1")
+    os.rmdir(m.path("last"))
+    write(m.path("next", "cgroup.freeze"), b"1")
+    for pid in companions:
+        os.kill(pid, signal.SIGCONT)
+    write(m.path("mark", "cgroup.freeze"), b"1")
+    told = []
+    while "mark" not in told:
+        events = Beside(os.read, watch, 65536).result() or b""
+        if not events:
+            break
+        told += [names[number] for number, *_ in struct.iter_unpack("iIII", events)]
+    same("reported, in order", ([x for x in told if x not in leaves], told[-2:]), (["next", "mark"],) * 2)
+    same("not reported", [x[-253:-247] for x in leaves if x not in told], [])
+    os.close(watch)
+    m.end()
+
+
 def killed():
     """makhloeum is killed while its other processes are stopped."""
     p = subprocess.Popen([PROGRAM, "run", "sh", "-c", "echo x; exec sleep 600"], stdout=subprocess.PIPE)
@@ -430,7 +476,7 @@ def callers():
         )
 
 
-OUTSIDE = (unmounted, stuck, killed, callers)
+OUTSIDE = (unmounted, stuck, queued, killed, callers)
 wanted = [t for t in (*INSIDE, *OUTSIDE) if t.__name__ in sys.argv[1:] or not sys.argv[1:]]
 in_parallel(lambda t: run(t) if t in INSIDE else t(), wanted)
 finish()

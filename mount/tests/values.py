@@ -325,6 +325,12 @@ def of_disks():
         ("io.max", "9:1 rbps=10", "ENODEV", ""),
         ("io.max", "9:2 rbps=10", "ENODEV", ""),
         ("io.max", "8:0 rbps=2 wbps=3 riops=4 wiops=5", "ok", "8:0 rbps=2 wbps=3 riops=4 wiops=5\n"),
+        # bytes have 64 bits, operations have 32
+        ("io.max", "8:0 rbps=8589934592", "ok", "8:0 rbps=8589934592 wbps=3 riops=4 wiops=5\n"),
+        ("io.max", "8:0 wbps=8589934593", "ok", "8:0 rbps=8589934592 wbps=8589934593 riops=4 wiops=5\n"),
+        ("io.max", "8:0 riops=4294967295", "ok", "8:0 rbps=8589934592 wbps=8589934593 riops=max wiops=5\n"),
+        ("io.max", "8:0 riops=4 wiops=8589934594", "ok", "8:0 rbps=8589934592 wbps=8589934593 riops=4 wiops=max\n"),
+        ("io.max", "8:0 wiops=5", "ok", "8:0 rbps=8589934592 wbps=8589934593 riops=4 wiops=5\n"),
         ("io.max", "8:0 wbps=7 rbps=max", "ok", "8:0 rbps=max wbps=7 riops=4 wiops=5\n"),
         ("io.max", "8:0 rbps=6 wbps=1", "EINVAL", "8:0 rbps=max wbps=7 riops=4 wiops=5\n"),
         ("io.max", "8:0 rbps=6 rbps=8", "ok", "8:0 rbps=8 wbps=7 riops=4 wiops=5\n"),
