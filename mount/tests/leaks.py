@@ -243,16 +243,18 @@ def inside():
     before = own()
     same("the processes of makhloeum", len(before), 4)
     for name, operation in operations:
-        grown = []
-        for _ in range(3):  # a thread may begin in some of them
+        grown, least = [], dict.fromkeys(before, 0)
+        while (
+            max(least.values()) >= 0 and len(grown) < 12
+        ):  # a thread or a larger buffer may begin in some of them, a leak in all
             sizes, first = {pid: resident(pid) for pid in before}, numbers()
             for _ in range(max(TIMES, max(before.values()))):
                 operation()
             new = LEAST * TIMES + 64 * max(0, numbers() - first)
             grown.append({pid: resident(pid) - size - new for pid, size in sizes.items()})
+            least = {pid: min(each[pid] for each in grown) for pid in before}
         now = own()
         step("%s: no descriptor is kept" % name, now == before, (before, now))
-        least = {pid: min(each[pid] for each in grown) for pid in before}
         step("%s: no memory is kept" % name, max(least.values()) < 0, grown)
         before = now
     os.rmdir(home)
