@@ -5,6 +5,7 @@ ghost use Rattle.snzi_tree.specs.Contents.{content_of};
 ghost use Rattle.pids_charge.specs.Content.{IsEmpty};
 
 use crate::charges::{charge, uncharge};
+use crate::part::Exchange;
 use crate::parts::settle_parts;
 use crate::shape::{GROUPS, NODES, ROW};
 use pids_charge::{Gate, Meter, Token, part_count};
@@ -88,17 +89,13 @@ impl Meter for BoardMeter {
         arriving: &[Token],
     ) {
         let parts = part_count(leaving, arriving);
-        let main = &mut self.main;
-        settle_parts(
-            rt,
-            &self.board,
-            main,
-            &gate,
-            parts,
+        let exchange = Exchange {
             stripe,
             leaving,
             arriving,
-        );
+        };
+        let main = &mut self.main;
+        settle_parts(rt, &self.board, main, &gate, parts, &exchange);
     }
 
     ghost slots_positive = { Prim.search rules };

@@ -49,23 +49,29 @@ fn charge_all<const G: usize, const W: usize, const L: usize>(
     }
 }
 
+/// The charges to be removed, from this stripe, and those to be added.
+#[derive(Clone, Copy)]
+pub(crate) struct Exchange<'a> {
+    pub(crate) stripe: u8,
+    pub(crate) leaving: &'a [Token],
+    pub(crate) arriving: &'a [Token],
+}
+
 /// Calls the test hook, then removes the leaving charges, then adds the arriving ones.
 pub(crate) fn do_part<const G: usize, const W: usize, const L: usize, A: Gate>(
     board: &Board<G, W, L>,
     hand: &mut Hand,
     gate: &A,
     part: u8,
-    stripe: u8,
-    leaving: &[Token],
-    arriving: &[Token],
+    exchange: &Exchange,
 )
     requires here { IsHandOf board.now hand.old }
     requires part { (1 ≤ part) × (part ≤ 24) }
-    requires can { CanSettle G W L stripe leaving.now arriving.now (holds hand.old) }
+    requires can { CanSettle G W L exchange.now.stripe exchange.now.leaving.now exchange.now.arriving.now (holds hand.old) }
     ensures hand { SameHand hand.old hand.new }
-    ensures settled { Settled W L leaving.now arriving.now (holds hand.old) (holds hand.new) }
+    ensures settled { Settled W L exchange.now.leaving.now exchange.now.arriving.now (holds hand.old) (holds hand.new) }
 {
     gate.pass(part);
-    uncharge_all(board, hand, stripe, leaving);
-    charge_all(board, hand, arriving);
+    uncharge_all(board, hand, exchange.stripe, exchange.leaving);
+    charge_all(board, hand, exchange.arriving);
 }

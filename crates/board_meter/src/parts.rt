@@ -5,8 +5,8 @@ ghost use Rattle.snzi_tree.specs.Hands.{IsHandOf, holds, SameHand};
 ghost use Rattle.board_meter.specs.Held.{CanSettle, HasRoomForHelpers, Settled};
 
 use crate::hands::{hand_out, join_back};
-use crate::part::do_part;
-use pids_charge::{Gate, Token, last_run};
+use crate::part::{Exchange, do_part};
+use pids_charge::{Gate, last_run};
 use snzi_tree::{Board, Hand};
 use std::thread::{Threads, join_mut};
 
@@ -20,57 +20,45 @@ pub(crate) fn settle_parts<R: Threads, A: Gate, const G: usize, const W: usize, 
     main: &mut Hand,
     gate: &A,
     parts: u8,
-    stripe: u8,
-    leaving: &[Token],
-    arriving: &[Token],
+    exchange: &Exchange,
 )
     requires here { IsHandOf board.now main.old }
     requires few { parts ≤ 24 }
-    requires can { CanSettle G W L stripe leaving.now arriving.now (holds main.old) }
+    requires can { CanSettle G W L exchange.now.stripe exchange.now.leaving.now exchange.now.arriving.now (holds main.old) }
     requires main { HasRoomForHelpers parts (holds main.old) }
     requires at_leaves { AtLeaves W L (holds main.old) }
     ensures hand { SameHand main.old main.new }
-    ensures settled { Settled W L leaving.now arriving.now (holds main.old) (holds main.new) }
+    ensures settled { Settled W L exchange.now.leaving.now exchange.now.arriving.now (holds main.old) (holds main.new) }
 {
     if parts <= 1 {
-        do_part(board, main, gate, 1, stripe, leaving, arriving);
+        do_part(board, main, gate, 1, exchange);
         return;
     }
-    let (rest_leaving, last_leaving) = last_run(leaving, parts);
-    let (rest_arriving, last_arriving) = last_run(arriving, parts);
+    let stripe = exchange.stripe;
+    let (rest_leaving, last_leaving) = last_run(exchange.leaving, parts);
+    let (rest_arriving, last_arriving) = last_run(exchange.arriving, parts);
+    let rest = Exchange {
+        stripe,
+        leaving: rest_leaving,
+        arriving: rest_arriving,
+    };
+    let last = Exchange {
+        stripe,
+        leaving: last_leaving,
+        arriving: last_arriving,
+    };
     let mut helper = hand_out(board, main, last_leaving);
     let theirs = &mut helper;
-    let mut last = move ||
-        requires { IsHandOf board.now theirs.now × CanSettle G W L stripe last_leaving.now last_arriving.now (holds theirs.now) × (1 < parts) × (parts ≤ 24) }
-        ensures { SameHand theirs.entry.now theirs.exit.now × Settled W L last_leaving.entry.now last_arriving.entry.now (holds theirs.entry.now) (holds theirs.exit.now) }
-    {
-        do_part(
-            board,
-            theirs,
-            gate,
-            parts,
-            stripe,
-            last_leaving,
-            last_arriving,
-        )
-    };
+    let mut do_last = move ||
+        requires { IsHandOf board.now theirs.now × CanSettle G W L last.stripe last.leaving.now last.arriving.now (holds theirs.now) × (1 < parts) × (parts ≤ 24) }
+        ensures { SameHand theirs.entry.now theirs.exit.now × Settled W L last.entry.leaving.now last.entry.arriving.now (holds theirs.entry.now) (holds theirs.exit.now) }
+    { do_part(board, theirs, gate, parts, &last) };
     let ours = &mut *main;
-    let mut rest = move ||
-        requires { IsHandOf board.now ours.now × CanSettle G W L stripe rest_leaving.now rest_arriving.now (holds ours.now)
+    let mut do_rest = move ||
+        requires { IsHandOf board.now ours.now × CanSettle G W L rest.stripe rest.leaving.now rest.arriving.now (holds ours.now)
             × HasRoomForHelpers (parts - 1) (holds ours.now) × AtLeaves W L (holds ours.now) × (1 < parts) × (parts ≤ 24) }
-        ensures { SameHand ours.entry.now ours.exit.now × Settled W L rest_leaving.entry.now rest_arriving.entry.now (holds ours.entry.now) (holds ours.exit.now) }
-    {
-        settle_parts(
-            rt,
-            board,
-            ours,
-            gate,
-            parts - 1,
-            stripe,
-            rest_leaving,
-            rest_arriving,
-        )
-    };
-    join_mut(rt, &mut last, &mut rest);
+        ensures { SameHand ours.entry.now ours.exit.now × Settled W L rest.entry.leaving.now rest.entry.arriving.now (holds ours.entry.now) (holds ours.exit.now) }
+    { settle_parts(rt, board, ours, gate, parts - 1, &rest) };
+    join_mut(rt, &mut do_last, &mut do_rest);
     join_back(board, main, helper);
 }

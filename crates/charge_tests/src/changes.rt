@@ -134,8 +134,8 @@ pub(crate) fn fork<A: Allocator + Clone>(
     charges.fork(0, parent, child)
 }
 
-/// A fork in its two halves: decided, then made. A refusal is not counted.
-pub(crate) fn make_process<A: Allocator + Clone>(
+/// A fork in its two halves: it is decided, then tried. A refusal is not counted.
+pub(crate) fn try_process<A: Allocator + Clone>(
     charges: &mut Apart<A>,
     parent: Pid,
     child: Pid,
@@ -144,7 +144,7 @@ pub(crate) fn make_process<A: Allocator + Clone>(
 {
     match charges.refuses_fork(parent, child) {
         Some(fault) => Err(fault),
-        None => charges.make_process(0, parent, child),
+        None => charges.try_process(0, parent, child),
     }
 }
 

@@ -6,8 +6,8 @@ ghost use Rattle.pids_charge.specs.Events.{HasRoomForEvents};
 
 use crate::asked::{Asked, Call, ask};
 use crate::changes::{
-    Apart, exit, fork, kill, make_group, make_process, migrate, mkdir, move_back, place, place_one,
-    place_two, restore, rmdir, set_limit, set_peaks, take_group, uncount,
+    Apart, exit, fork, kill, make_group, migrate, mkdir, move_back, place, place_one, place_two,
+    restore, rmdir, set_limit, set_peaks, take_group, try_process, uncount,
 };
 use crate::said::{
     kept, say_attr, say_done, say_flag, say_home, say_limit, say_lost, say_members, say_moved,
@@ -21,26 +21,32 @@ use std::sync::Wait;
 use std::thread::Threads;
 use test_support::{Case, CaseFault, Outcome, Subject};
 
-/// Charges whose groups and processes are in one allocator.
+/// Charges, the allocator of their groups and processes, and the attributes of the group that was removed last.
 #[derive(Drop)]
-pub(crate) struct Charged<A: Allocator + Clone> {
+struct Tested<A: Allocator + Clone> {
     charges: Apart<A>,
     alloc: A,
     removed: Option<Attr>,
+}
+
+/// What is tested, and how many calls were made on it.
+#[derive(Drop)]
+pub(crate) struct Charged<A: Allocator + Clone> {
+    tested: Tested<A>,
     calls: u32,
-    ghost up: { HasEventsUpTo calls charges },
+    ghost up: { HasEventsUpTo calls tested.charges },
 }
 
 impl<A: Allocator + Clone> Charged<A> {
     /// The root with process 1, in the second allocator.
     pub(crate) fn new(alloc: Global, over: A) -> Result<Charged<A>, AllocError> {
         let charges = Charges::new(over.clone()?, PlainMeter::new(alloc)?)?;
-        Ok(Charged {
+        let tested = Tested {
             charges,
             alloc: over,
             removed: None,
-            calls: 0,
-        })
+        };
+        Ok(Charged { tested, calls: 0 })
     }
 }
 
@@ -64,23 +70,22 @@ fn make_new<A: Allocator + Clone>(
 fn answer<R: Threads, A: Allocator + Clone>(
     rt: &R,
     alloc: Global,
-    over: &A,
-    charges: &mut Apart<A>,
-    removed: &mut Option<Attr>,
+    tested: &mut Tested<A>,
     asked: &Asked,
     said: &mut String,
 ) -> Result<Outcome, AllocError>
-    requires { HasRoomForEvents charges.old }
-    ensures up { (n : ℕ) → HasEventsUpTo n charges.old → HasEventsUpTo (n + 1) charges.new }
+    requires { HasRoomForEvents tested.old.charges }
+    ensures up { (n : ℕ) → HasEventsUpTo n tested.old.charges → HasEventsUpTo (n + 1) tested.new.charges }
 {
+    let charges = &mut tested.charges;
     let (path, pid, other) = (&asked.path, asked.pid, asked.other);
     match asked.call {
-        Call::New => make_new(alloc, over, said),
+        Call::New => make_new(alloc, &tested.alloc, said),
         Call::Mkdir => say_done(said, Some(mkdir(charges, path))),
         Call::MakeGroup => say_done(said, Some(make_group(charges, path))),
-        Call::Rmdir => say_attr(said, rmdir(charges, removed, path)),
+        Call::Rmdir => say_attr(said, rmdir(charges, &mut tested.removed, path)),
         Call::TakeGroup => say_attr(said, take_group(charges, path)),
-        Call::Restore => match *removed {
+        Call::Restore => match tested.removed {
             None => say_done(said, None),
             Some(attr) => {
                 let made = restore(alloc, charges, attr, path)?;
@@ -90,7 +95,7 @@ fn answer<R: Threads, A: Allocator + Clone>(
         Call::Write => say_limit(said, set_limit(charges, path, asked.file, asked.limit())),
         Call::Move => say_moved(said, migrate(charges, pid, path)),
         Call::Fork => say_peaks(said, fork(charges, pid, other)),
-        Call::MakeProcess => say_peaks(said, make_process(charges, pid, other)),
+        Call::TryProcess => say_peaks(said, try_process(charges, pid, other)),
         Call::Exit => say_path(said, Some(exit(charges, pid))),
         Call::Kill => say_lost(said, kill(&with_threads(rt, &OpenGate), charges, path)),
         Call::KillAlone => say_lost(said, kill(&Alone, charges, path)),
@@ -117,14 +122,14 @@ fn answer<R: Threads, A: Allocator + Clone>(
         }
         Call::MoveBack => say_path(said, move_back(charges, pid, path)),
         Call::SetPeaks => say_done(said, set_peaks(charges, path, asked.numbers.as_slice())),
-        Call::Totals => say_totals(said, charges.attr(path)),
-        Call::Peak => say_number(said, charges.attr(path).map(|attr| attr.peak)),
+        Call::Totals => say_totals(said, tested.charges.attr(path)),
+        Call::Peak => say_number(said, tested.charges.attr(path).map(|attr| attr.peak)),
         Call::Current => say_number(said, charges.current(path)),
         Call::Populated => say_flag(said, charges.populated(path)),
         Call::Descendants => say_number(said, charges.descendants(path)),
-        Call::Members => say_members(said, charges.members(over, path)),
-        Call::Home => say_home(said, charges.home(pid)),
-        Call::Copy => is_copied(alloc, over, charges, said),
+        Call::Members => say_members(said, charges.members(&tested.alloc, path)),
+        Call::Home => say_home(said, tested.charges.home(pid)),
+        Call::Copy => is_copied(alloc, &tested.alloc, charges, said),
     }
 }
 
@@ -140,15 +145,7 @@ impl<A: Allocator + Clone> Subject for Charged<A> {
         if self.calls == u32::MAX {
             return Err(CaseFault::Malformed);
         }
-        let answered = answer(
-            rt,
-            alloc,
-            &self.alloc,
-            &mut self.charges,
-            &mut self.removed,
-            &asked,
-            said,
-        );
+        let answered = answer(rt, alloc, &mut self.tested, &asked, said);
         self.calls += 1;
         match answered {
             Ok(outcome) => Ok(outcome),
@@ -157,6 +154,6 @@ impl<A: Allocator + Clone> Subject for Charged<A> {
     }
 
     fn show(&mut self, alloc: Global, text: &mut String) -> Result<(), AllocError> {
-        show(alloc, &mut self.charges, text)
+        show(alloc, &mut self.tested.charges, text)
     }
 }

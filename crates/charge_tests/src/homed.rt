@@ -95,8 +95,9 @@ impl<A: Allocator + Clone> Homed<A> {
         alloc: B,
         slot: u16,
     ) -> Result<Vec<u32, B>, AllocError> {
-        self.table.known();
-        self.table.members(alloc, slot)
+        let mut pids = Vec::from_slice(alloc, self.table.unordered(slot))?;
+        pids.sort_unstable();
+        Ok(pids)
     }
 
     /// The pids at or below the group of a slot.

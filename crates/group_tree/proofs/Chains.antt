@@ -19,7 +19,7 @@ reverse_first p ps = reverse-append (p ∷ []) ps
 pub upward-cons : (n : Name) (p : Path) → upward (n ∷ p) ≡ map (λ (q : Path). n ∷ q) (upward p) ++ [] ∷ []
 upward-cons n p = reverse_first [] (map (λ (q : Path). n ∷ q) (prefixes p)) ∙ ap (λ (ps : List Path). ps ++ [] ∷ []) (reverse_map (λ (q : Path). n ∷ q) (prefixes p))
 
-pub no_roots : (n : Name) (ps : List Path) → filter (λ q. not (is_root q)) (map (λ (q : Path). n ∷ q) ps) ≡ map (λ (q : Path). n ∷ q) ps
+no_roots : (n : Name) (ps : List Path) → filter (λ q. not (is_root q)) (map (λ (q : Path). n ∷ q) ps) ≡ map (λ (q : Path). n ∷ q) ps
 no_roots n [] = refl
 no_roots n (p ∷ ps) = ap (λ (xs : List Path). (n ∷ p) ∷ xs) (no_roots n ps)
 

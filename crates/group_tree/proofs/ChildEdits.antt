@@ -132,7 +132,7 @@ taken_out n (k ∷ kids) i e h =
     ] refl e
 
 -- names that tie find the same
-pub below_get_tied : (n m : Name) (q : Path) (kids : List Branch) → name_cmp m n ≡ Equal → below_get kids m q ≡ below_get kids n q
+below_get_tied : (n m : Name) (q : Path) (kids : List Branch) → name_cmp m n ≡ Equal → below_get kids m q ≡ below_get kids n q
 below_get_tied n m q [] e = refl
 below_get_tied n m q (k ∷ kids) e = λ i. cond (is_eq (nat_list_cmp_total.congr m n k.name e i)) (fin.get k.groups q) (below_get_tied n m q kids e i)
 

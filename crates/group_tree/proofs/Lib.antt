@@ -16,15 +16,7 @@ mod ParentClosure
 mod NodeCounts
 mod Descendants
 mod Chains
-pub mod Downward
-pub mod PathChanges
-pub mod NodeTotals
-mod NodePeaks
 mod NodeCopies
 pub mod Flat
 pub mod GroupPrefixes
-mod UpwardSearch
-mod NodeLimits
-mod LimitsUpward
-mod AdmissionWalk
 mod InPlace

@@ -1,16 +1,14 @@
 -- New attributes, of the node itself or below a child, as the node sees them.
-use Rattle.std.proofs.Common.{◌≡◌, ℕ, Bool, true, false, cond, List, [], ◌∷◌, get_or, refl, sym, ◌∙◌, subst, Ok, Option, Some, None, IsSome}
+use Rattle.std.proofs.Common.{◌≡◌, ℕ, Bool, true, false, cond, List, [], ◌∷◌, get_or, refl, sym, ◌∙◌, subst, Ok, Some, None, IsSome}
 use Rattle.std.proofs.Math.ListN.{set}
 use Rattle.std.specs.FinMap as fin
 use Rattle.std.specs.Ordering.{eq_by_cmp}
 use Rattle.flat_model.specs.Path.{Name, Path, path_cmp}
 use Rattle.group_tree.specs.declared.attr.Attr.{Attr}
 use Rattle.group_tree.specs.Groups.{Groups}
-use Rattle.group_tree.specs.Node.{Branch, groups_of, HasAscendingNames, place_of, NodeSets}
-use Rattle.group_tree.specs.declared.set.Setting.{Setting}
-use Rattle.group_tree.specs.Settings.{IsSetBy, SetsAt, NodeSetsBy}
+use Rattle.group_tree.specs.Node.{Branch, groups_of, HasAscendingNames, place_of}
+use Rattle.group_tree.specs.Settings.{NodeSets}
 use Rattle.group_tree.proofs.Children.{get_root, get_child}
-use Rattle.group_tree.proofs.Walk.{find_here, find_down}
 use Rattle.group_tree.proofs.NodeSteps.{Step, step_at, some_root}
 
 own_change : (attr a : Attr) (kids : List Branch) → HasAscendingNames kids → (q : Path) → fin.get (groups_of a kids) q ≡ cond (eq_by_cmp path_cmp q []) (Some a) (fin.get (groups_of attr kids) q)
@@ -46,31 +44,3 @@ pub sets_down : (attr : Attr) (kids slice : List Branch) (b kid after : Branch) 
 sets_down attr kids slice b kid after nm names n p i a r is h e at s item named ins =
     subst (λ (c : Branch). NodeSets c.groups (groups_of attr (set kids i after)) names a r) is
     (sets_at attr kids slice kid after names n p i a r h e at s item named ins)
-
--- ---- the same by what is set
-
-module _ (setting : Setting) where
-  pub is_set : (old new : Groups) (p : Path) (was : Attr) (w : SetsAt setting old new p was) → NodeSets old new p w.now true
-  is_set old new p was w = (subst IsSome (sym w.there) refl, w.updated)
-
-  pub sets_here_by : (attr a : Attr) (kids : List Branch) (b : Branch) (nm : Name) (names : Path)
-      → ◌≡◌ {A = Branch} (record { name = nm; groups = groups_of attr kids }) b → HasAscendingNames kids → names ≡ []
-      → IsSetBy setting attr a → NodeSetsBy setting b.groups (groups_of a kids) names (Some attr)
-  sets_here_by attr a kids b nm names is h e made = record {
-    now = a;
-    there = sym (find_here attr kids b nm names is h e);
-    made = made;
-    updated = (sets_here attr a kids b nm names is h e).1;
-  }
-
-  pub sets_down_by : (attr : Attr) (kids slice : List Branch) (b kid after : Branch) (nm : Name) (names : Path) (n : Name) (p : Path)
-      (i : ℕ) (r : Option Attr) → ◌≡◌ {A = Branch} (record { name = nm; groups = groups_of attr kids }) b → HasAscendingNames kids
-      → names ≡ n ∷ p → Ok i ≡ place_of n slice → slice ≡ kids → kid ≡ get_or kids i kid → after.name ≡ kid.name
-      → NodeSetsBy setting kid.groups after.groups p r → NodeSetsBy setting b.groups (groups_of attr (set kids i after)) names r
-  sets_down_by attr kids slice b kid after nm names n p i None is h e at s item named w = sets_down attr kids slice b kid after nm names n p i attr false is h e at s item named w
-  sets_down_by attr kids slice b kid after nm names n p i (Some was) is h e at s item named w = record {
-    now = w.now;
-    there = sym (find_down attr kids slice b kid nm names n p i is h e at s item) ∙ w.there;
-    made = w.made;
-    updated = (sets_down attr kids slice b kid after nm names n p i w.now true is h e at s item named (is_set kid.groups after.groups p was w)).1;
-  }

@@ -1,5 +1,5 @@
 -- How many groups are below a node, kept along each change.
-use Rattle.std.proofs.Common.{◌≡◌, ◌≢◌, ℕ, ◌+◌, ◌-◌, ◌^◌, ◌%◌, ◌<◌, true, cond, List, length, refl, ap, sym, ◌∙◌, subst, arith, Ok, Err, Option, Some, None, IsSome, is_some}
+use Rattle.std.proofs.Common.{◌≡◌, ◌≢◌, ℕ, ◌+◌, ◌-◌, ◌^◌, ◌%◌, ◌<◌, Bool, true, false, cond, List, length, refl, ap, sym, ◌∙◌, subst, arith, Ok, Err, Option, Some, None, IsSome, is_some}
 use Rattle.std.proofs.Math.Nat.{mod-add-mod, add-mod_right}
 use Rattle.std.specs.FinMap as fin
 use Rattle.flat_model.specs.Path.{Name, Path}
@@ -10,8 +10,7 @@ use Rattle.group_tree.specs.declared.fault.TreeFault.TheVariants.{Exists, NoPare
 use Rattle.group_tree.specs.Groups.{Groups}
 use Rattle.group_tree.specs.Node.{Branch, below, groups_of, HasAscendingNames, IsNode, IsUpdated, NodeInserts, NodeRemoves}
 use Rattle.group_tree.specs.Sorted.{entries_of_node}
-use Rattle.group_tree.specs.declared.set.Setting.{Setting}
-use Rattle.group_tree.specs.Settings.{NodeSetsBy}
+use Rattle.group_tree.specs.Settings.{NodeSets}
 use Rattle.group_tree.proofs.PathMaps.{inserted_map, removed_map}
 
 -- one more, and one less, of a number that is kept modulo m
@@ -85,12 +84,12 @@ module _ (attr : Attr) (kids new : List Branch) (d : ℕ) (was : IsNode kids d) 
   refused_node p a HasChildren h = absurd h
   refused_node p a RootFixed h = absurd h
 
-  pub set_node : (setting : Setting) (p : Path) (r : Option Attr) → NodeSetsBy setting (groups_of attr kids) (groups_of attr new) p r → IsNode new d
-  set_node setting p None h = kept_node h.1
-  set_node setting p (Some a) h =
+  pub set_node : (p : Path) (a : Attr) (r : Bool) → NodeSets (groups_of attr kids) (groups_of attr new) p a r → IsNode new d
+  set_node p a false h = kept_node h.1
+  set_node p a true h =
       let x = len-node attr kids was.ascending in
       let y = len-node attr new ascending in
-      let z = put_over (groups_of attr kids) (groups_of attr new) p h.now (subst IsSome (sym h.there) refl) h.updated in
+      let z = put_over (groups_of attr kids) (groups_of attr new) p a h.0 h.1 in
       let same : length (below kids) ≡ length (below new) = omega (arith, x, y, z) in
       record { ascending = ascending; counted = was.counted ∙ ap (λ (x : ℕ). x % 2 ^ 64) same }
 

@@ -10,8 +10,7 @@ use Rattle.group_tree.specs.declared.fault.TreeFault.{TreeFault}
 use Rattle.group_tree.specs.declared.fault.TreeFault.TheVariants.{Exists, NoParent, NoGroup, HasChildren, RootFixed, OutOfMemory}
 use Rattle.group_tree.specs.Groups.{Groups, IsClosed}
 use Rattle.group_tree.specs.Node.{groups_of, IsUpdated, NodeInserts, NodeRemoves}
-use Rattle.group_tree.specs.declared.set.Setting.{Setting}
-use Rattle.group_tree.specs.Settings.{NodeSetsBy}
+use Rattle.group_tree.specs.Settings.{NodeSets}
 use Rattle.group_tree.proofs.Parents.{last_name}
 use Rattle.group_tree.proofs.ChildEdits.{get_leaf}
 
@@ -42,9 +41,9 @@ closed_inserts old new p a (Err NoGroup) c h = absurd h
 closed_inserts old new p a (Err HasChildren) c h = absurd h
 closed_inserts old new p a (Err RootFixed) c h = absurd h
 
-pub closed_sets : (setting : Setting) (old new : Groups) (p : Path) (r : Option Attr) → IsClosed old → NodeSetsBy setting old new p r → IsClosed new
-closed_sets setting old new p None c h = subst IsClosed (sym h.1) c
-closed_sets setting old new p (Some a) c h = closed_updated old new p h.now c (c.parents p (subst IsSome (sym h.there) refl)) h.updated
+pub closed_sets : (old new : Groups) (p : Path) (a : Attr) (r : Bool) → IsClosed old → NodeSets old new p a r → IsClosed new
+closed_sets old new p a false c h = subst IsClosed (sym h.1) c
+closed_sets old new p a true c h = closed_updated old new p a c (c.parents p h.0) h.1
 
 pub closed_root : (a : Attr) → IsClosed (groups_of a [])
 closed_root a = record {

@@ -8,12 +8,7 @@ use Rattle.group_tree.specs.declared.fault.TreeFault.{TreeFault}
 use Rattle.group_tree.specs.declared.fault.TreeFault.TheVariants.{Exists, NoParent, NoGroup, HasChildren, RootFixed, OutOfMemory}
 use Rattle.group_tree.specs.Groups.{Groups, only_root, Inserts, Sets, Removes, HasNoneBelow}
 use Rattle.group_tree.specs.Node.{groups_of, IsUpdated, NodeInserts, NodeRemoves}
-use Rattle.flat_model.specs.Step.{limit_at}
-use Rattle.group_tree.specs.declared.attr.Limit.{Limit}
-use Rattle.group_tree.specs.declared.attr.LimitFile.{LimitFile}
-use Rattle.group_tree.specs.declared.set.Setting.TheVariants.{Whole, OneLimit}
-use Rattle.group_tree.specs.Flat.{group_of, limit_of, limit_file_of}
-use Rattle.group_tree.specs.Settings.{SetsAt, NodeSetsBy, ReplacesAt}
+use Rattle.group_tree.specs.Settings.{NodeSets}
 use Rattle.group_tree.proofs.ChildEdits.{get_leaf}
 use Rattle.flat_model.proofs.Booleans.{to_false}
 
@@ -37,21 +32,9 @@ inserts old new p a (Err NoGroup) h = h
 inserts old new p a (Err HasChildren) h = h
 inserts old new p a (Err RootFixed) h = h
 
-pub sets : (old new : Groups) (p : Path) (a : Attr) (r : Option Attr) (b : Bool) → NodeSetsBy (Whole a) old new p r → is_some r ≡ b → Sets old new p a b
-sets old new p a None b h e = subst (Sets old new p a) e h
-sets old new p a (Some was) b h e = subst (Sets old new p a) e (subst IsSome (sym h.there) refl, inserted_map old new p h.now h.updated ∙ ap (fin.insert old p) h.made)
-
-pub replaces : (old new : Groups) (p : Path) (file : LimitFile) (limit earlier : Limit) (was : Attr)
-    → SetsAt (OneLimit file limit) old new p was → limit_of earlier ≡ limit_at (limit_file_of file) (group_of was)
-    → ReplacesAt old new p file limit earlier
-replaces old new p file limit earlier was h e = record {
-  was = was;
-  now = h.now;
-  there = h.there;
-  limited = h.made;
-  replaced = inserted_map old new p h.now h.updated;
-  answered = e;
-}
+pub sets : (old new : Groups) (p : Path) (a : Attr) (b : Bool) → NodeSets old new p a b → Sets old new p a b
+sets old new p a false h = h
+sets old new p a true h = (h.0, inserted_map old new p a h.1)
 
 -- ---- strictly below a path
 

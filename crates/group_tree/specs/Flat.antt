@@ -2,7 +2,7 @@
 use Rattle.std.specs.Prelude.{◌≡◌, ◌↔◌, true}
 use Rattle.std.specs.List.{list_any}
 use Rattle.std.specs.Ordering.{nat_cmp}
-use Rattle.std.specs.FinMap.{FinMap, keys}
+use Rattle.std.specs.FinMap.{FinMap, empty, keys}
 use Rattle.flat_model.specs.Path.{Path, strictly_below}
 use Rattle.flat_model.specs.State as flat
 use Rattle.flat_model.specs.Counts as flat_counts
@@ -31,6 +31,10 @@ limits_of l = record { pids = limit_of l.pids; descendants = limit_of l.descenda
 -- a group of the tree as a group of the flat state
 abbrev pub group_of : Attr → flat.Attr
 group_of a = record { limits = limits_of a.limits; local = a.local; total = a.total; peak = a.peak }
+
+-- a flat state of these groups, with no processes
+abbrev pub without_processes : Groups → flat.State
+without_processes m = record { groups = map_values group_of m; home = empty }
 
 -- the groups below a group of the tree are those below it in a flat state of the tree's groups
 pub record CountsAsFlat (m : Groups) : Type 0 where

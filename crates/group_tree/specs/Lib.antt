@@ -1,11 +1,6 @@
 pub mod Groups
 pub mod Flat
-pub mod Limits
-pub mod Admission
-pub mod Along
 pub mod ChildNames
-pub mod Refusals
-pub mod PeaksAlong
 pub mod NameNumber
 pub mod Node
 pub mod Settings

@@ -80,11 +80,6 @@ NodeInserts old new p attr (Err NoGroup) = ⊥
 NodeInserts old new p attr (Err HasChildren) = ⊥
 NodeInserts old new p attr (Err RootFixed) = ⊥
 
--- what setting the attributes at p returns and leaves
-abbrev pub NodeSets : Groups → Groups → Path → Attr → Bool → Type 0
-NodeSets old new p attr true = IsSome (fin.get old p) × IsUpdated old new p (Some attr)
-NodeSets old new p attr false = (fin.get old p ≡ None) × (new ≡ old)
-
 -- what removing p returns and leaves
 abbrev pub NodeRemoves : Groups → Groups → Path → Result Attr TreeFault → Type 0
 NodeRemoves old new p (Ok attr) = (fin.get old p ≡ Some attr) × ((n : Name) (q : Path) → fin.get old (p ++ n ∷ q) ≡ None) × IsUpdated old new p None

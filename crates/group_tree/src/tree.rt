@@ -1,26 +1,17 @@
 //! The tree, seen as a finite map, and its public calls.
 
-ghost use Rattle.std.specs.Prelude.{◌≡◌, ◌+◌, ◌-◌, ◌<◌, ◌≤◌, ◌%◌, ◌^◌, ℕ, true, length, take, None, MatchOption, IsOk, IfOk, IfSome, IsSome, option_map, min};
+ghost use Rattle.std.specs.Prelude.{◌≡◌, ◌<◌, ◌≤◌, ◌%◌, ◌^◌, true, length, take, None, MatchOption, IsOk, IfOk, IfSome, IsSome};
 ghost use Rattle.std.specs.Option.{option_copied};
 ghost use Rattle.std.specs.FinMap as fin;
 ghost use Rattle.flat_model.specs.Path.{Path, at_or_below};
 ghost use Rattle.group_tree.specs.Flat.{CountsAsFlat};
-ghost use Rattle.group_tree.specs.Along.{along_of};
 ghost use Rattle.group_tree.specs.ChildNames.{NamesChildren};
-ghost use Rattle.group_tree.specs.Refusals.{CountsRefusals};
-ghost use Rattle.group_tree.specs.PeaksAlong.{SetsPeaks};
-ghost use Rattle.group_tree.specs.Admission.{Admits};
-ghost use Rattle.group_tree.specs.Settings.{ReplacesLimit};
 ghost use Rattle.group_tree.specs.Groups.{IsClosed, Inserts, Sets, Removes, only_root, descendant_count, chain_of};
 
-use crate::admission::Admission;
-use crate::along::Along;
-use crate::attr::{Attr, Limit, LimitFile};
+use crate::attr::Attr;
 use crate::child_names::ChildNames;
-use crate::events::Change;
 use crate::fault::TreeFault;
 use crate::node::Node;
-use crate::set::Setting;
 use group_path::GroupPath;
 use smallvec::SmallVec;
 use std::alloc::{AllocError, Allocator};
@@ -66,7 +57,7 @@ impl<A: Allocator> GroupTree<A> {
     pub fn set<B: Allocator + Clone>(&mut self, path: &GroupPath<B>, attr: Attr) -> bool
         ensures { Sets self.old self.new path.now attr result }
     {
-        self.root.set(path.names(), Setting::Whole(attr)).is_some()
+        self.root.set(path.names(), attr)
     }
 
     /// Sets the attributes of the group at the first `n` names of the path; false if there is no such group. Costs no more
@@ -80,31 +71,7 @@ impl<A: Allocator> GroupTree<A> {
         requires { n ≤ length path.now }
         ensures { Sets self.old self.new (take n path.now) attr result }
     {
-        self.root
-            .set(path.first_names(n), Setting::Whole(attr))
-            .is_some()
-    }
-
-    /// Sets a limit of the group at the path and returns the old limit; None if there is no such group. Descends once, as
-    /// `find` does, and allocates nothing.
-    pub fn replace_limit<B: Allocator + Clone>(
-        &mut self,
-        path: &GroupPath<B>,
-        file: LimitFile,
-        limit: Limit,
-    ) -> Option<Limit>
-        ensures { ReplacesLimit self.old self.new path.now file limit result }
-    {
-        let attr = self.root.set(path.names(), Setting::OneLimit(file, limit))?;
-        Some(attr.limit(file))
-    }
-
-    /// The attributes of the groups along the path, from the child of the root down to the path's own group. The iterator
-    /// ends before the first group that is missing. Descends once, as `find` does, and allocates nothing.
-    pub fn along<'a, B: Allocator + Clone>(&'a self, path: &'a GroupPath<B>) -> Along<'a, A>
-        ensures { result ≡ along_of self.now path.now }
-    {
-        Along::of(&self.root, path.names())
+        self.root.set(path.first_names(n), attr)
     }
 
     /// The names of the children of the group at the path, in the order of their bytes; None if there is no such group.
@@ -116,35 +83,6 @@ impl<A: Allocator> GroupTree<A> {
         ensures { NamesChildren self.now path.now result }
     {
         self.root.child_names(path.names())
-    }
-
-    /// Counts a fork that the group at the first `n` names of the path refused. Adds one to the local total of that group,
-    /// and one to the totals of that group and of the groups above it other than the root. That group must not be the root.
-    /// A total that is the greatest u64 stays. Descends once, as `find` does, and allocates nothing.
-    pub fn count_refusal<B: Allocator + Clone>(&mut self, path: &GroupPath<B>, n: usize)
-        requires at { n ≤ length path.now }
-        requires beside_root { 0 < n }
-        ensures { CountsRefusals (λ m. min (m + 1) (2 ^ 64 - 1)) self.old self.new (take n path.now) }
-    {
-        self.root.count(path.first_names(n), Change::Raise);
-    }
-
-    /// Undoes one `count_refusal`: subtracts one from the same totals. A total of 0 stays. Costs as much as `count_refusal`,
-    /// and allocates nothing.
-    pub fn uncount_refusal<B: Allocator + Clone>(&mut self, path: &GroupPath<B>, n: usize)
-        requires at { n ≤ length path.now }
-        ensures { CountsRefusals (λ m. m - 1) self.old self.new (take n path.now) }
-    {
-        self.root.count(path.first_names(n), Change::Lower);
-    }
-
-    /// Sets the peaks of the groups from the path's own group upward, without the root. The first peak is that of the path's
-    /// own group. A missing group is skipped. Descends once, as `find` does, and allocates nothing.
-    pub fn set_peaks<B: Allocator + Clone>(&mut self, path: &GroupPath<B>, peaks: &[u64])
-        requires { length peaks.now ≡ length path.now }
-        ensures { SetsPeaks self.old self.new path.now peaks.now }
-    {
-        self.root.set_peaks(path.names(), peaks);
     }
 
     /// How many groups are strictly below the group at the path; None if there is no such group. The number is stored, so
@@ -164,29 +102,6 @@ impl<A: Allocator> GroupTree<A> {
         ensures exact { fin.len self.now < 2 ^ 64 → IfSome result (λ k. k ≡ descendant_count self.now (take n path.now)) }
     {
         self.root.descendants(path.first_names(n))
-    }
-
-    /// The attributes of the group at the path, and how many groups are strictly below it, as `find` and `descendants`
-    /// return them; None if there is no such group. Descends once, as `find` does.
-    pub fn find_with_descendants<B: Allocator + Clone>(
-        &self,
-        path: &GroupPath<B>,
-    ) -> Option<(&Attr, u64)>
-        ensures found { option_map (λ f. f.0.now) result ≡ fin.get self.now path.now }
-        ensures counted { IfSome result (λ f. f.1 ≡ descendant_count self.now path.now % 2 ^ 64) }
-        ensures exact { fin.len self.now < 2 ^ 64 → IfSome result (λ f. f.1 ≡ descendant_count self.now path.now) }
-    {
-        self.root.find_with_descendants(path.names())
-    }
-
-    /// Whether a new group can be made at the path, apart from memory. The first of these that applies is returned: the
-    /// group exists; its parent does not exist; a limit of the hierarchy is met. Limits are tested from the parent up to the
-    /// root, and at one group that on descendants first. Descends once, as `find` does. The counts are exact as long as the
-    /// tree has fewer than 2^64 groups.
-    pub fn admits<B: Allocator + Clone>(&self, path: &GroupPath<B>) -> Admission
-        ensures { Admits self.now path.now result }
-    {
-        self.root.admits(path.names(), path.depth(), 0)
     }
 
     /// The slots of the groups from the path's own group upward, without the root; None if there is no such group. Up to

@@ -8,7 +8,7 @@ use Rattle.flat_model.proofs.PathLaws.{path_cmp-IsTotalOrder, path_cmp-IsAntisym
 use Rattle.flat_model.proofs.Maps.{get-own, key_of}
 use Rattle.group_tree.specs.declared.attr.Attr.{Attr}
 use Rattle.group_tree.specs.Groups.{Groups, IsClosed, only_root}
-use Rattle.group_tree.specs.Limits.{without_processes}
+use Rattle.group_tree.specs.Flat.{without_processes}
 use Rattle.hierarchy_laws.proofs.FlatLaws.{there_is}
 
 alone_only : (a : Attr) (p : Path) (x : Attr) → get (only_root a) p ≡ Some x → (p ≡ []) × (x ≡ a)

@@ -1,26 +1,20 @@
 //! The laws of what calls return and leave, and of the tree's values in the flat state.
 
-ghost use Rattle.std.specs.Prelude.{◌≡◌, ◌≢◌, ℕ, List, ◌+◌, ◌^◌, ◌-◌, ◌<◌, ◌≤◌, ◌↔◌, ◌⊎◌, Bool, true, false, [], ◌∷◌, length, Some, None, IsSome, is_some, option_map, min, Result, Ok, Err, codes};
+ghost use Rattle.std.specs.Prelude.{◌≡◌, ◌≢◌, ℕ, ◌≤◌, ◌↔◌, ◌⊎◌, Bool, true, false, [], ◌∷◌, Some, None, IsSome, is_some, Result, Ok, Err, codes};
 ghost use Rattle.std.specs.List.{list_any};
 ghost use Rattle.std.specs.FinMap.{get, insert, remove, keys};
 ghost use Rattle.flat_model.specs.Path.{Name, Path, parent, at_or_below, strictly_below};
 ghost use Rattle.flat_model.specs.Counts.{reaches, is_group, has_process};
 ghost use Rattle.flat_model.specs.File.{LimitOf, file_name};
-ghost use Rattle.flat_model.specs.Step.{limit_at, count_up, count_down, set_peak};
-ghost use Rattle.flat_model.specs.Mapped.{map_values};
+ghost use Rattle.flat_model.specs.Step.{limit_at};
 ghost use Rattle.group_tree.specs.declared.attr.Attr.{Attr};
 ghost use Rattle.group_tree.specs.declared.attr.Limit.{Limit};
 ghost use Rattle.group_tree.specs.declared.attr.Limit.TheVariants.{Unlimited, At};
 ghost use Rattle.group_tree.specs.declared.attr.LimitFile.TheVariants.{PidsMax, MaxDescendants, MaxDepth};
 ghost use Rattle.group_tree.specs.declared.fault.TreeFault.{TreeFault};
 ghost use Rattle.group_tree.specs.declared.fault.TreeFault.TheVariants.{Exists, NoParent, NoGroup, HasChildren, RootFixed, OutOfMemory};
-ghost use Rattle.group_tree.specs.declared.limits.MetLimit.{MetLimit};
 ghost use Rattle.group_tree.specs.Groups.{Groups, IsClosed, only_root, HasBelow, HasNoneBelow, Inserts, Sets, Removes, chain_of};
-ghost use Rattle.group_tree.specs.Along.{groups_down, along_of};
-ghost use Rattle.group_tree.specs.Flat.{limit_of, limit_file_of, group_of};
-ghost use Rattle.group_tree.specs.Refusals.{CountsRefusals, HasRoomForRefusals, counted_by};
-ghost use Rattle.group_tree.specs.PeaksAlong.{SetsPeaks, peaked_by};
-ghost use Rattle.group_tree.specs.Limits.{refusal_along, names_of, without_processes};
+ghost use Rattle.group_tree.specs.Flat.{limit_of, limit_file_of, group_of, without_processes};
 
 /// What inserting a group returns, depending on the tree: one fault if the group exists, one if its parent doesn't exist,
 /// and otherwise only out of memory. Each fault leaves the tree unchanged.
@@ -56,7 +50,7 @@ pub fn below_or_none()
 {}
 
 /// A group of the tree is one of the flat state. Each limit is that of its own file. No two limits, files or groups become
-/// the same there, apart from their slots. The limits of the hierarchy that are met remain distinct.
+/// the same there, apart from their slots.
 pub fn groups_are_flat_groups()
     ensures limits { (a b : Limit) → limit_of a ≡ limit_of b → a ≡ b }
     ensures groups { (a b : Attr) → group_of a ≡ group_of b → a.slot ≡ b.slot → a ≡ b }
@@ -71,45 +65,15 @@ pub fn groups_are_flat_groups()
     ensures pids_file { file_name (LimitOf (limit_file_of PidsMax)) ≡ codes "pids.max" }
     ensures descendants_file { file_name (LimitOf (limit_file_of MaxDescendants)) ≡ codes "cgroup.max.descendants" }
     ensures depth_file { file_name (LimitOf (limit_file_of MaxDepth)) ≡ codes "cgroup.max.depth" }
-    ensures met { (p : Path) (a b : MetLimit) → names_of a ≤ length p → names_of b ≤ length p → refusal_along p a ≡ refusal_along p b → a ≡ b }
     ensures there { (m : Groups) (p : Path) → is_group (without_processes m) p ≡ is_some (get m p) }
     ensures nobody { (m : Groups) (pid : ℕ) → has_process (without_processes m) pid ≡ false }
 {}
 
-/// Event totals change as in the flat state: up to the greatest u64, and down to 0. The slot and the peak stay.
-pub fn refusals_are_counted()
-    ensures up { (a q : Path) (x : Attr) → x.local < 2 ^ 64 - 1 → x.total < 2 ^ 64 - 1 → group_of (counted_by (λ m. min (m + 1) (2 ^ 64 - 1)) a q x) ≡ count_up a q (group_of x) }
-    ensures down { (a q : Path) (x : Attr) → group_of (counted_by (λ m. m - 1) a q x) ≡ count_down a q (group_of x) }
-    ensures slot { (g : ℕ → ℕ) (a q : Path) (x : Attr) → (counted_by g a q x).slot ≡ x.slot }
-    ensures peak { (g : ℕ → ℕ) (a q : Path) (x : Attr) → (counted_by g a q x).peak ≡ x.peak }
-    ensures greatest { (n : ℕ) → min (n + 1) (2 ^ 64 - 1) < 2 ^ 64 }
-    ensures all_up { (old new : Groups) (a q : Path) → HasRoomForRefusals old → CountsRefusals (λ m. min (m + 1) (2 ^ 64 - 1)) old new a
-        → get (map_values group_of new) q ≡ option_map (count_up a q) (get (map_values group_of old) q) }
-    ensures all_down { (old new : Groups) (a q : Path) → CountsRefusals (λ m. m - 1) old new a → get (map_values group_of new) q ≡ option_map (count_down a q) (get (map_values group_of old) q) }
-{}
-
-/// Peaks are set as in the flat state. Everything else of a group stays, and so does the root. Of three groups along a path,
-/// the last gets the first peak, and the first the last.
-pub fn peaks_are_set()
-    ensures each { (a q : Path) (peaks : List ℕ) (x : Attr) → group_of (peaked_by a peaks q x) ≡ set_peak a peaks q (group_of x) }
-    ensures slot { (a q : Path) (peaks : List ℕ) (x : Attr) → (peaked_by a peaks q x).slot ≡ x.slot }
-    ensures root { (a : Path) (peaks : List ℕ) (x : Attr) → peaked_by a peaks [] x ≡ x }
-    ensures all { (old new : Groups) (a q : Path) (peaks : List ℕ) → SetsPeaks old new a peaks → get (map_values group_of new) q ≡ option_map (set_peak a peaks q) (get (map_values group_of old) q) }
-    ensures three { (l m n : ℕ) (x : Attr) → (peaked_by (codes "a" ∷ codes "b" ∷ codes "c" ∷ []) (l ∷ m ∷ n ∷ []) (codes "a" ∷ []) x).peak ≡ n }
-    ensures three_last { (l m n : ℕ) (x : Attr) → (peaked_by (codes "a" ∷ codes "b" ∷ codes "c" ∷ []) (l ∷ m ∷ n ∷ []) (codes "a" ∷ codes "b" ∷ codes "c" ∷ []) x).peak ≡ l }
-{}
-
-/// A group, its child and its grandchild: the slots upward, the groups downward, and the attributes of those that exist. The
-/// root is not among them.
+/// A group, its child and its grandchild: their slots upward. The root's is not among them.
 pub fn three_groups()
     ensures chain { (m : Groups) (a b c : Name) (x y z : Attr) → get m (a ∷ []) ≡ Some x → get m (a ∷ b ∷ []) ≡ Some y
         → get m (a ∷ b ∷ c ∷ []) ≡ Some z → chain_of m (a ∷ b ∷ c ∷ []) ≡ z.slot ∷ y.slot ∷ x.slot ∷ [] }
     ensures root_chain { (m : Groups) → chain_of m [] ≡ [] }
-    ensures down { (a b c : Name) → groups_down (a ∷ b ∷ c ∷ []) ≡ (a ∷ []) ∷ (a ∷ b ∷ []) ∷ (a ∷ b ∷ c ∷ []) ∷ [] }
-    ensures along { (m : Groups) (a b c : Name) (x y z : Attr) → get m (a ∷ []) ≡ Some x → get m (a ∷ b ∷ []) ≡ Some y
-        → get m (a ∷ b ∷ c ∷ []) ≡ Some z → along_of m (a ∷ b ∷ c ∷ []) ≡ x ∷ y ∷ z ∷ [] }
-    ensures some_along { (m : Groups) (a b c : Name) (x y : Attr) → get m (a ∷ []) ≡ Some x → get m (a ∷ b ∷ []) ≡ Some y → get m (a ∷ b ∷ c ∷ []) ≡ None → along_of m (a ∷ b ∷ c ∷ []) ≡ x ∷ y ∷ [] }
-    ensures root_along { (m : Groups) → along_of m [] ≡ [] }
 {}
 
 /// A new tree has only the root, with the given attributes. Each tree has the root, and each group above one of its groups.

@@ -1,22 +1,14 @@
 //! The answers of calls on a tree, as text. A group that is missing is `none`.
 
-use crate::attributes::push_limit;
 use crate::words::push_runs;
 use group_path::GroupPath;
-use group_tree::{Admission, ChildNames, GroupTree, Limit, MetLimit, TreeFault};
+use group_tree::{ChildNames, GroupTree, TreeFault};
 use std::alloc::{AllocError, Allocator, Global};
 use test_support::Outcome;
 
 pub(crate) fn push_count(said: &mut String, count: Option<u64>) -> Result<(), AllocError> {
     match count {
         Some(count) => write!(said, "{count}"),
-        None => said.push_str("none"),
-    }
-}
-
-pub(crate) fn push_old_limit(said: &mut String, limit: Option<Limit>) -> Result<(), AllocError> {
-    match limit {
-        Some(limit) => push_limit(said, limit),
         None => said.push_str("none"),
     }
 }
@@ -52,26 +44,6 @@ pub(crate) fn push_children<A: Allocator>(
     Ok(())
 }
 
-/// The slots, events or peaks of the groups along the path.
-pub(crate) fn push_along<A: Allocator>(
-    said: &mut String,
-    tree: &GroupTree<A>,
-    what: &str,
-    path: &GroupPath<Global>,
-) -> Result<(), AllocError> {
-    for attr in tree.along(path) {
-        if !said.is_empty() {
-            said.push(' ')?;
-        }
-        match what {
-            "slots" => write!(said, "{}", attr.slot)?,
-            "events" => write!(said, "{}/{}", attr.local, attr.total)?,
-            _ => write!(said, "{}", attr.peak)?,
-        }
-    }
-    Ok(())
-}
-
 pub(crate) fn push_slots(said: &mut String, slots: &[u16]) -> Result<(), AllocError> {
     for slot in slots {
         if !said.is_empty() {
@@ -80,16 +52,6 @@ pub(crate) fn push_slots(said: &mut String, slots: &[u16]) -> Result<(), AllocEr
         write!(said, "{slot}")?;
     }
     Ok(())
-}
-
-pub(crate) fn push_admission(said: &mut String, admission: Admission) -> Result<(), AllocError> {
-    match admission {
-        Admission::Exists => said.push_str("exists"),
-        Admission::NoParent => said.push_str("no parent"),
-        Admission::Met(MetLimit::Descendants(n)) => write!(said, "descendants {n}"),
-        Admission::Met(MetLimit::Depth(n)) => write!(said, "depth {n}"),
-        Admission::Free => said.push_str("free"),
-    }
 }
 
 /// The message of a refusal, except for out of memory.

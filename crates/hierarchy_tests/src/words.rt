@@ -75,13 +75,9 @@ impl Words {
         }
     }
 
-    /// The path of a call on a tree with this name: the second word, the third of `along`, and none of `groups`.
+    /// The path of a call on a tree with this name: the second word; the root for `groups`.
     pub(crate) fn path(&self, name: &str) -> &[u8] {
-        match name {
-            "groups" => b"/",
-            "along" => self.get(2),
-            _ => self.get(1),
-        }
+        if name == "groups" { b"/" } else { self.get(1) }
     }
 
     /// The index of the first such word.

@@ -1,17 +1,16 @@
 -- A group with other attributes and the slot that it had.
 use Rattle.std.proofs.Common.{◌≡◌, ℕ, zero, suc, ◌+◌, ◌⊎◌, inl, inr, true, false, cond, eqb, Option, Some, None, List, length, take, count_by, IsSome, is_some, refl, sym, ap, ◌∙◌, arith}
 use Rattle.std.specs.FinMap as fin
-use Rattle.std.specs.Prelude.{slice_index}
 use Rattle.std.specs.Map.{values_of}
 use Rattle.std.proofs.lemmas.List.Elements.{All-weaker}
-use Rattle.flat_model.specs.Path.{Path, parent, same_path}
+use Rattle.flat_model.specs.Path.{Path, same_path}
 use Rattle.flat_model.proofs.PathLaws.{path_cmp-IsTotalOrder, same_path_is}
 use Rattle.std.proofs.lemmas.Bool.{false≢true}
 use Rattle.group_tree.specs.Groups.{Groups, slot_of, IsClosed}
 use Rattle.group_tree.specs.declared.attr.Attr.{Attr}
 use Rattle.pids_charge.specs.Content.{Content}
 use Rattle.pids_charge.specs.Lists.{Row}
-use Rattle.pids_charge.specs.Recount.{HasParents, HasSlots, Recounted, IsPlaced, SameSlots, chain_at, charges_of}
+use Rattle.pids_charge.specs.Recount.{HasSlots, Recounted, IsPlaced, SameSlots, chain_at, charges_of}
 use Rattle.pids_charge.proofs.Entries.{sum_by-same}
 use Rattle.pids_charge.proofs.TableSlots.{table_slot_same}
 
@@ -58,12 +57,6 @@ module _ (old new : Groups) (same : SameSlots old new) where
     in_range = h.in_range;
     unused = λ q pos i. ap (λ s. count_by (eqb s) free) (same.slots q) ∙ h.unused q pos (was q i);
     whole = omega (arith, h.whole, same.size);
-  }
-
-  pub parents_stay : (slots : ℕ) (parents : List ℕ) → HasParents slots old parents → HasParents slots new parents
-  parents_stay slots parents h = record {
-    many = h.many;
-    each = λ q pos i. ap (slice_index parents) (same.slots q) ∙ h.each q pos (was q i) ∙ table_slot_same old new (parent q) (sym (same.slots (parent q)));
   }
 
   chain_stays : (p : Path) (leaf s j k : ℕ) → chain_at new p k leaf s j ≡ chain_at old p k leaf s j

@@ -24,14 +24,14 @@ use Rattle.std.specs.BTreeMap.{is_at, insert_entry}
 use Rattle.process_table.specs.declared.process.Process.{Process}
 use Rattle.pids_charge.proofs.Entries.{home_rows, to_sorted, find_home, put_home}
 use Rattle.group_tree.specs.Groups.{Groups, Inserts}
-use Rattle.group_tree.specs.Limits.{without_processes, refusal_along}
-use Rattle.group_tree.specs.Admission.{MayStand}
-use Rattle.group_tree.specs.declared.limits.MetLimit.{MetLimit}
 use Rattle.group_tree.specs.Flat.{group_of}
 use Rattle.flat_model.proofs.MapValues.{get-map_values, len-map_values}
 use Rattle.group_tree.specs.declared.attr.Attr.{Attr}
+use Rattle.pids_charge.specs.Events.{flat_of}
+use Rattle.pids_charge.specs.HierarchyLimits.{IsFirstMet, refusal_along}
 use Rattle.pids_charge.specs.Lists.{Row}
 use Rattle.pids_charge.specs.Recount.{state_of}
+use Rattle.pids_charge.specs.declared.hierarchy.MetLimit.{MetLimit}
 
 lt-ltb : {m n : ℕ} → m < n → ltb m n ≡ true
 lt-ltb h = grind (arith, nat_tests)
@@ -110,25 +110,13 @@ found_there (Some x) m b e h f = subst IsSome e refl
 
 module _ {A : Type 0} (tree : Groups) (es : List (Row A)) where
   -- no limit of the hierarchy looks at a process
-  same_walk : (q : Path) (way : List Path) → first_refusal (limit_met (without_processes tree) q) way ≡ first_refusal (limit_met (state_of tree es) q) way
+  same_walk : (q : Path) (way : List Path) → first_refusal (limit_met (flat_of tree fin.empty) q) way ≡ first_refusal (limit_met (state_of tree es) q) way
   same_walk q [] = refl
   same_walk q (a ∷ way) = ap (option_or (limit_met (state_of tree es) q a)) (same_walk q way)
 
-  pub met-is : (s : State) → state_of tree es ≡ s → (p : Path) (n : ℕ) (met : Option MetLimit) → n ≡ length p - 1
-      → (fin.len tree < 2 ^ 64 → option_map (refusal_along p) met ≡ first_refusal (limit_met (without_processes tree) (take n p)) (upward (take n p))) → fin.len tree < 2 ^ 64
-      → blocked_make s p ≡ option_map (refusal_along p) met
-  met-is s v p n met e h few =
-      ap (λ (t : State). blocked_make t p) (sym v) ∙ ap (λ k. first_refusal (limit_met (state_of tree es) (take k p)) (upward (take k p))) (sym e)
-      ∙ sym (h few ∙ same_walk (take n p) (upward (take n p)))
-
-  -- a new group that may stand, in the flat state
-  pub stands-is : (s : State) (v : state_of tree es ≡ s) (p : Path) (met : Option MetLimit) → MayStand tree p met → fin.len tree < 2 ^ 64
-      → (is_group s p ≡ false) × (is_group s (parent p) ≡ true) × (blocked_make s p ≡ option_map (refusal_along p) met)
-  stands-is s v p met h few = (
-    group-is s tree es v p ∙ ap is_some h.absent,
-    group-is s tree es v (parent p) ∙ h.below,
-    met-is s v p (length p - 1) met refl h.first few,
-  )
+  -- the first limit that a new group meets, in the flat state
+  pub blocked-is : (s : State) → state_of tree es ≡ s → (p : Path) (met : Option MetLimit) → IsFirstMet tree p met → blocked_make s p ≡ option_map (refusal_along p) met
+  blocked-is s v p met h = ap (λ (t : State). blocked_make t p) (sym v) ∙ sym (h.first ∙ same_walk (parent p) (upward (parent p)))
 
   pub len-is : (s : State) → state_of tree es ≡ s → fin.len s.groups ≡ fin.len tree
   len-is s v = ap (λ (t : State). fin.len t.groups) (sym v) ∙ len-map_values group_of tree

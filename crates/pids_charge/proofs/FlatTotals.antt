@@ -1,5 +1,6 @@
 -- Groups changed in the tree, as the flat state changes them: event totals, and peaks.
-use Rattle.std.proofs.Common.{◌≡◌, ℕ, ◌+◌, ◌-◌, Bool, true, false, cond, Option, Some, None, option_map, is_some, refl, sym, ap, ◌∙◌, arith}
+use Rattle.std.proofs.Common.{◌≡◌, ℕ, ◌+◌, ◌-◌, ◌^◌, ◌<◌, Bool, true, false, cond, Option, Some, None, option_map, is_some, refl, sym, ap, ◌∙◌, arith}
+use Rattle.std.specs.Prelude.{min}
 use Rattle.std.specs.FinMap as fin
 use Rattle.std.specs.Ordering.{nat_cmp}
 use Rattle.flat_model.specs.Path.{Path, same_path}
@@ -11,11 +12,11 @@ use Rattle.flat_model.proofs.Maps.{get-each}
 use Rattle.flat_model.proofs.PathLaws.{path_cmp-IsTotalOrder, path_cmp-IsAntisymmetric}
 use Rattle.group_tree.specs.Flat.{group_of}
 use Rattle.group_tree.specs.Groups.{Groups, slot_of, IsClosed}
-use Rattle.group_tree.specs.Refusals.{counted_by, CountsRefusals}
 use Rattle.group_tree.specs.declared.attr.Attr.{Attr}
-use Rattle.group_tree.proofs.PathChanges.{len-changes, some_stays}
-use Rattle.pids_charge.specs.Events.{flat_of}
+use Rattle.pids_charge.specs.declared.above.Change.TheVariants.{Raise}
+use Rattle.pids_charge.specs.Events.{counted_by, CountsRefusals, flat_of, stepped}
 use Rattle.pids_charge.specs.Recount.{SameSlots}
+use Rattle.pids_charge.proofs.EachChanged.{len-changes, some_stays}
 
 one_up : (b : Bool) (n : ℕ) → cond b (n + 1) n ≡ n + cond b 1 0
 one_up true n = refl
@@ -30,6 +31,18 @@ up_each a q attr = λ i. record (group_of attr) { local = one_up (same_path q a)
 
 pub down_each : (a q : Path) (attr : Attr) → group_of (counted_by (λ n. n - 1) a q attr) ≡ count_down a q (group_of attr)
 down_each a q attr = λ i. record (group_of attr) { local = one_down (same_path q a) attr.local i; total = one_down (counts_for a q) attr.total i }
+
+-- where no total is the greatest, none stays there
+pub raised : (old new : Groups) (a : Path)
+    → ((q : Path) (attr : Attr) → fin.get old q ≡ Some attr → (attr.local < 2 ^ 64 - 1) × (attr.total < 2 ^ 64 - 1)) → CountsRefusals (stepped Raise) old new a → CountsRefusals (λ n. n + 1) old new a
+raised old new a room counts q = counts q ∙ each (fin.get old q) (room q)
+  where
+    below : (n : ℕ) → n < 2 ^ 64 - 1 → min (n + 1) (2 ^ 64 - 1) ≡ n + 1
+    below n h = omega arith
+
+    each : (o : Option Attr) → ((x : Attr) → o ≡ Some x → (x.local < 2 ^ 64 - 1) × (x.total < 2 ^ 64 - 1)) → option_map (counted_by (stepped Raise) a q) o ≡ option_map (counted_by (λ n. n + 1) a q) o
+    each None h = refl
+    each (Some x) h = λ i. Some (record x { local = cond (same_path q a) (below x.local (h x refl).0 i) x.local; total = cond (counts_for a q) (below x.total (h x refl).1 i) x.total })
 
 -- the groups of the tree changed one by one, as f changes them there and F in the flat state
 module _ (f : Path → Attr → Attr) (old new : Groups) (changes : (q : Path) → fin.get new q ≡ option_map (f q) (fin.get old q)) where

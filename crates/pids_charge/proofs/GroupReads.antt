@@ -1,6 +1,6 @@
 -- What is read of groups and processes.
 use Rattle.std.proofs.Common.{◌≡◌, ℕ, ◌<◌, ◌↔◌, ◌++◌, ◌∷◌, [], List, Bool, true, false, cond, ltb, IsTrue, Option, Some, None, IsSome}
-use Rattle.std.proofs.Common.{is_some, MatchOption, map, filter, refl, sym, ap, ◌∙◌, append_assoc, arith}
+use Rattle.std.proofs.Common.{is_some, IfSome, MatchOption, map, filter, refl, sym, ap, ◌∙◌, append_assoc, arith}
 use Rattle.std.proofs.lemmas.Bool.Decides.{nat_tests}
 use Rattle.std.specs.Ordering.{nat_cmp}
 use Rattle.std.specs.List.Sorted.{IsStrictlySortedBy}
@@ -20,6 +20,11 @@ pub matched : (o : Option ℕ) (m : Option Attr) (P : ℕ → Type 0) → MatchO
 matched None m P h = ap is_some (sym h)
 matched (Some n) None P h = let there = h.0 in cc
 matched (Some n) (Some a) P h = refl
+
+-- and it holds of the group
+pub told : (o : Option ℕ) (m : Option Attr) (P : ℕ → Type 0) → MatchOption o (m ≡ None) (λ n. IsSome m × P n) → IfSome o P
+told None m P h = tt
+told (Some n) m P h = h.1
 
 pub is_positive : (b : Bool) (n m : ℕ) → IsTrue b ↔ (0 < n) → n ≡ m → b ≡ ltb 0 m
 is_positive true n m h e = let pos : 0 < n = h.0 refl in grind (arith, nat_tests, pos, e)

@@ -10,13 +10,12 @@ use Rattle.flat_model.specs.Path.{Path, path_cmp, same_path}
 use Rattle.flat_model.proofs.Maps.{get-own}
 use Rattle.flat_model.proofs.MapValues.{get-map_values, map_values-remove}
 use Rattle.flat_model.proofs.PathLaws.{path_cmp-IsTotalOrder, path_cmp-IsAntisymmetric, same_path_is}
-use Rattle.group_tree.specs.Flat.{limits_of}
 use Rattle.group_tree.specs.Groups.{Groups, IsClosed, slot_of}
 use Rattle.group_tree.specs.declared.attr.Attr.{Attr}
-use Rattle.group_tree.proofs.PathChanges.{closed_changes}
 use Rattle.pids_charge.specs.GroupRows.{in_row, with_rows, IsInRow, HasRows}
 use Rattle.pids_charge.specs.Lists.{slot_at, table_slot}
 use Rattle.pids_charge.proofs.Changes.{which}
+use Rattle.pids_charge.proofs.EachChanged.{closed_changes}
 use Rattle.pids_charge.proofs.TableSlots.{table_slot_same}
 
 -- inside a list it doesn't matter what is read outside
@@ -90,9 +89,9 @@ module _ (tree new : Groups) (rows after : List Attr) (p : Path) (x y : Attr)
 
   -- the row's number was that of no other group
   pub has_rows : HasRows tree rows → IsClosed new → x.slot < length after → length rows ≤ length after → x.slot ≡ table_slot (with_rows new after) p
-      → limits_of y.limits ≡ limits_of x.limits → ((q : Path) (b : Attr) → (q ≡ p → ⊥) → fin.get tree q ≡ Some b → b.slot ≢ x.slot)
+      → ((q : Path) (b : Attr) → (q ≡ p → ⊥) → fin.get tree q ≡ Some b → b.slot ≢ x.slot)
       → HasRows new after
-  has_rows h closed inside longer number limits alone = record {
+  has_rows h closed inside longer number alone = record {
     closed = closed;
     each = λ q b e. elim (split q) [
       | inl w ↦
@@ -100,14 +99,12 @@ module _ (tree new : Groups) (rows after : List Attr) (p : Path) (x y : Attr)
           subst (λ (c : Attr). IsInRow new after q c) same (record {
             inside = inside;
             number = number ∙ ap (table_slot (with_rows new after)) (sym w.0);
-            limits = ap (λ (c : Attr). limits_of c.limits) own ∙ limits;
           })
       | inr w ↦
           let old = h.each q b (sym w.1 ∙ e) in
           record {
             inside = omega (arith, old.inside, longer);
             number = old.number ∙ sym (table_slot_same (with_rows new after) (with_rows tree rows) q (ap slot_of (stays q w.0 w.1)));
-            limits = ap (λ (c : Attr). limits_of c.limits) (others q b w.0 (sym w.1 ∙ e)) ∙ old.limits;
           }
     ];
     apart = λ q r b c e f same. elim (split q) [
@@ -170,18 +167,16 @@ module _ (tree : Groups) (rows : List Attr) (h : HasRows tree rows) (s : Groups)
   pub put_is : with_rows tree (set rows at y) ≡ fin.insert s p y
   put_is = written tree tree rows (set rows at y) p its.attr y (same_split tree p its.attr its.there) own_row other_rows ∙ ap (λ (m : Groups). fin.insert m p y) v
 
-  pub put_rows : ((q : Path) (a : Attr) → fin.get s q ≡ Some a → at ≡ table_slot s q → (y.limits ≡ a.limits) × (y.slot ≡ a.slot)) → HasRows tree (set rows at y)
+  pub put_rows : ((q : Path) (a : Attr) → fin.get s q ≡ Some a → at ≡ table_slot s q → y.slot ≡ a.slot) → HasRows tree (set rows at y)
   put_rows same =
       let split = same_split tree p its.attr its.there in
-      let own = h.each p its.attr its.there in
       let was : fin.get s p ≡ Some (in_row rows its.attr) = ap (λ (m : Groups). fin.get m p) (sym v) ∙ in_tree tree rows p its.attr its.there in
       let alike = same p (in_row rows its.attr) was e in
       let is : fin.get (with_rows tree (set rows at y)) p ≡ Some y = in_tree tree (set rows at y) p its.attr its.there ∙ ap Some own_row in
-      let slot : slot_at (with_rows tree (set rows at y)) p ≡ slot_at s p = ap slot_of is ∙ alike.1 ∙ sym (ap slot_of was) in
+      let slot : slot_at (with_rows tree (set rows at y)) p ≡ slot_at s p = ap slot_of is ∙ alike ∙ sym (ap slot_of was) in
       let number : its.attr.slot ≡ table_slot (with_rows tree (set rows at y)) p = its.slot ∙ e ∙ sym (table_slot_same (with_rows tree (set rows at y)) s p slot) in
       has_rows tree tree rows (set rows at y) p its.attr y split own_row other_rows h h.closed
       (omega (arith, length-set rows at y, its.slot, its.inside)) (omega (arith, length-set rows at y)) number
-      (ap limits_of alike.0 ∙ own.limits)
       (λ q b apart there same. apart (h.apart q p b its.attr there its.there same))
 
 -- ---- a group is made
@@ -208,12 +203,11 @@ module _ (tree : Groups) (rows : List Attr) (h : HasRows tree rows) (s : Groups)
     each = λ q a e. let old = h.each q a e in record {
       inside = let inside = old.inside in omega (arith, inside, longer);
       number = old.number ∙ ap (λ (m : Groups). table_slot m q) (sym long_same);
-      limits = ap (λ (b : Attr). limits_of b.limits) (kept_row q a e) ∙ old.limits;
     };
     apart = h.apart;
   }
 
-  module _ (p : Path) (x y : Attr) (named : 0 < length p) (number : x.slot ≡ y.slot + 1) (limits : y.limits ≡ x.limits) (listed : x.slot < length long)
+  module _ (p : Path) (x y : Attr) (named : 0 < length p) (number : x.slot ≡ y.slot + 1) (listed : x.slot < length long)
       (free : (q : Path) → 0 < length q → IsSome (fin.get s q) → slot_at s q ≢ y.slot) (new : Groups) (is : new ≡ fin.insert tree p x) where
     split : (q : Path) → ((q ≡ p) × (fin.get new q ≡ Some x)) ⊎ ((q ≡ p → ⊥) × (fin.get new q ≡ fin.get tree q))
     split q = subst (λ (m : Groups). ((q ≡ p) × (fin.get m q ≡ Some x)) ⊎ ((q ≡ p → ⊥) × (fin.get m q ≡ fin.get tree q))) (sym is) (which tree p x q)
@@ -239,7 +233,7 @@ module _ (tree : Groups) (rows : List Attr) (h : HasRows tree rows) (s : Groups)
         let own : fin.get (with_rows new (set long x.slot y)) p ≡ Some y = ap (λ (m : Groups). fin.get m p) (written tree new rows (set long x.slot y) p x y split made_row made_others) ∙ get-own path_cmp-IsTotalOrder path_cmp-IsAntisymmetric (with_rows tree rows) p y in
         has_rows tree new rows (set long x.slot y) p x y split made_row made_others h closed
         (omega (arith, length-set long x.slot y, listed)) (omega (arith, length-set long x.slot y, longer))
-        (by p named own) (ap limits_of limits) (λ q b apart e. unused q b e)
+        (by p named own) (λ q b apart e. unused q b e)
       where
         by : (q : Path) → 0 < length q → fin.get (with_rows new (set long x.slot y)) q ≡ Some y → x.slot ≡ table_slot (with_rows new (set long x.slot y)) q
         by [] pos e = absurd (omega (arith, pos))
@@ -265,39 +259,9 @@ module _ (tree : Groups) (rows : List Attr) (h : HasRows tree rows) (s : Groups)
       inside = old.inside;
       number = old.number ∙ table_slot_same (with_rows tree rows) (with_rows new rows) q
           (ap slot_of (in_tree tree rows q b (left q b e)) ∙ sym (ap slot_of (in_tree new rows q b e)));
-      limits = old.limits;
     };
     apart = λ q r b c e f same. h.apart q r b c (left q b e) (left r c f) same;
   }
-
--- ---- a limit is replaced
-
-module _ (tree : Groups) (rows : List Attr) (h : HasRows tree rows) (s : Groups) (v : with_rows tree rows ≡ s) (p : Path) (a x y : Attr) (here : fin.get tree p ≡ Some a)
-    (number : x.slot ≡ a.slot) (slot : y.slot ≡ (in_row rows a).slot) (limits : limits_of y.limits ≡ limits_of x.limits) (new : Groups) (is : new ≡ fin.insert tree p x) where
-  limit_split : (q : Path) → ((q ≡ p) × (fin.get new q ≡ Some x)) ⊎ ((q ≡ p → ⊥) × (fin.get new q ≡ fin.get tree q))
-  limit_split q = subst (λ (m : Groups). ((q ≡ p) × (fin.get m q ≡ Some x)) ⊎ ((q ≡ p → ⊥) × (fin.get m q ≡ fin.get tree q))) (sym is) (which tree p x q)
-
-  limit_own : in_row (set rows a.slot y) x ≡ y
-  limit_own = get_or-set_at rows a.slot x.slot y x number (h.each p a here).inside
-
-  limit_others : (q : Path) (b : Attr) → (q ≡ p → ⊥) → fin.get tree q ≡ Some b → in_row (set rows a.slot y) b ≡ in_row rows b
-  limit_others q b apart there = get_or-set_other rows a.slot b.slot y b (λ same. apart (h.apart q p b a there here same))
-
-  limit_written : with_rows new (set rows a.slot y) ≡ fin.insert (with_rows tree rows) p y
-  limit_written = written tree new rows (set rows a.slot y) p x y limit_split limit_own limit_others
-
-  pub limited_is : with_rows new (set rows a.slot y) ≡ fin.insert s p y
-  limited_is = limit_written ∙ ap (λ (m : Groups). fin.insert m p y) v
-
-  pub limited_rows : IsClosed new → HasRows new (set rows a.slot y)
-  limited_rows closed =
-      let old = h.each p a here in
-      let own : fin.get (with_rows new (set rows a.slot y)) p ≡ Some y = ap (λ (m : Groups). fin.get m p) limit_written ∙ get-own path_cmp-IsTotalOrder path_cmp-IsAntisymmetric (with_rows tree rows) p y in
-      let same : slot_at (with_rows new (set rows a.slot y)) p ≡ slot_at (with_rows tree rows) p = ap slot_of own ∙ slot ∙ sym (ap slot_of (in_tree tree rows p a here)) in
-      has_rows tree new rows (set rows a.slot y) p x y limit_split limit_own limit_others h closed
-      (let inside = old.inside in omega (arith, length-set rows a.slot y, number, inside)) (omega (arith, length-set rows a.slot y))
-      (number ∙ old.number ∙ sym (table_slot_same (with_rows new (set rows a.slot y)) (with_rows tree rows) p same)) limits
-      (λ q b apart there equal. apart (h.apart q p b a there here (equal ∙ number)))
 
 -- what holds in any case
 pub in_any_case : {T E : Type 0} {P : Type 0} (r : Result T E) → P → OnErr r P

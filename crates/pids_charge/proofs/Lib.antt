@@ -9,6 +9,12 @@ mod MeterContents
 mod FlatChildren
 mod TableCopies
 mod OneMore
+mod ParentRows
+mod BelowCounts
+mod CountsUp
+mod BelowSteps
+mod TableChanges
+mod FirstLimits
 mod ParentSteps
 mod Gathers
 mod FlatGroups
@@ -17,6 +23,7 @@ mod PathCharges
 mod FreeSlots
 mod StartState
 mod Changes
+mod EachChanged
 mod InRows
 mod PathRows
 mod RowReads

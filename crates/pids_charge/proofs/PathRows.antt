@@ -45,15 +45,6 @@ same_row row k = elim (eqb row k) as (λ b. eqb row k ≡ b → (row ≡ k) ⊎ 
 ] refl
 
 module _ (tree : Groups) (kept : List (Option Path)) (h : KeepsPaths tree kept) (p : Path) where
-  -- a limit is replaced
-  pub kept_limited : (a x : Attr) → fin.get tree p ≡ Some a → x.slot ≡ a.slot → (new : Groups) → new ≡ fin.insert tree p x → KeepsPaths new kept
-  kept_limited a x here slot new is = λ row q e. ap (λ (m : Groups). number (fin.get m q)) is ∙ same q (which tree p x q) ∙ h row q e
-    where
-      same : (q : Path) → ((q ≡ p) × (fin.get (fin.insert tree p x) q ≡ Some x)) ⊎ ((q ≡ p → ⊥) × (fin.get (fin.insert tree p x) q ≡ fin.get tree q))
-          → number (fin.get (fin.insert tree p x) q) ≡ number (fin.get tree q)
-      same q (inl w) = ap number w.1 ∙ ap Some slot ∙ sym (ap number (ap (fin.get tree) w.0 ∙ here))
-      same q (inr w) = ap number w.1
-
   -- a group is made, and its row keeps its path
   pub kept_made : (x : Attr) → fin.get tree p ≡ None → (new : Groups) → new ≡ fin.insert tree p x → (long : List (Option Path))
       → ((k : ℕ) → get_or long k None ≡ get_or kept k None) → x.slot < length long → KeepsPaths new (set long x.slot (Some p))

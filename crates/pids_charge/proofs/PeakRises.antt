@@ -15,12 +15,11 @@ use Rattle.flat_model.proofs.Peaks.{named, peak_upward, length-peaks_upward}
 use Rattle.flat_model.proofs.Booleans.{both_by}
 use Rattle.group_tree.specs.Flat.{group_of}
 use Rattle.group_tree.specs.Groups.{Groups, slot_of}
-use Rattle.group_tree.specs.PeaksAlong.{peaked_by}
 use Rattle.group_tree.specs.declared.attr.Attr.{Attr}
 use Rattle.snzi_tokens.specs.Listed.{over_leaves}
 use Rattle.pids_charge.specs.Content.{Content}
 use Rattle.pids_charge.specs.Lists.{Row}
-use Rattle.pids_charge.specs.Peaks.{peak_of, reached_of, raised_by, AreUpward}
+use Rattle.pids_charge.specs.Peaks.{peak_of, reached_of, raised_by, AreUpward, peaked_by}
 use Rattle.pids_charge.specs.Recount.{Recounted, HasSlots, SameSlots, state_of}
 use Rattle.pids_charge.proofs.Changes.{charges_stay}
 use Rattle.pids_charge.proofs.PathCharges.{current-is}

@@ -10,10 +10,9 @@ use Rattle.std.specs.List.{All, list_any}
 use Rattle.std.specs.Ordering.{nat_cmp}
 use Rattle.std.specs.Map.{values_of}
 use Rattle.std.specs.FinMap as fin
-use Rattle.std.specs.Prelude.{slice_index}
 use Rattle.std.specs.FinMap.Entries.{find}
 use Rattle.std.proofs.Math.Seq.{take-length}
-use Rattle.flat_model.specs.Path.{Path, parent, path_cmp, is_root, at_or_below, strictly_below, same_path}
+use Rattle.flat_model.specs.Path.{Path, path_cmp, is_root, at_or_below, strictly_below, same_path}
 use Rattle.flat_model.specs.State.{State}
 use Rattle.flat_model.specs.Counts.{is_group, descendant_count, populated}
 use Rattle.flat_model.specs.Command.{RemoveGroup, RootFixed, NoGroup, HasChildren, HasProcesses}
@@ -30,8 +29,7 @@ use Rattle.group_tree.specs.declared.fault.TreeFault.TheVariants as tree
 use Rattle.pids_charge.specs.Content.{Content}
 use Rattle.pids_charge.specs.Lists.{Row}
 use Rattle.pids_charge.specs.Lists.{slot_at}
-use Rattle.pids_charge.specs.Recount.{HasParents, HasSlots, Recounted, IsPlaced, state_of}
-use Rattle.pids_charge.proofs.TableSlots.{table_slot_same}
+use Rattle.pids_charge.specs.Recount.{HasSlots, Recounted, IsPlaced, state_of}
 use Rattle.process_table.specs.declared.process.Process.{Process}
 use Rattle.pids_charge.proofs.FlatGroups.{nonroot, refuse_none, is_there, group-is}
 use Rattle.pids_charge.proofs.MeterContents.{all_both, regrouped}
@@ -202,13 +200,6 @@ module _ (slots : ℕ) (tree : Groups) (free : List ℕ) (h : HasSlots slots tre
     whole = omega (arith, h.whole, smaller, length-append free (x.slot ∷ []));
   }
 
-  -- the other groups keep their parents
-  pub parents_left : IsClosed left → (parents : List ℕ) → HasParents slots tree parents → HasParents slots left parents
-  parents_left closed parents h = record {
-    many = h.many;
-    each = λ q up i. ap (slice_index parents) (slot q i) ∙ h.each q up (was q i) ∙ table_slot_same tree left (parent q) (sym (slot (parent q) (closed.parents q i)));
-  }
-
   -- there is room for it in the table
   pub room : IsClosed left → length free < slots
   room closed = omega (arith, h.whole, smaller, some_len left [] closed.root)
@@ -239,9 +230,9 @@ module _ {A : Type 0} (s : State) (tree : Groups) (es : List (Row A)) (v : state
   pub is_group_there : MayGo s p → IsSome (fin.get tree p)
   is_group_there may = is_there (fin.get tree p) (sym (ap not (group-is s tree es v p)) ∙ may.there)
 
-  -- a group as the tree found it or not, and how many groups are below it
-  pub group-here : (x : Attr) → Some x ≡ fin.get tree p → is_group s p ≡ true
-  group-here x found = group-is s tree es v p ∙ ap is_some (sym found)
+  -- whether a group is there, and how many groups are below it
+  pub group_here_by : IsSome (fin.get tree p) → is_group s p ≡ true
+  group_here_by there = group-is s tree es v p ∙ there
 
   pub group-gone : None ≡ fin.get tree p → is_group s p ≡ false
   group-gone none = group-is s tree es v p ∙ ap is_some (sym none)

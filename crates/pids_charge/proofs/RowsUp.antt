@@ -4,18 +4,16 @@ use Rattle.std.proofs.lemmas.Bool.{false≢true, cases_lt}
 use Rattle.std.proofs.lemmas.Bool.Decides.{nat_tests}
 use Rattle.std.proofs.lemmas.List.{length-take-le, get_or-drop}
 use Rattle.std.specs.FinMap as fin
-use Rattle.flat_model.specs.Path.{Path, is_root, at_or_below, same_path}
+use Rattle.flat_model.specs.Path.{Path, is_root, at_or_below, parent, same_path}
 use Rattle.flat_model.specs.Step.{counts_for}
 use Rattle.flat_model.proofs.Booleans.{both_by}
 use Rattle.flat_model.proofs.PathLaws.{at_or_below_take, at_or_below_length, at_or_below_either, at_or_below_itself, at_or_below_through, same_path_is, same_path_itself, take_above}
 use Rattle.flat_model.proofs.Peaks.{named}
 use Rattle.group_tree.specs.Groups.{Groups, slot_of}
-use Rattle.group_tree.specs.PeaksAlong.{peaked_by}
-use Rattle.group_tree.specs.Refusals.{counted_by}
 use Rattle.group_tree.specs.declared.attr.Attr.{Attr}
-use Rattle.std.specs.Prelude.{slice_index}
+use Rattle.pids_charge.specs.Events.{counted_by}
 use Rattle.pids_charge.specs.Lists.{table_slot}
-use Rattle.pids_charge.specs.Recount.{HasParents, SlotsBelow}
+use Rattle.pids_charge.specs.Peaks.{peaked_by}
 use Rattle.pids_charge.proofs.Changes.{which}
 use Rattle.pids_charge.proofs.TableSlots.{table_slot_same}
 use Rattle.pids_charge.proofs.ParentSteps.{own_slot, step_by}
@@ -136,26 +134,25 @@ module _ (p : Path) (f : ℕ → Attr → Attr) where
 -- ---- a step of such a walk
 
 -- the walk is at the n-th group from p upward, whose processes are in slot `at` of their table
-pub record IsStepAt (slots : ℕ) (old now : Groups) (parents : List ℕ) (p : Path) (n at : ℕ) : Type 0 where
+pub record IsStepAt (old now : Groups) (p : Path) (n at : ℕ) : Type 0 where
   pub there : IsSome (fin.get now (take (length p - n) p))
   pub here : at ≡ table_slot now (take (length p - n) p)
   pub positive : 1 ≤ at
-  pub below : at - 1 < slots
-  pub next : slice_index parents (at - 1) ≡ table_slot old (take (length p - (n + 1)) p)
+  pub next : (up : ℕ) → ((q : Path) → IsSome (fin.get now q) → at ≡ table_slot now q → up ≡ table_slot now (parent q)) → up ≡ table_slot old (take (length p - (n + 1)) p)
 
-pub step_at : (slots : ℕ) (old : Groups) (parents : List ℕ) → HasParents slots old parents → SlotsBelow slots old → (p : Path) → IsSome (fin.get old p)
+pub step_at : (old : Groups) (p : Path) → IsSome (fin.get old p)
     → ((p q : Path) → IsSome (fin.get old p) → at_or_below p q ≡ true → IsSome (fin.get old q))
     → (f : ℕ → Attr → Attr) → ((k : ℕ) (a : Attr) → (f k a).slot ≡ a.slot) → (n : ℕ) → n < length p → (now : Groups) → ((q : Path) → fin.get now q ≡ option_map (up_by p f n q) (fin.get old q))
-    → (at : ℕ) → at ≡ table_slot old (take (length p - n) p) → IsStepAt slots old now parents p n at
-step_at slots old parents has low p home prefixes f keeps n l now h at e =
+    → (at : ℕ) → at ≡ table_slot old (take (length p - n) p) → IsStepAt old now p n at
+step_at old p home prefixes f keeps n l now h at e =
     let own : Path = take (length p - n) p in
-    let up = step_by slots old parents has low p home prefixes at (length p - n) (length p - (n + 1)) (omega arith) e (omega (arith, l)) in
+    let up = step_by old p home prefixes at (length p - n) (length p - (n + 1)) (omega arith) e (omega (arith, l)) in
+    let same = table_slots_kept p f keeps n old now h in
     record {
       there = still_there p f keeps n old now h own (prefixes p own home (take_above (length p - n) p));
-      here = e ∙ sym (table_slots_kept p f keeps n old now h own);
+      here = e ∙ sym (same own);
       positive = omega (arith, e, own_slot old own (omega (arith, l, length-take-le (length p - n) p (omega arith))));
-      below = up.below;
-      next = up.next;
+      next = λ above says. up.next above (λ q i is. says q (still_there p f keeps n old now h q i) (is ∙ sym (same q)) ∙ same (parent q));
     }
 
 -- ---- peaks

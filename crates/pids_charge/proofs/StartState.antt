@@ -26,7 +26,7 @@ get-root : {X : Type 0} (a : X) (p : Path) → fin.get (fin.insert (fin.empty {R
 get-root {X} a p = fin.get-insert path_cmp-IsTotalOrder fin.empty [] a p ∙ ap (cond (eq_by_cmp path_cmp p []) (Some a)) (fin.get-empty {X = X} path_cmp p)
 
 -- there is no group but the root
-alone : (a : Attr) (p : Path) → IsSome (fin.get (only_root a) p) → p ≡ []
+pub alone : (a : Attr) (p : Path) → IsSome (fin.get (only_root a) p) → p ≡ []
 alone a p i =
     elim (eq_by_cmp path_cmp p []) as (λ b. eq_by_cmp path_cmp p [] ≡ b → fin.get (only_root a) p ≡ cond b (Some a) None → p ≡ []) [
       | true ↦ λ t e. key_of path_cmp-IsAntisymmetric p [] t
@@ -63,10 +63,10 @@ module _ {A : Type 0} (a : Attr) (tree : Groups) (is : tree ≡ only_root a) (x 
       ∙ ap (λ (o : Option Attr). cond (is_some o) (fin.len (fin.empty {X = Attr} {R = path_cmp}))
       (fin.len (fin.empty {X = Attr} {R = path_cmp}) + 1)) (fin.get-empty path_cmp []) ∙ ap (λ n. n + 1) (fin.len-empty path_cmp Attr)
 
-  pub started : (slots leaves capacity : ℕ) (free parents : List ℕ) (content : Content) (held : ℕ)
-      → IsClosed tree → length parents ≡ slots → AreAllFree slots free → slots < 2 ^ 16 → slots ≤ capacity → IsEmpty content held → x.slot ≡ 0 → x.leaf ≡ 0 → 1 ≤ leaves
-      → IsWhole slots leaves tree parents ((1, x) ∷ []) free capacity content held
-  started slots leaves capacity free parents content held closed many h few room empty slot leaf some = record {
+  pub started : (slots leaves capacity : ℕ) (free : List ℕ) (content : Content) (held : ℕ)
+      → IsClosed tree → AreAllFree slots free → slots < 2 ^ 16 → slots ≤ capacity → IsEmpty content held → x.slot ≡ 0 → x.leaf ≡ 0 → 1 ≤ leaves
+      → IsWhole slots leaves tree ((1, x) ∷ []) free capacity content held
+  started slots leaves capacity free content held closed h few room empty slot leaf some = record {
     has_slots = record {
       few = few;
       closed = closed;
@@ -78,7 +78,6 @@ module _ {A : Type 0} (a : Attr) (tree : Groups) (is : tree ≡ only_root a) (x 
       unused = λ p pos i. absurd (omega (arith, pos, ap length (lone p i)));
       whole = omega (arith, one_group, h.many);
     };
-    has_parents = record { many = many; each = λ p pos i. absurd (omega (arith, pos, ap length (lone p i))) };
     room = room;
     recounted = record {
       ordered = to_ascending ((1, x) ∷ []) tt;

@@ -1,8 +1,8 @@
 -- Forks that limits refuse: which group refuses, and which event totals count it.
-use Rattle.std.specs.Prelude.{ℕ, zero, suc, min, ◌+◌, ◌-◌, ◌^◌, ◌<◌, ◌≡◌, Bool, true, false, cond, Option, Some, None, take, IsSome}
+use Rattle.std.specs.Prelude.{ℕ, zero, suc, min, ◌+◌, ◌-◌, ◌^◌, ◌<◌, ◌≡◌, Bool, true, false, cond, Option, Some, None, take, option_map, IsSome}
 use Rattle.std.specs.FinMap as fin
 use Rattle.std.specs.Ordering.{nat_cmp}
-use Rattle.flat_model.specs.Path.{Path}
+use Rattle.flat_model.specs.Path.{Path, same_path}
 use Rattle.flat_model.specs.Mapped.{map_values}
 use Rattle.flat_model.specs.State as flat
 use Rattle.flat_model.specs.State.{State}
@@ -30,6 +30,17 @@ longest test p (suc n) = cond (test (take (suc n) p)) (Some (suc n)) (longest te
 abbrev pub stepped : Change → ℕ → ℕ
 stepped Raise n = min (n + 1) (2 ^ 64 - 1)
 stepped Lower n = n - 1
+
+-- the attributes of q, with g applied to each event total that counts forks refused by a
+abbrev pub counted_by : (ℕ → ℕ) → Path → Path → Attr → Attr
+counted_by g a q attr = record attr {
+  local = cond (same_path q a) (g attr.local) attr.local;
+  total = cond (counts_for a q) (g attr.total) attr.total;
+}
+
+-- each group has its totals changed so, and no group is added or removed
+abbrev pub CountsRefusals : (ℕ → ℕ) → Groups → Groups → Path → Type 0
+CountsRefusals g old new a = (q : Path) → fin.get new q ≡ option_map (counted_by g a q) (fin.get old q)
 
 -- the flat state of these groups and homes
 abbrev pub flat_of : Groups → fin.FinMap nat_cmp Path → State

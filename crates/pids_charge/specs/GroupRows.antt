@@ -1,12 +1,22 @@
 -- The rows of groups: their attributes and paths, by the numbers that the tree has in place of slots.
-use Rattle.std.specs.Prelude.{ℕ, ◌<◌, ◌≡◌, List, length, get_or, Option, Some, None, IsSome, option_map}
+use Rattle.std.specs.Prelude.{ℕ, zero, suc, min, ◌+◌, ◌-◌, ◌^◌, ◌<◌, ◌≤◌, ◌≡◌, List, length, get_or, slice_set, Option, Some, None, IsSome, map, option_map}
 use Rattle.std.specs.FinMap as fin
-use Rattle.flat_model.specs.Path.{Path}
+use Rattle.flat_model.specs.Path.{Path, parent}
 use Rattle.flat_model.specs.Mapped.{map_values}
-use Rattle.group_tree.specs.Flat.{limits_of}
-use Rattle.group_tree.specs.Groups.{Groups, IsClosed}
+use Rattle.group_tree.specs.Groups.{Groups, IsClosed, descendant_count}
 use Rattle.group_tree.specs.declared.attr.Attr.{Attr}
 use Rattle.pids_charge.specs.Lists.{table_slot}
+use Rattle.pids_charge.specs.declared.group.Group.{Group}
+
+-- what the rows say: attributes, how many groups are below, and the rows of parents
+abbrev pub attrs_of : List Group → List Attr
+attrs_of rows = map (λ r. r.attr) rows
+
+abbrev pub belows_of : List Group → List ℕ
+belows_of rows = map (λ r. r.below) rows
+
+abbrev pub ups_of : List Group → List ℕ
+ups_of rows = map (λ r. r.up) rows
 
 -- the attributes in the row of a group of the tree
 abbrev pub in_row : List Attr → Attr → Attr
@@ -16,12 +26,10 @@ in_row rows a = get_or rows a.slot a
 abbrev pub with_rows : Groups → List Attr → Groups
 with_rows tree rows = map_values (in_row rows) tree
 
--- the group at p, which the tree has with a, has a row: its number is the slot of the group's processes in their table, and
--- the tree has the same limits
+-- the group at p, which the tree has with a, has a row: its number is the slot of the group's processes in their table
 pub record IsInRow (tree : Groups) (rows : List Attr) (p : Path) (a : Attr) : Type 0 where
   pub inside : a.slot < length rows
   pub number : a.slot ≡ table_slot (with_rows tree rows) p
-  pub limits : limits_of (in_row rows a).limits ≡ limits_of a.limits
 
 -- each group has a row, and no two groups have the same
 pub record HasRows (tree : Groups) (rows : List Attr) : Type 0 where
@@ -29,14 +37,49 @@ pub record HasRows (tree : Groups) (rows : List Attr) : Type 0 where
   pub each : (p : Path) (a : Attr) → fin.get tree p ≡ Some a → IsInRow tree rows p a
   pub apart : (p q : Path) (a b : Attr) → fin.get tree p ≡ Some a → fin.get tree q ≡ Some b → a.slot ≡ b.slot → p ≡ q
 
+-- the row of each group says which row its parent has
+abbrev pub HasParents : Groups → List ℕ → Type 0
+HasParents groups ups = (p : Path) → IsSome (fin.get groups p) → get_or ups (table_slot groups p) 0 ≡ table_slot groups (parent p)
+
+-- the row of each group says how many groups are strictly below it
+abbrev pub HasCounts : Groups → List ℕ → Type 0
+HasCounts groups belows = (p : Path) → IsSome (fin.get groups p) → get_or belows (table_slot groups p) 0 ≡ descendant_count groups p
+
 -- a row that keeps a path is the row of that path in the tree
 abbrev pub KeepsPaths : Groups → List (Option Path) → Type 0
 KeepsPaths tree kept = (row : ℕ) (p : Path) → get_or kept row None ≡ Some p → option_map (λ a. a.slot) (fin.get tree p) ≡ Some row
 
 -- groups, rows and kept paths agree
-pub record HasTable (tree : Groups) (rows : List Attr) (kept : List (Option Path)) : Type 0 where
-  pub has_rows : HasRows tree rows
+pub record HasTable (tree : Groups) (rows : List Group) (kept : List (Option Path)) : Type 0 where
+  pub has_rows : HasRows tree (attrs_of rows)
+  pub has_parents : HasParents (with_rows tree (attrs_of rows)) (ups_of rows)
+  pub has_counts : HasCounts (with_rows tree (attrs_of rows)) (belows_of rows)
   pub keeps_paths : KeepsPaths tree kept
+
+-- ---- a walk up
+
+-- n steps lead from a row up to the root's
+abbrev pub HasWay : List ℕ → ℕ → ℕ → Type 0
+HasWay ups row zero = (row ≡ 0) × (row < length ups)
+HasWay ups row (suc n) = (0 < row) × (row < length ups) × HasWay ups (get_or ups row 0) n
+
+-- no more steps than a path has names
+pub record IsWay (ups : List ℕ) (row : ℕ) : Type 0 where
+  pub steps : ℕ
+  pub few : steps ≤ 32
+  pub way : HasWay ups row steps
+
+-- the counts in the rows on such a way, changed by g
+abbrev pub stepped_up : (ℕ → ℕ) → List ℕ → ℕ → ℕ → List ℕ → List ℕ
+stepped_up g ups row zero belows = slice_set belows row (g (get_or belows row 0))
+stepped_up g ups row (suc n) belows = stepped_up g ups (get_or ups row 0) n (slice_set belows row (g (get_or belows row 0)))
+
+-- a count after one group was made or removed below
+abbrev pub raised : ℕ → ℕ
+raised n = min (n + 1) (2 ^ 32 - 1)
+
+abbrev pub lowered : ℕ → ℕ
+lowered n = n - 1
 
 -- some group's processes are in this slot of their table
 pub record IsOfGroup (groups : Groups) (at : ℕ) : Type 0 where

@@ -5,6 +5,7 @@ pub mod Lists
 pub mod GroupRows
 pub mod Recount
 pub mod Events
+pub mod HierarchyLimits
 pub mod PeakStorage
 pub mod Peaks
 pub mod Answers

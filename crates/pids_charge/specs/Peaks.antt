@@ -1,5 +1,5 @@
--- The peaks of groups along a path, as they are and as they rise.
-use Rattle.std.specs.Prelude.{ℕ, ◌-◌, ◌<◌, ◌≡◌, max, cond, List, length, get_or, take, Option, Some, None}
+-- The peaks of groups along a path, as they are, as they rise and as they are set.
+use Rattle.std.specs.Prelude.{ℕ, ◌-◌, ◌<◌, ◌≡◌, max, cond, List, length, get_or, take, Option, Some, None, option_map}
 use Rattle.std.specs.FinMap as fin
 use Rattle.flat_model.specs.Path.{Path}
 use Rattle.flat_model.specs.Step.{counts_for}
@@ -21,6 +21,14 @@ reached_of leaves content (Some attr) = max attr.peak (over_leaves leaves (conte
 -- the attributes of q with their peak raised so, if q counts what happens in a
 abbrev pub raised_by : ℕ → Content → Path → Path → Attr → Attr
 raised_by leaves content a q attr = record attr { peak = cond (counts_for a q) (max attr.peak (over_leaves leaves (content attr.slot))) attr.peak }
+
+-- the attributes of q with its peak from the list, which has the peaks of the groups from a upward, without the root
+abbrev pub peaked_by : Path → List ℕ → Path → Attr → Attr
+peaked_by a peaks q attr = record attr { peak = cond (counts_for a q) (get_or peaks (length a - length q) attr.peak) attr.peak }
+
+-- each group has its peak set so, and no group is added or removed
+abbrev pub SetsPeaks : Groups → Groups → Path → List ℕ → Type 0
+SetsPeaks old new a peaks = (q : Path) → fin.get new q ≡ option_map (peaked_by a peaks q) (fin.get old q)
 
 -- f applied to the groups from p upward, without the root
 pub record AreUpward (f : Option Attr → ℕ) (tree : Groups) (p : Path) (ns : List ℕ) : Type 0 where

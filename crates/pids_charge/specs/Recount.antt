@@ -1,11 +1,11 @@
 -- How the charges of a meter follow from the groups and the processes.
-use Rattle.std.specs.Prelude.{ℕ, zero, suc, ◌+◌, ◌^◌, ◌<◌, ◌≤◌, ◌≡◌, eqb, List, length, IsSome, is_some, map, take, count_by, slice_index}
+use Rattle.std.specs.Prelude.{ℕ, zero, suc, ◌+◌, ◌^◌, ◌<◌, ◌≤◌, ◌≡◌, eqb, List, length, IsSome, is_some, map, take, count_by}
 use Rattle.std.specs.Map.{values_of, keys_of}
 use Rattle.std.specs.List.{sum_by, All}
 use Rattle.std.specs.List.Sorted.{IsStrictlySortedBy}
 use Rattle.std.specs.Ordering.{nat_cmp}
 use Rattle.std.specs.FinMap as fin
-use Rattle.flat_model.specs.Path.{Path, parent}
+use Rattle.flat_model.specs.Path.{Path}
 use Rattle.flat_model.specs.CommandText.{IsPid}
 use Rattle.flat_model.specs.State.{State}
 use Rattle.group_tree.specs.Groups.{Groups, IsClosed}
@@ -55,11 +55,6 @@ pub record HasSlots (slots : ℕ) (tree : Groups) (free : List ℕ) : Type 0 whe
   pub unused : (p : Path) → 0 < length p → IsSome (fin.get tree p) → count_by (eqb (slot_at tree p)) free ≡ 0
   pub whole : fin.len tree + length free ≡ slots + 1
 
--- the entry of each group's slot, other than the root's, is the slot of its parent in the table of processes
-pub record HasParents (slots : ℕ) (tree : Groups) (parents : List ℕ) : Type 0 where
-  pub many : length parents ≡ slots
-  pub each : (p : Path) → 0 < length p → IsSome (fin.get tree p) → slice_index parents (slot_at tree p) ≡ table_slot tree (parent p)
-
 -- the same groups with the same slots
 pub record SameSlots (old new : Groups) : Type 0 where
   pub closed : IsClosed new
@@ -89,9 +84,8 @@ module _ {A : Type 0} where
     pub counted : (s j : ℕ) → content s j ≡ sum_by (λ p. charges_of tree p s j) (values_of es)
     pub held_is : held ≡ sum_by (λ p. length p.home) (values_of es)
 
-  -- groups, slots and parents agree, and so do processes and charges
-  pub record IsWhole (slots leaves : ℕ) (tree : Groups) (parents : List ℕ) (es : List (Row A)) (free : List ℕ) (capacity : ℕ) (content : Content) (held : ℕ) : Type 0 where
+  -- groups and slots agree, and so do processes and charges
+  pub record IsWhole (slots leaves : ℕ) (tree : Groups) (es : List (Row A)) (free : List ℕ) (capacity : ℕ) (content : Content) (held : ℕ) : Type 0 where
     pub has_slots : HasSlots slots tree free
-    pub has_parents : HasParents slots tree parents
     pub room : slots ≤ capacity
     pub recounted : Recounted leaves tree es content held

@@ -2,24 +2,19 @@
 
 ghost use Rattle.std.specs.Prelude.{◌≡◌, ◌≤◌, length, take, IsSome};
 ghost use Rattle.std.specs.FinMap as fin;
-ghost use Rattle.group_tree.specs.PeaksAlong.{SetsPeaks};
-ghost use Rattle.group_tree.specs.Refusals.{CountsRefusals};
-ghost use Rattle.pids_charge.specs.Events.{stepped};
+ghost use Rattle.pids_charge.specs.Events.{CountsRefusals, stepped};
 ghost use Rattle.pids_charge.specs.Lists.{table_slot};
-ghost use Rattle.pids_charge.specs.Recount.{HasParents, SlotsBelow};
+ghost use Rattle.pids_charge.specs.Peaks.{SetsPeaks};
 
 use crate::groups::GroupTable;
-use crate::meter::Meter;
-use crate::parents::Parents;
 use group_path::GroupPath;
 use group_tree::Attr;
 use std::alloc::Allocator;
 
 // Sets the peaks of the group at the first names of the path, as many as there are peaks, and of those above it without the
 // root, from that group upward. `slot` is where its processes are in their table.
-pub(crate) fn set_peaks_up<M: Meter, T: Allocator + Clone, A: Allocator + Clone>(
+pub(crate) fn set_peaks_up<T: Allocator + Clone, A: Allocator + Clone>(
     tree: &mut GroupTable<T>,
-    parents: &Parents<T>,
     path: &GroupPath<A>,
     slot: u16,
     peaks: &[u64],
@@ -27,17 +22,16 @@ pub(crate) fn set_peaks_up<M: Meter, T: Allocator + Clone, A: Allocator + Clone>
     requires at { length peaks.now ≤ length path.now }
     requires group { IsSome (fin.get tree.old (take (length peaks.now) path.now)) }
     requires slot { slot ≡ table_slot tree.old (take (length peaks.now) path.now) }
-    requires slots { SlotsBelow M.SLOTS tree.old }
-    requires parents { HasParents M.SLOTS tree.old parents.now }
     ensures { SetsPeaks tree.old tree.new (take (length peaks.now) path.now) peaks.now }
 {
     tree.known();
     let mut at = slot;
     for i in 0..peaks.len() {
         let attr = *tree.row(at);
+        let above = tree.up(at);
         let peak = peaks[i];
         tree.put(at, Attr { peak, ..attr });
-        at = parents.up(at - 1);
+        at = above;
     }
 }
 
@@ -62,9 +56,8 @@ impl Change {
 
 // Changes the local total of the group at the first `n` names of the path, and the totals of it and of the groups above it
 // other than the root. `slot` is where its processes are in their table.
-pub(crate) fn change_totals<M: Meter, T: Allocator + Clone, A: Allocator + Clone>(
+pub(crate) fn change_totals<T: Allocator + Clone, A: Allocator + Clone>(
     tree: &mut GroupTable<T>,
-    parents: &Parents<T>,
     path: &GroupPath<A>,
     n: usize,
     slot: u16,
@@ -73,17 +66,16 @@ pub(crate) fn change_totals<M: Meter, T: Allocator + Clone, A: Allocator + Clone
     requires at { n ≤ length path.now }
     requires group { IsSome (fin.get tree.old (take n path.now)) }
     requires slot { slot ≡ table_slot tree.old (take n path.now) }
-    requires slots { SlotsBelow M.SLOTS tree.old }
-    requires parents { HasParents M.SLOTS tree.old parents.now }
     ensures { CountsRefusals (stepped change) tree.old tree.new (take n path.now) }
 {
     tree.known();
     let mut at = slot;
     for _up in 0..n {
         let attr = *tree.row(at);
+        let above = tree.up(at);
         let total = change.of(attr.total);
         tree.put(at, Attr { total, ..attr });
-        at = parents.up(at - 1);
+        at = above;
     }
     let own = *tree.row(slot);
     let local = change.of(own.local);
@@ -92,9 +84,8 @@ pub(crate) fn change_totals<M: Meter, T: Allocator + Clone, A: Allocator + Clone
 
 // Where the processes of the group at the first `n` names of a path are in their table. `slot` is where those of the path's
 // group are.
-pub(crate) fn slot_up<M: Meter, T: Allocator + Clone, A: Allocator + Clone>(
+pub(crate) fn slot_up<T: Allocator + Clone, A: Allocator + Clone>(
     tree: &GroupTable<T>,
-    parents: &Parents<T>,
     path: &GroupPath<A>,
     n: usize,
     slot: u16,
@@ -102,14 +93,12 @@ pub(crate) fn slot_up<M: Meter, T: Allocator + Clone, A: Allocator + Clone>(
     requires at { n ≤ length path.now }
     requires home { IsSome (fin.get tree.now path.now) }
     requires slot { slot ≡ table_slot tree.now path.now }
-    requires slots { SlotsBelow M.SLOTS tree.now }
-    requires parents { HasParents M.SLOTS tree.now parents.now }
     ensures { result ≡ table_slot tree.now (take n path.now) }
 {
     tree.known();
     let mut at = slot;
     for _up in n..path.depth() {
-        at = parents.up(at - 1);
+        at = tree.up(at);
     }
     at
 }

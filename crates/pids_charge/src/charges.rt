@@ -8,7 +8,6 @@ ghost use Rattle.pids_charge.specs.Recount.{AreAllFree};
 
 use crate::groups::GroupTable;
 use crate::meter::Meter;
-use crate::parents::Parents;
 use crate::pid::Pid;
 use crate::rows::put_row;
 use group_path::GroupPath;
@@ -22,7 +21,6 @@ use std::marker::Model;
 #[derive(Drop)]
 pub struct Charges<A: Allocator + Clone, M: Meter> {
     pub(crate) tree: GroupTable<A>,
-    pub(crate) parents: Parents<A>,
     pub(crate) processes: ProcessTable<A>,
     pub(crate) free: Vec<u16, A>,
     pub(crate) meter: M,
@@ -42,7 +40,7 @@ impl<A: Allocator + Clone, M: Meter> Model for Charges<A, M> {
 
     ghost view = { λ c. state_of c.tree c.processes };
 
-    ghost invariant = { λ c. IsWhole M.SLOTS M.LEAVES c.tree c.parents c.processes c.free.items (vec_capacity c.free) (M.content c.meter) (M.held c.meter) };
+    ghost invariant = { λ c. IsWhole M.SLOTS M.LEAVES c.tree c.processes c.free.items (vec_capacity c.free) (M.content c.meter) (M.held c.meter) };
 }
 
 /// All slots, the lowest last, in a table with room for exactly these. The last is used first, so low slots are used
@@ -60,7 +58,7 @@ fn all_slots<A: Allocator>(alloc: A, slots: u16) -> Result<Vec<u16, A>, AllocErr
 
 impl<A: Allocator + Clone, M: Meter + Drop> Charges<A, M> {
     /// The root with process 1 in it, over an empty meter. All slots are free. It allocates the root, the table of
-    /// processes, and tables of free slots, of parents and of hints.
+    /// processes, and tables of free slots and of hints.
     ///
     /// # Errors
     ///
@@ -72,7 +70,6 @@ impl<A: Allocator + Clone, M: Meter + Drop> Charges<A, M> {
         let home = GroupPath::root(alloc.clone()?)?;
         let tree = GroupTable::new(alloc.clone()?, Attr::new(0))?;
         tree.known();
-        let parents = Parents::new(alloc.clone()?, M::SLOTS)?;
         let mut processes = ProcessTable::new(alloc.clone()?)?;
         let first = Process {
             home,
@@ -83,7 +80,6 @@ impl<A: Allocator + Clone, M: Meter + Drop> Charges<A, M> {
         let free = all_slots(alloc.clone()?, M::SLOTS)?;
         Ok(Charges {
             tree,
-            parents,
             processes,
             free,
             meter,

@@ -9,12 +9,11 @@ ghost use Rattle.std.specs.FinMap as fin;
 ghost use Rattle.std.specs.Vec.{vec_capacity};
 ghost use Rattle.process_table.specs.Chosen.{HaveOneHome};
 ghost use Rattle.pids_charge.specs.Lists.{at_leaf_below, row_below, table_slot};
-ghost use Rattle.pids_charge.specs.Recount.{charges_at, HasParents, SlotsBelow};
+ghost use Rattle.pids_charge.specs.Recount.{charges_at, SlotsBelow};
 
 use crate::charges::Charges;
 use crate::groups::GroupTable;
 use crate::meter::{HELD_MAX, Meter};
-use crate::parents::Parents;
 use crate::plain::PlainMeter;
 use crate::rows::home_in;
 use crate::walk::charge_up;
@@ -39,7 +38,6 @@ fn copy_slots<A: Allocator, B: Allocator>(
 // Inserts one process into a table, charged along its path at its leaf modulo the leaves of the meter.
 fn copy_one<T: Allocator + Clone, M: Meter, A: Allocator + Clone, B: Allocator + Clone>(
     tree: &GroupTable<T>,
-    parents: &Parents<T>,
     table: &mut ProcessTable<B>,
     meter: &mut M,
     alloc: B,
@@ -49,7 +47,6 @@ fn copy_one<T: Allocator + Clone, M: Meter, A: Allocator + Clone, B: Allocator +
     requires home { IsSome (fin.get tree.now process.now.home) }
     requires slot { process.now.slot ≡ table_slot tree.now process.now.home }
     requires slots { SlotsBelow M.SLOTS tree.now }
-    requires parents { HasParents M.SLOTS tree.now parents.now }
     requires room { M.held meter.old + length process.now.home ≤ HELD_MAX }
     ensures put { OnOk result (table.new ≡ insert_entry nat_cmp table.old pid (at_leaf_below M.LEAVES process.now)) }
     ensures content { OnOk result ((s j : ℕ) → M.content meter.new s j ≡ M.content meter.old s j + charges_at tree.now process.now.home (process.now.leaf % M.LEAVES) s j) }
@@ -58,7 +55,7 @@ fn copy_one<T: Allocator + Clone, M: Meter, A: Allocator + Clone, B: Allocator +
     let leaf = process.leaf % M::LEAVES;
     let slot = process.slot;
     let home = home_in(table, &alloc, &process.home, slot)?;
-    charge_up(tree, parents, meter, &process.home, slot, leaf);
+    charge_up(tree, meter, &process.home, slot, leaf);
     let _ = table.insert(pid, Process { home, slot, leaf })?;
     Ok(())
 }
@@ -66,7 +63,6 @@ fn copy_one<T: Allocator + Clone, M: Meter, A: Allocator + Clone, B: Allocator +
 // Inserts all processes into a table, each charged so.
 fn copy_each<T: Allocator + Clone, M: Meter, A: Allocator + Clone, B: Allocator + Clone>(
     tree: &GroupTable<T>,
-    parents: &Parents<T>,
     processes: &ProcessTable<A>,
     meter: &mut M,
     alloc: B,
@@ -74,7 +70,6 @@ fn copy_each<T: Allocator + Clone, M: Meter, A: Allocator + Clone, B: Allocator 
     requires one { HaveOneHome (λ q. lookup (is_at (nat_cmp q)) processes.now) }
     requires homes { All (λ p. IsSome (fin.get tree.now p.home) × (p.slot ≡ table_slot tree.now p.home)) (values_of processes.now) }
     requires slots { SlotsBelow M.SLOTS tree.now }
-    requires parents { HasParents M.SLOTS tree.now parents.now }
     requires room { M.held meter.old + sum_by (λ p. length p.home) (values_of processes.now) ≤ HELD_MAX }
     ensures rows { IfOk result (λ table. table ≡ map (row_below M.LEAVES) processes.now) }
     ensures content { IfOk result (λ table. (s j : ℕ) → M.content meter.new s j ≡ M.content meter.old s j + sum_by (λ p. charges_at tree.now p.home (p.leaf % M.LEAVES) s j) (values_of processes.now)) }
@@ -88,15 +83,7 @@ fn copy_each<T: Allocator + Clone, M: Meter, A: Allocator + Clone, B: Allocator 
         let Some(process) = processes.get(*pid) else {
             unreachable!()
         };
-        copy_one(
-            tree,
-            parents,
-            &mut table,
-            meter,
-            alloc.clone()?,
-            *pid,
-            process,
-        )?;
+        copy_one(tree, &mut table, meter, alloc.clone()?, *pid, process)?;
     }
     Ok(table)
 }
@@ -117,13 +104,11 @@ impl<A: Allocator + Clone, M: Meter> Charges<A, M> {
         ensures { IfOk result (λ c. c ≡ self.now) }
     {
         let tree = self.tree.copy(alloc.clone()?)?;
-        let parents = self.parents.copy(alloc.clone()?)?;
         let free = copy_slots(&self.free, alloc.clone()?, M::SLOTS)?;
         let mut meter = PlainMeter::new(alloc.clone()?)?;
-        let processes = copy_each(&tree, &parents, &self.processes, &mut meter, alloc.clone()?)?;
+        let processes = copy_each(&tree, &self.processes, &mut meter, alloc.clone()?)?;
         Ok(Charges {
             tree,
-            parents,
             processes,
             free,
             meter,

@@ -48,7 +48,7 @@ impl<A: Allocator + Clone, M: Meter> Charges<A, M> {
             return Err(ChargeFault::NoProcess(pid));
         };
         let stripe = who % M::LEAVES;
-        uncharge_up(&self.tree, &self.parents, &mut self.meter, &process, stripe);
+        uncharge_up(&self.tree, &mut self.meter, &process, stripe);
         Ok(process.home)
     }
 
@@ -71,12 +71,10 @@ impl<A: Allocator + Clone, M: Meter> Charges<A, M> {
     {
         self.tree.known();
         path.known();
-        let slot = slot_in::<M, _, _>(&self.tree, path);
+        let slot = slot_in(&self.tree, path);
         let leaf = who % M::LEAVES;
-        let Ok(_) = put_copy(&mut self.processes, &self.alloc, pid, path, slot, leaf) else {
-            return Err(ChargeFault::OutOfMemory);
-        };
-        charge_up(&self.tree, &self.parents, &mut self.meter, path, slot, leaf);
+        let _ = put_copy(&mut self.processes, &self.alloc, pid, path, slot, leaf)?;
+        charge_up(&self.tree, &mut self.meter, path, slot, leaf);
         Ok(())
     }
 }

@@ -1,6 +1,10 @@
 //! Why a call on charges is refused.
 
+ghost use Rattle.std.specs.Prelude.{◌≡◌};
+ghost use Rattle.pids_charge.specs.declared.fault.ChargeFault.TheVariants.{OutOfMemory};
+
 use crate::pid::Pid;
+use std::alloc::AllocError;
 use thiserror::Error;
 
 /// Why a call on charges is refused. A number counts names: the group is that prefix of the given path, or for `PidsMax` of
@@ -46,4 +50,12 @@ pub enum ChargeFault {
     /// The group has no such file.
     #[error("the group has no such file")]
     NoFile,
+}
+
+impl From<AllocError> for ChargeFault {
+    ghost from_gives = { λ _ fault. fault ≡ OutOfMemory };
+
+    fn from(_error: AllocError) -> ChargeFault {
+        ChargeFault::OutOfMemory
+    }
 }

@@ -2,7 +2,6 @@
 
 ghost use Rattle.std.specs.Prelude.{◌≡◌, ◌≢◌, ℕ, ◌<◌, ◌≤◌, true, false, Some, None, Err, IfSome, IfOk, IfErr, OnOk, OnErr, IsSome, is_some, MatchOption, length, take};
 ghost use Rattle.std.specs.BTreeMap.{insert_entry, is_at};
-ghost use Rattle.std.specs.FinMap as fin;
 ghost use Rattle.std.specs.List.Sorted.{IsStrictlySortedBy};
 ghost use Rattle.std.specs.Map.{keys_of, lookup};
 ghost use Rattle.std.specs.Ordering.{nat_cmp};
@@ -12,22 +11,19 @@ ghost use Rattle.flat_model.specs.Path.{Path};
 ghost use Rattle.flat_model.specs.Command.{Fork, OverPidsMax};
 ghost use Rattle.flat_model.specs.Counts.{has_process};
 ghost use Rattle.flat_model.specs.Inverse.{back, Counted};
-ghost use Rattle.flat_model.specs.Step.{refusal, after, after_refusal, home_of, peaks_upward, at_each, count_up, count_down};
-ghost use Rattle.group_tree.specs.Refusals.{HasRoomForRefusals};
+ghost use Rattle.flat_model.specs.Step.{refusal, after, after_refusal, home_of, peaks_upward};
 ghost use Rattle.flat_model.specs.State.{State};
 ghost use Rattle.group_tree.specs.Groups.{Groups};
 ghost use Rattle.pids_charge.specs.Answers.{Does, refusal_of_fault, after_fault, names_in};
-ghost use Rattle.pids_charge.specs.Events.{flat_of, HasRoomForEvents, HasEvents};
-ghost use Rattle.pids_charge.specs.Lists.{process_in, table_slot};
-ghost use Rattle.pids_charge.specs.Recount.{HasParents, SameSlots, SlotsBelow, state_of};
+ghost use Rattle.pids_charge.specs.Events.{HasRoomForEvents, HasEvents};
+ghost use Rattle.pids_charge.specs.Lists.{process_in};
+ghost use Rattle.pids_charge.specs.Recount.{state_of};
 
 use crate::above::{Change, change_totals, slot_up};
 use crate::charges::Charges;
 use crate::fault::ChargeFault;
-use crate::groups::GroupTable;
 use crate::meter::Meter;
 use crate::notes::{nearest_full, note_up};
-use crate::parents::Parents;
 use crate::peaks::{Peaks, charge_noted};
 use crate::pid::Pid;
 use crate::rows::{find_row, has_row, put_beside};
@@ -84,47 +80,6 @@ fn admit<A: Allocator + Clone>(
     Ok(list)
 }
 
-// Counts a fork that the group at the first `n` names of the path refused. `slot` is where the processes of the path's group
-// are in their table.
-fn count_refusal<M: Meter, T: Allocator + Clone, A: Allocator + Clone>(
-    tree: &mut GroupTable<T>,
-    parents: &Parents<T>,
-    path: &GroupPath<A>,
-    n: usize,
-    slot: u16,
-)
-    requires at { n ≤ length path.now }
-    requires home { IsSome (fin.get tree.old path.now) }
-    requires slot { slot ≡ table_slot tree.old path.now }
-    requires slots { SlotsBelow M.SLOTS tree.old }
-    requires parents { HasParents M.SLOTS tree.old parents.now }
-    requires room { HasRoomForRefusals tree.old }
-    ensures counted { (home : fin.FinMap nat_cmp Path) → flat_of tree.new home ≡ at_each (count_up (take n path.now)) (flat_of tree.old home) }
-    ensures slots { SameSlots tree.old tree.new }
-{
-    tree.known();
-    let at = slot_up::<M, _, _>(tree, parents, path, n, slot);
-    change_totals::<M, _, _>(tree, parents, path, n, at, Change::Raise);
-    tree.known();
-}
-
-// Undoes the count of a fork that the group at the path refused. Descends the tree once.
-fn uncount_refusal<M: Meter, T: Allocator + Clone, A: Allocator + Clone>(
-    tree: &mut GroupTable<T>,
-    parents: &Parents<T>,
-    path: &GroupPath<A>,
-)
-    requires group { IsSome (fin.get tree.old path.now) }
-    requires slots { SlotsBelow M.SLOTS tree.old }
-    requires parents { HasParents M.SLOTS tree.old parents.now }
-    ensures counted { (home : fin.FinMap nat_cmp Path) → flat_of tree.new home ≡ at_each (count_down path.now) (flat_of tree.old home) }
-    ensures slots { SameSlots tree.old tree.new }
-{
-    let at = slot_in::<M, _, _>(tree, path);
-    change_totals::<M, _, _>(tree, parents, path, path.depth(), at, Change::Lower);
-    tree.known();
-}
-
 impl<A: Allocator + Clone, M: Meter> Charges<A, M> {
     /// The refusal that `fork` would return, apart from memory: `NoProcess` of the parent, `PidInUse` of the child, or
     /// `PidsMax`. Counts nothing and changes nothing. Costs a step for each group
@@ -142,13 +97,7 @@ impl<A: Allocator + Clone, M: Meter> Charges<A, M> {
             Err(fault) => return Some(fault),
         };
         self.tree.known();
-        if let Some(n) = nearest_full(
-            &self.tree,
-            &self.parents,
-            &mut self.meter,
-            &process.home,
-            process.slot,
-        ) {
+        if let Some(n) = nearest_full(&self.tree, &mut self.meter, &process.home, process.slot) {
             return Some(ChargeFault::PidsMax(n));
         }
         None
@@ -191,33 +140,24 @@ impl<A: Allocator + Clone, M: Meter> Charges<A, M> {
             unreachable!()
         };
         let slot = from.slot;
-        if let Some(n) = nearest_full(
-            &self.tree,
-            &self.parents,
-            &mut self.meter,
-            &from.home,
-            slot,
-        ) {
+        if let Some(n) = nearest_full(&self.tree, &mut self.meter, &from.home, slot) {
             return Err(ChargeFault::PidsMax(n));
         }
-        let notes = note_up::<M, _, _>(&self.tree, &self.parents, &from.home, slot);
+        let notes = note_up(&self.tree, &from.home, slot);
         let leaf = who % M::LEAVES;
-        let Ok(peaks) = admit(
+        let peaks = admit(
             &mut self.processes,
             &self.alloc,
             parent,
             child,
             leaf,
             notes.peaks(),
-        ) else {
-            return Err(ChargeFault::OutOfMemory);
-        };
+        )?;
         let Some(process) = find_row(&self.processes, child) else {
             unreachable!()
         };
         charge_noted(
             &mut self.tree,
-            &self.parents,
             &mut self.meter,
             &process.home,
             slot,
@@ -225,31 +165,6 @@ impl<A: Allocator + Clone, M: Meter> Charges<A, M> {
             &notes,
         );
         Ok(peaks)
-    }
-
-    /// Makes a process that `fork` would not refuse, in the group of its parent, charged at the leaf of `who`. Raises the
-    /// peaks of that group and of those above it other than the root. Returns their old peaks, from the group upward. Costs
-    /// some steps for each of these groups, and no descent of the tree.
-    ///
-    /// # Errors
-    ///
-    /// `OutOfMemory`; nothing has changed then.
-    pub fn make_process(
-        &mut self,
-        who: u8,
-        parent: Pid,
-        child: Pid,
-    ) -> Result<Peaks<A>, ChargeFault>
-        requires { refusal M.SLOTS self.old (Fork parent child) ≡ None }
-        ensures made { OnOk result (self.new ≡ after self.old (Fork parent child)) }
-        ensures peaks { IfOk result (λ peaks. peaks ≡ peaks_upward self.old (home_of self.old parent)) }
-        ensures memory { IfErr result (λ f. f ≡ ChargeFault.OutOfMemory) }
-        ensures kept { OnErr result (self.new ≡ self.old) }
-    {
-        match self.try_process(who, parent, child) {
-            Ok(peaks) => Ok(peaks),
-            Err(fault) => Err(fault),
-        }
     }
 
     /// Counts a fork that the group at the first `n` names of the parent's path refuses. Adds one to the local total of that
@@ -265,13 +180,11 @@ impl<A: Allocator + Clone, M: Meter> Charges<A, M> {
         let Some(process) = find_row(&self.processes, parent) else {
             unreachable!()
         };
-        count_refusal::<M, _, _>(
-            &mut self.tree,
-            &self.parents,
-            &process.home,
-            n,
-            process.slot,
-        );
+        self.tree.known();
+        let home = &process.home;
+        let at = slot_up(&self.tree, home, n, process.slot);
+        change_totals(&mut self.tree, home, n, at, Change::Raise);
+        self.tree.known();
     }
 
     /// Makes a process in the group of its parent, charged at the leaf of `who`. Raises the peaks of that group and of those
@@ -294,15 +207,11 @@ impl<A: Allocator + Clone, M: Meter> Charges<A, M> {
         if let Some(fault) = self.refuses_pids(parent, child) {
             return Err(fault);
         }
-        match self.try_process(who, parent, child) {
-            Ok(peaks) => Ok(peaks),
-            Err(fault) => {
-                if let ChargeFault::PidsMax(n) = fault {
-                    self.count_fork(parent, n);
-                }
-                Err(fault)
-            }
+        let made = self.try_process(who, parent, child);
+        if let Err(ChargeFault::PidsMax(n)) = &made {
+            self.count_fork(parent, *n);
         }
+        made
     }
 
     /// Undoes the count of one refused fork. `path` is the group that refused it. Subtracts one from its local total, and
@@ -312,6 +221,8 @@ impl<A: Allocator + Clone, M: Meter> Charges<A, M> {
         requires { HasEvents self.old path.now }
         ensures { self.new ≡ back (Counted path.now) self.old }
     {
-        uncount_refusal::<M, _, _>(&mut self.tree, &self.parents, path);
+        let at = slot_in(&self.tree, path);
+        change_totals(&mut self.tree, path, path.depth(), at, Change::Lower);
+        self.tree.known();
     }
 }

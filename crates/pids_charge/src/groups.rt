@@ -1,58 +1,100 @@
 //! The groups: their names in a tree, and their attributes in rows.
 
-ghost use Rattle.std.specs.Prelude.{◌≡◌, ◌≢◌, ◌<◌, ◌≤◌, ◌+◌, ◌%◌, ◌^◌, ℕ, true, length, take, get_or, None, Some, MatchOption, IfOk, IfSome, OnOk, OnErr, IsSome, option_map};
+ghost use Rattle.std.specs.Prelude.{◌≡◌, ◌≢◌, ◌<◌, ◌≤◌, ◌+◌, ◌^◌, ℕ, true, length, take, get_or, None, Some, MatchOption, IfOk, OnOk, OnErr, IsSome};
 ghost use Rattle.std.specs.Option.{option_copied};
 ghost use Rattle.std.specs.FinMap as fin;
 ghost use Rattle.flat_model.specs.Path.{Path, parent, at_or_below};
-ghost use Rattle.group_tree.specs.Admission.{Admits};
 ghost use Rattle.group_tree.specs.ChildNames.{NamesChildren};
 ghost use Rattle.group_tree.specs.Flat.{CountsAsFlat};
 ghost use Rattle.group_tree.specs.Groups.{IsClosed, Removes, only_root, descendant_count};
-ghost use Rattle.group_tree.specs.Settings.{ReplacesLimit};
 ghost use Rattle.group_tree.specs.declared.attr.Attr.{Attr};
-ghost use Rattle.pids_charge.specs.GroupRows.{IsOfGroup};
+ghost use Rattle.pids_charge.specs.declared.group.Group.{Group};
+ghost use Rattle.pids_charge.specs.GroupRows.{HasWay, IsOfGroup, IsWay, attrs_of, belows_of, lowered, raised, stepped_up, ups_of};
 ghost use Rattle.pids_charge.specs.Lists.{slot_at, table_slot};
 
+use crate::group::Group;
 use crate::hints::KeptPaths;
+use crate::notes::DEPTH_MAX;
 use group_path::GroupPath;
-use group_tree::{Admission, Attr, ChildNames, GroupTree, Limit, LimitFile, TreeFault};
+use group_tree::{Attr, ChildNames, GroupTree, TreeFault};
 use std::alloc::{AllocError, Allocator};
 use std::marker::Model;
 
 // Adds rows up to this one. It doesn't matter what is in them.
-fn lengthen<A: Allocator>(rows: &mut Vec<Attr, A>, row: u16) -> Result<(), AllocError>
+fn lengthen<A: Allocator>(rows: &mut Vec<Group, A>, row: u16) -> Result<(), AllocError>
     ensures long { OnOk result (row < length rows.new.items) }
-    ensures kept { (k : ℕ) (d : Attr) → k < length rows.old.items → get_or rows.new.items k d ≡ get_or rows.old.items k d }
+    ensures kept { (k : ℕ) (d : Group) → k < length rows.old.items → get_or rows.new.items k d ≡ get_or rows.old.items k d }
     ensures no_fewer { length rows.old.items ≤ length rows.new.items }
 {
     while rows.len() <= usize::from(row) {
-        rows.push(Attr::new(0))?;
+        rows.push(Group {
+            attr: Attr::new(0),
+            below: 0,
+            up: 0,
+        })?;
     }
     Ok(())
 }
 
+// Raises the number of groups below the group in the row `first`, and below each one above it.
+fn raise_below<A: Allocator>(rows: &mut Vec<Group, A>, first: u16)
+    requires { IsWay (ups_of rows.old.items) first }
+    ensures attrs { attrs_of rows.new.items ≡ attrs_of rows.old.items }
+    ensures ups { ups_of rows.new.items ≡ ups_of rows.old.items }
+    ensures below { (n : ℕ) → n ≤ 32 → HasWay (ups_of rows.old.items) first n → belows_of rows.new.items ≡ stepped_up raised (ups_of rows.old.items) first n (belows_of rows.old.items) }
+{
+    let mut at = usize::from(first);
+    for _up in 0..DEPTH_MAX + 1 {
+        let row = &mut rows[at];
+        row.below = row.below.saturating_add(1);
+        if at == 0 {
+            return;
+        }
+        at = usize::from(row.up);
+    }
+}
+
+// Lowers the number of groups below the group in the row `first`, and below each one above it.
+fn lower_below<A: Allocator>(rows: &mut Vec<Group, A>, first: u16)
+    requires { IsWay (ups_of rows.old.items) first }
+    ensures attrs { attrs_of rows.new.items ≡ attrs_of rows.old.items }
+    ensures ups { ups_of rows.new.items ≡ ups_of rows.old.items }
+    ensures below { (n : ℕ) → n ≤ 32 → HasWay (ups_of rows.old.items) first n → belows_of rows.new.items ≡ stepped_up lowered (ups_of rows.old.items) first n (belows_of rows.old.items) }
+{
+    let mut at = usize::from(first);
+    for _up in 0..DEPTH_MAX + 1 {
+        let row = &mut rows[at];
+        row.below = row.below.saturating_sub(1);
+        if at == 0 {
+            return;
+        }
+        at = usize::from(row.up);
+    }
+}
+
 // The groups, seen as a finite map from paths to attributes, as a `GroupTree` is. The attributes are in rows. The number of
 // a group's row is the slot of its processes in their table: 0 for the root, and one more than its slot in the meter for
-// any other group. The tree has that number in place of the slot, and a copy of the limits, which `admits` tests. So
-// whoever knows a group's row reads and changes it without a descent. There are as many rows as the greatest number needs.
-// A row keeps the path of its group, and the path has a hint (`hints.rt`), by which it is found first.
+// any other group. The tree has that number in place of the slot, and its other attributes say nothing. So whoever knows a
+// group's row reads and changes it without a descent. There are as many rows as the greatest number needs. A row has the row
+// of its group's parent, so a walk up goes from row to row. A row counts the groups below its group. A row keeps the path of
+// its group, and the path has a hint (`hints.rt`), by which it is found first.
 #[derive(Drop)]
 pub(crate) struct GroupTable<A: Allocator + Clone> {
     tree: GroupTree<A>,
-    rows: Vec<Attr, A>,
+    rows: Vec<Group, A>,
     kept: KeptPaths<A>,
 }
 
 impl<A: Allocator + Clone> Model for GroupTable<A> {
     ghost use Rattle.group_tree.specs.Groups.{Groups};
     ghost use Rattle.group_tree.specs.TreeCodes.{groups_code};
-    ghost use Rattle.pids_charge.specs.GroupRows.{HasTable, with_rows};
+    ghost use Rattle.pids_charge.specs.GroupRows.{HasTable, attrs_of, with_rows};
 
     ghost Value = { Groups };
 
     ghost coded = { groups_code };
 
-    ghost view = { λ g. with_rows g.tree g.rows.items };
+    ghost view = { λ g. with_rows g.tree (attrs_of g.rows.items) };
 
     ghost invariant = { λ g. HasTable g.tree g.rows.items g.kept };
 }
@@ -114,41 +156,26 @@ impl<A: Allocator + Clone> GroupTable<A> {
         ensures { (p : Path) → IsSome (fin.get self.now p) → at ≡ table_slot self.now p → Some result.now ≡ fin.get self.now p }
     {
         let _ = &self.tree;
-        &self.rows[usize::from(at)]
+        &self.rows[usize::from(at)].attr
     }
 
-    // Replaces the attributes in a row by others with the same slot and limits.
+    // The row of the parent of the group in a row. The root's is its own.
+    pub(crate) fn up(&self, at: u16) -> u16
+        requires { IsOfGroup self.now at }
+        ensures { (p : Path) → IsSome (fin.get self.now p) → at ≡ table_slot self.now p → result ≡ table_slot self.now (parent p) }
+    {
+        let _ = &self.tree;
+        self.rows[usize::from(at)].up
+    }
+
+    // Replaces the attributes in a row by others with the same slot.
     pub(crate) fn put(&mut self, at: u16, attr: Attr)
         requires group { IsOfGroup self.old at }
-        requires same { (p : Path) (a : Attr) → fin.get self.old p ≡ Some a → at ≡ table_slot self.old p → (attr.limits ≡ a.limits) × (attr.slot ≡ a.slot) }
+        requires same { (p : Path) (a : Attr) → fin.get self.old p ≡ Some a → at ≡ table_slot self.old p → attr.slot ≡ a.slot }
         ensures { (p : Path) → IsSome (fin.get self.old p) → at ≡ table_slot self.old p → self.new ≡ fin.insert self.old p attr }
     {
         let _ = &self.tree;
-        self.rows[usize::from(at)] = attr;
-    }
-
-    // Sets a limit of the group at the path and returns the old limit, as `GroupTree::replace_limit` does. Costs two
-    // descents.
-    pub(crate) fn replace_limit<B: Allocator + Clone>(
-        &mut self,
-        path: &GroupPath<B>,
-        file: LimitFile,
-        limit: Limit,
-    ) -> Option<Limit>
-        ensures { ReplacesLimit self.old self.new path.now file limit result }
-    {
-        let _ = &self.rows;
-        let Some(found) = self.tree.find(path) else {
-            return None;
-        };
-        let row = usize::from(found.slot);
-        let attr = self.rows[row];
-        let Some(_) = self.tree.replace_limit(path, file, limit) else {
-            unreachable!()
-        };
-        self.tree.known();
-        self.rows[row] = attr.with_limit(file, limit);
-        Some(attr.limit(file))
+        self.rows[usize::from(at)].attr = attr;
     }
 
     // The names of a group's children, as `GroupTree::child_names` returns them.
@@ -162,36 +189,23 @@ impl<A: Allocator + Clone> GroupTable<A> {
         self.tree.child_names(path)
     }
 
-    // How many groups are strictly below the group at the path. Costs one descent.
+    // How many groups are strictly below the group at the path. Costs one descent, unless there is a hint.
     pub(crate) fn descendants<B: Allocator + Clone>(&self, path: &GroupPath<B>) -> Option<u64>
-        ensures counted { MatchOption result (fin.get self.now path.now ≡ None) (λ n. IsSome (fin.get self.now path.now) × (n ≡ descendant_count self.now path.now % 2 ^ 64)) }
-        ensures exact { fin.len self.now < 2 ^ 64 → IfSome result (λ n. n ≡ descendant_count self.now path.now) }
+        ensures { MatchOption result (fin.get self.now path.now ≡ None) (λ n. IsSome (fin.get self.now path.now) × (n ≡ descendant_count self.now path.now)) }
     {
-        let _ = &self.rows;
-        self.tree.descendants(path)
-    }
-
-    // The attributes of the group at the path, and how many groups are strictly below it. Costs one descent.
-    pub(crate) fn find_with_descendants<B: Allocator + Clone>(
-        &self,
-        path: &GroupPath<B>,
-    ) -> Option<(&Attr, u64)>
-        ensures found { option_map (λ f. f.0.now) result ≡ fin.get self.now path.now }
-        ensures counted { IfSome result (λ f. f.1 ≡ descendant_count self.now path.now % 2 ^ 64) }
-        ensures exact { fin.len self.now < 2 ^ 64 → IfSome result (λ f. f.1 ≡ descendant_count self.now path.now) }
-    {
-        match self.tree.find_with_descendants(path) {
-            Some((found, below)) => Some((&self.rows[usize::from(found.slot)], below)),
+        match self.find_row(path) {
+            Some(at) => Some(self.below(at)),
             None => None,
         }
     }
 
-    // Whether a new group can be made at the path, as `GroupTree::admits` says.
-    pub(crate) fn admits<B: Allocator + Clone>(&self, path: &GroupPath<B>) -> Admission
-        ensures { Admits self.now path.now result }
+    // How many groups are strictly below the group in a row.
+    pub(crate) fn below(&self, at: u16) -> u64
+        requires { IsOfGroup self.now at }
+        ensures { (p : Path) → IsSome (fin.get self.now p) → at ≡ table_slot self.now p → result ≡ descendant_count self.now p }
     {
-        let _ = &self.rows;
-        self.tree.admits(path)
+        let _ = &self.tree;
+        u64::from(self.rows[usize::from(at)].below)
     }
 
     // Removes a group that has no groups below it, and returns its attributes, as `GroupTree::remove` does. The row stays,
@@ -206,8 +220,11 @@ impl<A: Allocator + Clone> GroupTable<A> {
         match self.tree.remove(path) {
             Ok(removed) => {
                 self.tree.known();
+                path.known();
                 self.kept.forget(removed.slot);
-                Ok(self.rows[usize::from(removed.slot)])
+                let row = self.rows[usize::from(removed.slot)];
+                lower_below(&mut self.rows, row.up);
+                Ok(row.attr)
             }
             Err(fault) => Err(fault),
         }
@@ -236,21 +253,29 @@ impl<A: Allocator + Clone> GroupTable<A> {
         let tree = GroupTree::new(alloc.clone()?, root)?;
         tree.known();
         let mut rows = Vec::new(alloc.clone()?);
-        rows.push(root)?;
+        rows.push(Group {
+            attr: root,
+            below: 0,
+            up: 0,
+        })?;
         let kept = KeptPaths::new(alloc)?;
         Ok(GroupTable { tree, rows, kept })
     }
 
-    // Makes a group that there isn't, under one that there is, on a slot that no group has. Costs one descent.
+    // Makes a group that there isn't, under one that there is and has the row `above`, on a slot that no group has. Costs one
+    // descent.
     pub(crate) fn insert<B: Allocator + Clone>(
         &mut self,
         path: &GroupPath<B>,
         attr: Attr,
+        above: u16,
     ) -> Result<(), AllocError>
-        requires few { attr.slot + 1 < 2 ^ 16 }
+        requires slot { attr.slot + 1 < 2 ^ 16 }
+        requires few { fin.len self.old < 2 ^ 16 }
         requires below_root { 0 < length path.now }
         requires absent { fin.get self.old path.now ≡ None }
         requires parent { IsSome (fin.get self.old (parent path.now)) }
+        requires above { above ≡ table_slot self.old (parent path.now) }
         requires free { (q : Path) → 0 < length q → IsSome (fin.get self.old q) → slot_at self.old q ≢ attr.slot }
         ensures made { OnOk result (self.new ≡ fin.insert self.old path.now attr) }
         ensures kept { OnErr result (self.new ≡ self.old) }
@@ -264,7 +289,14 @@ impl<A: Allocator + Clone> GroupTable<A> {
             return Err(AllocError);
         }
         self.tree.known();
-        self.rows[usize::from(row)] = attr;
+        path.known();
+        let made = Group {
+            attr,
+            below: 0,
+            up: above,
+        };
+        self.rows[usize::from(row)] = made;
+        raise_below(&mut self.rows, above);
         self.kept.keep(row, copied);
         Ok(())
     }

@@ -80,11 +80,7 @@ impl<A: Allocator + Clone> KeptPaths<A> {
         ensures { IfSome result (λ row. slice_index_or self.now row None ≡ Some path.now) }
     {
         let row = self.hints[hint_of(path.text())];
-        if self.keeps(row, path) {
-            Some(row)
-        } else {
-            None
-        }
+        self.keeps(row, path).then_some(row)
     }
 
     // Makes room for the path of this row.

@@ -15,7 +15,7 @@ ghost use Rattle.flat_model.specs.Step.{refusal};
 ghost use Rattle.pids_charge.specs.Answers.{Does, refusal_of_fault, after_fault, names_in};
 ghost use Rattle.snzi_tokens.specs.Listed.{IsWithin, listed_at};
 ghost use Rattle.pids_charge.specs.Lists.{inside, lost_each, lost_one, without_each};
-ghost use Rattle.pids_charge.specs.Recount.{charges_of, HasParents, IsPlaced, SlotsBelow};
+ghost use Rattle.pids_charge.specs.Recount.{charges_of, IsPlaced, SlotsBelow};
 
 use crate::charges::Charges;
 use crate::fault::ChargeFault;
@@ -23,10 +23,9 @@ use crate::gate::Gate;
 use crate::groups::GroupTable;
 use crate::lost::{Lost, LostList};
 use crate::meter::Meter;
-use crate::parents::Parents;
 use crate::pid::Pid;
 use crate::settler::{Settler, with_threads};
-use crate::walk::push_charges;
+use crate::walk::push_up;
 use group_path::GroupPath;
 use process_table::ProcessTable;
 use snzi_tokens::Token;
@@ -46,14 +45,12 @@ struct Gathered<A: Allocator + Clone> {
 // The pids at or below the path, ascending, and the charges of their processes.
 fn gather<M: Meter, T: Allocator + Clone, A: Allocator + Clone, B: Allocator + Clone>(
     tree: &GroupTable<T>,
-    parents: &Parents<T>,
     processes: &ProcessTable<A>,
     alloc: &A,
     path: &GroupPath<B>,
 ) -> Result<Gathered<A>, AllocError>
     requires placed { All (λ p. IsPlaced M.LEAVES tree.now p) (values_of processes.now) }
     requires slots { SlotsBelow M.SLOTS tree.now }
-    requires parents { HasParents M.SLOTS tree.now parents.now }
     requires homes { HaveOneHome (λ q. lookup (is_at (nat_cmp q)) processes.now) }
     ensures pids { IfOk result (λ g. g.pids.items ≡ keys_of (inside path.now processes.now)) }
     ensures counted { IfOk result (λ g. (s j : ℕ) → listed_at g.tokens.items s j ≡ sum_by (λ p. charges_of tree.now p s j) (values_of (inside path.now processes.now))) }
@@ -70,7 +67,7 @@ fn gather<M: Meter, T: Allocator + Clone, A: Allocator + Clone, B: Allocator + C
         let Some(process) = processes.get(*pid) else {
             unreachable!()
         };
-        push_charges::<M, _, _, _>(tree, parents, process, &mut tokens)?;
+        push_up::<M, _, _, _>(tree, &process.home, process.slot, process.leaf, &mut tokens)?;
     }
     Ok(Gathered { pids, tokens, room })
 }
@@ -175,15 +172,12 @@ impl<A: Allocator + Clone, M: Meter> Charges<A, M> {
         if let Some(fault) = self.refuses_kill(path) {
             return Err(fault);
         }
-        let Ok(Gathered { pids, tokens, room }) = gather::<M, _, _, _>(
+        let Gathered { pids, tokens, room } = gather::<M, _, _, _>(
             &self.tree,
-            &self.parents,
             &self.processes,
             &self.alloc,
             path,
-        ) else {
-            return Err(ChargeFault::OutOfMemory);
-        };
+        )?;
         settler.settle(&mut self.meter, who % M::LEAVES, tokens.as_slice(), &[]);
         let lost = leave(&mut self.processes, pids.as_slice(), room);
         Ok(LostList::of(lost))

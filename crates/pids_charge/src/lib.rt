@@ -17,16 +17,17 @@
 //!   limit is undone by setting the old one. None of them raises a peak.
 //! - For each command one call only decides: `refuses_mkdir`, `refuses_rmdir`, `refuses_fork`, `refuses_exit`,
 //!   `refuses_move`, `refuses_limit` and `refuses_kill` return its first refusal, if there is one, and allocate nothing.
-//!   `refuses_pids` is the part of `refuses_fork` that looks at no limit. `make_group`, `take_group`, `make_process` and
-//!   `count_fork` only do what was decided. `try_process` is a fork that counts no refusal. They are for a caller that
-//!   allocates something of its own in between.
+//!   `refuses_pids` is the part of `refuses_fork` that looks at no limit. `make_group`, `take_group` and `count_fork` only do
+//!   what was decided. `try_process` is a fork that counts no refusal. They are for a caller that allocates something of its
+//!   own in between.
 //! - `exit`, `set_peaks`, `restore_peaks`, `count_fork`, `uncount`, `rmdir`, `set_limit`, the readers and the calls that only
-//!   decide allocate nothing. `new` allocates the tables of free slots, of parents and of hints. Rows, and the paths that they
+//!   decide allocate nothing. `new` allocates the tables of free slots and of hints. Rows, and the paths that they
 //!   keep, are allocated as groups are made. The list of old peaks of a fork or a move takes memory only if it has more than
 //!   `INLINE_PEAKS`, or one of 2^32 or more.
-//! - The tree has the names of the groups, and a row for each has its attributes. A process knows the row of its group. A walk
-//!   up goes from the row of a group to that of its parent, so a fork, a refused fork and an exit cost O(depth) steps and
-//!   compare no names. A process is found in constant time. A path has at most 32 names.
+//! - The tree has the names of the groups, and a row for each has its attributes and how many groups are below it. A process
+//!   knows the row of its group. A walk up goes from the row of a group to that of its parent, so a fork, a refused fork and an
+//!   exit cost O(depth) steps and compare no names. So do the limits that a new group may meet. A process is found in constant
+//!   time. A path has at most 32 names.
 //! - Who is given a path, as a move is, finds its row by a hint: 2,048 hints are rows, by a hash of a path's text, and a row
 //!   keeps the path of its group. If the hint's row keeps another path, or none, one descent of the tree finds the row by
 //!   O(depth · log children) comparisons. So groups whose hashes collide cost a descent each, and no more. Paths of up to 22
@@ -56,7 +57,9 @@ mod exit;
 mod fault;
 mod fork;
 mod gate;
+mod group;
 mod groups;
+mod hierarchy;
 mod hints;
 mod kill;
 mod limit;
@@ -65,7 +68,6 @@ mod meter;
 mod migrate;
 mod mkdir;
 mod notes;
-mod parents;
 mod parts;
 mod peaks;
 mod pid;

@@ -48,8 +48,8 @@ impl<A: Allocator + Clone, M: Meter> Charges<A, M> {
         None
     }
 
-    /// Sets a limit of a group, and returns the old one. A limit may be below the present count. Allocates nothing. Costs
-    /// two descents of the tree.
+    /// Sets a limit of a group, and returns the old one. A limit may be below the present count. Allocates nothing. Costs at
+    /// most one descent of the tree.
     ///
     /// # Errors
     ///
@@ -68,10 +68,12 @@ impl<A: Allocator + Clone, M: Meter> Charges<A, M> {
         if is_missing(path, file) {
             return Err(ChargeFault::NoFile);
         }
-        let Some(earlier) = self.tree.replace_limit(path, file, limit) else {
+        let Some(at) = self.tree.find_row(path) else {
             return Err(ChargeFault::NoGroup(path.depth()));
         };
+        let attr = *self.tree.row(at);
+        self.tree.put(at, attr.with_limit(file, limit));
         self.tree.known();
-        Ok(earlier)
+        Ok(attr.limit(file))
     }
 }

@@ -9,7 +9,7 @@ ghost use Rattle.flat_model.specs.State.{State};
 ghost use Rattle.flat_model.specs.Step.{home_of, peaks_upward, refusal};
 ghost use Rattle.pids_charge.specs.Answers.{Does, refusal_of_fault, after_fault, names_in};
 ghost use Rattle.pids_charge.specs.Lists.{table_slot};
-ghost use Rattle.pids_charge.specs.Recount.{SlotsBelow, state_of};
+ghost use Rattle.pids_charge.specs.Recount.{state_of};
 
 use crate::charges::Charges;
 use crate::fault::ChargeFault;
@@ -19,7 +19,7 @@ use crate::notes::note_up;
 use crate::peaks::{Peaks, charge_noted};
 use crate::pid::Pid;
 use crate::rows::{has_row, put_copy};
-use crate::slot::{find_slot, slot_in};
+use crate::slot::slot_in;
 use crate::walk::{charge_up, uncharge_up};
 use group_path::GroupPath;
 use process_table::ProcessTable;
@@ -39,7 +39,6 @@ fn slot_for<M: Meter, T: Allocator + Clone, A: Allocator + Clone, B: Allocator +
     path: &GroupPath<B>,
     pid: Pid,
 ) -> Result<u16, ChargeFault>
-    requires { SlotsBelow M.SLOTS tree.now }
     ensures allowed { OnOk result (refusal M.SLOTS (state_of tree.now processes.now) (Move path.now pid) ≡ None) }
     ensures slot { IfOk result (λ slot. IsSome (fin.get tree.now path.now) × (slot ≡ table_slot tree.now path.now)) }
     ensures first { IfErr result (λ f. refusal M.SLOTS (state_of tree.now processes.now) (Move path.now pid) ≡ refusal_of_fault path.now f) }
@@ -48,7 +47,7 @@ fn slot_for<M: Meter, T: Allocator + Clone, A: Allocator + Clone, B: Allocator +
     ensures kept { IfErr result (λ f. (s : State) → after_fault s (refusal_of_fault path.now f) ≡ s) }
 {
     processes.known();
-    let Some(slot) = find_slot::<M, _, _>(tree, path) else {
+    let Some(slot) = tree.find_row(path) else {
         return Err(ChargeFault::NoGroup(path.depth()));
     };
     if !has_row(processes, pid) {
@@ -93,33 +92,18 @@ impl<A: Allocator + Clone, M: Meter> Charges<A, M> {
         ensures old_home { IfOk result (λ shifted. shifted.path ≡ home_of self.old pid) }
         ensures peaks { IfOk result (λ shifted. shifted.peaks ≡ peaks_upward self.old path.now) }
     {
-        let slot = match slot_for::<M, _, _, _>(&self.tree, &self.processes, path, pid) {
-            Ok(slot) => slot,
-            Err(fault) => return Err(fault),
-        };
-        let notes = note_up::<M, _, _>(&self.tree, &self.parents, path, slot);
-        let Ok(peaks) = Peaks::copy_of(&self.alloc, notes.peaks()) else {
-            return Err(ChargeFault::OutOfMemory);
-        };
+        let slot = slot_for::<M, _, _, _>(&self.tree, &self.processes, path, pid)?;
+        let notes = note_up(&self.tree, path, slot);
+        let peaks = Peaks::copy_of(&self.alloc, notes.peaks())?;
         self.tree.known();
         path.known();
         let leaf = who % M::LEAVES;
-        let Ok(replaced) = put_copy(&mut self.processes, &self.alloc, pid, path, slot, leaf) else {
-            return Err(ChargeFault::OutOfMemory);
-        };
+        let replaced = put_copy(&mut self.processes, &self.alloc, pid, path, slot, leaf)?;
         let Some(before) = replaced else {
             unreachable!()
         };
-        uncharge_up(&self.tree, &self.parents, &mut self.meter, &before, leaf);
-        charge_noted(
-            &mut self.tree,
-            &self.parents,
-            &mut self.meter,
-            path,
-            slot,
-            leaf,
-            &notes,
-        );
+        uncharge_up(&self.tree, &mut self.meter, &before, leaf);
+        charge_noted(&mut self.tree, &mut self.meter, path, slot, leaf, &notes);
         Ok(Shifted {
             path: before.home,
             peaks,
@@ -148,16 +132,14 @@ impl<A: Allocator + Clone, M: Meter> Charges<A, M> {
     {
         self.tree.known();
         path.known();
-        let slot = slot_in::<M, _, _>(&self.tree, path);
+        let slot = slot_in(&self.tree, path);
         let leaf = who % M::LEAVES;
-        let Ok(replaced) = put_copy(&mut self.processes, &self.alloc, pid, path, slot, leaf) else {
-            return Err(ChargeFault::OutOfMemory);
-        };
+        let replaced = put_copy(&mut self.processes, &self.alloc, pid, path, slot, leaf)?;
         let Some(before) = replaced else {
             unreachable!()
         };
-        uncharge_up(&self.tree, &self.parents, &mut self.meter, &before, leaf);
-        charge_up(&self.tree, &self.parents, &mut self.meter, path, slot, leaf);
+        uncharge_up(&self.tree, &mut self.meter, &before, leaf);
+        charge_up(&self.tree, &mut self.meter, path, slot, leaf);
         Ok(before.home)
     }
 }

@@ -7,31 +7,39 @@ ghost use Rattle.pids_charge.specs.Answers.{Does, refusal_of_fault, after_fault,
 
 use crate::charges::Charges;
 use crate::fault::ChargeFault;
+use crate::hierarchy::{MetLimit, first_met};
 use crate::meter::Meter;
 use group_path::GroupPath;
-use group_tree::{Admission, Attr, MetLimit};
+use group_tree::Attr;
 use std::alloc::Allocator;
 
 impl<A: Allocator + Clone, M: Meter> Charges<A, M> {
-    /// The refusal that `mkdir` would return, apart from memory. Costs one descent of the tree.
+    /// The refusal that `mkdir` would return, apart from memory. Costs at most two descents of the tree, and a step for each group
+    /// above.
     pub fn refuses_mkdir<B: Allocator + Clone>(&self, path: &GroupPath<B>) -> Option<ChargeFault>
         ensures first { MatchOption result (refusal M.SLOTS self.now (MakeGroup path.now) ≡ None) (λ f. refusal M.SLOTS self.now (MakeGroup path.now) ≡ refusal_of_fault path.now f) }
         ensures inside { IfSome result (λ f. names_in f ≤ length path.now) }
         ensures no_memory { IfSome result (λ f. f ≢ ChargeFault.OutOfMemory) }
         ensures kept { IfSome result (λ f. after_fault self.now (refusal_of_fault path.now f) ≡ self.now) }
     {
-        match self.tree.admits(path) {
-            Admission::Exists => Some(ChargeFault::Exists),
-            Admission::NoParent => Some(ChargeFault::NoGroup(path.depth().saturating_sub(1))),
-            Admission::Met(MetLimit::Descendants(n)) => Some(ChargeFault::Descendants(n)),
-            Admission::Met(MetLimit::Depth(n)) => Some(ChargeFault::Depth(n)),
-            Admission::Free if self.free.is_empty() => Some(ChargeFault::NoSlot),
-            Admission::Free => None,
+        self.tree.known();
+        if self.tree.find_row(path).is_some() {
+            return Some(ChargeFault::Exists);
+        }
+        let n = path.depth().saturating_sub(1);
+        let Some(above) = self.tree.find_row_at(path, n) else {
+            return Some(ChargeFault::NoGroup(n));
+        };
+        match first_met(&self.tree, path, n, above) {
+            Some(MetLimit::Descendants(n)) => Some(ChargeFault::Descendants(n)),
+            Some(MetLimit::Depth(n)) => Some(ChargeFault::Depth(n)),
+            None if self.free.is_empty() => Some(ChargeFault::NoSlot),
+            None => None,
         }
     }
 
     /// Makes a group that `mkdir` would not refuse, with no limits and event totals of 0, on a free slot. Costs two descents
-    /// of the tree.
+    /// of the tree, and a step for each group above.
     ///
     /// # Errors
     ///
@@ -48,9 +56,9 @@ impl<A: Allocator + Clone, M: Meter> Charges<A, M> {
         self.restore(path, Attr::new(0))
     }
 
-    /// Makes a group under an existing one, with no limits and event totals of 0, on a free slot. Costs three descents of the
-    /// tree. One of them tests everything that can refuse the group, including all limits above it; one finds the slot of its
-    /// parent.
+    /// Makes a group under an existing one, with no limits and event totals of 0, on a free slot. Costs at most four descents of
+    /// the tree: the group and its parent are looked up, the parent again, and the group is inserted. The limits above it are
+    /// tested from row to row.
     ///
     /// # Errors
     ///

@@ -5,11 +5,10 @@ ghost use Rattle.std.specs.FinMap as fin;
 ghost use Rattle.pids_charge.specs.Events.{full_by, longest};
 ghost use Rattle.pids_charge.specs.Lists.{table_slot};
 ghost use Rattle.pids_charge.specs.Peaks.{IsNoted, Noted};
-ghost use Rattle.pids_charge.specs.Recount.{HasParents, SlotsBelow};
+ghost use Rattle.pids_charge.specs.Recount.{SlotsBelow};
 
 use crate::groups::GroupTable;
 use crate::meter::Meter;
-use crate::parents::Parents;
 use group_path::GroupPath;
 use group_tree::{Attr, Limit};
 use std::alloc::Allocator;
@@ -91,7 +90,6 @@ fn is_full<M: Meter>(meter: &mut M, attr: &Attr) -> bool
 // is where the processes of the path's group are in their table. Does not descend the tree.
 pub(crate) fn nearest_full<T: Allocator + Clone, M: Meter, A: Allocator + Clone>(
     tree: &GroupTable<T>,
-    parents: &Parents<T>,
     meter: &mut M,
     path: &GroupPath<A>,
     slot: u16,
@@ -99,7 +97,6 @@ pub(crate) fn nearest_full<T: Allocator + Clone, M: Meter, A: Allocator + Clone>
     requires home { IsSome (fin.get tree.now path.now) }
     requires slot { slot ≡ table_slot tree.now path.now }
     requires slots { SlotsBelow M.SLOTS tree.now }
-    requires parents { HasParents M.SLOTS tree.now parents.now }
     ensures answer { result ≡ longest (λ a. full_by M.LEAVES (M.content meter.old) (fin.get tree.now a)) path.now (length path.now) }
     ensures inside { IfSome result (λ n. (0 < n) × (n ≤ length path.now)) }
     ensures content { M.content meter.new ≡ M.content meter.old }
@@ -115,22 +112,19 @@ pub(crate) fn nearest_full<T: Allocator + Clone, M: Meter, A: Allocator + Clone>
         if is_full(meter, tree.row(at)) {
             return Some(path.depth() - up);
         }
-        at = parents.up(at - 1);
+        at = tree.up(at);
     }
     None
 }
 
 // Notes the group of a path and those above it, without the root. Does not descend the tree.
-pub(crate) fn note_up<M: Meter, T: Allocator + Clone, A: Allocator + Clone>(
+pub(crate) fn note_up<T: Allocator + Clone, A: Allocator + Clone>(
     tree: &GroupTable<T>,
-    parents: &Parents<T>,
     path: &GroupPath<A>,
     slot: u16,
 ) -> Notes
     requires home { IsSome (fin.get tree.now path.now) }
     requires slot { slot ≡ table_slot tree.now path.now }
-    requires slots { SlotsBelow M.SLOTS tree.now }
-    requires parents { HasParents M.SLOTS tree.now parents.now }
     ensures { IsNoted tree.now path.now result }
 {
     tree.known();
@@ -143,7 +137,7 @@ pub(crate) fn note_up<M: Meter, T: Allocator + Clone, A: Allocator + Clone>(
         }
         let attr = tree.row(at);
         notes.push(attr.slot, attr.peak);
-        at = parents.up(at - 1);
+        at = tree.up(at);
     }
     notes
 }

@@ -3,22 +3,18 @@
 ghost use Rattle.std.specs.Prelude.{◌≡◌, ◌↔◌, ℕ, ◌+◌, ◌^◌, ◌<◌, ◌≤◌, max, length, get_or, take, None, IfOk, IsOk, IsSome, IsTrue, option_map};
 ghost use Rattle.std.specs.List.{All, sum_by};
 ghost use Rattle.std.specs.FinMap as fin;
-ghost use Rattle.std.specs.Ordering.{nat_cmp};
 ghost use Rattle.flat_model.specs.Path.{Path};
 ghost use Rattle.flat_model.specs.Step as flat;
-ghost use Rattle.pids_charge.specs.Events.{flat_of};
-ghost use Rattle.group_tree.specs.PeaksAlong.{SetsPeaks};
 ghost use Rattle.snzi_tokens.specs.Listed.{one_at, over_leaves};
-ghost use Rattle.pids_charge.specs.Peaks.{peak_of, raised_by, AreUpward, IsNoted};
+ghost use Rattle.pids_charge.specs.Peaks.{peak_of, raised_by, AreUpward, IsNoted, SetsPeaks};
 ghost use Rattle.pids_charge.specs.Lists.{table_slot};
-ghost use Rattle.pids_charge.specs.Recount.{HasParents, SlotsBelow, SameSlots, with_charges};
+ghost use Rattle.pids_charge.specs.Recount.{SlotsBelow, SameSlots, with_charges};
 
 use crate::above::set_peaks_up;
 use crate::charges::Charges;
 use crate::groups::GroupTable;
 use crate::meter::{HELD_MAX, Meter};
 use crate::notes::{DEPTH_MAX, Notes};
-use crate::parents::Parents;
 use group_path::GroupPath;
 use std::alloc::{AllocError, Allocator, Global};
 use std::marker::Model;
@@ -226,9 +222,8 @@ fn reach<M: Meter>(meter: &mut M, slots: &[u16], peaks: &[u64], reached: &mut [u
 }
 
 // Sets the peaks of the groups from the path's own upward, unless they are these already. `peaks` has those that they are.
-fn raise_along<M: Meter, T: Allocator + Clone, A: Allocator + Clone>(
+fn raise_along<T: Allocator + Clone, A: Allocator + Clone>(
     tree: &mut GroupTable<T>,
-    parents: &Parents<T>,
     path: &GroupPath<A>,
     slot: u16,
     peaks: &[u64],
@@ -236,8 +231,6 @@ fn raise_along<M: Meter, T: Allocator + Clone, A: Allocator + Clone>(
 )
     requires home { IsSome (fin.get tree.old path.now) }
     requires slot { slot ≡ table_slot tree.old path.now }
-    requires slots { SlotsBelow M.SLOTS tree.old }
-    requires parents { HasParents M.SLOTS tree.old parents.now }
     requires noted { AreUpward peak_of tree.old path.now peaks.now }
     requires many { length reached.now ≡ length path.now }
     ensures set { SetsPeaks tree.old tree.new path.now reached.now }
@@ -247,7 +240,7 @@ fn raise_along<M: Meter, T: Allocator + Clone, A: Allocator + Clone>(
     if *reached == *peaks {
         return;
     }
-    set_peaks_up::<M, _, _>(tree, parents, path, slot, reached);
+    set_peaks_up(tree, path, slot, reached);
     tree.known();
 }
 
@@ -255,7 +248,6 @@ fn raise_along<M: Meter, T: Allocator + Clone, A: Allocator + Clone>(
 // descend the tree.
 pub(crate) fn charge_noted<T: Allocator + Clone, M: Meter, A: Allocator + Clone>(
     tree: &mut GroupTable<T>,
-    parents: &Parents<T>,
     meter: &mut M,
     path: &GroupPath<A>,
     slot: u16,
@@ -266,7 +258,6 @@ pub(crate) fn charge_noted<T: Allocator + Clone, M: Meter, A: Allocator + Clone>
     requires home { IsSome (fin.get tree.old path.now) }
     requires slot { slot ≡ table_slot tree.old path.now }
     requires slots { SlotsBelow M.SLOTS tree.old }
-    requires parents { HasParents M.SLOTS tree.old parents.now }
     requires room { M.held meter.old + length path.now ≤ HELD_MAX }
     requires noted { IsNoted tree.old path.now notes.now }
     ensures content { (s j : ℕ) → M.content meter.new s j ≡ with_charges tree.old path.now leaf (M.content meter.old) s j }
@@ -282,7 +273,7 @@ pub(crate) fn charge_noted<T: Allocator + Clone, M: Meter, A: Allocator + Clone>
     let mut table = [0; DEPTH_MAX];
     let reached = &mut table[..peaks.len()];
     reach(meter, slots, peaks, reached);
-    raise_along::<M, _, _>(tree, parents, path, slot, peaks, reached);
+    raise_along(tree, path, slot, peaks, reached);
 }
 
 // How many first names of the path are a group, at most all of them, and where its processes are in their table.
@@ -306,24 +297,6 @@ fn find_longest<T: Allocator + Clone, A: Allocator + Clone>(
     (0, 0)
 }
 
-// Sets the peaks of the groups from the path's own upward. A missing group is skipped.
-fn set_along<M: Meter, T: Allocator + Clone, A: Allocator + Clone>(
-    tree: &mut GroupTable<T>,
-    parents: &Parents<T>,
-    path: &GroupPath<A>,
-    peaks: &[u64],
-)
-    requires many { length peaks.now ≡ length path.now }
-    requires slots { SlotsBelow M.SLOTS tree.old }
-    requires parents { HasParents M.SLOTS tree.old parents.now }
-    ensures set { (home : fin.FinMap nat_cmp Path) → flat_of tree.new home ≡ flat.set_peaks path.now peaks.now (flat_of tree.old home) }
-    ensures slots { SameSlots tree.old tree.new }
-{
-    let (n, slot) = find_longest(tree, path);
-    set_peaks_up::<M, _, _>(tree, parents, path, slot, &peaks[peaks.len() - n..]);
-    tree.known();
-}
-
 impl<A: Allocator + Clone, M: Meter> Charges<A, M> {
     /// Sets the peaks of the group at the path and of the groups above it, without the root: one for each name of the path,
     /// from the group upward. It doesn't compare them with the counts. If no given peak is lower than its group's count,
@@ -332,7 +305,9 @@ impl<A: Allocator + Clone, M: Meter> Charges<A, M> {
         requires { length peaks.now ≡ length path.now }
         ensures { self.new ≡ flat.set_peaks path.now peaks.now self.old }
     {
-        set_along::<M, _, _>(&mut self.tree, &self.parents, path, peaks);
+        let (n, slot) = find_longest(&self.tree, path);
+        set_peaks_up(&mut self.tree, path, slot, &peaks[peaks.len() - n..]);
+        self.tree.known();
     }
     /// Sets the peaks of the group at the path and of the groups above it to those of the list, as `set_peaks` does.
     /// Allocates nothing. Costs one descent of the tree.

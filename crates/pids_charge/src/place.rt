@@ -10,7 +10,7 @@ ghost use Rattle.flat_model.specs.CommandText.{IsPid};
 ghost use Rattle.flat_model.specs.Inverse.{back, Killed};
 ghost use Rattle.snzi_tokens.specs.Listed.{IsWithin, listed_at};
 ghost use Rattle.pids_charge.specs.Lists.{with_lost, without, placed_at, rows_of};
-ghost use Rattle.pids_charge.specs.Recount.{charges_at, HasParents, SlotsBelow};
+ghost use Rattle.pids_charge.specs.Recount.{charges_at, SlotsBelow};
 
 use crate::charges::Charges;
 use crate::fault::ChargeFault;
@@ -18,11 +18,10 @@ use crate::gate::Gate;
 use crate::groups::GroupTable;
 use crate::lost::Lost;
 use crate::meter::Meter;
-use crate::parents::Parents;
 use crate::rows::{put_copy, take_row};
 use crate::settler::{Settler, with_threads};
 use crate::slot::slot_in;
-use crate::walk::push_tokens;
+use crate::walk::push_up;
 use process_table::ProcessTable;
 use snzi_tokens::Token;
 use std::alloc::{AllocError, Allocator};
@@ -32,7 +31,6 @@ use std::thread::Threads;
 // A token for each charge of the listed processes.
 fn tokens_of<M: Meter, T: Allocator + Clone, A: Allocator + Clone, B: Allocator + Clone>(
     tree: &GroupTable<T>,
-    parents: &Parents<T>,
     alloc: A,
     list: &[Lost<B>],
     leaf: u8,
@@ -40,20 +38,20 @@ fn tokens_of<M: Meter, T: Allocator + Clone, A: Allocator + Clone, B: Allocator 
     requires leaf_below { leaf < M.LEAVES }
     requires homes { All (λ l. IsSome (fin.get tree.now l.path)) list.now }
     requires slots { SlotsBelow M.SLOTS tree.now }
-    requires parents { HasParents M.SLOTS tree.now parents.now }
     ensures counted { IfOk result (λ t. (s j : ℕ) → listed_at t.items s j ≡ sum_by (λ l. charges_at tree.now l.path leaf s j) list.now) }
     ensures many { IfOk result (λ t. length t.items ≡ sum_by (λ l. length l.path) list.now) }
     ensures within { IfOk result (λ t. IsWithin M.SLOTS M.LEAVES t.items) }
 {
     let mut tokens = Vec::new(alloc);
     for lost in list {
-        push_tokens::<M, _, _, _>(tree, parents, &lost.path, leaf, &mut tokens)?;
+        let slot = slot_in(tree, &lost.path);
+        push_up::<M, _, _, _>(tree, &lost.path, slot, leaf, &mut tokens)?;
     }
     Ok(tokens)
 }
 
 // Inserts one listed process with a copy of its path.
-fn place_one<M: Meter, T: Allocator + Clone, A: Allocator + Clone, B: Allocator + Clone>(
+fn place_one<T: Allocator + Clone, A: Allocator + Clone, B: Allocator + Clone>(
     tree: &GroupTable<T>,
     processes: &mut ProcessTable<A>,
     alloc: &A,
@@ -61,18 +59,17 @@ fn place_one<M: Meter, T: Allocator + Clone, A: Allocator + Clone, B: Allocator 
     leaf: u8,
 ) -> Result<(), AllocError>
     requires home { IsSome (fin.get tree.now lost.now.path) }
-    requires slots { SlotsBelow M.SLOTS tree.now }
     ensures placed { OnOk result (processes.new ≡ insert_entry nat_cmp processes.old lost.now.pid (placed_at tree.now leaf lost.now)) }
     ensures kept { OnErr result (processes.new ≡ processes.old) }
     ensures pid { IsPid lost.now.pid }
 {
-    let slot = slot_in::<M, _, _>(tree, &lost.path);
+    let slot = slot_in(tree, &lost.path);
     let _ = put_copy(processes, alloc, lost.pid, &lost.path, slot, leaf)?;
     Ok(())
 }
 
 // Inserts as many of the list's last processes as memory allows. Returns the index of the first of them.
-fn place_last<M: Meter, T: Allocator + Clone, A: Allocator + Clone, B: Allocator + Clone>(
+fn place_last<T: Allocator + Clone, A: Allocator + Clone, B: Allocator + Clone>(
     tree: &GroupTable<T>,
     processes: &mut ProcessTable<A>,
     alloc: &A,
@@ -80,14 +77,13 @@ fn place_last<M: Meter, T: Allocator + Clone, A: Allocator + Clone, B: Allocator
     leaf: u8,
 ) -> usize
     requires homes { All (λ l. IsSome (fin.get tree.now l.path)) list.now }
-    requires slots { SlotsBelow M.SLOTS tree.now }
     ensures place { result ≤ length list.now }
     ensures placed { processes.new ≡ with_lost tree.now leaf (drop result list.now) processes.old }
     ensures pids { All (λ l. IsPid l.pid) (drop result list.now) }
 {
     let mut at = list.len();
     while at > 0 {
-        if place_one::<M, _, _, _>(tree, processes, alloc, &list[at - 1], leaf).is_err() {
+        if place_one(tree, processes, alloc, &list[at - 1], leaf).is_err() {
             return at;
         }
         at -= 1;
@@ -110,7 +106,7 @@ fn take_out<A: Allocator + Clone, B: Allocator + Clone>(
 }
 
 // Inserts all of them, or none.
-fn place_each<M: Meter, T: Allocator + Clone, A: Allocator + Clone, B: Allocator + Clone>(
+fn place_each<T: Allocator + Clone, A: Allocator + Clone, B: Allocator + Clone>(
     tree: &GroupTable<T>,
     processes: &mut ProcessTable<A>,
     alloc: &A,
@@ -118,7 +114,6 @@ fn place_each<M: Meter, T: Allocator + Clone, A: Allocator + Clone, B: Allocator
     leaf: u8,
 ) -> Result<(), AllocError>
     requires homes { All (λ l. IsSome (fin.get tree.now l.path)) list.now }
-    requires slots { SlotsBelow M.SLOTS tree.now }
     requires apart { IsDistinct eqb (map (λ l. l.pid) list.now) }
     requires new { All (λ l. lookup (is_at (nat_cmp l.pid)) processes.old ≡ None) list.now }
     ensures placed { OnOk result (processes.new ≡ with_lost tree.now leaf list.now processes.old) }
@@ -126,7 +121,7 @@ fn place_each<M: Meter, T: Allocator + Clone, A: Allocator + Clone, B: Allocator
     ensures kept { OnErr result (processes.new ≡ processes.old) }
 {
     processes.known();
-    let at = place_last::<M, _, _, _>(tree, processes, alloc, list, leaf);
+    let at = place_last(tree, processes, alloc, list, leaf);
     if at > 0 {
         take_out(processes, list, at);
         return Err(AllocError);
@@ -176,35 +171,10 @@ impl<A: Allocator + Clone, M: Meter> Charges<A, M> {
         ensures memory { IfErr result (λ f. f ≡ ChargeFault.OutOfMemory) }
         ensures kept { OnErr result (self.new ≡ self.old) }
     {
-        match self.place_listed(settler, who, list) {
-            Ok(()) => Ok(()),
-            Err(_) => Err(ChargeFault::OutOfMemory),
-        }
-    }
-
-    // Places the processes of the list. Its error is an allocator's, not yet a fault of charges.
-    fn place_listed<S: Settler, B: Allocator + Clone>(
-        &mut self,
-        settler: &S,
-        who: u8,
-        list: &[Lost<B>],
-    ) -> Result<(), AllocError>
-        requires homes { All (λ l. IsSome (fin.get self.old.groups l.path)) list.now }
-        requires new { All (λ l. fin.get self.old.home l.pid ≡ None) list.now }
-        requires apart { IsDistinct eqb (map (λ l. l.pid) list.now) }
-        ensures placed { OnOk result (self.new ≡ back (Killed (rows_of list.now)) self.old) }
-        ensures kept { OnErr result (self.new ≡ self.old) }
-    {
         self.tree.known();
         let leaf = who % M::LEAVES;
-        let tokens = tokens_of::<M, _, _, _>(
-            &self.tree,
-            &self.parents,
-            self.alloc.clone()?,
-            list,
-            leaf,
-        )?;
-        place_each::<M, _, _, _>(&self.tree, &mut self.processes, &self.alloc, list, leaf)?;
+        let tokens = tokens_of::<M, _, _, _>(&self.tree, self.alloc.clone()?, list, leaf)?;
+        place_each(&self.tree, &mut self.processes, &self.alloc, list, leaf)?;
         settler.settle(&mut self.meter, leaf, &[], tokens.as_slice());
         Ok(())
     }

@@ -114,9 +114,7 @@ impl<A: Allocator> PlainMeter<A> {
         }
         Ok(PlainMeter { rows })
     }
-}
 
-impl<A: Allocator> PlainMeter<A> {
     // Calls the test hook, then removes the leaving charges, then adds the arriving ones.
     fn do_part(
         &mut self,
@@ -187,13 +185,11 @@ impl<A: Allocator> Meter for PlainMeter<A> {
     ghost held = { table_held };
 
     fn charge(&mut self, slot: u16, leaf: u8) {
-        let row = &mut self.rows[slot as usize];
-        row.charge(leaf);
+        self.rows[slot as usize].charge(leaf);
     }
 
     fn uncharge(&mut self, slot: u16, leaf: u8, stripe: u8) {
-        let row = &mut self.rows[slot as usize];
-        row.uncharge(leaf, stripe);
+        self.rows[slot as usize].uncharge(leaf, stripe);
     }
 
     fn current(&mut self, slot: u16) -> u64 {

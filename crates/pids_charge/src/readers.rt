@@ -16,22 +16,9 @@ use crate::charges::Charges;
 use crate::meter::Meter;
 use crate::pid::Pid;
 use crate::rows::find_row;
-use crate::slot::find_slot;
 use group_path::GroupPath;
 use group_tree::Attr;
 use std::alloc::{AllocError, Allocator};
-
-// The pids with these numbers.
-fn pids_of<B: Allocator>(numbers: &[u32], alloc: B) -> Result<Vec<Pid, B>, AllocError>
-    requires { All IsPid numbers.now }
-    ensures { IfOk result (λ pids. pids.items ≡ numbers.now) }
-{
-    let mut pids = Vec::with_capacity(alloc, numbers.len())?;
-    for number in numbers {
-        pids.push(Pid::of(*number))?;
-    }
-    Ok(pids)
-}
 
 // The pids with these numbers, ascending.
 fn ascending<B: Allocator>(numbers: &[u32], alloc: B) -> Result<Vec<Pid, B>, AllocError>
@@ -39,7 +26,10 @@ fn ascending<B: Allocator>(numbers: &[u32], alloc: B) -> Result<Vec<Pid, B>, All
     ensures moved { IfOk result (λ pids. IsPermutation numbers.now pids.items) }
     ensures sorted { IfOk result (λ pids. IsSorted nat_cmp pids.items) }
 {
-    let mut pids = pids_of(numbers, alloc)?;
+    let mut pids = Vec::with_capacity(alloc, numbers.len())?;
+    for number in numbers {
+        pids.push(Pid::of(*number))?;
+    }
     pids.sort_unstable();
     Ok(pids)
 }
@@ -66,10 +56,8 @@ impl<A: Allocator + Clone, M: Meter> Charges<A, M> {
     pub fn home(&self, pid: Pid) -> Option<&GroupPath<A>>
         ensures { option_map (λ home. home.now) result ≡ fin.get self.now.home pid }
     {
-        match find_row(&self.processes, pid) {
-            Some(process) => Some(&process.home),
-            None => None,
-        }
+        let process = find_row(&self.processes, pid)?;
+        Some(&process.home)
     }
 
     /// The processes of the group itself, ascending; None if there is no such group. Costs one
@@ -86,7 +74,7 @@ impl<A: Allocator + Clone, M: Meter> Charges<A, M> {
         ensures listed { IfOk result (λ o. MatchOption o (is_group self.now path.now ≡ false) (λ pids. (is_group self.now path.now ≡ true) × (pids.items ≡ flat.members self.now path.now))) }
         ensures absent { is_group self.now path.now ≡ false → IsOk result }
     {
-        let Some(slot) = find_slot::<M, _, _>(&self.tree, path) else {
+        let Some(slot) = self.tree.find_row(path) else {
             return Ok(None);
         };
         let numbers = self.processes.unordered(slot);
@@ -105,9 +93,7 @@ impl<A: Allocator + Clone, M: Meter> Charges<A, M> {
             return None;
         }
         self.tree.known();
-        let Some(attr) = self.tree.find(path) else {
-            return None;
-        };
+        let attr = self.tree.find(path)?;
         let slot = attr.slot;
         Some(self.meter.current(slot))
     }
@@ -123,9 +109,7 @@ impl<A: Allocator + Clone, M: Meter> Charges<A, M> {
             return None;
         }
         self.tree.known();
-        let Some(attr) = self.tree.find(path) else {
-            return None;
-        };
+        let attr = self.tree.find(path)?;
         let slot = attr.slot;
         Some(self.meter.populated(slot))
     }

@@ -18,7 +18,7 @@ use group_tree::Attr;
 use std::alloc::Allocator;
 
 impl<A: Allocator + Clone, M: Meter> Charges<A, M> {
-    /// The refusal that `rmdir` would return. Costs one descent of the tree.
+    /// The refusal that `rmdir` would return. Costs at most one descent of the tree.
     pub fn refuses_rmdir<B: Allocator + Clone>(
         &mut self,
         path: &GroupPath<B>,
@@ -34,20 +34,21 @@ impl<A: Allocator + Clone, M: Meter> Charges<A, M> {
             return Some(ChargeFault::RootFixed);
         }
         self.tree.known();
-        let Some((attr, below)) = self.tree.find_with_descendants(path) else {
+        let Some(at) = self.tree.find_row(path) else {
             return Some(ChargeFault::NoGroup(depth));
         };
-        if below > 0 {
+        if self.tree.below(at) > 0 {
             return Some(ChargeFault::HasChildren);
         }
-        if self.meter.populated(attr.slot) {
+        let slot = self.tree.row(at).slot;
+        if self.meter.populated(slot) {
             return Some(ChargeFault::HasProcesses);
         }
         None
     }
 
     /// Removes a group that `rmdir` would not refuse, frees its slot, and returns its attributes. Allocates nothing. Costs
-    /// one descent of the tree.
+    /// one descent of the tree, and a step for each group above.
     pub fn take_group<B: Allocator + Clone>(&mut self, path: &GroupPath<B>) -> Attr
         requires { refusal M.SLOTS self.old (RemoveGroup path.now) ≡ None }
         ensures state { self.new ≡ after self.old (RemoveGroup path.now) }
@@ -64,8 +65,8 @@ impl<A: Allocator + Clone, M: Meter> Charges<A, M> {
         attr
     }
 
-    /// Removes a group that has no groups below it and no processes, and returns its attributes. Allocates nothing. Costs
-    /// two descents of the tree: the count says whether there are processes. The groups above it keep their event totals.
+    /// Removes a group that has no groups below it and no processes, and returns its attributes. Allocates nothing. Costs at
+    /// most two descents of the tree: the count says whether there are processes. The groups above it keep their event totals.
     ///
     /// # Errors
     ///
@@ -104,13 +105,12 @@ impl<A: Allocator + Clone, M: Meter> Charges<A, M> {
         self.tree.known();
         let last = self.free.len() - 1;
         let slot = self.free[last];
-        let above = slot_above::<M, _, _>(&self.tree, path);
-        let made = self.tree.insert(path, Attr { slot, ..attr });
+        let above = slot_above(&self.tree, path);
+        let made = self.tree.insert(path, Attr { slot, ..attr }, above);
         self.tree.known();
         if made.is_err() {
             return Err(ChargeFault::OutOfMemory);
         }
-        self.parents.set(slot, above);
         self.free.truncate(last);
         Ok(())
     }

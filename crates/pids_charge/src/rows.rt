@@ -45,8 +45,7 @@ pub(crate) fn put_row<A: Allocator + Clone>(
     ensures kept { OnErr result (processes.new ≡ processes.old) }
     ensures pid { IsPid pid }
 {
-    let number = pid.get();
-    processes.insert(number, process)
+    processes.insert(pid.get(), process)
 }
 
 // The group of one of the processes in a slot, if there is one.
@@ -54,13 +53,9 @@ fn home_of_slot<A: Allocator + Clone>(
     processes: &ProcessTable<A>,
     slot: u16,
 ) -> Option<&GroupPath<A>> {
-    match processes.unordered(slot).first() {
-        None => None,
-        Some(pid) => match processes.get(*pid) {
-            None => None,
-            Some(process) => Some(&process.home),
-        },
-    }
+    let pid = processes.unordered(slot).first()?;
+    let process = processes.get(*pid)?;
+    Some(&process.home)
 }
 
 // The path for a process that comes into a slot. Processes of a slot are in one group, so a long text is copied for the
@@ -139,6 +134,5 @@ pub(crate) fn take_row<A: Allocator + Clone>(
     ensures unchanged { result ≡ None → processes.new ≡ processes.old }
     ensures ordered { IsStrictlySortedBy nat_cmp (keys_of processes.new) }
 {
-    let number = pid.get();
-    processes.take(number)
+    processes.take(pid.get())
 }

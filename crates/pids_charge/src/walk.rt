@@ -1,16 +1,14 @@
-//! Walks from a group up to the root, by the slots of parents: what they charge and uncharge.
+//! Walks from a group up to the root, from row to row: what they charge and uncharge.
 
 ghost use Rattle.std.specs.Prelude.{◌≡◌, ℕ, ◌+◌, ◌<◌, ◌≤◌, length, IsSome, OnOk};
 ghost use Rattle.std.specs.FinMap as fin;
 ghost use Rattle.snzi_tokens.specs.Listed.{IsWithin, listed_at};
 ghost use Rattle.pids_charge.specs.Lists.{table_slot};
-ghost use Rattle.pids_charge.specs.Recount.{charges_at, charges_of, HasParents, IsPlaced, SlotsBelow};
+ghost use Rattle.pids_charge.specs.Recount.{charges_at, charges_of, IsPlaced, SlotsBelow};
 
 use crate::groups::GroupTable;
 use crate::meter::{HELD_MAX, Meter};
 use crate::notes::DEPTH_MAX;
-use crate::parents::Parents;
-use crate::slot::slot_in;
 use group_path::GroupPath;
 use process_table::Process;
 use snzi_tokens::Token;
@@ -20,7 +18,6 @@ use std::alloc::{AllocError, Allocator};
 // group are in their table. Does not descend the tree.
 pub(crate) fn charge_up<T: Allocator + Clone, M: Meter, A: Allocator + Clone>(
     tree: &GroupTable<T>,
-    parents: &Parents<T>,
     meter: &mut M,
     path: &GroupPath<A>,
     slot: u16,
@@ -30,7 +27,6 @@ pub(crate) fn charge_up<T: Allocator + Clone, M: Meter, A: Allocator + Clone>(
     requires home { IsSome (fin.get tree.now path.now) }
     requires slot { slot ≡ table_slot tree.now path.now }
     requires slots { SlotsBelow M.SLOTS tree.now }
-    requires parents { HasParents M.SLOTS tree.now parents.now }
     requires room { M.held meter.old + length path.now ≤ HELD_MAX }
     ensures content { (s j : ℕ) → M.content meter.new s j ≡ M.content meter.old s j + charges_at tree.now path.now leaf s j }
     ensures held { M.held meter.new ≡ M.held meter.old + length path.now }
@@ -42,16 +38,14 @@ pub(crate) fn charge_up<T: Allocator + Clone, M: Meter, A: Allocator + Clone>(
         if at == 0 {
             break;
         }
-        let slot = at - 1;
-        meter.charge(slot, leaf);
-        at = parents.up(slot);
+        meter.charge(at - 1, leaf);
+        at = tree.up(at);
     }
 }
 
 // Removes the charges of a process, from its own group upward. Does not descend the tree.
 pub(crate) fn uncharge_up<T: Allocator + Clone, M: Meter, A: Allocator + Clone>(
     tree: &GroupTable<T>,
-    parents: &Parents<T>,
     meter: &mut M,
     process: &Process<A>,
     stripe: u8,
@@ -59,7 +53,6 @@ pub(crate) fn uncharge_up<T: Allocator + Clone, M: Meter, A: Allocator + Clone>(
     requires stripe_below { stripe < M.LEAVES }
     requires placed { IsPlaced M.LEAVES tree.now process.now }
     requires slots { SlotsBelow M.SLOTS tree.now }
-    requires parents { HasParents M.SLOTS tree.now parents.now }
     requires charged { (s j : ℕ) → charges_of tree.now process.now s j ≤ M.content meter.old s j }
     ensures content { (s j : ℕ) → M.content meter.new s j + charges_of tree.now process.now s j ≡ M.content meter.old s j }
     ensures held { M.held meter.new + length process.now.home ≡ M.held meter.old }
@@ -71,16 +64,15 @@ pub(crate) fn uncharge_up<T: Allocator + Clone, M: Meter, A: Allocator + Clone>(
         if at == 0 {
             break;
         }
-        let slot = at - 1;
-        meter.uncharge(slot, process.leaf, stripe);
-        at = parents.up(slot);
+        meter.uncharge(at - 1, process.leaf, stripe);
+        at = tree.up(at);
     }
 }
 
-// Appends a token for the group of a path and for each group above it other than the root. Does not descend the tree.
-fn push_up<M: Meter, T: Allocator + Clone, A: Allocator + Clone, B: Allocator>(
+// Appends a token for the group of a path and for each group above it other than the root. `slot` is where the processes of
+// the group are in their table. Does not descend the tree.
+pub(crate) fn push_up<M: Meter, T: Allocator + Clone, A: Allocator + Clone, B: Allocator>(
     tree: &GroupTable<T>,
-    parents: &Parents<T>,
     path: &GroupPath<A>,
     slot: u16,
     leaf: u8,
@@ -90,7 +82,6 @@ fn push_up<M: Meter, T: Allocator + Clone, A: Allocator + Clone, B: Allocator>(
     requires home { IsSome (fin.get tree.now path.now) }
     requires slot { slot ≡ table_slot tree.now path.now }
     requires slots { SlotsBelow M.SLOTS tree.now }
-    requires parents { HasParents M.SLOTS tree.now parents.now }
     requires within { IsWithin M.SLOTS M.LEAVES tokens.old.items }
     ensures counted { OnOk result ((s j : ℕ) → listed_at tokens.new.items s j ≡ listed_at tokens.old.items s j + charges_at tree.now path.now leaf s j) }
     ensures many { OnOk result (length tokens.new.items ≡ length tokens.old.items + length path.now) }
@@ -105,53 +96,7 @@ fn push_up<M: Meter, T: Allocator + Clone, A: Allocator + Clone, B: Allocator>(
         }
         let slot = at - 1;
         tokens.push(Token { slot, leaf })?;
-        at = parents.up(slot);
+        at = tree.up(at);
     }
     Ok(())
-}
-
-// The same for a path alone. Descends the tree once.
-pub(crate) fn push_tokens<M: Meter, T: Allocator + Clone, A: Allocator + Clone, B: Allocator>(
-    tree: &GroupTable<T>,
-    parents: &Parents<T>,
-    path: &GroupPath<A>,
-    leaf: u8,
-    tokens: &mut Vec<Token, B>,
-) -> Result<(), AllocError>
-    requires leaf_below { leaf < M.LEAVES }
-    requires home { IsSome (fin.get tree.now path.now) }
-    requires slots { SlotsBelow M.SLOTS tree.now }
-    requires parents { HasParents M.SLOTS tree.now parents.now }
-    requires within { IsWithin M.SLOTS M.LEAVES tokens.old.items }
-    ensures counted { OnOk result ((s j : ℕ) → listed_at tokens.new.items s j ≡ listed_at tokens.old.items s j + charges_at tree.now path.now leaf s j) }
-    ensures many { OnOk result (length tokens.new.items ≡ length tokens.old.items + length path.now) }
-    ensures within { IsWithin M.SLOTS M.LEAVES tokens.new.items }
-{
-    let slot = slot_in::<M, _, _>(tree, path);
-    push_up::<M, _, _, _>(tree, parents, path, slot, leaf, tokens)
-}
-
-// Appends a token for each charge of a process, from its own group upward. Does not descend the tree.
-pub(crate) fn push_charges<M: Meter, T: Allocator + Clone, A: Allocator + Clone, B: Allocator>(
-    tree: &GroupTable<T>,
-    parents: &Parents<T>,
-    process: &Process<A>,
-    tokens: &mut Vec<Token, B>,
-) -> Result<(), AllocError>
-    requires placed { IsPlaced M.LEAVES tree.now process.now }
-    requires slots { SlotsBelow M.SLOTS tree.now }
-    requires parents { HasParents M.SLOTS tree.now parents.now }
-    requires within { IsWithin M.SLOTS M.LEAVES tokens.old.items }
-    ensures counted { OnOk result ((s j : ℕ) → listed_at tokens.new.items s j ≡ listed_at tokens.old.items s j + charges_of tree.now process.now s j) }
-    ensures many { OnOk result (length tokens.new.items ≡ length tokens.old.items + length process.now.home) }
-    ensures within { IsWithin M.SLOTS M.LEAVES tokens.new.items }
-{
-    push_up::<M, _, _, _>(
-        tree,
-        parents,
-        &process.home,
-        process.slot,
-        process.leaf,
-        tokens,
-    )
 }

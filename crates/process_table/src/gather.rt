@@ -46,7 +46,7 @@ fn append_inside<A: Allocator + Clone, P: Allocator + Clone, B: Allocator>(
     ensures { OnOk result ((q : ℕ) → count_by (eqb q) pids.new.items ≡ count_by (eqb q) pids.old.items + chosen_at slot path.now (process_at pages.now q)) }
 {
     if are_inside(pages, slots, slot, path) {
-        return slots.append_to(slot, pids);
+        return pids.extend_from_slice(slots.pids(slot));
     }
     Ok(())
 }

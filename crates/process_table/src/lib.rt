@@ -4,8 +4,8 @@
 //!   pids to processes is seen the same way, and the clauses use the same words.
 //! - Lookup, insertion and removal of a process take constant time. `take` allocates nothing, and returns the process
 //!   with the path that was inserted.
-//! - `members` and `inside` cost time in the number of processes that they list; `inside` also tests one path for each
-//!   slot. Both sort their list: O(n log n) for n pids. `unordered` borrows a slot's list in constant time, unsorted.
+//! - `inside` costs time in the number of processes that it lists, and tests one path for each slot. It sorts its list:
+//!   O(n log n) for n pids. `unordered` borrows a slot's list in constant time, unsorted.
 //! - `insert` is the only call that allocates memory for the table. If that fails, nothing that can be read has
 //!   changed.
 //!

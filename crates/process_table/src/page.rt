@@ -73,11 +73,7 @@ impl<A: Allocator + Clone> Page<A> {
     pub(crate) fn get(&self, at: usize) -> Option<&Cell<A>>
         ensures { option_copied result ≡ slice_index_or self.now at None }
     {
-        if at < self.cells.len() {
-            self.cells[at].as_ref()
-        } else {
-            None
-        }
+        self.cells.get(at)?.as_ref()
     }
 
     // Stores a cell, and returns the old one, if any.

@@ -154,18 +154,4 @@ impl<A: Allocator + Clone> Slots<A> {
             &[]
         }
     }
-
-    // Appends the pids of a slot.
-    pub(crate) fn append_to<B: Allocator>(
-        &self,
-        slot: usize,
-        pids: &mut Vec<u32, B>,
-    ) -> Result<(), AllocError>
-        ensures { OnOk result (pids.new.items ≡ pids.old.items ++ list_at self.now slot) }
-    {
-        if slot < self.lists.len() {
-            pids.extend_from_slice(self.lists[slot].as_slice())?;
-        }
-        Ok(())
-    }
 }

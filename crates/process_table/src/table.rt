@@ -71,10 +71,8 @@ impl<A: Allocator + Clone> ProcessTable<A> {
     pub fn get(&self, pid: u32) -> Option<&Process<A>>
         ensures { option_copied result ≡ lookup (is_at (nat_cmp pid)) self.now }
     {
-        match self.pages.get(pid) {
-            Some(cell) => Some(&cell.process),
-            None => None,
-        }
+        let cell = self.pages.get(pid)?;
+        Some(&cell.process)
     }
 
     /// Whether a process has this pid, in constant time.
@@ -113,27 +111,12 @@ impl<A: Allocator + Clone> ProcessTable<A> {
         take_out(&mut self.pages, &mut self.slots, pid)
     }
 
-    /// The pids of the processes in a slot, in no order: once sorted, they are those of `members`. Takes constant time and
-    /// allocates nothing.
+    /// The pids of the processes in a slot, in no order. Takes constant time and allocates nothing.
     pub fn unordered(&self, slot: u16) -> &[u32]
         ensures present { All (λ q. IsSome (lookup (is_at (nat_cmp q)) self.now)) result.now }
         ensures sorted { (pids : List ℕ) → IsPermutation result.now pids → IsSorted nat_cmp pids → pids ≡ map (λ e. e.0) (filter (λ e. eqb e.1.slot slot) self.now) }
     {
         self.slots.pids(usize::from(slot))
-    }
-
-    /// The pids of the processes in a slot, ascending. Takes O(n log n) for n pids, whatever the size of the table.
-    ///
-    /// # Errors
-    ///
-    /// `AllocError` when out of memory.
-    pub fn members<B: Allocator>(&self, alloc: B, slot: u16) -> Result<Vec<u32, B>, AllocError>
-        ensures { IfOk result (λ pids. pids.items ≡ map (λ e. e.0) (filter (λ e. eqb e.1.slot slot) self.now)) }
-    {
-        let mut pids = Vec::new(alloc);
-        self.slots.append_to(usize::from(slot), &mut pids)?;
-        pids.sort_unstable();
-        Ok(pids)
     }
 
     /// The pids of the processes at or below a group, ascending. The processes of a slot must all be in one group.

@@ -34,9 +34,7 @@ pub(crate) fn take_out<A: Allocator + Clone>(
     ensures before { result ≡ process_at pages.old pid }
     ensures after { (q : ℕ) → process_at pages.new q ≡ (if eqb pid q then None else process_at pages.old q) }
 {
-    let Some(cell) = pages.take(pid) else {
-        return None;
-    };
+    let cell = pages.take(pid)?;
     leave(pages, slots, cell.process.slot, cell.place);
     Some(cell.process)
 }

@@ -11,6 +11,7 @@ use Rattle.group_path.proofs.path.GroupPath.TheSendSync as group_path
 use Rattle.group_tree.proofs.attr.Attr.TheSendSync as attr
 use Rattle.group_tree.proofs.node.Node.TheLaws.TheKnot as knot
 use Rattle.std.proofs.alloc.Global.TheSendSync as global
+use Rattle.pids_charge.proofs.group.Group.TheSendSync as group
 use Rattle.pids_charge.proofs.hints.KeptPaths.TheSendSync as kept_paths
 use Rattle.pids_charge.proofs.pid.Pid.TheSendSync as pid
 use Rattle.process_table.proofs.table.ProcessTable.TheSendSync as process_table
@@ -36,6 +37,7 @@ book_send = search (
   inverse.the_field_send,
   meter.the_send,
   knot.crosses,
+  group.the_send,
   kept_paths.the_send,
   pid.the_send,
   process_table.the_send,

@@ -15,6 +15,7 @@ use Rattle.std.proofs.alloc.Global.TheSendSync as global
 use Rattle.group_path.proofs.path.GroupPath.TheSendSync as group_path
 use Rattle.group_tree.proofs.attr.Attr.TheSendSync as attr
 use Rattle.group_tree.proofs.node.Node.TheLaws.TheKnot as knot
+use Rattle.pids_charge.proofs.group.Group.TheSendSync as group
 use Rattle.pids_charge.proofs.hints.KeptPaths.TheSendSync as kept_paths
 use Rattle.pids_charge.proofs.pid.Pid.TheSendSync as pid
 use Rattle.pids_charge.proofs.plain.PlainMeter.TheSendSync as plain
@@ -35,6 +36,7 @@ ruleset parts = (
   command.the_field_send,
   inverse.the_field_send,
   knot.crosses,
+  group.the_send,
   kept_paths.the_send,
   pid.the_send,
   process_table.the_send,

@@ -1,5 +1,5 @@
 use Rattle.std.proofs.Common.{refl}
-use Rattle.hierarchy_laws.proofs.FlatLaws.{one_limit, one_group, reached_is, one_met, there_is, nobody_is}
+use Rattle.hierarchy_laws.proofs.FlatLaws.{one_limit, one_group, reached_is, there_is, nobody_is}
 use Rattle.hierarchy_laws.proofs.trees.groups_are_flat_groups.Goals as goal
 
 pub returns : goal.returns
@@ -17,7 +17,6 @@ returns c = record {
   pids_file = refl;
   descendants_file = refl;
   depth_file = refl;
-  met = one_met;
   there = there_is;
   nobody = nobody_is;
 }

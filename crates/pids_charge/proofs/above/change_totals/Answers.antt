@@ -19,30 +19,23 @@ loop-up-init g c =
 pub row-attr-requires : goal.row-attr-requires
 row-attr-requires g c =
     let p : Path = take c.args.n c.args.path.now in
-    let step = step_at g.M.Meter.SLOTS c.args.tree.now c.args.parents.now c.requires.parents c.requires.slots p c.requires.group c.known.ensures.prefixes (total_by (stepped c.args.change)) (λ k a. refl)
+    let step = step_at c.args.tree.now p c.requires.group c.known.ensures.prefixes (total_by (stepped c.args.change)) (λ k a. refl)
+    c.loop-up._up (omega (arith, length-take-le c.args.n c.args.path.now c.requires.at)) c.loop-up.tree c.loop-up.invariant.changed c.loop-up.at c.loop-up.invariant.at in
+    record { path = take (length p - c.loop-up._up) p; there = step.there; here = step.here }
+
+pub up-above-requires : goal.up-above-requires
+up-above-requires g c =
+    let p : Path = take c.args.n c.args.path.now in
+    let step = step_at c.args.tree.now p c.requires.group c.known.ensures.prefixes (total_by (stepped c.args.change)) (λ k a. refl)
     c.loop-up._up (omega (arith, length-take-le c.args.n c.args.path.now c.requires.at)) c.loop-up.tree c.loop-up.invariant.changed c.loop-up.at c.loop-up.invariant.at in
     record { path = take (length p - c.loop-up._up) p; there = step.there; here = step.here }
 
 pub put-requires-clause-group : goal.put-requires-clause-group
 put-requires-clause-group g c =
     let p : Path = take c.args.n c.args.path.now in
-    let step = step_at g.M.Meter.SLOTS c.args.tree.now c.args.parents.now c.requires.parents c.requires.slots p c.requires.group c.known.ensures.prefixes (total_by (stepped c.args.change)) (λ k a. refl)
+    let step = step_at c.args.tree.now p c.requires.group c.known.ensures.prefixes (total_by (stepped c.args.change)) (λ k a. refl)
     c.loop-up._up (omega (arith, length-take-le c.args.n c.args.path.now c.requires.at)) c.loop-up.tree c.loop-up.invariant.changed c.loop-up.at c.loop-up.invariant.at in
     record { path = take (length p - c.loop-up._up) p; there = step.there; here = step.here }
-
-pub overflow_sub-at : goal.overflow_sub-at
-overflow_sub-at g c =
-    let p : Path = take c.args.n c.args.path.now in
-    let step = step_at g.M.Meter.SLOTS c.args.tree.now c.args.parents.now c.requires.parents c.requires.slots p c.requires.group c.known.ensures.prefixes (total_by (stepped c.args.change)) (λ k a. refl)
-    c.loop-up._up (omega (arith, length-take-le c.args.n c.args.path.now c.requires.at)) c.loop-up.tree c.loop-up.invariant.changed c.loop-up.at c.loop-up.invariant.at in
-    step.positive
-
-pub up-at-requires : goal.up-at-requires
-up-at-requires g c =
-    let p : Path = take c.args.n c.args.path.now in
-    let step = step_at g.M.Meter.SLOTS c.args.tree.now c.args.parents.now c.requires.parents c.requires.slots p c.requires.group c.known.ensures.prefixes (total_by (stepped c.args.change)) (λ k a. refl)
-    c.loop-up._up (omega (arith, length-take-le c.args.n c.args.path.now c.requires.at)) c.loop-up.tree c.loop-up.invariant.changed c.loop-up.at c.loop-up.invariant.at in
-    omega (arith, step.below, c.requires.parents.many)
 
 pub loop-up-preserved : goal.loop-up-preserved
 loop-up-preserved g c =
@@ -50,12 +43,12 @@ loop-up-preserved g c =
     let f : ℕ → Attr → Attr = total_by (stepped c.args.change) in
     let row : Attr = c.row-attr.result.now in
     let l : c.loop-up._up < length p = omega (arith, length-take-le c.args.n c.args.path.now c.requires.at) in
-    let step = step_at g.M.Meter.SLOTS c.args.tree.now c.args.parents.now c.requires.parents c.requires.slots p c.requires.group c.known.ensures.prefixes f (λ k a. refl)
+    let step = step_at c.args.tree.now p c.requires.group c.known.ensures.prefixes f (λ k a. refl)
     c.loop-up._up l c.loop-up.tree c.loop-up.invariant.changed c.loop-up.at c.loop-up.invariant.at in
     let own : Path = take (length p - c.loop-up._up) p in
     let put = c.put.ensures own step.there step.here ∙ ap (λ (n : ℕ). fin.insert c.loop-up.tree own (record row { total = n })) c.of-total.ensures in
     record {
-      at = c.up-at.ensures ∙ step.next;
+      at = step.next c.up-above.result c.up-above.ensures;
       changed = λ q. further p f c.loop-up._up l c.args.tree.now c.loop-up.tree c.put.new.self row c.loop-up.invariant.changed (c.row-attr.ensures own step.there step.here) put q
           ∙ ap (λ (n : ℕ). option_map (up_by p f n q) (fin.get c.args.tree.now q)) (omega arith);
     }

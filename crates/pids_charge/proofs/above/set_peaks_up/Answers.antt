@@ -19,30 +19,23 @@ loop-i-init g c =
 pub row-attr-requires : goal.row-attr-requires
 row-attr-requires g c =
     let p : Path = take (length c.args.peaks.now) c.args.path.now in
-    let step = step_at g.M.Meter.SLOTS c.args.tree.now c.args.parents.now c.requires.parents c.requires.slots p c.requires.group c.known.ensures.prefixes (peak_by c.args.peaks.now) (λ k a. refl)
+    let step = step_at c.args.tree.now p c.requires.group c.known.ensures.prefixes (peak_by c.args.peaks.now) (λ k a. refl)
+    c.loop-i.i (omega (arith, length-take-le (length c.args.peaks.now) c.args.path.now c.requires.at)) c.loop-i.tree c.loop-i.invariant.changed c.loop-i.at c.loop-i.invariant.at in
+    record { path = take (length p - c.loop-i.i) p; there = step.there; here = step.here }
+
+pub up-above-requires : goal.up-above-requires
+up-above-requires g c =
+    let p : Path = take (length c.args.peaks.now) c.args.path.now in
+    let step = step_at c.args.tree.now p c.requires.group c.known.ensures.prefixes (peak_by c.args.peaks.now) (λ k a. refl)
     c.loop-i.i (omega (arith, length-take-le (length c.args.peaks.now) c.args.path.now c.requires.at)) c.loop-i.tree c.loop-i.invariant.changed c.loop-i.at c.loop-i.invariant.at in
     record { path = take (length p - c.loop-i.i) p; there = step.there; here = step.here }
 
 pub put-requires-clause-group : goal.put-requires-clause-group
 put-requires-clause-group g c =
     let p : Path = take (length c.args.peaks.now) c.args.path.now in
-    let step = step_at g.M.Meter.SLOTS c.args.tree.now c.args.parents.now c.requires.parents c.requires.slots p c.requires.group c.known.ensures.prefixes (peak_by c.args.peaks.now) (λ k a. refl)
+    let step = step_at c.args.tree.now p c.requires.group c.known.ensures.prefixes (peak_by c.args.peaks.now) (λ k a. refl)
     c.loop-i.i (omega (arith, length-take-le (length c.args.peaks.now) c.args.path.now c.requires.at)) c.loop-i.tree c.loop-i.invariant.changed c.loop-i.at c.loop-i.invariant.at in
     record { path = take (length p - c.loop-i.i) p; there = step.there; here = step.here }
-
-pub overflow_sub-at : goal.overflow_sub-at
-overflow_sub-at g c =
-    let p : Path = take (length c.args.peaks.now) c.args.path.now in
-    let step = step_at g.M.Meter.SLOTS c.args.tree.now c.args.parents.now c.requires.parents c.requires.slots p c.requires.group c.known.ensures.prefixes (peak_by c.args.peaks.now) (λ k a. refl)
-    c.loop-i.i (omega (arith, length-take-le (length c.args.peaks.now) c.args.path.now c.requires.at)) c.loop-i.tree c.loop-i.invariant.changed c.loop-i.at c.loop-i.invariant.at in
-    step.positive
-
-pub up-at-requires : goal.up-at-requires
-up-at-requires g c =
-    let p : Path = take (length c.args.peaks.now) c.args.path.now in
-    let step = step_at g.M.Meter.SLOTS c.args.tree.now c.args.parents.now c.requires.parents c.requires.slots p c.requires.group c.known.ensures.prefixes (peak_by c.args.peaks.now) (λ k a. refl)
-    c.loop-i.i (omega (arith, length-take-le (length c.args.peaks.now) c.args.path.now c.requires.at)) c.loop-i.tree c.loop-i.invariant.changed c.loop-i.at c.loop-i.invariant.at in
-    omega (arith, step.below, c.requires.parents.many)
 
 pub loop-i-preserved : goal.loop-i-preserved
 loop-i-preserved g c =
@@ -50,13 +43,13 @@ loop-i-preserved g c =
     let p : Path = take (length peaks) c.args.path.now in
     let row : Attr = c.row-attr.result.now in
     let l : c.loop-i.i < length p = omega (arith, length-take-le (length peaks) c.args.path.now c.requires.at) in
-    let step = step_at g.M.Meter.SLOTS c.args.tree.now c.args.parents.now c.requires.parents c.requires.slots p c.requires.group c.known.ensures.prefixes (peak_by peaks) (λ k a. refl)
+    let step = step_at c.args.tree.now p c.requires.group c.known.ensures.prefixes (peak_by peaks) (λ k a. refl)
     c.loop-i.i l c.loop-i.tree c.loop-i.invariant.changed c.loop-i.at c.loop-i.invariant.at in
     let own : Path = take (length p - c.loop-i.i) p in
     let peak : get_or peaks c.loop-i.i 0 ≡ get_or peaks c.loop-i.i row.peak = read_inside peaks c.loop-i.i 0 row.peak (omega arith) in
     let put = c.put.ensures own step.there step.here ∙ ap (λ (n : ℕ). fin.insert c.loop-i.tree own (record row { peak = n })) peak in
     record {
-      at = c.up-at.ensures ∙ step.next;
+      at = step.next c.up-above.result c.up-above.ensures;
       changed = λ q. further p (peak_by peaks) c.loop-i.i l c.args.tree.now c.loop-i.tree c.put.new.self row c.loop-i.invariant.changed (c.row-attr.ensures own step.there step.here) put q
           ∙ ap (λ (n : ℕ). option_map (up_by p (peak_by peaks) n q) (fin.get c.args.tree.now q)) (omega arith);
     }

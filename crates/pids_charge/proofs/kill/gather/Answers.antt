@@ -14,10 +14,20 @@ unreachable-requires g c =
     (c.as_slice-pid-items.ensures.value ∙ c.in_ok-pids.ensures) c.loop-pid.pid-index c.loop-pid-test.true (sym c.get.ensures
     ∙ ap option_copied c.in_default.is)
 
-pub push_charges-requires-clause-placed : goal.push_charges-requires-clause-placed
-push_charges-requires-clause-placed g c =
+pub push_up-requires-clause-leaf_below : goal.push_up-requires-clause-leaf_below
+push_up-requires-clause-leaf_below g c =
     let k : ℕ = get_or c.as_slice-pid-items.result.now c.loop-pid.pid-index 0 in
-    found_value (λ p. IsPlaced g.M.Meter.LEAVES c.args.tree.now p) (is_at (nat_cmp k)) c.args.processes.now c.in-Some.process.now c.requires.placed (sym c.in-Some.ensures)
+    (found_value (λ p. IsPlaced g.M.Meter.LEAVES c.args.tree.now p) (is_at (nat_cmp k)) c.args.processes.now c.in-Some.process.now c.requires.placed (sym c.in-Some.ensures)).leaf_below
+
+pub push_up-requires-clause-home : goal.push_up-requires-clause-home
+push_up-requires-clause-home g c =
+    let k : ℕ = get_or c.as_slice-pid-items.result.now c.loop-pid.pid-index 0 in
+    (found_value (λ p. IsPlaced g.M.Meter.LEAVES c.args.tree.now p) (is_at (nat_cmp k)) c.args.processes.now c.in-Some.process.now c.requires.placed (sym c.in-Some.ensures)).home
+
+pub push_up-requires-clause-slot : goal.push_up-requires-clause-slot
+push_up-requires-clause-slot g c =
+    let k : ℕ = get_or c.as_slice-pid-items.result.now c.loop-pid.pid-index 0 in
+    (found_value (λ p. IsPlaced g.M.Meter.LEAVES c.args.tree.now p) (is_at (nat_cmp k)) c.args.processes.now c.in-Some.process.now c.requires.placed (sym c.in-Some.ensures)).slot
 
 pub loop-pid-preserved : goal.loop-pid-preserved
 loop-pid-preserved g c =
@@ -29,7 +39,7 @@ loop-pid-preserved g c =
     let step : all ≡ e ∷ rest =
     next_row (is_inside c.args.path.now) es c.known.ensures c.as_slice-pid-items.result.now (c.as_slice-pid-items.ensures.value
     ∙ c.in_ok-pids.ensures) i c.loop-pid-test.true c.in-Some.process.now (sym c.in-Some.ensures) in
-    let told = c.in_ok-push_charges.ensures in
+    let told = c.in_ok-push_up.ensures in
     record {
       counted = λ s j. one_more_summed (λ p. charges_of c.args.tree.now p s j) e rest all _ _ _ step (told.counted s j) (c.loop-pid.invariant.counted s j);
       many = one_more_summed (λ p. length p.home) e rest all _ _ _ step told.many c.loop-pid.invariant.many;

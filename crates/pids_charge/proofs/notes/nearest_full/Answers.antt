@@ -32,7 +32,7 @@ is_full-requires g c =
     let n : ℕ = length p - c.loop-up.up in
     let low = own_below g.M.Meter.SLOTS tree c.requires.slots p c.requires.home c.known.ensures.prefixes c.loop-up.at n (omega arith) c.loop-up.invariant.at (omega (arith, c.if-at-eq0.false)) in
     let here = c.row.ensures (take n p) (c.known.ensures.prefixes p (take n p) c.requires.home (take_above n p)) c.loop-up.invariant.at in
-    record { slot = omega (arith, low, ap slot_of here) }
+    record { slot = omega (arith, low.0, ap slot_of here) }
 
 -- what the test answered
 told : (leaves : ℕ) (tree : Groups) (before now : Content) (p : Path) (n : ℕ) (row : Attr) (b : Bool) → Some row ≡ fin.get tree (take n p) → now ≡ before → b ≡ full_by leaves now (Some row)
@@ -40,11 +40,7 @@ told : (leaves : ℕ) (tree : Groups) (before now : Content) (p : Path) (n : ℕ
 told leaves tree before now p n row b here same answer = ap (full_by leaves before) (sym here) ∙ ap (λ (x : Content). full_by leaves x (Some row)) (sym same) ∙ sym answer
 
 pub up-at-requires : goal.up-at-requires
-up-at-requires g c =
-    let p : Path = c.args.path.now in
-    let up = step_up g.M.Meter.SLOTS c.args.tree.now c.args.parents.now c.requires.parents c.requires.slots p c.requires.home c.known.ensures.prefixes
-    c.loop-up.at (length p - c.loop-up.up) (length p - (c.loop-up.up + 1)) (omega arith) c.loop-up.invariant.at (omega (arith, c.if-at-eq0.false)) (omega arith) in
-    omega (arith, c.requires.parents.many, up.below)
+up-at-requires g c = of_group c.args.tree.now c.args.path.now c.requires.home c.known.ensures.prefixes c.loop-up.at (length c.args.path.now - c.loop-up.up) c.loop-up.invariant.at
 
 pub loop-up-preserved : goal.loop-up-preserved
 loop-up-preserved g c =
@@ -54,14 +50,14 @@ loop-up-preserved g c =
     let n : ℕ = length p - c.loop-up.up in
     let m : ℕ = length p - (c.loop-up.up + 1) in
     let full = λ (q : Path). full_by g.M.Meter.LEAVES (g.M.Meter.content c.args.meter.now) (fin.get tree q) in
-    let up = step_up g.M.Meter.SLOTS tree c.args.parents.now c.requires.parents c.requires.slots p c.requires.home c.known.ensures.prefixes
+    let up = step_up tree p c.requires.home c.known.ensures.prefixes
     c.loop-up.at n m (omega arith) i.at (omega (arith, c.if-at-eq0.false)) (omega arith) in
     let here = c.row.ensures (take n p) (c.known.ensures.prefixes p (take n p) c.requires.home (take_above n p)) i.at in
     let next : n ≡ m + 1 = omega (arith, up.more) in
     let no = told g.M.Meter.LEAVES tree (g.M.Meter.content c.args.meter.now) (g.M.Meter.content c.loop-up.meter) p n c.row.result.now c.is_full.result here i.same c.is_full.ensures.answer in
     record {
       bound = omega arith;
-      at = c.up-at.ensures ∙ up.next;
+      at = up.next c.up-at.result c.up-at.ensures;
       answer = i.answer ∙ ap (longest full p) next ∙ longest-no full p m (ap (λ (k : ℕ). full (take k p)) (sym next) ∙ no ∙ c.if-is_full.false);
       same = c.is_full.ensures.content ∙ i.same;
       held = c.is_full.ensures.held ∙ i.held;
@@ -75,7 +71,7 @@ returns-then-is_full-clause-answer g c =
     let n : ℕ = length p - c.loop-up.up in
     let m : ℕ = length p - (c.loop-up.up + 1) in
     let full = λ (q : Path). full_by g.M.Meter.LEAVES (g.M.Meter.content c.args.meter.now) (fin.get tree q) in
-    let up = step_up g.M.Meter.SLOTS tree c.args.parents.now c.requires.parents c.requires.slots p c.requires.home c.known.ensures.prefixes
+    let up = step_up tree p c.requires.home c.known.ensures.prefixes
     c.loop-up.at n m (omega arith) i.at (omega (arith, c.if-at-eq0.false)) (omega arith) in
     let here = c.row.ensures (take n p) (c.known.ensures.prefixes p (take n p) c.requires.home (take_above n p)) i.at in
     let next : n ≡ m + 1 = omega (arith, up.more) in

@@ -4,7 +4,7 @@ use Rattle.std.proofs.lemmas.Bool.Decides.{Decides-eqb}
 use Rattle.std.proofs.lemmas.Slice.Eq.{slice_eq-Decides}
 use Rattle.std.specs.FinMap as fin
 use Rattle.flat_model.specs.Path.{Path}
-use Rattle.group_tree.specs.PeaksAlong.{peaked_by, SetsPeaks}
+use Rattle.pids_charge.specs.Peaks.{peaked_by, SetsPeaks}
 use Rattle.pids_charge.specs.Lists.{table_slot}
 use Rattle.pids_charge.proofs.PeakRises.{none_set}
 use Rattle.pids_charge.proofs.FlatTotals.{slots_changed}

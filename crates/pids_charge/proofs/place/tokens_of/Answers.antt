@@ -9,7 +9,7 @@ with_next f xs i x old new h is so_far more = more ∙ ap (λ k. k + f x) so_far
 
 pub loop-lost-preserved : goal.loop-lost-preserved
 loop-lost-preserved g c =
-    let told = c.in_ok-push_tokens.ensures in
+    let told = c.in_ok-push_up.ensures in
     record {
       counted = λ s j. with_next (λ x. charges_at c.args.tree.now x.path c.args.leaf s j) c.args.list.now c.loop-lost.lost-index
           c.lost-item.result _ _ c.loop-lost-test.true c.lost-item.is (c.loop-lost.invariant.counted s j) (told.counted s j);

@@ -5,4 +5,4 @@ use Rattle.pids_charge.proofs.Entries.{removed_none}
 use Rattle.pids_charge.proofs.rows.take_row.Goals as goal
 
 pub returns-clause-unchanged : goal.returns-clause-unchanged
-returns-clause-unchanged g c = λ e. c.take.ensures.entries ∙ removed_none (is_at (nat_cmp c.get-number.result)) c.args.processes.now (sym c.take.ensures.value ∙ e)
+returns-clause-unchanged g c = λ e. c.take.ensures.entries ∙ removed_none (is_at (nat_cmp c.get.result)) c.args.processes.now (sym c.take.ensures.value ∙ e)

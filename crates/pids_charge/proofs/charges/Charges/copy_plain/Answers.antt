@@ -5,7 +5,7 @@ use Rattle.std.proofs.lemmas.List.Elements.{All-weaker}
 use Rattle.group_tree.specs.Groups.{Groups}
 use Rattle.pids_charge.specs.Content.{Content}
 use Rattle.pids_charge.specs.Lists.{Row, table_slot}
-use Rattle.pids_charge.specs.Recount.{IsPlaced, SlotsBelow, HasParents, HasSlots, Recounted, state_of}
+use Rattle.pids_charge.specs.Recount.{IsPlaced, SlotsBelow, HasSlots, Recounted, state_of}
 use Rattle.pids_charge.specs.Table.{table_at, table_held}
 use Rattle.pids_charge.specs.declared.plain.TheConstants.{SLOTS, LEAVES}
 use Rattle.pids_charge.proofs.MeterContents.{held_small}
@@ -31,12 +31,6 @@ pub copy_each-requires-clause-room : goal.copy_each-requires-clause-room
 copy_each-requires-clause-room g c =
     omega (arith, c.in_ok-meter.ensures.empty.none, c.self.invariant.recounted.held_is, held_small _ _ _ _ _ c.self.invariant.recounted c.self.invariant.has_slots.shallow)
 
-pub copy_each-requires-clause-parents : goal.copy_each-requires-clause-parents
-copy_each-requires-clause-parents g c =
-    subst (λ (t : Groups). HasParents SLOTS t c.in_ok-parents.parents) (sym c.in_ok-tree.ensures)
-    (subst (λ (parents : List ℕ). HasParents SLOTS c.self.inside.tree parents) (sym c.in_ok-parents.ensures)
-    (subst (λ (n : ℕ). HasParents n c.self.inside.tree c.self.inside.parents) c.requires c.self.invariant.has_parents))
-
 pub invariant_of-result : goal.invariant_of-result
 invariant_of-result g c =
     let es = c.self.inside.processes in
@@ -49,9 +43,6 @@ invariant_of-result g c =
       has_slots = subst (λ (t : Groups). HasSlots SLOTS t c.in_ok-free.free.items) (sym c.in_ok-tree.ensures)
           (subst (λ (free : List ℕ). HasSlots SLOTS c.self.inside.tree free) (sym c.in_ok-free.ensures.items)
           (subst (λ (n : ℕ). HasSlots n c.self.inside.tree c.self.inside.free.items) c.requires c.self.invariant.has_slots));
-      has_parents = subst (λ (t : Groups). HasParents SLOTS t c.in_ok-parents.parents) (sym c.in_ok-tree.ensures)
-          (subst (λ (parents : List ℕ). HasParents SLOTS c.self.inside.tree parents) (sym c.in_ok-parents.ensures)
-          (subst (λ (n : ℕ). HasParents n c.self.inside.tree c.self.inside.parents) c.requires c.self.invariant.has_parents));
       room = omega (arith, c.requires, c.SLOTS.ensures, c.in_ok-free.ensures.room);
       recounted = subst (λ (rows : List (Row g.row.B.Denot)). Recounted LEAVES tree rows content2 held2) (sym c.in_ok-processes.ensures.rows)
           (recounted g.row.B.Denot LEAVES g.M.Meter.LEAVES tree es content2 content held2 held

@@ -27,7 +27,6 @@ uncharge_up-requires-clause-charged g c = one_there _ _ _ _ _ c.self.invariant.r
 pub invariant_of-self-2 : goal.invariant_of-self-2
 invariant_of-self-2 g c = record {
   has_slots = c.self.invariant.has_slots;
-  has_parents = c.self.invariant.has_parents;
   room = c.self.invariant.room;
   recounted = taken _ _ _ _ _ c.self.invariant.recounted c.args.pid c.in-Some.process c.take_row.new.processes
       (g.M.Meter.content c.uncharge_up.new.meter) (g.M.Meter.held c.uncharge_up.new.meter)

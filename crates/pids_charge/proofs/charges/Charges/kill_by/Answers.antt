@@ -22,7 +22,7 @@ pub settle-requires-clause-charged : goal.settle-requires-clause-charged
 settle-requires-clause-charged g c = λ s j.
     rw (
       c.as_slice.ensures.value,
-      (c.in-Ok.ensures).counted s j,
+      (c.in_ok-pids.ensures).counted s j,
     ) (inside_there g.M.Meter.LEAVES c.self.inside.tree c.self.inside.processes
     (g.M.Meter.content c.self.inside.meter) (g.M.Meter.held c.self.inside.meter) c.self.invariant.recounted c.args.path.now s j)
 
@@ -36,18 +36,17 @@ settle-requires-clause-room g c =
 
 pub invariant_of-self : goal.invariant_of-self
 invariant_of-self g c =
-    let told = c.in-Ok.ensures in
+    let told = c.in_ok-pids.ensures in
     let go : List (Process g.row.A.Denot) = values_of (inside c.args.path.now c.self.inside.processes) in
     let counted = λ (s j : ℕ). ap (λ (ts : List Token). listed_at ts s j) c.as_slice.ensures.value ∙ told.counted s j in
     let many = ap length c.as_slice.ensures.value ∙ told.many in
     record {
       has_slots = c.self.invariant.has_slots;
-      has_parents = c.self.invariant.has_parents;
       room = c.self.invariant.room;
       recounted = killed g.M.Meter.LEAVES c.self.inside.tree c.self.inside.processes (g.M.Meter.content c.self.inside.meter)
           (g.M.Meter.held c.self.inside.meter) c.self.invariant.recounted c.args.path.now
           c.leave-lost.new.processes (g.M.Meter.content c.settle.new.meter) (g.M.Meter.held c.settle.new.meter) (c.leave-lost.ensures.stay
-          ∙ ap (λ (ks : List ℕ). without_each ks c.self.inside.processes) (c.as_slice-2.ensures.value ∙ (c.in-Ok.ensures).pids)
+          ∙ ap (λ (ks : List ℕ). without_each ks c.self.inside.processes) (c.as_slice-2.ensures.value ∙ (c.in_ok-pids.ensures).pids)
           ∙ left_rows (is_inside c.args.path.now) c.self.inside.processes c.self.invariant.recounted.ordered)
           c.leave-lost.ensures.ordered
           (λ s j. omega (arith, c.settle.ensures.content s j, counted s j)) (omega (arith, c.settle.ensures.held, many));
@@ -57,7 +56,7 @@ pub returns-clause-state : goal.returns-clause-state
 returns-clause-state g c = (
   c.in_default.ensures.first,
   ap (state_of c.self.inside.tree) (c.leave-lost.ensures.stay
-      ∙ ap (λ (ks : List ℕ). without_each ks c.self.inside.processes) (c.as_slice-2.ensures.value ∙ (c.in-Ok.ensures).pids)
+      ∙ ap (λ (ks : List ℕ). without_each ks c.self.inside.processes) (c.as_slice-2.ensures.value ∙ (c.in_ok-pids.ensures).pids)
       ∙ left_rows (is_inside c.args.path.now) c.self.inside.processes c.self.invariant.recounted.ordered)
       ∙ killed-is c.self.inside.tree c.self.inside.processes c.self.invariant.recounted.ordered c.args.path.now
       ∙ ap (λ (t : State). after t (Kill c.args.path.now)) c.self.view_is,
@@ -67,7 +66,7 @@ pub returns-clause-taken : goal.returns-clause-taken
 returns-clause-taken g c =
     c.of.ensures
     ∙ ap rows_of (c.leave-lost.ensures.lost ∙ ap (λ (ks : List ℕ). lost_each ks c.self.inside.processes) (c.as_slice-2.ensures.value
-    ∙ (c.in-Ok.ensures).pids) ∙ lost_rows (is_inside c.args.path.now) c.self.inside.processes c.self.invariant.recounted.ordered)
+    ∙ (c.in_ok-pids.ensures).pids) ∙ lost_rows (is_inside c.args.path.now) c.self.inside.processes c.self.invariant.recounted.ordered)
     ∙ lost-is c.self.inside.tree c.self.inside.processes c.self.invariant.recounted.ordered c.args.path.now
     ∙ ap (λ (t : State). lost t c.args.path.now) c.self.view_is
 
@@ -77,7 +76,7 @@ gather-requires-clause-homes g c =
 
 pub leave-lost-requires-clause-pids : goal.leave-lost-requires-clause-pids
 leave-lost-requires-clause-pids g c =
-    subst (All IsPid) (sym (c.as_slice-2.ensures.value ∙ (c.in-Ok.ensures).pids)) (kept_keys IsPid (is_inside c.args.path.now) c.self.inside.processes c.self.invariant.recounted.pids)
+    subst (All IsPid) (sym (c.as_slice-2.ensures.value ∙ (c.in_ok-pids.ensures).pids)) (kept_keys IsPid (is_inside c.args.path.now) c.self.inside.processes c.self.invariant.recounted.pids)
 
 pub leave-lost-requires-clause-room : goal.leave-lost-requires-clause-room
-leave-lost-requires-clause-room g c = omega (arith, ap length c.as_slice-2.ensures.value, (c.in-Ok.ensures).room)
+leave-lost-requires-clause-room g c = omega (arith, ap length c.as_slice-2.ensures.value, (c.in_ok-pids.ensures).room)

@@ -12,27 +12,27 @@ use Rattle.pids_charge.proofs.charges.Charges.move_back.Goals as goal
 pub unreachable-requires : goal.unreachable-requires
 unreachable-requires g c =
     let there = sym (process-is c.args.self.now c.self.inside.tree c.self.inside.processes c.self.view_is c.self.invariant.recounted.ordered c.args.pid) ∙ c.requires.process in
-    let gone = sym (ap is_some (sym c.in-Ok.ensures.old ∙ c.in_default-replaced.is)) ∙ there in
+    let gone = sym (ap is_some (sym c.in_ok-replaced.ensures.old ∙ c.in_default.is)) ∙ there in
     absurd (false≢true gone)
 
-pub slot_in-slot-requires-clause-group : goal.slot_in-slot-requires-clause-group
-slot_in-slot-requires-clause-group g c = there-is c.args.self.now c.self.inside.tree c.self.inside.processes c.self.view_is c.args.path.now c.requires.group
+pub slot_in-slot-requires : goal.slot_in-slot-requires
+slot_in-slot-requires g c = there-is c.args.self.now c.self.inside.tree c.self.inside.processes c.self.view_is c.args.path.now c.requires.group
 
 pub invariant_of-self : goal.invariant_of-self
 invariant_of-self g c =
-    subst (λ (rows : List (Row g.row.A.Denot)). IsWhole g.M.Meter.SLOTS g.M.Meter.LEAVES c.self.inside.tree c.self.inside.parents rows c.self.inside.free.items
+    subst (λ (rows : List (Row g.row.A.Denot)). IsWhole g.M.Meter.SLOTS g.M.Meter.LEAVES c.self.inside.tree rows c.self.inside.free.items
     (vec_capacity c.self.inside.free) (g.M.Meter.content c.self.inside.meter) (g.M.Meter.held c.self.inside.meter))
-    (sym c.in_default.ensures.kept) c.self.invariant
+    (sym c.in_err-replaced.ensures.kept) c.self.invariant
 
 pub charge_up-requires-clause-home : goal.charge_up-requires-clause-home
 charge_up-requires-clause-home g c = there-is c.args.self.now c.self.inside.tree c.self.inside.processes c.self.view_is c.args.path.now c.requires.group
 
 pub uncharge_up-requires-clause-placed : goal.uncharge_up-requires-clause-placed
-uncharge_up-requires-clause-placed g c = found_placed _ _ _ _ _ c.self.invariant.recounted c.args.pid c.in-Some.before (sym c.in-Ok.ensures.old ∙ c.in-Some.is)
+uncharge_up-requires-clause-placed g c = found_placed _ _ _ _ _ c.self.invariant.recounted c.args.pid c.in-Some.before (sym c.in_ok-replaced.ensures.old ∙ c.in-Some.is)
 
 pub uncharge_up-requires-clause-charged : goal.uncharge_up-requires-clause-charged
 uncharge_up-requires-clause-charged g c =
-    one_there _ _ _ _ _ c.self.invariant.recounted c.args.pid c.in-Some.before (sym c.in-Ok.ensures.old ∙ c.in-Some.is)
+    one_there _ _ _ _ _ c.self.invariant.recounted c.args.pid c.in-Some.before (sym c.in_ok-replaced.ensures.old ∙ c.in-Some.is)
 
 pub charge_up-requires-clause-room : goal.charge_up-requires-clause-room
 charge_up-requires-clause-room g c =
@@ -47,11 +47,10 @@ invariant_of-self-2 g c =
     let there = there-is c.args.self.now c.self.inside.tree c.self.inside.processes c.self.view_is c.args.path.now c.requires.group in
     record {
       has_slots = c.self.invariant.has_slots;
-      has_parents = c.self.invariant.has_parents;
       room = c.self.invariant.room;
       recounted = moved g.M.Meter.LEAVES c.self.inside.tree c.self.inside.processes (g.M.Meter.content c.self.inside.meter) (g.M.Meter.held c.self.inside.meter) c.self.invariant.recounted
           c.args.pid c.in-Some.before x c.put_copy.new.processes (g.M.Meter.content c.charge_up.new.meter) (g.M.Meter.held c.charge_up.new.meter)
-          (sym c.in-Ok.ensures.old ∙ c.in-Some.is) c.put_copy.ensures.pid c.in-Ok.ensures.entries c.put_copy.ensures.ordered
+          (sym c.in_ok-replaced.ensures.old ∙ c.in-Some.is) c.put_copy.ensures.pid c.in_ok-replaced.ensures.entries c.put_copy.ensures.ordered
           (record { home = there; slot = c.slot_in-slot.ensures; leaf_below = omega (arith, c.LEAVES.ensures, g.met.M.Meter.leaves_positive) })
           (λ s j. omega (arith, c.charge_up.ensures.content s j, c.uncharge_up.ensures.content s j))
           (omega (arith, c.charge_up.ensures.held, c.uncharge_up.ensures.held));
@@ -61,10 +60,10 @@ pub returns-clause-placed : goal.returns-clause-placed
 returns-clause-placed g c =
     let x : Process g.row.A.Denot = process_in c.args.path.now c.slot_in-slot.result (c.args.who % c.LEAVES.result) in
     moved-is c.args.self.now c.self.inside.tree c.self.inside.processes c.self.view_is c.self.invariant.recounted.ordered c.args.pid x
-    c.put_copy.new.processes c.args.path.now c.in-Ok.ensures.entries refl
+    c.put_copy.new.processes c.args.path.now c.in_ok-replaced.ensures.entries refl
 
 pub returns-clause-old_home : goal.returns-clause-old_home
 returns-clause-old_home g c =
     ap (λ (o : Option Path). unwrap_or o [])
     (sym (home-is c.args.self.now c.self.inside.tree c.self.inside.processes c.self.view_is c.self.invariant.recounted.ordered
-    c.args.pid ∙ ap (option_map (λ p. p.home)) (sym c.in-Ok.ensures.old ∙ c.in-Some.is)))
+    c.args.pid ∙ ap (option_map (λ p. p.home)) (sym c.in_ok-replaced.ensures.old ∙ c.in-Some.is)))

@@ -7,8 +7,8 @@ use Rattle.pids_charge.proofs.FlatGroups.{there-is, no_home, moved-is}
 use Rattle.pids_charge.proofs.MeterContents.{held_small, added}
 use Rattle.pids_charge.proofs.charges.Charges.place.Goals as goal
 
-pub slot_in-slot-requires-clause-group : goal.slot_in-slot-requires-clause-group
-slot_in-slot-requires-clause-group g c = there-is c.args.self.now c.self.inside.tree c.self.inside.processes c.self.view_is c.args.path.now c.requires.group
+pub slot_in-slot-requires : goal.slot_in-slot-requires
+slot_in-slot-requires g c = there-is c.args.self.now c.self.inside.tree c.self.inside.processes c.self.view_is c.args.path.now c.requires.group
 
 pub charge_up-requires-clause-home : goal.charge_up-requires-clause-home
 charge_up-requires-clause-home g c = there-is c.args.self.now c.self.inside.tree c.self.inside.processes c.self.view_is c.args.path.now c.requires.group
@@ -21,20 +21,19 @@ charge_up-requires-clause-room g c =
 
 pub invariant_of-self : goal.invariant_of-self
 invariant_of-self g c =
-    subst (λ (rows : List (Row g.row.A.Denot)). IsWhole g.M.Meter.SLOTS g.M.Meter.LEAVES c.self.inside.tree c.self.inside.parents rows c.self.inside.free.items
+    subst (λ (rows : List (Row g.row.A.Denot)). IsWhole g.M.Meter.SLOTS g.M.Meter.LEAVES c.self.inside.tree rows c.self.inside.free.items
     (vec_capacity c.self.inside.free) (g.M.Meter.content c.self.inside.meter) (g.M.Meter.held c.self.inside.meter))
-    (sym c.in_default.ensures.kept) c.self.invariant
+    (sym c.in_err-put_copy.ensures.kept) c.self.invariant
 
 pub invariant_of-self-2 : goal.invariant_of-self-2
 invariant_of-self-2 g c =
     let x : Process g.row.A.Denot = process_in c.args.path.now c.slot_in-slot.result (c.args.who % c.LEAVES.result) in
     record {
       has_slots = c.self.invariant.has_slots;
-      has_parents = c.self.invariant.has_parents;
       room = c.self.invariant.room;
       recounted = added _ _ _ _ _ c.self.invariant.recounted c.args.pid x c.put_copy.new.processes (g.M.Meter.content c.charge_up.new.meter) (g.M.Meter.held c.charge_up.new.meter)
           (no_home c.args.self.now c.self.inside.tree c.self.inside.processes c.self.view_is c.self.invariant.recounted.ordered c.args.pid
-          c.requires.new) c.put_copy.ensures.pid c.in-Ok.ensures.entries c.put_copy.ensures.ordered
+          c.requires.new) c.put_copy.ensures.pid c.in_ok-put_copy.ensures.entries c.put_copy.ensures.ordered
           (record {
             home = there-is c.args.self.now c.self.inside.tree c.self.inside.processes c.self.view_is c.args.path.now
                 c.requires.group;
@@ -50,4 +49,4 @@ pub returns-clause-placed : goal.returns-clause-placed
 returns-clause-placed g c =
     let x : Process g.row.A.Denot = process_in c.args.path.now c.slot_in-slot.result (c.args.who % c.LEAVES.result) in
     moved-is c.args.self.now c.self.inside.tree c.self.inside.processes c.self.view_is c.self.invariant.recounted.ordered c.args.pid x
-    c.put_copy.new.processes c.args.path.now c.in-Ok.ensures.entries refl
+    c.put_copy.new.processes c.args.path.now c.in_ok-put_copy.ensures.entries refl

@@ -1,51 +1,75 @@
-use Rattle.std.proofs.Common.{◌-◌, length, take, Some, is_some, arith, sym, refl, ap, ◌∙◌}
+use Rattle.std.proofs.Common.{◌≡◌, ◌-◌, IsSome, length, take, Some, is_some, arith, sym, refl, ap, ◌∙◌, subst, ℕ}
 use Rattle.std.proofs.lemmas.Bool.Decides.{nat_tests}
+use Rattle.std.specs.FinMap as fin
 use Rattle.flat_model.specs.Path.{parent}
-use Rattle.flat_model.specs.Counts.{is_group}
 use Rattle.flat_model.specs.Command as model
-use Rattle.group_tree.specs.Limits.{refusal_along}
-use Rattle.pids_charge.proofs.FlatGroups.{group-is, stands-is, len-is, make_exists, make_no_parent, make_blocked, make_full, make_allowed}
+use Rattle.pids_charge.specs.HierarchyLimits.{refusal_along}
+use Rattle.pids_charge.specs.Lists.{table_slot}
+use Rattle.pids_charge.proofs.FlatGroups.{blocked-is, group-is, is_none, len-is, make_exists, make_no_parent, make_blocked, make_full, make_allowed}
+use Rattle.pids_charge.proofs.GroupReads.{matched}
+use Rattle.pids_charge.proofs.Slots.{has_names}
 use Rattle.pids_charge.proofs.charges.Charges.refuses_mkdir.Goals as goal
 
-pub returns-in-Exists-clause-first : goal.returns-in-Exists-clause-first
-returns-in-Exists-clause-first g c =
-    make_exists g.M.Meter.SLOTS c.args.self.now c.args.path.now (group-is c.args.self.now c.self.inside.tree c.self.inside.processes c.self.view_is c.args.path.now ∙ c.in-Exists.ensures)
+pub returns-then-is_some-clause-first : goal.returns-then-is_some-clause-first
+returns-then-is_some-clause-first g c = make_exists g.M.Meter.SLOTS c.args.self.now c.args.path.now (group-is c.args.self.now c.self.inside.tree c.self.inside.processes c.self.view_is c.args.path.now ∙ sym (matched c.find_row.result (fin.get c.self.inside.tree c.args.path.now) _ c.find_row.ensures) ∙ sym c.is_some.ensures ∙ c.if-is_some.true)
 
-pub returns-in-NoParent-clause-first : goal.returns-in-NoParent-clause-first
-returns-in-NoParent-clause-first g c =
-    let absent = group-is c.args.self.now c.self.inside.tree c.self.inside.processes c.self.view_is c.args.path.now ∙ ap is_some c.in-NoParent.ensures.0 in
-    let gone = group-is c.args.self.now c.self.inside.tree c.self.inside.processes c.self.view_is (parent c.args.path.now) ∙ ap is_some c.in-NoParent.ensures.1 in
-    let above = c.saturating_sub.ensures ∙ ap (λ n. n - 1) c.depth.ensures in
-    make_no_parent g.M.Meter.SLOTS c.args.self.now c.args.path.now c.saturating_sub.result above absent (ap (λ n. is_group c.args.self.now (take n c.args.path.now)) above ∙ gone)
+pub returns-in_default-clause-first : goal.returns-in_default-clause-first
+returns-in_default-clause-first g c =
+    let absent = group-is c.args.self.now c.self.inside.tree c.self.inside.processes c.self.view_is c.args.path.now ∙ sym (matched c.find_row.result (fin.get c.self.inside.tree c.args.path.now) _ c.find_row.ensures) ∙ sym c.is_some.ensures ∙ c.if-is_some.false in
+    let up : c.saturating_sub-n.result ≡ length c.args.path.now - 1 = c.saturating_sub-n.ensures ∙ ap (λ n. n - 1) c.depth.ensures in
+    make_no_parent g.M.Meter.SLOTS c.args.self.now c.args.path.now c.saturating_sub-n.result up absent
+    (group-is c.args.self.now c.self.inside.tree c.self.inside.processes c.self.view_is (take c.saturating_sub-n.result c.args.path.now) ∙ ap is_some c.in_default.ensures)
 
-pub returns-in-Met-Descendants-clause-first : goal.returns-in-Met-Descendants-clause-first
-returns-in-Met-Descendants-clause-first g c =
+pub first_met-requires-clause-names : goal.first_met-requires-clause-names
+first_met-requires-clause-names g c =
+    let named = has_names c.self.inside.tree c.self.invariant.has_slots.closed c.args.path.now (is_none (fin.get c.self.inside.tree c.args.path.now)
+    (sym (matched c.find_row.result (fin.get c.self.inside.tree c.args.path.now) _ c.find_row.ensures) ∙ sym c.is_some.ensures ∙ c.if-is_some.false)) in
+    omega (arith, named, c.saturating_sub-n.ensures, c.depth.ensures)
+
+pub first_met-requires-clause-parent : goal.first_met-requires-clause-parent
+first_met-requires-clause-parent g c =
+    let up : c.saturating_sub-n.result ≡ length c.args.path.now - 1 = c.saturating_sub-n.ensures ∙ ap (λ n. n - 1) c.depth.ensures in
+    subst (λ (n : ℕ). IsSome (fin.get c.self.inside.tree (take n c.args.path.now))) up c.in-Some.ensures.0
+
+pub first_met-requires-clause-above : goal.first_met-requires-clause-above
+first_met-requires-clause-above g c =
+    let up : c.saturating_sub-n.result ≡ length c.args.path.now - 1 = c.saturating_sub-n.ensures ∙ ap (λ n. n - 1) c.depth.ensures in
+    c.in-Some.ensures.1 ∙ ap (λ (n : ℕ). table_slot c.self.inside.tree (take n c.args.path.now)) up
+
+pub returns-in-Some-Descendants-clause-first : goal.returns-in-Some-Descendants-clause-first
+returns-in-Some-Descendants-clause-first g c =
+    let absent = group-is c.args.self.now c.self.inside.tree c.self.inside.processes c.self.view_is c.args.path.now ∙ sym (matched c.find_row.result (fin.get c.self.inside.tree c.args.path.now) _ c.find_row.ensures) ∙ sym c.is_some.ensures ∙ c.if-is_some.false in
+    let up : c.saturating_sub-n.result ≡ length c.args.path.now - 1 = c.saturating_sub-n.ensures ∙ ap (λ n. n - 1) c.depth.ensures in
+    let above = group-is c.args.self.now c.self.inside.tree c.self.inside.processes c.self.view_is (take c.saturating_sub-n.result c.args.path.now) ∙ c.in-Some.ensures.0 in
+    let met = blocked-is c.self.inside.tree c.self.inside.processes c.args.self.now c.self.view_is c.args.path.now _ c.in-Some-Descendants.ensures in
+    make_blocked g.M.Meter.SLOTS c.args.self.now c.args.path.now c.saturating_sub-n.result (model.Descendants (take c.in-Some-Descendants.n c.args.path.now)) up absent above
+    (met ∙ ap (λ met. Some (refusal_along c.args.path.now met)) c.in-Some-Descendants.field-0-is) ∙ ap (λ n. Some (model.Descendants (take n c.args.path.now))) (sym c.in-Some-Descendants.n-is)
+
+pub returns-in-Some-Depth-clause-first : goal.returns-in-Some-Depth-clause-first
+returns-in-Some-Depth-clause-first g c =
+    let absent = group-is c.args.self.now c.self.inside.tree c.self.inside.processes c.self.view_is c.args.path.now ∙ sym (matched c.find_row.result (fin.get c.self.inside.tree c.args.path.now) _ c.find_row.ensures) ∙ sym c.is_some.ensures ∙ c.if-is_some.false in
+    let up : c.saturating_sub-n.result ≡ length c.args.path.now - 1 = c.saturating_sub-n.ensures ∙ ap (λ n. n - 1) c.depth.ensures in
+    let above = group-is c.args.self.now c.self.inside.tree c.self.inside.processes c.self.view_is (take c.saturating_sub-n.result c.args.path.now) ∙ c.in-Some.ensures.0 in
+    let met = blocked-is c.self.inside.tree c.self.inside.processes c.args.self.now c.self.view_is c.args.path.now _ c.in-Some-Depth.ensures in
+    make_blocked g.M.Meter.SLOTS c.args.self.now c.args.path.now c.saturating_sub-n.result (model.Depth (take c.in-Some-Depth.n c.args.path.now)) up absent above
+    (met ∙ ap (λ met. Some (refusal_along c.args.path.now met)) c.in-Some-Depth.field-0-is) ∙ ap (λ n. Some (model.Depth (take n c.args.path.now))) (sym c.in-Some-Depth.n-is)
+
+pub returns-in-None-clause-first : goal.returns-in-None-clause-first
+returns-in-None-clause-first g c =
+    let absent = group-is c.args.self.now c.self.inside.tree c.self.inside.processes c.self.view_is c.args.path.now ∙ sym (matched c.find_row.result (fin.get c.self.inside.tree c.args.path.now) _ c.find_row.ensures) ∙ sym c.is_some.ensures ∙ c.if-is_some.false in
+    let up : c.saturating_sub-n.result ≡ length c.args.path.now - 1 = c.saturating_sub-n.ensures ∙ ap (λ n. n - 1) c.depth.ensures in
+    let above = group-is c.args.self.now c.self.inside.tree c.self.inside.processes c.self.view_is (take c.saturating_sub-n.result c.args.path.now) ∙ c.in-Some.ensures.0 in
+    let met = blocked-is c.self.inside.tree c.self.inside.processes c.args.self.now c.self.view_is c.args.path.now _ c.in-None.ensures in
     let whole = c.self.invariant.has_slots.whole in
-    let h = stands-is c.self.inside.tree c.self.inside.processes c.args.self.now c.self.view_is c.args.path.now _ c.in-Met-Descendants.ensures (omega (arith, whole, c.self.invariant.has_slots.few)) in
-    make_blocked g.M.Meter.SLOTS c.args.self.now c.args.path.now (length c.args.path.now - 1)
-    (model.Descendants (take c.in-Met-Descendants.n c.args.path.now)) refl h.0 h.1 (h.2
-    ∙ ap (λ met. Some (refusal_along c.args.path.now met)) c.in-Met-Descendants.field-0-is)
-    ∙ ap (λ n. Some (model.Descendants (take n c.args.path.now))) (sym c.in-Met-Descendants.n-is)
-
-pub returns-in-Met-Depth-clause-first : goal.returns-in-Met-Depth-clause-first
-returns-in-Met-Depth-clause-first g c =
-    let whole = c.self.invariant.has_slots.whole in
-    let h = stands-is c.self.inside.tree c.self.inside.processes c.args.self.now c.self.view_is c.args.path.now _ c.in-Met-Depth.ensures (omega (arith, whole, c.self.invariant.has_slots.few)) in
-    make_blocked g.M.Meter.SLOTS c.args.self.now c.args.path.now (length c.args.path.now - 1)
-    (model.Depth (take c.in-Met-Depth.n c.args.path.now)) refl h.0 h.1 (h.2
-    ∙ ap (λ met. Some (refusal_along c.args.path.now met)) c.in-Met-Depth.field-0-is)
-    ∙ ap (λ n. Some (model.Depth (take n c.args.path.now))) (sym c.in-Met-Depth.n-is)
-
-pub returns-in-Free-clause-first : goal.returns-in-Free-clause-first
-returns-in-Free-clause-first g c =
-    let whole = c.self.invariant.has_slots.whole in
-    let h = stands-is c.self.inside.tree c.self.inside.processes c.args.self.now c.self.view_is c.args.path.now _ c.in-Free.ensures (omega (arith, whole, c.self.invariant.has_slots.few)) in
     let groups = len-is c.self.inside.tree c.self.inside.processes c.args.self.now c.self.view_is in
-    make_full g.M.Meter.SLOTS c.args.self.now c.args.path.now (length c.args.path.now - 1) refl h.0 h.1 h.2 (grind (arith, nat_tests, sym c.is_empty.ensures ∙ c.if-is_empty.true, whole, groups))
+    make_full g.M.Meter.SLOTS c.args.self.now c.args.path.now c.saturating_sub-n.result up absent above met (grind (arith, nat_tests, sym c.is_empty.ensures ∙ c.if-is_empty.true, whole, groups))
 
-pub returns-in-Free-2-clause-first : goal.returns-in-Free-2-clause-first
-returns-in-Free-2-clause-first g c =
+pub returns-in-None-2-clause-first : goal.returns-in-None-2-clause-first
+returns-in-None-2-clause-first g c =
+    let absent = group-is c.args.self.now c.self.inside.tree c.self.inside.processes c.self.view_is c.args.path.now ∙ sym (matched c.find_row.result (fin.get c.self.inside.tree c.args.path.now) _ c.find_row.ensures) ∙ sym c.is_some.ensures ∙ c.if-is_some.false in
+    let up : c.saturating_sub-n.result ≡ length c.args.path.now - 1 = c.saturating_sub-n.ensures ∙ ap (λ n. n - 1) c.depth.ensures in
+    let above = group-is c.args.self.now c.self.inside.tree c.self.inside.processes c.self.view_is (take c.saturating_sub-n.result c.args.path.now) ∙ c.in-Some.ensures.0 in
+    let met = blocked-is c.self.inside.tree c.self.inside.processes c.args.self.now c.self.view_is c.args.path.now _ c.in-None-2.ensures in
     let whole = c.self.invariant.has_slots.whole in
-    let h = stands-is c.self.inside.tree c.self.inside.processes c.args.self.now c.self.view_is c.args.path.now _ c.in-Free-2.ensures (omega (arith, whole, c.self.invariant.has_slots.few)) in
     let groups = len-is c.self.inside.tree c.self.inside.processes c.args.self.now c.self.view_is in
-    make_allowed g.M.Meter.SLOTS c.args.self.now c.args.path.now (length c.args.path.now - 1) refl h.0 h.1 h.2 (grind (arith, nat_tests, sym c.is_empty.ensures ∙ c.if-is_empty.false, whole, groups))
+    make_allowed g.M.Meter.SLOTS c.args.self.now c.args.path.now c.saturating_sub-n.result up absent above met (grind (arith, nat_tests, sym c.is_empty.ensures ∙ c.if-is_empty.false, whole, groups))

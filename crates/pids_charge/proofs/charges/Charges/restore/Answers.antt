@@ -1,13 +1,12 @@
 use Rattle.std.proofs.Common.{◌≡◌, ℕ, ◌-◌, ◌<◌, ◌++◌, ◌∷◌, [], List, length, take, get_or, arith, sym, ap, ◌∙◌, subst}
 use Rattle.std.specs.FinMap as fin
-use Rattle.std.specs.Prelude.{slice_set}
 use Rattle.flat_model.specs.Path.{parent}
 use Rattle.group_tree.specs.declared.attr.Attr.{Attr}
 use Rattle.group_tree.specs.Groups.{Groups, IsClosed}
-use Rattle.pids_charge.specs.Recount.{HasParents, HasSlots}
+use Rattle.pids_charge.specs.Recount.{HasSlots}
 use Rattle.group_tree.specs.Flat.{group_of}
 use Rattle.pids_charge.proofs.InRows.{in_that_case}
-use Rattle.pids_charge.proofs.Slots.{has_names, has_slots, has_parents, not_mapped, not_used, was_free, last-is, kept}
+use Rattle.pids_charge.proofs.Slots.{has_names, has_slots, not_mapped, not_used, was_free, last-is, kept}
 use Rattle.pids_charge.proofs.MeterContents.{grown_tree}
 use Rattle.pids_charge.proofs.FlatGroups.{group-get, len-is, there-is}
 use Rattle.pids_charge.proofs.LimitWrites.{written-is}
@@ -30,6 +29,10 @@ slot_above-above-requires-clause-below_root g c = has_names c.self.inside.tree c
 
 pub insert-made-requires-clause-few : goal.insert-made-requires-clause-few
 insert-made-requires-clause-few g c =
+    omega (arith, c.self.invariant.has_slots.few, len-is c.self.inside.tree c.self.inside.processes c.args.self.now c.self.view_is, c.requires.slot)
+
+pub insert-made-requires-clause-slot : goal.insert-made-requires-clause-slot
+insert-made-requires-clause-slot g c =
     let h = c.self.invariant.has_slots in
     let free : List ℕ = c.self.inside.free.items in
     let pos : 0 < length free = omega (arith, h.whole, len-is c.self.inside.tree c.self.inside.processes c.args.self.now c.self.view_is, c.requires.slot) in
@@ -63,17 +66,6 @@ insert-made-requires-clause-free g c =
     let gone = not_mapped group_of (fin.get c.self.inside.tree c.args.path.now) (group-get c.args.self.now c.self.inside.tree c.self.inside.processes c.self.view_is c.args.path.now ∙ c.requires.new) in
     λ q named there. not_used g.M.Meter.SLOTS c.self.inside.tree free h c.args.path.now x (take (length free - 1) free) split gone q named there
 
-pub set-requires : goal.set-requires
-set-requires g c =
-    let h = c.self.invariant.has_slots in
-    let free : List ℕ = c.self.inside.free.items in
-    let pos : 0 < length free = omega (arith, h.whole, len-is c.self.inside.tree c.self.inside.processes c.args.self.now c.self.view_is, c.requires.slot) in
-    let many : c.len-last.result ≡ length free = omega (arith, c.len-last.ensures) in
-    let now : ℕ = c.index-slot.result.now in
-    let split : free ≡ take (length free - 1) free ++ now ∷ [] =
-    last-is free now now pos (sym (c.index-slot.ensures ∙ ap (λ n. get_or free (n - 1) now) many)) in
-    omega (arith, was_free g.M.Meter.SLOTS c.self.inside.tree free h now (take (length free - 1) free) split, c.self.invariant.has_parents.many)
-
 pub invariant_of-self-2 : goal.invariant_of-self-2
 invariant_of-self-2 g c =
     let h = c.self.invariant.has_slots in
@@ -92,11 +84,6 @@ invariant_of-self-2 g c =
     record {
       has_slots = subst (λ (t : Groups). HasSlots g.M.Meter.SLOTS t c.truncate.new.self.items) (sym grown)
           (subst (λ (f : List ℕ). HasSlots g.M.Meter.SLOTS (fin.insert c.self.inside.tree c.args.path.now x) f) (sym gone) made);
-      has_parents = subst (HasParents g.M.Meter.SLOTS c.insert-made.new.self) (sym c.set.ensures)
-          (subst (λ (t : Groups). HasParents g.M.Meter.SLOTS t (slice_set c.self.inside.parents x.slot c.slot_above-above.result)) (sym grown)
-          (has_parents g.M.Meter.SLOTS c.self.inside.tree free h c.args.path.now x (take (length free - 1) free) split absent h.closed
-          (there-is c.args.self.now c.self.inside.tree c.self.inside.processes c.self.view_is (parent c.args.path.now) c.requires.parent)
-          c.self.inside.parents c.slot_above-above.result c.slot_above-above.ensures c.self.invariant.has_parents));
       room = omega (arith, c.self.invariant.room, c.truncate.ensures.capacity);
       recounted = grown_tree g.M.Meter.LEAVES c.self.inside.tree c.self.inside.processes (g.M.Meter.content c.self.inside.meter)
           (g.M.Meter.held c.self.inside.meter) c.self.invariant.recounted c.insert-made.new.self

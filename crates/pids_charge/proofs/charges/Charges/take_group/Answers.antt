@@ -7,9 +7,9 @@ use Rattle.flat_model.proofs.MapValues.{map_values-remove}
 use Rattle.flat_model.proofs.PathLaws.{path_cmp-IsTotalOrder, path_cmp-IsAntisymmetric}
 use Rattle.group_tree.specs.Flat.{group_of}
 use Rattle.group_tree.specs.Groups.{Groups, IsClosed}
-use Rattle.pids_charge.specs.Recount.{HasParents, HasSlots, Recounted, state_of}
+use Rattle.pids_charge.specs.Recount.{HasSlots, Recounted, state_of}
 use Rattle.pids_charge.proofs.FlatGroups.{group-at}
-use Rattle.pids_charge.proofs.Removals.{MayGo, remove_may, is_group_there, not_refused, has_below, not_root, freed, parents_left, room, nobody}
+use Rattle.pids_charge.proofs.Removals.{MayGo, remove_may, is_group_there, not_refused, has_below, not_root, freed, room, nobody}
 use Rattle.pids_charge.proofs.charges.Charges.take_group.Goals as goal
 
 pub unreachable-requires : goal.unreachable-requires
@@ -48,8 +48,6 @@ invariant_of-self g c =
     record {
       has_slots = subst (λ (t : Groups). HasSlots g.M.Meter.SLOTS t c.push.new.self.items) (sym made)
           (subst (λ (f : List ℕ). HasSlots g.M.Meter.SLOTS (fin.remove tree c.args.path.now) f) (sym c.in-Ok-push.ensures.items) slots);
-      has_parents = subst (λ (t : Groups). HasParents g.M.Meter.SLOTS t c.self.inside.parents) (sym made)
-          (parents_left g.M.Meter.SLOTS tree free c.self.invariant.has_slots c.args.path.now c.in-Ok.attr pos here closed c.self.inside.parents c.self.invariant.has_parents);
       room = omega (arith, c.self.invariant.room, c.in-Ok-push.ensures.capacity);
       recounted = subst (λ (t : Groups). Recounted g.M.Meter.LEAVES t es (g.M.Meter.content c.self.inside.meter) (g.M.Meter.held c.self.inside.meter)) (sym made) same;
     }

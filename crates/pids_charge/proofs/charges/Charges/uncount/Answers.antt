@@ -1,24 +1,50 @@
-use Rattle.std.proofs.Common.{ap, ◌∙◌}
+use Rattle.std.proofs.Common.{◌≡◌, ℕ, ◌-◌, IsSome, take, sym, ap, ◌∙◌, subst}
+use Rattle.std.proofs.Math.Seq.{take-length}
+use Rattle.std.specs.FinMap as fin
+use Rattle.flat_model.specs.Path.{Path}
 use Rattle.flat_model.specs.State.{State}
+use Rattle.flat_model.specs.Step.{count_down}
 use Rattle.flat_model.specs.Inverse.{back, Counted}
+use Rattle.pids_charge.specs.Events.{CountsRefusals}
+use Rattle.pids_charge.specs.Lists.{table_slot}
 use Rattle.pids_charge.specs.Recount.{state_of}
 use Rattle.pids_charge.proofs.FlatGroups.{there-is}
-use Rattle.pids_charge.proofs.Changes.{parents_stay, slots_stay, charges_stay}
+use Rattle.pids_charge.proofs.FlatTotals.{flat-counts, same_slots, down_each}
+use Rattle.pids_charge.proofs.Changes.{slots_stay, charges_stay}
 use Rattle.pids_charge.proofs.charges.Charges.uncount.Goals as goal
 
-pub invariant_of-self : goal.invariant_of-self
-invariant_of-self g c = record {
-  has_slots = slots_stay c.self.inside.tree c.uncount_refusal.new.tree c.uncount_refusal.ensures.slots g.M.Meter.SLOTS c.self.inside.free.items c.self.invariant.has_slots;
-  has_parents = parents_stay c.self.inside.tree c.uncount_refusal.new.tree c.uncount_refusal.ensures.slots g.M.Meter.SLOTS c.self.inside.parents c.self.invariant.has_parents;
-  room = c.self.invariant.room;
-  recounted = charges_stay c.self.inside.tree c.uncount_refusal.new.tree c.uncount_refusal.ensures.slots g.M.Meter.LEAVES
-      c.self.inside.processes (g.M.Meter.content c.self.inside.meter) (g.M.Meter.held c.self.inside.meter) c.self.invariant.recounted;
-}
+pub slot_in-at-requires : goal.slot_in-at-requires
+slot_in-at-requires g c = there-is c.args.self.now c.self.inside.tree c.self.inside.processes c.self.view_is c.args.path.now c.requires.there
 
-pub uncount_refusal-requires-clause-group : goal.uncount_refusal-requires-clause-group
-uncount_refusal-requires-clause-group g c = there-is c.args.self.now c.self.inside.tree c.self.inside.processes c.self.view_is c.args.path.now c.requires.there
+pub change_totals-requires-clause-group : goal.change_totals-requires-clause-group
+change_totals-requires-clause-group g c =
+    let whole : take c.depth.result c.args.path.now ≡ c.args.path.now = ap (λ n. take n c.args.path.now) c.depth.ensures ∙ take-length c.args.path.now in
+    subst (λ (q : Path). IsSome (fin.get c.self.inside.tree q)) (sym whole)
+    (there-is c.args.self.now c.self.inside.tree c.self.inside.processes c.self.view_is c.args.path.now c.requires.there)
+
+pub change_totals-requires-clause-slot : goal.change_totals-requires-clause-slot
+change_totals-requires-clause-slot g c =
+    let whole : take c.depth.result c.args.path.now ≡ c.args.path.now = ap (λ n. take n c.args.path.now) c.depth.ensures ∙ take-length c.args.path.now in
+    c.slot_in-at.ensures ∙ ap (table_slot c.self.inside.tree) (sym whole)
+
+pub invariant_of-self : goal.invariant_of-self
+invariant_of-self g c =
+    let tree = c.self.inside.tree in
+    let whole : take c.depth.result c.args.path.now ≡ c.args.path.now = ap (λ n. take n c.args.path.now) c.depth.ensures ∙ take-length c.args.path.now in
+    let counts = subst (λ (q : Path). CountsRefusals (λ n. n - 1) tree c.change_totals.new.tree q) whole c.change_totals.ensures in
+    let slots = same_slots (λ n. n - 1) tree c.change_totals.new.tree c.args.path.now counts c.known.ensures.closed in
+    record {
+      has_slots = slots_stay tree c.change_totals.new.tree slots g.M.Meter.SLOTS c.self.inside.free.items c.self.invariant.has_slots;
+      room = c.self.invariant.room;
+      recounted = charges_stay tree c.change_totals.new.tree slots g.M.Meter.LEAVES c.self.inside.processes
+          (g.M.Meter.content c.self.inside.meter) (g.M.Meter.held c.self.inside.meter) c.self.invariant.recounted;
+    }
 
 pub returns : goal.returns
 returns g c =
-    let s : State = state_of c.self.inside.tree c.self.inside.processes in
-    c.uncount_refusal.ensures.counted s.home ∙ ap (λ (t : State). back (Counted c.args.path.now) t) c.self.view_is
+    let tree = c.self.inside.tree in
+    let s : State = state_of tree c.self.inside.processes in
+    let whole : take c.depth.result c.args.path.now ≡ c.args.path.now = ap (λ n. take n c.args.path.now) c.depth.ensures ∙ take-length c.args.path.now in
+    let counts = subst (λ (q : Path). CountsRefusals (λ n. n - 1) tree c.change_totals.new.tree q) whole c.change_totals.ensures in
+    flat-counts (λ n. n - 1) tree c.change_totals.new.tree c.args.path.now counts count_down down_each s.home
+    ∙ ap (λ (t : State). back (Counted c.args.path.now) t) c.self.view_is

@@ -1,8 +1,7 @@
-use Rattle.pids_charge.proofs.RowReads.{counted_too, exact_too}
 use Rattle.pids_charge.proofs.groups.GroupTable.descendants.Goals as goal
 
-pub returns-clause-counted : goal.returns-clause-counted
-returns-clause-counted g c = counted_too c.self.inside.tree c.self.inside.rows.items c.self.invariant.has_rows c.args.self.now c.self.view_is c.args.path.now c.descendants.result c.descendants.ensures.counted
+pub below-requires : goal.below-requires
+below-requires g c = record { path = c.args.path.now; there = c.in-Some.ensures.0; here = c.in-Some.ensures.1 }
 
-pub returns-clause-exact : goal.returns-clause-exact
-returns-clause-exact g c = exact_too c.self.inside.tree c.self.inside.rows.items c.self.invariant.has_rows c.args.self.now c.self.view_is c.args.path.now c.descendants.result c.descendants.ensures.exact
+pub returns-in-Some : goal.returns-in-Some
+returns-in-Some g c = (c.in-Some.ensures.0, c.below.ensures c.args.path.now c.in-Some.ensures.0 c.in-Some.ensures.1)

@@ -1,76 +1,81 @@
-use Rattle.std.proofs.Common.{◌<◌, Some, ℕ, ◌+◌, length, sym, ap, ◌∙◌, subst, refl}
+use Rattle.std.proofs.Common.{Some, ◌+◌, length, arith, sym, ap, ◌∙◌, subst, refl}
 use Rattle.std.proofs.Math.ListN.{set}
 use Rattle.group_tree.specs.Groups.{Groups}
 use Rattle.group_tree.specs.declared.attr.Attr.{Attr}
 use Rattle.flat_model.specs.Path.{Path}
-use Rattle.pids_charge.specs.GroupRows.{HasRows, KeepsPaths, with_rows}
+use Rattle.pids_charge.specs.GroupRows.{HasTable, KeepsPaths, attrs_of, with_rows}
 use Rattle.pids_charge.proofs.FlatGroups.{inserted}
-use Rattle.pids_charge.proofs.InRows.{in_any_case, long_is, long_rows, made_is, made_rows}
+use Rattle.pids_charge.proofs.InRows.{in_any_case}
+use Rattle.pids_charge.proofs.ParentRows.{as_long, long_table}
 use Rattle.pids_charge.proofs.PathRows.{kept_alike, kept_made}
 use Rattle.pids_charge.proofs.RowReads.{not_inserted}
+use Rattle.pids_charge.proofs.TableChanges.{made_seen, made_table, made_way}
 use Rattle.pids_charge.proofs.groups.GroupTable.insert.Goals as goal
 
 pub invariant_of-self : goal.invariant_of-self
-invariant_of-self g c = record {
-  has_rows = long_rows c.self.inside.tree c.self.inside.rows.items c.self.invariant.has_rows c.args.self.now c.self.view_is c.lengthen.new.rows.items c.lengthen.ensures.no_fewer c.lengthen.ensures.kept;
-  keeps_paths = c.self.invariant.keeps_paths;
-}
+invariant_of-self g c =
+    long_table c.self.inside.tree c.self.inside.rows.items c.self.invariant.has_rows c.args.self.now c.self.view_is c.self.invariant.has_parents
+    c.lengthen.new.rows.items c.lengthen.ensures.no_fewer c.lengthen.ensures.kept
+    c.self.invariant.has_counts c.self.inside.kept c.self.invariant.keeps_paths
 
 pub returns-in_err-lengthen-clause-kept : goal.returns-in_err-lengthen-clause-kept
 returns-in_err-lengthen-clause-kept g c =
-    in_any_case c.from_residual.result (long_is c.self.inside.tree c.self.inside.rows.items c.self.invariant.has_rows c.args.self.now c.self.view_is
+    in_any_case c.from_residual.result (as_long c.self.inside.tree c.self.inside.rows.items c.self.invariant.has_rows c.args.self.now c.self.view_is c.self.invariant.has_parents
     c.lengthen.new.rows.items c.lengthen.ensures.no_fewer c.lengthen.ensures.kept)
 
 pub invariant_of-self-in_err-copied : goal.invariant_of-self-in_err-copied
-invariant_of-self-in_err-copied g c = record {
-  has_rows = long_rows c.self.inside.tree c.self.inside.rows.items c.self.invariant.has_rows c.args.self.now c.self.view_is c.lengthen.new.rows.items c.lengthen.ensures.no_fewer c.lengthen.ensures.kept;
-  keeps_paths = kept_alike c.self.inside.tree c.self.inside.kept c.admit.new.self c.admit.ensures.same c.self.invariant.keeps_paths;
-}
+invariant_of-self-in_err-copied g c =
+    long_table c.self.inside.tree c.self.inside.rows.items c.self.invariant.has_rows c.args.self.now c.self.view_is c.self.invariant.has_parents
+    c.lengthen.new.rows.items c.lengthen.ensures.no_fewer c.lengthen.ensures.kept
+    c.self.invariant.has_counts c.admit.new.self (kept_alike c.self.inside.tree c.self.inside.kept c.admit.new.self c.admit.ensures.same c.self.invariant.keeps_paths)
 
 pub returns-in_err-copied-clause-kept : goal.returns-in_err-copied-clause-kept
 returns-in_err-copied-clause-kept g c =
-    in_any_case c.from_residual-in_err-copied.result (long_is c.self.inside.tree c.self.inside.rows.items c.self.invariant.has_rows c.args.self.now c.self.view_is
+    in_any_case c.from_residual-in_err-copied.result (as_long c.self.inside.tree c.self.inside.rows.items c.self.invariant.has_rows c.args.self.now c.self.view_is c.self.invariant.has_parents
     c.lengthen.new.rows.items c.lengthen.ensures.no_fewer c.lengthen.ensures.kept)
 
 pub invariant_of-self-then-is_err : goal.invariant_of-self-then-is_err
 invariant_of-self-then-is_err g c =
     let x : Attr = record { limits = c.args.attr.limits; local = c.args.attr.local; total = c.args.attr.total; peak = c.args.attr.peak; slot = c.args.attr.slot + 1 } in
     let gone = not_inserted c.self.inside.tree c.insert.new.self c.args.path.now x c.insert.result (sym c.is_err.ensures.value ∙ c.if-is_err.true) c.insert.ensures in
-    record {
-      has_rows = subst (λ (t : Groups). HasRows t c.lengthen.new.rows.items) (sym gone)
-          (long_rows c.self.inside.tree c.self.inside.rows.items c.self.invariant.has_rows c.args.self.now c.self.view_is c.lengthen.new.rows.items c.lengthen.ensures.no_fewer c.lengthen.ensures.kept);
-      keeps_paths = subst (λ (t : Groups). KeepsPaths t c.admit.new.self) (sym gone)
-          (kept_alike c.self.inside.tree c.self.inside.kept c.admit.new.self c.admit.ensures.same c.self.invariant.keeps_paths);
-    }
+    subst (λ (t : Groups). HasTable t c.lengthen.new.rows.items c.admit.new.self) (sym gone)
+    (long_table c.self.inside.tree c.self.inside.rows.items c.self.invariant.has_rows c.args.self.now c.self.view_is c.self.invariant.has_parents
+    c.lengthen.new.rows.items c.lengthen.ensures.no_fewer c.lengthen.ensures.kept
+    c.self.invariant.has_counts c.admit.new.self (kept_alike c.self.inside.tree c.self.inside.kept c.admit.new.self c.admit.ensures.same c.self.invariant.keeps_paths))
 
 pub returns-then-is_err-clause-kept : goal.returns-then-is_err-clause-kept
 returns-then-is_err-clause-kept g c =
     let x : Attr = record { limits = c.args.attr.limits; local = c.args.attr.local; total = c.args.attr.total; peak = c.args.attr.peak; slot = c.args.attr.slot + 1 } in
     let gone = not_inserted c.self.inside.tree c.insert.new.self c.args.path.now x c.insert.result (sym c.is_err.ensures.value ∙ c.if-is_err.true) c.insert.ensures in
-    ap (λ (t : Groups). with_rows t c.lengthen.new.rows.items) gone
-    ∙ long_is c.self.inside.tree c.self.inside.rows.items c.self.invariant.has_rows c.args.self.now c.self.view_is c.lengthen.new.rows.items c.lengthen.ensures.no_fewer c.lengthen.ensures.kept
+    ap (λ (t : Groups). with_rows t (attrs_of c.lengthen.new.rows.items)) gone
+    ∙ as_long c.self.inside.tree c.self.inside.rows.items c.self.invariant.has_rows c.args.self.now c.self.view_is c.self.invariant.has_parents
+    c.lengthen.new.rows.items c.lengthen.ensures.no_fewer c.lengthen.ensures.kept
+
+pub raise_below-requires : goal.raise_below-requires
+raise_below-requires g c =
+    let x : Attr = record { limits = c.args.attr.limits; local = c.args.attr.local; total = c.args.attr.total; peak = c.args.attr.peak; slot = c.args.attr.slot + 1 } in
+    let done = inserted c.self.inside.tree c.insert.new.self c.args.path.now x c.insert.result c.insert.ensures (sym c.is_err.ensures.value ∙ c.if-is_err.false) in
+    made_way c.self.inside.tree c.self.inside.rows.items c.self.invariant.has_rows c.args.self.now c.self.view_is c.self.invariant.has_parents
+    c.lengthen.new.rows.items c.lengthen.ensures.no_fewer c.lengthen.ensures.kept c.args.path.now x c.args.attr c.requires.below_root refl c.requires.absent c.requires.parent c.requires.free
+    c.args.above c.requires.above c.insert.new.self done.1 c.known.ensures.closed c.from.result c.from.ensures c.in_ok-lengthen.ensures.long c.known-2.ensures.shallow
 
 pub invariant_of-self-2 : goal.invariant_of-self-2
 invariant_of-self-2 g c =
     let x : Attr = record { limits = c.args.attr.limits; local = c.args.attr.local; total = c.args.attr.total; peak = c.args.attr.peak; slot = c.args.attr.slot + 1 } in
     let done = inserted c.self.inside.tree c.insert.new.self c.args.path.now x c.insert.result c.insert.ensures (sym c.is_err.ensures.value ∙ c.if-is_err.false) in
-    let listed : c.args.attr.slot + 1 < length c.lengthen.new.rows.items = c.in_ok-lengthen.ensures.long in
-    record {
-      has_rows = subst (λ (k : ℕ). HasRows c.insert.new.self (set c.lengthen.new.rows.items k c.args.attr)) (sym c.from.ensures)
-          (made_rows c.self.inside.tree c.self.inside.rows.items c.self.invariant.has_rows c.args.self.now c.self.view_is
-          c.lengthen.new.rows.items c.lengthen.ensures.no_fewer c.lengthen.ensures.kept
-          c.args.path.now x c.args.attr c.requires.below_root refl refl listed c.requires.free c.insert.new.self done.1 c.known.ensures.closed);
-      keeps_paths = subst (KeepsPaths c.insert.new.self) (sym (c.keep.ensures ∙ ap (λ (p : Path). set c.admit.new.self (c.args.attr.slot + 1) (Some p)) c.in_ok-copied.ensures.copied))
-          (kept_made c.self.inside.tree c.self.inside.kept c.self.invariant.keeps_paths c.args.path.now x done.0 c.insert.new.self done.1
-          c.admit.new.self c.admit.ensures.same c.in_ok-copied.ensures.long);
-    }
+    made_table c.self.inside.tree c.self.inside.rows.items c.self.invariant.has_rows c.args.self.now c.self.view_is c.self.invariant.has_parents
+    c.lengthen.new.rows.items c.lengthen.ensures.no_fewer c.lengthen.ensures.kept c.args.path.now x c.args.attr c.requires.below_root refl c.requires.absent c.requires.parent c.requires.free
+    c.args.above c.requires.above c.insert.new.self done.1 c.known.ensures.closed c.from.result c.from.ensures c.in_ok-lengthen.ensures.long
+    c.requires.few c.self.invariant.has_counts c.raise_below.new.rows.items c.raise_below.ensures.attrs c.raise_below.ensures.ups c.known-2.ensures.shallow c.raise_below.ensures.below
+    c.keep.new.self (subst (KeepsPaths c.insert.new.self) (sym (c.keep.ensures ∙ ap (λ (p : Path). set c.admit.new.self (c.args.attr.slot + 1) (Some p)) c.in_ok-copied.ensures.copied))
+    (kept_made c.self.inside.tree c.self.inside.kept c.self.invariant.keeps_paths c.args.path.now x done.0 c.insert.new.self done.1
+    c.admit.new.self c.admit.ensures.same c.in_ok-copied.ensures.long))
 
 pub returns-clause-made : goal.returns-clause-made
 returns-clause-made g c =
     let x : Attr = record { limits = c.args.attr.limits; local = c.args.attr.local; total = c.args.attr.total; peak = c.args.attr.peak; slot = c.args.attr.slot + 1 } in
     let done = inserted c.self.inside.tree c.insert.new.self c.args.path.now x c.insert.result c.insert.ensures (sym c.is_err.ensures.value ∙ c.if-is_err.false) in
-    let listed : c.args.attr.slot + 1 < length c.lengthen.new.rows.items = c.in_ok-lengthen.ensures.long in
-    ap (λ (k : ℕ). with_rows c.insert.new.self (set c.lengthen.new.rows.items k c.args.attr)) c.from.ensures
-    ∙ made_is c.self.inside.tree c.self.inside.rows.items c.self.invariant.has_rows c.args.self.now c.self.view_is
-    c.lengthen.new.rows.items c.lengthen.ensures.no_fewer c.lengthen.ensures.kept
-    c.args.path.now x c.args.attr c.requires.below_root refl refl listed c.requires.free c.insert.new.self done.1
+    made_seen c.self.inside.tree c.self.inside.rows.items c.self.invariant.has_rows c.args.self.now c.self.view_is c.self.invariant.has_parents
+    c.lengthen.new.rows.items c.lengthen.ensures.no_fewer c.lengthen.ensures.kept c.args.path.now x c.args.attr c.requires.below_root refl c.requires.absent c.requires.parent c.requires.free
+    c.args.above c.requires.above c.insert.new.self done.1 c.known.ensures.closed c.from.result c.from.ensures c.in_ok-lengthen.ensures.long
+    c.raise_below.new.rows.items c.raise_below.ensures.attrs

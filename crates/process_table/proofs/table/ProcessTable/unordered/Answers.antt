@@ -1,4 +1,4 @@
-use Rattle.std.proofs.Common.{ℕ, List, eqb, count_by, ap, ◌∙◌}
+use Rattle.std.proofs.Common.{eqb, count_by, ap, ◌∙◌}
 use Rattle.process_table.specs.Cells.{cell_at}
 use Rattle.process_table.specs.SlotPids.{list_at}
 use Rattle.process_table.proofs.ChosenPids.{member_counted}

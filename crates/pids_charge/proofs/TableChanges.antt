@@ -1,0 +1,206 @@
+-- What the rows say once a group is made or removed.
+use Rattle.std.proofs.Common.{◌≡◌, ◌≢◌, ℕ, suc, ◌+◌, ◌-◌, ◌^◌, ◌<◌, ◌≤◌, inl, inr, Bool, true, false, cond, Option, Some, None, IsSome, List, [], ◌∷◌, length, get_or, refl, sym, ap, ◌∙◌, subst, arith}
+use Rattle.std.proofs.lemmas.List.{get_or-set_other, length-map, length-take-le}
+use Rattle.std.proofs.lemmas.Grind.{get_or-set_at}
+use Rattle.std.proofs.Math.ListN.{set}
+use Rattle.std.specs.FinMap as fin
+use Rattle.flat_model.specs.Path.{Path, parent, path_cmp, same_path}
+use Rattle.flat_model.proofs.Maps.{get-own}
+use Rattle.flat_model.proofs.PathLaws.{path_cmp-IsTotalOrder, path_cmp-IsAntisymmetric, same_path_is, same_path_itself}
+use Rattle.group_tree.specs.Groups.{Groups, IsClosed, descendant_count, slot_of}
+use Rattle.group_tree.specs.declared.attr.Attr.{Attr}
+use Rattle.pids_charge.specs.declared.group.Group.{Group}
+use Rattle.pids_charge.specs.GroupRows.{HasCounts, HasParents, HasRows, HasTable, HasWay, IsWay, KeepsPaths, attrs_of, belows_of, in_row, lowered, raised, stepped_up, ups_of, with_rows}
+use Rattle.pids_charge.specs.Lists.{slot_at, table_slot}
+use Rattle.pids_charge.proofs.Changes.{which}
+use Rattle.pids_charge.proofs.CountsUp.{has_way, left_counts, made_counts, rows_apart, rows_inside}
+use Rattle.pids_charge.proofs.InRows.{closed_rows, in_tree, left_is, left_rows, made_is, made_rows}
+use Rattle.pids_charge.proofs.ParentRows.{attr_of, attrs_kept, attrs_longer, attrs_set, below_of, belows_kept, belows_set, counts_seen, seen_left, seen_made, up_of, ups_set}
+use Rattle.pids_charge.proofs.ParentSteps.{own_slot}
+use Rattle.pids_charge.proofs.TableSlots.{table_slot_same}
+
+pub has_a_name : (p : Path) → p ≢ [] → 0 < length p
+has_a_name [] ne = absurd (ne refl)
+has_a_name (n ∷ p) ne = omega arith
+
+short_parent : (p : Path) → length p ≤ 32 → length (parent p) ≤ 32
+short_parent p short = omega (arith, short, length-take-le (length p - 1) p (omega arith))
+
+-- ---- a walk from the parent of p, in any table
+
+module _ (tree : Groups) (rows : List Group) (r : HasRows tree (attrs_of rows)) (h : HasParents (with_rows tree (attrs_of rows)) (ups_of rows)) (p : Path) (named : 0 < length p)
+    (there : IsSome (fin.get (with_rows tree (attrs_of rows)) (parent p))) where
+  -- the numbers of groups below are as many
+  pub counts_inside : (q : Path) → IsSome (fin.get (with_rows tree (attrs_of rows)) q) → table_slot (with_rows tree (attrs_of rows)) q < length (belows_of rows)
+  counts_inside q i = let inside = rows_inside tree (attrs_of rows) r q i in omega (arith, inside, length-map rows attr_of, length-map rows below_of)
+
+  pub way_up : (from : ℕ) → from ≡ table_slot (with_rows tree (attrs_of rows)) (parent p) → HasWay (ups_of rows) from (length (parent p))
+  way_up from is =
+      subst (λ (k : ℕ). HasWay (ups_of rows) k (length (parent p))) (sym is)
+      (has_way (with_rows tree (attrs_of rows)) (closed_rows tree (attrs_of rows) r.closed) (ups_of rows) h (rows_apart tree (attrs_of rows) r)
+      (λ q i. let inside = rows_inside tree (attrs_of rows) r q i in omega (arith, inside, length-map rows attr_of, length-map rows up_of)) (length (parent p)) (parent p) refl there)
+
+  pub is_way : (from : ℕ) → from ≡ table_slot (with_rows tree (attrs_of rows)) (parent p) → length p ≤ 32 → IsWay (ups_of rows) from
+  is_way from is short = record { steps = length (parent p); few = short_parent p short; way = way_up from is }
+
+-- ---- the rows at the end
+
+module _ (new : Groups) (before last : List Group) (attrs : attrs_of last ≡ attrs_of before) (ups : ups_of last ≡ ups_of before) where
+  pub last_table : HasRows new (attrs_of before) → HasParents (with_rows new (attrs_of before)) (ups_of before) → HasCounts (with_rows new (attrs_of before)) (belows_of last)
+      → (paths : List (Option Path)) → KeepsPaths new paths → HasTable new last paths
+  last_table r h c paths keeps = record {
+    has_rows = subst (HasRows new) (sym attrs) r;
+    has_parents = subst (λ (list : List Attr). HasParents (with_rows new list) (ups_of last)) (sym attrs) (subst (HasParents (with_rows new (attrs_of before))) (sym ups) h);
+    has_counts = subst (λ (list : List Attr). HasCounts (with_rows new list) (belows_of last)) (sym attrs) c;
+    keeps_paths = keeps;
+  }
+
+module _ (tree : Groups) (rows : List Group) (r : HasRows tree (attrs_of rows)) (s : Groups) (v : with_rows tree (attrs_of rows) ≡ s)
+    (h : HasParents (with_rows tree (attrs_of rows)) (ups_of rows)) where
+  closed_seen : IsClosed s
+  closed_seen = subst (λ (m : Groups). IsClosed m) v (closed_rows tree (attrs_of rows) r.closed)
+
+  -- ---- a group is made
+
+  module _ (long : List Group) (longer : length rows ≤ length long) (kept : (k : ℕ) (d : Group) → k < length rows → get_or long k d ≡ get_or rows k d)
+      (p : Path) (x y : Attr) (named : 0 < length p) (number : x.slot ≡ y.slot + 1) (absent : fin.get s p ≡ None) (there : IsSome (fin.get s (parent p)))
+      (free : (q : Path) → 0 < length q → IsSome (fin.get s q) → slot_at s q ≢ y.slot) (above : ℕ) (is : above ≡ table_slot s (parent p))
+      (new : Groups) (then : new ≡ fin.insert tree p x) (closed : IsClosed new) (k : ℕ) (from : k ≡ x.slot) (inside : x.slot < length long) where
+    abbrev row : Group
+    row = record { attr = y; below = 0; up = above }
+
+    abbrev pub rows_now : List Group
+    rows_now = set long k row
+
+    listed : x.slot < length (attrs_of long)
+    listed = omega (arith, inside, length-map long attr_of)
+
+    now : attrs_of rows_now ≡ set (attrs_of long) x.slot y
+    now = attrs_set long k x.slot row from
+
+    pub seen_now : with_rows new (attrs_of rows_now) ≡ fin.insert s p y
+    seen_now = ap (with_rows new) now
+        ∙ made_is tree (attrs_of rows) r s v (attrs_of long) (attrs_longer rows long longer kept) (attrs_kept rows long longer kept) p x y named number listed free new then
+
+    pub has_now : HasRows new (attrs_of rows_now)
+    has_now = subst (HasRows new) (sym now)
+        (made_rows tree (attrs_of rows) r s v (attrs_of long) (attrs_longer rows long longer kept) (attrs_kept rows long longer kept) p x y named number listed free new then closed)
+
+    pub parents_now : HasParents (with_rows new (attrs_of rows_now)) (ups_of rows_now)
+    parents_now = subst (λ (m : Groups). HasParents m (ups_of rows_now)) (sym seen_now)
+        (subst (HasParents (fin.insert s p y)) (sym (ups_set long k (y.slot + 1) row (from ∙ number)))
+        (seen_made tree rows r s v h long longer kept p y named absent there free above is (omega (arith, inside, number))))
+
+    abbrev m : Groups
+    m = with_rows new (attrs_of rows_now)
+
+    own_there : fin.get m p ≡ Some y
+    own_there = ap (λ (n : Groups). fin.get n p) seen_now ∙ get-own path_cmp-IsTotalOrder path_cmp-IsAntisymmetric s p y
+
+    slot_stays : (q : Path) → IsSome (fin.get s q) → table_slot m q ≡ table_slot s q
+    slot_stays q i = elim (which s p y q) [
+      | inl w ↦ let gone : IsSome {T = Attr} None = subst IsSome (ap (fin.get s) w.0 ∙ absent) i in cc
+      | inr w ↦ table_slot_same m s q (ap slot_of (ap (λ (n : Groups). fin.get n q) seen_now ∙ w.1))
+    ]
+
+    unused : (q : Path) → IsSome (fin.get s q) → table_slot s q ≢ y.slot + 1
+    unused [] i e = omega (arith, e)
+    unused (n ∷ q) i e = free (n ∷ q) (omega arith) i (omega (arith, e))
+
+    belows_now : belows_of rows_now ≡ set (belows_of long) (y.slot + 1) 0
+    belows_now = belows_set long k (y.slot + 1) row (from ∙ number)
+
+    parent_there : IsSome (fin.get m (parent p))
+    parent_there = (closed_rows new (attrs_of rows_now) closed).parents p (subst IsSome (sym own_there) refl)
+
+    above_now : above ≡ table_slot m (parent p)
+    above_now = is ∙ sym (slot_stays (parent p) there)
+
+    pub made_way : length p ≤ 32 → IsWay (ups_of rows_now) above
+    made_way short = is_way new rows_now has_now parents_now p named parent_there above above_now short
+
+    pub made_seen : (last : List Group) → attrs_of last ≡ attrs_of rows_now → with_rows new (attrs_of last) ≡ fin.insert s p y
+    made_seen last attrs = ap (with_rows new) attrs ∙ seen_now
+
+    module _ (few : fin.len s < 2 ^ 16) (counts : HasCounts (with_rows tree (attrs_of rows)) (belows_of rows)) where
+      others : (q : Path) → IsSome (fin.get s q) → get_or (belows_of rows_now) (table_slot m q) 0 ≡ descendant_count s q
+      others q i =
+          ap (λ (bs : List ℕ). get_or bs (table_slot m q) 0) belows_now ∙ ap (λ (n : ℕ). get_or (set (belows_of long) (y.slot + 1) 0) n 0) (slot_stays q i)
+          ∙ get_or-set_other (belows_of long) (y.slot + 1) (table_slot s q) 0 0 (unused q i) ∙ belows_kept rows long longer kept tree r s v q i ∙ counts_seen tree rows r s v h counts q i
+
+      own : get_or (belows_of rows_now) (table_slot m p) 0 ≡ 0
+      own =
+          let at : table_slot m p ≡ y.slot + 1 = omega (arith, own_slot m p named, ap slot_of own_there) in
+          ap (λ (bs : List ℕ). get_or bs (table_slot m p) 0) belows_now
+          ∙ get_or-set_at (belows_of long) (y.slot + 1) (table_slot m p) 0 0 at (omega (arith, inside, number, length-map long below_of))
+
+      pub made_table : (last : List Group) → attrs_of last ≡ attrs_of rows_now → ups_of last ≡ ups_of rows_now → length p ≤ 32
+          → ((n : ℕ) → n ≤ 32 → HasWay (ups_of rows_now) above n → belows_of last ≡ stepped_up raised (ups_of rows_now) above n (belows_of rows_now)) → (paths : List (Option Path)) → KeepsPaths new paths → HasTable new last paths
+      made_table last attrs ups short below paths keeps =
+          let is = below (length (parent p)) (short_parent p short) (way_up new rows_now has_now parents_now p named parent_there above above_now) in
+          last_table new rows_now last attrs ups has_now parents_now
+          (subst (HasCounts m) (sym (is ∙ ap (λ (k : ℕ). stepped_up raised (ups_of rows_now) k (length (parent p)) (belows_of rows_now)) above_now))
+          (made_counts s m p named (closed_rows new (attrs_of rows_now) closed) (ups_of rows_now) parents_now (rows_apart new (attrs_of rows_now) has_now) parent_there (belows_of rows_now)
+          (counts_inside new rows_now has_now parents_now p named parent_there) y few closed_seen absent seen_now others own))
+          paths keeps
+
+  -- ---- a group is removed
+
+  module _ (p : Path) (named : 0 < length p) (a : Attr) (here : fin.get tree p ≡ Some a) (new : Groups) (then : new ≡ fin.remove tree p) (closed : IsClosed new) where
+    abbrev left : Groups
+    left = with_rows new (attrs_of rows)
+
+    pub seen_gone : left ≡ fin.remove s p
+    seen_gone = left_is tree (attrs_of rows) r s v p new then
+
+    has_left : HasRows new (attrs_of rows)
+    has_left = left_rows tree (attrs_of rows) r s v p new then closed
+
+    parents_gone : HasParents left (ups_of rows)
+    parents_gone = seen_left tree rows r s v h new (attrs_of rows) (fin.remove s p) seen_gone closed p refl
+
+    removed : (q : Path) → fin.get left q ≡ cond (same_path q p) None (fin.get s q)
+    removed q = ap (λ (n : Groups). fin.get n q) seen_gone ∙ fin.get-remove path_cmp-IsTotalOrder s p q
+
+    gone : fin.get left p ≡ None
+    gone = removed p ∙ ap (λ b. cond b None (fin.get s p)) (same_path_itself p)
+
+    was : (q : Path) → IsSome (fin.get left q) → fin.get left q ≡ fin.get s q
+    was q i = by (same_path q p) (removed q)
+      where
+        by : (b : Bool) → fin.get left q ≡ cond b None (fin.get s q) → fin.get left q ≡ fin.get s q
+        by true e = let none : IsSome {T = Attr} None = subst IsSome e i in cc
+        by false e = e
+
+    same_slot : (q : Path) → IsSome (fin.get left q) → table_slot left q ≡ table_slot s q
+    same_slot q i = table_slot_same left s q (ap slot_of (was q i))
+
+    own_before : fin.get s p ≡ Some (in_row (attrs_of rows) a)
+    own_before = ap (λ (n : Groups). fin.get n p) (sym v) ∙ in_tree tree (attrs_of rows) p a here
+
+    apart : same_path (parent p) p ≡ false
+    apart = elim (same_path (parent p) p) as (λ b. same_path (parent p) p ≡ b → b ≡ false) [
+      | true ↦ λ t. absurd (omega (arith, named, ap length ((same_path_is (parent p) p).0 t), length-take-le (length p - 1) p (omega arith)))
+      | false ↦ λ t. refl
+    ] refl
+
+    above_there : IsSome (fin.get left (parent p))
+    above_there = subst IsSome (sym (removed (parent p) ∙ ap (λ b. cond b None (fin.get s (parent p))) apart)) (closed_seen.parents p (subst IsSome (sym own_before) refl))
+
+    module _ (up : ℕ) (is : up ≡ table_slot s (parent p)) where
+      up_now : up ≡ table_slot left (parent p)
+      up_now = is ∙ sym (same_slot (parent p) above_there)
+
+      pub left_way : length p ≤ 32 → IsWay (ups_of rows) up
+      left_way short = is_way new rows has_left parents_gone p named above_there up up_now short
+
+      pub left_table : HasCounts (with_rows tree (attrs_of rows)) (belows_of rows) → (last : List Group) → attrs_of last ≡ attrs_of rows → ups_of last ≡ ups_of rows → length p ≤ 32
+          → ((n : ℕ) → n ≤ 32 → HasWay (ups_of rows) up n → belows_of last ≡ stepped_up lowered (ups_of rows) up n (belows_of rows)) → (paths : List (Option Path)) → KeepsPaths new paths → HasTable new last paths
+      left_table counts last attrs ups short below paths keeps =
+          let is = below (length (parent p)) (short_parent p short) (way_up new rows has_left parents_gone p named above_there up up_now) in
+          last_table new rows last attrs ups has_left parents_gone
+          (subst (HasCounts left) (sym (is ∙ ap (λ (k : ℕ). stepped_up lowered (ups_of rows) k (length (parent p)) (belows_of rows)) up_now))
+          (left_counts s left p named (closed_rows new (attrs_of rows) closed) (ups_of rows) parents_gone (rows_apart new (attrs_of rows) has_left) above_there (belows_of rows)
+          (counts_inside new rows has_left parents_gone p named above_there) (in_row (attrs_of rows) a) own_before seen_gone gone
+          (λ q i. ap (λ (k : ℕ). get_or (belows_of rows) k 0) (same_slot q i) ∙ counts_seen tree rows r s v h counts q (subst IsSome (was q i) i))))
+          paths keeps
