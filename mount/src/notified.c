@@ -201,6 +201,12 @@ static bool answer_open(int listener, const struct seccomp_notif *call)
 		respond(listener, call, EACCES, 0);
 		return true;
 	}
+	if (asked.flags & O_DIRECT) { /* nor do they allow that */
+		respond(listener, call, EINVAL, 0);
+		return true;
+	}
+	fcntl(text, F_SETFL,
+		asked.flags & (O_APPEND | O_NONBLOCK | O_NOATIME)); /* it cannot fail: the file is of this user */
 	respond_with(listener, call, text, asked.flags & O_CLOEXEC);
 	return true;
 }

@@ -44,7 +44,7 @@ struct opened *opened_new(struct remembered *group, const struct file *file, lon
 		return NULL;
 	o->file = file;
 	o->control = control;
-	o->changed = true;
+	o->changed = control < CONTROL_WHERE; /* /proc/PID/cgroup tells of no change */
 	enter(o, group);
 	return o;
 }

@@ -11,6 +11,10 @@
 #include <sys/syscall.h>
 #include <sys/vfs.h>
 
+#ifndef PIDFD_THREAD
+#define PIDFD_THREAD O_EXCL /* Linux 6.9 */
+#endif
+
 enum { LINKS = 40, PROC_ROOT = 1 };
 
 /* ---------------------------------------------------------------- process numbers */
@@ -195,15 +199,20 @@ static bool follow_self(struct walk *w, const char *name)
    it may get one. */
 static int take_descriptor(int directory, const char *name)
 {
-	char link[40], path[64];
-	int end = 0, process = 0;
+	char link[40], path[64], number[16];
+	int end = 0, process = 0, thread = 0, fd = (int)strtol(name, NULL, 10);
+	snprintf(number, sizeof number, "%d", fd);
 	snprintf(link, sizeof link, "self/fd/%d", directory);
 	ssize_t n = readlink(link, path, sizeof path - 1);
 	path[n < 0 ? 0 : n] = 0;
-	if (!is_own_proc(directory) || sscanf(path, "/proc/%d/fd%n", &process, &end) != 1 || !end || path[end])
+	if (sscanf(path, "/proc/%d/task/%d/fd%n", &process, &thread, &end) != 2)
+		sscanf(path, "/proc/%d/fd%n", &process, &end);
+	if (!is_own_proc(directory) || !end || path[end] || fd < 0 || strcmp(name, number) != 0)
 		return -1;
-	cleanup_fd int of = (int)syscall(SYS_pidfd_open, process, 0);
-	return of < 0 ? -1 : (int)syscall(SYS_pidfd_getfd, of, (int)strtol(name, NULL, 10), 0);
+	cleanup_fd int of_thread = thread ? (int)syscall(SYS_pidfd_open, thread, PIDFD_THREAD) : -1;
+	/* before Linux 6.9 only of the process, whose threads have the same ones as a rule */
+	cleanup_fd int of = of_thread >= 0 ? steal_fd(&of_thread) : (int)syscall(SYS_pidfd_open, process, 0);
+	return of < 0 ? -1 : (int)syscall(SYS_pidfd_getfd, of, fd, 0);
 }
 
 static bool follow(struct walk *w, int link, const char *name)

@@ -24,8 +24,8 @@
 enum { PROCESS_ONE = 1 };
 
 /* What is known of each number. A process that a kill in the hierarchy reached is dying: it may fork no more. One that is
-   disowned leaves the hierarchy at the next look. */
-enum { UNKNOWN, LIVE, DYING, DISOWNED };
+   disowned leaves the hierarchy at the next look. One that has ended is still listed as a child until its parent waits for it. */
+enum { UNKNOWN, LIVE, DYING, DISOWNED, ENDED };
 static unsigned char known[PIDS];
 static enum { NUMBERS, ADOPTED, REPORTED } way;
 
@@ -113,6 +113,32 @@ static void drop_adopted(pid_t pid)
 		}
 }
 
+static bool was_waited_for(const struct adopted *a)
+{
+	return syscall(SYS_pidfd_send_signal, a->fd, 0, NULL, 0) && errno == ESRCH;
+}
+
+/* It is no child that has just been made: so it is remembered until it is waited for. */
+static void end_adopted(pid_t pid)
+{
+	known[pid] = ENDED;
+	for (size_t i = 0; i < adopted_count; i++)
+		if (adopted[i].pid == pid)
+			epoll_ctl(deaths, EPOLL_CTL_DEL, adopted[i].fd, NULL); /* it cannot fail: it was added */
+}
+
+static bool has_ended(pid_t pid)
+{
+	return is_known(pid) && known[pid] == ENDED;
+}
+
+static void drop_ended(void)
+{
+	for (size_t i = adopted_count; i-- > 0;)
+		if (has_ended(adopted[i].pid) && was_waited_for(&adopted[i]))
+			drop_adopted(adopted[i].pid);
+}
+
 /* 0, or -errno if the exit cannot be kept now: then the process exits at a later look. */
 static int die(pid_t pid)
 {
@@ -123,7 +149,7 @@ static int die(pid_t pid)
 		return fault;
 	if (known[pid] != DYING && (fault = engine_line("exit %d", pid)) && fault != -ESRCH)
 		return fault;
-	drop_adopted(pid);
+	end_adopted(pid);
 	if (stood)
 		watch_above(group);
 	return 0;
@@ -149,6 +175,8 @@ static int adopt_child(pid_t parent, long child)
 	   same, and is remembered. A child that cannot be kept now is adopted at a later look. */
 	if (fault && fault != -EAGAIN && fault != -ESRCH && fault != -EEXIST)
 		drop_adopted((pid_t)child);
+	if (fault == -EAGAIN)
+		watch_process(parent);
 	return fault == -ENOMEM ? fault : 0;
 }
 
@@ -210,8 +238,9 @@ static int sweep_adopted(void)
 	int n, fault = drop_disowned();
 	if (fault)
 		return fault;
+	drop_ended();
 	for (size_t i = 0; i < adopted_count; i++)
-		if ((fault = adopt_children(adopted[i].pid)))
+		if (!has_ended(adopted[i].pid) && (fault = adopt_children(adopted[i].pid)))
 			return fault;
 	while ((n = epoll_wait(deaths, dead, 16, 0)) > 0)
 		for (int i = 0; i < n; i++)
@@ -235,13 +264,15 @@ int real_adopt(pid_t pid, bool *is_new)
 		return reported_move(pid);
 	if (way != ADOPTED || pid == PROCESS_ONE)
 		return 0;
-	if (is_known(pid)) {
+	if (is_known(pid) && !has_ended(pid)) {
 		known[pid] = known[pid] == DISOWNED ? LIVE : known[pid];
 		return 0;
 	}
 	int fault = engine_where(pid, group, sizeof group);
 	if (fault != -ESRCH)
 		return fault;
+	if (has_ended(pid))
+		return 1;
 	fault = remember(pid);
 	if (fault)
 		return fault == -ENOMEM ? fault : -ESRCH;
@@ -263,7 +294,7 @@ void real_disown(pid_t pid)
 static int note(pid_t pid, const char *group)
 {
 	(void)group;
-	if (way != REPORTED && !is_known(pid))
+	if (way != REPORTED && (!is_known(pid) || has_ended(pid)))
 		return 0;
 	pid_t *more = with_room(noted, noted_count + 1, &noted_room, sizeof *more);
 	if (!more)

@@ -1,6 +1,7 @@
 """mount --adopt: real processes in the hierarchy, without a supervisor."""
 import os
 import resource
+import select
 import signal
 import subprocess
 import sys
@@ -133,6 +134,7 @@ write(m.path("b", "cgroup.kill"), b"1\n")
 step("a kill of one", until(lambda: not is_alive(second)))
 same("reaches no other", alive(first, third, stranger.pid), [True] * 3)
 same("who is left", [read(m.path(g, "pids.current")) for g in "abc"], [b"2\n", b"0\n", b"0\n"])
+same("whom a kill has reached does not exit once more", "exit %d\n" % second in open(m.trace).read(), False)
 top.stdin.write("x\n")
 top.stdin.close()
 top.wait(PATIENCE)
@@ -162,8 +164,27 @@ child.send_signal(signal.SIGKILL)
 os.waitid(os.P_PID, child.pid, os.WEXITED | os.WNOWAIT)
 step("a zombie is gone", until(lambda: read(m.path("a", "pids.current")) == b"0\n"))
 child.wait()
+write(m.path("a", "cgroup.procs"), b"1\n")
+same(
+    "process 1 is only a number", (read(m.path("a", "cgroup.procs")), read(m.path("a", "pids.current"))), (b"1\n",) * 2
+)
+write(m.path("cgroup.procs"), b"1\n")
+child = subprocess.Popen(["sleep", "600"])
+write(m.path("b", "cgroup.procs"), b"%d\n" % child.pid)
+for what, command in (("exit", b"%d\n" % child.pid), ("undo", b"1\n"), ("exit", b"%d\n" % child.pid)):
+    write(m.control(what), command)
+    same("a real process that %s" % what, is_alive(child.pid), True)
+    same("the count", read(m.path("b", "pids.current")), b"1\n" if what == "undo" else b"0\n")
+same("a number of nobody real", error_of(write, m.control("fork"), b"1 4194300\n"), "ok")
+write(m.path("b", "cgroup.procs"), b"4194300\n")
+same("it stays", read(m.path("b", "cgroup.procs")), b"4194300\n")
+write(m.path("b", "cgroup.kill"), b"1\n")
+same("a kill ends it, and nobody real", (read(m.path("b", "cgroup.procs")), is_alive(child.pid)), (b"", True))
+child.kill()
+child.wait()
+same("who has left does not exit once more", read(m.path("b", "pids.current")), b"0\n")
 several = []
-for _ in range(40):
+for _ in range(200):  # more than sixteen for each look: a read is an open and some reads, which look several times
     pid = os.fork()
     if pid == 0:
         libc.prctl(1, 9)  # it ends with its parent
@@ -171,7 +192,7 @@ for _ in range(40):
         os._exit(0)
     several.append(pid)
     write(m.path("a", "cgroup.procs"), b"%d\n" % pid)
-same("forty processes", read(m.path("a", "pids.current")), b"40\n")
+same("two hundred processes", read(m.path("a", "pids.current")), b"200\n")
 for pid in several:
     os.kill(pid, signal.SIGKILL)
 for pid in several:
@@ -179,8 +200,114 @@ for pid in several:
 same("all their deaths are seen at once", read(m.path("a", "pids.current")), b"0\n")
 for pid in several:
     os.waitpid(pid, 0)
+os.mkdir(m.path("last"))
+last = subprocess.Popen(["sleep", "600"])
+write(m.path("last", "cgroup.procs"), b"%d\n" % last.pid)
+last.kill()
+last.wait()
+same("rmdir just after the last has died", error_of(os.rmdir, m.path("last")), "ok")
 same("who was never there lives", alive(stranger.pid), [True])
 stranger.kill()
 stranger.wait()
+m.end()
+
+# what has happened since the last look, by files that are open: to open one is a look
+m = Mount("--adopt")
+for g in "abc":
+    os.mkdir(m.path(g))
+kill_b, to_b = (os.open(m.path("b", name), os.O_WRONLY) for name in ("cgroup.kill", "cgroup.procs"))
+forks = "while read x; do sleep 600 >&- & echo $!; done"
+parent = subprocess.Popen(["sh", "-c", forks], stdin=subprocess.PIPE, stdout=subprocess.PIPE, text=True)
+
+
+def forked():
+    parent.stdin.write("\n")
+    parent.stdin.flush()
+    return int(parent.stdout.readline())
+
+
+write(m.path("a", "cgroup.procs"), b"%d\n" % parent.pid)
+first = forked()
+os.write(to_b, b"%d\n" % parent.pid)
+same(
+    "who was born before a move is where it was born",
+    [read(m.path(g, "cgroup.procs")) for g in "ab"],
+    [b"%d\n" % first, b"%d\n" % parent.pid],
+)
+second = forked()
+os.write(kill_b, b"1")
+same("a kill reaches the parent", parent.wait(PATIENCE), -signal.SIGKILL)
+step("and whom it has just made", until(lambda: not is_alive(second)))
+same("but no other", (is_alive(first), read(m.path("a", "cgroup.procs"))), (True, b"%d\n" % first))
+for fd in (kill_b, to_b):
+    os.close(fd)
+parent.stdin.close()
+parent.stdout.close()
+
+# who polls is told of what a look finds
+parent = subprocess.Popen(["sh", "-c", forks], stdin=subprocess.PIPE, stdout=subprocess.PIPE, text=True)
+write(m.path("c", "cgroup.procs"), b"%d\n" % parent.pid)
+write(m.path("c", "pids.max"), b"1\n")
+names = ("cgroup.events", "pids.events", "pids.events.local")
+fds = {os.open(m.path("c", name), os.O_RDONLY): name for name in names}
+poller = select.poll()
+for fd in fds:
+    poller.register(fd, select.POLLPRI)
+    os.pread(fd, 99, 0)
+
+
+def told():
+    """Which of the files tell of a change, after a look; they are read."""
+    read(m.path("cgroup.stat"))
+    found = [fd for fd, _ in poller.poll(0)]
+    return sorted((fds[fd], os.pread(fd, 99, 0)) for fd in found)
+
+
+same("nothing has changed", told(), [])
+third = forked()
+same("a child beyond the limit", told(), [("pids.events", b"max 1\n"), ("pids.events.local", b"max 1\n")])
+same("is told once", told(), [])
+parent.kill()
+os.waitid(os.P_PID, parent.pid, os.WEXITED | os.WNOWAIT)
+same("the last one dies", told(), [("cgroup.events", b"populated 0\nfrozen 0\n")])
+parent.wait()
+for pid in (first, third):
+    os.kill(pid, signal.SIGKILL)
+for fd in fds:
+    os.close(fd)
+parent.stdin.close()
+parent.stdout.close()
+
+# a child that has ended is made once, however long nobody waits for it
+UNWAITED = """import os, signal
+pid = os.fork()
+while pid == 0:
+    signal.pause()
+print(pid, flush=True)
+signal.pause()
+"""
+parent = subprocess.Popen([sys.executable, "-c", UNWAITED], stdout=subprocess.PIPE, text=True)
+child = int(parent.stdout.readline())
+write(m.path("c", "pids.max"), b"max\n")
+write(m.path("c", "cgroup.procs"), b"%d\n" % parent.pid)
+same("two are adopted", read(m.path("c", "pids.current")), b"2\n")
+os.kill(child, signal.SIGKILL)
+step("the child is a zombie", until(lambda: open("/proc/%d/stat" % child).read().rpartition(")")[2].split()[0] == "Z"))
+same("it is gone", [read(m.path("c", "pids.current")) for _ in range(3)], [b"1\n"] * 3)
+write(m.path("c", "pids.max"), b"1\n")
+same(
+    "a zombie is no child that a limit refuses", [read(m.path("c", "pids.events")) for _ in range(3)], [b"max 1\n"] * 3
+)
+same("nor moves", error_of(write, m.path("a", "cgroup.procs"), b"%d\n" % child), "ok")
+same("it is nowhere", (read(m.path("a", "cgroup.procs")), read(m.path("c", "pids.current"))), (b"", b"1\n"))
+lines = open(m.trace).read().splitlines()
+same(
+    "its lines",
+    [x for x in lines if x.endswith(" %d" % child)],
+    ["fork %d %d" % (parent.pid, child), "exit %d" % child],
+)
+parent.kill()
+parent.wait()
+parent.stdout.close()
 m.end()
 finish()

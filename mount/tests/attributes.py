@@ -26,6 +26,14 @@ def kept():
         same("%s: the empty value" % name, os.getxattr(where, "user.delegate"), b"")
         same("%s: removing one" % name, error_of(os.removexattr, where, "user.delegate"), "ok")
         same("%s: the other is left" % name, os.listxattr(where), ["user.x"])
+        for flags, there, absent in ((os.XATTR_CREATE | os.XATTR_REPLACE, "EEXIST", "ENODATA"), (0, "ok", "ok")):
+            got = [error_of(os.setxattr, where, n, b"3", flags) for n in ("user.x", "user.new")]
+            same("%s: flags %d" % (name, flags), got, [there, absent])
+        os.removexattr(where, "user.new")
+        for room, wanted in ((1, b"3"), (65536, b"3")):
+            buffer = ctypes.create_string_buffer(room)
+            size = libc.getxattr(where.encode(), b"user.x", buffer, room)
+            same("%s: into %d bytes" % (name, room), (size, buffer.raw[:1]), (1, wanted))
         step("%s: another name space" % name, error_of(os.setxattr, where, "security.x", b"1") in ("ENOTSUP", "EPERM"))
     same("an attribute of a group sends no line", "user" in open(m.trace).read(), False)
     for name in ("use", "users.x", "system.x", "system.makhloeum.group", "makhloeum"):

@@ -14,8 +14,8 @@ import tempfile
 import time
 
 from support import AT, BUILT, PATIENCE, PROGRAM, Beside, Mount
-from support import clone_into, error_of, finish, in_parallel, into, libc, line_of, read, same, status_within, step
-from support import tracer, until, write
+from support import clone_into, error_of, finish, in_parallel, into, libc, line_of, read, rests, same, status_within
+from support import step, tracer, until, write
 
 ME = os.path.realpath(__file__)
 BLOCKING, STALLED = os.path.join(BUILT, "blocking"), os.path.join(BUILT, "stalled")
@@ -179,6 +179,37 @@ def ending():
     p.kill()
 
 
+def reading(program=BLOCKING):
+    """A process that was frozen and thawed has made a child by vfork, and waits in a read that no stop ends. It is not frozen again,
+    though its other thread and its child are."""
+    os.mkdir(AT + "/a")
+    p = subprocess.Popen(
+        [program, "reader", PAGE], stdin=subprocess.PIPE, stdout=subprocess.PIPE, preexec_fn=lambda: into("/a")
+    )
+    p.stdout.read(1)
+    events = lambda: read(AT + "/a/cgroup.events")
+    write(AT + "/a/cgroup.freeze", b"1")
+    step("it is frozen", until(lambda: events() == b"populated 1\nfrozen 1\n"))
+    write(AT + "/a/cgroup.freeze", b"0")
+    p.stdin.write(b"x")
+    p.stdin.flush()
+    step("it reads", until(lambda: os.path.exists(os.path.dirname(PAGE) + "/asked")))
+    write(AT + "/a/cgroup.freeze", b"1")
+    same("it does not stop", events(), b"populated 1\nfrozen 0\n")
+    step("others still run", forks())
+    same("nor later", events(), b"populated 1\nfrozen 0\n")
+    p.kill()
+    same("it is killed", p.wait(PATIENCE), -signal.SIGKILL)
+    step("its child is frozen", until(lambda: events() == b"populated 1\nfrozen 1\n"))
+    write(AT + "/a/cgroup.kill", b"1")
+    step("the supervisor rests", rests())
+
+
+def unread():
+    """The same of a program that its user may not read: the kernel does not say whether its first thread has memory."""
+    reading(BLOCKING + "-unread")
+
+
 def waiting():
     """More clone3 calls wait for memory than the helper has threads at first."""
     same(
@@ -193,6 +224,17 @@ def crowded():
     """So many clone3 calls wait for memory that no more may: then C libraries use clone."""
     ran = subprocess.run([BLOCKING, "full", PAGE], stdout=subprocess.PIPE, timeout=4 * PATIENCE)
     same("the 512th clone3, the 513th, and a fork", ran.stdout, b"ok ENOSYS ok\n")
+    step("others still run", forks())
+
+
+def opening():
+    """Many opens wait for memory: another one shows the hierarchy all the same. More than may wait: nobody limits the supervisor."""
+    os.mkdir(AT + "/a")
+    into("/a")
+    words = [BLOCKING, "opens", PAGE, str(tracer())]
+    ran = subprocess.run(words, stdout=subprocess.PIPE, timeout=4 * PATIENCE)
+    same("the text of the 501st, and a limit", ran.stdout, b"0::/a\nEPERM\n")
+    into("")
     step("others still run", forks())
 
 
@@ -306,8 +348,11 @@ INSIDE = {
     spaces: ["--root"],
     leaderless: [],
     ending: [],
+    reading: [],
+    unread: [],
     waiting: [],
     crowded: [],
+    opening: [],
     stopped: [],
     stopping: [],
     elsewhere: ["--root"],

@@ -81,8 +81,13 @@ BEYOND = [
     b"18446744073709551616",
     b"18446744073709551623",
     b"-18446744073709551615",
+    b"184467440737095516165",
+    b"200000000000000000000",
+    b"-184467440737095516165",
     b"0xffffffffffffffff",
     b"0x8000000000000000",
+    b"0x100000000000000005",
+    b"020000000000000000000005",
     b"01000000000000000000000",
     b"99999999999999999999999999999999",
 ]
@@ -241,6 +246,12 @@ def memory(v):
     rows += [
         (b"7e", "ok", b"%d\n" % (7 << 60)),
         (b"8e", "ok", b"max\n"),
+        # bytes have 64 bits, and wrap around
+        (b"16e", "ok", b"0\n"),
+        (b"17e", "ok", b"%d\n" % (1 << 60)),
+        (b"18446744073709551616", "ok", b"0\n"),
+        (b"18446744073709559808", "ok", b"8192\n"),
+        (b"0x10000000000002000", "ok", b"8192\n"),
         (b"0x10k", "ok", b"16384\n"),
         (b"010m", "ok", b"8388608\n"),
     ]
@@ -298,6 +309,9 @@ def cpu(v):
         tries(v, name, [row for row in rows if row[0]])
     for name, value in (
         ("cpu.weight", b"18446744073709551616"),
+        ("cpu.weight", b"184467440737095516165"),
+        ("cpu.weight", b"200000000000000000000"),
+        ("cpu.weight", b"0x100000000000000005"),
         ("cpu.idle", b"9223372036854775808"),
         ("cpu.weight.nice", b"9223372036854775808"),
     ):
@@ -332,6 +346,15 @@ def cpu(v):
             (b"5000 0", "EINVAL", None),
             (b"0x2000", "EINVAL", None),
             (b"4000 100000", "ok", b"4000 100000\n"),
+            # the kernel takes twenty bytes for the quota, and what follows for the period
+            (b"00000000000000009000 50000", "ok", b"9000 50000\n"),
+            (b"0000000000000000900012345", "ok", b"9000 12345\n"),
+            (b"000000000000000090001", "EINVAL", None),
+            (b"4000 0000000000000000000100000", "ok", b"4000 100000\n"),
+            (b"4000 100000x", "ok", b"4000 100000\n"),
+            (b"4000x", "ok", b"4000 100000\n"),
+            (b"max100000", "EINVAL", None),
+            (b"4000,100000", "ok", b"4000 100000\n"),
         ],
     )
     tries(
@@ -350,10 +373,16 @@ def cpu(v):
     same("a quota that is the greatest with a burst", put(v, "cpu.max", b"%d" % greatest), "EINVAL")
     same("one less", put(v, "cpu.max", b"%d" % (greatest - 1)), "ok")
     write(v + "/cpu.max", b"max 100000")
-    same(
-        "without a quota any burst",
-        (put(v, "cpu.max.burst", b"1000000000000"), put(v, "cpu.max.burst", b"0")),
-        ("ok", "ok"),
+    most = (2**64 - 1) // 1000  # of nanoseconds in 64 bits
+    tries(
+        v,
+        "cpu.max.burst",
+        [
+            (b"1000000000000", "ok", b"1000000000000\n"),
+            (b"%d" % most, "ok", b"%d\n" % most),
+            (b"%d" % (most + 1), "EINVAL", None),
+            (b"0", "ok", b"0\n"),
+        ],
     )
 
 
@@ -419,6 +448,9 @@ def lists(v):
                 (b"0-4294967295", "EINVAL", None),
                 (b"4294967296", "EOVERFLOW", None),
                 (b"0-4294967296", "EOVERFLOW", None),
+                (b"42949672960", "EOVERFLOW", None),
+                (b"0-42949672960", "EOVERFLOW", None),
+                (b"50000000000", "EOVERFLOW", None),
             ],
         )
     tries(
@@ -507,6 +539,7 @@ def numbers_of_control(m):
         (b"1 4\0 5", "ok"),
         (b"0000000000000000000000001 05", "ok"),
         (b"1 0x9", "EINVAL"),
+        (b"1 184467440737095516169", "EINVAL"),
         (b"1 +9", "EINVAL"),
         (b"1\x019", "EINVAL"),
         (b"1", "EINVAL"),

@@ -91,9 +91,18 @@ def lost_pids():
     depth = text_of(m, ".makhloeum", "depth")
     change(m, ".", "-pids")
     same("two limits are one operation", text_of(m, ".makhloeum", "depth"), str(int(depth) + 1))
+    same("a line for each", read(m.control("newest")), b"write /a pids.max max\nwrite /b pids.max max\n")
     write(m.control("undo"), b"\n")
     change(m, ".", "+pids")
     same("one undo sets both again", (text_of(m, "a", "pids.max"), text_of(m, "b", "pids.max")), ("3", "4"))
+    write(m.path("b", "pids.max"), b"max\n")
+    os.mkdir(m.path("a", "in"))
+    change(m, ".", "-pids")
+    same("a child without a limit has no line", read(m.control("newest")), b"write /a pids.max max\n")
+    change(m, ".", "+pids")
+    depth = text_of(m, ".makhloeum", "depth")
+    change(m, ".", "-pids")
+    same("without any limit there is no operation", text_of(m, ".makhloeum", "depth"), depth)
     same("a directory of a file's name", error_of(os.mkdir, m.path("a", "memory.max")), "EEXIST")
     m.end()
 
@@ -150,6 +159,33 @@ def threaded():
     same("below a group with processes", error_of(write, m.path("a", "cgroup.procs"), b"2\n"), "EBUSY")
     same("to be threaded", error_of(write, m.path("a", "cgroup.type"), b"threaded\n"), "ENOTSUP")
     same("to be a domain", error_of(write, m.path("a", "cgroup.type"), b"domain\n"), "ok")
+    m.end()
+
+
+def again():
+    """A group that is no domain may be told what is so already, and nothing else."""
+    m = Mount("--keep", KEPT)
+    change(m, ".", "+memory +cpu +pids")
+    os.makedirs(m.path("a", "b", "c"))
+    same(
+        "two controllers, and one of them below",
+        (change(m, "a", "+cpu +pids"), change(m, "a/b", "+pids")),
+        ("ok", "ok"),
+    )
+    write(m.control("fork"), b"1 2\n")
+    write(m.path("a", "cgroup.procs"), b"2\n")
+    same("the type", text_of(m, "a/b", "cgroup.type"), "domain invalid")
+    for words, wanted in (
+        ("+pids", "ok"),
+        ("-cpu", "ok"),
+        ("+pids -cpu", "ok"),
+        ("+cpu", "ENOTSUP"),
+        ("+pids +cpu", "ENOTSUP"),
+    ):
+        same(
+            "%s again" % words, (change(m, "a/b", words), text_of(m, "a/b", "cgroup.subtree_control")), (wanted, "pids")
+        )
+    same("what is enabled may be disabled", (change(m, "a/b", "-pids"), change(m, "a/b", "+pids")), ("ok", "ENOTSUP"))
     m.end()
 
 
@@ -295,11 +331,29 @@ def born():
         same("a clone3 into " + name, clone_into(os.open(AT + group, os.O_RDONLY)), wanted)
     child.kill()
     child.wait()
+    os.makedirs(AT + "/z/y")
+    dead = []
+    for group in ("/z", "/z/y"):
+        dead.append(os.fork())
+        if dead[-1] == 0:
+            into(group)
+            os._exit(0)
+        os.waitid(os.P_PID, dead[-1], os.WEXITED | os.WNOWAIT)
+    same("the dead are counted", read(AT + "/z/pids.current"), b"2\n")
+    shares = [error_of(write, AT + "/z/cgroup.subtree_control", words) for words in (b"+memory", b"-memory", b"+pids")]
+    same("but their group has no processes", shares, ["ok"] * 3)
+    same(
+        "nor has one below",
+        (read(AT + "/z/y/cgroup.type"), clone_into(os.open(AT + "/z", os.O_RDONLY))),
+        (b"domain\n", 0),
+    )
+    for pid in dead:
+        os.waitpid(pid, 0)
 
 
 if sys.argv[1:] == ["inside"]:
     born()
     finish()
-for test in (enabling, lost_pids, internal, threaded, each_one, without, refused, under_run):
+for test in (enabling, lost_pids, internal, threaded, again, each_one, without, refused, under_run):
     test()
 finish()

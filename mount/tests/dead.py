@@ -119,7 +119,14 @@ def removed():
     dead = zombie("/p/b/c"), zombie("/p/b"), zombie("/p/b/c")
     same("a group with another", error_of(os.rmdir, AT + "/p/b"), "EBUSY")
     same("nobody has moved", [count(g) for g in ("/p", "/p/b", "/p/b/c")], [3, 3, 2])
+    depth = int(read(AT + "/.makhloeum/depth"))
     same("the innermost goes", error_of(os.rmdir, AT + "/p/b/c"), "ok")
+    moved = [b"write /p/b cgroup.procs %d\n" % pid for pid in sorted((dead[0], dead[2]))]
+    wanted = depth + 1, b"".join(moved) + b"rmdir /p/b/c\n"
+    same("in one operation", (int(read(AT + "/.makhloeum/depth")), read(AT + "/.makhloeum/newest")), wanted)
+    write(AT + "/.makhloeum/undo", b"1")
+    same("one undo brings all back", [count(g) for g in ("/p", "/p/b", "/p/b/c")], [3, 3, 2])
+    same("and it goes again", error_of(os.rmdir, AT + "/p/b/c"), "ok")
     same("its dead count above", [seen("/p/b"), seen("/p")], [([], [], 3, 0)] * 2)
     lives = sleeper("/p/b")
     same("a group with one who lives stays", error_of(os.rmdir, AT + "/p/b"), "EBUSY")

@@ -105,6 +105,17 @@ same("an exit is undone", (told(poller), os.pread(fd, 11, 0)), ([select.POLLPRI 
 write(m.control("undo"), b"1\n")
 os.close(fd)
 
+for name in ("depth", "newest", "trace", "undo"):
+    fd = os.open(m.control(name), os.O_RDONLY if name != "undo" else os.O_WRONLY)
+    poller = select.poll()
+    poller.register(fd, every)
+    same("a file of the control directory: " + name, poller.poll(0), [(fd, usual | select.POLLPRI | select.POLLERR)])
+    if name != "undo":
+        os.pread(fd, 100, 0)
+        write(m.control("fork"), b"1 8")
+        same("once it was read", poller.poll(0), [(fd, usual)])
+        write(m.control("exit"), b"8")
+    os.close(fd)
 watch = Watch(a, b)
 tells("nothing at first", watch)
 write(m.control("exit"), b"2\n")

@@ -9,7 +9,7 @@ for tool in bash dirname env id mkdir mktemp rm; do ln -s "$(command -v $tool)" 
 
 fails() { # NAME STATUS WORD=..
   echo old >"$room/out/makhloeum"
-  env OUT="$room/out" "$3" "$build" >"$room/said" 2>&1
+  env -u OBJECTS OUT="$room/out" "$3" "$build" >"$room/said" 2>&1
   local status=$?
   [ $status = "$2" ] && [ ! -e "$room/out/makhloeum" ] && return
   wrong=$((wrong + 1))

@@ -1,5 +1,7 @@
 """Every file of a group: exact bytes, and the errno of each refusal."""
+import itertools
 import os
+import select
 import stat
 import subprocess
 
@@ -220,6 +222,116 @@ def extra():
     )
     same("a thaw", error_of(write, m.path("a", "cgroup.freeze"), b"0\n"), "ok")
     same("it is gone", read(m.path("a", "cgroup.events")), b"populated 0\nfrozen 0\n")
+    for child in (b"1 2", b"1 3", b"1 4"):
+        write(m.control("fork"), child)
+    for child in (b"4", b"2"):
+        write(m.path("a", "cgroup.procs"), child)
+    before = lines_of(m)
+    threads = [read(m.path(*names, "cgroup.threads")) for names in ((), ("a",))]
+    same("cgroup.threads, here the processes", threads, [b"1\n3\n", b"2\n4\n"])
+    for value in (b"threaded", b"domain threaded", b"domain invalid"):
+        same("cgroup.type %s" % value.decode(), error_of(write, m.path("a", "cgroup.type"), value), "ENOTSUP")
+    for value in (b"domain\n", b" domain ", b"", b"\n"):
+        same("cgroup.type %r" % value, error_of(write, m.path("a", "cgroup.type"), value), "ok")
+    for value in (b"+pids +pids", b"+memory", b"pids", b"-pids", b"+pid", b"+pidsx"):
+        got = error_of(write, m.path("a", "cgroup.subtree_control"), value)
+        same("cgroup.subtree_control %s" % value.decode(), got, "ENOTSUP")
+    same("none of these is a line of the trace", lines_of(m), before)
+    m.end()
+
+
+def lines_of(m):
+    """The lines of the trace that are no comments."""
+    return [line for line in open(m.trace).read().splitlines() if not line.startswith("#")]
+
+
+def polled(path):
+    with open(path) as f:
+        select.select([], [], [f], 0)
+
+
+def silent():
+    """What the engine is not asked: it sends no line."""
+    m = Mount("--extra")
+    os.mkdir(m.path("a"))
+    os.mkdir(m.path("a", "b"))
+    for name in ("a/pids.max", "a/cgroup.events", "cgroup.procs"):
+        read(m.path(name))
+    before = lines_of(m)
+    for what, call in (
+        ("a listing", lambda: os.listdir(m.path("a"))),
+        ("a stat", lambda: [os.stat(m.path("a", n)) for n in os.listdir(m.path("a"))]),
+        ("an open", lambda: os.close(os.open(m.path("a", "pids.max"), os.O_RDWR))),
+        ("an access", lambda: os.access(m.path("a", "pids.max"), os.R_OK)),
+        ("a truncation", lambda: os.truncate(m.path("a", "pids.max"), 0)),
+        ("a mode", lambda: os.chmod(m.path("a"), 0o700)),
+        ("an owner", lambda: os.chown(m.path("a"), -1, os.getgid())),
+        ("times", lambda: os.utime(m.path("a", "pids.max"))),
+        ("an attribute", lambda: os.setxattr(m.path("a"), "user.x", b"1")),
+        ("a name that is not there", lambda: os.path.exists(m.path("none"))),
+        ("a name that no group can have", lambda: error_of(os.mkdir, m.path("a b"))),
+        ("a group that is there", lambda: error_of(os.mkdir, m.path("a"))),
+        ("a poll", lambda: polled(m.path("a", "cgroup.events"))),
+        ("a value that is none", lambda: error_of(write, m.path("a", "pids.max"), b"x")),
+        ("one out of its range", lambda: error_of(write, m.path("a", "cgroup.max.depth"), b"-1")),
+        ("a process that cannot be", lambda: error_of(write, m.path("a", "cgroup.procs"), b"-5")),
+        ("a kill that is none", lambda: error_of(write, m.path("a", "cgroup.kill"), b"0")),
+        ("a freeze", lambda: write(m.path("a", "cgroup.freeze"), b"1")),
+        ("reads of what the engine does not have", lambda: [read(m.path("a", n)) for n in CONSTANTS]),
+        ("reads of the history", lambda: [read(m.control(n)) for n in ("depth", "newest", "trace")]),
+        ("a wrong number of numbers", lambda: error_of(write, m.control("fork"), b"1")),
+        ("a forget", lambda: write(m.control("forget"), b"\n")),
+        ("an undo of nothing", lambda: error_of(write, m.control("undo"), b"\n")),
+    ):
+        call()
+        same("%s sends no line" % what, lines_of(m), before)
+        before = lines_of(m)
+    for what, call, wanted in (
+        ("a read", lambda: read(m.path("a", "pids.max")), ["cat /a pids.max"]),
+        ("a write", lambda: write(m.path("a", "pids.max"), b" 0x5\n"), ["write /a pids.max 5"]),
+        ("a mkdir", lambda: os.mkdir(m.path("a", "c")), ["mkdir /a/c"]),
+        ("an rmdir", lambda: os.rmdir(m.path("a", "c")), ["rmdir /a/c"]),
+        ("a refused rmdir", lambda: error_of(os.rmdir, m.path("a")), ["rmdir /a"]),
+        ("a fork", lambda: write(m.control("fork"), b"1 2"), ["fork 1 2"]),
+        ("a move", lambda: write(m.path("a", "cgroup.procs"), b"2"), ["write /a cgroup.procs 2"]),
+        ("a move of nobody", lambda: error_of(write, m.path("a", "cgroup.procs"), b"7"), ["write /a cgroup.procs 7"]),
+        ("a kill", lambda: write(m.path("a", "cgroup.kill"), b"1"), ["write /a cgroup.kill 1"]),
+        ("an exit of nobody", lambda: error_of(write, m.control("exit"), b"2"), ["exit 2"]),
+        ("an undo", lambda: write(m.control("undo"), b"1"), ["undo"]),
+        ("two undos", lambda: write(m.control("undo"), b"2"), ["undo", "undo"]),
+    ):
+        call()
+        same("the lines of %s" % what, lines_of(m)[len(before) :], wanted)
+        before = lines_of(m)
+    m.end()
+
+
+def closed():
+    """Open files of one group are closed in any order: those that are left are told of changes, and of the group's end."""
+    m = Mount()
+    name = "cgroup.events"
+    write(m.control("fork"), b"1 2")
+    wrong = []
+    for order in itertools.permutations(range(4)):
+        os.mkdir(m.path("a"))
+        fds = [os.open(m.path("a", name), os.O_RDONLY) for _ in order]
+        polls = [select.poll() for _ in order]
+        for fd, poll in zip(fds, polls):
+            poll.register(fd, select.POLLPRI)
+            os.pread(fd, 99, 0)
+        left = list(order)
+        while len(left) > 1:
+            os.close(fds[left.pop()])
+            for group in ("a", "."):
+                write(m.path(group, "cgroup.procs"), b"2")
+                told = [bool(polls[i].poll(0)) for i in left], {os.pread(fds[i], 99, 0) for i in left}
+                if told[0] != [True] * len(left) or len(told[1]) != 1:
+                    wrong.append((order, left, group, told))
+        os.rmdir(m.path("a"))
+        if not polls[left[0]].poll(0) or error_of(os.pread, fds[left[0]], 9, 0) != "ENODEV":
+            wrong.append((order, "removed"))
+        os.close(fds[left[0]])
+    same("who is left is told", wrong[:3], [])
     m.end()
 
 
@@ -308,6 +420,6 @@ def no_history():
     m.end()
 
 
-for test in (listing, values, groups, opened, sent, shell, extra, control, no_history):
+for test in (listing, values, groups, opened, sent, shell, extra, silent, closed, control, no_history):
     test()
 finish()

@@ -9,8 +9,8 @@ import subprocess
 import sys
 import tempfile
 
-from support import AT, PATIENCE, PROGRAM, Mount
-from support import error_of, finish, in_parallel, libc, line_of, read, rests, same, step, until, write
+from support import AT, PATIENCE, PROGRAM, Beside, Mount
+from support import error_of, finish, in_parallel, libc, line_of, read, rests, same, step, tracer, until, write
 
 ME = os.path.realpath(__file__)
 THAWED, FROZEN = b"frozen 0\n", b"frozen 1\n"
@@ -226,12 +226,14 @@ def count():
     while True:
         os.write(1, b"x")
         time.sleep(0.002)
-for _ in range(8):
-    threading.Thread(target=count, daemon=True).start()
-while True:
-    t = threading.Thread(target=time.sleep, args=(0.001,))
-    t.start()
-    t.join()
+def make():
+    while True:
+        t = threading.Thread(target=int)
+        t.start()
+        t.join()
+for call in [count] * 6 + [make] * 3:
+    threading.Thread(target=call, daemon=True).start()
+make()
 """
 VFORKS = """
 import subprocess, os
@@ -369,6 +371,20 @@ def itself():
     same("it ends", one.wait(PATIENCE), 5)
 
 
+def first():
+    """The first process of the run is frozen: its child sees that, and lets it go on."""
+    os.mkdir(AT + "/a")
+    freeze("/a", 1)
+    pid = os.fork()
+    if pid == 0:
+        seen = until(lambda: read(AT + "/a/cgroup.events") == b"populated 1\nfrozen 1\n")
+        freeze("/a", 0)
+        os._exit(0 if seen else 1)
+    write(AT + "/a/cgroup.procs", b"0")
+    same("a child sees it", os.waitpid(pid, 0)[1], 0)
+    same("and it goes on", read("/proc/self/cgroup"), b"0::/a\n")
+
+
 def told():
     os.mkdir(AT + "/a")
     one = Counter("/a")
@@ -404,6 +420,33 @@ def many():
     same("all are killed", {p.wait(PATIENCE) for p in all_of}, {-signal.SIGKILL})
 
 
+def wide():
+    """Groups whose paths have more than 64 KiB together: a freeze and a kill above them reach the processes of all."""
+    os.mkdir(AT + "/a")
+    groups = ["/a/%03d%s" % (i, "n" * 252) for i in range(300)]
+    for each in groups:
+        os.mkdir(AT + each)
+    first, last = Counter(groups[0]), Counter(groups[-1])
+
+    def ends(name, file):
+        """A write of 1 ends. If it does not, the run can't end by itself."""
+        got = Beside(lambda: write(AT + "/a/" + file, b"1\n") or "done").result()
+        same(name, got, "done")
+        if got is None:
+            os.kill(tracer(), signal.SIGKILL)
+            signal.pause()
+
+    ends("a freeze", "cgroup.freeze")
+    becomes("all have stopped", "/a", FROZEN)
+    same("each group is frozen", [frozen(AT + each) for each in groups], [FROZEN] * len(groups))
+    step("they rest", first.rests() and last.rests())
+    freeze("/a", 0)
+    step("they run again", first.counts() and last.counts())
+    ends("a kill", "cgroup.kill")
+    same("both are killed", [one.process.wait(PATIENCE) for one in (first, last)], [-signal.SIGKILL] * 2)
+    same("nobody is left", read(AT + "/a/cgroup.events"), b"populated 0\nfrozen 0\n")
+
+
 def undone():
     """An undo that moves a process into a frozen group stops it, and one that moves it out lets it go on."""
     os.mkdir(AT + "/cold")
@@ -430,7 +473,7 @@ def undone():
     one.end()
 
 
-INSIDE = (stops, moves, kinds, vforked, signals, itself, told, many, undone)
+INSIDE = (stops, moves, kinds, vforked, signals, itself, first, told, many, wide, undone)
 if sys.argv[1:2] == ["inside"]:
     {t.__name__: t for t in INSIDE}[sys.argv[2]]()
     for one in runner:

@@ -60,6 +60,12 @@ static long no_signal(void)
 }
 
 #if defined(__x86_64__)
+/* A fork has no arguments: what stands in their registers does not count. */
+static long with_flags(void)
+{
+	return syscall(SYS_fork, CLONE_THREAD | CLONE_NEWCGROUP | CLONE_PARENT, 1, 2, 3, 4);
+}
+
 static long by_32_bits(void)
 {
 	long answer;
@@ -82,6 +88,7 @@ static const struct {
 	{ "parent", by_parent },
 	{ "no-signal", no_signal },
 #if defined(__x86_64__)
+	{ "fork", with_flags },
 	{ "int80", by_32_bits },
 	{ "x32", by_x32 },
 #endif

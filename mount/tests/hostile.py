@@ -47,7 +47,7 @@ def forks():
     os.mkdir(AT + "/a")
     write(AT + "/a/pids.max", b"5\n")
     for way in ("clone", "clone3", "parent", "no-signal") + (
-        ("int80", "x32") if os.uname().machine == "x86_64" else ()
+        ("fork", "int80", "x32") if os.uname().machine == "x86_64" else ()
     ):
         p = started("forks", way, group="/a")
         made = int(p.stdout.readline())

@@ -1,5 +1,6 @@
 """The files that a mount keeps, --trace and --answers: which may be given, and what happens when they cannot grow."""
 import os
+import pty
 import re
 import resource
 import socket
@@ -8,6 +9,7 @@ import subprocess
 import sys
 import tempfile
 import time
+import tty
 
 from support import CGREPLAY, CGSHELL, PATIENCE, PROGRAM, Mount, error_of, finish, read, same, step, until, write
 
@@ -199,8 +201,87 @@ def without_history():
     m.end()
 
 
+def undone_by_halves():
+    """An undo of an operation of three commands for which the trace has room for some: what is left of it is one operation."""
+    for room in (0, 10, 20, 30, 40, 50, 60, 80):
+        m = Mount("--keep", "memory")
+        write(m.path("cgroup.subtree_control"), b"+pids")
+        limits = [m.path(g, "pids.max") for g in "xyz"]
+        for g, limit in zip("xyz", limits):
+            os.mkdir(m.path(g))
+            write(limit, b"7")
+        write(m.path("cgroup.subtree_control"), b"-pids")
+        write(m.path("cgroup.subtree_control"), b"+pids")
+        depth = int(read(m.control("depth")))
+        limit_of(m, os.path.getsize(m.trace) + room)
+        error = error_of(write, m.control("undo"), b"1")
+        limit_of(m, None)
+        left = read(m.control("newest")).count(b"\n") if error != "ok" else 0
+        now = [read(limit) for limit in limits]
+        wanted = [b"max\n"] * left + [b"7\n"] * (3 - left)
+        same("with %d bytes: what is undone" % room, now, wanted)
+        got = error in ("ok", "EFBIG", "ENOSPC"), int(read(m.control("depth")))
+        same("how many operations are left", got, (True, depth if left else depth - 1))
+        write(m.control("undo"), b"1")
+        wanted = [b"7\n"] * 3 if left else [b"7\n", b"7\n", b"max\n"]
+        got = [read(limit) for limit in limits], int(read(m.control("depth")))
+        same("one more undo", got, (wanted, depth - (1 if left else 2)))
+        same("all others", error_of(write, m.control("undo"), b"%d" % got[1]), "ok")
+        same("nothing is left", (read(m.control("depth")), os.path.exists(m.path("x"))), (b"0\n", False))
+        m.end()
+
+
+def terminal():
+    """A trace on a terminal that takes no more. If it took a part of a line, nothing is kept from then on; else it goes on."""
+    ours, theirs = pty.openpty()
+    tty.setraw(theirs)
+    m = Mount(trace=os.ttyname(theirs))
+    name, made, error = "n" * 240, 0, "ok"
+    deep = m.at
+    while error == "ok" and made < 2000:
+        error = error_of(os.mkdir, "%s/%04d%s" % (deep, made, name))
+        made += error == "ok"
+    same("it is full", (error, made > 3), ("EAGAIN", True))
+    same("the last group was not made", os.path.exists("%s/%04d%s" % (deep, made, name)), False)
+    os.set_blocking(ours, False)
+    text = b""
+
+    def has(ends):
+        """Whether what has come ends like this. It comes a moment later than it was taken."""
+        nonlocal text
+        try:
+            text += os.read(ours, 65536)
+        except BlockingIOError:
+            pass
+        return ends(text)
+
+    step("all lines come", until(lambda: has(lambda t: t.count(name.encode() + b"\n") >= made)))
+    got = [error_of(os.mkdir, m.path("after%d" % i)) for i in range(2)]
+    if "ok" in got:
+        same("then it goes on", (got, until(lambda: has(lambda t: t.endswith(b"/after1\n")))), (["ok"] * 2, True))
+        made = ["%04d%s" % (i, name) for i in range(made)] + ["after0", "after1"]
+    else:
+        same("nothing goes on", (got, until(lambda: has(lambda t: not t.endswith(b"\n")))), (["EAGAIN"] * 2, True))
+        made = ["%04d%s" % (i, name) for i in range(made)]
+    lines = [line for line in text.decode().split("\n")[:-1] if not line.startswith("#")]
+    same("each line is whole", lines, ["mkdir /" + g for g in made])
+    m.end(replayed=False)
+    os.close(ours)
+    os.close(theirs)
+
+
 def small_device():
     """In new namespaces: a file system of 16 pages, filled and emptied."""
+    twins = [tempfile.mkdtemp() for _ in range(2)]
+    for at in twins:
+        subprocess.run(["mount", "-t", "tmpfs", "none", at], check=True)
+        open(at + "/kept", "w").close()
+    same("files of two systems have one number", len({os.stat(at + "/kept").st_ino for at in twins}), 1)
+    m = Mount(trace=twins[0] + "/kept", answers=twins[1] + "/kept")
+    same("they are two files", error_of(os.mkdir, m.path("a")), "ok")
+    m.end()
+    for at in twins:
+        subprocess.run(["umount", at], check=True)
     disk = tempfile.mkdtemp()
     subprocess.run(["mount", "-t", "tmpfs", "-o", "size=64k", "none", disk], check=True)
     ballast = os.path.join(disk, "ballast")
@@ -276,7 +357,7 @@ def long_trace():
 if sys.argv[1:] == ["small"]:
     small_device()
     finish()
-for test in (targets, modes, times, full_answers, limited, without_history, long_trace):
+for test in (targets, modes, times, full_answers, limited, without_history, undone_by_halves, terminal, long_trace):
     test()
 ran = subprocess.run(["unshare", "-Urm", sys.executable, ME, "small"], timeout=6 * PATIENCE)
 same("on a small device", ran.returncode, 0)

@@ -150,6 +150,26 @@ def limited():
         for which in (resource.RLIMIT_NOFILE, resource.RLIMIT_NPROC, resource.RLIMIT_AS, resource.RLIMIT_CPU):
             same("a limit %d" % which, error_of(resource.prlimit, pid, which, (0, 0)), "EPERM")
     step("its limits can be read", len(resource.prlimit(tracer(), resource.RLIMIT_NOFILE)) == 2)
+    for pid in (*own(), tracer()):
+        tasks = [int(t) for t in os.listdir("/proc/%d/task" % pid)]
+        wrong = [t for t in tasks if error_of(resource.prlimit, t, resource.RLIMIT_NOFILE, (0, 0)) != "EPERM"]
+        same("nor for any of its %d threads" % len(tasks), wrong, [])
+    same("this process is a child of the supervisor", os.getppid(), tracer())
+    orphan = subprocess.run(["sh", "-c", "sleep 600 >&- & echo $!"], stdout=subprocess.PIPE).stdout
+    orphan = int(orphan)
+    parent = lambda: int(next(x for x in open("/proc/%d/status" % orphan) if x.startswith("PPid:")).split()[1])
+    step("so is an orphan", until(lambda: parent() == tracer()))
+    waits = threading.Event()
+    thread = threading.Thread(target=waits.wait)
+    thread.start()
+    for what, number in (("itself", os.getpid()), ("the orphan", orphan), ("a thread", thread.native_id)):
+        limit = resource.getrlimit(resource.RLIMIT_CORE)
+        got = error_of(resource.prlimit, number, resource.RLIMIT_CORE, (0, limit[1]))
+        same("a limit for %s" % what, (got, resource.prlimit(number, resource.RLIMIT_CORE)), ("ok", (0, limit[1])))
+    waits.set()
+    thread.join()
+    os.kill(orphan, signal.SIGKILL)
+    same("a number of nobody", error_of(resource.prlimit, 4194303, resource.RLIMIT_CORE, (0, 0)), "ESRCH")
     child = subprocess.Popen(["sleep", "600"])
     resource.prlimit(child.pid, resource.RLIMIT_NOFILE, (20, 20))
     same("a limit for another process", resource.prlimit(child.pid, resource.RLIMIT_NOFILE), (20, 20))

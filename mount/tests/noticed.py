@@ -52,7 +52,7 @@ def zombies():
     """2,000 zombies beside a server that may have 1,024 descriptors."""
     os.mkdir(AT + "/a")
     got = said("zombies", 2000, *makhloeum(), before=lambda: write(AT + "/a/cgroup.procs", b"0"))
-    same("counted beside them, after them, and wrongly refused forks", got[:3], [b"2001", b"1", b"0"])
+    same("counted beside them, after them, wrongly refused forks; tables", got[:4], [b"2001", b"1", b"0", b"1"])
     step("a fork beside them takes at most 3 times as much processor time", float(got[-1]) <= 3, got)
 
 
@@ -68,9 +68,10 @@ def filters():
 NO_XDEV, NO_MAGICLINKS, NO_SYMLINKS, BENEATH, IN_ROOT, CACHED = 1, 2, 4, 8, 16, 32
 
 
-def opened(directory, path, flags=0, mode=0, resolve=0, size=24, tail=0):
+def opened(directory, path, flags=0, mode=0, resolve=0, size=24, tail=0, last=0):
     """The text that openat2 opens, or the name of its errno."""
-    how = (ctypes.c_uint64 * 4)(flags, mode, resolve, tail)
+    how = (ctypes.c_uint64 * 512)(flags, mode, resolve, tail)
+    how[511] = last
     fd = libc.syscall(437, directory, path.encode(), how, size)
     if fd < 0:
         return errno.errorcode[ctypes.get_errno()]
@@ -102,6 +103,9 @@ def opens():
         ("EXDEV", cwd, "/proc/%d/cgroup" % me, {"resolve": NO_XDEV}),
         (text, proc, "%d/cgroup" % me, {"resolve": NO_XDEV}),
         ("ELOOP", cwd, link, {"resolve": NO_MAGICLINKS}),
+        ("EXDEV", proc, link[6:], {"resolve": BENEATH}),
+        ("EXDEV", proc, link[5:], {"resolve": IN_ROOT}),
+        (text, proc, link[6:], {"resolve": NO_XDEV}),
         (text, cwd, link, {}),
         ("EXDEV", top, absolute[1:], {"resolve": BENEATH}),
         (text, top, absolute[1:], {"resolve": IN_ROOT}),
@@ -109,9 +113,25 @@ def opens():
         ("EINVAL", cwd, "/proc/self/cgroup", {"resolve": 64}),
         ("EINVAL", cwd, "/proc/self/cgroup", {"mode": 0o644}),
         ("EINVAL", cwd, "/proc/self/cgroup", {"flags": 1 << 40}),
+        (text, cwd, "/proc/self/cgroup", {"flags": os.O_CREAT, "mode": 0o7777}),
+        ("EINVAL", cwd, "/proc/self/cgroup", {"flags": os.O_CREAT, "mode": 0o10000}),
+        ("EAGAIN", cwd, "/proc/self/cgroup", {"flags": os.O_CREAT, "resolve": CACHED}),
+        ("EAGAIN", cwd, "/proc/self/cgroup", {"flags": os.O_TRUNC, "resolve": CACHED}),
+        ("EACCES", cwd, "/proc/self/cgroup", {"flags": os.O_RDWR}),
+        ("ELOOP", cwd, absolute, {"flags": os.O_NOFOLLOW}),
+        (text, cwd, absolute, {}),
+        ("ELOOP", cwd, absolute, {"resolve": NO_SYMLINKS}),
+        ("EINVAL", cwd, "/proc/self/cgroup", {"size": 23}),
+        ("EINVAL", cwd, "/proc/self/cgroup", {"size": 0}),
+        (text, cwd, "/proc/self/cgroup", {"size": 25}),
+        ("EBADF", 999, "self/cgroup", {}),
+        (text, 999, "/proc/self/cgroup", {}),
+        ("ENOENT", cwd, "", {}),
         ("EINVAL", cwd, "/proc/self/cgroup", {"size": 16}),
         (text, cwd, "/proc/self/cgroup", {"size": 32}),
         ("E2BIG", cwd, "/proc/self/cgroup", {"size": 32, "tail": 1}),
+        (text, cwd, "/proc/self/cgroup", {"size": 4096}),
+        ("E2BIG", cwd, "/proc/self/cgroup", {"size": 4096, "last": 1 << 56}),
     ):
         same("%s %s" % (path.replace(str(me), "PID"), more), opened(directory, path, **more), wanted)
     step("what is not known without a look-up", opened(cwd, "/proc/self/cgroup", resolve=CACHED) in ("EAGAIN", text))
@@ -161,6 +181,9 @@ def tables():
         ready, also = select.epoll(), select.poll()
         ready.register(fd, select.EPOLLPRI)
         same("nothing has changed", ready.poll(0), [])
+        also.register(fd, 0x1FF)
+        same("all that it reports", also.poll(0), [(fd, select.POLLIN | select.POLLRDNORM)])
+        also.unregister(fd)
         for change, args, is_seen in (
             (libc.mount, (b"x", home, b"tmpfs", 0, None), True),
             (libc.umount2, (home, DETACH), False),
@@ -195,7 +218,26 @@ def tables():
         os.close(by_link)
 
 
-INSIDE = (interrupted, children, zombies, filters, opens, tables)
+def kept():
+    """Tables that are open stay what they are, however many others are opened after them."""
+    held = {name: os.open("/proc/self/" + name, os.O_RDONLY) for name in ("mounts", "mountinfo", "mountstats")}
+    polled = select.poll()
+    polled.register(held["mounts"], select.POLLPRI)
+    first = {name: read("/proc/self/" + name) for name in held}
+    for _ in range(1100):
+        os.close(os.open("/proc/self/mounts", os.O_RDONLY))
+    same("tables of before", {name: os.pread(fd, 1 << 20, 0) for name, fd in held.items()}, first)
+    same("nothing has changed", polled.poll(0), [])
+    home = tempfile.mkdtemp().encode()
+    libc.mount(b"x", home, b"tmpfs", 0, None)
+    same("they show what is new", [home in os.pread(fd, 1 << 20, 0) for fd in held.values()], [True] * 3)
+    same("and tell of it", polled.poll(1000 * PATIENCE), [(held["mounts"], select.POLLPRI | select.POLLERR)])
+    libc.umount2(home, DETACH)
+    for fd in held.values():
+        os.close(fd)
+
+
+INSIDE = (interrupted, children, zombies, filters, opens, tables, kept)
 inside(*INSIDE)
 
 
@@ -207,7 +249,7 @@ def run(test):
         if test is zombies:
             resource.setrlimit(resource.RLIMIT_NOFILE, (1024, 1024))
 
-    more = {opens: ["--keep", "memory,cpu,io,cpuset"], tables: ["--root"]}.get(test, [])
+    more = {opens: ["--keep", "memory,cpu,io,cpuset"], tables: ["--root"], kept: ["--root"]}.get(test, [])
     ran = subprocess.run(
         [PROGRAM, "run", *more, sys.executable, ME, "inside", test.__name__], timeout=6 * PATIENCE, preexec_fn=limit
     )

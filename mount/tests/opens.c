@@ -30,11 +30,11 @@ static void put_open(const char *name, const char *path, int flags, int fd)
 		return;
 	}
 	close(lowest);
-	int at = fcntl(fd, F_GETFD);
+	int at = fcntl(fd, F_GETFD), has = fcntl(fd, F_GETFL) & (O_APPEND | O_NONBLOCK | O_NOATIME | O_DIRECT | O_ACCMODE);
 	ssize_t n = flags & O_PATH ? 0 : read(fd, text, sizeof text - 1);
 	bool is_right = n > 0 && (!wanted_text || strcmp(text, wanted_text) == 0);
-	printf("%s%s, %s\n", at & FD_CLOEXEC ? "closed by exec, " : "",
-		lowest == fd + 1 ? "the lowest number" : "another number",
+	printf("%s%s, flags %#x, %s\n", at & FD_CLOEXEC ? "closed by exec, " : "",
+		lowest == fd + 1 ? "the lowest number" : "another number", (unsigned)has,
 		flags & O_PATH || n == 0 ? "nothing to read"
 			: n < 0              ? fault()
 			: is_right           ? "the text"
@@ -61,7 +61,8 @@ int main(int argc, char **argv)
 {
 	static const int flags[] = { O_RDONLY, O_CLOEXEC, O_NONBLOCK, O_NOFOLLOW, O_DIRECTORY, O_WRONLY, O_RDWR,
 		O_RDWR | O_CLOEXEC, O_APPEND, O_CREAT, O_CREAT | O_EXCL, O_PATH, O_PATH | O_CLOEXEC, O_NOATIME, O_SYNC,
-		O_NOCTTY, 0100000, O_CLOEXEC | O_NONBLOCK | O_NOCTTY };
+		O_NOCTTY, 0100000, O_CLOEXEC | O_NONBLOCK | O_NOCTTY, O_DIRECT, O_DIRECT | O_RDWR,
+		O_APPEND | O_NONBLOCK | O_NOATIME };
 	static const char *const paths[] = { "/proc/self/cgroup", "/proc/self/cgroup/", "/proc/self/cgroup/.",
 		"/proc/self/cgroup/..", "/proc/self/cgroup//", "/proc/self/cgroup/x", "//proc//self//cgroup",
 		"/proc/self/./cgroup", "/proc/self/task/../cgroup", "/proc/self/nothing/../cgroup",

@@ -172,7 +172,15 @@ def clones():
     same("the child is born in the group", read(AT + "/c/cgroup.procs"), b"%d\n" % pid)
     same("the arguments are as they were", args[0], 0x200000000)
     write(AT + "/c/pids.max", b"1\n")
+    os.mkdir(AT + "/own")
+    into("/own")
     same("another beyond its pids.max", (libc.syscall(435, args, 88), ctypes.get_errno()), (-1, errno.EAGAIN))
+    counts = [read(AT + "/own/" + file) for file in ("pids.current", "pids.peak", "pids.events.local")]
+    same("nothing is counted in the caller's group", counts, [b"1\n", b"1\n", b"max 0\n"])
+    into("")
+    unread = {(libc.syscall(435, 8, 88), ctypes.get_errno()) for _ in range(600)}  # more than may wait at once
+    same("arguments that can't be read", unread, {(-1, errno.EFAULT)})
+    same("one of them later", (libc.syscall(435, args, 88), ctypes.get_errno()), (-1, errno.EAGAIN))
     os.kill(pid, signal.SIGKILL)
     os.waitpid(pid, 0)
     same("the group is empty", read(AT + "/c/pids.current"), b"0\n")
@@ -233,6 +241,43 @@ def clones():
         same("clone3 with %d bytes" % size, (pid > 0, ctypes.get_errno() if pid < 0 else 0), (not wanted, wanted))
         if pid > 0:
             os.waitpid(pid, 0)
+
+
+def quiet():
+    """The end of the last process of a group wakes who polls, also if nothing else happens: nobody gets a signal, makes a thread or a
+    process, or asks the hierarchy."""
+    os.mkdir(AT + "/q")
+    clone, polls = (56, ("7",)) if os.uname().machine == "x86_64" else (220, ("73",))
+    told, texts, may_end = [], [], os.pipe()
+    file = os.open(AT + "/q/cgroup.events", os.O_RDONLY)
+    os.pread(file, 99, 0)
+    poll = select.poll()
+    poll.register(file, select.POLLPRI)
+
+    def look():
+        """Polls and reads until nobody is there. It has no end in time: then it would look once more."""
+        while not texts or texts[-1] != b"populated 0\nfrozen 0\n":
+            poll.poll()
+            texts.append(os.pread(file, 99, 0))
+
+    for _ in range(6):
+        texts.clear()
+        looks = threading.Thread(target=look, daemon=True)
+        looks.start()
+        pid = libc.syscall(clone, 0, 0, 0, 0, 0, 0)  # without a signal to its parent
+        if pid == 0:
+            into("/q")
+            os.read(may_end[0], 1)
+            libc._exit(0)
+        call = "/proc/self/task/%d/syscall" % looks.native_id
+        until(lambda: texts and open(call).read().split()[0] in polls)
+        os.write(may_end[1], b"x")
+        looks.join(PATIENCE)
+        told.append(not looks.is_alive() and list(texts))
+        os.waitpid(pid, 0x40000000)  # __WALL
+        if not told[-1]:
+            break
+    same("the end of each of six wakes a poll", told, [[b"populated 1\nfrozen 0\n", b"populated 0\nfrozen 0\n"]] * 6)
 
 
 def of_thread():
@@ -395,19 +440,26 @@ def beside():
 
 
 def ends():
-    """The supervisor or the server dies: nothing is left."""
-    for which in ("supervisor", "server"):
-        p = subprocess.Popen([PROGRAM, "run", "sh", "-c", "%s; %s" % (SLEEPS[2], SLEEPS[3])], stderr=subprocess.DEVNULL)
-        until(lambda: running(SLEEPS[2]))
-        # the first that has threads
-        pids = (
-            [p.pid]
-            if which == "supervisor"
-            else [c for c in children(p.pid) if name_of(c) == "makhloeum" and len(os.listdir("/proc/%d/task" % c)) > 1]
+    """The supervisor, the server or the helper dies: nothing is left."""
+    for which, why in (
+        ("supervisor", ""),
+        ("server", "makhloeum: the mount has ended\n"),
+        ("helper", "makhloeum: a process of the supervisor has ended\n"),
+    ):
+        p = subprocess.Popen(
+            [PROGRAM, "run", "sh", "-c", "%s; %s" % (SLEEPS[2], SLEEPS[3])], stderr=subprocess.PIPE, text=True
         )
-        os.kill(pids[0], signal.SIGKILL)
+        until(lambda: running(SLEEPS[2]))
+        # the server and the helper have threads, and the server began first
+        pids = sorted(
+            (c for c in children(p.pid) if name_of(c) == "makhloeum" and len(os.listdir("/proc/%d/task" % c)) > 1),
+            key=lambda c: int(open("/proc/%d/stat" % c).read().rpartition(")")[2].split()[19]),
+        )
+        same("there are both", len(pids), 2)
+        os.kill(p.pid if which == "supervisor" else pids[which == "helper"], signal.SIGKILL)
         status = p.wait(PATIENCE)
         same("the %s is killed" % which, status, -9 if which == "supervisor" else 137)
+        same("what is said", p.stderr.read(), why)
         step("its program goes with it", until(lambda: not running(SLEEPS[2])))
         step(
             "and so does every other process",
@@ -450,13 +502,13 @@ def refused_here():
         "user namespaces": "echo 0 > /proc/sys/user/max_user_namespaces",
         "FUSE": "mount --bind /dev/null /dev/fuse",
     }
-    for what, how in deny.items():
+    for what, how, *options in [*deny.items(), ("user namespaces", deny["user namespaces"], "--users")]:
         ran = subprocess.run(
-            ["unshare", "-Urm", "sh", "-c", how + ' && exec "$0" run true', PROGRAM],
+            ["unshare", "-Urm", "sh", "-c", how + ' && exec "$0" run "$@" true', PROGRAM, *options],
             stderr=subprocess.PIPE,
             timeout=PATIENCE,
         )
-        same("without %s" % what, (ran.returncode, ran.stderr.count(b"\n")), (2, 1))
+        same("without %s %s" % (what, options), (ran.returncode, ran.stderr.count(b"\n")), (2, 1))
         step("it is named", ("does not allow " + what).encode() in ran.stderr, ran.stderr)
     ran = run("true", preexec_fn=listen)
     same("without seccomp notification", (ran.returncode, ran.stderr.count(b"\n")), (2, 1))
@@ -477,7 +529,7 @@ def refused_here():
         )
 
 
-INSIDE = (looks, forks, of_thread, kills, clones, stops, taken_back)
+INSIDE = (looks, forks, quiet, of_thread, kills, clones, stops, taken_back)
 if sys.argv[1:2] == ["inside"]:
     {t.__name__: t for t in INSIDE}[sys.argv[2]]()
     finish()

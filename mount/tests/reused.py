@@ -5,13 +5,16 @@ import signal
 import socket
 import subprocess
 import sys
+import tempfile
 import threading
 
-from support import AT, PATIENCE, PROGRAM, Mount
-from support import error_of, finish, inside, into, is_alive, read, same, status_within, step, until, write
+from support import AT, PATIENCE, PROGRAM, Beside, Mount
+from support import error_of, finish, inside, into, is_alive, line_of, read, same, status_within, step, tracer, until
+from support import write
 
 ME = os.path.realpath(__file__)
 TRIES = 50  # another process of the namespace may take the number
+HELD_KILL = os.path.join(os.path.dirname(PROGRAM), "held_kill.so")  # only with the plain build
 asks = socket.socket(fileno=int(os.environ["ASKS"])) if "ASKS" in os.environ else None
 
 
@@ -170,23 +173,90 @@ def threads():
     step("and nobody is left", until(lambda: (numbers("/b"), count("/b")) == ([me], 1)))
 
 
-INSIDE = (processes, threads)
+def killing():
+    """A process that a kill is about to reach ends meanwhile. Whoever has its number next is not reached."""
+    held = os.environ["HELD_KILL"]
+    os.mkdir(AT + "/a")
+    r, w = os.pipe()
+    first, second = child("/a"), child("/a", lambda: os.read(r, 1))  # a kill reaches the lower number first
+    step("the second has the greater number", first < second, (first, second))
+
+    def follows():
+        """A process that is none of the run: for one of its own the supervisor would ask the server first."""
+        os.waitpid(second, 0)
+        asks.send(b"stranger %d" % second)
+        return int(asks.recv(16))
+
+    follower = Beside(follows)
+    open(held + ".hold", "w").close()
+    kill = Beside(lambda: write(AT + "/a/cgroup.kill", b"1") or "done")
+    step("the kill has come to the first", until(lambda: os.path.exists(held + ".began")))
+    waits_of = lambda: next(int(x.split()[1]) for x in open("/proc/%d/status" % tracer()) if x.startswith("voluntary"))
+    before = waits_of()
+    os.write(w, b"x")
+    # As long as the server kills, the supervisor waits for it, and asks again and again whether it runs. Until the file is gone
+    # this process makes no thread and no child: they would wait for the supervisor.
+    step("the second ends", until(lambda: follower.got or waits_of() > before + 20))
+    os.unlink(held + ".hold")
+    same("the kill ends", kill.result(), "done")
+    same("and the first by it", os.waitpid(first, 0)[1], signal.SIGKILL)
+    same("another has the number of the second", follower.result(), second)
+    same("and lives", (is_alive(second), numbers(""), count("/a")), (True, sorted((1, os.getpid())), 0))
+    os.kill(second, signal.SIGKILL)
+
+
+def companion():
+    """A process of makhloeum is killed, and one that is none of the run gets its number: the end of the run does not reach that."""
+    line = line_of(tracer())
+    ours = [int(p) for p in os.listdir("/proc") if p.isdigit() and int(p) != tracer() and line_of(int(p)) == line]
+    found = [pid for pid in ours if len(os.listdir("/proc/%d/task" % pid)) == 1]
+    same("the companion", len(found), 1)
+    os.kill(found[0], signal.SIGKILL)
+    step("it is gone", until(lambda: not os.path.exists("/proc/%d" % found[0])))
+    asks.send(b"stranger %d" % found[0])
+    same("another has its number", int(asks.recv(16)), found[0])
+
+
+INSIDE = (processes, threads, killing, companion)
 inside(*INSIDE)
 
 
 # ---------------------------------------------------------------- outside, in the namespace
 
 
+def stranger(number):
+    """A process with this number that waits until it is killed."""
+    for _ in range(TRIES):
+        pid = os.fork()
+        if pid == 0:
+            signal.pause()
+            os._exit(0)
+        if pid == number:
+            break
+        end(pid)
+        next_is(number)
+    return pid
+
+
 def run(test):
     own, theirs = socket.socketpair(socket.AF_UNIX, socket.SOCK_SEQPACKET)
     words = [PROGRAM, "run", sys.executable, ME, "inside", test.__name__]
     env = dict(os.environ, ASKS=str(theirs.fileno()))
+    if test is killing:
+        env.update(LD_PRELOAD=HELD_KILL, HELD_KILL=os.path.join(tempfile.mkdtemp(), "kill"))
     p = subprocess.Popen(words, pass_fds=(theirs.fileno(),), env=env)
     theirs.close()
-    while number := own.recv(16):
-        next_is(int(number))
-        own.send(b"x")
+    strangers = []
+    while word := own.recv(32):
+        number = int(word.split()[-1])
+        next_is(number)
+        if b"stranger" in word:
+            strangers.append(stranger(number))
+        own.send(b"%d" % strangers[-1] if b"stranger" in word else b"x")
     same("%s: its status" % test.__name__, status_within(p, 6 * PATIENCE), 0)
+    if test is companion:
+        same("who had a number of makhloeum lives", [is_alive(pid) for pid in strangers], [True])
+        end(strangers[0])
 
 
 def adopted():
@@ -220,7 +290,8 @@ def adopted():
 
 if sys.argv[1:] == ["outside"]:
     for test in INSIDE:
-        run(test)
+        if test is not killing or os.path.exists(HELD_KILL):
+            run(test)
     adopted()
     finish()
 space = ["unshare", "--user", "--map-root-user", "--mount", "--pid", "--fork", "--mount-proc", "--kill-child"]

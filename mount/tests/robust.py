@@ -1,4 +1,5 @@
 """Clients that die, full devices, and mounts that go while they are used."""
+import contextlib
 import fcntl
 import glob
 import os
@@ -12,8 +13,9 @@ import threading
 import time
 
 from support import PATIENCE, PROGRAM, Beside, Mount
-from support import error_of, finish, libc, line_of, read, same, step, until, write
+from support import error_of, finish, is_alive, libc, line_of, read, same, step, until, write
 
+ME = os.path.realpath(__file__)
 CLIENT = """import os, sys
 at = sys.argv[1]
 while True:
@@ -184,21 +186,35 @@ def session_of(pid):
         return None
 
 
+def link_of(pid, name):
+    """Where a link in a process's folder of /proc leads. Once a process is ending, its descriptors belong to root."""
+    try:
+        return os.readlink("/proc/%d/%s" % (pid, name))
+    except (FileNotFoundError, PermissionError, ProcessLookupError) as e:
+        return "unreadable: %s" % e.strerror
+
+
 def background(closed=""):
     """Without --foreground; `closed` are the shell's words for standard streams that are not there."""
     home = os.environ.get("TMPDIR", "/tmp")
     at = os.path.join(home, "background")
     os.makedirs(at, exist_ok=True)
     ran = subprocess.run(
-        ["sh", "-c", '"$0" mount "$1" ' + closed, PROGRAM, at], stdout=subprocess.PIPE, timeout=PATIENCE
+        ["sh", "-c", '"$0" mount "$1" ' + closed, PROGRAM, at],
+        stdout=subprocess.PIPE,
+        stderr=subprocess.PIPE,
+        timeout=PATIENCE,
     )
-    same("mount %sreturns once it is there" % closed, (ran.returncode, os.path.ismount(at)), (0, True))
+    got = ran.returncode, ran.stdout, ran.stderr, os.path.ismount(at)
+    same("mount %sreturns once it is there" % closed, got, (0, b"", b"", True))
     os.mkdir(at + "/a")
     same("and stays", (read(at + "/a/pids.current"), os.path.ismount(at)), (b"0\n", True))
     line = b"".join(word.encode() + b"\0" for word in (PROGRAM, "mount", at))
     ours = [int(n) for n in os.listdir("/proc") if n.isdigit() and line_of(int(n)) == line]
     sessions = {session_of(pid) for pid in ours} - {None}
     step("out of reach of the caller's terminal", sessions and os.getsid(0) not in sessions, ours)
+    streams = lambda: {link_of(pid, "fd/%d" % fd) for pid in ours if is_alive(pid) for fd in range(3)}
+    step("with no stream of the caller's", until(lambda: streams() == {"/dev/null"}), streams())
     step(
         "fusermount3 -u unmounts it",
         until(lambda: subprocess.run(["fusermount3", "-u", at], stderr=-3).returncode == 0),
@@ -206,24 +222,103 @@ def background(closed=""):
     os.rmdir(at)
 
 
+def relative():
+    """A directory that is named from the working directory; the mount keeps neither that nor the one above in use."""
+    home = tempfile.mkdtemp()
+    os.mkdir(home + "/at")
+    os.symlink("at", home + "/link")
+    for name in ("at", "./at/", "../%s/at" % os.path.basename(home), "link"):
+        ran = subprocess.run([PROGRAM, "mount", name, "--extra"], cwd=home, timeout=PATIENCE)
+        same("mount of %s" % name, (ran.returncode, os.path.ismount(home + "/at")), (0, True))
+        line = b"".join(word.encode() + b"\0" for word in (PROGRAM, "mount", name, "--extra"))
+        ours = [int(n) for n in os.listdir("/proc") if n.isdigit() and line_of(int(n)) == line]
+        folders = lambda: {link_of(pid, "cwd") for pid in ours if is_alive(pid)}
+        step("where its processes work", len(ours) >= 2 and until(lambda: folders() == {"/proc"}), folders())
+        os.mkdir(home + "/at/a")
+        watch = libc.inotify_init()
+        libc.inotify_add_watch(watch, (home + "/at/a/cgroup.events").encode(), 2)  # IN_MODIFY
+        write(home + "/at/a/cgroup.freeze", b"1")
+        same("a watch is told", (Beside(os.read, watch, 100).result() or b"")[4:8], b"\2\0\0\0")
+        os.close(watch)
+        if name == "link":
+            server = max(filter(is_alive, ours), key=lambda pid: len(glob.glob("/proc/%d/task/*" % pid)))
+            os.kill(server, signal.SIGKILL)
+        else:
+            step(
+                "unmounted",
+                until(lambda: subprocess.run(["fusermount3", "-u", home + "/at"], stderr=-3).returncode == 0),
+            )
+        step("it goes", until(lambda: not any(line_of(pid) == line for pid in ours)))
+        step("and the mount with it", until(lambda: error_of(os.listdir, home + "/at") == "ok"))
+        same("nothing is mounted", (os.path.ismount(home + "/at"), os.listdir(home + "/at")), (False, []))
+    shutil.rmtree(home)
+
+
+def over():
+    """Something else is mounted over a mount whose server is killed: that stays. It needs a namespace, in which one may mount."""
+    ran = subprocess.run(["unshare", "-Urm", sys.executable, ME, "over"], timeout=4 * PATIENCE)
+    same("in a namespace: its status", ran.returncode, 0)
+
+
+def covered():
+    at = tempfile.mkdtemp()
+    server = subprocess.Popen([PROGRAM, "mount", at, "--foreground"])
+    step("it is mounted", until(lambda: os.path.ismount(at)))
+    companions = companions_of(server.pid)
+    same("a mount over it", libc.mount(b"none", at.encode(), b"tmpfs", 0, None), 0)
+    with open(at + "/mine", "w") as f:
+        f.write("x")
+    server.kill()
+    server.wait()
+    step("its companion ends", len(companions) == 1 and until(lambda: not is_alive(companions[0])))
+    same("what is over it stays", os.listdir(at), ["mine"])
+
+
+def unheard():
+    """Nobody reads what makhloeum says: that ends neither a mount nor a run."""
+    r, w = os.pipe()
+    os.close(r)
+    code = "import ctypes, os\nctypes.CDLL(None).ptrace(0, 0, 0, 0)\nprint(open('/proc/self/cgroup').read(), end='')"
+    ran = subprocess.run(
+        [PROGRAM, "run", sys.executable, "-c", code], stdout=subprocess.PIPE, stderr=w, timeout=2 * PATIENCE
+    )
+    same("a run", (ran.returncode, ran.stdout), (0, b"0::/\n"))
+    os.close(w)
+
+
+def links_of(pid):
+    """Where its descriptors lead; it may close some of them meanwhile."""
+    found = []
+    for name in glob.glob("/proc/%d/fd/*" % pid):
+        with contextlib.suppress(FileNotFoundError, PermissionError, ProcessLookupError):
+            found.append(os.readlink(name))
+    return found
+
+
 def let_go():
     """The companion of a mount keeps none of the caller's descriptors, whatever their numbers."""
     at = tempfile.mkdtemp()
     r, w = os.pipe()
     high = fcntl.fcntl(w, fcntl.F_DUPFD, 300)
-    p = subprocess.Popen([PROGRAM, "mount", at, "--foreground"], pass_fds=(w, high))
+    own = [os.pipe() for _ in range(3)]
+    streams = {"stdin": own[0][0], "stdout": own[1][1], "stderr": own[2][1]}
+    p = subprocess.Popen([PROGRAM, "mount", at, "--foreground"], pass_fds=(w, high), **streams)
     step("it is mounted", until(lambda: os.path.ismount(at)))
     companions = companions_of(p.pid)
-    held = [os.readlink(name) for n in companions for name in glob.glob("/proc/%d/fd/*" % n)]
+    pipes = {os.readlink("/proc/self/fd/%d" % fd) for fd in (w, *streams.values())}
     same("there is one companion", len(companions), 1)
-    step("it does not have the pipe", held and os.readlink("/proc/self/fd/%d" % w) not in held, held)
+    links = lambda: set(links_of(companions[0]))
+    step("it has none of the pipes", until(lambda: links() and not pipes & links()), pipes & links())
     step("it can be unmounted", until(lambda: subprocess.run(["fusermount3", "-u", at], stderr=-3).returncode == 0))
     same("its process ends", p.wait(10 * PATIENCE), 0)
-    for fd in (r, w, high):
+    for fd in (r, w, high, *sum(own, ())):
         os.close(fd)
     os.rmdir(at)
 
 
+if sys.argv[1:] == ["over"]:
+    covered()
+    finish()
 for test, args in (
     (dying_clients, ()),
     (full_device, ()),
@@ -238,6 +333,9 @@ for test, args in (
     (background, ("<&- ",)),
     (background, (">&- ",)),
     (background, ("<&- >&- 2>&- ",)),
+    (relative, ()),
+    (over, ()),
+    (unheard, ()),
     (let_go, ()),
 ):
     test(*args)

@@ -9,7 +9,7 @@ import sys
 import tempfile
 import threading
 
-from support import AT, PATIENCE, PROGRAM, error_of, finish, inside, into, libc, read, same, step, write
+from support import AT, PATIENCE, PROGRAM, error_of, finish, inside, into, libc, line_of, read, same, step, until, write
 
 ME = os.path.realpath(__file__)
 CLONE_NEWCGROUP = 0x02000000
@@ -79,6 +79,24 @@ def pairs():
         same("from %s" % (root or "/"), ran.stdout.decode().split(), ["0::" + seen_from(root, g) for g in groups])
 
 
+def without_effect(call):
+    """What a call returns in a child that has all its capabilities, but none in effect."""
+    r, w = os.pipe()
+    pid = os.fork()
+    if pid == 0:
+        head, data = (ctypes.c_uint32 * 2)(0x20080522, 0), (ctypes.c_uint32 * 6)()
+        libc.capget(head, data)
+        data[0] = data[3] = 0
+        libc.capset(head, data)
+        os.write(w, call().encode())
+        os._exit(0)
+    os.waitpid(pid, 0)
+    got = os.read(r, 99).decode()
+    os.close(r)
+    os.close(w)
+    return got
+
+
 def mounts():
     where = os.path.join(os.environ["TMPDIR"], "at%d" % os.getpid())
     os.mkdir(where)
@@ -90,6 +108,17 @@ def mounts():
     )
     same("a mount of cgroup2", shell(script, "unshare", "-m"), (0, "63677270\na/b\n2\n", ""))
     same("it is gone with its namespace", os.listdir(where), [])
+    script = "mount -t cgroup2 none %s; echo; read x" % where
+    other = subprocess.Popen(["unshare", "-m", "sh", "-ec", script], stdin=subprocess.PIPE, stdout=subprocess.PIPE)
+    other.stdout.readline()
+    for who, wanted in (("self", 1), ("%d" % other.pid, 2), ("%d/task/%d" % (other.pid, other.pid), 2)):
+        lines = read("/proc/%s/mountinfo" % who).decode().splitlines()
+        same(
+            "cgroup2 in the table of " + who.replace(str(other.pid), "PID"),
+            sum(" - cgroup2 " in x for x in lines),
+            wanted,
+        )
+    other.communicate(b"\n")
     into("/a")
     script = """mount -t cgroup2 none %s
 cd %s
@@ -103,8 +132,19 @@ grep " %s " /proc/self/mountinfo | cut -d ' ' -f 4-5""" % (
     wanted = "b\n1\npopulated 1\n/ %s\n" % where
     same("in a namespace it starts at its group", shell(script, "unshare", "-Cm"), (0, wanted, ""))
     same("in a user namespace below", shell(script, "unshare", "-UrCm"), (0, wanted, ""))
+    script = """mount -t cgroup2 none %s
+echo 0 > %s/b/cgroup.procs
+look() { grep -e " %s " -e " %s " /proc/self/mountinfo | cut -d ' ' -f 4-5; }
+look; exec unshare -C sh -c 'grep -e " %s " -e " %s " /proc/self/mountinfo' | cut -d ' ' -f 4-5""" % (
+        (where, where) + (AT, where) * 2
+    )
+    wanted = "/.. %s\n/ %s\n/../.. %s\n/.. %s\n" % ((AT, where) * 2)
+    same("as others see it, who begin elsewhere", shell(script, "unshare", "-Cm"), (0, wanted, ""))
     status, out, _ = shell("mount -t cgroup2 -o ro none %s; mkdir %s/x" % (where, where), "unshare", "-m")
     step("read-only", status != 0, out)
+    for kind in ("cgroup2", "cgroup", "tmpfs"):
+        got = without_effect(lambda: error_of(mount, where, kind))
+        same("of %s with a capability that is not in effect" % kind, got, "EPERM")
     same("a place that is not there", error_of(mount, "/nowhere"), "ENOENT")
     same("a file", error_of(mount, "/etc/passwd"), "ENOTDIR")
     same(
@@ -230,17 +270,48 @@ def others():
         has = next(x.split()[3].split(",") for x in open("/proc/self/mounts") if x.split()[1] == at)
         same("flags %d" % flags, has[: len(words)], words)
         libc.umount2(at.encode(), DETACH)
+    page, options = os.sysconf("SC_PAGE_SIZE"), b"mode=750\0"
+    libc.mmap.restype = ctypes.c_void_p
+    memory = libc.mmap(None, 2 * page, 3, 0x22, -1, 0)  # to read and write, of no file
+    libc.munmap(ctypes.c_void_p(memory + page), page)
+    for before in (len(options), page - 3 * len(options)):  # at the end of the last page, and near its start
+        ctypes.memmove(memory + page - before, options, len(options))
+        libc.mount(b"none", at.encode(), b"tmpfs", 0, ctypes.c_void_p(memory + page - before))
+        same("options %d bytes before the end of memory" % before, os.stat(at).st_mode & 0o777, 0o750)
+        libc.umount2(at.encode(), DETACH)
     same(
         "an old mark in the flags",
         (libc.mount(b"x", at.encode(), b"tmpfs", 0xC0ED0000, None), libc.umount2(at.encode(), DETACH)),
         (0, 0),
     )
-    for data in (b"fd=%d,rootmode=40000,user_id=0,group_id=0", b"rootmode=40000,user_id=0,group_id=0,fd=%d"):
+    for kind, data in (
+        (b"fuse", b"fd=%d,rootmode=40000,user_id=0,group_id=0"),
+        (b"fuse", b"rootmode=40000,user_id=0,group_id=0,fd=%d"),
+        (b"fuse.x", b"fd=%d,rootmode=40000,user_id=0,group_id=0"),
+    ):
         device = os.open("/dev/fuse", os.O_RDWR)
-        same("FUSE, by %s" % data.decode(), libc.mount(b"x", at.encode(), b"fuse", 0, data % device), 0)
+        same("%s, by %s" % (kind.decode(), data.decode()), libc.mount(b"x", at.encode(), kind, 0, data % device), 0)
         libc.umount2(at.encode(), DETACH)
         os.close(device)
     same("a process whose first thread has other namespaces", mounted_by_thread(at), "tmpfs")
+    r, w = os.pipe()
+    pid = os.fork()
+    if pid == 0:
+        os.chroot(home)
+        os.chdir("/")
+        got = [
+            libc.mount(b"o", place, b"overlay", 0, b"lowerdir=%slow,upperdir=%sup,workdir=%swork" % ((top,) * 3))
+            or (sorted(os.listdir("/at")), libc.umount2(b"/at", DETACH))
+            for place, top in ((b"/at", b"/"), (b"at", b""), (b"/../at", b"/../"))
+        ]
+        for kind in (b"tmpfs", b"cgroup2"):
+            got.append((libc.mount(b"x", b"/at", kind, 0, None), os.path.exists("/at/cgroup.procs")))
+            libc.umount2(b"/at", DETACH)
+        os.write(w, repr(got).encode())
+        os._exit(0)
+    os.waitpid(pid, 0)
+    wanted = [(["here", "new"], 0)] * 3 + [(0, False), (0, True)]
+    same("paths in a root of its own", os.read(r, 999), repr(wanted).encode())
 
 
 def mounted_by_thread(at):
@@ -341,7 +412,10 @@ def beneath():
 THREAD = """
 import threading
 def look():
-    print(open("/proc/thread-self/cgroup").read(), open("/proc/self/task/%d/cgroup" % threading.get_native_id()).read())
+    own = "/proc/self/task/%d/" % threading.get_native_id()
+    print(open("/proc/thread-self/cgroup").read(), open(own + "cgroup").read())
+    for name in "/proc/thread-self/mounts", own + "mounts":
+        print(sum(line.split()[1:3] == ["/sys/fs/cgroup", "cgroup2"] for line in open(name)))
 for _ in range(2):
     t = threading.Thread(target=look)
     t.start()
@@ -359,7 +433,7 @@ def threads():
             stdout=subprocess.PIPE,
             timeout=PATIENCE,
         )
-        same("unshare %s" % how, ran.stdout.split(), [b"0::/a"] * 4)
+        same("unshare %s" % how, ran.stdout.split(), [b"0::/a", b"0::/a", b"1", b"1"] * 2)
 
 
 def confined():
@@ -380,8 +454,36 @@ def confined():
     same("each has its group", os.read(r, 999), b"0::/a\n" * 3)
 
 
-def mount(where):
-    if libc.mount(b"none", where.encode(), b"cgroup2", 0, None):
+def closed():
+    """A process that others may not look at, such as one that its user may run and not read: texts by its descriptors."""
+    os.mkdir(AT + "/a")
+    into("/a")
+    home = tempfile.mkdtemp()
+    os.symlink("/proc/self/cgroup", home + "/link")
+    held = os.open("/proc/self/cgroup", os.O_PATH)
+    folder = os.open("/proc/self", os.O_PATH)
+    other, top = os.open("/etc/hostname", os.O_PATH), os.open(home, os.O_PATH)
+    for dumpable in (1, 0):
+        libc.prctl(4, dumpable, 0, 0, 0)  # PR_SET_DUMPABLE
+        for name in (
+            "/proc/self/fd/%d" % held,
+            "/dev/fd/%d" % held,
+            "/proc/self/fd/%d/cgroup" % folder,
+            "/proc/self/fd/%d/link" % top,
+            "/proc/thread-self/fd/%d" % held,
+            "/proc/self/cgroup",
+            "/proc/self/root/proc/self/cgroup",
+        ):
+            what = "%s, dumpable %d" % (name.rpartition("/fd/")[0] or name, dumpable)
+            same(what, read(name) if error_of(read, name) == "ok" else error_of(read, name), b"0::/a\n")
+        same("another file, dumpable %d" % dumpable, read("/proc/self/fd/%d" % other), read("/etc/hostname"))
+        for name in ("999", "x", "%dx" % held, "0%d" % held, "+%d" % held, " %d" % held, "-1"):
+            got = error_of(os.open, "/proc/self/fd/" + name, os.O_RDONLY)
+            same("a descriptor %r, dumpable %d" % (name.replace(str(held), "N"), dumpable), got, "ENOENT")
+
+
+def mount(where, kind="cgroup2"):
+    if libc.mount(b"none", where.encode(), kind.encode(), 0, None):
         raise OSError(ctypes.get_errno(), "mount")
 
 
@@ -423,6 +525,15 @@ def cpusets():
     same("once a group below has it", read("/proc/self/cpuset"), b"/a/b\n")
     got = shell("echo 0 > %s/d/cgroup.procs; cat /proc/self/cpuset" % AT, "unshare", "-C")
     same("of a group outside the namespace", got, (0, "/../../../d\n", ""))
+    other = subprocess.Popen(["unshare", "-C", "sleep", "600"], preexec_fn=lambda: into("/a/b/c"))
+    step("another process has a namespace", until(lambda: line_of(other.pid).startswith(b"sleep")))
+    into("/d")
+    same("its own", read("/proc/self/cpuset"), b"/d\n")
+    same("that of another process", read("/proc/%d/cpuset" % other.pid), b"/a/b\n")
+    got = shell("cat /proc/%d/cpuset" % other.pid, "unshare", "-C")
+    same("in a namespace that begins at /d", got, (0, "/../a/b\n", ""))
+    other.kill()
+    other.wait()
 
 
 def unprivileged():
@@ -436,6 +547,24 @@ def unprivileged():
     same("then all is as before", read("/proc/self/cgroup"), b"0::/\n")
 
 
+def apart():
+    """Outside: mounts that are made on the machine later are not seen in a run, also where mounts are shared."""
+    home = tempfile.mkdtemp()
+    os.mkdir(home + "/at")
+    os.mkfifo(home + "/go")
+    script = """mount --make-rshared /
+"$0" run sh -c 'echo; read x < go; grep -c " $1 " /proc/self/mounts; ls $1' sh "$1" >out &
+until [ -s out ]; do :; done
+mount -t tmpfs none "$1" && echo x >"$1/later" && echo >go && wait $! ; cat out"""
+    ran = subprocess.run(
+        ["unshare", "-Urm", "sh", "-c", script, PROGRAM, home + "/at"],
+        cwd=home,
+        stdout=subprocess.PIPE,
+        timeout=2 * PATIENCE,
+    )
+    same("mounts of the machine that came later", ran.stdout, b"\n0\n")
+
+
 INSIDE = (
     namespaces,
     pairs,
@@ -446,11 +575,12 @@ INSIDE = (
     beneath,
     threads,
     confined,
+    closed,
     cpusets,
     uncounted,
     unprivileged,
 )
-OPTIONS = {unprivileged: [], uncounted: ["--root", "--threads=no"], cpusets: ["--root", "--keep", "cpuset"]}
+OPTIONS = {unprivileged: [], closed: [], uncounted: ["--root", "--threads=no"], cpusets: ["--root", "--keep", "cpuset"]}
 inside(*INSIDE)
 for test in INSIDE:
     how = OPTIONS.get(test, ["--root"])
@@ -460,4 +590,5 @@ for test in INSIDE:
         stderr=subprocess.PIPE,
     )
     same("the status of %s" % test.__name__, (ran.returncode, ran.stderr), (0, b""))
+apart()
 finish()

@@ -94,6 +94,8 @@ def options():
         ((at, "--keep", "io,cpu"), {"extra", "io", "cpu"}),
         ((at, "--keep", "memory", "--keep", "cpuset"), {"extra", "cpuset"}),
         ((at,), set()),
+        ((at, "--"), set()),
+        (("--", at), set()),
     ):
         same("mount %s" % " ".join(words), ran("mount", *words)[0], 0)
         names = os.listdir(at)
@@ -203,6 +205,26 @@ def passed():
     p.kill()
     same("SIGKILL ends the run", status_within(p), -signal.SIGKILL)
     p.stdout.close()
+
+
+def streams():
+    """A standard stream that is closed at the start: no other file of makhloeum gets what is written to it."""
+    trace, answers = (os.path.join(HOME, "stream-" + n) for n in ("trace", "answers"))
+    for closed in ("<&-", ">&-", "2>&-", "<&- >&-", "<&- 2>&-", ">&- 2>&-", "<&- >&- 2>&-"):
+        script = '"$0" run --trace "$1" --answers "$2" nosuch ' + closed
+        status, _, said = ran("-c", script, PROGRAM, trace, answers, program="sh")
+        wanted = "" if "2>&-" in closed else "makhloeum: nosuch: No such file or directory\n"
+        same("with %s: what is said of a program that is not there" % closed, (status, said), (127, wanted))
+        texts = [open(name, errors="replace").read() for name in (trace, answers)]
+        same("with %s: and in no file" % closed, [text for text in texts if "makhloeum" in text], [])
+        step(
+            "with %s: the trace has lines" % closed, texts[0].startswith("# at ") and "\nfork 1 " in texts[0], texts[0]
+        )
+        script = """"$0" run sh -c 'cd /proc/$$/fd; all=$(readlink 0 1 2); echo "$all" >&9' 9>"$1" """ + closed
+        status, _, said = ran("-c", script, PROGRAM, answers, program="sh")
+        found = open(answers).read().split()
+        wanted = ["/dev/null" if word in closed.split() else at for word, at in zip(("<&-", ">&-", "2>&-"), found)]
+        same("with %s: the program's streams" % closed, (status, said, found, len(found)), (0, "", wanted, 3))
 
 
 # ---------------------------------------------------------------- commands
@@ -331,7 +353,7 @@ def kept():
     step("the lines are there", "mkdir /a\n" in open(trace).read() and "old" not in open(trace).read())
 
 
-for test in (options, statuses, without_fuse, passed, commands, kept):
+for test in (options, statuses, without_fuse, passed, streams, commands, kept):
     test()
 shutil.rmtree(HOME)
 finish()

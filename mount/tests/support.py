@@ -26,6 +26,9 @@ def step(name, right, told=""):
         print("  %-58s %s" % (name, "ok" if right else "FAILED %s" % (told,)), flush=True)
     if not right:
         failed.append(name)
+        if os.environ.get("FAIL_FAST"):
+            print("  the first of its steps that failed", flush=True)
+            os._exit(1)
 
 
 def same(name, got, wanted):

@@ -3,6 +3,7 @@ numbers, and the tables of /proc, which are those of the machine but for cgroups
 import ctypes
 import os
 import re
+import select
 import stat
 import subprocess
 import sys
@@ -112,6 +113,8 @@ def control():
         same("the owner of " + name, (st.st_uid, st.st_gid), me)
         times = {st.st_atime_ns, st.st_mtime_ns, st.st_ctime_ns}
         step("its times are that of the mount", len(times) == 1 and began <= max(times) <= time.time_ns(), times)
+        size = {"depth": len("0\n")}.get(name, 0)
+        same("links and size of " + name, (st.st_nlink, st.st_size), (2 if name == "." else 1, size))
     owners, denied = "EACCES" if os.getuid() else "ok", "EACCES" if os.getuid() else "EINVAL"
     for what, wanted, call in (
         ("mkdir of it", "EEXIST", lambda: os.mkdir(at)),
@@ -271,14 +274,16 @@ def of_system():
 # ---------------------------------------------------------------- a run
 
 
-def inside():
-    st = os.stat(AT)
-    same(
-        "the root's owner and mode",
-        (st.st_uid, st.st_gid, st.st_mode),
-        (os.geteuid(), os.getegid(), stat.S_IFDIR | 0o755),
-    )
+def inside(user, group):
+    """`user` and `group` are the numbers that the caller expects here."""
+    os.umask(0o022)
+    me = int(user), int(group)
+    same("who this is", (os.getuid(), os.geteuid(), os.getgid(), os.getegid()), (me[0],) * 2 + (me[1],) * 2)
     os.mkdir(AT + "/g")
+    for path in (AT, AT + "/cgroup.procs", AT + "/g", AT + "/g/pids.max"):
+        st = os.stat(path)
+        kind = stat.S_IFREG | 0o644 if "." in path else stat.S_IFDIR | 0o755
+        same("owner and mode of " + path, (st.st_uid, st.st_gid, st.st_mode), (*me, kind))
     as_in_a_kernel("run", AT + "/g")
     same("every file of the root", modes(AT), {**OF_ROOT, **EXTRA_OF_ROOT, "g": "directory"})
     same("of a group", modes(AT + "/g"), {**OF_GROUPS, **OF_PIDS, **EXTRA})
@@ -297,6 +302,7 @@ def inside():
         open("/proc/cgroups").read(),
         "#subsys_name\thierarchy\tnum_cgroups\tenabled\npids\t0\t1\t1\n",
     )
+    hidden()
     me = os.getpid()
     supervisor = int(re.search(r"TracerPid:\t(\d+)", open("/proc/self/status").read())[1])
     os.mkdir(AT + "/h")
@@ -312,6 +318,10 @@ def inside():
     same("of the supervisor", open("/proc/%d/cgroup" % supervisor).read(), "0::/\n")
     for name, text in (("cgroup", "0::/h\n"), ("cpuset", "/\n")):
         fd = os.open("/proc/self/" + name, os.O_RDONLY)
+        polled = select.poll()
+        polled.register(fd, 0x1FF)
+        always = select.POLLIN | select.POLLOUT | select.POLLRDNORM | select.POLLWRNORM
+        same(name + ": all that a poll reports", polled.poll(0), [(fd, always)])
         same(
             name + " in pieces",
             (os.read(fd, 3), os.read(fd, 99), os.read(fd, 9)),
@@ -319,6 +329,54 @@ def inside():
         )
         same("a write to it", error_of(os.write, fd, b"x"), "EBADF")
         os.close(fd)
+
+
+def hidden():
+    """The files of a run that no listing has: by their exact names, in the root alone."""
+    me = os.getpid()
+    wrong = []
+    for name, text in (
+        ("1.0", "0::/\n"),
+        ("%d.0" % me, "0::/\n"),
+        ("%d" % me, "0::/\n"),
+        ("0.0", "0::/\n"),
+        ("4194303.4294967295", "0::/\n"),
+        ("4194304.0", None),
+        ("99999999999999999999.0", None),
+        ("1.4294967296", None),
+        ("1.", None),
+        ("1.x", None),
+        ("1.0x", None),
+        ("1.0.0", None),
+        ("1.-1", None),
+        ("1x", None),
+        ("-1.0", None),
+        (" 1.0", None),
+        ("x", None),
+        ("", None),
+        ("t.1", None),
+        ("t.", None),
+        ("t.x", None),
+    ):
+        path = AT + "/.makhloeum." + name
+        got = read(path).decode() if os.path.exists(path) else None
+        if got != text or os.path.exists(AT + "/g/.makhloeum." + name):
+            wrong.append((name, got, text))
+    same("which there are by name", wrong, [])
+    for name in ("1.0", "%d" % me, "4194303.4294967295"):
+        path = AT + "/.makhloeum." + name
+        st = os.stat(path)
+        same("the mode of " + name, (stat.S_ISREG(st.st_mode), stat.S_IMODE(st.st_mode)), (True, READ))
+        made = (error_of(os.mkdir, path), error_of(os.rmdir, path), error_of(os.unlink, path))
+        same("nobody makes or removes it", made, ("EEXIST", "ENOTDIR", "EPERM"))
+    names = (".makhloeum.x", ".makhloeum.1.x", ".makhloeum.4194304.0", ".makhloeum.", ".makhloeumx")
+    for name in names:
+        same(
+            "a group %s" % name,
+            (error_of(os.mkdir, AT + "/" + name), read(AT + "/%s/pids.peak" % name)),
+            ("ok", b"0\n"),
+        )
+        os.rmdir(AT + "/" + name)
 
 
 def table(text, what):
@@ -358,8 +416,9 @@ def tables():
 
 
 def under_run():
-    for options in ((), ("--root",)):
-        ran = subprocess.run([PROGRAM, "run", *options, sys.executable, ME, "inside"], timeout=2 * PATIENCE)
+    for options, numbers in (((), (os.geteuid(), os.getegid())), (("--root",), (0, 0))):
+        words = [sys.executable, ME, "inside", *map(str, numbers)]
+        ran = subprocess.run([PROGRAM, "run", *options, *words], timeout=2 * PATIENCE)
         same("run %s: its status" % " ".join(options), ran.returncode, 0)
 
 
@@ -395,6 +454,23 @@ def longest():
     same("it is empty", os.read(events, 99), b"populated 0\nfrozen 0\n")
     os.chdir("..")
     same("it can go", error_of(os.rmdir, name), "ok")
+    last = "m" * (4095 - 31 * 127 - 1)  # the longest path has 4,095 bytes
+    os.mkdir(last)
+    write(last + "/cgroup.procs", b"0")
+    text = ("0::%s/%s\n" % (path[: 31 * 127], last)).encode()
+    same("the text of the longest path", read("/proc/self/cgroup"), text)
+    args[10] = os.open(last, os.O_RDONLY)
+    pid = libc.syscall(435, args, 88)
+    if pid == 0:
+        libc.pause()
+    born = sorted(map(int, read(last + "/cgroup.procs").split()))
+    same("a child that is born there", born, sorted((os.getpid(), pid)))
+    ran = subprocess.run(["unshare", "-C", "cat", "/proc/self/cgroup"], stdout=subprocess.PIPE, timeout=PATIENCE)
+    same("as the root of a namespace", (ran.returncode, ran.stdout), (0, b"0::/\n"))
+    write("cgroup.procs", b"0")
+    write(last + "/cgroup.kill", b"1")
+    same("a kill there", os.waitpid(pid, 0)[1], 9)
+    same("it can go", error_of(os.rmdir, last), "ok")
     ran = subprocess.run(["unshare", "-C", "cat", "/proc/self/cgroup"], stdout=subprocess.PIPE, timeout=PATIENCE)
     same("the root of a cgroup namespace", (ran.returncode, ran.stdout), (0, b"0::/\n"))
 
@@ -419,8 +495,8 @@ def made():
     m.end()
 
 
-if sys.argv[1:] == ["inside"]:
-    inside()
+if sys.argv[1:2] == ["inside"]:
+    inside(*sys.argv[2:])
     finish()
 if sys.argv[1:] == ["other"]:
     same("who this is", (os.geteuid(), os.getegid()), (3, 4))

@@ -82,6 +82,8 @@ def peaks():
     same("one fits", error_of(os.posix_spawn, "/bin/true", ["true"], {}), "ok")
     same("and no more", error_of(os.posix_spawn, "/bin/true", ["true"], {}), "EAGAIN")
     os.wait()
+    wrong = [i for i in range(50) if error_of(lambda: os.waitpid(os.posix_spawn("/bin/true", ["true"], {}), 0)) != "ok"]
+    same("of fifty, one after the other at the limit, those that could not be made", wrong, [])
 
 
 STORM = (
@@ -224,9 +226,10 @@ def inherited():
         )
         return json.loads(ran.stdout or "{}")
 
-    wanted, there = got(), got(PROGRAM, "run", "--")
+    options = ("--control", "--keep", "cpu", "--trace", home + "/trace", "--answers", home + "/answers")
+    wanted, runs = got(), (got(PROGRAM, "run", "--"), got(PROGRAM, "run", *options, "--"))
     for key in wanted:
-        same("inherited: %s" % key, there.get(key), wanted[key])
+        same("inherited: %s" % key, [there.get(key) for there in runs], [wanted[key]] * 2)
 
 
 run_each(INSIDE)

@@ -355,6 +355,11 @@ def of_disks():
             "8:0 rbps=18446744073709551614 wbps=7 riops=4294967294 wiops=max\n",
         ),
         ("io.max", "8:0 rbps=18446744073709551615 riops=4294967296 wbps=max", "ok", ""),
+        # the kernel takes 26 bytes for a word, and a number of more than 64 bits wraps around
+        ("io.max", "8:0 wiops=00000000000000000009", "ok", "8:0 rbps=max wbps=max riops=max wiops=9\n"),
+        ("io.max", "8:0 wiops=100000000000000000000", "EINVAL", "8:0 rbps=max wbps=max riops=max wiops=9\n"),
+        ("io.max", "8:0 rbps=18446744073709551623", "ok", "8:0 rbps=7 wbps=max riops=max wiops=9\n"),
+        ("io.max", "8:0 rbps=max wiops=max", "ok", ""),
         ("io.weight", "7:10 50", "ok", "default 100\n7:10 50\n"),
         ("io.weight", "7:1 60", "ok", "default 100\n7:10 50\n7:1 60\n"),
         ("io.weight", "7:10 default", "ok", "default 100\n7:1 60\n"),

@@ -1,0 +1,38 @@
+"""What a run does on older kernels, which do not translate numbers of processes, name no zombies and tell no namespaces by a pidfd: other
+tests, with a library that answers as these kernels do (older.c). Only the plain build can load it."""
+import os
+import subprocess
+import sys
+
+from support import PATIENCE, PROGRAM, finish, in_parallel, same, step
+
+HERE = os.path.dirname(os.path.realpath(__file__))
+LIBRARY = os.path.join(os.path.dirname(PROGRAM), "older.so")
+TESTS = (
+    ("dead",),
+    ("spaces",),
+    ("adopted",),
+    ("tasks", "leaderless", "moves", "killed", "born_elsewhere", "undone"),
+    ("meddling", "unshares", "writers", "limited", "calls"),
+    ("hostile", "zombies", "texts", "arguments"),
+    ("noticed", "children", "opens", "tables"),
+    ("refused", "births"),
+    ("alike", "waits", "opens"),
+    ("blocking", "leaderless"),  # a namespace's directory that is held back holds up a run before Linux 6.11
+)
+
+
+def run(one):
+    kernel, (test, *names) = one
+    env = dict(os.environ, LD_PRELOAD=LIBRARY, OLD_KERNEL=kernel)
+    words = [sys.executable, os.path.join(HERE, test + ".py"), *names]
+    ran = subprocess.run(words, env=env, stdout=subprocess.PIPE, stderr=subprocess.STDOUT, timeout=12 * PATIENCE)
+    same("%s on %s" % (test, kernel), ran.returncode, 0)
+    if ran.returncode:
+        print(ran.stdout.decode(errors="replace")[-2000:])
+
+
+step("its library is there", os.path.exists(LIBRARY), LIBRARY)
+wanted = [(kernel, test) for kernel in ("5.15", "6.10") for test in TESTS]
+in_parallel(run, [one for one in wanted if one[1][0] in sys.argv[1:] or not sys.argv[1:]])
+finish()
