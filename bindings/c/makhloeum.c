@@ -344,6 +344,8 @@ PUBLIC uint32_t mk_forget(mk_handle *h)
 	uint32_t status = enter(h, &engine);
 	if (status == MK_DONE) {
 		status = mk0_forget(engine);
+		/* it changes no group, process or count */
+		mk0_depth(engine, &slot_of(engine)->depth);
 		leave(engine);
 	}
 	return status;

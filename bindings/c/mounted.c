@@ -204,6 +204,14 @@ static int value_of(const struct file *file, const struct write *write, char *sa
 	return error;
 }
 
+/* of a look-up of a text that is not the path of a group: below a mount there is no such group */
+static int lookup_error(const char *path)
+{
+	size_t position;
+	uint32_t fault = mk0_path_fault((const uint8_t *)path, strlen(path), &position);
+	return fault == MK_NAME_TOO_LONG || fault == MK_PATH_TOO_LONG ? ENAMETOOLONG : ENOENT;
+}
+
 static uint32_t put(mk0_handle *engine, const char *path, const char *name, const struct write *write, mk0_info *told,
 	int *error)
 {
@@ -214,6 +222,8 @@ static uint32_t put(mk0_handle *engine, const char *path, const char *name, cons
 	begin_line(&line, "cat", path);
 	add(&line, "cgroup.stat");
 	uint32_t status = ask(engine, &line, out, sizeof out, told);
+	if (status == MK_FAULT)
+		*error = lookup_error(path);
 	if (status != MK_DONE)
 		return status;
 	*error = file == NULL ? ENOENT : value_of(file, write, said);

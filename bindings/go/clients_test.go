@@ -176,17 +176,17 @@ func TestFaultsCountOperationsOnFiles(t *testing.T) {
 	h := open(t)
 	f := h.FS()
 	do(t, h, "mkdir /a")
-	for name, operation := range map[string]func() error{
-		"ReadFile":             func() error { _, err := f.ReadFile("a/pids.max"); return err },
-		"ReadFile, a constant": func() error { _, err := f.ReadFile("a/cpu.stat"); return err },
-		"Stat, a group":        func() error { _, err := f.Stat("a"); return err },
-		"Stat, a file":         func() error { _, err := f.Stat("a/pids.current"); return err },
-		"ReadDir":              func() error { _, err := f.ReadDir("a"); return err },
-		"Open, a group":        func() error { _, err := f.Open("a"); return err },
-		"Open, a file":         func() error { _, err := f.Open("a/pids.max"); return err },
-		"WriteFile":            func() error { return f.WriteFile("a/pids.max", []byte("5")) },
-		"Mkdir":                func() error { return f.Mkdir("a") },
-		"Remove":               func() error { return f.Remove("a") },
+	for want, operation := range map[string]func() error{
+		"open a/pids.max: read /a pids.max":         func() error { _, err := f.ReadFile("a/pids.max"); return err },
+		"open a/cpu.stat: has_group /a":             func() error { _, err := f.ReadFile("a/cpu.stat"); return err },
+		"stat a: has_group /a":                      func() error { _, err := f.Stat("a"); return err },
+		"stat a/pids.current: read /a pids.current": func() error { _, err := f.Stat("a/pids.current"); return err },
+		"open a: children /a":                       func() error { _, err := f.ReadDir("a"); return err },
+		"open a: has_group /a":                      func() error { _, err := f.Open("a"); return err },
+		"open a/pids.peak: read /a pids.peak":       func() error { _, err := f.Open("a/pids.peak"); return err },
+		"write a/pids.max: write /a pids.max":       func() error { return f.WriteFile("a/pids.max", []byte("5")) },
+		"mkdir a: mkdir /a":                         func() error { return f.Mkdir("a") },
+		"remove a: rmdir /a":                        func() error { return f.Remove("a") },
 	} {
 		for nth, fails := range map[uint64]bool{1: true, 2: false} {
 			if err := h.Fail("/a", nth, syscall.EIO); err != nil {
@@ -194,13 +194,13 @@ func TestFaultsCountOperationsOnFiles(t *testing.T) {
 			}
 			err := operation()
 			if errors.Is(err, syscall.EIO) != fails {
-				t.Errorf("%s: %v", name, err)
+				t.Errorf("%s: %v", want, err)
 			}
-			if fails && !strings.HasSuffix(err.Error(), "input/output error (asked for by Fail)") {
-				t.Errorf("%s: %v", name, err)
+			if fails && err.Error() != want+": input/output error (asked for by Fail)" {
+				t.Errorf("%v; not %s", err, want)
 			}
 			if left, err := h.ClearFaults(); err != nil || (left == 0) != fails {
-				t.Errorf("%s: %d, %v", name, left, err)
+				t.Errorf("%s: %d, %v", want, left, err)
 			}
 		}
 		if err := f.Mkdir("a"); err != nil && !errors.Is(err, fs.ErrExist) {

@@ -23,6 +23,11 @@ func TestTextOfErrors(t *testing.T) {
 		_, err := h.Groups(path)
 		return err
 	}
+	line := func(line string) error {
+		_, err := h.Line(line)
+		return err
+	}
+	do(t, h, "mkdir /b", "mkdir /c", "mkdir /d", "write /b cgroup.procs 1", "write /b pids.max 1", "write /c cgroup.max.depth 0", "write /d cgroup.max.descendants 0")
 	for _, row := range []struct {
 		err  error
 		text string
@@ -34,6 +39,14 @@ func TestTextOfErrors(t *testing.T) {
 		{h.Fork(1, 1), "fork 1 1: file exists (pidinuse 1)", syscall.EEXIST},
 		{h.Exit(9), "exit 9: no such process (noprocess 9)", syscall.ESRCH},
 		{h.Exit(-1), "exit -1: invalid argument (value: the value is not a number, or out of range)", syscall.EINVAL},
+		{line("mkdir"), "mkdir: invalid argument (syntax: an unknown command, a wrong number of words, or a line that is too long)", syscall.EINVAL},
+		{line("mkdir x"), "mkdir x: invalid argument (path)", syscall.EINVAL},
+		{h.Write("/a", "pids.current", "1"), "write /a pids.current 1: invalid argument (direction: the file cannot be read or written in this way)", syscall.EINVAL},
+		{h.Fork(1, 2), "fork 1 2: resource temporarily unavailable (pidsmax /b)", syscall.EAGAIN},
+		{h.Mkdir("/c/x"), "mkdir /c/x: resource temporarily unavailable (depth /c)", syscall.EAGAIN},
+		{h.Mkdir("/d/x"), "mkdir /d/x: resource temporarily unavailable (descendants /d)", syscall.EAGAIN},
+		{h.Rmdir("/b"), "rmdir /b: device or resource busy (hasprocesses)", syscall.EBUSY},
+		{read("/", "pids.max"), "read / pids.max: no such file or directory (nofile)", fs.ErrNotExist},
 		{read("/a", "x"), "read /a x: no such file or directory (file: there is no file of that name)", fs.ErrNotExist},
 		{h.Mkdir("/my service"), "mkdir /my service: invalid argument (path: a name cannot have this byte, at 3)", syscall.EINVAL},
 		{children("/x"), "children /x: no such file or directory (nogroup /x)", syscall.ENOENT},
@@ -47,6 +60,18 @@ func TestTextOfErrors(t *testing.T) {
 	h.Close()
 	if err := h.Mkdir("/b"); err.Error() != "mkdir /b: the hierarchy is closed" {
 		t.Error(err)
+	}
+}
+
+// A buffer grows to what is needed, else by four, and not beyond the longest answer.
+func TestHowABufferGrows(t *testing.T) {
+	const most = 32 + 10*4194303 // a first line, and a line for each pid
+	for _, row := range [][3]int{
+		{512, 513, 513}, {512, 100000, 100000}, {512, 512, 2048}, {512, 0, 2048}, {100, 50, 400}, {most / 4, 0, most / 4 * 4}, {most/4 + 1, 0, most}, {most, 0, most},
+	} {
+		if got := grown(row[0], row[1]); got != row[2] {
+			t.Errorf("%d of %d: %d, not %d", row[1], row[0], got, row[2])
+		}
 	}
 }
 

@@ -120,6 +120,22 @@ func TestNamesThatNoGroupHas(t *testing.T) {
 	}
 }
 
+// A write to a file whose group no hierarchy can have is refused as a read of it is.
+func TestWritesBelowNamesThatNoGroupHas(t *testing.T) {
+	f := open(t).FS()
+	for name, want := range map[string]error{
+		strings.Repeat("x/", 2100) + "pids.max": syscall.ENAMETOOLONG, strings.Repeat("x", 256) + "/pids.max": syscall.ENAMETOOLONG,
+		"a b/pids.max": syscall.ENOENT, "pids.x/pids.max": syscall.ENOENT, strings.Repeat("d/", 33) + "cgroup.procs": syscall.ENOENT, "a\x00/cgroup.type": syscall.ENOENT,
+	} {
+		_, read := f.ReadFile(name)
+		for operation, err := range map[string]error{"read": read, "write": f.WriteFile(name, []byte("1"))} {
+			if !errors.Is(err, want) {
+				t.Errorf("%s %.20s: %v; not %v", operation, name, err, want)
+			}
+		}
+	}
+}
+
 // A file that the root lacks is missing there in every way, also one whose text is always the same.
 func TestFilesThatTheRootLacks(t *testing.T) {
 	f := open(t).FS()

@@ -125,8 +125,18 @@ func TestGroups(t *testing.T) {
 			t.Error(path, there, err)
 		}
 	}
-	if _, err := h.HasGroup("x"); !errors.Is(err, syscall.EINVAL) {
-		t.Error(err)
+	if there, err := h.HasGroup("x"); there || !errors.Is(err, syscall.EINVAL) {
+		t.Error(there, err)
+	}
+	if err := h.Fail("/a", 1, syscall.ENOENT); err != nil {
+		t.Fatal(err)
+	}
+	if there, err := h.HasGroup("/a"); there || !errors.Is(err, syscall.ENOENT) {
+		t.Error(there, err)
+	}
+	h.Close()
+	if there, err := h.HasGroup("/a"); there || !errors.Is(err, ErrClosed) {
+		t.Error(there, err)
 	}
 }
 

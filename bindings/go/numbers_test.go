@@ -4,6 +4,7 @@ import (
 	"errors"
 	"fmt"
 	"reflect"
+	"strings"
 	"syscall"
 	"testing"
 )
@@ -100,5 +101,31 @@ func TestForget(t *testing.T) {
 	h.Close()
 	if err := h.Forget(); !errors.Is(err, ErrClosed) {
 		t.Error(err)
+	}
+}
+
+// What a call copies for C is freed with it: the paths and names of these calls would take more memory than the bound.
+func TestCallsWithAPathLeaveNoMemory(t *testing.T) {
+	h := open(t)
+	f := h.FS()
+	long := strings.Repeat("x", 200_000)
+	use := func(rounds int) {
+		for i := 0; i < rounds; i++ {
+			_, current := h.Current("/" + long)
+			_, pids := h.Processes(long)
+			_, _, limit := h.Limit(long)
+			for _, err := range []error{current, pids, limit, h.Fail(long, 1, syscall.EIO), h.Vanish(long, 1), f.WriteFile(long+"/pids.max", nil), f.WriteFile(long, nil)} {
+				if err == nil {
+					t.Fatal("no error")
+				}
+			}
+		}
+	}
+	use(20)
+	before := memory(t)
+	use(200)
+	// each kind of call alone takes 40,000,000 bytes
+	if grown := memory(t) - before; grown > 30_000_000 {
+		t.Errorf("%d bytes more", grown)
 	}
 }

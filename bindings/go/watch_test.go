@@ -185,6 +185,13 @@ func endsWith(t *testing.T, want error, ended <-chan error, ahead time.Duration)
 	}
 }
 
+// Wait promises its end within 50 ms of that of its context, so no call of C may take longer.
+func TestHowLongACallOfAWaitTakes(t *testing.T) {
+	if slice != 50*time.Millisecond {
+		t.Error(slice)
+	}
+}
+
 func TestAWaitReturnsAtItsDeadline(t *testing.T) {
 	h := open(t)
 	for _, ahead := range []time.Duration{-time.Hour, 0, time.Microsecond, 70 * time.Millisecond} {

@@ -146,7 +146,7 @@ export class Element {
 export const observed = []; // [element, what is called when its size changes]
 
 globalThis.document = Object.assign(new Element("document"), {
-  createElement: (tag) => new Element(tag), createElementNS: (_, tag) => new Element(tag), activeElement: null,
+  createElement: (tag) => new Element(tag), createElementNS: (space, tag) => Object.assign(new Element(tag), { space }), activeElement: null,
 });
 globalThis.innerWidth = 1000;
 globalThis.ResizeObserver = class {

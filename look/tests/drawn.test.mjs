@@ -144,6 +144,17 @@ test("the cells of a row", () => {
   assert.deepStrictEqual([refusedBelow.ariaExpanded, refusedBelow.ariaSelected, refusedBelow.className], ["false", "true", "row chosen"]);
 });
 
+test("each cell and the label have their own number", () => {
+  const its = run();
+  its.go(7);
+  const group = { ...its.state.groups.get(1), numbers: [1, 2, 9, 3, 5, 7, 6], own: 0 }, row = treeRow(its, { group, level: 1, children: 0 }, view());
+  assert.strictEqual(row.ariaLabel, "a: pids.current 3, pids.max 9, pids.peak 5, refused here 6, in all 7");
+  assert.deepStrictEqual(texts(row).slice(2, 6), ["3 / 9", "5", "● yes", "6 / 7"]);
+  const root = treeRow(its, { group: { ...its.state.groups.get(0), numbers: [1, 2, -1, 3, 5, 7, 6] }, level: 0, children: 1 }, view());
+  assert.deepStrictEqual([root.ariaLabel, texts(root)[2]], ["/: 3 processes in all", "3 in all"]);
+  for (const it of [row, root]) assert.deepStrictEqual([it.tag, ...new Set([...it.all()].map((one) => one.tag))], ["div", "span", "b", "i"].slice(0, it === row ? 4 : 2));
+});
+
 test("what a command changed is marked, in the cells that differ alone", () => {
   const its = run(), was = (numbers) => {
     const [root, a] = rowsOf(its, 7, { others: new Map([[1, numbers]]) });
@@ -172,6 +183,7 @@ test("bars end at the limit, or without one at the peak", () => {
   assert.deepStrictEqual(bar(8, 8, 8), ["bar full", "100%", "calc(100% - 2px)"]);
   assert.deepStrictEqual(bar(8, 7, 8), ["bar", "87.5%", "calc(100% - 2px)"]);
   assert.deepStrictEqual(bar(4, 6, 12), ["bar full", "100%", "calc(100% - 2px)"], "a limit below what is there");
+  assert.deepStrictEqual(bar(4, 0, 1), ["bar", "0%", "calc(25% - 2px)"], "a peak of one process");
   assert.deepStrictEqual(bar(-1, 3, 4), ["bar free", "75%", "calc(100% - 2px)"]);
   assert.deepStrictEqual(bar(-1, 0, 0), ["bar free", "0%", null]);
   assert.deepStrictEqual(bar(0, 0, 0), ["bar full", "0%", null]);
@@ -217,6 +229,14 @@ test("as many processes as have room, those that just came first", () => {
   assert.deepStrictEqual(shown(18, 4194303), ["4194303", " .. 5 more"], "one that just came");
   assert.deepStrictEqual(shown(20, 4194303), ["2", "4194303", " .. 4 more"], "they are in ascending order");
   assert.deepStrictEqual(shown(18, 1), ["2", "30", "31", " .. 3 more"], "one of another group");
+  const twelve = Array.from({ length: 12 }, (_, at) => at + 10), born = [[0, 1], ...twelve.map((pid) => [2, pid, 1])];
+  const more = new Run({
+    lines: born.map(String).join("\n"), names: ["/", "a"], parents: [0, 0], notes: {}, times: null, answers: ["ok"], answer: born.map(() => 0),
+    steps: born.flatMap((step) => [step.length, ...step]),
+  });
+  const few = (room) => processes(more, more.go(13).groups.get(1), new Set(), "span", room).map((one) => one.textContent ?? one);
+  assert.deepStrictEqual([13, 14, 16, 17, 18, 19].map(few), [["12 in all"], ["10", " .. 11 more"], ["10", " .. 11 more"], ["10", "11", " .. 10 more"], ["10", "11", " .. 10 more"],
+    ["10", "11", "12", " .. 9 more"]], "a number of two digits is longer");
   const [first, second] = processes(its, group, new Set([30]), "button", 40);
   assert.deepStrictEqual([[first.tag, first.className, first.dataset], [second.tag, second.className, second.dataset]],
     [["button", "pid", { pid: 2, key: 2 }], ["button", "pid fresh", { pid: 30, key: 30 }]]);
@@ -233,6 +253,7 @@ test("an element has what it is made of", () => {
   assert.deepStrictEqual([it.tag, it.className, it.nodes[0], it.textContent], ["p", "note", "<b>", "<b>x"]);
   const svg = makeSvg("text", { x: 3, class: "c" }, "text");
   assert.deepStrictEqual([svg.tag, svg.attributes, svg.textContent, makeSvg("path", {}).textContent], ["text", { x: "3", class: "c" }, "text", ""]);
+  assert.deepStrictEqual([svg.space, it.space], ["http://www.w3.org/2000/svg", undefined]);
 });
 
 test("what had the focus in a box keeps it", () => {

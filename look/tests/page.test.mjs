@@ -7,7 +7,7 @@ import test from "node:test";
 import { Element, observed } from "./document.mjs";
 
 const folder = new URL("../../bindings/python/makhloeum/look/", import.meta.url);
-const { LIMIT, LOCAL, TOTAL } = await import(new URL("state.mjs", folder));
+const { CURRENT, DEPTH, DESCENDANTS, LIMIT, LOCAL, PEAK, TOTAL } = await import(new URL("state.mjs", folder));
 const html = readFileSync(new URL("page.html", folder), "utf8");
 
 // ---- a page: the elements of page.html that have an id, timers that are called by hand
@@ -80,7 +80,7 @@ test("the summary, the slider and the moment at first", async () => {
 });
 
 test("a link to a moment, and the link that the page gives itself", async () => {
-  for (const [hash, wanted, path] of [["#line=4", "after 4 of 12", "/a"], ["#before=4", "before 4 of 12", "/a"], ["#line=0", "after 0 of 12", "/"], ["#line=3", "after 3 of 12", "/"],
+  for (const [hash, wanted, path] of [["#line=4", "after 4 of 12", "/a"], ["#before=4", "before 4 of 12", "/a"], ["#before=1", "before 1 of 12", "/a"], ["#before=6", "before 6 of 12", "/a/b"], ["#line=0", "after 0 of 12", "/"], ["#line=3", "after 3 of 12", "/"],
     ["#line=99", "after 12 of 12", "/a"], ["#line=7", "after 7 of 12", "/a"], ["#line=10", "after 10 of 12", "/a/b"], ["#LINE=4", "after 12 of 12", "/a"], ["#line=4 ", "after 12 of 12", "/a"],
     ["#line=1234567890", "after 12 of 12", "/a"], ["#line=000000004", "after 4 of 12", "/a"], ["#line=999999999", "after 12 of 12", "/a"], ["#before=", "after 12 of 12", "/a"], ["x#line=4", "after 12 of 12", "/a"]]) {
     const { at } = await open(DATA, hash);
@@ -122,6 +122,9 @@ test("the rows of commands", async () => {
   // four letters for the number at least, and two for the gap after each text
   assert.deepStrictEqual([0, 7].map((at) => rows("list")[at].style["--letters"]), [String(4 + 8 + 2), String(4 + 8 + 2 + 14 + 2)]);
   assert.strictEqual(rows("list")[0].role, "option");
+  assert.deepStrictEqual([...new Set(rows("list").map((row) => [row.tag, ...row.children.map((one) => one.tag)].join(" ")))], ["div span span span", "div span span span span"]);
+  const many = await open({ ...DATA, lines: Array(10000).fill("exit 9").join("\n"), answer: Array(10000).fill(0), steps: Array(10000).fill(0), notes: {} }, "#line=10000");
+  assert.deepStrictEqual(many.rows("list").slice(-2).map((row) => row.style["--letters"]), [String(4 + 6 + 2), String(5 + 6 + 2)], "a number of five digits");
   const { texts: short } = await open({ ...DATA, answers: ["ok", "ok\n5", "ok\n| 1\n| 2\n| 3", "ok\n1234"] }, "#line=1");
   assert.deepStrictEqual([7, 9, 11].map((at) => short("list")[at].at(-1)), ["5 lines", "3 lines: | 1 | 2 | 3", "1,234 lines"]);
   const ten = ["ok", ...Array.from({ length: 10 }, (_, at) => `| ${at}`)].join("\n");
@@ -209,6 +212,10 @@ test("the state before a line", async () => {
   key("Home");
   key("b");
   assert.deepStrictEqual(told(), ["before 0 of 12", "Groups before this line", "true", "1 in all"]);
+  key("ArrowRight");
+  assert.deepStrictEqual(told(), ["before 1 of 12", "Groups before this line", "true", "1 in all"]);
+  key("ArrowRight");
+  assert.deepStrictEqual(told(), ["before 2 of 12", "Groups before this line", "true", "1 in all,0 / max"]);
 });
 
 test("what a line changes is marked, on both of its sides", async () => {
@@ -316,8 +323,10 @@ test("a search for a process shows its life", async () => {
   assert.deepStrictEqual(at("life").querySelectorAll("a").map((one) => one.href), ["#line=3", "#line=4", "#line=9"]);
   search("1");
   assert.deepStrictEqual([rows(), at("life").querySelectorAll("a").map((one) => one.href)], [[["start", "born /", ""]], ["#line=0"]]);
-  search("77");
-  assert.strictEqual(at("life").textContent, "Process 77There is no such process in this run.");
+  for (const pid of ["77", "1234567890"]) {
+    search(pid);
+    assert.strictEqual(at("life").textContent, `Process ${pid}There is no such process in this run.`);
+  }
   const early = await open({ ...DATA, lines: "fork 1 2", steps: [3, 2, 2, 0], answer: [0], notes: {}, names: ["/"], parents: [0] });
   early.search("2");
   assert.deepStrictEqual(early.at("life").querySelectorAll("td").map((one) => one.textContent), ["line 1", "born /", "fork 1 2"]);
@@ -409,10 +418,12 @@ test("the group that is chosen is in sight, and a step leaves the tree where it 
   const { at, key, search } = await open(data, "#line=40", 220), tree = at("tree");
   // ten of 41 rows have room: the last is the end of the box
   assert.deepStrictEqual([at("path").textContent, tree.scrollTop, tree.getAttribute("aria-activedescendant")], ["/g49", 41 * 22 - 220, "tree-40"]);
-  tree.scrollTop = 0;
-  tree.dispatch("scroll");
-  key("ArrowLeft");
-  assert.strictEqual(tree.scrollTop, 0);
+  for (const top of [110, 0]) {
+    tree.scrollTop = top;
+    tree.dispatch("scroll");
+    key("ArrowLeft");
+    assert.strictEqual(tree.scrollTop, top);
+  }
   search("/g30");
   assert.deepStrictEqual([at("path").textContent, tree.scrollTop], ["/g30", 0], "a search goes to a command");
   key("ArrowUp", { target: tree });
@@ -432,6 +443,35 @@ test("the details of a group", async () => {
   assert.deepStrictEqual([lines()[0], lines().find(([name]) => name === "populated")], [["cgroup.procs", ""], ["populated", "0"]]);
   key("Home");
   assert.deepStrictEqual([lines(), at("path").textContent], [[["There is no such group at this moment.", ""]], "/a/b"]);
+  const steps = STEPS.map((step, at) => (at === 9 ? [7, DEPTH, 1, 4, 7, DESCENDANTS, 1, 5, 7, DEPTH, 0, 6, 7, DESCENDANTS, 0, 7] : step));
+  const limited = await open({ ...DATA, steps: steps.flatMap((step) => [step.length, ...step]) }, "#line=10");
+  const limits = () => limited.at("group").querySelectorAll("tr").map((row) => row.children.map((one) => one.textContent).join(" ")).filter((line) => /max\./.test(line));
+  for (const [row, wanted] of [[1, ["4", "5"]], [0, ["6", "7"]]]) {
+    limited.rows("tree")[row].bubble("click");
+    assert.deepStrictEqual(limits(), [`cgroup.max.depth ${wanted[0]}`, `cgroup.max.descendants ${wanted[1]}`]);
+  }
+});
+
+test("each of the details is its own number", async () => {
+  for (const [current, populated] of [[2, "1"], [0, "0"]]) {
+    const apart = [LIMIT, 9, CURRENT, current, PEAK, 5, TOTAL, 7, LOCAL, 6, DEPTH, 4, DESCENDANTS, 3];
+    const sets = Array.from({ length: 7 }, (_, at) => [7, apart[2 * at], 1, apart[2 * at + 1]]).flat();
+    const steps = STEPS.map((step, at) => (at === 9 ? sets : step));
+    const { at, rows } = await open({ ...DATA, steps: steps.flatMap((step) => [step.length, ...step]) }, "#line=10");
+    rows("tree")[1].bubble("click");
+    const told = at("group").querySelectorAll("tr").slice(1).map((row) => row.children.map((one) => one.textContent));
+    assert.deepStrictEqual(told, [["pids.max", "9"], ["pids.current", String(current)], ["pids.peak", "5"], ["pids.events", "max 7"], ["pids.events.local", "max 6"],
+      ["populated", populated], ["cgroup.max.depth", "4"], ["cgroup.max.descendants", "3"], ["nr_descendants", "1"]]);
+  }
+});
+
+test("the details have as many processes as two thousand letters", async () => {
+  for (const [many, wanted] of [[400, 400], [401, 398]]) {
+    const pids = Array.from({ length: many }, (_, at) => at + 1000), steps = [[0, 1], ...pids.map((pid) => [2, pid, 1])];
+    const { at } = await open({ ...DATA, lines: steps.map(() => "x").join("\n"), answer: steps.map(() => 0), notes: {}, steps: steps.flatMap((step) => [step.length, ...step]) });
+    const [, cell] = (at("tree").children[0].children[1].bubble("click"), at("group").querySelectorAll("tr")[0].children);
+    assert.deepStrictEqual([cell.querySelectorAll("button").length, /more$/.test(cell.textContent)], [wanted, many > wanted], `${many} of four digits and a blank`);
+  }
 });
 
 // ---- plots
@@ -463,6 +503,15 @@ test("plots of the busiest groups, and of those that are chosen", async () => {
   at("plots").clientWidth = 824;
   window.dispatch("resize");
   assert.deepStrictEqual([plotted(), at("plots").querySelector("svg").getAttribute("viewBox"), cursor()], [["/a"], "0 0 800 108", ["M664.3333333333334 8V92"]]);
+});
+
+test("at first the two busiest groups are plotted", async () => {
+  const names = ["a", "b", "c"], arrivals = [1, 2, 2, 3, 3, 3], steps = [...names.map((_, at) => [0, at + 1]), ...arrivals.map((group, at) => [2, at + 2, group])];
+  const { at } = await open({
+    ...DATA, lines: steps.map(String).join("\n"), names: ["/", ...names], parents: [0, 0, 0, 0], notes: {}, answer: steps.map(() => 0),
+    steps: steps.flatMap((step) => [step.length, ...step]),
+  });
+  assert.deepStrictEqual(at("plots").querySelectorAll("strong").map((one) => one.textContent), ["/c", "/b"]);
 });
 
 // ---- widths

@@ -25,6 +25,13 @@ test("groups are in the order of their names, each before those below it", () =>
   assert.deepStrictEqual(rows.map(({ children, closed }) => [children, closed]), [[5, false], [0, false], [1, false], [1, false], [0, false], [0, false], [0, false], [0, false]]);
 });
 
+test("a group that was removed has no row, and one again once that is undone", () => {
+  const run = runOf(["a", "b", "c"], [0, 1, 0], [[0, 1], [0, 2], [0, 3], [1, 2], [1, 1], [0, 1], [0, 2]]), rows = (moment) => named(run, treeRows(run.go(moment), ...none()));
+  const wanted = [["0 /"], ["0 /", "1 a"], ["0 /", "1 a", "2 b"], ["0 /", "1 a", "2 b", "1 c"], ["0 /", "1 a", "1 c"], ["0 /", "1 c"], ["0 /", "1 a", "1 c"], ["0 /", "1 a", "2 b", "1 c"]];
+  for (const moment of [0, 1, 2, 3, 4, 5, 6, 7, 5, 3, 4, 7]) assert.deepStrictEqual(rows(moment), wanted[moment], `moment ${moment}`);
+  assert.deepStrictEqual([...run.go(4).groups.get(0).down()].map(({ id }) => id), [0, 1, 3]);
+});
+
 test("a group that is folded hides those below it alone", () => {
   const run = made(["a", "x", "y", "b"], [0, 1, 2, 0]), state = run.go(4);
   assert.deepStrictEqual(named(run, treeRows(state, new Set([1]), new Set(), new Set())), ["0 /", "1 a", "1 b"]);

@@ -42,6 +42,8 @@ test("a list of processes after blanks of each kind", () => {
   there.go(2);
   assert.deepStrictEqual([there.listedBy(0), there.listedBy(1)], [NaN, 2]);
   assert.strictEqual(there.answerOf(1), "ok\n| 1\n| 2");
+  const long = answered(...["ok\n1234567890", "ok\n", "ok\n| 7", "ok\n7\n8", "refused 7", "ok"].map((answer) => ["cat / cgroup.procs", answer]));
+  assert.deepStrictEqual([0, 1, 2, 3, 4, 5].map((command) => long.listedBy(command)), [1234567890, NaN, NaN, NaN, NaN, NaN]);
 });
 
 test("a kill of many and its undo take little time at each step", () => {
@@ -118,6 +120,8 @@ test("the refusals of a group", () => {
   assert.deepStrictEqual(search(there, " refused   /a/b "), [4, 7]);
   assert.deepStrictEqual(search(there, "refused /a/B"), []);
   assert.deepStrictEqual(search(there, "refused pidsmax"), [4, 5]);
+  const full = answered(["mkdir /a", "refused descendants /"], ["mkdir /b"], ["rmdir /", "refused rootfixed"]);
+  assert.deepStrictEqual(search(full, "refused /"), [1, 3]);
 });
 
 test("the group of a command", () => {
@@ -137,6 +141,14 @@ test("the group of a command", () => {
   );
   const told = ["/", "/a", "/a/b", "/", "/a/b", "/a", "/a", "/", "/a/b", "/a/b", "/a/b", "/a/b", "/a/b", "/"];
   assert.deepStrictEqual(told.map((_, moment) => group(moment, back)), told, "an undo is about what the undone command names");
+});
+
+test("a path that the run has not stands for the nearest group above it", () => {
+  const lines = ["mkdir /a", "rmdir /nobody", "cat /ab pids.max", "cat /a/bcd/e pids.max", "cat /a/b/c/d pids.max", "rmdir /a/b /a/bc", "mkdir /a/bc /a/b"];
+  const there = answered(...lines.map((line, at) => (at === 0 ? [line, "ok", 0, 1, 0, 2, 0, 3] : [line, "refused syntax"])));
+  const group = (moment) => (there.go(moment), there.paths[groupOf(there, moment - 1)]);
+  assert.deepStrictEqual(lines.map((_, at) => group(at + 1)), ["/a/bc", "/", "/", "/a", "/a/b", "/a/b", "/a/bc"].map((path, at) => (at === 0 ? "/a" : path)));
+  assert.deepStrictEqual([refusalsOf(there, "/a/b"), refusalsOf(there, "/a/bc"), refusalsOf(there, "/nobody")], [[6], [7], [2]], "of two paths the first");
 });
 
 test("a pid is found with each digit, also where a command was refused", () => {

@@ -158,6 +158,24 @@ def test_a_list_that_was_not_asked_for_is_audited():
             history.read(f"where 1\nmkdir /b\n{READ}\n".encode())
 
 
+def test_a_list_of_a_group_that_is_not_there_is_no_list():
+    history = history_of(
+        "\n".join([*MANY, READ, "cat /none cgroup.procs", "cat /none/a cgroup.procs", "cat a cgroup.procs"])
+    )
+    told = [history.answers[one] for one in history.answer[-4:]]
+    assert told == ["ok\n800", "refused nogroup /none", "refused nogroup /none/a", "refused path"]
+
+
+def test_a_group_that_the_page_alone_has():
+    with Hierarchy() as h:
+        history = History(h)
+        history.read(b"mkdir /a\nwrite /a cgroup.procs 1\n")
+        h.write("/", "cgroup.procs", 1)
+        h.rmdir("/a")
+        with pytest.raises(RuntimeError, match="^after 2 commands the engine has no group /a, which the page has$"):
+            history.line(b"fork 1 2")
+
+
 # ---- times, notes and lines
 
 

@@ -1,6 +1,7 @@
 """The command `makhloeum check` over a player that finds what it is told to: when it ends, what it prints and its status."""
 
 import re
+import shlex
 import signal
 
 import pytest
@@ -171,7 +172,7 @@ def test_the_status(capsys, found, left, status):
 
 class Terminal:
     def __init__(self, is_terminal):
-        self.is_terminal, self.told = is_terminal, ""
+        self.is_terminal, self.told, self.seen = is_terminal, "", []
 
     def isatty(self):
         return self.is_terminal
@@ -180,7 +181,23 @@ class Terminal:
         self.told += text
 
     def flush(self):
-        pass
+        self.seen.append(self.told)
+
+
+def test_a_difference_is_seen_at_once(monkeypatch):
+    out = Terminal(False)
+    monkeypatch.setattr(command.sys, "stdout", out)
+    words = ["/dir", "--no-worked", "--quiet", "--count", "20"]
+    assert command._checked(command._arguments(words), Scripted(KINDS[0])) == 1
+    assert [seen.endswith("\nrmdir a\n\n") for seen in out.seen] == [True]
+
+
+def test_the_time_for_making_it_short_is_not_that_of_the_operations(capsys, monkeypatch):
+    now = [1000.0]
+    monkeypatch.setattr(command.time, "monotonic", lambda: now[0])
+    player = Scripted(KINDS[0], again=lambda commands: now.append(now.pop() + 100))
+    checked(capsys, player, "--count", "20", "--shorten", "50")
+    assert (now, player.counts.began) == ([1100.0], 1100.0)
 
 
 @pytest.mark.parametrize(
@@ -206,9 +223,11 @@ def test_progress(monkeypatch, is_terminal, is_quiet, seconds, wanted):
     lines = [it for it in re.split(r"[\r\n]", out.told) if it]
     assert len(lines) == wanted and all(re.fullmatch(r"50 operations, 2 differences, \d a second", it) for it in lines)
     assert out.told.count("\n") == (0 if is_terminal else wanted)
+    assert len(out.seen) == wanted and out.seen[-1:] == [out.told][:wanted], "each is seen at once"
     before = len(out.told)
     progress.clear()
     assert out.told[before:] == ("\r" + " " * 78 + "\r" if is_terminal and not is_quiet else "")
+    assert "".join(out.seen[-1:]) == out.told
 
 
 def test_the_options():
@@ -241,6 +260,18 @@ def test_the_options():
         with pytest.raises(SystemExit) as ended:
             command._arguments(wrong)
         assert ended.value.code == 2, wrong
+
+
+def test_the_help_says_what_each_option_is_without_it(capsys, monkeypatch):
+    monkeypatch.setenv("COLUMNS", "200")
+    with pytest.raises(SystemExit) as ended:
+        command._arguments(["--help"])
+    told = capsys.readouterr().out
+    assert ended.value.code == 0 and told.startswith("usage: makhloeum check [-h] ")
+    plain = vars(command._arguments(["/dir"]))
+    shown = dict(re.findall(r"^ *--(\w+) .*\((\d+)\)$", told, re.M))
+    assert shown == {name: str(plain[name]) for name in ("seed", "count", "most", "limit", "shorten")}
+    assert set(re.findall(r"^ *--([\w-]+)", told, re.M)) == {name.replace("_", "-") for name in plain} - {"directory"}
 
 
 def test_a_rate_is_by_the_second():
@@ -361,3 +392,98 @@ def test_which_commands_a_directory_can_do(way):
         assert not engine.can_do(["fork", "1", "49"]) and engine.can_do(["exit", "7"])
     finally:
         engine.close()
+
+
+# ---- the whole command
+
+
+class Played(Scripted):
+    """A player as the command makes it."""
+
+    made = []
+
+    def __init__(self, directory, limit):
+        super().__init__()
+        self.found = {"ways": ["free"], "missing": ["pids.peak", "pids.events.local"]}
+        self.made.append((directory, limit))
+
+    def play(self, way, following, counts=None):
+        assert all(signal.getsignal(number) is command._interrupt for number in ENDING)
+        return super().play(way, following, counts)
+
+
+@pytest.mark.parametrize("quiet", [False, True])
+def test_a_directory_that_lacks_files_is_said_so(capsys, monkeypatch, quiet):
+    monkeypatch.setattr(command, "Player", Played)
+    monkeypatch.setattr(Played, "made", [])
+    words = ["/dir", "--no-worked", "--count", "10", "--limit", "2.5", *(["--quiet"] if quiet else [])]
+    assert command.main(words) == 0 and Played.made == [("/dir", 2.5)]
+    told = capsys.readouterr()
+    missing = "makhloeum check: /dir: not there, and so not compared: pids.peak, pids.events.local\n"
+    assert told.err == ("" if quiet else missing) and told.out.startswith("10 operations in ")
+
+
+def test_a_directory_that_lacks_nothing(capsys, monkeypatch):
+    class Whole(Played):
+        def __init__(self, directory, limit):
+            super().__init__(directory, limit)
+            self.found["missing"] = []
+
+    monkeypatch.setattr(command, "Player", Whole)
+    assert command.main(["/dir", "--no-worked", "--count", "10"]) == 0 and capsys.readouterr().err == ""
+
+
+@pytest.mark.parametrize(
+    "failure, sentence",
+    [(command.Unusable("it is not a directory"), "it is not a directory"), (command.Interrupted(), "interrupted")],
+)
+def test_a_directory_that_cannot_be_checked_ends_the_command(capsys, monkeypatch, failure, sentence):
+    def refused(directory, limit):
+        raise failure
+
+    monkeypatch.setattr(command, "Player", refused)
+    assert command.main(["/dir"]) == 2
+    assert capsys.readouterr() == ("", f"makhloeum check: /dir: {sentence}\n")
+
+
+def test_worked_sequences_come_first(capsys):
+    names = [f"rows/{name}" for name in ("first", "second")]
+    plain = command.worked
+    command.worked = lambda ways: [(name, "free", [["mkdir", "/a"]]) for name in names if ways == ["free"]]
+    try:
+        player = Scripted(difference("rmdir /a"), None, difference("mkdir /b"))
+        command._checked(command._arguments(["/dir", "--count", "30", "--quiet"]), player)
+    finally:
+        command.worked = plain
+    told = re.findall(r"^\((.*?); \d+ operations", capsys.readouterr().out, re.M)
+    assert told == ["worked sequence rows/first", "random sequence 1 of seed 1"] and len(player.ways) == 3
+
+
+@pytest.mark.parametrize("has_control", [False, True])
+def test_a_script_turns_the_controller_on_where_there_is_one(capsys, tmp_path, has_control):
+    if has_control:
+        (tmp_path / "cgroup.subtree_control").write_text("")
+    options = command._arguments([str(tmp_path), "--no-worked", "--quiet", "--count", "10"])
+    assert command._checked(options, Scripted(difference("rmdir /a"))) == 1
+    out = capsys.readouterr().out
+    assert f"\ncd {shlex.quote(str(tmp_path))} && mkdir " in out and ("echo +pids >" in out) == has_control
+
+
+def test_a_shorter_difference_of_another_kind_is_not_shown_again(capsys):
+    def again(commands):
+        return Difference("free", [["mkdir", "/c"]], KINDS[4].ours, KINDS[4].theirs) if len(commands) == 4 else None
+
+    status, out, _ = checked(
+        capsys, Scripted(KINDS[0], KINDS[4], KINDS[2], KINDS[1], again=again), "--count", "50", "--most", "9"
+    )
+    assert (
+        status == 1 and out.count("difference: mkdir /c: ") == 2
+    ), "the third one is made short alike, the fourth is the first"
+
+
+def test_no_progress_is_shown_while_a_difference_is_made_short(capsys, monkeypatch):
+    told = []
+    monkeypatch.setattr(command._Progress, "clear", lambda self: told.append("cleared"))
+    player = Scripted(KINDS[0], again=lambda commands: told.append(isinstance(player.on_operation, command._Progress)))
+    checked(capsys, player, "--count", "20")
+    assert told == ["cleared", False, "cleared"] and isinstance(player.on_operation, command._Progress)

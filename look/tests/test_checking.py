@@ -1,6 +1,7 @@
 """The parts of `makhloeum check` that clean up, talk to the worker, compare and write scripts. bindings/python/tests/test_check.py
 has others, and look/test-check has the whole."""
 
+import errno
 import os
 import re
 import signal
@@ -21,7 +22,7 @@ from makhloeum.check.directory import remove_groups
 from makhloeum.check.engine import Answer, Engine
 from makhloeum.check.playing import Counts, Difference
 from makhloeum.check.script import shell_script
-from makhloeum.check.worker import Hang, Worker, _Lines
+from makhloeum.check.worker import Hang, Worker, _Lines, _Worker
 
 ENDING = (signal.SIGINT, signal.SIGTERM, signal.SIGHUP)
 BUSY = Answer("EBUSY", "", "hasprocesses")
@@ -105,6 +106,27 @@ def test_a_late_answer_is_not_taken_for_the_next_one():
     with pytest.raises((Hang, BrokenPipeError)):
         worker.ask("end")
     worker._lines.at.close()
+
+
+def test_a_worker_that_made_nothing_leaves_nothing():
+    worker = _Worker(_Lines(None))
+    assert worker.end() == worker.close() == []
+
+
+@pytest.mark.parametrize("failure", [None, BrokenPipeError, ConnectionResetError])
+def test_a_worker_that_nobody_asks_any_more_removes_what_it_made(monkeypatch, failure):
+    """Also if the checking process ended before it got an answer, in the midst of a sequence."""
+
+    def refused(answer):
+        raise failure
+
+    requests, ended = ([[1, "begin"]] if failure else []) + [None], []
+    worker = _Worker(types.SimpleNamespace(get=lambda: requests.pop(0), put=refused, at=None))
+    worker._own, worker.begin = "/own", lambda: None
+    worker._groups = types.SimpleNamespace(end=lambda: ended.append("sequence") or [])
+    monkeypatch.setattr("makhloeum.check.worker.remove_groups", lambda path, seconds: ended.append(path) or [])
+    worker.serve()
+    assert ended == ["sequence", "/own"] and worker._groups is None
 
 
 def test_an_answer_that_comes_in_parts():
@@ -229,6 +251,28 @@ def test_a_watch_of_a_file(tmp_path):
     assert len(os.listdir("/proc/self/fd")) == before
 
 
+@pytest.mark.parametrize("fails", ["inotify_init1", "inotify_add_watch"])
+def test_a_watch_that_inotify_refuses(tmp_path, monkeypatch, fails):
+    """Its errno is said, and no file stays open."""
+    (tmp_path / "cgroup.events").write_text("populated 0\n")
+
+    class Library:
+        def inotify_init1(self, flags):
+            return -1 if fails == "inotify_init1" else os.open("/dev/null", os.O_RDONLY)
+
+        def inotify_add_watch(self, descriptor, path, mask):
+            assert path == os.fsencode(tmp_path / "cgroup.events") and mask == 2
+            return -1
+
+    monkeypatch.setattr(watching.ctypes, "CDLL", lambda name, use_errno: Library())
+    monkeypatch.setattr(watching.ctypes, "get_errno", lambda: errno.EMFILE)
+    before = len(os.listdir("/proc/self/fd"))
+    with pytest.raises(OSError) as failed:
+        watching.Watch(str(tmp_path / "cgroup.events"))
+    assert (failed.value.errno, failed.value.strerror) == (errno.EMFILE, os.strerror(errno.EMFILE))
+    assert len(os.listdir("/proc/self/fd")) == before
+
+
 # ---- removing groups
 
 
@@ -289,6 +333,22 @@ def test_the_names_of_groups_are_quoted_in_a_script(tmp_path, way):
     said = [line for line in ran.stderr.split("\n") if line and not line.startswith("cat: ") and "kill" not in line]
     assert said == [] and ran.stderr.count("No such file") == len(NAMES)
     assert os.listdir(tmp_path) == [], "the script removes what it made, and nothing else was made"
+
+
+def test_a_script_keeps_what_it_needs_in_any_folder(tmp_path):
+    """It talks to its processes by fifos, below TMPDIR."""
+    place, folder = tmp_path / "it's $(id>hit) here", tmp_path / "folder"
+    place.mkdir()
+    folder.mkdir()
+    commands = [["fork", "1", "2"], ["fork", "2", "3"], ["exit", "3"], ["exit", "2"]]
+    script = (
+        "\n".join(shell_script(Difference("free", commands, BUSY, Answer("EINVAL")), str(folder))) + "\necho $p2,$p3\n"
+    )
+    words = dict(os.environ, LC_ALL="C", TMPDIR=str(place))
+    ran = subprocess.run(["sh"], input=script, text=True, capture_output=True, timeout=60, env=words)
+    assert re.fullmatch(r"\d+,\d+\n", ran.stdout), ran.stderr
+    assert not re.search("mkfifo|rm: |No such file|ambiguous|cannot", ran.stderr) and os.listdir(place) == []
+    assert sorted(os.listdir(tmp_path)) == ["folder", place.name]
 
 
 def test_values_and_the_directory_are_quoted_in_a_script(tmp_path):

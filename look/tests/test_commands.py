@@ -19,7 +19,9 @@ import makhloeum
 from makhloeum import Hierarchy
 from makhloeum.look.tree import draw, of_directory, of_hierarchy
 
-WORDS = dict(os.environ, PYTHONPATH=os.path.realpath(PYTHON), PYTHONDONTWRITEBYTECODE="1")
+# what would change how a tree is drawn
+OTHERS = {name: word for name, word in os.environ.items() if name not in ("COLUMNS", "LINES", "NO_COLOR")}
+WORDS = dict(OTHERS, PYTHONPATH=os.path.realpath(PYTHON), PYTHONDONTWRITEBYTECODE="1")
 PROGRAM = os.environ.get("MAKHLOEUM") or os.path.join(HERE, "..", "..", "mount", "out", "makhloeum")
 
 
@@ -50,6 +52,22 @@ def test_view_makes_a_page(tmp_path):
         make(tmp_path / "one.trace", tmp_path / name)
         assert run("view", "one.trace", "-o", name, cwd=tmp_path)[0] == 2
     assert (tmp_path / "one.trace").read_text() == "mkdir /a\n"
+
+
+def test_a_command_finds_its_package_through_a_link(tmp_path):
+    command, link = (
+        tmp_path / "lib" / "makhloeum" / "makhloeum-view",
+        tmp_path / "home" / "me" / "bin" / "makhloeum-view",
+    )
+    for folder in (command.parent, link.parent, tmp_path / "share" / "makhloeum"):
+        folder.mkdir(parents=True)
+    shutil.copy(os.path.join(HERE, "..", "makhloeum-command"), command)
+    (tmp_path / "share" / "makhloeum" / "python").symlink_to(os.path.realpath(PYTHON))
+    link.symlink_to(command)
+    without = {name: value for name, value in WORDS.items() if name != "PYTHONPATH"}
+    for path in (command, link):
+        ran = subprocess.run([path, "--help"], capture_output=True, env=without, timeout=60)
+        assert (ran.returncode, ran.stderr) == (0, b"") and ran.stdout, path
 
 
 def test_view_says_in_one_sentence_what_is_wrong(tmp_path):

@@ -69,6 +69,23 @@ def test_every_command_is_audited():
                 history.audit()
 
 
+def test_an_undone_kill_of_a_group_that_was_removed_and_restored():
+    with Hierarchy() as h:
+        history = History(h)
+        for line in (
+            "mkdir /a",
+            "fork 1 2",
+            "write /a cgroup.procs 2",
+            "write /a cgroup.kill 1",
+            "rmdir /a",
+            "undo",
+            "undo",
+        ):
+            history.line(line.encode())
+            history.audit()
+        assert [*history.copy.at("/a").pids] == [2]
+
+
 def test_a_wrong_state_is_not_shown():
     with Hierarchy() as h:
         history = History(h)

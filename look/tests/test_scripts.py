@@ -8,7 +8,7 @@ from makhloeum.check.script import explained, said, shell_script
 
 DONE, BUSY = Answer("ok"), Answer("EBUSY", "", "hasprocesses")
 STARTS = 'sleep 99 & p{0}=$!; k="$k $!"'
-FORKER = 'mkfifo $d/{0}; p {0} & p{0}=$!; k="$k $!"'
+FORKER = 'mkfifo "$d"/{0}; p {0} & p{0}=$!; k="$k $!"'
 REREAD = "python3 -c 'import os; print(os.pread(0, 65536, 0).decode(), end=\"\")'"
 
 
@@ -29,7 +29,7 @@ def body(*lines, way="free", control=False, ours=BUSY, theirs=DONE):
     rest = script[4:]
     forks = [line for line in rest if line.startswith(("p()", "f()"))]
     assert [line[:3] for line in forks] in ([], ["p()", "f()"]) and rest[: len(forks)] == forks
-    needs = any("$d/" in line for line in rest[len(forks) :])
+    needs = any("$d/" in line.replace('"', "") for line in rest[len(forks) :])
     assert needs == bool(forks), "only a script whose processes fork has their functions"
     return rest[len(forks) :]
 

@@ -1,6 +1,8 @@
 """The tree as text: bars, columns and numbers, each by a table; and the words of `view` and `tree`."""
 
+import io
 import os
+import re
 
 import pytest
 import support  # noqa: F401: it puts the package on the path
@@ -8,6 +10,8 @@ import support  # noqa: F401: it puts the package on the path
 from makhloeum import PidsMax, mounted_at
 from makhloeum.look import tree, view
 from makhloeum.look.tree import Node, draw, of_directory
+
+LONG = 120  # seconds: a wait ends at once if what it waits for has come
 
 
 def node(name="g", processes=(), below=(), **numbers):
@@ -46,6 +50,30 @@ def test_a_bar_is_the_count_as_a_part_of_the_limit(current, limit, peak, bar):
     parts = tree._bar(node(current=current, limit=limit, peak=peak))
     is_full = current is not None and limit is not None and current >= limit
     assert ("full" in {kind for _, kind in parts}) == is_full and "".join(text for text, _ in parts) == bar
+
+
+WIDE = node(current=123456, limit=1234567, peak=9, populated=True, here=1, total=2, processes=[1])
+DEEP = node("much longer", current=1, limit=None, peak=123456789012, populated=False, processes=[2])
+ONLY_NAME = node("x", processes=[3])
+
+
+@pytest.mark.parametrize("is_ascii", [False, True])
+@pytest.mark.parametrize("rows", [[WIDE, DEEP, ONLY_NAME], [DEEP, WIDE, ONLY_NAME], [ONLY_NAME, DEEP, WIDE]])
+def test_the_columns_are_below_each_other(rows, is_ascii):
+    first, *more = rows
+    root = node(first.name, first.processes, more)
+    for number in ("current", "limit", "peak", "populated", "here", "total"):
+        setattr(root, number, getattr(first, number))
+    lines = draw(root, is_ascii=is_ascii).split("\n")[:-1]
+    for words in ("peak|peak", "populated|empty", r"\d$|\d$"):
+        assert len({found.start() for line in lines for found in [re.search(words, line)] if found}) == 1, lines
+    assert len({found.end() for line in lines for found in [re.search(r"/(\d+|max)", line)] if found}) == 1, lines
+
+
+def test_a_blank_has_no_colour():
+    for rows in ([WIDE, DEEP, ONLY_NAME], [ONLY_NAME]):
+        told = draw(node("top", below=rows), colour=True)
+        assert "\x1b[" in told and not re.search(r"\x1b\[[\d;]+m *\x1b\[0m", told)
 
 
 def test_each_part_of_a_line_has_its_colour():
@@ -245,12 +273,12 @@ def test_a_wait_ends_with_a_change_and_takes_it(followed):
     with open("/cg/a/b/cgroup.procs", "w") as file:
         file.write("1")
     assert ready(watch) == ["/cg/a/b/cgroup.events", "/cg/a/cgroup.events"]
-    watch.wait(3600)
+    watch.wait(LONG)
     assert ready(watch) == [], "a file that was read waits for the next change"
     h.write("/a", "pids.max", 1)
     with pytest.raises(PidsMax):
         h.fork(1, 2)
-    watch.wait(3600)
+    watch.wait(LONG)
     watch.wait(0)
     assert ready(watch) == []
 
@@ -258,8 +286,18 @@ def test_a_wait_ends_with_a_change_and_takes_it(followed):
 def test_a_group_that_is_gone_is_watched_no_more(followed):
     h, watch = followed
     os.rmdir("/cg/a/b")
-    watch.wait(3600)
+    watch.wait(LONG)
     assert set(watch.files) == {"/cg/a/cgroup.events", "/cg/a/pids.events"}
+
+
+def test_a_closed_file_is_not_waited_for(followed):
+    h, watch = followed
+    h.rmdir("/a/b")
+    watch.follow(of_directory("/cg"))
+    assert len(watch.files) == 2 and {it for it, _ in watch.poll.poll(0)} <= set(watch.files.values())
+    watch.wait(0)
+    watch.follow(node())
+    assert watch.files == {} and watch.poll.poll(0) == []
 
 
 def test_at_most_so_many_groups_are_watched(monkeypatch):
@@ -271,3 +309,89 @@ def test_at_most_so_many_groups_are_watched(monkeypatch):
         watch.follow(of_directory("/cg"))
         assert {os.path.dirname(path) for path in watch.files} == {"/cg/a", "/cg/b"}, "the root is one of them"
         watch.close()
+
+
+# ---- what --watch draws
+
+
+class Screen(io.StringIO):
+    """An output that is a terminal or not."""
+
+    def __init__(self, is_terminal):
+        super().__init__()
+        self.is_terminal, self.flushed = is_terminal, []
+
+    def isatty(self):
+        return self.is_terminal
+
+    def flush(self):
+        self.flushed.append(self.getvalue())
+
+
+@pytest.mark.parametrize("is_terminal", [False, True])
+def test_a_watch_draws_changes_until_the_directory_is_gone(tmp_path, monkeypatch, is_terminal):
+    (tmp_path / "cgroup.procs").write_text("")
+    monkeypatch.setenv("TERM", "dumb")
+    monkeypatch.setenv("COLUMNS", "80")
+    waits = [
+        lambda: (tmp_path / "pids.current").write_text("3\n"),
+        lambda: None,
+        lambda: (tmp_path / "cgroup.procs").unlink(),
+    ]
+    monkeypatch.setattr(tree.Watch, "wait", lambda self, seconds: waits.pop(0)() and None)
+    monkeypatch.setattr(tree.time, "sleep", lambda seconds: None)
+    closed, followed = [], []
+    monkeypatch.setattr(tree.Watch, "close", lambda self: closed.append(self.folder))
+    monkeypatch.setattr(tree.Watch, "follow", lambda self, node: followed.append(node.current))
+    monkeypatch.setattr(tree, "of_directory", lambda folder: of_directory(folder, "top"))
+    screen = Screen(is_terminal)
+    tree.watch(str(tmp_path), 5, screen)
+    first, second = "top\n", "top" + " " * 16 + "3/max\n"
+    clear = "\x1b[H\x1b[2J"
+    wanted = clear + first + clear + second if is_terminal else f"{first}\n{second}"
+    assert screen.getvalue() == wanted and waits == [] and closed == [str(tmp_path)]
+    assert [text.count("top") for text in screen.flushed] == [1, 2] and followed == [None, 3, 3], "each is seen at once"
+
+
+def test_changes_that_come_together_are_drawn_once(tmp_path, monkeypatch):
+    """After a change it waits another 20 ms, but no longer than the time between two looks."""
+    (tmp_path / "cgroup.procs").write_text("")
+    now, slept = [100.0], []
+
+    def wait(self, seconds):
+        now[0] += lasts.pop(0)
+        if not lasts:
+            (tmp_path / "cgroup.procs").unlink()
+
+    lasts = [0.0, 0.49, 0.495, 0.7]
+    monkeypatch.setattr(tree.Watch, "wait", wait)
+    monkeypatch.setattr(tree.time, "monotonic", lambda: now[0])
+    monkeypatch.setattr(tree.time, "sleep", slept.append)
+    tree.watch(str(tmp_path), 0.5, Screen(False))
+    assert [round(it, 3) for it in slept] == [0.02, 0.01, 0.005, 0]
+
+
+@pytest.mark.parametrize(
+    "failure, status, said",
+    [
+        (KeyboardInterrupt(), 0, ""),
+        (OSError(5, "Input/output error"), 1, "makhloeum tree: [Errno 5] Input/output error\n"),
+    ],
+)
+def test_what_ends_a_tree(tmp_path, monkeypatch, capsys, failure, status, said):
+    def fails(*words):
+        raise failure
+
+    (tmp_path / "cgroup.procs").write_text("")
+    monkeypatch.setattr(tree, "watch", fails)
+    assert tree.main([str(tmp_path), "--watch"]) == status and capsys.readouterr() == ("", said)
+
+
+def test_a_page_without_memory(tmp_path, monkeypatch, capsys):
+    def fails(*words):
+        raise MemoryError
+
+    (tmp_path / "t").write_text("mkdir /a\n")
+    monkeypatch.setattr(view, "page", fails)
+    assert view.main([str(tmp_path / "t")]) == 1 and capsys.readouterr() == ("", "makhloeum view: out of memory\n")
+    assert not (tmp_path / "t.html").exists()

@@ -94,9 +94,50 @@ static int history(void)
 	return 0;
 }
 
+/* As many groups as there can be, with the longest names beside each other, and with the longest paths below each other. */
+static int listings(void)
+{
+	char path[PATH_BYTES + 1], name[NAME_BYTES + 1];
+	uint8_t none[1];
+	CHECK(done(mk_undo_to(&h, 0, &info)));
+	for (int i = 0; i < GROUPS; i++) {
+		snprintf(path, sizeof path, "/%0*d", NAME_BYTES, i);
+		CHECK(done(mk_mkdir(&h, path, &info)));
+	}
+	CHECK(mk_children(&h, (const uint8_t *)"/", 1, none, 0, &info) == MK_TOO_SMALL && info.needed == MK_CHILDREN_MAX);
+	CHECK(done(mk_undo_to(&h, 0, &info)));
+	longest_path(path);
+	int made = 0;
+	for (size_t end = NAME_BYTES + 1; end < PATH_BYTES; end += NAME_BYTES + 1, made++) {
+		path[end] = 0;
+		CHECK(done(mk_mkdir(&h, path, &info)));
+		path[end] = '/';
+	}
+	char *last = strrchr(path, '/') + 1;
+	size_t needed = (size_t)(GROUPS - made) * (PATH_BYTES + 1);
+	for (int i = 0; made + i < GROUPS; i++) {
+		snprintf(name, sizeof name, "%0*d", NAME_BYTES - 1, i);
+		memcpy(last, name, NAME_BYTES);
+		CHECK(done(mk_mkdir(&h, path, &info)));
+	}
+	CHECK(mk_groups(&h, none, 0, &info) == MK_TOO_SMALL && info.needed > needed && info.needed < MK_GROUPS_MAX);
+	CHECK(MK_GROUPS_MAX == (GROUPS + 1) * (PATH_BYTES + 1) && done(mk_undo_to(&h, 0, &info)));
+	return 0;
+}
+
+/* A first line with the greatest number of a line, and a line for each pid. */
+static int answers(void)
+{
+	char first[64];
+	size_t len = (size_t)snprintf(first, sizeof first, "%llu ok\n| %d\n", (unsigned long long)UINT64_MAX, GREATEST_PID);
+	size_t each = strlen("| 4194303\n");
+	CHECK(MK_ANSWER_MAX >= len + each * (GREATEST_PID - 1) && MK_ANSWER_MAX - (len + each * (GREATEST_PID - 1)) < 32);
+	return 0;
+}
+
 int main(void)
 {
-	int (*const parts[])(void) = { pids, other_files, paths, history };
+	int (*const parts[])(void) = { pids, other_files, paths, history, listings, answers };
 	if (mk_open(&h) != MK_DONE)
 		return 1;
 	return run_and_close(parts, sizeof parts / sizeof *parts);

@@ -249,6 +249,10 @@ static int failing(void)
 	CHECK(done(mk_fail(&h, "/a", 1, EIO, &info)) &&
 		failed(mk_words(&h, 1, "mkdir/a", (const size_t[]){ 5, 2 }, 2, out, sizeof out, &info), EIO));
 	CHECK(mk_depth(&h, &after) == MK_DONE && after == before && reads("/a", "pids.max", "max\n"));
+	/* a write of a value is one call */
+	CHECK(done(mk_fail(&h, "/a", 2, EIO, &info)) && done(mk_put(&h, "/a", "pids.max", "5", 1, 1, &info)) &&
+		failed(mk_put(&h, "/a", "pids.max", "6", 1, 1, &info), EIO) && reads("/a", "pids.max", "5\n"));
+	CHECK(done(mk_put(&h, "/a", "pids.max", "max", 3, 1, &info)));
 	/* a call that does not name the path, and a call that is made again with a larger buffer */
 	CHECK(done(mk_fail(&h, "/a", 2, EIO, &info)) &&
 		mk_line(&h, 1, (const uint8_t *)"# /a", 4, out, sizeof out, &info) == MK_SKIPPED);

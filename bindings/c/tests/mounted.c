@@ -52,7 +52,8 @@ static void table(void)
 static const char *const words[] = { "", "0", "1", "2", "9", "max", "MAX", "maxx", "-0", "-1", "+5", "+-5", "08", "010",
 	"0x", "0x10", "0X1f", "-0x1", "0xg", "1 2", "1.0", "x", "1x", "2147483646", "2147483647", "2147483648", "4194303",
 	"4194304", "4194305", "9223372036854775807", "9223372036854775808", "-9223372036854775808", "-9223372036854775809",
-	"18446744073709551615", "18446744073709551616", "99999999999999999999x", "0xffffffffffffffffff",
+	"18446744073709551615", "18446744073709551616", "184467440737095516160", "-184467440737095516161",
+	"99999999999999999999x", "0xffffffffffffffffff", "0x100000000000000001", "02000000000000000000001",
 	"0777777777777777777777777", "+pids", "pids", "-pids", "+pids +pids", "domain", "threaded", "0\n", "\v5\f", "\2407",
 	"7\240", "3\n\n" };
 static const char *const blanks[] = { "", " ", "\n", "\t\r\n" };
@@ -155,6 +156,18 @@ static void others(void)
 		"and more");
 	CHECK(strcmp(text, "0::/a\n") == 0 && put("/a", "cgroup.procs", "0", 9) == ESRCH,
 		"%s, and a caller that is no process", text);
+	char name[300] = "/", path[5000] = "/";
+	memset(name + 1, 'x', 256);
+	for (size_t at = 1; at < 4096; at += 2)
+		memcpy(path + at, "x/", 3);
+	path[4096] = 0;
+	CHECK(put(name, "pids.max", "1", 1) == ENAMETOOLONG && info.code == MK_PATH &&
+			put(path, "cgroup.type", "domain", 1) == ENAMETOOLONG && info.code == MK_PATH,
+		"a group whose name or path is too long");
+	CHECK(put("/a b", "pids.max", "x", 1) == ENOENT && info.code == MK_PATH &&
+			put("/pids.x", "none", "1", 1) == ENOENT && put("/a/", "pids.max", "1", 1) == ENOENT &&
+			info.code == MK_PATH,
+		"a group that no hierarchy can have");
 	CHECK(mk_path_errno(0) == 0 && mk_path_errno(MK_NAME_TOO_LONG) == ENAMETOOLONG &&
 			mk_path_errno(MK_PATH_TOO_LONG) == ENAMETOOLONG,
 		"long names");

@@ -94,6 +94,28 @@ static int small(void)
 	return 0;
 }
 
+/* A call that returns MK_TOO_SMALL counts for no fault: the next one returns the answer, and the one after it fails. */
+static int again(void)
+{
+	static const size_t lens[] = { 3, 2, 8 };
+	uint32_t pids[1];
+	for (int call = 0; call < 6; call++) {
+		static const uint32_t wanted[] = { MK_TOO_SMALL, MK_DONE, MK_FAILED };
+		CHECK(done(mk_fail(&h, "/a", 2, ENOSPC, &info)));
+		for (int round = 0; round < 3; round++) {
+			size_t size = round == 0 ? 1 : sizeof out;
+			uint32_t status = call == 0 ? mk_line(&h, 1, bytes("cat /a pids.max"), 15, out, size, &info)
+				: call == 1             ? mk_words(&h, 1, "cat/apids.max", lens, 3, out, size, &info)
+				: call == 2             ? mk_children(&h, bytes("/a"), 2, out, size, &info)
+				: call == 3             ? mk_subtree(&h, bytes("/a"), 2, out, size, &info)
+				: call == 4             ? mk_read(&h, "/a", "pids.max", text, size, &info)
+										: mk_processes(&h, "/a", pids, round == 0 ? 0 : 1, &info);
+			CHECK(status == wanted[round] && (status != MK_FAILED || info.error == ENOSPC));
+		}
+	}
+	return 0;
+}
+
 /* ---- codes and statuses, as docs/FORMATS.md has them */
 
 static int codes(void)
@@ -102,23 +124,30 @@ static int codes(void)
 		uint32_t code;
 		const char *name;
 		int error;
-	} each[] = { { MK_EXISTS, "exists", EEXIST }, { MK_NO_GROUP, "nogroup", ENOENT },
-		{ MK_DESCENDANTS, "descendants", EAGAIN }, { MK_DEPTH, "depth", EAGAIN }, { MK_NO_SLOT, "noslot", ENOSPC },
-		{ MK_ROOT_FIXED, "rootfixed", EBUSY }, { MK_HAS_CHILDREN, "haschildren", EBUSY },
-		{ MK_HAS_PROCESSES, "hasprocesses", EBUSY }, { MK_NO_PROCESS, "noprocess", ESRCH },
-		{ MK_PID_IN_USE, "pidinuse", EEXIST }, { MK_PIDS_MAX, "pidsmax", EAGAIN }, { MK_NO_FILE, "nofile", ENOENT },
-		{ MK_NOT_READABLE, "direction", EINVAL }, { MK_NOTHING_TO_UNDO, "nothing", ENODATA },
-		{ MK_SYNTAX, "syntax", EINVAL }, { MK_PATH, "path", EINVAL }, { MK_FILE, "file", ENOENT },
-		{ MK_DIRECTION, "direction", EINVAL }, { MK_VALUE, "value", EINVAL } };
+		const char *about; /* what the message is about */
+	} each[] = { { MK_EXISTS, "exists", EEXIST, "group exists" }, { MK_NO_GROUP, "nogroup", ENOENT, "no such group" },
+		{ MK_DESCENDANTS, "descendants", EAGAIN, "descendants" }, { MK_DEPTH, "depth", EAGAIN, "depth" },
+		{ MK_NO_SLOT, "noslot", ENOSPC, "1,024 groups" }, { MK_ROOT_FIXED, "rootfixed", EBUSY, "root" },
+		{ MK_HAS_CHILDREN, "haschildren", EBUSY, "has children" },
+		{ MK_HAS_PROCESSES, "hasprocesses", EBUSY, "has processes" },
+		{ MK_NO_PROCESS, "noprocess", ESRCH, "no such process" },
+		{ MK_PID_IN_USE, "pidinuse", EEXIST, "pid is in use" },
+		{ MK_PIDS_MAX, "pidsmax", EAGAIN, "number of processes" },
+		{ MK_NO_FILE, "nofile", ENOENT, "root has no such file" }, { MK_NOT_READABLE, "direction", EINVAL, "read" },
+		{ MK_NOTHING_TO_UNDO, "nothing", ENODATA, "undo" }, { MK_SYNTAX, "syntax", EINVAL, "command" },
+		{ MK_PATH, "path", EINVAL, "not a path" }, { MK_FILE, "file", ENOENT, "no file" },
+		{ MK_DIRECTION, "direction", EINVAL, "read or written" }, { MK_VALUE, "value", EINVAL, "value" } };
 	for (size_t i = 0; i < sizeof each / sizeof *each; i++) {
 		CHECK(strcmp(mk_name(each[i].code), each[i].name) == 0 && mk_errno(each[i].code) == each[i].error);
 		uint32_t status = each[i].code < MK_SYNTAX ? MK_REFUSED : MK_FAULT;
 		CHECK(mk_status_errno(status, each[i].code) == each[i].error && mk_status_errno(MK_DONE, each[i].code) == 0);
-		CHECK(mk_status_errno(MK_CLOSED, each[i].code) == EBADF && strlen(mk_message(each[i].code)) > 8);
+		CHECK(mk_status_errno(MK_CLOSED, each[i].code) == EBADF &&
+			strstr(mk_message(each[i].code), each[i].about) != NULL);
 		for (size_t other = 0; other < i; other++)
 			CHECK(strcmp(mk_message(each[i].code), mk_message(each[other].code)) != 0);
 	}
-	CHECK(mk_message(0) != NULL && mk_message(15) == NULL && mk_message(31) == NULL && mk_name(UINT32_MAX) == NULL);
+	CHECK(strcmp(mk_message(0), "done") == 0 && strcmp(mk_name(0), "ok") == 0);
+	CHECK(mk_message(15) == NULL && mk_message(31) == NULL && mk_message(37) == NULL && mk_name(UINT32_MAX) == NULL);
 	return 0;
 }
 
@@ -127,11 +156,15 @@ static int statuses(void)
 	static const struct {
 		uint32_t status;
 		int error;
-	} each[] = { { MK_DONE, 0 }, { MK_TOO_SMALL, ERANGE }, { MK_OUT_OF_MEMORY, ENOMEM }, { MK_SKIPPED, 0 },
-		{ MK_CLOSED, EBADF }, { MK_BUSY, EDEADLK }, { MK_TIMED_OUT, ETIMEDOUT }, { MK_FAILED, EIO },
-		{ MK_WOULD_BLOCK, EAGAIN } };
+		const char *about;
+	} each[] = { { MK_DONE, 0, "done" }, { MK_REFUSED, EBUSY, "refused" }, { MK_FAULT, EBUSY, "not a command" },
+		{ MK_TOO_SMALL, ERANGE, "buffer" }, { MK_OUT_OF_MEMORY, ENOMEM, "memory" }, { MK_SKIPPED, 0, "line" },
+		{ MK_CLOSED, EBADF, "no engine" }, { MK_BUSY, EDEADLK, "this thread" },
+		{ MK_TIMED_OUT, ETIMEDOUT, "nothing has changed" }, { MK_FAILED, EIO, "mk_fail" },
+		{ MK_WOULD_BLOCK, EAGAIN, "another thread" } };
 	for (size_t i = 0; i < sizeof each / sizeof *each; i++) {
-		CHECK(mk_status_errno(each[i].status, 0) == each[i].error && mk_status_message(each[i].status) != NULL);
+		CHECK(mk_status_errno(each[i].status, MK_ROOT_FIXED) == each[i].error);
+		CHECK(strstr(mk_status_message(each[i].status), each[i].about) != NULL);
 		for (size_t other = 0; other < i; other++)
 			CHECK(strcmp(mk_status_message(each[i].status), mk_status_message(each[other].status)) != 0);
 	}
@@ -142,16 +175,20 @@ static int statuses(void)
 /* The first two are too long; a name that is too deep is refused as by a limit; no other can be the name of a group. */
 static int faults_of_paths(void)
 {
-	static const int errors[] = { [MK_NOT_ROOTED] = EINVAL,
-		[MK_PATH_TOO_LONG] = ENAMETOOLONG,
-		[MK_TOO_DEEP] = EAGAIN,
-		[MK_EMPTY_NAME] = EINVAL,
-		[MK_BAD_BYTE] = EINVAL,
-		[MK_NAME_TOO_LONG] = ENAMETOOLONG,
-		[MK_DOT_NAME] = EINVAL,
-		[MK_RESERVED] = EINVAL };
-	for (uint32_t fault = MK_NOT_ROOTED; fault <= MK_RESERVED; fault++) {
-		CHECK(mk_path_errno(fault) == errors[fault] && mk_path_message(fault) != NULL);
+	static const struct {
+		int error;
+		const char *about;
+	} each[] = { [0] = { 0, "a path" },
+		[MK_NOT_ROOTED] = { EINVAL, "begins with a slash" },
+		[MK_PATH_TOO_LONG] = { ENAMETOOLONG, "path has more than 4,095 bytes" },
+		[MK_TOO_DEEP] = { EAGAIN, "32 names" },
+		[MK_EMPTY_NAME] = { EINVAL, "empty" },
+		[MK_BAD_BYTE] = { EINVAL, "this byte" },
+		[MK_NAME_TOO_LONG] = { ENAMETOOLONG, "name has more than 255 bytes" },
+		[MK_DOT_NAME] = { EINVAL, "`..`" },
+		[MK_RESERVED] = { EINVAL, "`cgroup.` or `pids.`" } };
+	for (uint32_t fault = 0; fault <= MK_RESERVED; fault++) {
+		CHECK(mk_path_errno(fault) == each[fault].error && strstr(mk_path_message(fault), each[fault].about) != NULL);
 		for (uint32_t other = 0; other < fault; other++)
 			CHECK(strcmp(mk_path_message(fault), mk_path_message(other)) != 0);
 	}
@@ -271,7 +308,8 @@ static int constants(void)
 
 int main(void)
 {
-	int (*const parts[])(void) = { commands, reads, small, codes, statuses, faults_of_paths, files, digits, constants };
+	int (*const parts[])(
+		void) = { commands, reads, small, again, codes, statuses, faults_of_paths, files, digits, constants };
 	if (mk_open(&h) != MK_DONE)
 		return 1;
 	return run_and_close(parts, sizeof parts / sizeof *parts);

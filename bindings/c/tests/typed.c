@@ -162,6 +162,11 @@ static int marks(void)
 static int forgets(void)
 {
 	size_t depth;
+	uint64_t before, after;
+	/* what is forgotten changes no group, process or count */
+	CHECK(done(mk_mkdir(&h, "/f", &info)) && mk_changes(&h, &before) == MK_DONE);
+	CHECK(mk_forget(&h) == MK_DONE && mk_forget(&h) == MK_DONE && mk_wait(&h, before, 0, &after) == MK_TIMED_OUT);
+	CHECK(done(mk_rmdir(&h, "/f", &info)) && mk_wait(&h, before, 0, &after) == MK_DONE && after == before + 1);
 	CHECK(mk_forget(&h) == MK_DONE && done(mk_mkdir(&h, "/f", &info)) && done(mk_fork(&h, 1, 8, &info)));
 	CHECK(done(mk_attach(&h, "/f", 8, &info)) && done(mk_write(&h, "/f", "pids.max", "1", &info)));
 	CHECK(refused(mk_fork(&h, 8, 9, &info), MK_PIDS_MAX, EAGAIN) && mk_forget(&h) == MK_DONE);

@@ -109,7 +109,7 @@ static int full_seconds(void)
 			now() - start < 30);
 	}
 	double start = now();
-	CHECK(mk_wait(&h, seen, 1150, &next) == MK_TIMED_OUT && now() - start >= 1.15);
+	CHECK(mk_wait(&h, seen, 1150, &next) == MK_TIMED_OUT && now() - start >= 1.15 && now() - start < 10);
 	return 0;
 }
 

@@ -270,6 +270,7 @@ def test_a_file_is_no_folder(h, real):
         for call in (os.stat, os.lstat, os.mkdir, os.rmdir, os.readlink):
             assert code(call, "x", dir_fd=fd) == "ENOTDIR", call
         assert code(os.listdir, fd) == code(os.scandir, fd) == code(os.listdir, f"{top}/a/pids.max") == "ENOTDIR"
+        assert code(os.listdir, f"{top}/b/pids.max") == code(os.scandir, f"{top}/b/cgroup.type") == "ENOENT"
         assert not os.access("x", os.F_OK, dir_fd=fd)
         os.close(fd)
 
@@ -280,12 +281,22 @@ def test_two_paths_beside_descriptors(h, real):
         assert code(call, "pids.max", "x", src_dir_fd=served, dst_dir_fd=folder) == "EPERM"
         assert code(call, "a/pids.max", "x", src_dir_fd=folder, dst_dir_fd=served) == "EPERM"
     assert code(os.symlink, "elsewhere", "x", dir_fd=served) == code(os.unlink, "pids.max", dir_fd=served) == "EPERM"
+    assert code(os.symlink, f"{AT}/none/none", "x", dir_fd=served) == "EPERM"  # nobody looks its text up
     assert code(os.unlink, "none", dir_fd=served) == "ENOENT" and code(os.mkfifo, "x", dir_fd=served) == "EACCES"
     os.rename("a/pids.max", "moved", src_dir_fd=folder, dst_dir_fd=folder)
     os.symlink("moved", "link", dir_fd=folder)
     assert os.readlink("link", dir_fd=folder) == "moved" and sorted(os.listdir(real)) == ["a", "link", "moved"]
     for fd in (served, folder):
         os.close(fd)
+
+
+def test_a_real_directory_has_the_mode_that_is_asked_for(h, real):
+    os.mkdir(f"{real}/private", 0o700)
+    os.mkdir("beside", 0o500, dir_fd=(folder := os.open(real, os.O_RDONLY)))
+    os.close(folder)
+    modes = [stat.S_IMODE(os.stat(f"{real}/{name}").st_mode) for name in ("private", "beside")]
+    assert modes == [0o700, 0o500]
+    assert stat.S_IMODE(os.stat(tempfile.mkdtemp(dir=real)).st_mode) == 0o700
 
 
 # ---- what is refused, and what does nothing

@@ -1,7 +1,11 @@
 """The parts of `makhloeum check` that need no directory. look/test-check has the others."""
 
+import pathlib
+import re
 import subprocess
 import sys
+
+import pytest
 
 from makhloeum.check import known
 from makhloeum.check.differences import CONTRADICTION, difference
@@ -80,6 +84,77 @@ def test_known_differences_have_their_names():
         engine.close()
 
 
+STAT = "nr_descendants 2\nnr_dying_descendants 0\n"
+LONG = "/" + "x" * 60
+OLD = {**FOUND, "missing": ["pids.events.local"]}
+KERNEL = {**FOUND, "kind": "cgroup2"}
+
+
+@pytest.mark.parametrize(
+    "line, ours, theirs, found, wanted",
+    [
+        # a kernel before 6.11 counts at the group of the process that forks, and nowhere else
+        ("cat /a pids.events", "max 1\n", "max 0\n", OLD, known.OLD_EVENTS),
+        ("cat /a/b pids.events", "max 0\n", "max 1\n", OLD, known.OLD_EVENTS),
+        ("cat /a/c pids.events", "max 0\n", "max 1\n", OLD, CONTRADICTION),
+        ("cat /a/b pids.events", "max 0\n", "max 2\n", OLD, CONTRADICTION),
+        ("cat /a/b pids.events", "max 0\n", "max 1\n", FOUND, CONTRADICTION),
+        ("reread /a/b pids.events", "max 0\n", "max 1\n", OLD, known.OLD_EVENTS),
+        ("cat /a/b pids.peak", "1\n", "2\n", FOUND, known.REFUSED_RAISES),
+        ("cat /a/c pids.peak", "1\n", "2\n", FOUND, CONTRADICTION),
+        ("cat /a pids.peak", "1\n", "2\n", FOUND, known.MOVE_RAISES),
+        ("cat /a pids.peak", "1\n", "0\n", FOUND, CONTRADICTION),
+        ("cat /a pids.peak", "1\n", "x\n", FOUND, CONTRADICTION),
+        ("cat /a pids.current", "1\n", "2\n", FOUND, CONTRADICTION),
+        ("cat /a pids.current", "1\n", "1\n", FOUND, None),
+        ("cat /a cgroup.stat", STAT, STAT + "nr_dying_subsys_pids 1\n", FOUND, known.MORE_KEYS),
+        ("cat /a cgroup.stat", STAT, STAT + "nr_other 1\n", FOUND, CONTRADICTION),
+        (
+            "cat /a cgroup.stat",
+            STAT,
+            STAT.replace(" 0", " 1") + "nr_subsys_pids 3\n",
+            FOUND,
+            known.DYING,
+        ),
+        ("list /a", "b c\n\n", "b\n\n", FOUND, CONTRADICTION),
+        ("list /a", "b c\n\n", "b c\n\n", FOUND, None),
+        ("fork 2 3", "EAGAIN pidsmax /a", "ok", FOUND, known.NOT_STOPPED),
+        ("fork 2 3", "EAGAIN pidsmax /a", "ok", KERNEL, CONTRADICTION),
+        ("fork 9 3", "ESRCH noprocess 9", "ok", FOUND, CONTRADICTION),
+        ("mkdir /d", "ENOSPC noslot", "ok", FOUND, known.MOST_GROUPS),
+        ("mkdir /d", "ENOSPC noslot", "EAGAIN", FOUND, CONTRADICTION),
+        ("mkdir /cgroup.x", "EINVAL path", "ok", FOUND, known.TAKES_MORE),
+        ("mkdir /pids.max", "EINVAL path", "EEXIST", FOUND, known.FILE_NAMES),
+        ("mkdir /pids.max", "EINVAL path", "EPERM", FOUND, CONTRADICTION),
+        ("mkdir /x.y", "EINVAL path", "ENOENT", FOUND, known.GROUP_FIRST),
+        ("mkdir " + LONG, "EINVAL path", "ENAMETOOLONG", FOUND, known.LONG_NAMES),
+        ("mkdir " + LONG, "EINVAL path", "EAGAIN", FOUND, known.LONG_NAMES),
+        ("mkdir " + LONG[:-1], "EINVAL path", "ENAMETOOLONG", FOUND, CONTRADICTION),
+        ("write /a pids.current 1", "EINVAL direction", "EACCES", FOUND, known.AT_THE_OPEN),
+        ("write /a pids.current 1", "EINVAL direction", "EPERM", FOUND, CONTRADICTION),
+        ("write /a pids.current 1", "EINVAL direction", "ok", FOUND, CONTRADICTION),
+        ("write /n pids.current 1", "EINVAL direction", "ENODEV", FOUND, known.GROUP_FIRST),
+        ("cat /n no.such", "ENOENT file", "ENODEV", FOUND, known.GROUP_FIRST),
+        ("cat /n pids.max", "ENOENT nogroup /n", "ENODEV", FOUND, CONTRADICTION),
+        ("rmdir /a", "EBUSY haschildren", "EBUSY", FOUND, None),
+        ("rmdir /a", "EBUSY haschildren", "ok", FOUND, CONTRADICTION),
+    ],
+)
+def test_what_is_a_known_difference_and_what_is_none(line, ours, theirs, found, wanted):
+    """Errnos begin with a capital letter, the engine's with its reply; the others are texts."""
+    engine = played(
+        "mkdir /a\nmkdir /a/b\nmkdir /a/c\nfork 1 2\nwrite /a/b cgroup.procs 2\nwrite /a pids.max 1\nfork 2 3\n"
+        "write /a/c cgroup.procs 2"
+    )
+    error, _, reply = ours.partition(" ")
+    here = Answer(error, "", reply) if ours[0] == "E" else Answer("ok", ours)
+    there = Answer(theirs) if theirs == "ok" or theirs[0] == "E" else Answer("ok", theirs)
+    try:
+        assert difference(line.split(), here, there, engine, found) == wanted
+    finally:
+        engine.close()
+
+
 def test_changes_of_populated_are_counted():
     engine = played(
         "mkdir /a\nmkdir /a/b\nwatch /a\nfork 1 2\nfork 1 3\nwrite /a/b cgroup.procs 2\nwrite /a cgroup.procs 3"
@@ -144,6 +219,21 @@ def test_each_worked_sequence_is_played_once():
     names = [name for name, _, _ in worked(["free"])]
     assert "rows/own_limit-D" in names and "rows/own_limit-T" not in names
     assert "rows/own_limit-T" in [name for name, way, _ in worked(["D", "N", "T"]) if way == "T"]
+
+
+@pytest.mark.parametrize("ways", [["free"], ["D", "N", "T"], ["N"], []])
+def test_worked_sequences_are_the_recorded_ones(ways):
+    """Each with its own way, where the directory has it, or freely; none of them twice."""
+    linux = pathlib.Path(__file__).parents[3] / "evidence" / "linux"
+    wanted, seen = [], set()
+    for file in (*sorted((linux / "rows").glob("*.trace")), *sorted((linux / "text").glob("*.trace"))):
+        lines = [re.split("[ \t\r]+", line.strip(" \t\r")) for line in file.read_text("latin1").split("\n")]
+        way = "free" if ways == ["free"] else lines[0][2] if lines[0][:2] == ["#", "mode"] else "D"
+        commands = [words for words in lines if words != [""] and not words[0].startswith("#")]
+        if way in ways and (way, str(commands)) not in seen:
+            wanted.append((f"{file.parent.name}/{file.stem}", way, commands))
+        seen.add((way, str(commands)))
+    assert list(worked(ways)) == wanted and (len(wanted) > 10 or ways in (["N"], []))
 
 
 def test_a_difference_is_made_short():

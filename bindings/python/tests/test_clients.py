@@ -7,7 +7,8 @@ import time
 
 import pytest
 
-from makhloeum import BadByte, BadDirection, BadFile, BadPath, NoGroup, Refused
+from makhloeum import BadByte, BadDirection, BadFile, BadPath, NoGroup, Refused, _changes
+from makhloeum._library import DONE, TIMED_OUT
 
 
 def test_many_files_in_one_call(hierarchy):
@@ -112,6 +113,34 @@ def test_a_wait_ends_with_a_change_and_with_the_hierarchy(hierarchy):
     watcher.join(20)
     assert not watcher.is_alive()
     assert seen == [(1, ["/", "/a"]), (2, ["/", "/a", "/b"]), "wait: the hierarchy is closed"]
+
+
+@pytest.mark.parametrize(
+    "timeout, wanted",
+    [(None, [100, 100, 100]), (3600, [100, 100, 100]), (0.25, [100, 100, 50]), (0.0301, [31, 0]), (0, [0]), (-1, [0])],
+)
+def test_a_wait_looks_for_signals_ten_times_a_second(hierarchy, monkeypatch, timeout, wanted):
+    """And not beyond its end: each call of C takes as long as it was told. No part of a millisecond is left out."""
+    now, told = [1000.0], []
+
+    def waiting(at, seen, milliseconds, count):
+        told.append(milliseconds)
+        now[0] += milliseconds / 1000
+        return DONE if timeout is None and len(told) == 3 else TIMED_OUT
+
+    def monotonic():
+        if len(told) == 3 and timeout == 3600:
+            now[0] += 3600
+        return now[0]
+
+    monkeypatch.setattr(_changes, "waiting", waiting)
+    monkeypatch.setattr(_changes.time, "monotonic", monotonic)
+    if timeout is None:
+        assert hierarchy.wait(5) == 0
+    else:
+        with pytest.raises(TimeoutError, match=f"^wait: nothing has changed in {timeout} seconds$"):
+            hierarchy.wait(5, timeout=timeout)
+    assert told == wanted or told == wanted[:-1], "the last one may have nothing left to wait for"
 
 
 def test_the_nth_call_fails(hierarchy):

@@ -12,7 +12,7 @@ import pytest
 
 import makhloeum
 from makhloeum import BadByte, BadFile, BadPath, BadValue, Hierarchy, NoGroup, Refused
-from makhloeum._library import BUSY, CLOSED, OUT_OF_MEMORY, TIMED_OUT, library
+from makhloeum._library import BUSY, CLOSED, OUT_OF_MEMORY, TIMED_OUT, TOO_SMALL, library
 
 
 def test_type_checkers_find_every_error():
@@ -110,6 +110,7 @@ def test_limits_of_the_hierarchy_block_as_a_real_mkdir_does(h):
         ("/a\0", BadByte, 2),
         ("/é", BadByte, 1),
         (b"/\xff", BadByte, 1),
+        ("/a\udcff", BadByte, 2),
         ("/a/", makhloeum.EmptyName, 3),
         ("/.", makhloeum.DotName, 1),
         ("/a/pids.x", makhloeum.ReservedName, 3),
@@ -348,3 +349,20 @@ def test_a_hierarchy_that_could_not_be_closed_is_open(h, monkeypatch, status):
         h.close()
     monkeypatch.undo()
     assert not h.closed and h.children("/") == ["a", "b"]
+
+
+@pytest.mark.parametrize("name", ["mk_line", "mk_words", "mk_undo", "mk_children", "mk_subtree"])
+def test_a_buffer_does_not_grow_beyond_the_longest_answer(h, monkeypatch, name):
+    """That is a first line, and a line for each of 4,194,303 pids."""
+    call, command = CALLS[name]
+    sizes = []
+
+    def too_small(*words):
+        sizes.append(words[-2])
+        return TOO_SMALL
+
+    monkeypatch.setattr(library, name, too_small)
+    with pytest.raises(RuntimeError, match=f"^{command}: unexpected status 3 of the library: the buffer is too small$"):
+        call(h)
+    assert sizes == sorted(set(sizes)) and len(sizes) < 30
+    assert sizes[-2] <= 32 + 10 * 4194303 <= sizes[-1] < 2 * (32 + 10 * 4194303)

@@ -65,6 +65,14 @@ def test_a_closed_copy_leaves_no_memory():
         assert grown(1000, lambda: h.copy().close()) < 20_000_000
 
 
+@pytest.mark.parametrize("is_copy", [False, True])
+@pytest.mark.filterwarnings("ignore:unclosed")
+def test_a_hierarchy_that_nobody_closes_leaves_no_memory(is_copy):
+    with Hierarchy() as first:
+        make = first.copy if is_copy else Hierarchy
+        assert grown(1000, lambda: make().mkdir("/b")) < 20_000_000
+
+
 def test_a_hierarchy_is_entered_once():
     with Hierarchy() as h:
         with pytest.raises(RuntimeError):
@@ -158,3 +166,18 @@ def test_the_version_is_that_of_the_library_and_the_header():
     assert makhloeum.__version__ == version
     # the calls are declared for this soname
     assert _library._NAME == f"libmakhloeum.so.{version.split('.')[0]}"
+
+
+def test_what_a_hierarchy_says_of_its_misuse():
+    with Hierarchy() as h:
+        for call, kind, text in (
+            (h.__enter__, RuntimeError, "a hierarchy is entered once"),
+            (h.__init__, RuntimeError, "a hierarchy is initialized once"),
+            (lambda: pickle.dumps(h), TypeError, "a hierarchy cannot be pickled"),
+        ):
+            with pytest.raises(kind, match=f"^{text}$"):
+                call()
+        assert h.mkdir("/a") is None and not h.closed
+    with pytest.raises(ValueError, match="^the hierarchy is closed$"):
+        h.__enter__()
+    assert h.closed

@@ -376,10 +376,8 @@ def test_pathlib_of_each_python_finds_files(version):
     """What pathlib calls differs; where an interpreter isn't at hand, the test above has the calls of os that it makes."""
     python = shutil.which(f"python{version}")
     words = dict(os.environ, PYTHONPATH=str(pathlib.Path(__file__).parents[1]), PYENV_VERSION="")
-    words["PYENV_VERSION"] = next(
-        (it.name for it in pathlib.Path(os.environ.get("PYENV_ROOT", "/root/.pyenv"), "versions").glob(f"{version}.*")),
-        "system",
-    )
+    root = os.environ.get("PYENV_ROOT") or os.path.expanduser("~/.pyenv")
+    words["PYENV_VERSION"] = next(map(os.path.basename, glob.glob(f"{root}/versions/{version}.*")), "system")
     if python is None or subprocess.run([python, "-c", ""], env=words, capture_output=True).returncode != 0:
         pytest.skip(f"there is no Python {version}")
     ran = subprocess.run([python, "-c", GLOBBING], env=words, capture_output=True, text=True)

@@ -2,6 +2,7 @@
 
 import io
 import os
+import shlex
 import signal
 import subprocess
 import sys
@@ -32,7 +33,10 @@ def test_each_program_of_a_wheel_is_its_own_command(monkeypatch, name):
 )
 @pytest.mark.parametrize("words", [["-m", "makhloeum", None, "--help"], ["-m", "makhloeum", None, "-h"]])
 def test_each_command_has_its_own_help(name, begins, words):
-    ran = subprocess.run([sys.executable, *(it or name for it in words)], capture_output=True, text=True, timeout=60)
+    wide = dict(os.environ, COLUMNS="80")
+    ran = subprocess.run(
+        [sys.executable, *(it or name for it in words)], capture_output=True, text=True, env=wide, timeout=60
+    )
     assert (ran.returncode, ran.stderr) == (0, "") and ran.stdout.startswith(begins)
 
 
@@ -185,8 +189,8 @@ def test_the_help_names_each_command(shell):
 def test_several_scripts(shell, tmp_path):
     first, second = tmp_path / "a script", tmp_path / "other"
     first.write_text("mkdir /x\nwhere 1\n")
-    second.write_text(f"mkdir /y\nsource '{first}'\nwhere 2")
-    shell.onecmd(f"source '{first}' {second}")
+    second.write_text(f"mkdir /y\nsource {shlex.quote(str(first))}\nwhere 2")
+    shell.onecmd(f"source {shlex.quote(str(first))} {shlex.quote(str(second))}")
     assert shell.stdout.getvalue() == "0::/\nmkdir /x: File exists (exists)\n0::/\n0::/a/b\n" and shell.failed
     assert shell.h.children("/") == ["a", "x", "y"]
     words = [sys.executable, "-m", "makhloeum", str(first), "-", str(second)]

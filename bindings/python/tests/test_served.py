@@ -1,6 +1,7 @@
 """What served files and descriptors answer at the edges: names that begin alike, positions, modes, groups that are gone."""
 
 import errno
+import fcntl
 import os
 
 import pytest
@@ -33,13 +34,52 @@ def test_a_path_that_only_begins_alike_is_another(tmp_path):
     assert os.path.isdir(tmp_path / "cgroup2" / "a")
 
 
+CALLS = ["stat", "lstat", "listdir", "scandir", "mkdir", "rmdir", "readlink", "open", "chmod", "truncate"]
+
+
+@pytest.mark.parametrize("call", CALLS)
+@pytest.mark.parametrize(
+    "name", ["a/pids.max", "b/pids.max", "b/c/pids.max", "a/pids.max/x", "a/pids.max/pids.max", "b/c"]
+)
+def test_what_is_missing_comes_before_what_is_wrong(h, tmp_path, call, name):
+    """As with a real file: one that isn't there is missing, whatever its name is."""
+    (tmp_path / "a").mkdir()
+    (tmp_path / "a" / "pids.max").write_text("max\n")
+    more = {"open": (os.O_RDONLY,), "chmod": (0o644,), "truncate": (0,)}.get(call, ())
+    found = []
+    for top in (AT, tmp_path):
+        try:
+            it = getattr(os, call)(f"{top}/{name}", *more)
+            os.close(it) if call == "open" else None
+            found.append("ok")
+        except OSError as failure:
+            found.append((errno.errorcode[failure.errno], str(failure.filename).replace(str(top), "")))
+    assert found[0] == found[1]
+
+
+@pytest.mark.parametrize("mode", ["w", "r+", "wb"])
+def test_a_constant_takes_its_own_text_and_no_other(h, mode):
+    def write(name, text):
+        with open(f"{AT}/{name}", mode) as file:
+            file.write(text.encode() if mode == "wb" else text)
+
+    refused = errno.errorcode[errno.EOPNOTSUPP]  # it has two names
+    for name, text in (("cgroup.subtree_control", "+pids"), ("a/cgroup.type", "domain"), ("a/cgroup.freeze", "0")):
+        write(name, text)
+        write(name, f"{text}\n")
+        assert code(write, name, f"-{text}") == code(write, name, "\u00e9") == refused
+
+
 def test_a_range_of_descriptors_is_closed_without_its_end(h):
     first = os.open(f"{AT}/a/pids.max", os.O_RDONLY)
     second = os.dup(first)
     low, high = sorted((first, second))
     os.closerange(low, high)
     assert code(os.read, low, 9) == "EBADF" and os.read(high, 9) == b"max\n"
-    os.close(high)
+    real = os.open(os.devnull, os.O_RDONLY)
+    for fd in (high, real):
+        os.closerange(fd, fd + 1)
+        assert code(os.fstat, fd) == code(fcntl.fcntl, fd, fcntl.F_GETFD) == "EBADF", "also the number itself"
 
 
 def test_a_file_is_made_nowhere(h):
@@ -70,6 +110,18 @@ def test_a_read_elsewhere_sees_the_text_of_now(h):
     assert os.read(fd, 9) == b"ax\n"  # the rest of the text that was begun
     os.lseek(fd, 2, os.SEEK_SET)
     assert os.read(fd, 9) == b"34\n"
+    os.close(fd)
+
+
+def test_an_empty_text_is_read_anew(h):
+    fd = os.open(f"{AT}/a/cgroup.procs", os.O_RDONLY)
+    assert os.read(fd, 99) == os.read(fd, 99) == b""
+    h.fork(1, 9)
+    h.write("/a", "cgroup.procs", 9)
+    assert os.read(fd, 99) == b"9\n" and os.read(fd, 99) == b""
+    h.exit(9)
+    os.lseek(fd, 0, os.SEEK_SET)
+    assert os.read(fd, 99) == b""
     os.close(fd)
 
 

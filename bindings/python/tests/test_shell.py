@@ -6,6 +6,7 @@ import io
 import os
 import pty
 import select
+import shlex
 import signal
 import subprocess
 import sys
@@ -32,7 +33,7 @@ def test_standard_input_and_scripts(tmp_path):
     )
     for ran in (run(text=script.read_text()), run(str(script))):
         assert (ran.returncode, ran.stdout, ran.stderr) == (0, "1\n0::/a\nwrite /a cgroup.procs 2\n", "")
-    ran = run(text=f"source {script}\nls /a/\nmkdir /a\nnonsense\n")
+    ran = run(text=f"source {shlex.quote(str(script))}\nls /a/\nmkdir /a\nnonsense\n")
     assert ran.returncode == 1
     assert ran.stdout.endswith(
         "children /a/: Invalid argument (path: a name is empty, at 3)\nmkdir /a: File exists (exists)\n"
@@ -172,7 +173,7 @@ class Terminal:
             while select.select([self.ours], [], [], 1 if b"makhloeum> " in told else 5)[0]:
                 told += os.read(self.ours, 4096)
             if b"makhloeum> " in told:
-                return
+                return told
         raise AssertionError("no prompt within a minute")
 
     def end(self):
@@ -191,12 +192,12 @@ def test_a_terminal_has_a_prompt():
 
 def test_an_interrupt_drops_the_line():
     terminal = Terminal()
-    terminal.wait_for(b"makhloeum> ")
+    assert b"help lists the commands" in terminal.wait_for(b"makhloeum> ")
     terminal.type(b"mkdir /a\n")
     terminal.wait_for(b"makhloeum> ")
     terminal.type(b"mkdir /b")
     terminal.wait_for(b"mkdir /b")
-    terminal.interrupt()
+    assert b"help lists" not in terminal.interrupt()
     terminal.type(b"ls\nquit\n")
     told = terminal.end()
     assert b"a/\r\n" in told and b"b/" not in told and b"Traceback" not in told
@@ -211,11 +212,11 @@ def test_a_command_is_a_whole_word():
 
 def test_a_script_that_reads_itself(tmp_path):
     script, other = tmp_path / "script", tmp_path / "other"
-    script.write_text(f"source {other}\nwhere 1\n")
-    other.write_text(f"source {script}\n")
+    script.write_text(f"source {shlex.quote(str(other))}\nwhere 1\n")
+    other.write_text(f"source {shlex.quote(str(script))}\n")
     ran = run(str(script))
     assert (ran.returncode, ran.stderr) == (1, "")
-    assert ran.stdout == f"[Errno {errno.ELOOP}] the script reads itself: '{script}'\n0::/\n"
+    assert ran.stdout == f"[Errno {errno.ELOOP}] the script reads itself: {str(script)!r}\n0::/\n"
 
 
 def test_a_script_that_was_interrupted_can_be_read_again(hierarchy, tmp_path, monkeypatch):
@@ -230,7 +231,7 @@ def test_a_script_that_was_interrupted_can_be_read_again(hierarchy, tmp_path, mo
         patched.setattr(shell, "onecmd", interrupted)
         with pytest.raises(KeyboardInterrupt):
             shell.answer_file(str(tmp_path / "script"))
-    shell.onecmd(f"source {tmp_path / 'script'}")
+    shell.onecmd(f"source {shlex.quote(str(tmp_path / 'script'))}")
     assert hierarchy.groups() == ["/", "/a", "/b"] and out.getvalue() == ""
 
 

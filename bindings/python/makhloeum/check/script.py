@@ -37,7 +37,7 @@ def explained(difference: Difference) -> list[str]:
 
 
 class _Script:
-    _FIRST = 'mkfifo $d/1; p 1 & p1=$!; k="$k $!"'
+    _FIRST = 'mkfifo "$d"/1; p 1 & p1=$!; k="$k $!"'
 
     def __init__(self, difference: Difference, directory: str, has_control: bool) -> None:
         self._difference, self._directory = difference, directory
@@ -103,7 +103,7 @@ class _Script:
     def _born(self, pid: str) -> str:
         """Starts a process of the script's shell."""
         if pid in self._forkers:
-            return f'mkfifo $d/{pid}; p {pid} & p{pid}=$!; k="$k $!"'
+            return f'mkfifo "$d"/{pid}; p {pid} & p{pid}=$!; k="$k $!"'
         return f'sleep 99 & p{pid}=$!; k="$k $!"'
 
     # ---- commands
@@ -238,12 +238,12 @@ class _Script:
             "#!/bin/sh",
             "# the last line shows it: " + "; ".join(explained(self._difference)),
             f"cd {shlex.quote(self._directory)} && mkdir {own}{control} && mkdir {own}/home {own}/top && cd {own}/top || exit 2",
-            f"k= d=$(mktemp -d); trap 'kill -9 $k; sleep 0.5; rm -r $d; cd ../..; find {own} -depth -type d -exec rmdir {{}} +' EXIT",
+            f"k= d=$(mktemp -d); trap 'kill -9 $k; sleep 0.5; rm -r \"$d\"; cd ../..; find {own} -depth -type d -exec rmdir {{}} +' EXIT",
         ]
         if needs_fifo:
             lines.append('p() { exec 3<>$d/$1; while read c <&3; do command eval "$c"; done; }')
             lines.append(
-                'f() { mkfifo $d/$2; echo "p $2 & echo \\$! >$d/$2.p" >$d/$1; sleep 0.3; read p$2 <$d/$2.p && eval k=\\"$k \\$p$2\\"; }'
+                'f() { mkfifo "$d"/$2; echo "p $2 & echo \\$! >\\$d/$2.p" >$d/$1; sleep 0.3; read p$2 <$d/$2.p && eval k=\\"$k \\$p$2\\"; }'
             )
         return [*lines, *self._lines]
 

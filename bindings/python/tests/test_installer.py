@@ -1,0 +1,121 @@
+"""./install and ./uninstall, as they are in an unpacked archive: where the files go, what is replaced, and what stays."""
+
+import os
+import pathlib
+import re
+import shutil
+import stat
+import subprocess
+
+import pytest
+
+TOP = pathlib.Path(__file__).parents[3]
+FILES = {
+    "bin/tool": "#!/bin/sh\n",
+    "lib/liby.so.1.0.0": "library",
+    "lib/pkgconfig/makhloeum.pc": "prefix=@PREFIX@\nlibdir=${prefix}/lib\n",
+    "share/man/man1/tool.1": ".TH TOOL 1\n",
+    "share/makhloeum/python/makhloeum/__init__.py": "",
+    "share/makhloeum/python/makhloeum/look/page.py": "",
+}
+LINK, LIST = "lib/liby.so", "share/makhloeum/installed"
+ALL = sorted([*FILES, LINK, LIST])
+
+
+@pytest.fixture
+def archive(tmp_path):
+    at, before = tmp_path / "archive", os.umask(0o022)
+    for name, text in FILES.items():
+        (at / "tree" / name).parent.mkdir(parents=True, exist_ok=True)
+        (at / "tree" / name).write_text(text)
+    (at / "tree" / "bin" / "tool").chmod(0o755)
+    (at / "tree" / LINK).symlink_to("liby.so.1.0.0")
+    for name in ("install", "uninstall"):
+        shutil.copy(TOP / name, at)
+    os.umask(before)
+    return at
+
+
+def run(archive, name, *words, cwd=None):
+    how = {"cwd": cwd or archive, "capture_output": True, "text": True, "timeout": 60}
+    ran = subprocess.run([archive / name, *words], umask=0o077, **how)
+    return ran.returncode, ran.stdout, ran.stderr
+
+
+def there(top):
+    return sorted(os.path.relpath(os.path.join(at, name), top) for at, _, names in os.walk(top) for name in names)
+
+
+PLACES = [
+    (["--prefix", "{tmp}/p"], "{tmp}/p", "{tmp}/p"),
+    (["--prefix={tmp}/p"], "{tmp}/p", "{tmp}/p"),
+    (["--prefix", "p"], "{tmp}/p", "{tmp}/p"),
+    (["--destdir", "{tmp}/d"], "{tmp}/d/usr/local", "/usr/local"),
+    (["--destdir={tmp}/d", "--prefix=/opt/x"], "{tmp}/d/opt/x", "/opt/x"),
+    (["--prefix", "/opt/x", "--destdir", "d"], "{tmp}/d/opt/x", "/opt/x"),
+    (["--prefix", "/no", "--destdir", "{tmp}/no", "--prefix=/opt/y", "--destdir={tmp}/d"], "{tmp}/d/opt/y", "/opt/y"),
+]
+
+
+@pytest.mark.parametrize("words, top, prefix", PLACES)
+def test_where_it_is_installed(archive, tmp_path, words, top, prefix):
+    words, top = [word.format(tmp=tmp_path) for word in words], pathlib.Path(top.format(tmp=tmp_path))
+    assert run(archive, "install", *words, cwd=tmp_path) == (0, f"install: {len(ALL)} files in {top}\n", "")
+    assert there(top) == ALL and (top / LIST).read_text().split("\n") == [*ALL, ""]
+    described = (top / "lib" / "pkgconfig" / "makhloeum.pc").read_text()
+    assert re.sub(r"\\(.)", r"\1", described) == f"prefix={prefix.format(tmp=tmp_path)}\nlibdir=${{prefix}}/lib\n"
+    assert os.readlink(top / LINK) == "liby.so.1.0.0" and (top / LINK).read_text() == "library"
+    modes = [stat.S_IMODE((top / name).stat().st_mode) for name in ("bin/tool", "bin", "lib/liby.so.1.0.0")]
+    assert modes == [0o755, 0o755, 0o644], "also if the caller keeps new files to himself"
+    assert sorted(os.listdir(tmp_path)) == sorted(["archive", top.relative_to(tmp_path).parts[0]])
+    assert run(archive, "uninstall", *words, cwd=tmp_path) == (
+        0,
+        f"uninstall: {len(ALL)} files removed from {top}\n",
+        "",
+    )
+    assert there(tmp_path) == there_of_the_archive(archive)
+
+
+def there_of_the_archive(archive):
+    return [f"archive/{name}" for name in there(archive)]
+
+
+@pytest.mark.parametrize("name", ["install", "uninstall"])
+def test_words_that_are_none(archive, tmp_path, name):
+    usage = f"usage: ./{name} [--prefix DIR] [--destdir DIR]\n"
+    before = there(tmp_path)
+    for words in (["--prefix"], ["--destdir"], ["--prefix", str(tmp_path / "p"), "--destdir"], ["--wrong"], ["x"]):
+        assert run(archive, name, *words) == (2, "", usage), words
+    for word in ("-h", "--help"):
+        assert run(archive, name, word) == run(archive, name, "--prefix", "p", word) == (0, usage, "")
+    assert there(tmp_path) == before
+
+
+def test_a_program_that_runs_keeps_its_file(archive, tmp_path):
+    top = tmp_path / "p"
+    run(archive, "install", "--prefix", str(top))
+    (top / "bin").chmod(0o700)
+    (top / "bin" / "own").write_text("of somebody else")
+    with open(top / "bin" / "tool", encoding="ascii") as old:
+        (archive / "tree" / "bin" / "tool").write_text("#!/bin/bash\n")
+        assert run(archive, "install", "--prefix", str(top))[0] == 0
+        assert old.read() == "#!/bin/sh\n" and (top / "bin" / "tool").read_text() == "#!/bin/bash\n"
+    assert stat.S_IMODE((top / "bin").stat().st_mode) == 0o700, "a folder that is there stays as it is"
+    assert (top / "bin" / "own").read_text() == "of somebody else"
+
+
+def test_what_is_not_of_the_installation_stays(archive, tmp_path):
+    top = tmp_path / "p"
+    run(archive, "install", "--prefix", str(top))
+    python = top / "share" / "makhloeum" / "python" / "makhloeum"
+    for folder in (python, python / "look"):
+        (folder / "__pycache__").mkdir()
+        (folder / "__pycache__" / "x.pyc").write_text("")
+    (top / "lib" / "other.so").write_text("")
+    (top / "share" / "man" / "man1" / "other.1").write_text("")
+    (top / "bin" / "tool").unlink()
+    assert run(archive, "uninstall", "--prefix", str(top))[0] == 0
+    assert there(top) == ["lib/other.so", "share/man/man1/other.1"] and sorted(os.listdir(top)) == ["lib", "share"]
+    assert os.listdir(top / "share") == ["man"] and os.listdir(top / "lib") == ["other.so"]
+    again = run(archive, "uninstall", "--prefix", str(top))
+    assert again == (1, "", f"uninstall: nothing is installed in {top}\n")
