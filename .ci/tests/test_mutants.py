@@ -9,9 +9,13 @@ from scripts import MadeUp, load
 mutants = load(".ci/mutants")
 
 BUILD = "#!/bin/sh\n! grep -q broken mount/src/*.c\n"
-# The test `one` looks at the first line, `none` runs nothing, `bad` always fails.
+# The test `one` looks at the first line, `none` runs nothing, `bad` always fails, `alone` fails if it can reach the process whose
+# number is in the file `pid`, and leaves a process behind, `fast` runs nothing unless it may end at its first failure.
 TEST = """#!/bin/sh
 case $1 in
+fast) echo "${FAIL_FAST:-0} passed, 0 failed" ;;
+alone) sleep "1000.$(cat pid)" &
+  if kill -0 "$(cat pid)" 2>/dev/null; then echo '0 passed, 1 failed'; else echo '1 passed, 0 failed'; fi ;;
 one) if grep -q 'first right' mount/src/a.c; then echo '1 passed, 0 failed'; else echo '0 passed, 1 failed'; exit 1; fi ;;
 bad) echo '0 passed, 1 failed'; exit 1 ;;
 *) echo '0 passed, 0 failed' ;;
@@ -79,6 +83,21 @@ class Mutants(MadeUp):
         said = self.run_with(status=1)
         self.assertIn("mutants: mount/a: NOT TRIED: bad doesn't pass without it", said)
         self.assertIn("mutants: mount/b: NOT TRIED: none doesn't pass without it", said)
+
+    @unittest.skipUnless(os.geteuid() == 0, "only the superuser may make a process namespace")
+    def test_a_test_reaches_no_process_but_its_own_and_leaves_none(self):
+        self.write("pid", str(os.getpid()))
+        self.write("mount/tests/alone.py", "a test\n")
+        self.mutant("a", test="alone")
+        self.assertIn("mutants: mount/a: NOT CAUGHT by alone", self.run_with(status=1))
+        sleeper = f"sleep\x001000.{os.getpid()}\x00".encode()
+        left = [it for it in pathlib.Path("/proc").glob("[0-9]*/cmdline") if it.read_bytes() == sleeper]
+        self.assertEqual(left, [])
+
+    def test_a_test_may_end_at_its_first_failure(self):
+        self.mutant("a", test="fast")
+        self.write("mount/tests/fast.py", "a test\n")
+        self.assertIn("mutants: mount/a: NOT CAUGHT by fast", self.run_with(status=1))
 
     def test_at_most_some_whole_files(self):
         self.mutant("a")
