@@ -12,7 +12,7 @@ import sys
 import tempfile
 
 from support import AT, BUILT, PATIENCE, PROGRAM, Beside, Mount
-from support import error_of, finish, in_parallel, inside, libc, line_of, read, same, step, write
+from support import error_of, finish, in_parallel, inside, libc, own_of, read, same, step, write
 
 ME = os.path.realpath(__file__)
 NOTICED, INTERRUPTS = os.path.join(BUILT, "noticed"), os.path.join(BUILT, "interrupts")
@@ -25,8 +25,7 @@ def said(*words, before=None, program=NOTICED):
 
 def makhloeum():
     """The supervisor and its processes."""
-    line = line_of(os.getppid())
-    return [int(p) for p in os.listdir("/proc") if p.isdigit() and line_of(int(p)) == line]
+    return [os.getppid(), *own_of(os.getppid())]
 
 
 # ---------------------------------------------------------------- inside
@@ -61,7 +60,7 @@ def filters():
     same(
         "strict mode: exit, calls that it forbids, and a handler; then calls that do not ask for it",
         said("strict"),
-        [b"5", b"1009", b"1009", b"1009", b"1009", b"6"] * 2 + [b"22", b"22", b"22", b"14"],
+        [b"5", b"1009", b"1009", b"1009", b"1009", b"6"] * 4 + [b"22", b"22", b"22", b"14"],
     )
 
 

@@ -208,6 +208,18 @@ def sharing():
     finally_empty(b)
 
 
+def last_place():
+    """What one process may make without a question takes no place from another that asks."""
+    a = (top / "a").make()
+    one, other = Tasks(a), Tasks(a)
+    a.write("pids.max", 4)
+    same("one makes a thread, and another the last that fits", [type(t.ask("thread")) for t in (one, other)], [int] * 2)
+    same("then none fits", (one.ask("thread"), other.ask("thread"), a.current()), ("EAGAIN", "EAGAIN", 4))
+    one.end()
+    other.end()
+    finally_empty(a)
+
+
 def leaderless():
     a = (top / "a").make()
     b = (top / "b").make()
@@ -395,6 +407,7 @@ AS_THE_KERNEL = (
     limited,
     limited_later,
     sharing,
+    last_place,
     leaderless,
     execs,
     forks,
