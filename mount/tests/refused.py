@@ -225,22 +225,6 @@ def orphaned():
     step("and nobody waits for them any more", rests())
 
 
-def elsewhere():
-    """Who has made a child may make the next one without a question. If that is born in another group, it is there."""
-    for g in ("/a", "/b"):
-        os.mkdir(AT + g)
-    into("/a")
-    args = (ctypes.c_uint64 * 11)(INTO, 0, 0, 0, signal.SIGCHLD, 0, 0, 0, 0, 0, group("/b"))
-    same("a child in its own group", fork(), "ok")
-    pid = libc.syscall(435, args, 88)  # at once: any call of the hierarchy's files would withdraw what is allowed
-    if pid == 0:
-        libc.pause()
-    there = [read(AT + g + "/cgroup.procs") for g in ("/a", "/b")]
-    same("and the next in another", there, [b"%d\n" % os.getpid(), b"%d\n" % pid])
-    os.kill(pid, signal.SIGKILL)
-    os.waitpid(pid, 0)
-
-
 def unused():
     """The line of a fork that a limit refuses has a number that no process has: the greatest that is free."""
     os.mkdir(AT + "/a")
@@ -298,7 +282,7 @@ def told():
         same("an end", changed(), wanted)
 
 
-INSIDE = {births: [], crowd: [], orphaned: [], elsewhere: [], unused: ["--control"], told: []}
+INSIDE = {births: [], crowd: [], orphaned: [], unused: ["--control"], told: []}
 inside(*INSIDE)
 run_each(INSIDE)
 finish()
