@@ -277,21 +277,6 @@ def terminal():
     os.close(theirs)
 
 
-def no_terminal():
-    """A terminal that keeps the lines does not become that of the mount, which leads a session of its own."""
-    ours, theirs = pty.openpty()
-    at = tempfile.mkdtemp()
-    words = [PROGRAM, "mount", at, "--trace", os.ttyname(theirs)]
-    same("a mount", subprocess.run(words, timeout=4 * PATIENCE).returncode, 0)
-    line = b"".join(word.encode() + b"\0" for word in words)
-    found = [int(n) for n in os.listdir("/proc") if n.isdigit() and line_of(int(n)) == line]
-    terminals = [open("/proc/%d/stat" % pid).read().rpartition(")")[2].split()[4] for pid in found]
-    same("the terminals of its processes", terminals, ["0"] * 2)
-    leave(at)
-    os.close(ours)
-    os.close(theirs)
-
-
 def small_device():
     """In new namespaces: a file system of 16 pages, filled and emptied."""
     twins = [tempfile.mkdtemp() for _ in range(2)]
@@ -388,7 +373,6 @@ for test in (
     without_history,
     undone_by_halves,
     terminal,
-    no_terminal,
     long_trace,
 ):
     test()
