@@ -11,7 +11,7 @@ import tempfile
 import time
 import tty
 
-from support import CGREPLAY, CGSHELL, PATIENCE, PROGRAM, Mount, error_of, finish, line_of, read, same, step, until
+from support import CGREPLAY, CGSHELL, PATIENCE, PROGRAM, Mount, error_of, finish, read, same, step, until
 from support import write
 
 ME = os.path.realpath(__file__)

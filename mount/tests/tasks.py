@@ -212,9 +212,11 @@ def last_place():
     """What one process may make without a question takes no place from another that asks."""
     a = (top / "a").make()
     one, other = Tasks(a), Tasks(a)
-    a.write("pids.max", 4)
-    same("one makes a thread, and another the last that fits", [type(t.ask("thread")) for t in (one, other)], [int] * 2)
-    same("then none fits", (one.ask("thread"), other.ask("thread"), a.current()), ("EAGAIN", "EAGAIN", 4))
+    a.write("pids.max", 5)
+    same(
+        "one makes a thread, another all that fit then", [type(t.ask("thread")) for t in (one, other, other)], [int] * 3
+    )
+    same("then none fits", (one.ask("thread"), other.ask("thread"), a.current()), ("EAGAIN", "EAGAIN", 5))
     one.end()
     other.end()
     finally_empty(a)
