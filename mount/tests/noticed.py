@@ -43,6 +43,9 @@ def interrupted():
 
 
 def children():
+    at_end = ctypes.c_int(-1)
+    libc.prctl(2, ctypes.byref(at_end))  # PR_GET_PDEATHSIG
+    same("the signal that it gets when its parent ends", at_end.value, 0)
     same("calls that change a register of the creator or of the child", said("registers"), [])
     same("children without a status though their pidfd can be read", said("pidfds"), [b"0"] * 4)
 
