@@ -274,17 +274,27 @@ static int set_subtree(const char *group, unsigned which, unsigned lost)
 	return fault;
 }
 
+/* The first controller, in the kernel's order, that cannot be changed decides the errno. */
+static int may_change(const char *group, unsigned enable, unsigned disable)
+{
+	int shares = 0;
+	for (size_t i = 0; i < NAMES && shares == 0; i++) {
+		unsigned bit = names[i].bit;
+		if (enable & bit & ~available(group))
+			return -ENOENT;
+		shares = disable & bit ? each_child(group, ask_shares, bit) : 0;
+	}
+	if (shares)
+		return shares < 0 ? shares : -EBUSY;
+	return may_enable(group, enable);
+}
+
 static int change(const char *group, unsigned enable, unsigned disable)
 {
 	unsigned now = subtree_of(group);
 	enable &= ~now;
 	disable &= now;
-	if (enable & ~available(group))
-		return -ENOENT;
-	int shares = disable ? each_child(group, ask_shares, disable) : 0;
-	if (shares)
-		return shares < 0 ? shares : -EBUSY;
-	int fault = may_enable(group, enable);
+	int fault = may_change(group, enable, disable);
 	return fault ? fault : set_subtree(group, (now | enable) & ~disable, disable);
 }
 

@@ -93,15 +93,22 @@ static int find_target(pid_t thread, const char *path)
 	return target >= 0 ? target : errno == ENOMEM ? -ENOMEM : -ENOENT;
 }
 
+/* As where version 2 has all controllers. */
+static int refuse_version_1(pid_t thread, const char *path)
+{
+	cleanup_fd int target = find_target(thread, path);
+	return target < 0 ? -target : stand_in_may(thread, CAP_SYS_ADMIN) ? EBUSY : EPERM;
+}
+
 static int mount_groups(int listener, const struct seccomp_notif *call, const char *path)
 {
 	pid_t thread = (pid_t)call->pid;
 	struct statx st;
-	if (!stand_in_may(thread, CAP_SYS_ADMIN))
-		return EPERM;
 	cleanup_fd int target = find_target(thread, path);
 	if (target < 0)
 		return -target;
+	if (!stand_in_may(thread, CAP_SYS_ADMIN))
+		return EPERM;
 	if (statx(target, "", AT_EMPTY_PATH | AT_STATX_DONT_SYNC | AT_NO_AUTOMOUNT, STATX_TYPE, &st) ||
 		!S_ISDIR(st.stx_mode))
 		return ENOTDIR;
@@ -202,8 +209,8 @@ bool mounting_takes(int listener, const struct seccomp_notif *call, int *error)
 	int version = fault ? 0 : version_of(w.type);
 	if (version == 2)
 		*error = mount_groups(listener, call, w.path);
-	else if (version == 1) /* as where version 2 has all controllers */
-		*error = stand_in_may(thread, CAP_SYS_ADMIN) ? EBUSY : EPERM;
+	else if (version == 1)
+		*error = refuse_version_1(thread, w.path);
 	else if (!may_mount_groups(thread))
 		return false;
 	else

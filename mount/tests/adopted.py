@@ -6,14 +6,11 @@ import signal
 import subprocess
 import sys
 
-from support import PATIENCE, Mount, error_of, finish, libc, read, same, step, until, write
+from support import PATIENCE, Mount, error_of, finish, is_alive, libc, parent_of, read, same, step, until, write
 
 
-def is_alive(pid):
-    try:
-        return open("/proc/%d/stat" % pid).read().rpartition(")")[2].split()[0] not in "ZX"
-    except OSError:
-        return False
+def state_of(pid):
+    return open("/proc/%d/stat" % pid).read().rpartition(")")[2].split()[0]
 
 
 m = Mount("--adopt")
@@ -103,12 +100,8 @@ def family():
     script = "sh -c 'sleep 600 & echo $! $$; wait' & echo $$; read x"
     top = subprocess.Popen(["sh", "-c", script], stdin=subprocess.PIPE, stdout=subprocess.PIPE, text=True)
     numbers = [int(n) for _ in range(2) for n in top.stdout.readline().split()]
-    child = next(n for n in numbers if n != top.pid and status_of(n) == top.pid)
+    child = next(n for n in numbers if n != top.pid and parent_of(n) == top.pid)
     return top, top.pid, child, next(n for n in numbers if n not in (top.pid, child))
-
-
-def status_of(pid):
-    return int(next(line for line in open("/proc/%d/status" % pid) if line.startswith("PPid:")).split()[1])
 
 
 # each is where it was moved, and a kill reaches those of its group alone
@@ -153,8 +146,8 @@ write(m.path("c", "cgroup.procs"), b"%d\n" % third)
 write(m.path("c", "cgroup.freeze"), b"1\n")
 same(
     "the freezer stops nobody",
-    (read(m.path("c", "cgroup.events")), open("/proc/%d/stat" % third).read().rpartition(")")[2].split()[0]),
-    (b"populated 1\nfrozen 1\n", "S"),
+    (read(m.path("c", "cgroup.events")), until(lambda: state_of(third) == "S")),
+    (b"populated 1\nfrozen 1\n", True),
 )
 os.kill(third, signal.SIGKILL)
 step("a death empties a group", until(lambda: read(m.path("c", "cgroup.events")) == b"populated 0\nfrozen 1\n"))
@@ -292,7 +285,7 @@ write(m.path("c", "pids.max"), b"max\n")
 write(m.path("c", "cgroup.procs"), b"%d\n" % parent.pid)
 same("two are adopted", read(m.path("c", "pids.current")), b"2\n")
 os.kill(child, signal.SIGKILL)
-step("the child is a zombie", until(lambda: open("/proc/%d/stat" % child).read().rpartition(")")[2].split()[0] == "Z"))
+step("the child is a zombie", until(lambda: state_of(child) == "Z"))
 same("it is gone", [read(m.path("c", "pids.current")) for _ in range(3)], [b"1\n"] * 3)
 write(m.path("c", "pids.max"), b"1\n")
 same(

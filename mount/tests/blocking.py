@@ -13,9 +13,9 @@ import sys
 import tempfile
 import time
 
-from support import AT, BUILT, PATIENCE, PROGRAM, Beside, Mount
-from support import clone_into, error_of, finish, in_parallel, into, libc, line_of, read, rests, same, status_within
-from support import step, tracer, until, write
+from support import AT, BUILT, PATIENCE, PROGRAM, Beside, Mount, companions_of
+from support import clone_into, error_of, finish, in_parallel, into, libc, line_of, own_of, read, rests, same
+from support import status_within, step, tracer, until, write
 
 ME = os.path.realpath(__file__)
 BLOCKING, STALLED = os.path.join(BUILT, "blocking"), os.path.join(BUILT, "stalled")
@@ -47,14 +47,6 @@ def forks(times=20):
 def stat_of(pid):
     """The words of /proc/PID/stat after the name: the state first, and the flags of the thread as the seventh."""
     return open("/proc/%d/stat" % pid, "rb").read().rpartition(b")")[2].split()
-
-
-def own(supervisor):
-    """The processes of makhloeum besides this one."""
-    line = line_of(supervisor)
-    if not line:  # it has ended
-        return []
-    return [int(p) for p in os.listdir("/proc") if p.isdigit() and int(p) != supervisor and line_of(int(p)) == line]
 
 
 def holder(*words):
@@ -241,7 +233,7 @@ def opening():
 def stopped():
     """The server is stopped again and again while children are made in a group."""
     os.mkdir(AT + "/a")
-    fd, others, wrong = os.open(AT + "/a", os.O_RDONLY), own(tracer()), []
+    fd, others, wrong = os.open(AT + "/a", os.O_RDONLY), own_of(tracer()), []
     for _ in range(100):
         for pid in others:
             os.kill(pid, signal.SIGSTOP)
@@ -259,7 +251,7 @@ def stopping():
     """The processes of makhloeum are stopped again while they are continued."""
     os.mkdir(AT + "/a")
     fd, supervisor = os.open(AT + "/a", os.O_RDONLY), tracer()
-    others = own(supervisor)
+    others = own_of(supervisor)
     for i in range(20):
         for pause in (i % 4 * 0.005, 0):
             for pid in others:
@@ -275,16 +267,20 @@ def stopping():
 
 
 def cost_of_clones(fd, others):
-    """What came of twenty children, and the processor time that makhloeum used for them."""
+    """What came of sixty children, and the least processor time that makhloeum used for twenty of them, which other work on the
+    machine hardly changes."""
 
     def used():
         return sum(
             time.clock_gettime(~pid << 3 | 2) for pid in others
         )  # the clock of a process, as the kernel numbers it
 
-    before = used()
-    got = {clone_into(fd) for _ in range(20)}
-    return got, used() - before
+    got, costs = set(), []
+    for _ in range(3):
+        before = used()
+        got |= {clone_into(fd) for _ in range(20)}
+        costs.append(used() - before)
+    return got, min(costs)
 
 
 def elsewhere():
@@ -294,7 +290,7 @@ def elsewhere():
         for k in range(20):
             os.mkdir(AT + "/g%d/h%d" % (i, k))
     os.makedirs(AT + "/z/y")
-    others = [tracer(), *own(tracer())]
+    others = [tracer(), *own_of(tracer())]
     r, w = os.pipe()
     pid = os.fork()
     if pid == 0:
@@ -307,7 +303,7 @@ def elsewhere():
         os._exit(0)
     os.waitpid(pid, 0)
     failed, (got, cost) = ast.literal_eval(os.read(r, 200).decode())
-    same("twenty children", (failed, got), (0, {0}))
+    same("sixty children", (failed, got), (0, {0}))
     usual = cost_of_clones(os.open(AT + "/z/y", os.O_RDONLY), others)[1]
     step("they take at most five times the processor time of others", cost <= 5 * usual, (cost, usual))
 
@@ -315,7 +311,7 @@ def elsewhere():
 def mounting():
     """The process that mounts for the program is stopped whenever it is seen."""
     home = tempfile.mkdtemp()
-    others = own(tracer())
+    others = own_of(tracer())
     count = os.path.join(home, "count")
     os.mkdir(home + "/at")
     pid = os.fork()
@@ -335,8 +331,10 @@ def mounting():
             except (OSError, ProcessLookupError):
                 pass
     step("some were stopped", seen > 0, seen)
-    size = os.path.getsize(count)
-    step("the program still mounts", until(lambda: os.path.getsize(count) > size + 10))
+    # the first mount may not have ended yet
+    mounted = lambda: os.path.getsize(count) if os.path.exists(count) else 0
+    size = mounted()
+    step("the program still mounts", until(lambda: mounted() > size + 10))
     os.kill(pid, signal.SIGKILL)
     os.waitpid(pid, 0)
 
@@ -396,7 +394,7 @@ def run(test):
 def unmounted():
     """A file where a mount was, which was unmounted while files of it were open."""
     m = Mount()
-    line, companions = line_of(m.process.pid), own(m.process.pid)
+    line, companions = line_of(m.process.pid), companions_of(m.process.pid)
     os.mkdir(m.path("a"))
     os.stat(m.path("a", "cgroup.events"))
     procs = os.open(m.path("a", "cgroup.procs"), os.O_WRONLY)
@@ -418,7 +416,7 @@ def stuck():
     name = "n" * 200
     os.mkdir(m.path(name))
     os.stat(m.path(name, "cgroup.events"))
-    companions = own(m.process.pid)
+    companions = companions_of(m.process.pid)
     for pid in companions:
         os.kill(pid, signal.SIGSTOP)
     for value in (b"1", b"0") * 1000:
@@ -447,7 +445,7 @@ def queued():
     for name in (*leaves, "next", "mark"):
         names[libc.inotify_add_watch(watch, m.path(name, "cgroup.events").encode(), 2)] = name  # IN_MODIFY
     os.stat(m.path("last", "cgroup.events"))
-    companions = own(m.process.pid)
+    companions = companions_of(m.process.pid)
     for pid in companions:
         os.kill(pid, signal.SIGSTOP)
     step(
@@ -478,7 +476,7 @@ def killed():
     """makhloeum is killed while its other processes are stopped."""
     p = subprocess.Popen([PROGRAM, "run", "sh", "-c", "echo x; exec sleep 600"], stdout=subprocess.PIPE)
     same("it runs", p.stdout.read(1), b"x")  # before that the program is one of its processes too
-    others = own(p.pid)
+    others = own_of(p.pid)
     same("its other processes", len(others), 3)
     line = line_of(p.pid)
     for pid in others:

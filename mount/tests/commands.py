@@ -13,7 +13,7 @@ def said(path, *words):
         env=dict(os.environ, PATH=path) if path is not None else {k: v for k, v in os.environ.items() if k != "PATH"},
         stdout=subprocess.PIPE,
         stderr=subprocess.PIPE,
-        timeout=PATIENCE,
+        timeout=4 * PATIENCE,  # sixteen begin at the same time
     )
     return ran.returncode, ran.stderr.decode()
 

@@ -70,6 +70,26 @@ def enabling():
     m.end()
 
 
+def order():
+    """The first controller, in the kernel's order, that cannot be changed decides the errno, however they are written."""
+    m = Mount("--keep", KEPT)
+    change(m, ".", "+cpu +memory")
+    os.makedirs(m.path("a", "b", "c"))
+    for group in ("a", "a/b"):
+        change(m, group, "+cpu +memory")
+    for words, wanted in (
+        ("+cpuset -cpu", "ENOENT"),
+        ("+io -cpu", "EBUSY"),
+        ("+io -memory", "ENOENT"),
+        ("+pids -memory", "EBUSY"),
+        ("+cpuset +pids -memory", "ENOENT"),
+    ):
+        for said in (words, " ".join(reversed(words.split()))):
+            same("%r where neither may be" % said, change(m, "a", said), wanted)
+    same("nothing has changed", text_of(m, "a", "cgroup.subtree_control"), "cpu memory")
+    m.end()
+
+
 def lost_pids():
     """If pids is disabled, its limit becomes `max`, and its open files fail."""
     m = Mount("--keep", "memory")
@@ -354,6 +374,6 @@ def born():
 if sys.argv[1:] == ["inside"]:
     born()
     finish()
-for test in (enabling, lost_pids, internal, threaded, again, each_one, without, refused, under_run):
+for test in (enabling, order, lost_pids, internal, threaded, again, each_one, without, refused, under_run):
     test()
 finish()

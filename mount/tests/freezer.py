@@ -325,6 +325,25 @@ def vforked():
     shutil.rmtree(home)
 
 
+def again():
+    """A process that is thawed and frozen again before its supervisor looks stays frozen."""
+    os.mkdir(AT + "/a")
+    one, supervisor = Counter("/a"), tracer()
+    while_others_run(1)  # the process that nobody freezes is there from now on
+    freeze("/a", 1)
+    becomes("it is frozen", "/a", FROZEN)
+    os.kill(supervisor, signal.SIGSTOP)
+    until(lambda: state(supervisor) == "T")
+    freeze("/a", 0)
+    freeze("/a", 1)
+    os.kill(supervisor, signal.SIGCONT)
+    becomes("and frozen again", "/a", FROZEN)
+    step("it rests", one.rests())
+    freeze("/a", 0)
+    step("it runs again", one.counts())
+    one.end()
+
+
 def signals():
     """The program's job control works together with the freezer."""
     os.mkdir(AT + "/a")
@@ -473,7 +492,7 @@ def undone():
     one.end()
 
 
-INSIDE = (stops, moves, kinds, vforked, signals, itself, first, told, many, wide, undone)
+INSIDE = (stops, moves, kinds, vforked, again, signals, itself, first, told, many, wide, undone)
 if sys.argv[1:2] == ["inside"]:
     {t.__name__: t for t in INSIDE}[sys.argv[2]]()
     for one in runner:

@@ -66,7 +66,9 @@ def thread():
     os.mkdir(AT + "/a")
     p = started("thread", group="/a")
     until(lambda: "sleep" in open("/proc/%d/comm" % p.pid).read())
-    same("an untraced thread that calls execve is its process", (count("/a"), processes("/a")), (1, [p.pid]))
+    # it has this name a moment before the supervisor hears of the execve
+    seen = lambda: (count("/a"), processes("/a"))
+    step("an untraced thread that calls execve is its process", until(lambda: seen() == (1, [p.pid])), seen())
     p.kill()
     p.wait()
     same("and is gone when it was waited for", count("/a"), 0)

@@ -184,7 +184,9 @@ def settings(at):
             if "chown" in what:
                 error_of(os.chown, path, 20, 21)
             before = all_of(os.stat(path))
-            changed, begun = os.stat(path).st_ctime_ns, time.time_ns() - 20 * 10**6
+            changed = os.stat(path).st_ctime_ns
+            until(lambda: time.time_ns() > changed + 20 * 10**6)  # the kernel's clock for files has ticks
+            begun = time.time_ns() - 20 * 10**6
             call()
             st = os.stat(path)
             after = all_of(st)
@@ -192,7 +194,8 @@ def settings(at):
             same("%s of a %s" % (what, "group" if path == group else "file"), after, wanted)
             for k in (k for k, v in sets.items() if v is None):
                 step("now", begun <= after[k] <= time.time_ns(), (begun, after[k]))
-            step("the time of the change", st.st_ctime_ns >= changed, (changed, st.st_ctime_ns))
+            later = st.st_ctime_ns > changed if sets else st.st_ctime_ns >= changed
+            step("the time of the change", later, (changed, st.st_ctime_ns))
             same("by the descriptor", all_of(os.fstat(fd)), after)
         same("others are as they were", [all_of(os.stat(other)) for other in others], untouched)
         os.close(fd)
@@ -226,12 +229,15 @@ def timed(at):
         step("now", all(before <= t <= time.time() for t in times_of(path)), times_of(path))
     for what, call in (("made", os.mkdir), ("removed", os.rmdir)):
         os.utime(group, (7, 9))
+        changed = os.stat(group).st_ctime_ns
+        until(lambda: time.time_ns() > changed + 20 * 10**6)
         call(group + "/below")
         step(
             "a group is %s in it" % what,
             os.stat(group).st_atime == 7 and before <= os.stat(group).st_mtime <= time.time(),
             times_of(group),
         )
+        step("%s: the time of the change" % what, os.stat(group).st_ctime_ns > changed, os.stat(group).st_ctime_ns)
     os.rmdir(group)
 
 

@@ -310,7 +310,7 @@ static void on_alarm(int unused)
 	(void)unused;
 }
 
-/* Waits until the child sleeps in its call. */
+/* Waits until the child sleeps in its call, or has ended: on a busy machine it may be over before it was seen. */
 static void until_it_sleeps(pid_t pid)
 {
 	char path[40], text[256];
@@ -322,7 +322,7 @@ static void until_it_sleeps(pid_t pid)
 		text[n > 0 ? n : 0] = 0;
 		close(fd);
 		const char *end = strrchr(text, ')');
-		if (n <= 0 || (atomic_load(ready) && end && end[1] && end[2] == 'S'))
+		if (n <= 0 || (atomic_load(ready) && end && end[1] && (end[2] == 'S' || end[2] == 'Z')))
 			return;
 	}
 }

@@ -11,7 +11,8 @@ import tempfile
 import time
 import tty
 
-from support import CGREPLAY, CGSHELL, PATIENCE, PROGRAM, Mount, error_of, finish, read, same, step, until, write
+from support import CGREPLAY, CGSHELL, PATIENCE, PROGRAM, Mount, error_of, finish, read, same, step, until
+from support import write
 
 ME = os.path.realpath(__file__)
 TRACE_MAX = 16777216
@@ -40,7 +41,9 @@ def targets():
     file, fifo, sock, loop = (os.path.join(home, n) for n in ("file", "fifo", "socket", "link"))
     open(file, "w").write("precious")
     os.mkfifo(fifo)
-    socket.socket(socket.AF_UNIX).bind(sock)
+    os.chdir(home)  # a socket's path is short
+    socket.socket(socket.AF_UNIX).bind("socket")
+    os.chdir("/")
     os.symlink(file, loop)
     for where in (file, fifo, sock, loop, "/dev/null"):
         status, words = refused([where])
@@ -72,19 +75,23 @@ def modes():
 
 def times():
     """Before each line of a trace is a comment with the time since the start."""
+    clock = [time.monotonic()]
     m = Mount()
+    clock.append(time.monotonic())
     os.mkdir(m.path("a"))
-    time.sleep(0.1)
+    clock.append(time.monotonic())
+    time.sleep(1.1)  # so that its second is another one too
+    clock.append(time.monotonic())
     write(m.control("fork"), b"1 2\n")
+    clock.append(time.monotonic())
     lines = open(m.trace).read().split("\n")
     at = [re.fullmatch(r"# at ([0-9]+\.[0-9]{6})", line) for line in lines[:-1:2]]
     same("the lines between the comments", lines[1::2], ["mkdir /a", "fork 1 2"])
     step("each comment is a time", all(at), lines)
-    step(
-        "the times ascend with the clock",
-        all(at) and 0 < float(at[0][1]) and 0.1 <= float(at[1][1]) - float(at[0][1]) < PATIENCE,
-        lines,
-    )
+    first, second = (float(found[1]) for found in at)
+    step("the first since the start", 0 <= first <= clock[2] - clock[0], (first, clock))
+    least, most = clock[3] - clock[2] - 1e-5, clock[4] - clock[1] + 1e-5  # they are cut to microseconds
+    step("the second by as much later as it was written", least <= second - first <= most, (first, second, clock))
     m.end()
 
 
@@ -357,7 +364,17 @@ def long_trace():
 if sys.argv[1:] == ["small"]:
     small_device()
     finish()
-for test in (targets, modes, times, full_answers, limited, without_history, undone_by_halves, terminal, long_trace):
+for test in (
+    targets,
+    modes,
+    times,
+    full_answers,
+    limited,
+    without_history,
+    undone_by_halves,
+    terminal,
+    long_trace,
+):
     test()
 ran = subprocess.run(["unshare", "-Urm", sys.executable, ME, "small"], timeout=6 * PATIENCE)
 same("on a small device", ran.returncode, 0)

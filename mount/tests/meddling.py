@@ -13,7 +13,7 @@ import threading
 import time
 
 from support import AT, BUILT, PATIENCE, PROGRAM
-from support import error_of, finish, in_parallel, into, libc, line_of, read, same, status_within, step
+from support import error_of, finish, in_parallel, into, libc, line_of, own_of, read, same, status_within, step
 from support import tracer, until, write
 
 ME = os.path.realpath(__file__)
@@ -35,12 +35,7 @@ def said(*words, program=READERS):
 
 def own():
     """The processes of makhloeum besides its supervisor: the server, the helper, and the companion."""
-    line = line_of(tracer())
-    return [
-        int(p)
-        for p in os.listdir("/proc")
-        if p.isdigit() and int(p) not in (tracer(), os.getpid()) and line_of(int(p)) == line
-    ]
+    return own_of(tracer())
 
 
 def forks(times=20):
@@ -98,6 +93,9 @@ def unshares():
 def crowds():
     same("two hundred readers in parallel", said("crowd", "200"), [0, 1])
     same("readers that use up their descriptors", said("descriptors"), [0, 1])
+    # the server too may have more than the forty of the program
+    held = [error_of(os.open, "/proc/self/mounts", os.O_RDONLY) for _ in range(20)]
+    same("twenty tables that are open", held, ["ok"] * 20)
 
 
 def unread():
@@ -153,6 +151,7 @@ def limited():
     for pid in (*own(), tracer()):
         tasks = [int(t) for t in os.listdir("/proc/%d/task" % pid)]
         wrong = [t for t in tasks if error_of(resource.prlimit, t, resource.RLIMIT_NOFILE, (0, 0)) != "EPERM"]
+        wrong = [t for t in wrong if os.path.exists("/proc/%d/task/%d" % (pid, t))]  # one that is idle may end
         same("nor for any of its %d threads" % len(tasks), wrong, [])
     same("this process is a child of the supervisor", os.getppid(), tracer())
     orphan = subprocess.run(["sh", "-c", "sleep 600 >&- & echo $!"], stdout=subprocess.PIPE).stdout
@@ -246,7 +245,7 @@ def calls():
         (libc.mmap(None, 4096, 3, 1, fd, 0), ctypes.get_errno()),
         (ctypes.c_void_p(-1).value, errno.ENODEV),
     )
-    temp = os.open("/tmp", os.O_RDWR | os.O_TMPFILE) if hasattr(os, "O_TMPFILE") else os.memfd_create("x")
+    temp = os.memfd_create("x")
     same("sendfile", (os.sendfile(temp, fd, 0, 99), os.pread(temp, 99, 0)), (2, b"8\n"))
     step("copy_file_range", error_of(os.copy_file_range, fd, temp, 9, 0, 0) in ("ok", "EXDEV", "EOPNOTSUPP", "EINVAL"))
     for what, call, wanted in (
@@ -341,7 +340,8 @@ def all_of(line):
 
 def run(test):
     limits = LIMITS.get(test, ())
-    words = [PROGRAM, "run", sys.executable, ME, "inside", test.__name__]
+    # the last word tells this run from another of the same test, as older.py makes one
+    words = [PROGRAM, "run", sys.executable, ME, "inside", test.__name__, str(os.getpid())]
     p = subprocess.Popen(
         words, start_new_session=True, preexec_fn=lambda: [resource.setrlimit(*limit) for limit in limits]
     )

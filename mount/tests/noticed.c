@@ -232,8 +232,11 @@ static int strict_end(int way, int does)
 		return -1;
 	pid_t pid = fork();
 	if (pid == 0) {
+		static const unsigned long above = 1UL << 32; /* the kernel takes an int there */
 		long result = way == 0 ? prctl(PR_SET_SECCOMP, SECCOMP_MODE_STRICT, 0, 0, 0)
-							   : syscall(SYS_seccomp, SECCOMP_SET_MODE_STRICT, 0, NULL);
+			: way == 1         ? syscall(SYS_seccomp, SECCOMP_SET_MODE_STRICT, 0, NULL)
+			: way == 2         ? syscall(SYS_prctl, PR_SET_SECCOMP | above, SECCOMP_MODE_STRICT, 0, 0, 0)
+							   : syscall(SYS_seccomp, SECCOMP_SET_MODE_STRICT | above, above, NULL);
 		for (int i = 0; i < 100; i++)
 			if (result || write(to[1], "x", 1) != 1 || read(to[0], &byte, 1) != 1)
 				syscall(SYS_exit, 99);
@@ -264,7 +267,7 @@ static int strict_end(int way, int does)
 
 static int strict(void)
 {
-	for (int way = 0; way < 2; way++)
+	for (int way = 0; way < 4; way++)
 		for (int does = 0; does < 6; does++)
 			printf("%d ", strict_end(way, does));
 	printf("%d ", syscall(SYS_seccomp, SECCOMP_SET_MODE_STRICT, 1, NULL) < 0 ? errno : 0);

@@ -12,7 +12,7 @@ import sys
 import tempfile
 
 from support import AT, BUILT, PATIENCE, PROGRAM, Beside, Mount
-from support import error_of, finish, in_parallel, inside, libc, line_of, read, same, step, write
+from support import error_of, finish, in_parallel, inside, libc, own_of, read, same, step, write
 
 ME = os.path.realpath(__file__)
 NOTICED, INTERRUPTS = os.path.join(BUILT, "noticed"), os.path.join(BUILT, "interrupts")
@@ -25,8 +25,7 @@ def said(*words, before=None, program=NOTICED):
 
 def makhloeum():
     """The supervisor and its processes."""
-    line = line_of(os.getppid())
-    return [int(p) for p in os.listdir("/proc") if p.isdigit() and line_of(int(p)) == line]
+    return [os.getppid(), *own_of(os.getppid())]
 
 
 # ---------------------------------------------------------------- inside
@@ -44,6 +43,9 @@ def interrupted():
 
 
 def children():
+    at_end = ctypes.c_int(-1)
+    libc.prctl(2, ctypes.byref(at_end))  # PR_GET_PDEATHSIG
+    same("the signal that it gets when its parent ends", at_end.value, 0)
     same("calls that change a register of the creator or of the child", said("registers"), [])
     same("children without a status though their pidfd can be read", said("pidfds"), [b"0"] * 4)
 
@@ -61,7 +63,7 @@ def filters():
     same(
         "strict mode: exit, calls that it forbids, and a handler; then calls that do not ask for it",
         said("strict"),
-        [b"5", b"1009", b"1009", b"1009", b"1009", b"6"] * 2 + [b"22", b"22", b"22", b"14"],
+        [b"5", b"1009", b"1009", b"1009", b"1009", b"6"] * 4 + [b"22", b"22", b"22", b"14"],
     )
 
 

@@ -45,6 +45,14 @@ def looks():
     fd = os.open(AT, os.O_RDONLY)
     libc.fstatfs(fd, buffer)
     same("so does fstatfs", struct.unpack("l", buffer.raw[:8])[0], 0x63677270)
+    home = tempfile.mkdtemp()
+    os.symlink(AT, home + "/link")
+    os.chdir(home)
+    for path in ("link", "link/", "link/cgroup.procs", "../%s/link" % os.path.basename(home)):
+        libc.statfs(path.encode(), buffer)
+        same("so does one of %s" % path, struct.unpack("l", buffer.raw[:8])[0], 0x63677270)
+        buffer = ctypes.create_string_buffer(256)
+    os.chdir("/")
     libc.statfs(b"/proc", buffer)
     same("another file system is what it is", struct.unpack("l", buffer.raw[:8])[0], 0x9FA0)
     lines = [x.split() for x in open("/proc/self/mounts") if AT in x.split()]
@@ -365,7 +373,7 @@ def statuses():
     same("with --root", run("--root", "id", "-u").stdout, b"0\n")
     left = run("sh", "-c", "%s & exec setsid %s & true" % (SLEEPS[0], SLEEPS[1]))
     same("what it leaves behind", left.returncode, 0)
-    step("ends with it", not any(map(running, SLEEPS)))
+    step("ends with it", until(lambda: not any(map(running, SLEEPS))))
 
 
 COUNTS = """import os, signal
@@ -424,7 +432,9 @@ SLEEPS = [
 
 
 def running(command):
-    return subprocess.run(["pgrep", "-u", str(os.getuid()), "-f", "^" + command], stdout=-3).returncode == 0
+    """Whether a command line begins so, and not with a longer number."""
+    words = ["pgrep", "-u", str(os.getuid()), "-f", "^" + command + "([^0-9]|$)"]
+    return subprocess.run(words, stdout=-3).returncode == 0
 
 
 def beside():
@@ -520,6 +530,10 @@ def refused_here():
     ran = run("--", sys.executable, "-c", TRACED)
     same("a program that traces", (ran.returncode, ran.stdout, ran.stderr.count(b"\n")), (0, b"1 1 1\n", 1))
     step("it is named", b"run traces every process itself" in ran.stderr, ran.stderr)
+    for request in (0, 16, 0x4206):  # TRACEME, ATTACH, SEIZE
+        ran = run("--", sys.executable, "-c", TRACED.replace("(0, 16, 0x4206)", "(%d,)" % request))
+        got = ran.returncode, ran.stdout, ran.stderr.count(b"run traces every process itself")
+        same("by request %d alone" % request, got, (0, b"1\n", 1))
     if shutil.which("strace"):
         ran = run("strace", "true")
         step(

@@ -9,7 +9,7 @@ import tempfile
 import threading
 
 from support import AT, PATIENCE, PROGRAM, Beside, Mount
-from support import error_of, finish, inside, into, is_alive, line_of, read, same, status_within, step, tracer, until
+from support import error_of, finish, inside, into, is_alive, own_of, read, same, status_within, step, tracer, until
 from support import write
 
 ME = os.path.realpath(__file__)
@@ -207,9 +207,7 @@ def killing():
 
 def companion():
     """A process of makhloeum is killed, and one that is none of the run gets its number: the end of the run does not reach that."""
-    line = line_of(tracer())
-    ours = [int(p) for p in os.listdir("/proc") if p.isdigit() and int(p) != tracer() and line_of(int(p)) == line]
-    found = [pid for pid in ours if len(os.listdir("/proc/%d/task" % pid)) == 1]
+    found = [pid for pid in own_of(tracer()) if len(os.listdir("/proc/%d/task" % pid)) == 1]
     same("the companion", len(found), 1)
     os.kill(found[0], signal.SIGKILL)
     step("it is gone", until(lambda: not os.path.exists("/proc/%d" % found[0])))

@@ -12,7 +12,7 @@ import tempfile
 import threading
 import time
 
-from support import PATIENCE, PROGRAM, Beside, Mount
+from support import PATIENCE, PROGRAM, Beside, Mount, companions_of
 from support import error_of, finish, is_alive, libc, line_of, read, same, step, until, write
 
 ME = os.path.realpath(__file__)
@@ -85,12 +85,6 @@ def unmounted_with_a_request_pending(preload):
     m.end()
 
 
-def companions_of(server):
-    """The processes beside the server, which have its command line."""
-    line = line_of(server)
-    return [int(n) for n in os.listdir("/proc") if n.isdigit() and int(n) != server and line_of(int(n)) == line]
-
-
 def ended_while_open(how, name):
     m = Mount()
     os.mkdir(m.path("a"))
@@ -134,7 +128,8 @@ def killed_under_load():
     for c in clients:
         c.join(PATIENCE)
     step("ten clients of a killed mount all come back with an error", len(errors) == 10)
-    step("and the mount is gone", until(lambda: not os.path.ismount(m.at)))
+    # of a dead one that is still there Python's ismount is False too
+    step("and the mount is gone", until(lambda: error_of(os.listdir, m.at) == "ok" and not os.path.ismount(m.at)))
 
 
 def bad_lines():
@@ -196,9 +191,7 @@ def link_of(pid, name):
 
 def background(closed=""):
     """Without --foreground; `closed` are the shell's words for standard streams that are not there."""
-    home = os.environ.get("TMPDIR", "/tmp")
-    at = os.path.join(home, "background")
-    os.makedirs(at, exist_ok=True)
+    at = tempfile.mkdtemp()
     ran = subprocess.run(
         ["sh", "-c", '"$0" mount "$1" ' + closed, PROGRAM, at],
         stdout=subprocess.PIPE,
@@ -296,19 +289,29 @@ def links_of(pid):
 
 
 def let_go():
-    """The companion of a mount keeps none of the caller's descriptors, whatever their numbers."""
+    """The companion of a mount keeps none of the caller's descriptors, whatever their numbers, and no other. It is in another session,
+    where no terminal ends it."""
     at = tempfile.mkdtemp()
     r, w = os.pipe()
     high = fcntl.fcntl(w, fcntl.F_DUPFD, 300)
     own = [os.pipe() for _ in range(3)]
     streams = {"stdin": own[0][0], "stdout": own[1][1], "stderr": own[2][1]}
-    p = subprocess.Popen([PROGRAM, "mount", at, "--foreground"], pass_fds=(w, high), **streams)
+    script = 'exec "$0" mount "$1" --foreground 3>&1 4>&1'
+    p = subprocess.Popen(["sh", "-c", script, PROGRAM, at], pass_fds=(w, high), **streams)
     step("it is mounted", until(lambda: os.path.ismount(at)))
     companions = companions_of(p.pid)
     pipes = {os.readlink("/proc/self/fd/%d" % fd) for fd in (w, *streams.values())}
     same("there is one companion", len(companions), 1)
     links = lambda: set(links_of(companions[0]))
     step("it has none of the pipes", until(lambda: links() and not pipes & links()), pipes & links())
+    kinds = lambda: sorted(link.partition(":")[0] for link in links_of(companions[0]))
+    step("what it has", until(lambda: kinds() == ["/dev/null"] * 3 + ["socket"]), kinds())
+    same("it leads its session", session_of(companions[0]), companions[0])
+    same(
+        "the folders that both keep in use",
+        [os.readlink("/proc/%d/cwd" % n) for n in (p.pid, *companions)],
+        ["/proc"] * 2,
+    )
     step("it can be unmounted", until(lambda: subprocess.run(["fusermount3", "-u", at], stderr=-3).returncode == 0))
     same("its process ends", p.wait(10 * PATIENCE), 0)
     for fd in (r, w, high, *sum(own, ())):

@@ -140,6 +140,13 @@ look; exec unshare -C sh -c 'grep -e " %s " -e " %s " /proc/self/mountinfo' | cu
     )
     wanted = "/.. %s\n/ %s\n/../.. %s\n/.. %s\n" % ((AT, where) * 2)
     same("as others see it, who begin elsewhere", shell(script, "unshare", "-Cm"), (0, wanted, ""))
+    other = subprocess.Popen(["unshare", "-C", "sleep", "600"])
+    step("another process has a namespace", until(lambda: line_of(other.pid).startswith(b"sleep")))
+    for how, root in (("", "/"), ("unshare -C ", "/..")):
+        got = shell("exec %sgrep ' - cgroup2 ' /proc/%d/mountinfo" % (how, other.pid))[1].split()[3:5]
+        same("its table, seen %s" % (how + "from /a" if how else "from here"), got, [root, AT])
+    other.kill()
+    other.wait()
     status, out, _ = shell("mount -t cgroup2 -o ro none %s; mkdir %s/x" % (where, where), "unshare", "-m")
     step("read-only", status != 0, out)
     for kind in ("cgroup2", "cgroup", "tmpfs"):
@@ -158,6 +165,7 @@ look; exec unshare -C sh -c 'grep -e " %s " -e " %s " /proc/self/mountinfo' | cu
             (libc.mount(b"none", where.encode(), b"cgroup", 0, data), ctypes.get_errno()),
             (-1, errno.EBUSY),
         )
+    same("version 1 at a place that is not there", error_of(mount, "/nowhere", "cgroup"), "ENOENT")
     os.rmdir(where)
     number = 430
     for name in (b"cgroup2", b"cgroup"):
@@ -538,6 +546,8 @@ def cpusets():
 
 def unprivileged():
     same("a mount without privileges", error_of(mount, "/tmp"), "EPERM")
+    for kind in ("cgroup2", "cgroup", "tmpfs"):
+        same("of %s where nothing is" % kind, error_of(mount, "/nowhere", kind), "ENOENT")
     for kind in (b"cgroup", b"tmpfs"):
         got = libc.mount(b"none", b"/tmp", kind, 0, None), ctypes.get_errno()
         same("of %s" % kind.decode(), got, (-1, errno.EPERM))
@@ -554,13 +564,13 @@ def apart():
     os.mkfifo(home + "/go")
     script = """mount --make-rshared /
 "$0" run sh -c 'echo; read x < go; grep -c " $1 " /proc/self/mounts; ls $1' sh "$1" >out &
-until [ -s out ]; do :; done
+until [ -s out ]; do sleep 0.05; done
 mount -t tmpfs none "$1" && echo x >"$1/later" && echo >go && wait $! ; cat out"""
     ran = subprocess.run(
         ["unshare", "-Urm", "sh", "-c", script, PROGRAM, home + "/at"],
         cwd=home,
         stdout=subprocess.PIPE,
-        timeout=2 * PATIENCE,
+        timeout=4 * PATIENCE,
     )
     same("mounts of the machine that came later", ran.stdout, b"\n0\n")
 

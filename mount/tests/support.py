@@ -257,3 +257,25 @@ def line_of(pid):
         return open("/proc/%d/cmdline" % pid, "rb").read()
     except OSError:
         return b""
+
+
+def parent_of(pid):
+    """The parent of a process; None if it has ended."""
+    try:
+        return int(open("/proc/%d/stat" % pid).read().rpartition(")")[2].split()[1])
+    except OSError:
+        return None
+
+
+def companions_of(server):
+    """The processes beside the server of a mount, which have its command line. The directory in it is no other mount's."""
+    line = line_of(server)
+    return [int(n) for n in os.listdir("/proc") if n.isdigit() and int(n) != server and line_of(int(n)) == line]
+
+
+def own_of(supervisor):
+    """The processes of makhloeum beside the supervisor of a run: its children that have its command line. Another run may have the same
+    one, and until it is executed the program has it too."""
+    line = line_of(supervisor)
+    children = (int(n) for n in os.listdir("/proc") if n.isdigit() and line_of(int(n)) == line)
+    return [pid for pid in children if parent_of(pid) == supervisor]

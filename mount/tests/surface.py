@@ -274,9 +274,11 @@ def of_system():
 # ---------------------------------------------------------------- a run
 
 
-def inside(user, group):
-    """`user` and `group` are the numbers that the caller expects here."""
+def inside(user, group, space):
+    """`user` and `group` are the numbers that the caller expects here, and `space` is its own cgroup namespace."""
     os.umask(0o022)
+    step("a cgroup namespace of its own", os.readlink("/proc/self/ns/cgroup") not in ("", space), space)
+    same("by statvfs", os.statvfs(AT).f_flag & 14, os.ST_NOSUID | os.ST_NODEV | os.ST_NOEXEC)
     me = int(user), int(group)
     same("who this is", (os.getuid(), os.geteuid(), os.getgid(), os.getegid()), (me[0],) * 2 + (me[1],) * 2)
     os.mkdir(AT + "/g")
@@ -400,14 +402,16 @@ def tables():
     script = 'mount -t tmpfs -o size=8k "x y" "$1" && mount --bind "$1" "$1" && cat /proc/self/$2'
     for what in ("mounts", "mountinfo", "mountstats"):
         words = ["sh", "-c", script, "sh", home, what]
-        alone = subprocess.run(["unshare", "-Urm", *words], stdout=subprocess.PIPE, timeout=PATIENCE)
-        run = subprocess.run([PROGRAM, "run", "--root", "--", *words], stdout=subprocess.PIPE, timeout=PATIENCE)
-        same("%s: both end" % what, (alone.returncode, run.returncode), (0, 0))
-        # other tests mount and unmount beside this one, in the namespace of both
+        before, run, after = (
+            subprocess.run([*how, *words], stdout=subprocess.PIPE, timeout=4 * PATIENCE)
+            for how in (["unshare", "-Urm"], [PROGRAM, "run", "--root", "--"], ["unshare", "-Urm"])
+        )
+        same("%s: all end" % what, (before.returncode, run.returncode, after.returncode), (0, 0, 0))
+        # others mount and unmount meanwhile on the machine, whose mounts all three have
         ours = lambda lines: [x for x in lines if "/at" not in x and "/tmp" not in x.replace(home.split("/a b")[0], "")]
-        one, other = (ours(table(ran.stdout.decode(), what)) for ran in (alone, run))
-        same("%s: as the kernel shows it" % what, [x for x in other if x not in one], [])
-        same("%s: all of it" % what, [x for x in one if x not in other], [])
+        one, other, again = (ours(table(ran.stdout.decode(), what)) for ran in (before, run, after))
+        same("%s: as the kernel shows it" % what, [x for x in other if x not in one and x not in again], [])
+        same("%s: all of it" % what, [x for x in one if x in again and x not in other], [])
         step(
             "%s: the new one twice" % what,
             sum("a\\040b\\011c\\134d\\012" in x for x in run.stdout.decode().splitlines()) == 2,
@@ -417,7 +421,7 @@ def tables():
 
 def under_run():
     for options, numbers in (((), (os.geteuid(), os.getegid())), (("--root",), (0, 0))):
-        words = [sys.executable, ME, "inside", *map(str, numbers)]
+        words = [sys.executable, ME, "inside", *map(str, numbers), os.readlink("/proc/self/ns/cgroup")]
         ran = subprocess.run([PROGRAM, "run", *options, *words], timeout=2 * PATIENCE)
         same("run %s: its status" % " ".join(options), ran.returncode, 0)
 

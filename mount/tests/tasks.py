@@ -208,6 +208,20 @@ def sharing():
     finally_empty(b)
 
 
+def last_place():
+    """What one process may make without a question takes no place from another that asks."""
+    a = (top / "a").make()
+    one, other = Tasks(a), Tasks(a)
+    a.write("pids.max", 5)
+    same(
+        "one makes a thread, another all that fit then", [type(t.ask("thread")) for t in (one, other, other)], [int] * 3
+    )
+    same("then none fits", (one.ask("thread"), other.ask("thread"), a.current()), ("EAGAIN", "EAGAIN", 5))
+    one.end()
+    other.end()
+    finally_empty(a)
+
+
 def leaderless():
     a = (top / "a").make()
     b = (top / "b").make()
@@ -395,6 +409,7 @@ AS_THE_KERNEL = (
     limited,
     limited_later,
     sharing,
+    last_place,
     leaderless,
     execs,
     forks,

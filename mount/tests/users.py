@@ -7,7 +7,7 @@ import shutil
 import subprocess
 import sys
 
-from support import PATIENCE, PROGRAM, error_of, finish, libc, read, same, step
+from support import PATIENCE, PROGRAM, error_of, finish, libc, own_of, read, same, step
 
 ME = os.path.realpath(__file__)
 OTHER, GROUP = 1, 2
@@ -67,6 +67,18 @@ def inside(outside):
     finish()
 
 
+def alone():
+    """The superuser of the namespace in which makhloeum is too."""
+    makhloeum = [os.getppid(), *own_of(os.getppid())]
+    same("makhloeum's processes", len(makhloeum), 4)
+    for name in ("mem", "ns/user", "fd/0"):
+        got = [error_of(os.open, "/proc/%d/%s" % (pid, name), os.O_RDONLY) for pid in makhloeum]
+        same("their %s" % name, got, ["EACCES"] * 4)
+    finish()
+
+
+if sys.argv[1:] == ["alone"]:
+    alone()
 if sys.argv[1:2] == ["inside"]:
     inside(sys.argv[2])
 if sys.argv[1:2] == ["refused"]:
@@ -87,6 +99,8 @@ maps = ";".join(
 )
 ran = subprocess.run([PROGRAM, "run", "--users", sys.executable, ME, "inside", maps], timeout=6 * PATIENCE)
 same("a run with all users: its status", ran.returncode, 0)
+ran = subprocess.run([PROGRAM, "run", sys.executable, ME, "alone"], timeout=6 * PATIENCE)
+same("a run of the superuser: its status", ran.returncode, 0)
 # another group than that of the user's number
 script = """id -u; id -g; cat /proc/self/uid_map /proc/self/gid_map /proc/self/setgroups; cd /sys/fs/cgroup; mkdir g
 stat -c %u:%g . g g/pids.max; echo 0 >g/cgroup.procs; cat /proc/self/cgroup"""
