@@ -91,7 +91,7 @@ int __wrap_pthread_cond_init(pthread_cond_t *condition, const pthread_condattr_t
 
 /* ---- calls, each in a hierarchy with /a, /a/b, process 2 in /a/b, a limit that is reached, and a long list in /many */
 
-enum { MANY = 1500, OUT = 65536 };
+enum { MANY = 600, FIRST = 4000000, OUT = 65536 }; /* a list of these is longer than the library's own buffer */
 
 static mk_handle other, closed_handle;
 static uint8_t out[OUT];
@@ -145,7 +145,7 @@ CALL(undo_all, mk_undo_to(&h, 0, &info))
 CALL(undo_nothing, mk_undo_to(&h, SIZE_MAX, &info))
 CALL(read_text, mk_read(&h, "/a", "pids.max", text, OUT, &info))
 CALL(read_long, mk_read(&h, "/many", "cgroup.procs", text, OUT, &info))
-CALL(read_short, mk_read(&h, "/many", "cgroup.procs", text, 5000, &info))
+CALL(read_short, mk_read(&h, "/many", "cgroup.procs", text, 4800, &info))
 CALL(read_nothing, mk_read(&h, "/a", "none", text, OUT, &info))
 CALL(where, mk_where(&h, 2, text, OUT, &info))
 CALL(children, mk_children(&h, PATH("/a"), out, OUT, &info))
@@ -204,7 +204,7 @@ static bool begin(void)
 {
 	if (mk_open(&h) != MK_DONE || mk_mkdir(&h, "/many", &info) != MK_DONE)
 		return false;
-	for (int pid = 10; pid < 10 + MANY; pid++)
+	for (int pid = FIRST; pid < FIRST + MANY; pid++)
 		if (mk_fork(&h, 1, pid, &info) != MK_DONE || mk_attach(&h, "/many", pid, &info) != MK_DONE)
 			return false;
 	return mk_forget(&h) == MK_DONE && mk_mkdir(&h, "/a", &info) == MK_DONE && mk_mkdir(&h, "/a/b", &info) == MK_DONE &&
@@ -229,7 +229,7 @@ static int each_call(void)
 		for (long n = 0; was_refused; n++) {
 			CHECK(begin());
 			was_refused = false;
-			left = n < 40 ? n : -1; /* a kill of a thousand makes many more */
+			left = n < 40 ? n : -1; /* a kill of many makes more */
 			uint32_t status = calls[i].make();
 			left = -1;
 			CHECK(!was_refused || status == MK_OUT_OF_MEMORY);
