@@ -2,7 +2,7 @@
 //   node --test look/tests/edges.test.mjs
 import assert from "node:assert";
 import test from "node:test";
-import { DATA, open } from "./opened.mjs";
+import { DATA, open, window } from "./opened.mjs";
 
 const cells = ({ at }) => Object.fromEntries(at("group").children[0].children.map((row) => row.children.map((cell) => cell.textContent)));
 const thousands = (count, more = {}) => ({ ...DATA, lines: Array(count).fill("exit 9").join("\n"), answer: Array(count).fill(0), steps: Array(count).fill(0), notes: {}, ...more });
@@ -66,4 +66,24 @@ test("a line of the root's own processes marks the root", async () => {
   const page = await open({ ...DATA, lines: "fork 1 2", answer: [0], steps: [3, 2, 2, 0], names: ["/"], parents: [0], notes: {} });
   assert.deepStrictEqual([page.rows("tree").length, page.rows("tree")[0].className], [1, "row changed chosen"]);
   assert.strictEqual(page.rows("tree")[0].ariaLabel, "/: 2 processes in all");
+});
+
+const buttons = (box) => [...box.querySelectorAll("[data-key]")];
+
+test("a process or a plot that has the focus keeps it when the details and plots are drawn again", async () => {
+  const page = await open(DATA, "#line=6"), [group, plots] = ["group", "plots"].map((id) => page.at(id));
+  page.search("/a");
+  page.search("fork 2 3");
+  const first = buttons(group).find((one) => one.textContent === "2");
+  document.activeElement = first;
+  page.key("ArrowRight");
+  assert.notStrictEqual(document.activeElement, first);
+  assert.deepStrictEqual([document.activeElement.textContent, buttons(group).includes(document.activeElement)], ["2", true]);
+  page.key("Home");
+  assert.strictEqual(document.activeElement, group, "without the process the box has it");
+  const [plot] = buttons(plots);
+  document.activeElement = plot;
+  window.dispatch("resize");
+  assert.notStrictEqual(document.activeElement, plot);
+  assert.deepStrictEqual([document.activeElement.dataset.key, buttons(plots).includes(document.activeElement)], [plot.dataset.key, true]);
 });

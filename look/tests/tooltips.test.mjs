@@ -3,7 +3,7 @@
 //   node --test look/tests/tooltips.test.mjs
 import assert from "node:assert";
 import test from "node:test";
-import { DATA, html, open } from "./opened.mjs";
+import { DATA, html, open, timers } from "./opened.mjs";
 
 const KEYS = { "←": ["ArrowLeft"], "→": ["ArrowRight"], Space: [" "], "Shift+Space": [" ", { shiftKey: true }] };
 const BUTTONS = [...html.matchAll(/<button[^>]* id="([a-z-]+)"([^>]*)>/g)].map(([, id, more]) => ({ id, title: /title="([^"]*)"/.exec(more)?.[1] ?? "", label: /aria-label="([^"]*)"/.exec(more)?.[1] }));
@@ -63,6 +63,18 @@ test("the foot names each key, with what it does", async () => {
     const page = await open(many, key === "PageUp" ? "#line=19" : "#line=31");
     page.key(key);
     assert.strictEqual(page.moment(), wanted, `${key} goes no farther than an end`);
+  }
+});
+
+test("Escape stops it in either direction, and starts nothing", async () => {
+  for (const [shiftKey, wanted] of [[false, ["true", "false"]], [true, ["false", "true"]]]) {
+    const page = await open(DATA, "#line=6"), pressed = () => ["play", "play-back"].map((id) => page.at(id).ariaPressed);
+    page.key("Escape");
+    assert.strictEqual(timers.size, 0);
+    page.key(" ", { shiftKey });
+    assert.deepStrictEqual([pressed(), timers.size], [wanted, 1]);
+    page.key("Escape");
+    assert.deepStrictEqual([pressed(), timers.size, page.moment()], [["false", "false"], 0, 6]);
   }
 });
 
