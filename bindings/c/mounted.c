@@ -46,11 +46,11 @@ PUBLIC const mk_file *mk_file_at(size_t i)
 	return i < sizeof files / sizeof *files ? &files[i].shown : NULL;
 }
 
-static const struct file *find(const char *name, bool on_root)
+static const struct file *find(const char *name)
 {
 	for (size_t i = 0; i < sizeof files / sizeof *files; i++)
 		if (strcmp(files[i].shown.name, name) == 0)
-			return files[i].shown.on_root || !on_root ? &files[i] : NULL;
+			return &files[i];
 	return NULL;
 }
 
@@ -216,7 +216,7 @@ static uint32_t put(mk0_handle *engine, const char *path, const char *name, cons
 	int *error)
 {
 	char out[ANSWER_BYTES], said[SAID_BYTES];
-	const struct file *file = find(name, strcmp(path, "/") == 0);
+	const struct file *file = find(name);
 	/* whether there is such a group; faults that a test asked for can occur */
 	struct line line;
 	begin_line(&line, "cat", path);
@@ -226,6 +226,10 @@ static uint32_t put(mk0_handle *engine, const char *path, const char *name, cons
 		*error = lookup_error(path);
 	if (status != MK_DONE)
 		return status;
+	if (file != NULL && !file->shown.on_root && strcmp(path, "/") == 0) {
+		*told = (mk0_info){ .code = MK_NO_FILE };
+		return MK_REFUSED;
+	}
 	*error = file == NULL ? ENOENT : value_of(file, write, said);
 	*told = (mk0_info){ .code = file == NULL ? MK_FILE : file->value == NOTHING ? MK_DIRECTION : MK_VALUE };
 	if (*error != 0)

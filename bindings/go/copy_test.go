@@ -4,11 +4,9 @@ import (
 	"errors"
 	"fmt"
 	"reflect"
-	"runtime"
 	"sync/atomic"
 	"syscall"
 	"testing"
-	"time"
 )
 
 func copied(t testing.TB, h *Hierarchy) *Hierarchy {
@@ -116,7 +114,7 @@ func TestCopiesWhileGoroutinesChange(t *testing.T) {
 	together(t, seconds(t, 2), func(number int, stopped *atomic.Bool) error {
 		h := two[number%2]
 		path := fmt.Sprintf("/t%d", number)
-		for !stopped.Load() {
+		for !stopped.Load() || copies.Load() == 0 {
 			if err := h.Mkdir(path); err != nil {
 				return err
 			}
@@ -140,9 +138,5 @@ func TestCopiesWhileGoroutinesChange(t *testing.T) {
 		}
 		return nil
 	})
-	if copies.Load() == 0 {
-		t.Error("no copy was made")
-	}
-	runtime.GC()
-	time.Sleep(10 * time.Millisecond)
+	finalize(t)
 }

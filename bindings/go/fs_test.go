@@ -149,7 +149,8 @@ func TestFilesThatTheRootLacks(t *testing.T) {
 		_, stat := f.Stat(it.name)
 		_, opened := f.Open(it.name)
 		_, list := f.ReadDir(it.name)
-		for operation, err := range map[string]error{"read": read, "stat": stat, "open": opened, "list": list} {
+		written := f.WriteFile(it.name, []byte("1"))
+		for operation, err := range map[string]error{"read": read, "stat": stat, "open": opened, "list": list, "write": written} {
 			if !errors.Is(err, fs.ErrNotExist) {
 				t.Errorf("%s %s: %v", operation, it.name, err)
 			}

@@ -11,7 +11,7 @@ import (
 	"time"
 )
 
-const patience = 20 * time.Second
+const patience = 300 * time.Second
 
 // next is the next text of a watch; the end is "closed".
 func next(t *testing.T, texts <-chan string) string {
@@ -221,6 +221,19 @@ func TestAWaitEndsWithItsContext(t *testing.T) {
 	}
 }
 
+// finalize collects what nothing refers to, and waits until a finalizer that was due with the others has run.
+func finalize(t *testing.T) {
+	t.Helper()
+	ran := make(chan bool)
+	runtime.SetFinalizer(&[64]byte{}, func(*[64]byte) { close(ran) })
+	runtime.GC()
+	select {
+	case <-ran:
+	case <-time.After(patience):
+		t.Fatal("no finalizer runs")
+	}
+}
+
 // A hierarchy that nothing refers to any more is freed: the memory of many would be more than this.
 func TestAForgottenHierarchyIsFreed(t *testing.T) {
 	first := newWithGroup(t)
@@ -233,8 +246,7 @@ func TestAForgottenHierarchyIsFreed(t *testing.T) {
 				t.Fatal(err)
 			}
 			if i%50 == 0 {
-				runtime.GC()
-				time.Sleep(5 * time.Millisecond) // the finalizers run in a goroutine
+				finalize(t)
 			}
 		}
 	}

@@ -56,6 +56,13 @@ test("the axes of a plot", () => {
   // at most four steps upward, eight across
   const nine = new Run({ lines: "mkdir /a\nx", names: ["/", "a"], parents: [0, 0], notes: {}, times: null, answers: ["ok"], answer: [0, 0], steps: [2, 0, 1, 5, 8, PEAK, 1, 1, 9] });
   assert.deepStrictEqual(texts(plot(nine)).filter(([, , , anchor]) => anchor === "end").map(([text]) => text), ["0", "5"]);
+  // a place is one of the tenths of a pixel: 88 - 76 * 5 / 9
+  assert.deepStrictEqual(plot(nine).of("grid"), ["M46 88H346", "M46 45.8H346"]);
+  const peaks = (most, lines = 2) => new Run({ lines: ["mkdir /a", ...Array(lines - 1).fill("x")].join("\n"), names: ["/", "a"], parents: [0, 0], notes: {}, times: null, answers: ["ok"], answer: Array(lines).fill(0), steps: [2, 0, 1, 5, 8, PEAK, 1, 1, most, ...Array(lines - 2).fill(0)] });
+  assert.deepStrictEqual(texts(plot(peaks(5000, 12000))).map(([text]) => text), ["0", "2,000", "4,000", "0", "2,000", "4,000", "6,000", "8,000", "10,000", "12,000"]);
+  // no half of a command, but parts of a second
+  assert.deepStrictEqual(texts(plot(peaks(8))).map(([text]) => text), ["0", "2", "4", "6", "8", "0", "1", "2"]);
+  assert.deepStrictEqual(texts(plot(run(Array(10).fill(0.1)))).slice(5).map(([text]) => text), ["0 s", "0.2 s", "0.4 s", "0.6 s", "0.8 s", "1 s"]);
   const seconds = (most) => texts(plot(run([1, 1, 1, 1, 1, 1, 1, 1, 1, most - 9]))).slice(5).map(([text]) => text);
   assert.deepStrictEqual([seconds(40), seconds(45)], [[0, 5, 10, 15, 20, 25, 30, 35, 40].map((at) => `${at} s`), [0, 10, 20, 30, 40].map((at) => `${at} s`)]);
 });

@@ -2,6 +2,8 @@
 
 from __future__ import annotations
 
+import contextlib
+import gc
 import os
 import random
 import sys
@@ -143,6 +145,17 @@ HOSTILE = (
     "mkdir /constructor\nfork 1 2\nwrite /__proto__ cgroup.procs 2\n</script><script>window.hacked = 1</script>\ncat /<script> pids.max\n"
     "write /<script>/&quot; pids.max 0\nfork 1 3\nwrite /<script>/&quot; cgroup.procs 3\nfork 3 4\n\\u003cb\\u003e \\\" ' ` ${hacked}\n"
 )
+
+
+def open_files() -> set[tuple[str, str]]:
+    """The descriptors of this process, each with what it names. Files that nobody refers to any more are closed first, so that none
+    of an earlier test is closed in between."""
+    gc.collect()
+    found = set()
+    for fd in os.listdir("/proc/self/fd"):
+        with contextlib.suppress(FileNotFoundError):  # that of the listing itself
+            found.add((fd, os.readlink(f"/proc/self/fd/{fd}")))
+    return found
 
 
 def history_of(trace: str | bytes) -> History:

@@ -80,13 +80,15 @@ def test_it_plays_and_plays_back(shown):
     assert moment(b) == stopped
     b.click("#play-back")
     assert b.until(lambda: moment(b) == 0 and b.run(plays) == ["false", "false"])
-    b.run("document.getElementById('speed').value = '10'")
+    b.run(
+        "document.getElementById('speed').value = '2'"
+    )  # so slowly that it doesn't reach the end before the second click
     b.click("#play")
-    assert b.until(lambda: moment(b) > 3)
+    assert b.until(lambda: moment(b) > 1)
     b.click("#play")
     stopped = moment(b)
-    time.sleep(0.3)
-    assert 3 < moment(b) == stopped < 47
+    time.sleep(0.6)
+    assert 1 < moment(b) == stopped < 47
 
 
 def test_a_link_to_a_moment(shown):

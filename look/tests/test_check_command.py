@@ -7,7 +7,7 @@ import signal
 import pytest
 import support  # noqa: F401: it puts the package on the path
 
-from makhloeum.check import command
+from makhloeum.check import command, playing
 from makhloeum.check.engine import Answer, Engine
 from makhloeum.check.playing import NO_ANSWER, Counts, Difference
 
@@ -274,10 +274,13 @@ def test_the_help_says_what_each_option_is_without_it(capsys, monkeypatch):
     assert set(re.findall(r"^ *--([\w-]+)", told, re.M)) == {name.replace("_", "-") for name in plain} - {"directory"}
 
 
-def test_a_rate_is_by_the_second():
+def test_a_rate_is_by_the_second(monkeypatch):
     counts = Counts()
-    counts.operations, counts.began = 300, counts.began - 3
-    assert 90 < counts.rate() <= 100
+    monkeypatch.setattr(playing.time, "monotonic", lambda: counts.began + 3)
+    counts.operations = 300
+    assert counts.rate() == 100
+    monkeypatch.setattr(playing.time, "monotonic", lambda: counts.began)
+    assert counts.rate() > 1e9, "in no time it is no division by zero"
 
 
 @pytest.mark.parametrize(

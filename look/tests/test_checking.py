@@ -9,11 +9,10 @@ import socket
 import struct
 import subprocess
 import threading
-import time
 import types
 
 import pytest
-from support import HERE
+from support import HERE, open_files
 
 from makhloeum._table import PID_MAX
 from makhloeum.check import command, directory, known, opening, watching
@@ -221,12 +220,11 @@ def test_what_came_of_a_change(now, again, wanted, reads):
 def test_a_change_that_is_due_is_waited_for_and_no_other():
     watch = Told([])
     try:
-        began = time.monotonic()
-        assert watch.take(False, 3600) == "nothing" and time.monotonic() - began < 600
+        # a wait for as long as this would end the tests
+        assert watch.take(False, 36000) == "nothing"
         late = threading.Timer(0.2, watch.come, (["poll", MODIFIED],))
         late.start()
-        assert watch.take(True, 600) == "poll inotify", "it waits no longer once both have come"
-        assert time.monotonic() - began < 600
+        assert watch.take(True, 36000) == "poll inotify", "it waits no longer once both have come"
         late.join()
         watch.come(["poll"])
         assert watch.take(False, 0) == "poll"
@@ -238,17 +236,17 @@ def test_a_watch_of_a_file(tmp_path):
     """A file elsewhere has no POLLPRI, but inotify tells of a write."""
     file = tmp_path / "cgroup.events"
     file.write_text("populated 0\n")
-    before = len(os.listdir("/proc/self/fd"))
+    before = open_files()
     watch = watching.Watch(str(file))
     assert watch._modified() is False
     with open(file, "a", encoding="ascii") as it:
         it.write("frozen 0\n")
     assert watch._modified() is True and watch._modified() is False
     watch.close()
-    assert len(os.listdir("/proc/self/fd")) == before
+    assert open_files() == before
     with pytest.raises(FileNotFoundError):
         watching.Watch(str(tmp_path / "none"))
-    assert len(os.listdir("/proc/self/fd")) == before
+    assert open_files() == before
 
 
 @pytest.mark.parametrize("fails", ["inotify_init1", "inotify_add_watch"])
@@ -266,11 +264,11 @@ def test_a_watch_that_inotify_refuses(tmp_path, monkeypatch, fails):
 
     monkeypatch.setattr(watching.ctypes, "CDLL", lambda name, use_errno: Library())
     monkeypatch.setattr(watching.ctypes, "get_errno", lambda: errno.EMFILE)
-    before = len(os.listdir("/proc/self/fd"))
+    before = open_files()
     with pytest.raises(OSError) as failed:
         watching.Watch(str(tmp_path / "cgroup.events"))
     assert (failed.value.errno, failed.value.strerror) == (errno.EMFILE, os.strerror(errno.EMFILE))
-    assert len(os.listdir("/proc/self/fd")) == before
+    assert open_files() == before
 
 
 # ---- removing groups
@@ -327,7 +325,7 @@ def test_the_names_of_groups_are_quoted_in_a_script(tmp_path, way):
     if way == "T":
         script = re.sub(r"; echo threaded >\S*'?[^;\n]*cgroup\.type'?", "", script)
     ran = subprocess.run(
-        ["sh"], input=script, text=True, capture_output=True, timeout=60, env=dict(os.environ, LC_ALL="C")
+        ["sh"], input=script, text=True, capture_output=True, timeout=600, env=dict(os.environ, LC_ALL="C")
     )
     assert ran.returncode == 0, ran.stderr
     said = [line for line in ran.stderr.split("\n") if line and not line.startswith("cat: ") and "kill" not in line]
@@ -345,7 +343,7 @@ def test_a_script_keeps_what_it_needs_in_any_folder(tmp_path):
         "\n".join(shell_script(Difference("free", commands, BUSY, Answer("EINVAL")), str(folder))) + "\necho $p2,$p3\n"
     )
     words = dict(os.environ, LC_ALL="C", TMPDIR=str(place))
-    ran = subprocess.run(["sh"], input=script, text=True, capture_output=True, timeout=60, env=words)
+    ran = subprocess.run(["sh"], input=script, text=True, capture_output=True, timeout=600, env=words)
     assert re.fullmatch(r"\d+,\d+\n", ran.stdout), ran.stderr
     assert not re.search("mkfifo|rm: |No such file|ambiguous|cannot", ran.stderr) and os.listdir(place) == []
     assert sorted(os.listdir(tmp_path)) == ["folder", place.name]
@@ -357,7 +355,7 @@ def test_values_and_the_directory_are_quoted_in_a_script(tmp_path):
     commands = [["mkdir", "/a"], ["write", "/a", "pids.max", "$(id>hit)"], ["rmdir", "/a"]]
     script = shell_script(Difference("free", commands, BUSY, Answer("EINVAL")), str(home))
     assert "echo '$(id>hit)' >a/pids.max" in "\n".join(script)
-    ran = subprocess.run(["sh"], input="\n".join(script[:4]) + "\n", text=True, capture_output=True, timeout=60)
+    ran = subprocess.run(["sh"], input="\n".join(script[:4]) + "\n", text=True, capture_output=True, timeout=600)
     assert ran.returncode == 0 and os.listdir(home) == [] and os.listdir(tmp_path) == [home.name]
 
 

@@ -27,7 +27,7 @@ PROGRAM = os.environ.get("MAKHLOEUM") or os.path.join(HERE, "..", "..", "mount",
 
 def run(*words, text=b"", **how):
     ran = subprocess.run(
-        [sys.executable, "-m", "makhloeum", *words], input=text, capture_output=True, env=WORDS, timeout=60, **how
+        [sys.executable, "-m", "makhloeum", *words], input=text, capture_output=True, env=WORDS, timeout=600, **how
     )
     return ran.returncode, ran.stdout.decode(), ran.stderr.decode()
 
@@ -66,7 +66,7 @@ def test_a_command_finds_its_package_through_a_link(tmp_path):
     link.symlink_to(command)
     without = {name: value for name, value in WORDS.items() if name != "PYTHONPATH"}
     for path in (command, link):
-        ran = subprocess.run([path, "--help"], capture_output=True, env=without, timeout=60)
+        ran = subprocess.run([path, "--help"], capture_output=True, env=without, timeout=600)
         assert (ran.returncode, ran.stderr) == (0, b"") and ran.stdout, path
 
 
@@ -185,7 +185,7 @@ def test_colour_is_for_a_terminal(tmp_path):
         except OSError:
             pass
         os.close(ours)
-        assert process.wait(60) == 0 and (b"\x1b[" in told) == coloured, (more, told)
+        assert process.wait(600) == 0 and (b"\x1b[" in told) == coloured, (more, told)
 
 
 def test_a_closed_pipe_is_no_message(tmp_path):
@@ -193,7 +193,7 @@ def test_a_closed_pipe_is_no_message(tmp_path):
     command = [sys.executable, "-m", "makhloeum", "tree", str(tmp_path)]
     tree = subprocess.Popen(command, stdout=subprocess.PIPE, stderr=subprocess.PIPE, env=WORDS)
     tree.stdout.close()
-    assert (tree.communicate(timeout=60)[1], tree.returncode) == (b"", 141)
+    assert (tree.communicate(timeout=600)[1], tree.returncode) == (b"", 141)
 
 
 def test_an_output_without_lines_and_blocks(tmp_path):
@@ -204,7 +204,7 @@ def test_an_output_without_lines_and_blocks(tmp_path):
     groups(tmp_path, {"a": {"cgroup.procs": "", "pids.current": "1\n", "pids.max": "2\n", "pids.peak": "2\n"}})
     words = dict(WORDS, PYTHONIOENCODING="ascii")
     ran = subprocess.run(
-        [sys.executable, "-m", "makhloeum", "tree", "."], capture_output=True, env=words, cwd=tmp_path, timeout=60
+        [sys.executable, "-m", "makhloeum", "tree", "."], capture_output=True, env=words, cwd=tmp_path, timeout=600
     )
     assert (ran.returncode, ran.stderr) == (0, b"")
     assert ran.stdout.decode("ascii").split("\n") == [
@@ -229,7 +229,7 @@ def test_lines_are_cut_to_a_terminal(tmp_path):
             env=dict(WORDS, TERM="xterm", **more),
             cwd=tmp_path,
         )
-        assert tree.wait(60) == 0
+        assert tree.wait(600) == 0
         lines = re.sub(r"\x1b\[[0-9;]*m", "", os.read(ours, 65536).decode()).split("\r\n")
         # 40 columns, the last of which is a blank between two pids
         assert lines == [".", "└─ a" + " " * 22 + "100000 100001", ""], lines
@@ -255,7 +255,7 @@ def test_an_interrupt_is_no_traceback(tmp_path):
             running.send_signal(signal.SIGINT)
             if running.poll() is not None:
                 break
-        out, error = running.communicate(timeout=60)
+        out, error = running.communicate(timeout=600)
         assert b"Traceback" not in error and running.returncode in (
             (-signal.SIGINT,) if begun else (-signal.SIGINT, 2)
         ), (words, error)
@@ -291,12 +291,14 @@ def test_watch_draws_again_on_a_change_and_ends(tmp_path):
     assert process.stdout is not None
     first = [process.stdout.readline() for _ in range(4)]
     assert "3/4" in first[1]
-    (tmp_path / "a" / "pids.current").write_text("4\n")
+    # in one step, so that the file is never read while it is empty
+    (tmp_path / "current").write_text("4\n")
+    (tmp_path / "current").replace(tmp_path / "a" / "pids.current")
     again = [process.stdout.readline() for _ in range(5)]
     assert again[0] == "\n" and "[██████████]    4/4" in again[2]
     time.sleep(0.5)
     process.send_signal(signal.SIGINT)
-    rest, _ = process.communicate(timeout=20)
+    rest, _ = process.communicate(timeout=600)
     assert (process.returncode, rest) == (0, ""), "nothing is drawn without a change"
 
 
@@ -327,11 +329,12 @@ def test_watch_follows_a_mount_by_poll(tmp_path):
             assert again[2].split()[2:] == ["1/max", "peak", "1", "populated", "2"]
         finally:
             process.send_signal(signal.SIGINT)
-            process.communicate(timeout=20)
+            process.communicate(timeout=600)
         assert process.returncode == 0
     finally:
-        for _ in range(50):
-            if subprocess.run(["fusermount3", "-u", str(at)], stderr=subprocess.DEVNULL).returncode == 0:
+        end = time.monotonic() + 300
+        while subprocess.run(["fusermount3", "-u", str(at)], stderr=subprocess.DEVNULL).returncode != 0:
+            if time.monotonic() > end:
                 break
             time.sleep(0.1)
 

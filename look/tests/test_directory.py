@@ -9,7 +9,7 @@ import select
 import types
 
 import pytest
-import support  # noqa: F401: it puts the package on the path
+from support import open_files
 
 from makhloeum import Hierarchy, Refused, mounted_at
 from makhloeum.check import command, directory, opening, playing
@@ -202,20 +202,20 @@ def test_a_kill_that_leaves_a_process_alive(groups, served, monkeypatch):
 
 
 def test_a_file_that_stays_open(groups, served):
-    before = len(os.listdir("/proc/self/fd"))
+    before = len(open_files())
     for path in ("/a", "/b"):
         groups.mkdir(path)
     assert groups.reread("/a", "pids.max") == groups.reread("/b", "pids.max") == "max\n"
     groups.write("/a", "pids.max", "5", [])
     assert groups.reread("/a", "pids.max") == "5\n" and groups.reread("/a", "pids.current") == "0\n"
     assert groups.reread("/", "cgroup.procs") == "1\n", "with the numbers of the engine"
-    assert len(os.listdir("/proc/self/fd")) == before + 4, "each is opened once"
+    assert len(open_files()) == before + 4, "each is opened once"
     groups.rmdir("/a")
-    assert len(os.listdir("/proc/self/fd")) == before + 2, "a group that is gone keeps no open file"
+    assert len(open_files()) == before + 2, "a group that is gone keeps no open file"
     groups.mkdir("/a")
     assert groups.reread("/a", "pids.max") == "max\n"
     groups._close_kept()
-    assert len(os.listdir("/proc/self/fd")) == before
+    assert len(open_files()) == before
 
 
 def test_watches(groups, served):

@@ -14,7 +14,7 @@ from makhloeum.check import processes, worker
 from makhloeum.check.processes import Process, is_alive, leave_no_zombies, wait_for_end
 from makhloeum.check.worker import Hang, Worker, error_name
 
-PATIENCE = 30  # seconds
+PATIENCE = 300  # seconds
 
 
 def in_a_child(body):
@@ -74,15 +74,15 @@ def test_processes_fork_and_end():
         grandchild, other = child.fork(), first.fork()
         assert parent_of(first.pid) == os.getpid() and parent_of(child.pid) == parent_of(other.pid) == first.pid
         assert parent_of(grandchild.pid) == child.pid
-        assert child.end() is True and not is_alive(child.pid)
+        assert child.end(PATIENCE) is True and not is_alive(child.pid)
         assert (
             is_alive(grandchild.pid) and is_alive(first.pid) and until(lambda: parent_of(grandchild.pid) == os.getpid())
         )
         more = grandchild.fork()
         assert parent_of(more.pid) == grandchild.pid, "an orphan goes on"
         for process in (more, grandchild, other, first):
-            assert process.slay() is True and not is_alive(process.pid)
-        assert first.slay() is True and first.end() is True, "it may have ended already"
+            assert process.slay(PATIENCE) is True and not is_alive(process.pid)
+        assert first.slay(PATIENCE) is True and first.end(PATIENCE) is True, "it may have ended already"
 
     in_a_child(body)
 
@@ -149,7 +149,7 @@ def test_a_fork_that_fails_has_its_errno(number):
             with pytest.raises(OSError) as failed:
                 process.fork()
             assert failed.value.errno == number and failed.value.strerror == os.strerror(number)
-        assert is_alive(process.pid) and process.end()
+        assert is_alive(process.pid) and process.end(PATIENCE)
 
     in_a_child(body)
 
@@ -218,11 +218,15 @@ def own(tmp_path):
 
 
 def is_over(pid):
+    """Whether it has ended; a child of this process also after it was left to end by itself."""
     try:
-        os.kill(pid, 0)
-    except ProcessLookupError:
+        return os.waitpid(pid, os.WNOHANG)[0] == pid
+    except ChildProcessError:
+        pass
+    try:
+        return fields_of(pid)[0] == "Z"
+    except (FileNotFoundError, ProcessLookupError):  # also while it is read
         return True
-    return False
 
 
 def test_a_worker_answers_apart(tmp_path):
@@ -239,7 +243,7 @@ def test_a_worker_answers_apart(tmp_path):
     assert ignored >> (signal.SIGCHLD - 1) & 1
     assert at.ask("end") == ("ok", []) and at.ask("close") == ("ok", [])
     at.leave()
-    assert is_over(at.pid)
+    assert until(lambda: is_over(at.pid))
 
 
 def test_an_error_of_a_worker_is_its_errno(own):
@@ -256,7 +260,7 @@ def test_a_worker_removes_what_it_has_when_the_check_ends(own):
     at = Worker(PATIENCE)
     assert at.ask("reopen", str(own), 5) == ("ok", None)
     at.leave()
-    assert is_over(at.pid) and not own.exists()
+    assert until(lambda: is_over(at.pid)) and not own.exists()
 
 
 def test_what_a_worker_could_not_remove(own):
@@ -274,10 +278,10 @@ def test_a_request_that_takes_too_long_hangs(monkeypatch):
     at = Worker(0.3)
     began = time.monotonic()
     with pytest.raises(Hang):
-        at.ask("nap", 60)
-    assert 0.3 <= time.monotonic() - began < PATIENCE
+        at.ask("nap", 3 * PATIENCE)
+    assert time.monotonic() - began >= 0.3
     at.abandon()
-    assert is_over(at.pid)
+    assert until(lambda: is_over(at.pid))
     slow = Worker(PATIENCE)
     assert slow.ask("nap", 0.5) == ("ok", None)
     slow.leave()
@@ -287,9 +291,9 @@ def test_a_worker_that_does_not_end_is_killed(monkeypatch):
     monkeypatch.setattr(worker._Worker, "nap", lambda self, seconds: time.sleep(seconds), raising=False)
     at = Worker(0.1)
     with pytest.raises(Hang):
-        at.ask("nap", 60)
+        at.ask("nap", 3 * PATIENCE)
     at.leave()
-    assert is_over(at.pid)
+    assert until(lambda: is_over(at.pid))
     at.abandon()  # once more does nothing
 
 
@@ -297,7 +301,7 @@ def test_an_abandoned_worker_takes_its_processes_along(monkeypatch):
     def spawn(self):
         pid = os.fork()
         if pid == 0:
-            time.sleep(60)
+            time.sleep(3 * PATIENCE)
         return pid
 
     monkeypatch.setattr(worker._Worker, "spawn", spawn, raising=False)
@@ -305,7 +309,7 @@ def test_an_abandoned_worker_takes_its_processes_along(monkeypatch):
     error, pid = at.ask("spawn")
     assert error == "ok" and not is_over(pid)
     at.abandon()
-    assert is_over(at.pid) and until(lambda: is_over(pid) or fields_of(pid)[0] == "Z")
+    assert until(lambda: is_over(at.pid)) and until(lambda: is_over(pid))
 
 
 def test_names_of_errors():

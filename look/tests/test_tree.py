@@ -5,7 +5,7 @@ import os
 import re
 
 import pytest
-import support  # noqa: F401: it puts the package on the path
+from support import open_files
 
 from makhloeum import PidsMax, mounted_at
 from makhloeum.look import tree, view
@@ -257,14 +257,14 @@ def test_the_event_files_of_each_group_are_watched(followed):
     h, watch = followed
     wanted = {f"/cg{group}/{file}" for group in ("/a", "/a/b") for file in ("cgroup.events", "pids.events")}
     assert set(watch.files) == wanted, "the root has none"
-    before, descriptors = dict(watch.files), len(os.listdir("/proc/self/fd"))
+    before, descriptors = dict(watch.files), len(open_files())
     watch.follow(of_directory("/cg"))
     assert watch.files == before, "no file is opened twice"
     h.mkdir("/c")
     h.rmdir("/a/b")
     watch.follow(of_directory("/cg"))
     assert set(watch.files) == {f"/cg/{group}/{file}" for group in "ac" for file in ("cgroup.events", "pids.events")}
-    assert len(os.listdir("/proc/self/fd")) == descriptors, "those of a group that is gone are closed"
+    assert len(open_files()) == descriptors, "those of a group that is gone are closed"
 
 
 def test_a_wait_ends_with_a_change_and_takes_it(followed):

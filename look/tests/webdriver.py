@@ -67,7 +67,7 @@ class Browser:
         request = urllib.request.Request(self.at + path, body, {"Content-Type": "application/json"}, method=method)
         opener = urllib.request.build_opener(urllib.request.ProxyHandler({}))
         try:
-            with opener.open(request, timeout=240) as reply:
+            with opener.open(request, timeout=900) as reply:
                 return json.load(reply)["value"]
         except urllib.error.HTTPError as failure:
             raise RuntimeError(json.load(failure)["value"]["message"]) from None
@@ -154,7 +154,7 @@ class Browser:
         """What the browser wrote to its console since the last look."""
         return [entry["message"] for entry in self.call("POST", "/se/log", type="browser")]
 
-    def until(self, holds: Callable[[], Any], seconds: float = 20) -> bool:
+    def until(self, holds: Callable[[], Any], seconds: float = 300) -> bool:
         end = time.monotonic() + seconds
         while time.monotonic() < end:
             if holds():
@@ -172,7 +172,7 @@ class Browser:
                 self.call("DELETE", "")
         finally:
             self.driver.terminate()
-            self.driver.wait(20)
+            self.driver.wait(300)
             if self.driver.stdout:
                 self.driver.stdout.close()
             shutil.rmtree(self.folder, ignore_errors=True)

@@ -186,7 +186,7 @@ static int forked_while_waiting(void)
 		pid_t child = fork();
 		CHECK(child >= 0);
 		if (child == 0) {
-			alarm(20);
+			alarm(300); /* ends what hangs */
 			for (int i = 0; i < 5; i++)
 				if (mk_mkdir(&h, "/x", &info) != MK_DONE || mk_rmdir(&h, "/x", &info) != MK_DONE)
 					_exit(1);

@@ -128,14 +128,40 @@ static int put(const char *path, const char *file, const char *data, int64_t sel
 	return mk_put(&h, path, file, data, strlen(data), self, &info) == MK_DONE ? 0 : info.error;
 }
 
+/* A file that the root lacks is not there, whatever is written, as a mount's look-up says; it is refused as by mk_write. */
+static void lacking(void)
+{
+	static const char *const data[] = { "", "0", "1", "max", "x", "domain", "+pids", "-1" };
+	static const char *const unknown[] = { "none", "", "pids.ma", "pids.maxx", "cgroup", "pids.max\n", "cgroup.kill/" };
+	const mk_file *file;
+	int count = 0;
+	for (size_t i = 0; (file = mk_file_at(i)) != NULL; i++) {
+		if (file->on_root)
+			continue;
+		count++;
+		for (size_t at = 0; at < sizeof data / sizeof *data; at++) {
+			uint32_t status = mk_put(&h, "/", file->name, data[at], strlen(data[at]), 1, &info);
+			CHECK(status == MK_REFUSED && info.code == MK_NO_FILE && info.error == ENOENT, "%s: %s: %u, %u", file->name,
+				data[at], (unsigned)status, (unsigned)info.code);
+		}
+	}
+	CHECK(count == 9, "%d files are not on the root", count);
+	CHECK(mk_write(&h, "/", "pids.max", "1", &info) == MK_REFUSED && info.code == MK_NO_FILE && info.error == ENOENT,
+		"the same of mk_write");
+	for (size_t i = 0; i < sizeof unknown / sizeof *unknown; i++)
+		for (int on_root = 0; on_root < 2; on_root++) {
+			uint32_t status = mk_put(&h, on_root ? "/" : "/a", unknown[i], "1", 1, 1, &info);
+			CHECK(status == MK_FAULT && info.code == MK_FILE && info.error == ENOENT, "%s: %u, %u", unknown[i],
+				(unsigned)status, (unsigned)info.code);
+		}
+}
+
 static void others(void)
 {
 	CHECK(put("/a", "none", "1", 1) == ENOENT && info.code == MK_FILE, "a file that is not there");
 	CHECK(put("/c", "pids.max", "1", 1) == ENOENT && info.code == MK_NO_GROUP, "a group that is not there");
 	CHECK(put("/c", "cpu.stat", "1", 1) == ENOENT && info.code == MK_NO_GROUP,
 		"a constant of a group that is not there");
-	CHECK(put("/", "pids.max", "1", 1) == ENOENT && put("/", "cgroup.type", "domain", 1) == ENOENT,
-		"files that the root has not");
 	CHECK(put("/a", "pids.current", "1", 1) == EINVAL && info.code == MK_DIRECTION &&
 			put("/a", "cpu.stat", "", 1) == EINVAL,
 		"files that are read");
@@ -186,6 +212,7 @@ int main(void)
 	random_values();
 	if (mk_undo_to(&h, 2, &info) != MK_DONE)
 		return 2;
+	lacking();
 	others();
 	printf("%ld\n", held);
 	return mk_close(&h) == MK_DONE ? 0 : 2;

@@ -17,7 +17,10 @@ enum { THREADS = 4, OUT = 16384 };
 
 static mk_handle h;
 static atomic_bool stopped;
-static atomic_long held;
+static atomic_long held, begun;
+
+/* ends by SIGALRM what hangs in the child of a fork */
+enum { PATIENCE_SECONDS = 300 };
 
 #define CHECK(holds)                                                 \
 	do {                                                             \
@@ -216,8 +219,10 @@ static void *wait_until_closed(void *unused)
 	uint64_t seen = 0, changes;
 	uint32_t status;
 	(void)unused;
-	while ((status = mk_wait(&h, seen, 20000, &changes)) == MK_DONE) {
+	while ((status = mk_wait(&h, seen, MK_FOREVER, &changes)) == MK_DONE) {
 		CHECK(changes > seen);
+		if (seen == 0)
+			atomic_fetch_add(&begun, 1);
 		seen = changes;
 	}
 	CHECK(status == MK_CLOSED && changes == 0 && seen > 0);
@@ -231,7 +236,7 @@ static void waiting(double seconds)
 	uint64_t rounds = 0, changes;
 	for (int i = 0; i < THREADS; i++)
 		CHECK(pthread_create(&threads[i], NULL, wait_until_closed, NULL) == 0);
-	for (double end = now() + seconds; now() < end; rounds++) {
+	for (double end = now() + seconds; now() < end || atomic_load(&begun) < THREADS; rounds++) {
 		CHECK(ask(&it, "mkdir /a") == MK_DONE && ask(&it, "mkdir /a") == MK_REFUSED && ask(&it, "rmdir /a") == MK_DONE);
 		if (rounds % 16 == 0)
 			pause_for(0.0002);
@@ -296,12 +301,18 @@ static void *cross(void *number)
 
 static void copying(double seconds)
 {
+	pthread_t threads[THREADS];
 	CHECK(mk_open(&crossed[0]) == MK_DONE);
-	run_threads(cross, seconds);
+	atomic_store(&stopped, false);
+	start_threads(threads, cross);
+	for (double end = now() + seconds;
+		 now() < end || atomic_load(&crossings[0]) == 0 || atomic_load(&crossings[1]) == 0;)
+		pause_for(0.01);
+	atomic_store(&stopped, true);
+	join_threads(threads);
 	for (int i = 0; i < 2; i++) {
 		uint32_t status = mk_close(&crossed[i]);
 		CHECK(status == MK_DONE || status == MK_CLOSED);
-		CHECK(atomic_load(&crossings[i]) > 0);
 	}
 }
 
@@ -357,13 +368,12 @@ static void signals(double seconds)
 	interrupted = pthread_self();
 	atomic_store(&stopped, false);
 	CHECK(pthread_create(&thread, NULL, interrupt, NULL) == 0);
-	for (double end = now() + seconds; now() < end;) {
+	for (double end = now() + seconds; now() < end || atomic_load(&busy) == 0 || atomic_load(&answered) == 0;) {
 		it.status = mk_line(&h, 7, line, sizeof line - 1, (uint8_t *)it.out, OUT, &it.info);
 		CHECK(it.status == MK_DONE && it.info.len == sizeof want - 1 && memcmp(it.out, want, sizeof want - 1) == 0);
 	}
 	atomic_store(&stopped, true);
 	CHECK(pthread_join(thread, NULL) == 0);
-	CHECK(atomic_load(&busy) > 0 && atomic_load(&answered) > 0);
 }
 
 /* ---- children of a program whose threads call */
@@ -371,7 +381,7 @@ static void signals(double seconds)
 static void in_the_child(void)
 {
 	struct asked it;
-	alarm(20);
+	alarm(PATIENCE_SECONDS);
 	for (int own = 10; own < 10 + THREADS; own++) {
 		if (ask(&it, "cat /t%d pids.current", own) != MK_DONE)
 			continue; /* its thread has not begun */

@@ -87,7 +87,7 @@ def in_a_worker(path):
 def test_an_error_comes_out_of_a_worker_pool():
     with multiprocessing.get_context("fork").Pool(2) as pool:
         with pytest.raises(NoGroup) as refused:
-            pool.apply_async(in_a_worker, ("/x/y",)).get(timeout=30)
+            pool.apply_async(in_a_worker, ("/x/y",)).get(timeout=600)
     assert refused.value.reply == "nogroup /x" and refused.value.filename == "/x/y"
 
 

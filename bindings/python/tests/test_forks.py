@@ -12,7 +12,7 @@ from makhloeum import mounted_at
 from makhloeum._calls import CALLS
 
 AT = "/sys/fs/cgroup"
-PATIENCE = 20  # seconds
+PATIENCE = 300  # seconds
 
 
 def status_of(child):

@@ -107,7 +107,7 @@ def test_an_unclosed_hierarchy_gives_a_warning():
 def test_no_error_is_printed_when_the_interpreter_ends(keep):
     words = [sys.executable, "-W", "ignore", "-c", f"from makhloeum import Hierarchy\n{keep}"]
     folder = os.path.dirname(os.path.dirname(makhloeum.__file__))
-    ran = subprocess.run(words, capture_output=True, text=True, env=dict(os.environ, PYTHONPATH=folder), timeout=60)
+    ran = subprocess.run(words, capture_output=True, text=True, env=dict(os.environ, PYTHONPATH=folder), timeout=600)
     assert (ran.returncode, ran.stdout, ran.stderr) == (0, "", "")
 
 
@@ -136,7 +136,7 @@ print(text, len(made) > 10, made[0].groups(), made[-1].groups())
 def test_a_hierarchy_for_which_there_is_no_memory(call, command):
     words = [sys.executable, "-W", "ignore", "-c", OUT_OF_MEMORY.replace("{call}", call)]
     folder = os.path.dirname(os.path.dirname(makhloeum.__file__))
-    ran = subprocess.run(words, capture_output=True, text=True, env=dict(os.environ, PYTHONPATH=folder), timeout=60)
+    ran = subprocess.run(words, capture_output=True, text=True, env=dict(os.environ, PYTHONPATH=folder), timeout=600)
     assert (ran.returncode, ran.stdout, ran.stderr) == (0, f"{command}: out of memory True ['/'] ['/']\n", "")
 
 
@@ -147,7 +147,7 @@ def test_a_missing_library_is_said_in_one_sentence():
         words,
         capture_output=True,
         text=True,
-        timeout=60,
+        timeout=600,
         env=dict(os.environ, PYTHONPATH=folder, MAKHLOEUM_LIBRARY="/nowhere/libmakhloeum.so"),
     )
     assert ran.returncode == 1

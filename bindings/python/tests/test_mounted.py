@@ -339,25 +339,27 @@ def test_other_files_are_as_before(h, tmp_path):
     shutil.rmtree(tmp_path / "x")
 
 
-def test_everything_is_put_back():
+def test_everything_is_put_back(tmp_path):
+    place = str(tmp_path / "cgroup")
     before = [getattr(module, name) for module, name in REPLACED]
     with pytest.raises(KeyError):
-        with mounted_at("/nowhere/cgroup") as h:
-            os.mkdir("/nowhere/cgroup/a")
-            assert h.groups() == ["/", "/a"] and os.listdir("/nowhere/cgroup/a")
+        with mounted_at(place) as h:
+            os.mkdir(f"{place}/a")
+            assert h.groups() == ["/", "/a"] and os.listdir(f"{place}/a")
             raise KeyError
     assert h.closed and [getattr(module, name) for module, name in REPLACED] == before and open is io.open
-    assert not os.path.exists("/nowhere/cgroup")
+    assert not os.path.exists(place)
 
 
-def test_two_hierarchies_at_two_places():
-    with mounted_at("/one") as one, mounted_at("/two") as two:
-        os.mkdir("/one/a")
-        os.mkdir("/two/b")
+def test_two_hierarchies_at_two_places(tmp_path):
+    first, second = str(tmp_path / "one"), str(tmp_path / "two")
+    with mounted_at(first) as one, mounted_at(second) as two:
+        os.mkdir(f"{first}/a")
+        os.mkdir(f"{second}/b")
         assert (
             one.groups() == ["/", "/a"]
             and two.groups() == ["/", "/b"]
-            and code(os.rename, "/one/a", "/two/a") == "EPERM"
+            and code(os.rename, f"{first}/a", f"{second}/a") == "EPERM"
         )
     with pytest.raises(ValueError):
         mounted_at("/").__enter__()

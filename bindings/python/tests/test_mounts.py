@@ -67,43 +67,44 @@ def code(call, *arguments, **more):
 # ---- several at a time
 
 
-def test_two_blocks_may_end_crosswise():
-    first, second = mounted_at("/one"), mounted_at("/two")
+def test_two_blocks_may_end_crosswise(tmp_path):
+    first, second = mounted_at(tmp_path / "one"), mounted_at(tmp_path / "two")
     one, two = first.__enter__(), second.__enter__()
-    os.mkdir("/one/a")
-    os.mkdir("/two/b")
+    os.mkdir(tmp_path / "one" / "a")
+    os.mkdir(tmp_path / "two" / "b")
     first.__exit__(None, None, None)
-    assert not os.path.exists("/one") and os.listdir("/two")[-1] == "b" and one.closed
-    os.mkdir("/two/c")
+    assert not os.path.exists(tmp_path / "one") and os.listdir(tmp_path / "two")[-1] == "b" and one.closed
+    os.mkdir(tmp_path / "two" / "c")
     assert two.groups() == ["/", "/b", "/c"]
     second.__exit__(None, None, None)
-    assert not os.path.exists("/two")
+    assert not os.path.exists(tmp_path / "two")
 
 
 @pytest.mark.parametrize("order", [(0, 1, 2), (1, 0, 2), (1, 2, 0), (2, 0, 1), (0, 2, 1), (2, 1, 0)])
-def test_three_blocks_may_end_in_any_order(order):
-    blocks = [mounted_at(f"/m{number}") for number in range(3)]
+def test_three_blocks_may_end_in_any_order(order, tmp_path):
+    blocks = [mounted_at(tmp_path / f"m{number}") for number in range(3)]
     for number, block in enumerate(blocks):
         block.__enter__()
-        os.mkdir(f"/m{number}/x")
+        os.mkdir(tmp_path / f"m{number}" / "x")
     left = {0, 1, 2}
     for number in order:
         blocks[number].__exit__(None, None, None)
         left.remove(number)
-        assert {it for it in range(3) if os.path.isdir(f"/m{it}/x")} == left
+        assert {it for it in range(3) if os.path.isdir(tmp_path / f"m{it}" / "x")} == left
 
 
-def test_blocks_in_threads():
+def test_blocks_in_threads(tmp_path):
     failures = []
 
     def use(number):
+        at = f"{tmp_path}/t{number}"
         try:
             for round_ in range(60):
-                with mounted_at(f"/t{number}") as h:
-                    os.mkdir(f"/t{number}/a")
-                    with open(f"/t{number}/a/pids.max", "w") as file:
+                with mounted_at(at) as h:
+                    os.mkdir(f"{at}/a")
+                    with open(f"{at}/a/pids.max", "w") as file:
                         file.write(str(number))
-                    assert h.limit("/a") == number and os.path.isdir(f"/t{number}/a")
+                    assert h.limit("/a") == number and os.path.isdir(f"{at}/a")
         except BaseException as failure:  # to be raised by the test
             failures.append(failure)
 
@@ -111,7 +112,7 @@ def test_blocks_in_threads():
     for thread in threads:
         thread.start()
     for thread in threads:
-        thread.join(60)
+        thread.join(300)
     assert not failures and not any(thread.is_alive() for thread in threads)
 
 
@@ -133,7 +134,7 @@ def test_files_are_closed_while_a_block_ends(hierarchy):
                 fds = [os.open(f"{AT}/cgroup.procs", os.O_RDONLY) for _ in range(400)]
                 thread = threading.Thread(target=close_all, args=(fds,))
                 thread.start()
-            thread.join(60)
+            thread.join(300)
     finally:
         sys.setswitchinterval(before)
     assert not failures and not thread.is_alive() and code(os.read, fds[0], 1) == "EBADF"

@@ -11,17 +11,18 @@ from os import read as early_read
 from os import write as early_write
 
 import pytest
+from open_files import open_files
 
 from makhloeum import PidsMax, mounted_at
 
 AT = "/sys/fs/cgroup"
-PATIENCE = 20000  # milliseconds
+PATIENCE = 300_000  # milliseconds
 
 
 @pytest.fixture(autouse=True)
 def an_end():
     """Whoever waits for a lock for ever ends the tests."""
-    faulthandler.dump_traceback_later(100, exit=True)
+    faulthandler.dump_traceback_later(900, exit=True)
     yield
     faulthandler.cancel_dump_traceback_later()
 
@@ -157,7 +158,7 @@ def test_faults_do_not_count_what_the_poll_needs(h):
 
 
 def test_nothing_is_left_of_it(hierarchy):
-    before, threads = len(os.listdir("/proc/self/fd")), threading.active_count()
+    before, threads = open_files(), set(threading.enumerate())
     for _ in range(3):
         with mounted_at(AT, hierarchy):
             for name in ("cgroup.procs", "cgroup.stat"):
@@ -168,7 +169,7 @@ def test_nothing_is_left_of_it(hierarchy):
             fd = os.open(f"{AT}/n/cgroup.events", os.O_RDONLY)
             os.rmdir(f"{AT}/n")
         os.close(fd)
-    assert len(os.listdir("/proc/self/fd")) == before and threading.active_count() == threads
+    assert not open_files() - before and not set(threading.enumerate()) - threads
 
 
 # ---- ends
@@ -179,8 +180,10 @@ def test_a_wait_ends_with_the_hierarchy(hierarchy, ready):
         os.mkdir(f"{AT}/a")
         fd = os.open(f"{AT}/a/cgroup.events", os.O_RDONLY)
         os.read(fd, 99)
-        threading.Timer(0.05, hierarchy.close).start()
+        later = threading.Timer(0.05, hierarchy.close)
+        later.start()
         assert ready(fd, PATIENCE) and ready(fd, 0)
+        later.join()
         with pytest.raises(ValueError, match="closed"):
             os.pread(fd, 99, 0)
         assert ready(fd, 0)
@@ -195,8 +198,10 @@ def test_a_wait_ends_with_the_block(hierarchy, ready, own):
     fd, file = os.open(f"{AT}/a/cgroup.events", os.O_RDONLY), open(f"{AT}/a/pids.events")
     os.read(fd, 99)
     file.read()
-    threading.Timer(0.05, block.__exit__, [None, None, None]).start()
+    later = threading.Timer(0.05, block.__exit__, [None, None, None])
+    later.start()
     assert ready(fd, PATIENCE) and ready(file, PATIENCE)
+    later.join()
     file.close()
     os.close(fd)
 
@@ -240,7 +245,7 @@ def test_each_of_several_threads_sees_the_last_change(h, ready):
         refused_fork(h)
         os.close(os.dup(first))
     for thread in threads:
-        thread.join(60)
+        thread.join(PATIENCE / 1000)
     assert not failures and not any(thread.is_alive() for thread in threads)
     for fd in fds:
         os.close(fd)
@@ -269,7 +274,7 @@ def test_files_are_opened_while_groups_are_removed(h):
     finally:
         stopped.set()
         for thread in threads:
-            thread.join(60)
+            thread.join(PATIENCE / 1000)
     assert not failures
 
 

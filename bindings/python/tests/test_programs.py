@@ -35,7 +35,7 @@ def test_each_program_of_a_wheel_is_its_own_command(monkeypatch, name):
 def test_each_command_has_its_own_help(name, begins, words):
     wide = dict(os.environ, COLUMNS="80")
     ran = subprocess.run(
-        [sys.executable, *(it or name for it in words)], capture_output=True, text=True, env=wide, timeout=60
+        [sys.executable, *(it or name for it in words)], capture_output=True, text=True, env=wide, timeout=600
     )
     assert (ran.returncode, ran.stderr) == (0, "") and ran.stdout.startswith(begins)
 
@@ -70,7 +70,7 @@ def test_an_interrupt_ends_a_program_of_a_wheel_while_it_loads(tmp_path, name, e
     default = lambda: signal.signal(signal.SIGINT, signal.SIG_DFL)  # noqa: E731: a background ignores SIGINT
     words = [sys.executable, str(tmp_path / name)]
     ran = subprocess.run(
-        words, capture_output=True, text=True, env=dict(os.environ, PYTHONPATH=folder), preexec_fn=default, timeout=60
+        words, capture_output=True, text=True, env=dict(os.environ, PYTHONPATH=folder), preexec_fn=default, timeout=600
     )
     assert (ran.returncode, ran.stdout, ran.stderr) == (0, f"{ends}\n", "")
 
@@ -194,6 +194,6 @@ def test_several_scripts(shell, tmp_path):
     assert shell.stdout.getvalue() == "0::/\nmkdir /x: File exists (exists)\n0::/\n0::/a/b\n" and shell.failed
     assert shell.h.children("/") == ["a", "x", "y"]
     words = [sys.executable, "-m", "makhloeum", str(first), "-", str(second)]
-    ran = subprocess.run(words, input="mkdir /z\nls\n", capture_output=True, text=True, timeout=60)
+    ran = subprocess.run(words, input="mkdir /z\nls\n", capture_output=True, text=True, timeout=600)
     assert (ran.returncode, ran.stderr) == (1, "")
     assert ran.stdout.split("\n")[:4] == ["0::/", "x/", "z/", "cgroup.procs"] and ran.stdout.count("File exists") == 1

@@ -23,7 +23,7 @@ WORDS = dict(os.environ, PYTHONPATH=FOLDER, TERM="dumb")
 
 def run(*arguments, text=""):
     command = [sys.executable, "-m", "makhloeum", *arguments]
-    return subprocess.run(command, input=text, capture_output=True, text=True, env=WORDS, timeout=60)
+    return subprocess.run(command, input=text, capture_output=True, text=True, env=WORDS, timeout=600)
 
 
 def test_standard_input_and_scripts(tmp_path):
@@ -75,7 +75,7 @@ def test_a_closed_pipe_is_no_message():
     )
     assert shell.stdout is not None
     shell.stdout.close()
-    told = shell.communicate(b"where 1\n" * 10000, timeout=60)
+    told = shell.communicate(b"where 1\n" * 10000, timeout=600)
     assert (shell.returncode, told[1]) == (141, b"")
 
 
@@ -147,7 +147,7 @@ class Terminal:
     def wait_for(self, text):
         """What comes until the text; all that is left if it is None."""
         while text is None or text not in self.told:
-            assert select.select([self.ours], [], [], 60)[0], self.told
+            assert select.select([self.ours], [], [], 600)[0], self.told
             try:
                 more = os.read(self.ours, 4096)
             except OSError:
@@ -170,7 +170,7 @@ class Terminal:
         for _ in range(12):
             self.type(b"\x03")
             told = b""
-            while select.select([self.ours], [], [], 1 if b"makhloeum> " in told else 5)[0]:
+            while select.select([self.ours], [], [], 3 if b"makhloeum> " in told else 20)[0]:
                 told += os.read(self.ours, 4096)
             if b"makhloeum> " in told:
                 return told
@@ -179,7 +179,7 @@ class Terminal:
     def end(self):
         told = self.wait_for(None)
         os.close(self.ours)
-        assert self.shell.wait(60) == 0
+        assert self.shell.wait(600) == 0
         return told
 
 
@@ -254,7 +254,7 @@ def test_an_interrupt_ends_a_script_without_a_traceback(tmp_path):
         script.write("where 1\n")
         script.flush()
         shell.send_signal(signal.SIGINT)
-        told = shell.communicate(timeout=60)
+        told = shell.communicate(timeout=600)
     assert (shell.returncode, told[1]) == (-signal.SIGINT, b"")
 
 

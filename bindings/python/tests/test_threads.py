@@ -12,10 +12,11 @@ from makhloeum import Hierarchy, NothingToUndo, PidsMax, Refused
 
 SECONDS = float(os.environ.get("MAKHLOEUM_SECONDS", "10"))
 THREADS = 4
+PATIENCE = 300  # seconds
 
 
-def run_threads(body, seconds):
-    """Runs body(number, stopped) in four threads, and raises what one of them raised."""
+def run_threads(body, seconds, enough=lambda: True):
+    """Runs body(number, stopped) in four threads for these seconds, and until it is enough. Raises what one of them raised."""
     stopped, failures = threading.Event(), []
 
     def guarded(number):
@@ -29,9 +30,11 @@ def run_threads(body, seconds):
     for thread in threads:
         thread.start()
     stopped.wait(seconds)
+    while not (stopped.is_set() or enough()):
+        stopped.wait(0.01)
     stopped.set()
     for thread in threads:
-        thread.join(60)
+        thread.join(PATIENCE)
         assert not thread.is_alive()
     if failures:
         raise failures[0]
@@ -70,8 +73,7 @@ def test_each_thread_in_its_own_group():
                 rounds[number] += 1
             assert h.read(group, "pids.events") == f"max {rounds[number]}\n"
 
-        run_threads(own, SECONDS)
-        assert min(rounds) > 0
+        run_threads(own, SECONDS, lambda: min(rounds) > 0)
 
 
 def test_anything_at_once_can_be_undone():
@@ -146,12 +148,12 @@ def test_a_signal_handler_may_call():
         signal.setitimer(signal.ITIMER_REAL, 0.0002, 0.0002)
         try:
             end = time.monotonic() + min(SECONDS, 2)
-            while time.monotonic() < end:
+            while time.monotonic() < end or not told[0]:
                 assert h.read("/a", "cgroup.stat") == "nr_descendants 0\nnr_dying_descendants 0\n"
         finally:
             signal.setitimer(signal.ITIMER_REAL, 0)
             signal.signal(signal.SIGALRM, before)
-        assert told[0] > 0 and not wrong
+        assert not wrong
 
 
 def test_a_fork_copies_a_whole_hierarchy():
@@ -169,7 +171,7 @@ def test_a_fork_copies_a_whole_hierarchy():
             while not stopped.is_set():
                 child = os.fork()
                 if child == 0:
-                    signal.alarm(20)
+                    signal.alarm(PATIENCE)
                     for group in h.groups()[1:]:
                         assert len(h.read(group, "cgroup.procs").split()) == int(h.read(group, "pids.current"))
                     h.mkdir("/in-the-child")

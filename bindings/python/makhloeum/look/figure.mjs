@@ -22,7 +22,7 @@ export function plotOf(run, series, wide, tip, go, off) {
     svg.append(makeSvg("path", { class: "grid", d: `M${LEFT} ${y(tick)}H${end}` }));
     svg.append(makeSvg("text", { x: LEFT - 6, y: y(tick) + 4, "text-anchor": "end" }, tick.toLocaleString("en")));
   }
-  for (const tick of ticks(last, 8)) {
+  for (const tick of ticks(last, 8).filter((one) => run.times || Number.isInteger(one))) {
     const text = run.times ? `${tick} s` : tick.toLocaleString("en");
     svg.append(makeSvg("text", { x: across(tick), y: HEIGHT - 4, "text-anchor": "middle" }, text));
   }

@@ -1,0 +1,371 @@
+"""What an error of each method says: the operation with its words, the path that it is about, and the reply; whatever the words are."""
+
+import errno
+import pathlib
+
+import pytest
+
+import makhloeum
+from makhloeum import Hierarchy, Refused
+
+LARGE = (
+    1 << 64
+)  # from here on a number is shown in hexadecimal, as Python writes no long one in decimal
+GIVEN = {"text": str, "bytes": str.encode, "path": pathlib.PurePosixPath}
+
+
+@pytest.fixture
+def h(hierarchy):
+    """/a has a limit that is reached, and /a/b below it."""
+    for line in (
+        "mkdir /a",
+        "mkdir /a/b",
+        "fork 1 2",
+        "write /a/b cgroup.procs 2",
+        "write /a pids.max 1",
+    ):
+        hierarchy.line(line)
+    return hierarchy
+
+
+# for each method: a call with a path, the operation that its error names, the kind and the reply
+OF_PATHS = [
+    (lambda h, at: h.mkdir(at("/a")), "mkdir /a", "/a", makhloeum.Exists, "exists"),
+    (
+        lambda h, at: h.mkdir(at("/x/y")),
+        "mkdir /x/y",
+        "/x/y",
+        makhloeum.NoGroup,
+        "nogroup /x",
+    ),
+    (
+        lambda h, at: h.rmdir(at("/a")),
+        "rmdir /a",
+        "/a",
+        makhloeum.HasChildren,
+        "haschildren",
+    ),
+    (
+        lambda h, at: h.rmdir(at("/a/b")),
+        "rmdir /a/b",
+        "/a/b",
+        makhloeum.HasProcesses,
+        "hasprocesses",
+    ),
+    (
+        lambda h, at: h.rmdir(at("/x")),
+        "rmdir /x",
+        "/x",
+        makhloeum.NoGroup,
+        "nogroup /x",
+    ),
+    (lambda h, at: h.rmdir(at("/")), "rmdir /", "/", makhloeum.RootFixed, "rootfixed"),
+    (
+        lambda h, at: h.read(at("/x"), "pids.max"),
+        "read /x pids.max",
+        "/x",
+        makhloeum.NoGroup,
+        "nogroup /x",
+    ),
+    (
+        lambda h, at: h.read(at("/"), b"pids.max"),
+        "read / pids.max",
+        "/",
+        makhloeum.NoFile,
+        "nofile",
+    ),
+    (
+        lambda h, at: h.read(at("/a"), b"none"),
+        "read /a none",
+        "/a",
+        makhloeum.BadFile,
+        "file",
+    ),
+    (
+        lambda h, at: h.read(at("/a"), "cgroup.kill"),
+        "read /a cgroup.kill",
+        "/a",
+        makhloeum.BadDirection,
+        "direction",
+    ),
+    (
+        lambda h, at: h.write(at("/x"), b"pids.max", b"5"),
+        "write /x pids.max 5",
+        "/x",
+        makhloeum.NoGroup,
+        "nogroup /x",
+    ),
+    (
+        lambda h, at: h.write(at("/"), "pids.max", 5),
+        "write / pids.max 5",
+        "/",
+        makhloeum.NoFile,
+        "nofile",
+    ),
+    (
+        lambda h, at: h.write(at("/a"), b"none", "5"),
+        "write /a none 5",
+        "/a",
+        makhloeum.BadFile,
+        "file",
+    ),
+    (
+        lambda h, at: h.write(at("/a"), "pids.peak", 5),
+        "write /a pids.peak 5",
+        "/a",
+        makhloeum.BadDirection,
+        "direction",
+    ),
+    (
+        lambda h, at: h.write(at("/a"), "pids.max", b"x"),
+        "write /a pids.max x",
+        "/a",
+        makhloeum.BadValue,
+        "value",
+    ),
+    (
+        lambda h, at: h.write(at("/a"), "cgroup.procs", 9),
+        "write /a cgroup.procs 9",
+        "/a",
+        makhloeum.NoProcess,
+        "noprocess 9",
+    ),
+    (
+        lambda h, at: h.write(at("/a"), "pids.max", LARGE),
+        f"write /a pids.max {LARGE:#x}",
+        "/a",
+        makhloeum.BadValue,
+        "value",
+    ),
+    (
+        lambda h, at: h.children(at("/x")),
+        "children /x",
+        "/x",
+        makhloeum.NoGroup,
+        "nogroup /x",
+    ),
+    (
+        lambda h, at: h.groups(at("/x")),
+        "groups /x",
+        "/x",
+        makhloeum.NoGroup,
+        "nogroup /x",
+    ),
+    (
+        lambda h, at: h.current(at("/x")),
+        "current /x",
+        "/x",
+        makhloeum.NoGroup,
+        "nogroup /x",
+    ),
+    (lambda h, at: h.current(at("/")), "current /", "/", makhloeum.NoFile, "nofile"),
+    (lambda h, at: h.peak(at("/x")), "peak /x", "/x", makhloeum.NoGroup, "nogroup /x"),
+    (
+        lambda h, at: h.limit(at("/x")),
+        "limit /x",
+        "/x",
+        makhloeum.NoGroup,
+        "nogroup /x",
+    ),
+    (lambda h, at: h.limit(at("/")), "limit /", "/", makhloeum.NoFile, "nofile"),
+    (
+        lambda h, at: h.populated(at("/x")),
+        "populated /x",
+        "/x",
+        makhloeum.NoGroup,
+        "nogroup /x",
+    ),
+    (
+        lambda h, at: h.processes(at("/x")),
+        "processes /x",
+        "/x",
+        makhloeum.NoGroup,
+        "nogroup /x",
+    ),
+]
+OF_NUMBERS = [
+    (lambda h: h.fork(7, 8), "fork 7 8", makhloeum.NoProcess, "noprocess 7"),
+    (lambda h: h.fork(1, 2), "fork 1 2", makhloeum.PidInUse, "pidinuse 2"),
+    (lambda h: h.fork(2, 3), "fork 2 3", makhloeum.PidsMax, "pidsmax /a"),
+    (lambda h: h.fork(1, LARGE), f"fork 1 {LARGE:#x}", makhloeum.BadValue, "value"),
+    (lambda h: h.fork(-LARGE, 5), f"fork -{LARGE:#x} 5", makhloeum.BadValue, "value"),
+    (
+        lambda h: h.fork(LARGE - 1, 5),
+        f"fork {LARGE - 1} 5",
+        makhloeum.BadValue,
+        "value",
+    ),
+    (lambda h: h.exit(9), "exit 9", makhloeum.NoProcess, "noprocess 9"),
+    (lambda h: h.exit(LARGE), f"exit {LARGE:#x}", makhloeum.BadValue, "value"),
+    (lambda h: h.where(9), "where 9", makhloeum.NoProcess, "noprocess 9"),
+    (lambda h: h.where(-1), "where -1", makhloeum.BadValue, "value"),
+    (lambda h: h.where(1 - LARGE), f"where {1 - LARGE}", makhloeum.BadValue, "value"),
+    (lambda h: h.undo_to(9), "undo to 9", makhloeum.NothingToUndo, "nothing"),
+    (
+        lambda h: h.undo_to(LARGE),
+        f"undo to {LARGE:#x}",
+        makhloeum.NothingToUndo,
+        "nothing",
+    ),
+    (lambda h: h.line("nonsense 5"), "nonsense 5", makhloeum.BadSyntax, "syntax"),
+    (lambda h: h.line(b"exit 9"), "exit 9", makhloeum.NoProcess, "noprocess 9"),
+    (lambda h: h.line("where 1\n"), "where 1\n", makhloeum.BadSyntax, "syntax"),
+]
+
+
+def refusal(call):
+    with pytest.raises(Refused) as refused:
+        call()
+    return refused.value
+
+
+@pytest.mark.parametrize("given", GIVEN)
+@pytest.mark.parametrize("row", range(len(OF_PATHS)))
+def test_the_error_of_a_method_with_a_path(h, row, given):
+    call, command, path, kind, reply = OF_PATHS[row]
+    refused = refusal(lambda: call(h, GIVEN[given]))
+    assert (type(refused), refused.command, refused.filename, refused.reply) == (
+        kind,
+        command,
+        path,
+        reply,
+    )
+    assert str(refused).startswith(f"{command}: ") and f"({reply}" in str(refused)
+
+
+@pytest.mark.parametrize("row", range(len(OF_NUMBERS)))
+def test_the_error_of_a_method_without_a_path(h, row):
+    call, command, kind, reply = OF_NUMBERS[row]
+    refused = refusal(lambda: call(h))
+    assert (type(refused), refused.command, refused.filename, refused.reply) == (
+        kind,
+        command,
+        None,
+        reply,
+    )
+    assert str(refused).startswith(f"{command}: ") and f"({reply}" in str(refused)
+
+
+@pytest.mark.parametrize("given", GIVEN)
+def test_the_error_of_a_file_among_many(h, given):
+    at = GIVEN[given]
+    rows = [row for row in OF_PATHS if row[1].startswith("read ")]
+    told = h.read_many([(at(row[2]), row[1].split()[2]) for row in rows])
+    assert [(type(it), it.command, it.filename, it.reply) for it in told] == [
+        (row[3], *row[1:3], row[4]) for row in rows
+    ]
+
+
+def test_a_refusal_without_a_command_begins_with_its_errno():
+    refused = makhloeum.Busy("rootfixed")
+    assert (
+        str(refused) == "Device or resource busy (rootfixed)"
+        and refused.errno == errno.EBUSY
+    )
+    assert (refused.command, refused.filename, refused.code) == ("", None, 0)
+
+
+@pytest.mark.parametrize("given", GIVEN)
+def test_a_fault_that_was_asked_for_names_the_call_and_the_path(h, given):
+    at = GIVEN[given]
+    for call, command in (
+        (lambda: h.read(at("/a"), b"pids.max"), "read /a pids.max"),
+        (lambda: h.rmdir(at("/a")), "rmdir /a"),
+        (lambda: h.processes(at("/a")), "processes /a"),
+        (lambda: h.current(at("/a")), "current /a"),
+        (lambda: h.has_group(at("/a")), "has_group /a"),
+        (lambda: h.children(at("/a")), "children /a"),
+    ):
+        h.fail(at("/a"), error=errno.ENOSPC)
+        with pytest.raises(OSError) as failed:
+            call()
+        assert (failed.value.errno, failed.value.filename) == (errno.ENOSPC, "/a")
+        assert (
+            failed.value.strerror
+            == f"No space left on device (asked for by fail, at {command})"
+        )
+
+
+# ---- arguments of faults
+
+
+def test_the_root_does_not_vanish(h):
+    for path in ("/", b"/", pathlib.PurePosixPath("/")):
+        with pytest.raises(ValueError, match="^vanish /: the root cannot be removed$"):
+            h.vanish(path)
+    assert h.clear_faults() == 0 and h.groups() == ["/", "/a", "/a/b"]
+
+
+@pytest.mark.parametrize("nth", [0, -1, LARGE])
+def test_which_call_fails_is_a_number_from_1_on(h, nth):
+    for call, name in (
+        (lambda: h.fail("/a", error=5, nth=nth), "fail"),
+        (lambda: h.vanish("/a", nth=nth), "vanish"),
+    ):
+        with pytest.raises(
+            ValueError, match=f"^{name} /a: nth is 1 for the next call, not {nth}$"
+        ):
+            call()
+    assert h.clear_faults() == 0
+
+
+def test_the_largest_numbers_of_a_fault(h):
+    h.fail("/a", error=(1 << 31) - 1, nth=LARGE - 1)
+    h.fail("/a", error=(1 << 31) - 1)
+    with pytest.raises(OSError) as failed:
+        h.current("/a")
+    assert failed.value.errno == (1 << 31) - 1 and h.clear_faults() == 1
+    with pytest.raises(ValueError, match=f"^fail /a: {1 << 31} is not an errno$"):
+        h.fail("/a", error=1 << 31)
+    assert h.clear_faults() == 0
+
+
+def test_an_nth_that_is_given_twice_is_no_nth(h):
+    with pytest.warns(DeprecationWarning), pytest.raises(
+        TypeError, match="^fail: a path, one error and one nth$"
+    ):
+        h.fail("/a", errno.EIO, 2, nth=3)
+    assert h.clear_faults() == 0
+
+
+# ---- what is shown, and what is counted
+
+
+def test_a_text_is_shown_without_the_marks_of_its_lines_alone(h):
+    """The marks are those at the beginning of a line: a bar and a blank elsewhere belong to the text."""
+    h.mkdir("/a|b")
+    h.write("/a|b", "cgroup.procs", 1)
+    assert h.where(1) == "0::/a|b\n" and h.undo() == "write /a|b cgroup.procs 1"
+    assert h.read("/a", "cgroup.stat") == "nr_descendants 1\nnr_dying_descendants 0\n"
+
+
+def test_lines_that_show_nothing(h):
+    before = (h.depth(), h.changes())
+    for line in ("", " \t\r", "# a comment", b"#", "cat /a/b pids.max"):
+        assert h.line(line) == ("max\n" if line[:1] == "c" else "")
+    assert (h.depth(), h.changes()) == before
+
+
+def test_how_many_commands_were_undone(h):
+    assert (
+        h.undo_to(4) == 1
+        and h.undo_to(4) == 0
+        and h.reset() == 4
+        and h.reset() == 0
+        and h.depth() == 0
+    )
+
+
+def test_a_block_that_an_error_ends_closes_its_hierarchy():
+    with pytest.raises(KeyError), Hierarchy() as h:
+        h.mkdir("/a")
+        raise KeyError
+    assert h.closed
+
+
+def test_an_unclosed_hierarchy_is_named():
+    h = Hierarchy()
+    shown = repr(h)
+    with pytest.warns(ResourceWarning) as told:
+        del h
+    assert [str(it.message) for it in told] == [f"unclosed {shown}"]

@@ -1,0 +1,89 @@
+// What the page shows at the edges of numbers: none, one, and thousands; and of many groups.
+//   node --test look/tests/edges.test.mjs
+import assert from "node:assert";
+import test from "node:test";
+import { DATA, open, window } from "./opened.mjs";
+
+const cells = ({ at }) => Object.fromEntries(at("group").children[0].children.map((row) => row.children.map((cell) => cell.textContent)));
+const thousands = (count, more = {}) => ({ ...DATA, lines: Array(count).fill("exit 9").join("\n"), answer: Array(count).fill(0), steps: Array(count).fill(0), notes: {}, ...more });
+
+test("thousands have a comma, also of refused commands, matches and refusals", async () => {
+  const page = await open(thousands(2345, { answers: ["refused nogroup /a"], names: ["/", "a"], parents: [0, 0] }), "#line=1234");
+  assert.strictEqual(page.at("summary").textContent, "2,345 commands, 2,345 refused, 0 kills, 1 group");
+  assert.strictEqual(page.at("moment").textContent, "after 1,234 of 2,345");
+  assert.strictEqual(page.at("slider").getAttribute("aria-valuetext"), "after 1,234 of 2,345");
+  assert.deepStrictEqual(page.search("exit"), ["1234 of 2,345", 1234]);
+  page.search("refused /a");
+  assert.strictEqual(page.at("refusals").textContent, "First of 2,345 refusals");
+});
+
+test("the details of a group with no process, with one and with two", async () => {
+  const born = (count) => Array.from({ length: count }, (_, at) => [2, 2 + at, 1]).flat();
+  for (const [count, populated] of [[0, "0"], [1, "1"], [2, "1"]]) {
+    const steps = [2, 0, 1, 3 * count, ...born(count)];
+    const page = await open({ ...DATA, lines: "mkdir /a\ncat /a pids.max", answer: [0, 0], steps, names: ["/", "a"], parents: [0, 0], notes: {} });
+    page.search("/a");
+    const { populated: told, "pids.current": current, "pids.peak": peak, "cgroup.procs": pids, nr_descendants: below } = cells(page);
+    assert.deepStrictEqual([told, current, peak, pids, below], [populated, String(count), String(count), ["", "2", "23"][count], "0"], `${count} processes`);
+  }
+});
+
+test("groups below a group are counted at every depth", async () => {
+  const page = await open({ ...DATA, lines: "mkdir /a\nmkdir /a/b\nmkdir /a/b/c\nmkdir /d", answer: [0, 0, 0, 0], steps: [2, 0, 1, 2, 0, 2, 2, 0, 3, 2, 0, 4], names: ["/", "a", "b", "c", "d"], parents: [0, 0, 1, 2, 0], notes: {} });
+  for (const [path, below] of [["/", "4"], ["/a", "2"], ["/a/b", "1"], ["/a/b/c", "0"], ["/d", "0"]]) {
+    page.search(path);
+    page.key("End");
+    assert.deepStrictEqual([page.at("path").textContent, cells(page).nr_descendants], [path, below]);
+  }
+});
+
+// Sixty groups side by side, and then a process in each of two that are folded away.
+const MANY = 60;
+const names = ["/", ...Array.from({ length: MANY }, (_, at) => `g${String(at).padStart(2, "0")}`)];
+const FOLDED = {
+  ...DATA, names, parents: names.map(() => 0), notes: {}, answer: Array(MANY + 2).fill(0),
+  lines: [...names.slice(1).map((name) => `mkdir /${name}`), "fork 1 2", "fork 2 3"].join("\n"),
+  steps: [...names.slice(1).flatMap((_, at) => [2, 0, at + 1]), 3, 2, 2, 51, 3, 2, 3, 56],
+};
+
+test("a group that the line changes is shown, though those beside it are folded away", async () => {
+  const page = await open(FOLDED, `#line=${MANY + 1}`, 22 * MANY);
+  const shown = () => page.names().filter((name) => name.startsWith("/g")).slice(20);
+  assert.deepStrictEqual(shown(), ["/g50"], "the group that gets the process");
+  page.key("ArrowRight");
+  assert.deepStrictEqual(shown(), ["/g55"], "the next line changes another");
+  page.key("b");
+  assert.deepStrictEqual(shown(), ["/g55"], "also before it");
+  page.search("/g40");
+  page.key("End");
+  assert.deepStrictEqual(shown(), ["/g40", "/g55"], "the one that is chosen too");
+  page.key("b");
+  assert.deepStrictEqual([shown(), page.moment()], [["/g40", "/g55"], MANY + 2]);
+  assert.ok(page.names().includes("▸ 38 more groups"), page.names().at(-1));
+});
+
+test("a line of the root's own processes marks the root", async () => {
+  const page = await open({ ...DATA, lines: "fork 1 2", answer: [0], steps: [3, 2, 2, 0], names: ["/"], parents: [0], notes: {} });
+  assert.deepStrictEqual([page.rows("tree").length, page.rows("tree")[0].className], [1, "row changed chosen"]);
+  assert.strictEqual(page.rows("tree")[0].ariaLabel, "/: 2 processes in all");
+});
+
+const buttons = (box) => [...box.querySelectorAll("[data-key]")];
+
+test("a process or a plot that has the focus keeps it when the details and plots are drawn again", async () => {
+  const page = await open(DATA, "#line=6"), [group, plots] = ["group", "plots"].map((id) => page.at(id));
+  page.search("/a");
+  page.search("fork 2 3");
+  const first = buttons(group).find((one) => one.textContent === "2");
+  document.activeElement = first;
+  page.key("ArrowRight");
+  assert.notStrictEqual(document.activeElement, first);
+  assert.deepStrictEqual([document.activeElement.textContent, buttons(group).includes(document.activeElement)], ["2", true]);
+  page.key("Home");
+  assert.strictEqual(document.activeElement, group, "without the process the box has it");
+  const [plot] = buttons(plots);
+  document.activeElement = plot;
+  window.dispatch("resize");
+  assert.notStrictEqual(document.activeElement, plot);
+  assert.deepStrictEqual([document.activeElement.dataset.key, buttons(plots).includes(document.activeElement)], [plot.dataset.key, true]);
+});
