@@ -307,11 +307,6 @@ def let_go():
     kinds = lambda: sorted(link.partition(":")[0] for link in links_of(companions[0]))
     step("what it has", until(lambda: kinds() == ["/dev/null"] * 3 + ["socket"]), kinds())
     same("it leads its session", session_of(companions[0]), companions[0])
-    same(
-        "the folders that both keep in use",
-        [os.readlink("/proc/%d/cwd" % n) for n in (p.pid, *companions)],
-        ["/proc"] * 2,
-    )
     step("it can be unmounted", until(lambda: subprocess.run(["fusermount3", "-u", at], stderr=-3).returncode == 0))
     same("its process ends", p.wait(10 * PATIENCE), 0)
     for fd in (r, w, high, *sum(own, ())):
