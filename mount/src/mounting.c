@@ -86,11 +86,20 @@ static bool is_there(int listener, const struct seccomp_notif *call)
 	return ioctl(listener, SECCOMP_IOCTL_NOTIF_ID_VALID, &call->id) == 0;
 }
 
-/* The place of a mount, or -errno. */
+static int look_there(const void *path)
+{
+	cleanup_fd int found = open(path, O_PATH | O_CLOEXEC);
+	return found < 0 ? errno : 0;
+}
+
+/* The place of a mount, or -errno. Why there is none, the kernel says where the thread is. */
 static int find_target(pid_t thread, const char *path)
 {
 	int target = opening_find(thread, AT_FDCWD, path, true, 0);
-	return target >= 0 ? target : errno == ENOMEM ? -ENOMEM : -ENOENT;
+	if (target >= 0 || errno == ENOMEM)
+		return target >= 0 ? target : -ENOMEM;
+	int fault = stand_in_call(thread, look_there, path);
+	return fault ? -fault : -ENOENT;
 }
 
 /* As where version 2 has all controllers. */

@@ -5,8 +5,8 @@ import select
 import signal
 import threading
 
-from support import AT, PATIENCE, clone_into, error_of, finish, inside, into, libc, read, run_each, same, step, until
-from support import write
+from support import AT, PATIENCE, clone_into, error_of, finish, inside, into, libc, own_of, read, run_each, same
+from support import step, until, write
 
 
 def count(group):
@@ -235,7 +235,30 @@ def waited():
     same("one event for the fork that was refused", read(AT + "/p/pids.events"), b"max 1\n")
 
 
-INSIDE = (ways, beside, removed, unwaited, told, waited)
+def unheard():
+    """More processes end than the server can be told of, while it is stopped."""
+    os.mkdir(AT + "/many")
+    into("/many")
+    own, children = own_of(os.getppid()), []
+    for _ in range(600):
+        pid = os.fork()
+        if pid == 0:
+            signal.pause()
+            os._exit(0)
+        children.append(pid)
+    same("six hundred children", count("/many"), 601)
+    for pid in own:
+        os.kill(pid, signal.SIGSTOP)
+    for pid in children:
+        os.kill(pid, signal.SIGKILL)
+    for pid in children:
+        os.waitpid(pid, 0)
+    for pid in own:
+        os.kill(pid, signal.SIGCONT)
+    step("none of them counts any more", until(lambda: count("/many") == 1), count("/many"))
+
+
+INSIDE = (ways, beside, removed, unwaited, told, waited, unheard)
 inside(*INSIDE)
 run_each(dict.fromkeys(INSIDE, ["--control"]), lanes=3)
 finish()

@@ -1,9 +1,10 @@
 """poll and inotify tell that `populated`, and the counts of refused forks, have changed."""
 import os
 import select
+import signal
 import struct
 
-from support import PATIENCE, Beside, Mount, error_of, finish, libc, read, same, step, until, write
+from support import PATIENCE, Beside, Mount, companions_of, error_of, finish, libc, read, same, step, until, write
 
 IN_MODIFY = 0x2
 
@@ -155,7 +156,25 @@ waiting = Beside(told, poller)
 os.rmdir(m.path("r"))
 same("who waits is told of a removal", waiting.result(), [select.POLLPRI | select.POLLERR])
 os.close(fd)
-for w in (watch, events):
+
+# changes that wait since the companion is stopped, some of them again
+groups = ["q%d" % i for i in range(40)]
+for group in groups:
+    os.mkdir(m.path(group))
+files = [m.path(group, "cgroup.events") for group in groups]
+late = Watch(*files)
+companions = companions_of(m.process.pid)
+for pid in companions:
+    os.kill(pid, signal.SIGSTOP)
+for _ in range(1000):
+    write(m.path("q0", "cgroup.procs"), b"4\n")
+    write(m.path("cgroup.procs"), b"4\n")
+for group in (*groups, "q0"):
+    write(m.path(group, "cgroup.procs"), b"4\n")
+for pid in companions:
+    os.kill(pid, signal.SIGCONT)
+tells("all that changed while the companion was stopped", late, *files)
+for w in (watch, events, late):
     os.close(w.fd)
 m.end()
 finish()

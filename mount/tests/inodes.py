@@ -420,8 +420,15 @@ def notified():
 
 
 def control():
-    """The control directory has numbers and types too."""
+    """The control directory has numbers, types and times too."""
+    before = time.time_ns()
     m = Mount()
+    after = time.time_ns()
+    for path in (m.path(".makhloeum"), m.control("undo")):
+        st = os.stat(path)
+        times = {st.st_atime_ns, st.st_mtime_ns, st.st_ctime_ns}
+        step("one time, at which it was mounted", len(times) == 1 and before <= min(times) <= after, times)
+        same("whose it is", owner(st), (os.geteuid(), os.getegid()))
     found = entries(m.path(".makhloeum"))
     same("numbers and types", found, {name: shown(m.path(".makhloeum", name)) for name in found})
     same("of the directory", entries(m.at)[".makhloeum"], shown(m.path(".makhloeum")))

@@ -13,7 +13,8 @@ import threading
 import time
 
 from support import PATIENCE, PROGRAM, Beside, Mount, companions_of
-from support import error_of, finish, is_alive, libc, line_of, read, same, step, until, write
+from support import error_of, finish, is_alive, libc, line_of, own_of, parent_of, read, same, status_within
+from support import step, until, write
 
 ME = os.path.realpath(__file__)
 CLIENT = """import os, sys
@@ -279,6 +280,27 @@ def unheard():
     os.close(w)
 
 
+def parts():
+    """If the server or the helper of a run is killed, so is the program, and one sentence says it, also to nobody."""
+    for part, why in (("server", "the mount has ended"), ("helper", "a process of the supervisor has ended")):
+        for is_heard in (True, False):
+            r, w = os.pipe()
+            p = subprocess.Popen([PROGRAM, "run", "sleep", "600"], stderr=w)
+            os.close(w)
+            numbers = lambda: [int(n) for n in os.listdir("/proc") if n.isdigit() and parent_of(int(n)) == p.pid]
+            step("it runs", until(lambda: any(line_of(n).startswith(b"sleep") for n in numbers())))
+            # the server leads a session, as the companion does, and has threads, as the helper has
+            found = lambda: {(session_of(n) == n, len(os.listdir("/proc/%d/task" % n)) > 1): n for n in own_of(p.pid)}
+            step("all its parts", until(lambda: len(found()) == 3), found())
+            if not is_heard:
+                os.close(r)
+            os.kill(found()[part == "server", True], signal.SIGKILL)
+            same("the %s is killed: the status of the run" % part, status_within(p), 128 + signal.SIGKILL)
+            if is_heard:
+                same("what is said", os.read(r, 999), ("makhloeum: %s\n" % why).encode())
+                os.close(r)
+
+
 def links_of(pid):
     """Where its descriptors lead; it may close some of them meanwhile."""
     found = []
@@ -307,11 +329,6 @@ def let_go():
     kinds = lambda: sorted(link.partition(":")[0] for link in links_of(companions[0]))
     step("what it has", until(lambda: kinds() == ["/dev/null"] * 3 + ["socket"]), kinds())
     same("it leads its session", session_of(companions[0]), companions[0])
-    same(
-        "the folders that both keep in use",
-        [os.readlink("/proc/%d/cwd" % n) for n in (p.pid, *companions)],
-        ["/proc"] * 2,
-    )
     step("it can be unmounted", until(lambda: subprocess.run(["fusermount3", "-u", at], stderr=-3).returncode == 0))
     same("its process ends", p.wait(10 * PATIENCE), 0)
     for fd in (r, w, high, *sum(own, ())):
@@ -339,6 +356,7 @@ for test, args in (
     (relative, ()),
     (over, ()),
     (unheard, ()),
+    (parts, ()),
     (let_go, ()),
 ):
     test(*args)

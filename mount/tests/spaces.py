@@ -152,7 +152,7 @@ look; exec unshare -C sh -c 'grep -e " %s " -e " %s " /proc/self/mountinfo' | cu
     for kind in ("cgroup2", "cgroup", "tmpfs"):
         got = without_effect(lambda: error_of(mount, where, kind))
         same("of %s with a capability that is not in effect" % kind, got, "EPERM")
-    same("a place that is not there", error_of(mount, "/nowhere"), "ENOENT")
+    nowhere("cgroup2", "cgroup")
     same("a file", error_of(mount, "/etc/passwd"), "ENOTDIR")
     same(
         "another type is the kernel's matter",
@@ -165,7 +165,6 @@ look; exec unshare -C sh -c 'grep -e " %s " -e " %s " /proc/self/mountinfo' | cu
             (libc.mount(b"none", where.encode(), b"cgroup", 0, data), ctypes.get_errno()),
             (-1, errno.EBUSY),
         )
-    same("version 1 at a place that is not there", error_of(mount, "/nowhere", "cgroup"), "ENOENT")
     os.rmdir(where)
     number = 430
     for name in (b"cgroup2", b"cgroup"):
@@ -261,10 +260,10 @@ def others():
         ("a place that cannot be read", b"none", 8, b"tmpfs", None, errno.EFAULT),
         ("data that cannot be read", b"none", at.encode(), b"tmpfs", 8, errno.EFAULT),
         ("no place", b"none", b"", b"tmpfs", None, errno.ENOENT),
-        ("a place that is not there", b"none", b"/nowhere", b"tmpfs", None, errno.ENOENT),
         ("an option that it does not have", b"none", at.encode(), b"tmpfs", b"nosuch=1", errno.EINVAL),
     ):
         same(name, (libc.mount(source, target, kind, 0, data), ctypes.get_errno()), (-1, wanted))
+    nowhere("tmpfs")
     same("without a source", libc.mount(None, at.encode(), b"tmpfs", 0, None), 0)
     source = next(x.split()[0] for x in open("/proc/self/mounts") if x.split()[1] == at)
     same("it has none", (source, libc.umount2(at.encode(), DETACH)), ("none", 0))
@@ -495,6 +494,24 @@ def mount(where, kind="cgroup2"):
         raise OSError(ctypes.get_errno(), "mount")
 
 
+def nowhere(*kinds):
+    """A path that leads nowhere: its fault comes before that of a mount without privileges."""
+    at = tempfile.mkdtemp()
+    os.symlink("loop", at + "/loop")
+    for kind in kinds:
+        for path, wanted in (
+            ("/nowhere", "ENOENT"),
+            ("", "ENOENT"),
+            ("/etc/passwd/", "ENOTDIR"),
+            ("/etc/passwd/x", "ENOTDIR"),
+            (at + "/loop", "ELOOP"),
+            ("/" + "n" * 256, "ENAMETOOLONG"),
+        ):
+            same("%s at %s" % (kind, path[:40]), error_of(mount, path, kind), wanted)
+    os.unlink(at + "/loop")
+    os.rmdir(at)
+
+
 def uncounted():
     """With --threads=no a thread has no number in the hierarchy. Its namespace begins at the group of its process."""
     os.mkdir(AT + "/a")
@@ -546,8 +563,12 @@ def cpusets():
 
 def unprivileged():
     same("a mount without privileges", error_of(mount, "/tmp"), "EPERM")
+    nowhere("cgroup2", "cgroup", "tmpfs")
+    closed_to = os.path.join(tempfile.mkdtemp(), "closed")
+    os.mkdir(closed_to, 0)
     for kind in ("cgroup2", "cgroup", "tmpfs"):
-        same("of %s where nothing is" % kind, error_of(mount, "/nowhere", kind), "ENOENT")
+        same("of %s in a folder that it may not search" % kind, error_of(mount, closed_to + "/x", kind), "EACCES")
+    os.rmdir(closed_to)
     for kind in (b"cgroup", b"tmpfs"):
         got = libc.mount(b"none", b"/tmp", kind, 0, None), ctypes.get_errno()
         same("of %s" % kind.decode(), got, (-1, errno.EPERM))

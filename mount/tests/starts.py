@@ -8,7 +8,8 @@ import subprocess
 import sys
 import tempfile
 
-from support import AT, CGREPLAY, PATIENCE, PROGRAM, Mount, error_of, finish, read, same, status_within, step, until
+from support import AT, CGREPLAY, PATIENCE, PROGRAM, Mount, error_of, finish, parent_of, read, same, status_within
+from support import step, until
 
 HOME = tempfile.mkdtemp()
 
@@ -231,6 +232,20 @@ def streams():
         same("with %s: the program's streams" % closed, (status, said, found, len(found)), (0, "", wanted, 3))
 
 
+def killed():
+    """Who waits for the mount is told if its server was killed: it opens its trace in a mount that does not answer."""
+    m, at = Mount(), folder("killed")
+    m.process.send_signal(signal.SIGSTOP)
+    p = subprocess.Popen([PROGRAM, "mount", at, "--trace", m.path("trace")])
+    children = lambda: [int(n) for n in os.listdir("/proc") if n.isdigit() and parent_of(int(n)) == p.pid]
+    step("there is a server", until(children))
+    for pid in children():
+        os.kill(pid, signal.SIGKILL)
+    same("its status", status_within(p), 1)
+    m.process.send_signal(signal.SIGCONT)
+    m.end()
+
+
 # ---------------------------------------------------------------- commands
 
 
@@ -357,7 +372,7 @@ def kept():
     step("the lines are there", "mkdir /a\n" in open(trace).read() and "old" not in open(trace).read())
 
 
-for test in (options, statuses, without_fuse, passed, streams, commands, kept):
+for test in (options, statuses, without_fuse, passed, streams, killed, commands, kept):
     test()
 shutil.rmtree(HOME)
 finish()
