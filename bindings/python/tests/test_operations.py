@@ -1,12 +1,14 @@
 """What an error of each method says: the operation with its words, the path that it is about, and the reply; whatever the words are."""
 
 import errno
+import os
 import pathlib
 
 import pytest
 
 import makhloeum
 from makhloeum import Hierarchy, Refused
+from makhloeum._library import WOULD_BLOCK, library, patient
 
 LARGE = (
     1 << 64
@@ -369,3 +371,67 @@ def test_an_unclosed_hierarchy_is_named():
     with pytest.warns(ResourceWarning) as told:
         del h
     assert [str(it.message) for it in told] == [f"unclosed {shown}"]
+
+
+# ---- words that are left out, and calls that are made again
+
+
+def test_a_mount_is_that_of_the_system_without_a_path():
+    with makhloeum.mounted_at() as h:
+        os.mkdir("/sys/fs/cgroup/a")
+        assert h.groups() == ["/", "/a"] and os.listdir("/sys/fs/cgroup")[-1] == "a"
+        with open("/sys/fs/cgroup/a/cgroup.procs", "w") as file:
+            file.write("0")
+        assert h.processes("/a") == [1], "the caller is process 1"
+    assert h.closed
+
+
+@pytest.mark.parametrize("pid", [0, -1, 1 << 63])
+def test_a_caller_that_is_no_process_is_named(pid):
+    with pytest.raises(ValueError, match=f"^mounted_at: {pid} is not a pid$"):
+        makhloeum.mounted_at("/sys/fs/cgroup", pid=pid).__enter__()
+
+
+def test_a_value_of_another_type_is_named(h):
+    for wrong, kind in (
+        (None, "NoneType"),
+        (5.0, "float"),
+        (True, "bool"),
+        ([], "list"),
+    ):
+        with pytest.raises(
+            TypeError,
+            match=f"^a value is a str, bytes or an int, not {kind}; no limit is 'max'$",
+        ):
+            h.write("/a", "pids.max", wrong)
+
+
+@pytest.mark.parametrize(
+    "name, call", [("mk_children", "children"), ("mk_words", "read")]
+)
+def test_a_call_is_made_again_where_it_would_wait(h, monkeypatch, name, call):
+    """At first the buffer is too small, and then another thread's call is running: the patient call has the larger buffer."""
+    names = [
+        f"a-group-with-a-name-of-more-than-thirty-letters-{number}"
+        for number in range(30)
+    ]
+    for it in names:
+        h.mkdir(f"/a/b/{it}")
+    h.write(f"/a/b/{names[0]}", "cgroup.procs", 1)
+    real, sizes = getattr(library, name), []
+
+    def busy_at_last(*words):
+        sizes.append(words[-2])
+        return real(*words) if len(sizes) == 1 else WOULD_BLOCK
+
+    patient_call = getattr(patient, name)
+    monkeypatch.setattr(library, name, busy_at_last)
+    monkeypatch.setattr(
+        patient, name, lambda *words: sizes.append(-words[-2]) or patient_call(*words)
+    )
+    if call == "children":
+        assert h.children("/a/b") == sorted(names)
+        assert len(sizes) == 3 and sizes[0] < sizes[1] == -sizes[2]
+    else:
+        assert h.read("/a", "pids.max") == "1\n" and sizes == [sizes[0]]
+        assert h.read("/a", "pids.max") == "1\n" and sizes[1] == sizes[0] == -sizes[2]
